@@ -1,0 +1,22 @@
+-- A source over a token stream.
+use Rattle.std.proofs.Common.{◌≡◌, List, Option, Some, None, Result, Ok, Err, refl}
+use Rattle.graphql_core.specs.declared.position.Pos.{Pos}
+use Rattle.graphql_core.specs.declared.tokenizer.token.Token.{Token}
+use Rattle.graphql_core.specs.declared.tokenizer.token.Bad.{Bad}
+use Rattle.graphql_core.specs.declared.common.fault.Fault.{Fault}
+use Rattle.graphql_core.specs.Items.{Item}
+use Rattle.graphql_core.specs.Stream.{NextItem, next_place}
+use Rattle.graphql_core.specs.Source.{Items, split, held, IsFaultOf, then_items, token_of}
+
+-- the next item, and the items behind it
+pub held_split : (old new : List Item) (r : Result (Option Token) Bad) (p : Pos) → NextItem old r new → p ≡ (next_place old).position → held p r (split new) ≡ split old
+held_split old new (Ok (Some t)) p (w, e) q = rw (q, e) refl
+held_split old new (Ok None) p (w, e, stays) q = rw (q, e) refl
+held_split old new (Err b) p (w, e, stays) q = rw (q, e) refl
+
+-- what is a fault of a token is one of the source that stands at it
+pub fault_of_token : (i behind : Items) (f : Fault) (p : Pos) (n : Result (Option Token) Bad) (o : Option Token) (t : Token) → held p n behind ≡ i → n ≡ Ok o → o ≡ Some t
+    → ((more : Items) → IsFaultOf (then_items (token_of p t.kind t.value.now) more) f) → IsFaultOf i f
+fault_of_token i behind f p n o t view is some fault =
+    let answer : n ≡ Ok (Some t) = rw (← some) is in
+    rw (← view, answer) (fault behind)

@@ -1,0 +1,5 @@
+pub mod Steps
+pub mod Spelled
+pub mod Cutting
+pub mod Matches
+pub mod Holding

@@ -1,0 +1,32 @@
+-- One token against a class.
+use Rattle.std.proofs.Common.{◌≡◌, ℕ, true, false, eqb, nat_eq, ◌||◌, List, [], ◌∷◌, drop, refl, sym, ap, ◌∙◌, arith}
+use Rattle.std.specs.Cmp.Lexicographic.{pointwise}
+use Rattle.graphql_grammar.specs.Tokens.{Token, Class, same_spelling, matches}
+use Rattle.graphql_grammar.specs.Trees.{peek}
+use Rattle.graphql_grammar.specs.Reading.{sees}
+use Rattle.graphql_core.specs.Source.{Items, after}
+use Rattle.graphql_core.specs.Matching.{sees_class, TakesToken}
+
+eqb-comm : (m n : ℕ) → nat_eq m n ≡ eqb n m
+eqb-comm m n = grind (arith)
+
+-- a test of two texts as the grammar's test of two spellings
+pub same_text_spelling : (xs ys : List ℕ) → pointwise nat_eq xs ys ≡ same_spelling ys xs
+same_text_spelling [] [] = refl
+same_text_spelling [] (y ∷ ys) = refl
+same_text_spelling (x ∷ xs) [] = refl
+same_text_spelling (x ∷ xs) (y ∷ ys) = rw (eqb-comm x y, same_text_spelling xs ys) refl
+
+-- whether the first token is of a class
+pub sees_first : (c : Class) (i : Items) (t : Token) (rest : List Token) → i.tokens ≡ t ∷ rest → sees_class c i ≡ matches c t || false
+sees_first c i t rest e = ap (λ (ts : List Token). sees (c ∷ []) (peek ts)) e
+
+pub sees_none : (c : Class) (i : Items) → i.tokens ≡ [] → sees_class c i ≡ false
+sees_none c i e = ap (λ (ts : List Token). sees (c ∷ []) (peek ts)) e
+
+pub takes_first : (c : Class) (old new : Items) (t : Token) → old.tokens ≡ t ∷ drop 1 old.tokens → new ≡ after old → matches c t ≡ true → TakesToken c old new t
+takes_first c old new t e a m = record {
+  of_class = m;
+  tokens = e ∙ ap (λ (i : Items). t ∷ i.tokens) (sym a);
+  last = ap (λ (i : Items). i.last) a;
+}

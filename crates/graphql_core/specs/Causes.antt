@@ -1,0 +1,67 @@
+-- Causes of faults, with texts as their bytes.
+use Rattle.std.specs.Prelude.{ℕ, List, string_bytes}
+use Rattle.graphql_core.specs.declared.tokenizer.token.Kind.{Kind}
+use Rattle.graphql_core.specs.declared.tokenizer.token.Kind.TheVariants.{Punctuator, Name, IntValue, FloatValue, StringValue, BlockString}
+use Rattle.graphql_core.specs.declared.tokenizer.token.Bad.{Bad}
+use Rattle.graphql_core.specs.declared.tokenizer.token.Bad.TheVariants.{Character, TooDeep}
+use Rattle.graphql_core.specs.declared.common.cause.BadToken.{BadToken}
+use Rattle.graphql_core.specs.declared.common.cause.BadToken.TheVariants as token
+use Rattle.graphql_core.specs.declared.common.cause.Cause.{Cause}
+use Rattle.graphql_core.specs.declared.common.cause.Cause.TheVariants as cause
+
+-- the kinds of tokens in grammars
+abbrev pub kind_number : Kind → ℕ
+kind_number Punctuator = 0
+kind_number Name = 1
+kind_number IntValue = 2
+kind_number FloatValue = 3
+kind_number StringValue = 4
+kind_number BlockString = 5
+
+pub data CauseText : Type 0 where
+  bad_character : (character : ℕ) → CauseText
+  bare_dot : CauseText
+  bad_integer : (run : List ℕ) → CauseText
+  bad_float : (run : List ℕ) → CauseText
+  unterminated_string : CauseText
+  unterminated_block_string : CauseText
+  unexpected_token : (kind : ℕ) (spelling : List ℕ) → CauseText
+  unexpected_end : CauseText
+  too_deep : CauseText
+  int_out_of_range : CauseText
+  malformed_float : CauseText
+  bad_escape : CauseText
+  unknown_location : CauseText
+  duplicate_operation : (name : List ℕ) → CauseText
+  unknown_operation : (name : List ℕ) → CauseText
+  empty_extension : CauseText
+  text_too_long : CauseText
+  out_of_memory : CauseText
+
+-- why no token stands at a bad place
+abbrev pub bad_text : Bad → CauseText
+bad_text (Character c) = bad_character c
+bad_text TooDeep = too_deep
+
+abbrev pub token_text : BadToken → CauseText
+token_text (token.Character c) = bad_character c
+token_text token.BareDot = bare_dot
+token_text (token.Integer run) = bad_integer (string_bytes run)
+token_text (token.Float run) = bad_float (string_bytes run)
+token_text token.UnterminatedString = unterminated_string
+token_text token.UnterminatedBlockString = unterminated_block_string
+
+abbrev pub cause_text : Cause → CauseText
+cause_text (cause.BadToken b) = token_text b
+cause_text (cause.UnexpectedToken kind text) = unexpected_token (kind_number kind) (string_bytes text)
+cause_text cause.UnexpectedEnd = unexpected_end
+cause_text cause.TooDeep = too_deep
+cause_text cause.IntOutOfRange = int_out_of_range
+cause_text cause.MalformedFloat = malformed_float
+cause_text cause.BadEscape = bad_escape
+cause_text cause.UnknownLocation = unknown_location
+cause_text (cause.DuplicateOperation name) = duplicate_operation (string_bytes name)
+cause_text (cause.UnknownOperation name) = unknown_operation (string_bytes name)
+cause_text cause.EmptyExtension = empty_extension
+cause_text cause.TextTooLong = text_too_long
+cause_text cause.OutOfMemory = out_of_memory

@@ -1,0 +1,53 @@
+-- What stands at the front of a text: how many bytes it takes, and how it moves the position.
+use Rattle.std.specs.Prelude.{◌≡◌, ℕ, ◌+◌, ◌<◌, ◌≤◌, length, ◌&&◌, ◌||◌, ◌==◌, if◌then◌else◌, List, [], ◌∷◌, drop, slice_index}
+use Rattle.std.specs.List.{prefix_len}
+use Rattle.std.specs.Str.{IsCharBoundary}
+use Rattle.graphql_core.specs.Lexical.{is_name_start, is_name_continue, is_in_line, steps_over}
+use Rattle.graphql_core.specs.declared.tokenizer.token.Kind.TheVariants.{Punctuator, Name}
+use Rattle.graphql_core.specs.declared.tokenizer.piece.Move.TheVariants.{Stay, Over, Down}
+use Rattle.graphql_core.specs.declared.tokenizer.piece.Nesting.TheVariants.{Level, Opens, Closes}
+use Rattle.graphql_core.specs.declared.tokenizer.piece.Piece.{Piece}
+use Rattle.graphql_core.specs.declared.tokenizer.piece.Piece.TheVariants.{AtEnd, Skips, Takes, Stops}
+
+-- the line's end after n bytes of a comment
+abbrev pub line_end : ℕ → List ℕ → Piece
+line_end n [] = Skips (n + 1) Stay
+line_end n (b ∷ bs) = if b == 13 && slice_index bs 0 == 10 then Skips (n + 3) Down else Skips (n + 2) Down
+
+-- a comment, behind its #
+unfoldable pub comment : List ℕ → Piece
+comment bs = line_end (prefix_len is_in_line bs) (drop (prefix_len is_in_line bs) bs)
+
+abbrev pub front_of : ℕ → List ℕ → Piece
+front_of b bs =
+    if b == 9 then Skips 1 (Over 8)
+    else if b == 10 then Skips 1 Down
+    else if b == 13 then Skips 1 Stay
+    else if b == 32 || b == 44 then Skips 1 (Over 1)
+    else if b == 35 then comment bs
+    else if b == 123 then Takes 1 Punctuator Opens
+    else if b == 125 then Takes 1 Punctuator Closes
+    else if b == 239 && (slice_index bs 0 == 187 && slice_index bs 1 == 191) then Skips 3 Stay
+    else if is_name_start b then Takes (prefix_len is_name_continue bs + 1) Name Level
+    else Stops
+
+unfoldable pub front : List ℕ → Piece
+front [] = AtEnd
+front (b ∷ bs) = front_of b bs
+
+-- the first n bytes are some whole characters
+abbrev pub Cuts : List ℕ → ℕ → Type 0
+Cuts bytes n = (0 < n) × (n ≤ length bytes) × IsCharBoundary bytes n
+
+abbrev pub FitsIn : List ℕ → Piece → Type 0
+FitsIn bytes AtEnd = length bytes ≡ 0
+FitsIn bytes Stops = 0 < length bytes
+FitsIn bytes (Skips n m) = Cuts bytes n × (steps_over m ≤ 8)
+FitsIn bytes (Takes n k t) = Cuts bytes n
+
+-- the front is an item, and no ignored text
+abbrev pub IsItem : Piece → Type 0
+IsItem AtEnd = Unit {0}
+IsItem Stops = Unit {0}
+IsItem (Skips n m) = ⊥
+IsItem (Takes n k t) = Unit {0}

@@ -1,0 +1,11 @@
+pub mod Lexical
+pub mod Items
+pub mod Front
+pub mod Cut
+pub mod Stream
+pub mod Examples
+pub mod Joined
+pub mod Causes
+pub mod Source
+pub mod Style
+pub mod Matching

@@ -1,0 +1,93 @@
+-- The items of a text as the grammar's tokens, and what stands behind the last of them.
+use Rattle.std.specs.Prelude.{◌≡◌, ℕ, List, [], ◌∷◌, drop, Option, Some, None, Result, Ok, Err}
+use Rattle.graphql_grammar.specs.Tokens.{Token, Place}
+use Rattle.graphql_core.specs.declared.position.Pos.{Pos}
+use Rattle.graphql_core.specs.declared.tokenizer.token.Kind.{Kind}
+use Rattle.graphql_core.specs.declared.tokenizer.token.Bad.{Bad}
+use Rattle.graphql_core.specs.declared.tokenizer.token.Token.{Token as Cut}
+use Rattle.graphql_core.specs.declared.common.fault.Fault.{Fault}
+use Rattle.graphql_core.specs.declared.common.fault.Fault.TheVariants as fault
+use Rattle.graphql_core.specs.declared.helpers.source.Lexeme.{Lexeme}
+use Rattle.graphql_core.specs.Items.{Item, Content}
+use Rattle.graphql_core.specs.Items as items
+use Rattle.graphql_core.specs.Causes.{CauseText, kind_number, cause_text, bad_text}
+use Rattle.graphql_core.specs.Causes as causes
+
+-- after the last token: the end, or a bad place
+pub data Last : Type 0 where
+  End : Place → Last
+  Wrong : Place → Bad → Last
+
+pub record Items : Type 0 where
+  pub tokens : List Token
+  pub last : Last
+
+abbrev pub place_of : Pos → Place
+place_of p = record { line = p.line; column = p.column }
+
+abbrev pub token_of : Pos → Kind → List ℕ → Token
+token_of p k bytes = record { kind = kind_number k; spelling = bytes; place = place_of p }
+
+abbrev pub then_items : Token → Items → Items
+then_items t i = record { tokens = t ∷ i.tokens; last = i.last }
+
+abbrev pub only_last : Last → Items
+only_last l = record { tokens = []; last = l }
+
+abbrev pub split_by : Content → Pos → Items → Items
+split_by (items.Lexeme k bytes) p more = then_items (token_of p k bytes) more
+split_by items.End p more = only_last (End (place_of p))
+split_by (items.Wrong b) p more = only_last (Wrong (place_of p) b)
+
+-- the tokens of a list of items, and its first item that is none
+abbrev pub split : List Item → Items
+split [] = only_last (End (record { line = 0; column = 0 }))
+split (i ∷ is) = split_by i.content i.place.position (split is)
+
+-- past a token. The end and a bad place stay
+abbrev pub after : Items → Items
+after i = record { tokens = drop 1 i.tokens; last = i.last }
+
+-- a token of a source
+abbrev pub lexeme_token : {T : Type 0} → (T → List ℕ) → Lexeme T → Token
+lexeme_token bytes t = token_of t.position t.kind (bytes t.text)
+
+-- what is seen of the next item
+abbrev pub Peeks : {T : Type 0} → (T → List ℕ) → Option (Lexeme T) → Items → Type 0
+Peeks bytes (Some t) i = i.tokens ≡ lexeme_token bytes t ∷ drop 1 i.tokens
+Peeks bytes None i = i.tokens ≡ []
+
+abbrev pub IsEnd : Last → Type 0
+IsEnd (End p) = Unit {0}
+IsEnd (Wrong p b) = ⊥
+
+-- the next item is the end
+abbrev pub IsAtEnd : Items → Type 0
+IsAtEnd i = (i.tokens ≡ []) × IsEnd i.last
+
+-- what a source has where a call of a stream answered this, and these items stand behind it
+abbrev pub held : Pos → Result (Option Cut) Bad → Items → Items
+held p (Ok (Some t)) behind = then_items (token_of p t.kind t.value.now) behind
+held p (Ok None) behind = only_last (End (place_of p))
+held p (Err b) behind = only_last (Wrong (place_of p) b)
+
+-- ---- faults
+
+-- a cause and its place
+pub record FaultText : Type 0 where
+  pub cause : CauseText
+  pub place : Place
+
+abbrev pub fault_by : List Token → Last → FaultText
+fault_by (t ∷ ts) last = record { cause = causes.unexpected_token t.kind t.spelling; place = t.place }
+fault_by [] (End p) = record { cause = causes.unexpected_end; place = p }
+fault_by [] (Wrong p b) = record { cause = bad_text b; place = p }
+
+-- the fault of the next item, where it may not stand there
+abbrev pub fault_at : Items → FaultText
+fault_at i = fault_by i.tokens i.last
+
+-- memory ran out, or it is the fault of the next item
+abbrev pub IsFaultOf : Items → Fault → Type 0
+IsFaultOf i fault.OutOfMemory = Unit {0}
+IsFaultOf i (fault.At c p) = record { cause = cause_text c; place = place_of p } ≡ fault_at i

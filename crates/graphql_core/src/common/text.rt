@@ -1,0 +1,62 @@
+//! What trees keep their names as.
+ghost use Rattle.std.specs.Prelude.{◌≡◌, ℕ, List, IfOk, IsOk, nat_eq, refl};
+ghost use Rattle.std.specs.Ordering.{nat_cmp};
+ghost use Rattle.std.specs.Cmp.Lexicographic.{pointwise, slice_cmp};
+ghost use Rattle.std.proofs.Common.{rules};
+
+use std::alloc::{AllocError, Global};
+use std::fmt::Debug;
+
+/// What a tree keeps each of its names as.
+///
+/// Equality, order and clones of names are those of the bytes of their texts.
+pub trait Names: Drop {
+    /// A name.
+    type Value: Eq + Ord + Debug + Clone + Drop;
+
+    // the bytes of a name's text
+    ghost bytes: { Self.Value → List ℕ };
+
+    /// The text of a name.
+    fn view<'v>(value: &'v Self::Value) -> &'v str
+        ensures { result.now ≡ bytes value.now };
+
+    ghost eq_by_bytes: { (x y : Self.Value) → Self.Value.eq x y ≡ pointwise nat_eq (bytes x) (bytes y) };
+
+    ghost cmp_by_bytes: { (x y : Self.Value) → Self.Value.cmp x y ≡ slice_cmp nat_cmp (bytes x) (bytes y) };
+
+    ghost clone_keeps: { (x y : Self.Value) → Self.Value.is_clone x y → bytes y ≡ bytes x };
+}
+
+/// A text type: names that are made of a text with the lifetime `'a`.
+pub trait Text<'a>: Names {
+    /// The name with this text, unless memory runs out.
+    fn make(alloc: Global, text: &'a str) -> Result<<Self as Names>::Value, AllocError>
+        ensures { IfOk result (λ v. Self.Names.bytes v ≡ text.now) };
+}
+
+impl<'a> Names for &'a str {
+    type Value = &'a str;
+
+    ghost bytes = { λ v. v.now };
+
+    ghost eq_by_bytes = { λ x y. refl };
+
+    ghost cmp_by_bytes = { λ x y. refl };
+
+    ghost clone_keeps = { Prim.search rules };
+
+    fn view<'v>(value: &'v &'a str) -> &'v str {
+        *value
+    }
+}
+
+/// A name borrows its text, so `make` takes no memory and always succeeds.
+impl<'a> Text<'a> for &'a str {
+    fn make(_alloc: Global, text: &'a str) -> Result<&'a str, AllocError>
+        ensures text { IfOk result (λ v. v.now ≡ text.now) }
+        ensures always { IsOk result }
+    {
+        Ok(text)
+    }
+}

@@ -1,0 +1,25 @@
+//! Why a document is not written.
+use std::alloc::AllocError;
+use thiserror::Error;
+
+/// Why a document is not written.
+#[derive(Debug, PartialEq, Drop, Error)]
+pub enum FormatError {
+    /// 1: the deepest line would be indented by more than `u32::MAX` spaces.
+    #[error("format error: indentation too wide")]
+    TooWide,
+    /// 2: memory ran out.
+    #[error("format error: out of memory")]
+    OutOfMemory,
+}
+
+impl From<AllocError> for FormatError {
+    ghost use Rattle.std.specs.Prelude.{◌≡◌};
+    ghost use Rattle.graphql_core.specs.declared.format.error.FormatError.TheVariants.{OutOfMemory};
+
+    ghost from_gives = { λ _ e. e ≡ OutOfMemory };
+
+    fn from(_e: AllocError) -> FormatError {
+        FormatError::OutOfMemory
+    }
+}

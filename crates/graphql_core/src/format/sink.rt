@@ -1,0 +1,63 @@
+//! What text is written to.
+ghost use Rattle.std.specs.Prelude.{◌≡◌, ℕ, List, [], ◌++◌, IsOk, OnOk, IfSome, Option, string_bytes, refl};
+ghost use Rattle.std.specs.Fmt.{HasWritten, IsPlainFormatter, WritesText};
+ghost use Rattle.graphql_core.specs.Joined.{string_nil, string_more};
+ghost use Rattle.std.proofs.lemmas.Grind.{put_two};
+
+use std::alloc::AllocError;
+use std::fmt;
+use std::fmt::Display;
+
+/// A place that text is appended to.
+pub trait Sink {
+    type Error: Drop;
+
+    /// The second is the first after the text was appended.
+    ghost took: { Self → List ℕ → Self → Type 0 };
+
+    fn push_str(&mut self, text: &str) -> Result<(), Self::Error>
+        ensures { OnOk result (took self.old text.now self.new) };
+
+    fn write_fmt<D: Display + Drop>(&mut self, value: D) -> Result<(), Self::Error>
+        ensures { OnOk result (IfSome (D.output value) (λ text. took self.old text self.new)) };
+
+    ghost took_nil: { (s : Self) → took s [] s };
+
+    ghost took_more: { (s : Self) (a : List ℕ) (t : Self) (b : List ℕ) (u : Self) → took s a t → took t b u → took s (a ++ b) u };
+}
+
+impl Sink for String {
+    type Error = AllocError;
+
+    ghost took = { λ s text t. string_bytes t ≡ string_bytes s ++ text };
+
+    ghost took_nil = { string_nil };
+
+    ghost took_more = { string_more };
+
+    fn push_str(&mut self, text: &str) -> Result<(), AllocError> {
+        String::push_str(self, text)
+    }
+
+    fn write_fmt<D: Display + Drop>(&mut self, value: D) -> Result<(), AllocError> {
+        String::write(self, value)
+    }
+}
+
+impl<W: fmt::Write> Sink for fmt::Formatter<W> {
+    type Error = fmt::Error;
+
+    ghost took = { λ f text g. IsPlainFormatter f → HasWritten W.write_str_gives f text g };
+
+    ghost took_nil = { λ f plain. record { wrote = record { parts = []; calls = refl; whole = refl }; plain = plain } };
+
+    ghost took_more = { λ f a g b h p q plain. put_two W.write_str_gives f g h a b (a ++ b) (p plain) (q (p plain).plain) refl };
+
+    fn push_str(&mut self, text: &str) -> Result<(), fmt::Error> {
+        self.write_str(text)
+    }
+
+    fn write_fmt<D: Display + Drop>(&mut self, value: D) -> Result<(), fmt::Error> {
+        self.write(value)
+    }
+}

@@ -1,0 +1,9 @@
+//! Tokens with one item of lookahead.
+
+mod cursor;
+mod matching;
+mod source;
+
+pub use cursor::Cursor;
+pub use matching::{name, punctuator, sees_name, sees_punctuator};
+pub use source::{Lexeme, TokenSource};

@@ -1,0 +1,121 @@
+//! A token stream as a source.
+ghost use Rattle.std.specs.Prelude.{◌≡◌, ◌≤◌, ◌/◌, List, length};
+ghost use Rattle.graphql_core.specs.Items.{HasItems, Item};
+ghost use Rattle.graphql_core.specs.Causes.{cause_text, bad_text};
+ghost use Rattle.graphql_core.specs.Source.{Items, IsFaultOf, split, then_items, token_of};
+
+use crate::common::{BadToken, Cause, Fault, Names, Text};
+use crate::helpers::source::{Lexeme, TokenSource};
+use crate::position::Pos;
+use crate::tokenizer::{Bad, Token, TokenStream};
+use std::alloc::{AllocError, Global};
+use std::marker::{Model, PhantomData};
+
+/// A token stream, and its next item.
+#[derive(Drop)]
+pub struct Cursor<'a, T: Text<'a>> {
+    stream: TokenStream<'a>,
+    position: Pos,
+    next: Result<Option<Token<'a>>, Bad>,
+    of: PhantomData<T>,
+}
+
+impl<'a, T: Text<'a>> Model for Cursor<'a, T> {
+    ghost use Rattle.graphql_core.specs.Source.{Items, split, held};
+
+    ghost Value = { Items };
+
+    ghost view = { λ c. held c.position c.next (split c.stream.items) };
+}
+
+impl<'a, T: Text<'a>> Cursor<'a, T> {
+    /// The items of a text of at most `usize::MAX / 16` bytes.
+    pub fn new(source: &'a str) -> Self
+        requires { length source.now ≤ usize.MAX / 16 }
+        ensures { (items : List Item) → HasItems source.now items → result ≡ split items }
+    {
+        let mut stream = TokenStream::new(source);
+        let position = stream.position();
+        let next = stream.next_token();
+        Cursor {
+            stream,
+            position,
+            next,
+            of: PhantomData,
+        }
+    }
+}
+
+/// A token where it may not stand.
+fn unexpected(alloc: Global, token: Token<'_>, position: Pos) -> Fault
+    ensures { (behind : Items) → IsFaultOf (then_items (token_of position token.entry.kind token.entry.value.now) behind) result }
+{
+    match String::from_str(alloc, token.value) {
+        Ok(text) => Fault::At(
+            Cause::UnexpectedToken {
+                kind: token.kind,
+                text,
+            },
+            position,
+        ),
+        Err(_) => Fault::OutOfMemory,
+    }
+}
+
+/// The cause of a bad place.
+fn cause_of(bad: Bad) -> Cause
+    ensures { cause_text result ≡ bad_text bad }
+{
+    match bad {
+        Bad::Character(character) => Cause::BadToken(BadToken::Character(character)),
+        Bad::TooDeep => Cause::TooDeep,
+    }
+}
+
+impl<'a, T: Text<'a>> TokenSource for Cursor<'a, T> {
+    type Text = &'a str;
+
+    type Names = T;
+
+    ghost bytes = { λ t. t.now };
+
+    ghost items = { λ c. c };
+
+    fn peek(&self) -> Option<Lexeme<&'a str>> {
+        match self.next {
+            Ok(Some(token)) => Some(Lexeme {
+                kind: token.kind,
+                text: token.value,
+                position: self.position,
+            }),
+            _ => None,
+        }
+    }
+
+    fn is_at_end(&self) -> bool {
+        matches!(self.next, Ok(None))
+    }
+
+    fn advance(&mut self) {
+        if let Ok(Some(_)) = self.next {
+            self.position = self.stream.position();
+            self.next = self.stream.next_token();
+        }
+    }
+
+    fn fault(&self, alloc: Global) -> Fault {
+        match self.next {
+            Ok(Some(token)) => unexpected(alloc, token, self.position),
+            Ok(None) => Fault::At(Cause::UnexpectedEnd, self.position),
+            Err(bad) => Fault::At(cause_of(bad), self.position),
+        }
+    }
+
+    fn as_str<'v>(text: &'v &'a str) -> &'v str {
+        *text
+    }
+
+    fn make_name(alloc: Global, text: &'a str) -> Result<<T as Names>::Value, AllocError> {
+        T::make(alloc, text)
+    }
+}

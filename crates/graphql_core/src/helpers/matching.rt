@@ -1,0 +1,86 @@
+//! One token at a time.
+ghost use Rattle.std.specs.Prelude.{◌≡◌};
+ghost use Rattle.graphql_grammar.specs.Tokens.{Spelled, AnyOf, matches};
+ghost use Rattle.graphql_core.specs.Causes.{kind_number};
+ghost use Rattle.graphql_core.specs.Source.{place_of, lexeme_token};
+ghost use Rattle.graphql_core.specs.Matching.{sees_class, TakesOne};
+ghost use Rattle.graphql_core.specs.declared.tokenizer.token.Kind.TheVariants.{Punctuator, Name};
+
+use crate::common::{Fault, Names};
+use crate::helpers::source::{Lexeme, TokenSource};
+use crate::position::Pos;
+use crate::tokenizer::Kind;
+use std::alloc::Global;
+
+/// Whether a token is this punctuator.
+fn is_punctuator<S: TokenSource>(token: &Lexeme<S::Text>, spelling: &str) -> bool
+    ensures { result ≡ matches (Spelled (kind_number Punctuator) spelling.now) (lexeme_token S.bytes token.now) }
+{
+    match token.kind {
+        Kind::Punctuator => S::as_str(&token.text) == spelling,
+        _ => false,
+    }
+}
+
+/// Whether a token is a name.
+fn is_name<S: TokenSource>(token: &Lexeme<S::Text>) -> bool
+    ensures { result ≡ matches (AnyOf (kind_number Name)) (lexeme_token S.bytes token.now) }
+{
+    matches!(token.kind, Kind::Name)
+}
+
+/// Whether the next item is this punctuator.
+pub fn sees_punctuator<S: TokenSource>(source: &S, spelling: &str) -> bool
+    ensures { result ≡ sees_class (Spelled (kind_number Punctuator) spelling.now) (S.items source.now) }
+{
+    match source.peek() {
+        Some(token) => is_punctuator::<S>(&token, spelling),
+        None => false,
+    }
+}
+
+/// Whether the next item is a name.
+pub fn sees_name<S: TokenSource>(source: &S) -> bool
+    ensures { result ≡ sees_class (AnyOf (kind_number Name)) (S.items source.now) }
+{
+    match source.peek() {
+        Some(token) => is_name::<S>(&token),
+        None => false,
+    }
+}
+
+/// Takes this punctuator, and answers its position.
+pub fn punctuator<S: TokenSource>(
+    alloc: Global,
+    source: &mut S,
+    spelling: &str,
+) -> Result<Pos, Fault>
+    ensures { TakesOne (Spelled (kind_number Punctuator) spelling.now) (S.items source.old) (S.items source.new)
+        (λ p t. t.place ≡ place_of p) result }
+{
+    match source.peek() {
+        Some(token) if is_punctuator::<S>(&token, spelling) => {
+            source.advance();
+            Ok(token.position)
+        }
+        _ => Err(source.fault(alloc)),
+    }
+}
+
+/// Takes a name, and answers its position and what a tree keeps of it.
+pub fn name<S: TokenSource>(
+    alloc: Global,
+    source: &mut S,
+) -> Result<(Pos, <S::Names as Names>::Value), Fault>
+    ensures { TakesOne (AnyOf (kind_number Name)) (S.items source.old) (S.items source.new)
+        (λ v t. (t.place ≡ place_of v.0) × (t.spelling ≡ S.Names.bytes v.1)) result }
+{
+    match source.peek() {
+        Some(token) if is_name::<S>(&token) => {
+            let name = S::make_name(alloc, token.text)?;
+            source.advance();
+            Ok((token.position, name))
+        }
+        _ => Err(source.fault(alloc)),
+    }
+}

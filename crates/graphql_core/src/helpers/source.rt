@@ -1,0 +1,61 @@
+//! Where a reader takes its tokens from.
+use crate::common::{Fault, Names};
+use crate::position::Pos;
+use crate::tokenizer::Kind;
+use std::alloc::{AllocError, Global};
+
+/// A token of a source.
+#[derive(Clone, Copy, Debug)]
+pub struct Lexeme<T> {
+    /// What sort of token it is.
+    pub kind: Kind,
+    /// Its spelling.
+    pub text: T,
+    /// Where it begins.
+    pub position: Pos,
+}
+
+/// The items of a text, the next of which can be looked at.
+pub trait TokenSource {
+    ghost use Rattle.std.specs.Prelude.{ℕ, List, ◌≡◌, IfOk, IsTrue, ◌↔◌};
+    ghost use Rattle.graphql_core.specs.Source.{Items, Peeks, IsAtEnd, IsFaultOf, after};
+
+    /// A token's spelling.
+    type Text: Copy;
+
+    /// What names are kept as.
+    type Names: Names;
+
+    // the bytes of a spelling
+    ghost bytes: { Self.Text → List ℕ };
+
+    // the items that are still to come
+    ghost items: { Self → Items };
+
+    /// The next item, where it is a token.
+    fn peek(&self) -> Option<Lexeme<Self::Text>>
+        ensures { Peeks bytes result (items self.now) };
+
+    /// Whether the next item is the end.
+    fn is_at_end(&self) -> bool
+        ensures { IsTrue result ↔ IsAtEnd (items self.now) };
+
+    /// Goes past a token. The end and a bad place stay.
+    fn advance(&mut self)
+        ensures { items self.new ≡ after (items self.old) };
+
+    /// The fault of the next item, which may not stand where it does.
+    fn fault(&self, alloc: Global) -> Fault
+        ensures { IsFaultOf (items self.now) result };
+
+    /// The text of a spelling.
+    fn as_str<'v>(text: &'v Self::Text) -> &'v str
+        ensures { result.now ≡ bytes text.now };
+
+    /// The name that a tree keeps of a spelling.
+    fn make_name(
+        alloc: Global,
+        text: Self::Text,
+    ) -> Result<<Self::Names as Names>::Value, AllocError>
+        ensures { IfOk result (λ v. Self.Names.bytes v ≡ bytes text) };
+}

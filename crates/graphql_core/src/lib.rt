@@ -1,0 +1,8 @@
+//! What queries and schemas share: positions, tokens, text types, causes of faults, style and output.
+#![tactic(auto)]
+
+pub mod common;
+pub mod format;
+pub mod helpers;
+pub mod position;
+pub mod tokenizer;

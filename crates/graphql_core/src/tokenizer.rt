@@ -1,0 +1,10 @@
+//! A text cut into its tokens.
+
+mod laws;
+mod piece;
+mod stream;
+mod token;
+
+pub use laws::{one_list_of_items, worked_examples};
+pub use stream::TokenStream;
+pub use token::{Bad, Kind, Token};

@@ -1,0 +1,161 @@
+//! What stands at the front of a text.
+ghost use Rattle.std.specs.Prelude.{◌≡◌, ◌<◌, ◌≤◌, ◌^◌, length, slice_index};
+ghost use Rattle.std.specs.List.{prefix_len};
+ghost use Rattle.graphql_core.specs.Front as spec;
+ghost use Rattle.graphql_core.specs.Lexical.{is_name_start, is_name_continue, is_in_line};
+
+use crate::tokenizer::token::Kind;
+
+/// How ignored text moves the position.
+#[derive(Clone, Copy)]
+pub enum Move {
+    /// Not at all.
+    Stay,
+    /// By some columns.
+    Over(usize),
+    /// To the first column of the next line.
+    Down,
+}
+
+/// How a token changes the number of open brackets.
+#[derive(Clone, Copy)]
+pub enum Nesting {
+    /// It is no bracket.
+    Level,
+    /// It opens one.
+    Opens,
+    /// It closes one.
+    Closes,
+}
+
+/// What stands at the front, with its length in bytes.
+#[derive(Clone, Copy)]
+pub enum Piece {
+    /// Nothing: the text is empty.
+    AtEnd,
+    /// Ignored text.
+    Skips(usize, Move),
+    /// A token.
+    Takes(usize, Kind, Nesting),
+    /// A character that begins no piece.
+    Stops,
+}
+
+#[inline(always)]
+fn is_name_start(byte: u8) -> bool
+    ensures { result ≡ is_name_start byte }
+{
+    byte.is_ascii_alphabetic() || byte == b'_'
+}
+
+#[inline(always)]
+fn is_name_continue(byte: u8) -> bool
+    ensures { result ≡ is_name_continue byte }
+{
+    byte.is_ascii_alphanumeric() || byte == b'_'
+}
+
+#[inline(always)]
+fn is_in_line(byte: u8) -> bool
+    ensures { result ≡ is_in_line byte }
+{
+    byte != b'\n' && byte != b'\r'
+}
+
+/// How many bytes a name goes on.
+#[inline]
+fn name_len(bytes: &[u8]) -> usize
+    ensures len { result ≡ prefix_len is_name_continue bytes.now }
+    ensures within { result ≤ length bytes.now }
+{
+    bytes.iter().take_while(|b| is_name_continue(**b)).count()
+}
+
+/// How many bytes a comment goes on in its line.
+#[inline]
+fn line_len(bytes: &[u8]) -> usize
+    ensures len { result ≡ prefix_len is_in_line bytes.now }
+    ensures within { result ≤ length bytes.now }
+{
+    bytes.iter().take_while(|b| is_in_line(**b)).count()
+}
+
+/// The byte at `index`, or 0 past the end.
+#[inline(always)]
+fn byte_at(bytes: &[u8], index: usize) -> u8
+    ensures { result ≡ slice_index bytes.now index }
+{
+    bytes.get(index).copied().unwrap_or(0)
+}
+
+/// What stands after the `#` of a comment.
+#[inline]
+#[tactic(auto, unfolding(crate::specs::Front::comment))]
+fn comment(bytes: &[u8]) -> Piece
+    requires { length bytes.now < 2 ^ 62 }
+    ensures { result ≡ spec.comment bytes.now }
+{
+    let len = line_len(bytes);
+    match bytes[len..].split_first() {
+        None => Piece::Skips(len + 1, Move::Stay),
+        Some((byte, rest)) => {
+            if *byte == b'\r' && byte_at(rest, 0) == b'\n' {
+                Piece::Skips(len + 3, Move::Down)
+            } else {
+                Piece::Skips(len + 2, Move::Down)
+            }
+        }
+    }
+}
+
+/// What stands at the front where this byte is the first.
+#[inline]
+fn piece_of(byte: u8, rest: &[u8]) -> Piece
+    requires { length rest.now < 2 ^ 62 }
+    ensures { result ≡ spec.front_of byte rest.now }
+{
+    if byte == b'\t' {
+        Piece::Skips(1, Move::Over(8))
+    } else if byte == b'\n' {
+        Piece::Skips(1, Move::Down)
+    } else if byte == b'\r' {
+        Piece::Skips(1, Move::Stay)
+    } else if byte == b' ' || byte == b',' {
+        Piece::Skips(1, Move::Over(1))
+    } else if byte == b'#' {
+        comment(rest)
+    } else if byte == b'{' {
+        Piece::Takes(1, Kind::Punctuator, Nesting::Opens)
+    } else if byte == b'}' {
+        Piece::Takes(1, Kind::Punctuator, Nesting::Closes)
+    } else if byte == 0xEF && (byte_at(rest, 0) == 0xBB && byte_at(rest, 1) == 0xBF) {
+        Piece::Skips(3, Move::Stay)
+    } else if is_name_start(byte) {
+        Piece::Takes(name_len(rest) + 1, Kind::Name, Nesting::Level)
+    } else {
+        Piece::Stops
+    }
+}
+
+#[inline]
+#[tactic(auto, unfolding(crate::specs::Front::front))]
+fn piece_of_bytes(bytes: &[u8]) -> Piece
+    requires { length bytes.now < 2 ^ 62 }
+    ensures { result ≡ spec.front bytes.now }
+{
+    match bytes.split_first() {
+        None => Piece::AtEnd,
+        Some((byte, rest)) => piece_of(*byte, rest),
+    }
+}
+
+/// What stands at the front of a text.
+#[inline]
+#[tactic(auto, using(crate::proofs::Steps::front_fits))]
+pub fn front_of(text: &str) -> Piece
+    requires { length text.now < 2 ^ 62 }
+    ensures is { result ≡ spec.front text.now }
+    ensures fits { spec.FitsIn text.now result }
+{
+    piece_of_bytes(text.as_bytes())
+}

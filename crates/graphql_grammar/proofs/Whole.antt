@@ -1,0 +1,83 @@
+-- The answer to a whole text.
+use Rattle.std.proofs.Common.{◌≡◌, ◌≤◌, ℕ, ◌+◌, ◌-◌, List, [], ◌∷◌, ◌++◌, length, take, drop, Some, refl, sym, ap, subst, ◌∙◌, arith, append-nil, length-append}
+use Rattle.std.proofs.lemmas.List.{take_at, drop_at}
+use Rattle.graphql_grammar.specs.Tokens.{Token}
+use Rattle.graphql_grammar.specs.Trees.{Expr, Shape, Grammar, leaves, peek, Derives, Begins, Ends}
+use Rattle.graphql_grammar.specs.Reading.{Takes, Reason, Unexpected, Outcome, Done, Fault, Reads, unchecked}
+use Rattle.graphql_grammar.specs.Theorems.{IsExact}
+use Rattle.graphql_grammar.proofs.Stuck.{fits-unchecked}
+use Rattle.graphql_grammar.specs.Texts.{Ending, End, Bad, Tree, Wrong, answer_of, Answers, EndsAt, IsWhole}
+
+module _ (g : Grammar) (e : Expr) (x : IsExact g e) where
+  gives-tree : (ts : List Token) (ending : Ending) (y : Shape) (o : Outcome) → Reads g e ts o → Tree y ≡ answer_of (record { tokens = ts; ending = ending }) o → Derives g e ts y × (ending ≡ End)
+  gives-tree ts ending y (Fault why us) r h = absurd cc
+  gives-tree ts ending y (Done z (u ∷ us)) r h = absurd cc
+  gives-tree ts End y (Done z []) r h =
+      let s = x.sound ts [] z r in
+      (subst (λ (w : Shape). Derives g e ts w) (sym (tree_is y z h)) (s.0.0, s.1 ∙ append-nil (leaves z)), refl)
+    where
+      tree_is : (a b : Shape) → Tree a ≡ Tree b → a ≡ b
+      tree_is a b k = cc
+  gives-tree ts Bad y (Done z []) r h = absurd cc
+
+  tree-given : (ts : List Token) (ending : Ending) (y : Shape) → Derives g e ts y → ending ≡ End → Answers g e (record { tokens = ts; ending = ending }) (Tree y)
+  tree-given ts End y d k = (Done y [], subst (λ (l : List Token). Takes g e l y []) (append-nil ts) (x.complete ts [] y d refl), refl)
+  tree-given ts Bad y d k = absurd cc
+
+  pub record IsPlace (ts : List Token) (ending : Ending) (place : ℕ) : Type 0 where
+    pub front : List Token
+    pub us : List Token
+    pub parts : ts ≡ front ++ us
+    pub is : place ≡ length ts - length us
+    pub begins : Begins (unchecked g) e front
+    pub ends : EndsAt g e front us ending
+
+  ends-at : (front us : List Token) (ending : Ending) → Ends g e front (peek us) → EndsAt g e front us ending
+  ends-at front [] Bad h = tt
+  ends-at front [] End h = h
+  ends-at front (u ∷ us) Bad h = h
+  ends-at front (u ∷ us) End h = h
+
+  begun : (ts us : List Token) (z : Shape) → Takes g e ts z us → Begins (unchecked g) e (leaves z)
+  begun ts us z r = (z, [], (fits-unchecked g (x.sound ts us z r).0.0, append-nil (leaves z)))
+
+  too-long : (ts us : List Token) (u : Token) (z : Shape) → Takes g e ts z (u ∷ us) → Ends g e (leaves z) (Some u)
+  too-long ts us u z r y more d k = not_empty more k (x.longest ts (u ∷ us) z r y more d k).1
+    where
+      not_empty : (l : List Token) → peek l ≡ Some u → l ≡ [] → ⊥
+      not_empty [] h i = cc
+      not_empty (v ∷ l) h i = cc
+
+  wrong_is : (a b : Reason) (m n : ℕ) → Wrong a m ≡ Wrong b n → m ≡ n
+  wrong_is a b m n h = cc
+
+  gives-place : (ts : List Token) (ending : Ending) (why : Reason) (place : ℕ) (o : Outcome) → Reads g e ts o → Wrong why place ≡ answer_of (record { tokens = ts; ending = ending }) o → IsPlace ts ending place
+  gives-place ts ending why place (Fault other us) r h =
+      let f = x.earliest ts us other r in
+      record { front = f.front; us = us; parts = f.parts; is = wrong_is why other place (length ts - length us) h; begins = f.begins; ends = ends-at f.front us ending f.ends }
+  gives-place ts ending why place (Done z (u ∷ us)) r h =
+      let s = x.sound ts (u ∷ us) z r in
+      record { front = leaves z; us = u ∷ us; parts = s.1; is = wrong_is why Unexpected place (length ts - length (u ∷ us)) h; begins = begun ts (u ∷ us) z r; ends = ends-at (leaves z) (u ∷ us) ending (too-long ts us u z r) }
+  gives-place ts End why place (Done z []) r h = absurd cc
+  gives-place ts Bad why place (Done z []) r h =
+      let s = x.sound ts [] z r in
+      record { front = leaves z; us = []; parts = s.1; is = wrong_is why Unexpected place (length ts) h ∙ omega arith; begins = begun ts [] z r; ends = tt }
+
+  place-taken : (ts : List Token) (ending : Ending) (place : ℕ) → IsPlace ts ending place → (place ≤ length ts) × Begins (unchecked g) e (take place ts) × EndsAt g e (take place ts) (drop place ts) ending
+  place-taken ts ending place p =
+      let n : length ts ≡ length p.front + length p.us = ap length p.parts ∙ length-append p.front p.us in
+      let k : length p.front ≡ place = omega (arith, n, p.is) in
+      let t : p.front ≡ take place ts = sym (ap (take place) p.parts ∙ take_at p.front p.us place k) in
+      let d : p.us ≡ drop place ts = sym (ap (drop place) p.parts ∙ drop_at p.front p.us place k) in (
+        omega (arith, n, p.is),
+        subst (Begins (unchecked g) e) t p.begins,
+        subst (λ (l : List Token). EndsAt g e (take place ts) l ending) d (subst (λ (l : List Token). EndsAt g e l p.us ending) t p.ends),
+      )
+
+  pub whole : IsWhole g e
+  whole = record {
+    tree = λ t y. (λ a. gives-tree t.tokens t.ending y a.0 a.1 a.2, λ d. tree-given t.tokens t.ending y d.0 d.1);
+    wrong = λ t why place a. place-taken t.tokens t.ending place (gives-place t.tokens t.ending why place a.0 a.1 a.2);
+    answer = λ t. let a = x.answers t.tokens in (answer_of t a.0, (a.0, a.1, refl));
+    one = λ t a b h k. h.2 ∙ ap (answer_of t) (x.one_answer t.tokens h.0 k.0 h.1 k.1) ∙ sym k.2;
+  }

@@ -1,0 +1,7 @@
+use Rattle.graphql_grammar.proofs.Exact.{exact}
+use Rattle.graphql_grammar.proofs.Alike.{reads_alike}
+use Rattle.graphql_grammar.proofs.Whole.{whole}
+use Rattle.graphql_grammar.proofs.reading.Goals as goal
+
+pub returns : goal.returns
+returns c = record { exact = exact; alike = reads_alike; whole = λ g ok full e d f. whole g e (exact g ok full e d f) }

@@ -1,0 +1,96 @@
+-- A written grammar, and a second list of rules for the same symbols, which one item of lookahead can read.
+use Rattle.std.specs.Prelude.{◌≡◌, ℕ, zero, suc, false, List, [], ◌∷◌, ◌++◌}
+use Rattle.graphql_grammar.specs.Tokens.{Token}
+use Rattle.graphql_grammar.specs.Trees.{Expr, Shape, Nothing, Leaf, Both, First, Second, Stop, More, Node, Row, Grammar, row_at, leaves, peek, Fits, Derives, Begins, Ends}
+use Rattle.graphql_grammar.specs.Tables.{cont}
+use Rattle.graphql_grammar.specs.Reading.{sees, Takes, Reason, Fails, unchecked}
+
+-- a tree of one symbol's second rule as one of its written rule, and back
+pub record Change : Type 0 where
+  pub to_written : Shape → Shape
+  pub to_second : Shape → Shape
+
+abbrev pub unchanged : Change
+unchanged = record { to_written = λ x. x; to_second = λ x. x }
+
+abbrev pub change_at : List Change → ℕ → Change
+change_at [] k = unchanged
+change_at (c ∷ cs) zero = c
+change_at (c ∷ cs) (suc k) = change_at cs k
+
+-- the same in the whole of a tree
+abbrev pub written : List Change → Shape → Shape
+written cs Nothing = Nothing
+written cs (Leaf t) = Leaf t
+written cs (Both x y) = Both (written cs x) (written cs y)
+written cs (First x) = First (written cs x)
+written cs (Second y) = Second (written cs y)
+written cs Stop = Stop
+written cs (More x y) = More (written cs x) (written cs y)
+written cs (Node k x) = Node k ((change_at cs k).to_written (written cs x))
+
+-- the grammar with the second rules
+abbrev pub with_rows : Grammar → List Row → List Change → Grammar
+with_rows g rs cs = record { rows = rs; good = g.good; check = λ k x. g.check k ((change_at cs k).to_written (written cs x)); samples = g.samples }
+
+-- the second rule q has the trees of the written rule e, with the same tokens: c carries them over, and back
+pub record IsSecond (g : Grammar) (rs : List Row) (cs : List Change) (e q : Expr) (c : Change) : Type 0 where
+  pub fits : (x : Shape) → Fits g q x → Fits g e (c.to_written x)
+  pub leaves : (x : Shape) → Fits g q x → leaves (c.to_written x) ≡ leaves x
+  pub fits_back : (y : Shape) → Fits (with_rows g rs cs) e y → Fits (with_rows g rs cs) q (c.to_second y)
+  pub back : (y : Shape) → Fits (with_rows g rs cs) e y → c.to_written (written cs (c.to_second y)) ≡ written cs y
+
+-- the same of lists of rules
+abbrev pub AreSecond : Grammar → List Row → List Change → List Row → List Row → List Change → Type 0
+AreSecond g rs cs [] [] [] = Unit {0}
+AreSecond g rs cs (w ∷ ws) (r ∷ more) (c ∷ others) = IsSecond g rs cs w.rule r.rule c × AreSecond g rs cs ws more others
+AreSecond g rs cs _ _ _ = ⊥
+
+-- and of every symbol
+abbrev pub EachIsSecond : Grammar → List Row → List Change → Type 0
+EachIsSecond g rs cs = (k : ℕ) → IsSecond g rs cs (row_at g.rows k).rule (row_at rs k).rule (change_at cs k)
+
+-- ways to factor
+
+-- the same head on both sides
+abbrev pub out_of_head : Change
+out_of_head = record { to_written = spread; to_second = gather }
+  where
+    spread : Shape → Shape
+    spread (Both h (First x)) = First (Both h x)
+    spread (Both h (Second y)) = Second (Both h y)
+    spread s = s
+
+    gather : Shape → Shape
+    gather (First (Both h x)) = Both h (First x)
+    gather (Second (Both h y)) = Both h (Second y)
+    gather s = s
+
+-- the same in the second side of a choice
+abbrev pub in_second : Change → Change
+in_second c = record { to_written = at_second c.to_written; to_second = at_second c.to_second }
+  where
+    at_second : (Shape → Shape) → Shape → Shape
+    at_second f (Second y) = Second (f y)
+    at_second f s = s
+
+-- an optional symbol k, whose rule is n and then c, before another n
+abbrev pub out_of_prefix : ℕ → Change
+out_of_prefix k = record { to_written = spread; to_second = gather }
+  where
+    spread : Shape → Shape
+    spread (Both n (Both (First (Both c m)) r)) = Both (First (Node k (Both n c))) (Both m r)
+    spread (Both n (Both (Second z) r)) = Both (Second z) (Both n r)
+    spread s = s
+
+    gather : Shape → Shape
+    gather (Both (First (Node j (Both n c))) (Both m r)) = Both n (Both (First (Both c m)) r)
+    gather (Both (Second z) (Both n r)) = Both n (Both (Second z) r)
+    gather s = s
+
+-- The reader of the second grammar answers what the written grammar g derives.
+pub record IsExactFor (g : Grammar) (rs : List Row) (cs : List Change) (e : Expr) : Type 0 where
+  pub sound : (ts us : List Token) (x : Shape) → Takes (with_rows g rs cs) e ts x us → Derives g e (leaves x) (written cs x) × (ts ≡ leaves x ++ us)
+  pub complete : (ts rest : List Token) (y : Shape) → Derives g e ts y → sees (cont rs e) (peek rest) ≡ false → (x : Shape) × Takes (with_rows g rs cs) e (ts ++ rest) x rest × (written cs x ≡ y)
+  pub unambiguous : (ts : List Token) (x y : Shape) → Derives g e ts x → Derives g e ts y → x ≡ y
+  pub earliest : (ts us : List Token) (why : Reason) → Fails (with_rows g rs cs) e ts why us → (front : List Token) × (ts ≡ front ++ us) × Begins (unchecked g) e front × Ends g e front (peek us)

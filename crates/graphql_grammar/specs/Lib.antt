@@ -1,0 +1,9 @@
+pub mod Tokens
+pub mod Trees
+pub mod Tables
+pub mod Reading
+pub mod Theorems
+pub mod Solve
+pub mod Factored
+pub mod Words
+pub mod Texts

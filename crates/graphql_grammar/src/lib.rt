@@ -1,0 +1,45 @@
+//! Grammars as data, and what holds of reading by them with one item of lookahead.
+//!
+//! The crate has no code: its functions are its theorems.
+#![tactic(auto)]
+
+ghost use Rattle.std.specs.Prelude.{◌≡◌, ℕ, List, true};
+ghost use Rattle.graphql_grammar.specs.Trees.{Expr, Empty, Then, Either, Sym, Shape, Row, Grammar, row_at};
+ghost use Rattle.graphql_grammar.specs.Tables.{is_ll1, is_productive, decides, has_samples};
+ghost use Rattle.graphql_grammar.specs.Reading.{unchecked};
+ghost use Rattle.graphql_grammar.specs.Theorems.{IsExact, ReadsAlike};
+ghost use Rattle.graphql_grammar.specs.Texts.{IsWhole, IsWholeFor};
+ghost use Rattle.graphql_grammar.specs.Factored.{Change, change_at, unchanged, out_of_head, in_second, out_of_prefix, with_rows, IsSecond, AreSecond, EachIsSecond, IsExactFor};
+
+/// A grammar whose tables pass the test is read with one item of lookahead, exactly.
+pub fn reading()
+    ensures exact { (g : Grammar) → is_ll1 g.rows ≡ true → is_productive g ≡ true
+        → (e : Expr) → decides g.rows e ≡ true → has_samples g e ≡ true → IsExact g e }
+    ensures alike { (g : Grammar) → is_ll1 g.rows ≡ true → (e : Expr) → decides g.rows e ≡ true → ReadsAlike g e }
+    ensures whole { (g : Grammar) → is_ll1 g.rows ≡ true → is_productive g ≡ true
+        → (e : Expr) → decides g.rows e ≡ true → has_samples g e ≡ true → IsWhole g e }
+{}
+
+/// A written grammar is read exactly by second rules for its symbols whose tables pass the test.
+pub fn factored()
+    ensures exact { (g : Grammar) (rs : List Row) (cs : List Change) → EachIsSecond g rs cs → EachIsSecond (unchecked g) rs cs
+        → is_ll1 rs ≡ true → is_productive (with_rows g rs cs) ≡ true
+        → (e : Expr) → decides rs e ≡ true → has_samples (with_rows g rs cs) e ≡ true → IsExactFor g rs cs e }
+    ensures whole { (g : Grammar) (rs : List Row) (cs : List Change) → EachIsSecond g rs cs → EachIsSecond (unchecked g) rs cs
+        → is_ll1 rs ≡ true → is_productive (with_rows g rs cs) ≡ true
+        → (e : Expr) → decides rs e ≡ true → has_samples (with_rows g rs cs) e ≡ true → IsWholeFor g rs cs e }
+{}
+
+/// Ways to find second rules: none, out of the head of both sides, in the second side, out of an optional prefix.
+pub fn second_rules()
+    ensures each { (g : Grammar) (rs : List Row) (cs : List Change) → AreSecond g rs cs g.rows rs cs → EachIsSecond g rs cs }
+    ensures same { (g : Grammar) (rs : List Row) (cs : List Change) (e : Expr) → IsSecond g rs cs e e unchanged }
+    ensures head { (g : Grammar) (rs : List Row) (cs : List Change) (d p q : Expr)
+        → IsSecond g rs cs (Either (Then d p) (Then d q)) (Then d (Either p q)) out_of_head }
+    ensures second { (g : Grammar) (rs : List Row) (cs : List Change) (a e q : Expr) (c : Change)
+        → IsSecond g rs cs e q c → IsSecond g rs cs (Either a e) (Either a q) (in_second c) }
+    ensures prefix { (g : Grammar) (rs : List Row) (cs : List Change) (k : ℕ) (n c r : Expr)
+        → (row_at g.rows k).rule ≡ Then n c → (row_at rs k).rule ≡ Then n c
+        → ((x : Shape) → (change_at cs k).to_written x ≡ x) → ((x : Shape) → g.check k x ≡ true)
+        → IsSecond g rs cs (Then (Either (Sym k) Empty) (Then n r)) (Then n (Then (Either (Then c n) Empty) r)) (out_of_prefix k) }
+{}
