@@ -3,3 +3,4 @@ pub mod Spelled
 pub mod Cutting
 pub mod Matches
 pub mod Holding
+pub mod Nested

@@ -7,3 +7,4 @@ pub mod Solve
 pub mod Factored
 pub mod Words
 pub mod Texts
+pub mod Extended

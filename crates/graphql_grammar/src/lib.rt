@@ -9,6 +9,7 @@ ghost use Rattle.graphql_grammar.specs.Tables.{is_ll1, is_productive, decides, h
 ghost use Rattle.graphql_grammar.specs.Reading.{unchecked};
 ghost use Rattle.graphql_grammar.specs.Theorems.{IsExact, ReadsAlike};
 ghost use Rattle.graphql_grammar.specs.Texts.{IsWhole, IsWholeFor};
+ghost use Rattle.graphql_grammar.specs.Extended.{Extends, ReadsOn, is_below};
 ghost use Rattle.graphql_grammar.specs.Factored.{Change, change_at, unchanged, out_of_head, in_second, out_of_prefix, with_rows, IsSecond, AreSecond, EachIsSecond, IsExactFor};
 
 /// A grammar whose tables pass the test is read with one item of lookahead, exactly.
@@ -42,4 +43,9 @@ pub fn second_rules()
         → (row_at g.rows k).rule ≡ Then n c → (row_at rs k).rule ≡ Then n c
         → ((x : Shape) → (change_at cs k).to_written x ≡ x) → ((x : Shape) → g.check k x ≡ true)
         → IsSecond g rs cs (Then (Either (Sym k) Empty) (Then n r)) (Then n (Then (Either (Then c n) Empty) r)) (out_of_prefix k) }
+{}
+
+/// What a grammar reads, a grammar that goes on from it reads alike.
+pub fn extended()
+    ensures { (n : ℕ) (g h : Grammar) → Extends n g h → (e : Expr) → is_below n e ≡ true → ReadsOn g h e }
 {}

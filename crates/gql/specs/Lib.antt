@@ -1,0 +1,5 @@
+pub mod Counting
+pub mod Faults
+pub mod Output
+pub mod Status
+pub mod Words

@@ -1,0 +1,60 @@
+-- What is written for what is read.
+use Rattle.std.specs.Prelude.{◌≡◌, ◌≢◌, ◌<◌, ◌++◌, ◌⊎◌, ℕ, List, length, Option, IfSome}
+use Rattle.std.specs.Io.KnownBytes.{Appends, IsAtEnd}
+use Rattle.graphql_core.specs.Style.{Layout}
+use Rattle.graphql_query.specs.Tree.{DocumentTree}
+use Rattle.graphql_query.specs.Document.{IsDocumentOf, IsRefusalOf, max_length}
+use Rattle.graphql_query.specs.Layout.{layout, IsTooWide}
+use Rattle.graphql_query.specs.Refusal.{Refusal, no_memory}
+use Rattle.graphql_core.specs.declared.format.error.FormatError.{FormatError}
+use Rattle.graphql_core.specs.declared.format.error.FormatError.TheVariants.{TooWide}
+use Rattle.graphql_core.specs.declared.format.error.FormatError.TheVariants as layout_error
+use Rattle.gql.specs.Faults.{HasFault}
+use Rattle.gql.specs.declared.error.RunError.{RunError}
+use Rattle.gql.specs.declared.error.RunError.TheVariants.{Read, NotUtf8, Format, Write, OutOfMemory}
+use Rattle.gql.specs.declared.error.RunError.TheVariants as error
+use Rattle.gql.specs.declared.command.Command.{Command}
+use Rattle.gql.specs.declared.command.Command.TheVariants.{Query}
+
+-- a command makes this output of a text
+abbrev pub IsOutputOf : Command → Layout → List ℕ → List ℕ → Type 0
+IsOutputOf Query style text output = (d : DocumentTree) × IsDocumentOf text d × (output ≡ layout style d)
+
+-- this is why the text is refused, and, unless memory ran out, it is too long or has no document
+abbrev pub HasNoDocument : Command → List ℕ → Refusal → Type 0
+HasNoDocument Query text e = IsRefusalOf text e × (e ≢ no_memory → (max_length < length text) ⊎ ((d : DocumentTree) → IsDocumentOf text d → ⊥))
+
+-- the text's document is too wide for the style
+abbrev pub HasNoLayout : Command → Layout → List ℕ → Type 0
+HasNoLayout Query style text = (d : DocumentTree) × IsDocumentOf text d × IsTooWide style d
+
+-- all that was left was read, and this holds of it
+abbrev pub ReadsAll : Option (List ℕ) → Option (List ℕ) → (List ℕ → Type 0) → Type 0
+ReadsAll old new P = IsAtEnd new × IfSome old P
+
+-- a beginning of these bytes was written
+abbrev pub WritesPart : Option (List ℕ) → Option (List ℕ) → List ℕ → Type 0
+WritesPart old new all = (front : List ℕ) × (rest : List ℕ) × (all ≡ front ++ rest) × Appends old new front
+
+-- reading ends early where memory runs out, or a read failed
+abbrev pub EndsReading : ℕ → ℕ → RunError → Type 0
+EndsReading old new Read = HasFault old new
+EndsReading old new OutOfMemory = Unit {0}
+EndsReading old new NotUtf8 = ⊥
+EndsReading old new (error.Query e) = ⊥
+EndsReading old new (Format e) = ⊥
+EndsReading old new Write = ⊥
+
+-- what a layout that failed says of a text
+abbrev pub RefusesLayout : Command → Layout → List ℕ → FormatError → Type 0
+RefusesLayout command style text TooWide = HasNoLayout command style text
+RefusesLayout command style text layout_error.OutOfMemory = Unit {0}
+
+-- a text gets no output where it is refused, or its document is not laid out
+abbrev pub EndsEngine : Command → Layout → List ℕ → RunError → Type 0
+EndsEngine command style text (error.Query e) = HasNoDocument command text e
+EndsEngine command style text (Format e) = RefusesLayout command style text e
+EndsEngine command style text OutOfMemory = Unit {0}
+EndsEngine command style text Read = ⊥
+EndsEngine command style text NotUtf8 = ⊥
+EndsEngine command style text Write = ⊥

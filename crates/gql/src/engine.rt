@@ -1,0 +1,111 @@
+//! All of the input, and then all of the output.
+ghost use Rattle.std.specs.Prelude.{◌≡◌, ◌≢◌, List, ℕ, Err, string_bytes, OnOk, IfOk, IfErr, IfSome};
+ghost use Rattle.std.specs.Str.{IsUtf8};
+ghost use Rattle.std.specs.Io.KnownBytes.{Keeps, Appends, Consumes, IsAtEnd};
+ghost use Rattle.graphql_query.specs.Refusal.{Refusal};
+ghost use Rattle.gql.specs.Faults.{HasFault};
+ghost use Rattle.gql.specs.Output.{IsOutputOf, HasNoDocument, HasNoLayout, ReadsAll, EndsReading, EndsEngine, WritesPart};
+
+use crate::command::Command;
+use crate::counted::Counted;
+use crate::error::RunError;
+use graphql_parser::query::Document;
+use graphql_parser::{FormatError, Style, parse_query};
+use std::alloc::Global;
+use std::io::{Read, Write};
+
+/// Reads all that the reader has.
+fn read_all<R: Read>(alloc: Global, reader: &mut Counted<R>) -> Result<Vec<u8>, RunError>
+    ensures bytes { IfOk result (λ v. Consumes (R.remaining reader.old.device) (R.remaining reader.new.device) v.items) }
+    ensures end { OnOk result (IsAtEnd (R.remaining reader.new.device)) }
+    ensures faults { result ≢ Err RunError.Read → reader.new.faults ≡ reader.old.faults }
+    ensures err { IfErr result (EndsReading reader.old.faults reader.new.faults) }
+{
+    let mut bytes = Vec::new(alloc);
+    let mut piece = [0u8; 8192];
+    'pieces: for _ in 0..u64::MAX {
+        match reader.read(&mut piece) {
+            Ok(0) => return Ok(bytes),
+            Ok(count) => bytes.extend_from_slice(&piece[..count])?,
+            Err(_) => return Err(RunError::Read),
+        }
+    }
+    unreachable!()
+}
+
+/// Writes all of these bytes.
+fn write_all<W: Write>(writer: &mut Counted<W>, bytes: &[u8]) -> Result<(), RunError>
+    ensures ok { OnOk result (Appends (W.contents writer.old.device) (W.contents writer.new.device) bytes.now) }
+    ensures faults { OnOk result (writer.new.faults ≡ writer.old.faults) }
+    ensures err { IfErr result (λ e. (e ≡ RunError.Write) × HasFault writer.old.faults writer.new.faults
+        × WritesPart (W.contents writer.old.device) (W.contents writer.new.device) bytes.now) }
+{
+    let mut rest = bytes;
+    'pieces: for _ in 0..u64::MAX {
+        if rest.is_empty() {
+            return match writer.flush() {
+                Ok(()) => Ok(()),
+                Err(_) => Err(RunError::Write),
+            };
+        }
+        match writer.write(rest) {
+            Ok(0) => return Err(RunError::Write),
+            Ok(count) => rest = rest.split_at(count).1,
+            Err(_) => return Err(RunError::Write),
+        }
+    }
+    unreachable!()
+}
+
+/// The document of a text, laid out.
+fn laid_out(alloc: Global, style: &Style, text: &str) -> Result<String, RunError>
+    ensures ok { IfOk result (λ s. IsOutputOf Command.Query style.now text.now (string_bytes s)) }
+    ensures err { IfErr result (EndsEngine Command.Query style.now text.now) }
+{
+    let document: Document<'_, &str> = match parse_query(alloc, text) {
+        Ok(document) => document,
+        Err(error) => return Err(RunError::Query(error)),
+    };
+    match document.format(alloc, style) {
+        Ok(text) => Ok(text),
+        Err(error) => Err(RunError::Format(error)),
+    }
+}
+
+/// Reads the input to its end, and writes what the command makes of it.
+pub fn run<R: Read, W: Write>(
+    alloc: Global,
+    command: Command,
+    style: &Style,
+    reader: &mut Counted<R>,
+    writer: &mut Counted<W>,
+) -> Result<(), RunError>
+    // All that the reader had left was read, and the output that the command makes of it was written.
+    ensures ok { OnOk result (ReadsAll (R.remaining reader.old.device) (R.remaining reader.new.device)
+        (λ input. (output : List ℕ) × IsOutputOf command style.now input output
+        × Appends (W.contents writer.old.device) (W.contents writer.new.device) output)) }
+    ensures read { result ≡ Err RunError.Read → HasFault reader.old.faults reader.new.faults }
+    ensures not_utf8 { result ≡ Err RunError.NotUtf8 → ReadsAll (R.remaining reader.old.device) (R.remaining reader.new.device)
+        (λ input. ¬ IsUtf8 input) }
+    ensures query { (e : Refusal) → result ≡ Err (RunError.Query e) → ReadsAll (R.remaining reader.old.device) (R.remaining reader.new.device)
+        (λ input. HasNoDocument command input e) }
+    ensures format { result ≡ Err (RunError.Format FormatError.TooWide) → ReadsAll (R.remaining reader.old.device) (R.remaining reader.new.device)
+        (λ input. HasNoLayout command style.now input) }
+    // The first fault of a device ends the run.
+    ensures reader_faults { result ≢ Err RunError.Read → reader.new.faults ≡ reader.old.faults }
+    ensures writer_faults { result ≢ Err RunError.Write → writer.new.faults ≡ writer.old.faults }
+    // Only a run that fails to write may leave a part of its output behind.
+    ensures untouched { IfErr result (λ e. e ≢ RunError.Write → Keeps (W.contents writer.old.device) (W.contents writer.new.device)) }
+    ensures write { result ≡ Err RunError.Write → HasFault writer.old.faults writer.new.faults
+        × ReadsAll (R.remaining reader.old.device) (R.remaining reader.new.device) (λ input. (output : List ℕ) × IsOutputOf command style.now input output
+        × WritesPart (W.contents writer.old.device) (W.contents writer.new.device) output) }
+{
+    let bytes = read_all(alloc, reader)?;
+    let Ok(text) = str::from_utf8(&bytes) else {
+        return Err(RunError::NotUtf8);
+    };
+    let output = match command {
+        Command::Query => laid_out(alloc, style, text)?,
+    };
+    write_all(writer, output.as_bytes())
+}

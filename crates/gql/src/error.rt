@@ -1,0 +1,66 @@
+//! Why a run ends early.
+ghost use Rattle.std.specs.Prelude.{◌≡◌, option_map};
+ghost use Rattle.gql.specs.Status.{ends_its_line, status_of};
+
+use graphql_parser::FormatError;
+use graphql_parser::query::ParseError;
+use std::alloc::AllocError;
+use thiserror::Error;
+
+/// Why a run ends early.
+#[derive(Debug, Drop, Error)]
+pub enum RunError {
+    /// 1: a read answered an error. Nothing was written.
+    #[error("gql: read failed")]
+    Read,
+    /// 2: the input is not UTF-8. Nothing was written.
+    #[error("gql: input is not UTF-8")]
+    NotUtf8,
+    /// 3: the input is no query document. Nothing was written.
+    #[error("{0}")]
+    Query(ParseError),
+    /// 6: the document cannot be laid out. Nothing was written.
+    #[error("{0}")]
+    Format(FormatError),
+    /// 7: a write or the last flush failed, or a write took nothing. A beginning of the output was written.
+    #[error("gql: write failed")]
+    Write,
+    /// 8: memory ran out in the engine itself. Nothing was written.
+    #[error("gql: out of memory")]
+    OutOfMemory,
+}
+
+impl RunError {
+    /// Whether the message ends in a line end.
+    pub fn ends_its_line(&self) -> bool
+        ensures { result ≡ ends_its_line self.now }
+    {
+        match self {
+            RunError::Query(error) => error.position().is_some(),
+            _ => false,
+        }
+    }
+}
+
+impl From<AllocError> for RunError {
+    ghost use Rattle.std.specs.Prelude.{◌≡◌};
+    ghost use Rattle.gql.specs.declared.error.RunError.TheVariants.{OutOfMemory};
+
+    ghost from_gives = { λ _ e. e ≡ OutOfMemory };
+
+    fn from(_e: AllocError) -> RunError {
+        RunError::OutOfMemory
+    }
+}
+
+/// The status with which the program ends: 0 where all was written, 1 for a refused document, 2 for a
+/// device, for memory of the engine itself, and for wrong words (`None`).
+pub fn status(answer: Option<&Result<(), RunError>>) -> u8
+    ensures { result ≡ status_of (option_map (λ r. r.now) answer.entry) }
+{
+    match answer {
+        Some(Ok(())) => 0,
+        Some(Err(RunError::Query(_) | RunError::Format(_))) => 1,
+        Some(Err(_)) | None => 2,
+    }
+}

@@ -1,0 +1,92 @@
+-- What one grammar reads, a grammar that goes on from it reads alike.
+use Rattle.std.proofs.Common.{◌≡◌, ◌<◌, ℕ, Bool, true, ◌&&◌, cond, List, [], ◌∷◌, ◌++◌, Option, refl, sym, ap, ap₂, subst, ◌∙◌, arith}
+use Rattle.std.proofs.lemmas.Bool.{and_parts}
+use Rattle.std.proofs.lemmas.Bool.Decides.{nat_tests}
+use Rattle.graphql_grammar.specs.Tokens.{Token, Class, matches}
+use Rattle.graphql_grammar.specs.Trees.{Expr, Empty, One, Then, Either, Many, Sym, Shape, Row, Grammar, row_at, row, accepts, peek, Fits, fits_nothing, fits_leaf, fits_both, fits_first, fits_second, fits_stop, fits_more, fits_node}
+use Rattle.graphql_grammar.specs.Tables.{nullable, first, only_if}
+use Rattle.graphql_grammar.specs.Reading.{sees, Choice, choose, Takes, takes_nothing, takes_leaf, takes_both, takes_first, takes_second, takes_stop, takes_more, takes_node, Reason, Fails, fails_one, fails_value, fails_before, fails_after, fails_first, fails_second, fails_neither, fails_turn, fails_later, fails_node, fails_check}
+use Rattle.graphql_grammar.specs.Extended.{is_below, Extends, ReadsOn}
+
+below_is : (k n : ℕ) → is_below n (Sym k) ≡ true → k < n
+below_is k n h = grind (arith, nat_tests)
+
+module _ (n : ℕ) (g h : Grammar) (x : Extends n g h) where
+  row_same : (k : ℕ) → is_below n (Sym k) ≡ true → row_at h.rows k ≡ row_at g.rows k
+  row_same k b = x.rows k (below_is k n b)
+
+  nullable-same : (e : Expr) → is_below n e ≡ true → nullable h.rows e ≡ nullable g.rows e
+  nullable-same Empty b = refl
+  nullable-same (One c) b = refl
+  nullable-same (Then p q) b = let s = and_parts (is_below n p) (is_below n q) b in rw (nullable-same p s.0, nullable-same q s.1) refl
+  nullable-same (Either p q) b = let s = and_parts (is_below n p) (is_below n q) b in rw (nullable-same p s.0, nullable-same q s.1) refl
+  nullable-same (Many p) b = refl
+  nullable-same (Sym k) b = ap (λ (r : Row). r.nullable) (row_same k b)
+
+  first-same : (e : Expr) → is_below n e ≡ true → first h.rows e ≡ first g.rows e
+  first-same Empty b = refl
+  first-same (One c) b = refl
+  first-same (Then p q) b = let s = and_parts (is_below n p) (is_below n q) b in rw (first-same p s.0, first-same q s.1, nullable-same p s.0) refl
+  first-same (Either p q) b = let s = and_parts (is_below n p) (is_below n q) b in rw (first-same p s.0, first-same q s.1) refl
+  first-same (Many p) b = first-same p b
+  first-same (Sym k) b = ap (λ (r : Row). r.first) (row_same k b)
+
+  choose-same : (p q : Expr) (item : Option Token) → is_below n p ≡ true → is_below n q ≡ true → choose h.rows p q item ≡ choose g.rows p q item
+  choose-same p q item b c = rw (first-same p b, first-same q c, nullable-same p b, nullable-same q c) refl
+
+  sees-same : (e : Expr) (item : Option Token) (v : Bool) → is_below n e ≡ true → sees (first g.rows e) item ≡ v → sees (first h.rows e) item ≡ v
+  sees-same e item v b s = ap (λ cs. sees cs item) (first-same e b) ∙ s
+
+  accepts-same : (c : Class) (t : Token) → accepts g c t ≡ true → accepts h c t ≡ true
+  accepts-same c t a = ap (λ v. matches c t && v) (x.good c t) ∙ a
+
+  rule_below : (k : ℕ) → is_below n (Sym k) ≡ true → is_below n (row g k).rule ≡ true
+  rule_below k b = x.closed k (below_is k n b)
+
+  fits-on : {e : Expr} {s : Shape} → Fits g e s → is_below n e ≡ true → Fits h e s
+  fits-on fits_nothing b = fits_nothing
+  fits-on (fits_leaf {c} {t} a) b = fits_leaf (accepts-same c t a)
+  fits-on (fits_both {a = p} {b = q} f k) b = let s = and_parts (is_below n p) (is_below n q) b in fits_both (fits-on f s.0) (fits-on k s.1)
+  fits-on (fits_first {a = p} {b = q} f) b = let s = and_parts (is_below n p) (is_below n q) b in fits_first (fits-on f s.0)
+  fits-on (fits_second {a = p} {b = q} f) b = let s = and_parts (is_below n p) (is_below n q) b in fits_second (fits-on f s.1)
+  fits-on fits_stop b = fits_stop
+  fits-on (fits_more f k) b = fits_more (fits-on f b) (fits-on k b)
+  fits-on (fits_node {k} {x = s} f c) b =
+      let e = row_same k b in
+      fits_node (subst (λ (r : Row). Fits h r.rule s) (sym e) (fits-on f (rule_below k b))) (x.check k s (below_is k n b) ∙ c)
+
+  takes-on : {e : Expr} {ts us : List Token} {s : Shape} → Takes g e ts s us → is_below n e ≡ true → Takes h e ts s us
+  takes-on takes_nothing b = takes_nothing
+  takes-on (takes_leaf {c} {t} a) b = takes_leaf (accepts-same c t a)
+  takes-on (takes_both {a = p} {b = q} f k) b = let s = and_parts (is_below n p) (is_below n q) b in takes_both (takes-on f s.0) (takes-on k s.1)
+  takes-on (takes_first {a = p} {b = q} {ts = ts} c f) b = let s = and_parts (is_below n p) (is_below n q) b in takes_first (choose-same p q (peek ts) s.0 s.1 ∙ c) (takes-on f s.0)
+  takes-on (takes_second {a = p} {b = q} {ts = ts} c f) b = let s = and_parts (is_below n p) (is_below n q) b in takes_second (choose-same p q (peek ts) s.0 s.1 ∙ c) (takes-on f s.1)
+  takes-on (takes_stop {a = p} {ts = ts} v) b = takes_stop (sees-same p (peek ts) _ b v)
+  takes-on (takes_more {a = p} {ts = ts} v f k) b = takes_more (sees-same p (peek ts) _ b v) (takes-on f b) (takes-on k b)
+  takes-on (takes_node {k} {ts = ts} {us = us} {x = s} f c) b =
+      let e = row_same k b in
+      takes_node (subst (λ (r : Row). Takes h r.rule ts s us) (sym e) (takes-on f (rule_below k b))) (x.check k s (below_is k n b) ∙ c)
+
+  fails-on : {e : Expr} {ts us : List Token} {why : Reason} → Fails g e ts why us → is_below n e ≡ true → Fails h e ts why us
+  fails-on (fails_one v) b = fails_one v
+  fails-on (fails_value {c} {t} m v) b = fails_value m (x.good c t ∙ v)
+  fails-on (fails_before {a = p} {b = q} f) b = let s = and_parts (is_below n p) (is_below n q) b in fails_before (fails-on f s.0)
+  fails-on (fails_after {a = p} {b = q} t f) b = let s = and_parts (is_below n p) (is_below n q) b in fails_after (takes-on t s.0) (fails-on f s.1)
+  fails-on (fails_first {a = p} {b = q} {ts = ts} c f) b = let s = and_parts (is_below n p) (is_below n q) b in fails_first (choose-same p q (peek ts) s.0 s.1 ∙ c) (fails-on f s.0)
+  fails-on (fails_second {a = p} {b = q} {ts = ts} c f) b = let s = and_parts (is_below n p) (is_below n q) b in fails_second (choose-same p q (peek ts) s.0 s.1 ∙ c) (fails-on f s.1)
+  fails-on (fails_neither {a = p} {b = q} {ts = ts} c) b = let s = and_parts (is_below n p) (is_below n q) b in fails_neither (choose-same p q (peek ts) s.0 s.1 ∙ c)
+  fails-on (fails_turn {a = p} {ts = ts} v f) b = fails_turn (sees-same p (peek ts) _ b v) (fails-on f b)
+  fails-on (fails_later {a = p} {ts = ts} v t f) b = fails_later (sees-same p (peek ts) _ b v) (takes-on t b) (fails-on f b)
+  fails-on (fails_node {k} {ts = ts} {us = us} {why = why} f) b =
+      let e = row_same k b in
+      fails_node (subst (λ (r : Row). Fails h r.rule ts why us) (sym e) (fails-on f (rule_below k b)))
+  fails-on (fails_check {k} {ts = ts} {us = us} {x = s} t c) b =
+      let e = row_same k b in
+      fails_check (subst (λ (r : Row). Takes h r.rule ts s us) (sym e) (takes-on t (rule_below k b))) (x.check k s (below_is k n b) ∙ c)
+
+  pub reads_on : (e : Expr) → is_below n e ≡ true → ReadsOn g h e
+  reads_on e b = record {
+    takes = λ ts us s t. takes-on t b;
+    fails = λ ts us why f. fails-on f b;
+    derives = λ ts s d. (fits-on d.0 b, d.1);
+  }

@@ -1,0 +1,28 @@
+//! Tokenizer, trees, parsers and printers for GraphQL documents.
+#![tactic(auto)]
+
+pub use graphql_core::common::{BadToken, Cause};
+pub use graphql_core::format::{FormatError, Style};
+pub use graphql_core::position::Pos;
+pub use graphql_query::parse_query;
+
+/// Texts and causes of faults.
+pub mod common {
+    pub use graphql_core::common::{BadToken, Cause, Names, Text};
+}
+
+/// A text cut into its tokens.
+pub mod tokenizer {
+    pub use graphql_core::tokenizer::{Bad, Kind, Token, TokenStream};
+}
+
+/// Query documents.
+pub mod query {
+    pub use graphql_query::{
+        Definition, Document, Field, Names, OperationDefinition, ParseError, Selection,
+        SelectionSet, Text, parse_query,
+    };
+}
+
+#[cfg(test)]
+mod tests;

@@ -1,0 +1,8 @@
+//! What no clause says, and every public call once with ample memory.
+
+mod callers;
+mod documents;
+mod memory;
+mod messages;
+mod positions;
+mod tokens;

@@ -1,0 +1,94 @@
+//! Callers at concrete text types, one of them the tests' own.
+ghost use Rattle.std.specs.Prelude.{IfOk, ◌≡◌, string_bytes, refl, nat_eq};
+ghost use Rattle.std.proofs.Common.{rules};
+
+use crate::common::{Names, Text};
+use crate::query::{Definition, Document, OperationDefinition, ParseError, Selection, parse_query};
+use std::alloc::{AllocError, Global};
+use std::test::Fail;
+
+/// A text type whose names are owned and which is no text itself.
+#[derive(Drop)]
+struct Owned;
+
+impl Names for Owned {
+    type Value = String;
+
+    ghost bytes = { λ v. string_bytes v };
+
+    ghost eq_by_bytes = { λ x y. refl };
+
+    ghost cmp_by_bytes = { λ x y. refl };
+
+    ghost clone_keeps = { Prim.search rules };
+
+    fn view<'v>(value: &'v String) -> &'v str {
+        value.as_str()
+    }
+}
+
+impl<'a> Text<'a> for Owned {
+    fn make(alloc: Global, text: &'a str) -> Result<String, AllocError> {
+        String::from_str(alloc, text)
+    }
+}
+
+/// Borrowed names, with the lifetime of the text.
+fn with_borrowed_names<'a>(
+    alloc: Global,
+    source: &'a str,
+) -> Result<Document<'a, &'a str>, ParseError> {
+    parse_query::<&'a str>(alloc, source)
+}
+
+/// Borrowed names, with the lifetime left out.
+fn count(alloc: Global, source: &str) -> Result<usize, ParseError> {
+    let document: Document<'_, &str> = parse_query(alloc, source)?;
+    Ok(document.definitions.len())
+}
+
+/// Names of the tests' own type, which outlive the text.
+fn with_owned_names(alloc: Global, source: &str) -> Result<Document<'static, Owned>, ParseError> {
+    parse_query::<Owned>(alloc, source)
+}
+
+/// Any text type.
+fn first_name<'a, 'd, T: Text<'a>>(document: &'d Document<'a, T>) -> Option<&'d str> {
+    let Definition::Operation(OperationDefinition::SelectionSet(set)) = document
+        .definitions
+        .first()?;
+    let Selection::Field(field) = set.items.first()?;
+    Some(T::view(&field.name))
+}
+
+#[test]
+fn borrowed_names(rt: HostRuntime) -> Result<(), Fail> {
+    let document = with_borrowed_names(rt.alloc(), "{ hero } { b }")?;
+    assert_eq!(rt; first_name::<&str>(&document), Some("hero"));
+    assert_eq!(rt; count(rt.alloc(), "{ hero } { b }")?, 2);
+    Ok(())
+}
+
+#[test]
+fn owned_names_outlive_the_text(rt: HostRuntime) -> Result<(), Fail> {
+    let alloc = rt.alloc();
+    let text = String::from_str(alloc, "{ hero } { b }")?;
+    let document = with_owned_names(alloc, &text)?;
+    drop(text);
+    assert_eq!(rt; first_name::<Owned>(&document), Some("hero"));
+    assert_eq!(rt;
+        document.to_string(alloc)?.as_str(),
+        "{\n  hero\n}\n\n{\n  b\n}\n"
+    );
+    Ok(())
+}
+
+#[test]
+fn names_are_made_and_viewed(rt: HostRuntime) -> Result<(), Fail> {
+    let alloc = rt.alloc();
+    let made = <&str as Text>::make(alloc, "name")?;
+    assert_eq!(rt; <&str as Names>::view(&made), "name");
+    let made = <Owned as Text>::make(alloc, "name")?;
+    assert_eq!(rt; <Owned as Names>::view(&made), "name");
+    Ok(())
+}

@@ -1,0 +1,140 @@
+//! The texts of causes and faults.
+use crate::query::{Document, ParseError, parse_query};
+use crate::tokenizer::Kind;
+use crate::{BadToken, Cause, FormatError};
+use std::alloc::Global;
+use std::test::Fail;
+
+#[test]
+fn causes_are_shown(rt: HostRuntime) -> Result<(), Fail> {
+    let alloc = rt.alloc();
+    let run = |text: &str| String::from_str(alloc, text);
+    let causes = [
+        (
+            Cause::BadToken(BadToken::Character(';')),
+            "Unexpected unexpected character ';'",
+        ),
+        (
+            Cause::BadToken(BadToken::Character('~')),
+            "Unexpected unexpected character '~'",
+        ),
+        (
+            Cause::BadToken(BadToken::Character('\'')),
+            "Unexpected unexpected character '\\''",
+        ),
+        (
+            Cause::BadToken(BadToken::Character('\\')),
+            "Unexpected unexpected character '\\\\'",
+        ),
+        (
+            Cause::BadToken(BadToken::Character('\u{85}')),
+            "Unexpected unexpected character '\\u{85}'",
+        ),
+        (
+            Cause::BadToken(BadToken::Character('\0')),
+            "Unexpected unexpected character '\\u{0}'",
+        ),
+        (
+            Cause::BadToken(BadToken::BareDot),
+            "Unexpected bare dot '.' is not supported, only \"...\"",
+        ),
+        (
+            Cause::BadToken(BadToken::Integer(run("01")?)),
+            "Unexpected unsupported integer \"01\"",
+        ),
+        (
+            Cause::BadToken(BadToken::Float(run("1e9")?)),
+            "Unexpected unsupported float \"1e9\"",
+        ),
+        (
+            Cause::BadToken(BadToken::UnterminatedString),
+            "Unexpected unterminated string value",
+        ),
+        (
+            Cause::BadToken(BadToken::UnterminatedBlockString),
+            "Unexpected unterminated block string value",
+        ),
+        (
+            Cause::UnexpectedToken {
+                kind: Kind::Name,
+                text: run("where")?,
+            },
+            "Unexpected `where[Name]`",
+        ),
+        (Cause::UnexpectedEnd, "Unexpected end of input"),
+        (Cause::TooDeep, "Recursion limit exceeded"),
+        (Cause::IntOutOfRange, "number too large"),
+        (Cause::MalformedFloat, "invalid float literal"),
+        (Cause::BadEscape, "Unexpected bad escape in string"),
+        (Cause::UnknownLocation, "invalid directive location"),
+        (
+            Cause::DuplicateOperation(run("query")?),
+            "Unexpected duplicate `query` operation",
+        ),
+        (
+            Cause::UnknownOperation(run("foo")?),
+            "Unexpected `foo[Name]`",
+        ),
+        (Cause::EmptyExtension, "Unexpected empty extension"),
+        (Cause::TextTooLong, "text too long"),
+        (Cause::OutOfMemory, "out of memory"),
+    ];
+    for (cause, text) in causes {
+        assert_eq!(rt; cause.to_string(alloc)?.as_str(), text);
+    }
+    Ok(())
+}
+
+/// The message of a refusal, and nothing for a document.
+fn refusal(alloc: Global, text: &str) -> Result<Option<String>, Fail> {
+    let answer: Result<Document<'_, &str>, ParseError> = parse_query(alloc, text);
+    match answer {
+        Ok(_) => Ok(None),
+        Err(error) => Ok(Some(error.to_string(alloc)?)),
+    }
+}
+
+#[test]
+fn refusals_are_shown(rt: HostRuntime) -> Result<(), Fail> {
+    for (text, message) in [
+        (
+            "{ }",
+            "query parse error: Parse error at 1:3\nUnexpected `}[Punctuator]`\n",
+        ),
+        (
+            "{ a",
+            "query parse error: Parse error at 1:4\nUnexpected end of input\n",
+        ),
+        (
+            "{ a;}",
+            "query parse error: Parse error at 1:4\nUnexpected unexpected character ';'\n",
+        ),
+        (
+            "where a > 1",
+            "query parse error: Parse error at 1:1\nUnexpected `where[Name]`\n",
+        ),
+        (
+            "{ \u{e9} }",
+            "query parse error: Parse error at 1:3\nUnexpected unexpected character '\\u{e9}'\n",
+        ),
+    ] {
+        assert_eq!(rt;
+            refusal(rt.alloc(), text)?.ok_or("a refusal")?.as_str(),
+            message
+        );
+    }
+    Ok(())
+}
+
+#[test]
+fn format_errors_are_shown(rt: HostRuntime) -> Result<(), Fail> {
+    assert_eq!(rt;
+        FormatError::TooWide.to_string(rt.alloc())?.as_str(),
+        "format error: indentation too wide"
+    );
+    assert_eq!(rt;
+        FormatError::OutOfMemory.to_string(rt.alloc())?.as_str(),
+        "format error: out of memory"
+    );
+    Ok(())
+}

@@ -1,0 +1,4 @@
+pub mod Facts
+pub mod Whole
+pub mod Printing
+pub mod Printable

@@ -1,0 +1,6 @@
+pub mod Tree
+pub mod Grammar
+pub mod Refusal
+pub mod Gives
+pub mod Document
+pub mod Layout

@@ -1,0 +1,72 @@
+//! Whole documents.
+ghost use Rattle.std.specs.Prelude.{◌≡◌, ◌<◌, ◌≤◌, length, IfOk, IfErr, IsErrOf};
+ghost use Rattle.graphql_core.specs.declared.common.fault.Fault.TheVariants.{OutOfMemory};
+ghost use Rattle.graphql_query.specs.Tree.{DocumentTree, document_view};
+ghost use Rattle.graphql_query.specs.Refusal.{too_long};
+ghost use Rattle.graphql_query.specs.Document.{IsDocument, IsDocumentOf, IsPrintable, IsRefusalOf};
+ghost use Rattle.graphql_query.specs.Document.{AnswersUnlessMemory, HasOneShape, max_length};
+ghost use Rattle.graphql_query.specs.Gives.{IsFirst};
+
+use crate::error::ParseError;
+use crate::read::definitions;
+use crate::tree::Document;
+use graphql_core::common::{Fault, Text};
+use graphql_core::helpers::{Cursor, TokenSource};
+use std::alloc::Global;
+
+/// The most bytes of a text.
+const MAX_LENGTH: usize = usize::MAX / 16;
+
+/// The document that all items of a source are.
+pub fn read_document<S: TokenSource>(
+    alloc: Global,
+    source: &mut S,
+) -> Result<Document<S::Names>, Fault>
+    // What is answered is the meaning of a shape that the grammar derives.
+    ensures derived { IfOk result
+        (λ d. IsDocument (S.items source.old) (document_view S.Names.bytes d)) }
+    // A document is answered, unless memory runs out.
+    ensures complete { (d : DocumentTree) → IsDocument (S.items source.old) d
+        → IfErr result (λ e. e ≡ OutOfMemory) }
+    // A refusal is the first fault of the items.
+    ensures refused { IfErr result (IsFirst (S.items source.old)) }
+{
+    let definitions = definitions(alloc, source)?;
+    if source.is_at_end() {
+        Ok(Document { definitions })
+    } else {
+        Err(source.fault(alloc))
+    }
+}
+
+/// Parses a text as a query document (October 2021, section 2.2).
+///
+/// The error is `TextTooLong` at 1:1 for a text of more than `usize::MAX / 16` bytes, which is tested first;
+/// `OutOfMemory` where memory runs out; else the text is no document, and the error is its first fault, with
+/// the position of the item with which no document goes on: `BadToken` and `TooDeep` for a bad place,
+/// `UnexpectedToken` for a token, `UnexpectedEnd` for the end.
+pub fn parse_query<'a, S: Text<'a>>(
+    alloc: Global,
+    source: &'a str,
+) -> Result<Document<S>, ParseError>
+    // What is answered is derived, positions included, and can be printed.
+    ensures derived { IfOk result (λ d. IsDocumentOf source.now (document_view S.Names.bytes d)) }
+    ensures printable { IfOk result (λ d. IsPrintable (document_view S.Names.bytes d)) }
+
+    // What is derived is answered, unless memory runs out.
+    ensures complete { (d : DocumentTree) → length source.now ≤ max_length → IsDocumentOf source.now d
+        → AnswersUnlessMemory (document_view S.Names.bytes) d result }
+
+    // The list of its tokens has at most one shape.
+    ensures one_shape { HasOneShape source.now }
+
+    // A refusal is the first fault of the text. A text past the bound is refused before any memory is taken.
+    ensures refused { IfErr result (IsRefusalOf source.now) }
+    ensures too_long { max_length < length source.now → IsErrOf result too_long }
+{
+    if source.len() > MAX_LENGTH {
+        return Err(ParseError::text_too_long());
+    }
+    let mut cursor: Cursor<'a, S> = Cursor::new(source);
+    Ok(read_document(alloc, &mut cursor)?)
+}

@@ -1,0 +1,84 @@
+//! Why a text is no query document.
+ghost use Rattle.std.specs.Prelude.{◌≡◌, option_map};
+ghost use Rattle.graphql_core.specs.Causes.{cause_text};
+ghost use Rattle.graphql_core.specs.Source.{place_of};
+ghost use Rattle.graphql_query.specs.Refusal.{too_long, refusal_of};
+
+use graphql_core::common::{Cause, Fault};
+use graphql_core::position::Pos;
+use std::error::Error;
+use std::fmt;
+use std::marker::Model;
+
+/// Why a text is no query document: a cause, and the position at which it stands.
+#[derive(Debug, Drop)]
+pub struct ParseError {
+    cause: Cause,
+    position: Option<Pos>,
+}
+
+impl Model for ParseError {
+    ghost use Rattle.std.specs.Prelude.{option_map};
+    ghost use Rattle.graphql_core.specs.Causes.{cause_text};
+    ghost use Rattle.graphql_core.specs.Source.{place_of};
+    ghost use Rattle.graphql_query.specs.Refusal as spec;
+
+    ghost Value = { spec.Refusal };
+
+    ghost view = { λ e. record { cause = cause_text e.cause; place = option_map place_of e.position } };
+}
+
+impl ParseError {
+    /// The text has more than `usize::MAX / 16` bytes.
+    pub(crate) fn text_too_long() -> Self
+        ensures { result ≡ too_long }
+    {
+        ParseError {
+            cause: Cause::TextTooLong,
+            position: Some(Pos { line: 1, column: 1 }),
+        }
+    }
+
+    /// Where the cause stands, and `None` where memory ran out.
+    pub fn position(&self) -> Option<Pos>
+        ensures { option_map place_of result ≡ self.now.place }
+    {
+        self.position
+    }
+
+    /// Why the text is refused.
+    pub fn cause(&self) -> &Cause
+        ensures { cause_text result.now ≡ self.now.cause }
+    {
+        &self.cause
+    }
+}
+
+impl From<Fault> for ParseError {
+    ghost from_gives = { λ f e. e ≡ refusal_of f };
+
+    fn from(fault: Fault) -> ParseError {
+        match fault {
+            Fault::OutOfMemory => ParseError {
+                cause: Cause::OutOfMemory,
+                position: None,
+            },
+            Fault::At(cause, position) => ParseError {
+                cause,
+                position: Some(position),
+            },
+        }
+    }
+}
+
+impl fmt::Display for ParseError {
+    fn fmt<W: fmt::Write>(&self, f: &mut fmt::Formatter<W>) -> fmt::Result {
+        let cause = &self.cause;
+        match self.position {
+            Some(position) => write!(f, "query parse error: Parse error at {position}\n{cause}\n"),
+            None => write!(f, "query parse error: {cause}"),
+        }
+    }
+}
+
+impl Error for ParseError {}
