@@ -2,6 +2,7 @@
 mod devices;
 mod documents;
 mod failures;
+mod memory;
 mod words;
 
 use crate::command::Command;
