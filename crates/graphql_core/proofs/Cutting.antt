@@ -1,25 +1,31 @@
 -- Each text has a cut into pieces, and its items are those of its pieces.
-use Rattle.std.proofs.Common.{◌≡◌, ◌≢◌, ℕ, zero, suc, ◌<◌, ◌≤◌, Bool, true, false, cond, ◌&&◌, ◌||◌, ◌==◌, List, [], ◌∷◌, ◌++◌, length, get_or, drop, refl, sym, ap, ◌∙◌, subst, inl, inr, arith, length-append, append_assoc, eqb-true, le_refl, ◌⊎◌}
-use Rattle.std.proofs.lemmas.Bool.{cases_eq, cases_Bool}
+use Rattle.std.proofs.Common.{◌≡◌, ◌≢◌, ℕ, zero, suc, ◌<◌, ◌≤◌, Bool, true, false, cond, ◌&&◌, ◌||◌, ◌==◌, List, [], ◌∷◌, ◌++◌, Option, Some, None, length, get_or, drop, refl, sym, ap, ◌∙◌, subst, inl, inr, arith, length-append, append_assoc, eqb-true, le_refl, ◌⊎◌}
+use Rattle.std.proofs.lemmas.Bool.{cases_eq}
 use Rattle.std.proofs.lemmas.Bool.Decides.{nat_tests}
 use Rattle.std.proofs.lemmas.List.{take_at, drop_at}
+use Rattle.std.specs.Char.{is_ascii_digit}
 use Rattle.std.specs.List.{prefix_len, list_all}
 use Rattle.graphql_core.specs.declared.tokenizer.piece.Nesting.TheVariants.{Level}
-use Rattle.graphql_core.specs.declared.tokenizer.token.Kind.TheVariants.{Name}
+use Rattle.graphql_core.specs.declared.tokenizer.token.Kind.TheVariants.{Punctuator, Name, IntValue, FloatValue, StringValue, BlockString}
 use Rattle.graphql_core.specs.declared.tokenizer.piece.Move.TheVariants.{Stay, Down}
 use Rattle.graphql_core.specs.declared.tokenizer.piece.Piece.{Piece as Ahead}
 use Rattle.graphql_core.specs.declared.tokenizer.piece.Piece.TheVariants.{AtEnd, Skips, Takes, Stops}
-use Rattle.graphql_core.specs.Front.{front, comment, line_end}
-use Rattle.graphql_core.specs.Items.{Where, Item, HasItems, start, past_ignored, past_token, last_item, piece_then, items_of}
+use Rattle.graphql_core.specs.Front.{front, token_of, comment, line_end}
+use Rattle.graphql_core.specs.Numbers.{is_float, number}
+use Rattle.graphql_core.specs.Quoted.{string_end, block_end, closed, quoted}
+use Rattle.graphql_core.specs.Items.{Where, Item, HasItems, start, past_ignored, past_token, last_item, piece_then, items_of, run_at}
 use Rattle.graphql_core.specs.Cut.{items_by, items}
-use Rattle.graphql_core.specs.Lexical.{is_name_start, is_name_continue, is_in_line, Meaning, Ignored, Word, Stands, tab, line_feed, carriage_return, space, comma, byte_order_mark, comment_at_end, comment_feed, comment_return_feed, comment_return, name, open_brace, close_brace, BeginsNone, Piece, IsCutInto}
+use Rattle.graphql_core.specs.Lexical.{is_name_start, is_name_continue, is_in_line, is_mark, nesting_of, is_integer, begins_quotes, Meaning, Ignored, Word, Stands, tab, line_feed, carriage_return, space, comma, byte_order_mark, comment_at_end, comment_feed, comment_return_feed, comment_return, name, mark, spread, integer, float, string, block_string, BeginsNone, Piece, IsCutInto}
+use Rattle.graphql_core.proofs.Runs.{run_of}
+use Rattle.graphql_core.proofs.Numbers.{float_is, run_parts, integer_run, float_run}
+use Rattle.graphql_core.proofs.Strings.{HasBody, string_found, block_found}
 use Rattle.graphql_core.proofs.Steps.{Within, items_at, front_within}
 use Rattle.graphql_core.proofs.Spelled.{shape, stands_front}
 
-abbrev HasPiece : List ℕ → Type 0
+abbrev pub HasPiece : List ℕ → Type 0
 HasPiece text = (bytes : List ℕ) × (m : Meaning) × (rest : List ℕ) × (text ≡ bytes ++ rest) × Stands bytes m rest
 
-abbrev Sees : List ℕ → Ahead → Type 0
+abbrev pub Sees : List ℕ → Ahead → Type 0
 Sees text AtEnd = Unit {0}
 Sees text Stops = Unit {0}
 Sees text (Skips n m) = HasPiece text
@@ -57,17 +63,6 @@ has_comment line (c ∷ cs) all ends =
       | inr other ↦ subst (λ x. HasPiece (35 ∷ (line ++ x ∷ cs))) (sym (stops_line c ends other)) (after_return line cs all)
     ]
 
--- the run at the front of a list, and what ends it
-run_of : (p : ℕ → Bool) (xs : List ℕ) → (run : List ℕ) × (rest : List ℕ) × (xs ≡ run ++ rest) × (list_all p run ≡ true) × (prefix_len p xs ≡ length run) × (0 < length rest → p (get_or rest 0 0) ≡ false)
-run_of p [] = ([], [], refl, refl, refl, λ h. absurd (omega arith))
-run_of p (x ∷ xs) =
-    elim (cases_Bool (p x)) [
-      | inl pass ↦
-          let r = run_of p xs in
-          (x ∷ r.0, r.1, ap (λ l. x ∷ l) r.2, rw (pass, r.3) refl, rw (pass, r.4) (omega arith), r.5)
-      | inr stop ↦ ([], x ∷ xs, refl, refl, rw stop refl, λ _. stop)
-    ]
-
 ends_line : (rest : List ℕ) → (0 < length rest → is_in_line (get_or rest 0 0) ≡ false) → EndsLine rest
 ends_line [] h = tt
 ends_line (c ∷ cs) h = h (omega arith)
@@ -92,10 +87,10 @@ sees_name b bs h =
     let r = run_of is_name_continue bs in
     (b ∷ r.0, Word Name Level, r.1, ap (λ l. b ∷ l) r.2, name h r.3 (not_continue r.1 r.5))
 
-sees_mark : (b : ℕ) (bs : List ℕ) → (b == 239 && (get_or bs 0 0 == 187 && get_or bs 1 0 == 191)) ≡ true → HasPiece (b ∷ bs)
-sees_mark b [] h = absurd (grind (arith, nat_tests))
-sees_mark b (x ∷ []) h = absurd (grind (arith, nat_tests))
-sees_mark b (x ∷ y ∷ rest) h =
+sees_byte_order_mark : (b : ℕ) (bs : List ℕ) → (b == 239 && (get_or bs 0 0 == 187 && get_or bs 1 0 == 191)) ≡ true → HasPiece (b ∷ bs)
+sees_byte_order_mark b [] h = absurd (grind (arith, nat_tests))
+sees_byte_order_mark b (x ∷ []) h = absurd (grind (arith, nat_tests))
+sees_byte_order_mark b (x ∷ y ∷ rest) h =
     let e0 : b ≡ 239 = grind (arith, nat_tests) in
     let e1 : x ≡ 187 = grind (arith, nat_tests) in
     let e2 : y ≡ 191 = grind (arith, nat_tests) in
@@ -108,7 +103,77 @@ sees_space b bs h =
       | inr other ↦ let e : b ≡ 44 = grind (arith, nat_tests) in single b 44 bs _ e comma
     ]
 
-front_sees : (text : List ℕ) → Sees text (front text)
+sees_dots : (b : ℕ) (bs : List ℕ) → b ≡ 46 → (get_or bs 0 0 == 46 && get_or bs 1 0 == 46) ≡ true → HasPiece (b ∷ bs)
+sees_dots b [] e h = absurd (grind (arith, nat_tests))
+sees_dots b (x ∷ []) e h = absurd (grind (arith, nat_tests))
+sees_dots b (x ∷ y ∷ rest) e h =
+    let e1 : x ≡ 46 = grind (arith, nat_tests) in
+    let e2 : y ≡ 46 = grind (arith, nat_tests) in
+    (46 ∷ 46 ∷ 46 ∷ [], Word Punctuator Level, rest, rw (e, e1, e2) refl, spread)
+
+-- behind the opening quote of an empty string stands no other quote
+no_more_quotes : (body rest : List ℕ) → begins_quotes (34 ∷ (body ++ 34 ∷ rest)) ≡ false → body ≡ [] → get_or rest 0 0 ≢ 34
+no_more_quotes [] [] h e = λ z. omega arith
+no_more_quotes [] (c ∷ rest) h e = λ z. absurd (grind (arith, nat_tests))
+no_more_quotes (b ∷ body) rest h e = absurd cc
+
+has_string : (bs : List ℕ) (m : ℕ) → begins_quotes (34 ∷ bs) ≡ false → HasBody false 0 m bs → HasPiece (34 ∷ bs)
+has_string bs m none f = (
+  34 ∷ (f.body ++ 34 ∷ []),
+  Word StringValue Level,
+  f.rest,
+  ap (λ l. 34 ∷ l) (f.is ∙ sym (append_assoc f.body (34 ∷ []) f.rest)),
+  string f.body f.valid (no_more_quotes f.body f.rest (rw f.is at none)),
+)
+
+sees_string : (bs : List ℕ) (x : Option ℕ) → begins_quotes (34 ∷ bs) ≡ false → string_end 0 false bs ≡ x → Sees (34 ∷ bs) (closed StringValue 1 x)
+sees_string bs None none e = tt
+sees_string bs (Some m) none e = has_string bs m none (string_found bs false 0 m e)
+
+sees_closed : (bs : List ℕ) (x : Option ℕ) → block_end 0 0 bs ≡ x → Sees (34 ∷ 34 ∷ 34 ∷ bs) (closed BlockString 3 x)
+sees_closed bs None e = tt
+sees_closed bs (Some m) e =
+    let f = block_found bs 0 m e in
+    (34 ∷ 34 ∷ 34 ∷ f.body, Word BlockString Level, f.rest, ap (λ l. 34 ∷ 34 ∷ 34 ∷ l) f.is, block_string f.closes)
+
+sees_block : (bs : List ℕ) → begins_quotes bs ≡ true → Sees bs (closed BlockString 3 (block_end 0 0 (drop 3 bs)))
+sees_block [] h = absurd cc
+sees_block (a ∷ []) h = absurd cc
+sees_block (a ∷ b ∷ []) h = absurd cc
+sees_block (a ∷ b ∷ c ∷ bs) h =
+    let ea : a ≡ 34 = grind (arith, nat_tests) in
+    let eb : b ≡ 34 = grind (arith, nat_tests) in
+    let ec : c ≡ 34 = grind (arith, nat_tests) in
+    rw (ea, eb, ec) (sees_closed bs (block_end 0 0 bs) refl)
+
+sees_quoted : (b : ℕ) (bs : List ℕ) → b ≡ 34 → Sees (b ∷ bs) (quoted (b ∷ bs))
+unfolding quoted
+sees_quoted b bs e =
+    look (b ∷ bs) (begins_quotes (b ∷ bs)) _ _
+    (λ t. sees_block (b ∷ bs) t)
+    (λ none. rw e (sees_string bs (string_end 0 false bs) (ap (λ x. begins_quotes (x ∷ bs)) (sym e) ∙ none) refl))
+
+sees_number : (bs : List ℕ) → Sees bs (number bs)
+unfolding number
+sees_number bs =
+    let (rest, e, ends) = run_parts bs in
+    look bs (is_integer (run_at bs)) _ _
+    (λ t. (run_at bs, Word IntValue Level, rest, e, integer t ends))
+    (λ _. look bs (is_float (run_at bs)) _ _
+    (λ t. (run_at bs, Word FloatValue Level, rest, e, float (float_is (run_at bs) t) ends))
+    (λ _. tt))
+
+sees_token : (b : ℕ) (bs : List ℕ) → Sees (b ∷ bs) (token_of b (b ∷ bs))
+unfolding token_of
+sees_token b bs =
+    let B = b ∷ bs in
+    look B (is_mark b) _ _ (λ e. (b ∷ [], Word Punctuator (nesting_of b), bs, refl, mark e))
+    (λ _. look B (b == 34) _ _ (λ e. sees_quoted b bs (eqb-true b 34 e))
+    (λ _. look B (b == 46) _ _ (λ e. look B (get_or bs 0 0 == 46 && get_or bs 1 0 == 46) _ _ (λ d. sees_dots b bs (eqb-true b 46 e) d) (λ _. tt))
+    (λ _. look B (b == 45 || is_ascii_digit b) _ _ (λ _. sees_number B)
+    (λ _. tt))))
+
+pub front_sees : (text : List ℕ) → Sees text (front text)
 unfolding front
 front_sees [] = tt
 front_sees (b ∷ bs) =
@@ -117,12 +182,10 @@ front_sees (b ∷ bs) =
     (λ _. look B (b == 10) _ _ (λ e. single b 10 bs _ (eqb-true b 10 e) line_feed)
     (λ _. look B (b == 13) _ _ (λ e. single b 13 bs _ (eqb-true b 13 e) carriage_return)
     (λ _. look B (b == 32 || b == 44) _ _ (λ e. sees_space b bs e)
-    (λ _. look B (b == 35) _ _ (λ e. sees_comment b bs (eqb-true b 35 e))
-    (λ _. look B (b == 123) _ _ (λ e. single b 123 bs _ (eqb-true b 123 e) open_brace)
-    (λ _. look B (b == 125) _ _ (λ e. single b 125 bs _ (eqb-true b 125 e) close_brace)
-    (λ _. look B (b == 239 && (get_or bs 0 0 == 187 && get_or bs 1 0 == 191)) _ _ (λ e. sees_mark b bs e)
     (λ _. look B (is_name_start b) _ _ (λ e. sees_name b bs e)
-    (λ _. tt)))))))))
+    (λ _. look B (b == 35) _ _ (λ e. sees_comment b bs (eqb-true b 35 e))
+    (λ _. look B (b == 239 && (get_or bs 0 0 == 187 && get_or bs 1 0 == 191)) _ _ (λ e. sees_byte_order_mark b bs e)
+    (λ _. sees_token b bs)))))))
 
 -- ---- the items
 
@@ -136,7 +199,7 @@ last_by w text (Takes n k t) f s none = absurd (none s.0 s.1 s.2 s.4 s.3)
 one_piece : (m : Meaning) (w : Where) (bytes rest : List ℕ) (more : Where → List Item) → ((v : Where) → items v rest ≡ more v)
     → items_by items w (bytes ++ rest) (shape m (length bytes)) ≡ piece_then m more w bytes
 one_piece (Ignored m) w bytes rest more h = rw (drop_at bytes rest (length bytes) refl) (h (past_ignored m (length bytes) w))
-one_piece (Word k t) w bytes rest more h = rw (take_at bytes rest (length bytes) refl, drop_at bytes rest (length bytes) refl, h (past_token t (length bytes) w)) refl
+one_piece (Word k t) w bytes rest more h = rw (take_at bytes rest (length bytes) refl, drop_at bytes rest (length bytes) refl, h (past_token t bytes w)) refl
 
 -- the items of a text are those of its pieces
 pub items_cut : (ps : List Piece) (text stop : List ℕ) → IsCutInto text ps stop → (w : Where) → items w text ≡ items_of w ps stop
@@ -161,8 +224,12 @@ some_bytes (comment_feed line all) = omega arith
 some_bytes (comment_return_feed line all) = omega arith
 some_bytes (comment_return line all stop) = omega arith
 some_bytes (name first more stop) = omega arith
-some_bytes open_brace = omega arith
-some_bytes close_brace = omega arith
+some_bytes (mark h) = omega arith
+some_bytes spread = omega arith
+some_bytes (integer {run} h ends) = omega (arith, ap length (integer_run run h).is)
+some_bytes (float h ends) = omega (arith, ap length (float_run h).is)
+some_bytes (string body valid some) = omega arith
+some_bytes (block_string closes) = omega arith
 
 no_shape : (m : Meaning) (n : ℕ) (x : Ahead) → x ≡ shape m n → (x ≡ AtEnd) ⊎ (x ≡ Stops) → ⊥
 no_shape (Ignored m) n x e h = elim h [ inl a ↦ cc | inr b ↦ cc ]

@@ -3,4 +3,11 @@ pub mod Spelled
 pub mod Cutting
 pub mod Matches
 pub mod Holding
+pub mod Strings
+pub mod Runs
+pub mod Numbers
+pub mod Positions
 pub mod Nested
+pub mod Escapes
+pub mod BlockLines
+pub mod FloatLiterals

@@ -1,5 +1,6 @@
 -- What the tokens of a text are, and how deep their brackets are nested.
 use Rattle.std.proofs.Common.{◌≡◌, ℕ, zero, suc, ◌+◌, Bool, true, false, cond, ◌||◌, ◌&&◌, ◌==◌, List, [], ◌∷◌, ◌++◌, length, refl, sym, ap₂, ◌∙◌, subst, arith, inl, inr, codes, eqb-true}
+use Rattle.std.proofs.lemmas.Bool.Decides.{nat_tests}
 use Rattle.std.proofs.lemmas.Bool.{cases_Bool, and_parts, or_cases, false_from_ne_true, eq-eqb, both_ways}
 use Rattle.graphql_grammar.specs.Tokens.{Token, Place, Class, Spelled, kind_of, takes_spelling, matches, in_any, apart_from, within_any}
 use Rattle.graphql_grammar.specs.Trees.{Shape, Nothing, Leaf, Both, First, Second, Stop, More, Node, leaves}
@@ -9,17 +10,17 @@ use Rattle.graphql_core.specs.declared.tokenizer.token.Kind.TheVariants.{Punctua
 use Rattle.graphql_core.specs.declared.tokenizer.piece.Nesting.{Nesting}
 use Rattle.graphql_core.specs.declared.tokenizer.piece.Nesting.TheVariants.{Level, Opens, Closes}
 use Rattle.graphql_core.specs.Causes.{kind_number}
-use Rattle.graphql_core.specs.Lexical.{IsName, Meaning, Ignored, Word, Stands, name, open_brace, close_brace, Piece, IsCutInto}
+use Rattle.graphql_core.specs.Lexical.{IsName, Meaning, Ignored, Word, Stands, name, mark, spread, integer, float, string, block_string, Piece, IsCutInto, is_opener, is_closer}
 use Rattle.graphql_core.specs.Items.{Where, Item, HasItems, start, past_ignored, past_token, is_full, last_item, piece_then, items_of}
 use Rattle.graphql_core.specs.Source.{split, place_of}
 
 -- ---- what a token does to the depth
 
 abbrev pub openings : List Class
-openings = Spelled (kind_number Punctuator) (codes "{") ∷ []
+openings = Spelled (kind_number Punctuator) (codes "(") ∷ Spelled (kind_number Punctuator) (codes "[") ∷ Spelled (kind_number Punctuator) (codes "{") ∷ []
 
 abbrev pub closings : List Class
-closings = Spelled (kind_number Punctuator) (codes "}") ∷ []
+closings = Spelled (kind_number Punctuator) (codes ")") ∷ Spelled (kind_number Punctuator) (codes "]") ∷ Spelled (kind_number Punctuator) (codes "}") ∷ []
 
 abbrev pub nesting_of : Token → Nesting
 nesting_of t = cond (in_any openings t) Opens (cond (in_any closings t) Closes Level)
@@ -55,11 +56,24 @@ Anything n = Unit {0}
 
 -- ---- the tokens of a text
 
+abbrev mark_token : ℕ → Place → Token
+mark_token b p = record { kind = kind_number Punctuator; spelling = b ∷ []; place = p }
+
+opener_same : (b : ℕ) (p : Place) → in_any openings (mark_token b p) ≡ is_opener b
+opener_same b p = grind (arith, nat_tests)
+
+closer_same : (b : ℕ) (p : Place) → in_any closings (mark_token b p) ≡ is_closer b
+closer_same b p = grind (arith, nat_tests)
+
 -- the kind and the bytes of a token tell its nesting
 stands-nesting : {bytes : List ℕ} {k : Kind} {s : Nesting} {rest : List ℕ} → Stands bytes (Word k s) rest → (p : Place) → nesting_of (record { kind = kind_number k; spelling = bytes; place = p }) ≡ s
 stands-nesting (name first more stop) p = refl
-stands-nesting open_brace p = refl
-stands-nesting close_brace p = refl
+stands-nesting (mark {b} is) p = rw (opener_same b p, closer_same b p) refl
+stands-nesting spread p = refl
+stands-nesting (integer run ends) p = refl
+stands-nesting (float run ends) p = refl
+stands-nesting (string body units next) p = refl
+stands-nesting (block_string closes) p = refl
 
 -- n more brackets may be opened there
 abbrev IsRoom : Where → ℕ → Type 0
@@ -79,15 +93,15 @@ nests_piece : (m : Meaning) (bytes rest : List ℕ) → Stands bytes m rest → 
     → ((v : Where) (l : ℕ) → IsRoom v l → Nests (split (more v)).tokens l Anything) → Nests (split (piece_then m more w bytes)).tokens n Anything
 nests_piece (Ignored m) bytes rest st w n e more h = h (past_ignored m (length bytes) w) n e
 nests_piece (Word k Level) bytes rest st w n e more h =
-    ((k, Level, rest, refl, st), rw (stands-nesting st (place_of w.position)) (h (past_token Level (length bytes) w) n e))
+    ((k, Level, rest, refl, st), rw (stands-nesting st (place_of w.position)) (h (past_token Level bytes w) n e))
 nests_piece (Word k Closes) bytes rest st w n e more h =
-    ((k, Closes, rest, refl, st), rw (stands-nesting st (place_of w.position)) (h (past_token Closes (length bytes) w) (suc n) (omega arith)))
+    ((k, Closes, rest, refl, st), rw (stands-nesting st (place_of w.position)) (h (past_token Closes bytes w) (suc n) (omega arith)))
 nests_piece (Word k Opens) bytes rest st w n e more h =
     elim (cases_Bool (is_full w)) [
       | inl full ↦ rw full tt
       | inr f ↦
           let r = not_full w n e f in
-          rw f ((k, Opens, rest, refl, st), rw (stands-nesting st (place_of w.position)) (r.0, r.1, h (past_token Opens (length bytes) w) r.0 (omega (arith, r.1))))
+          rw f ((k, Opens, rest, refl, st), rw (stands-nesting st (place_of w.position)) (r.0, r.1, h (past_token Opens bytes w) r.0 (omega (arith, r.1))))
     ]
 
 nests_items : (ps : List Piece) (text stop : List ℕ) → IsCutInto text ps stop → (w : Where) (n : ℕ) → IsRoom w n → Nests (split (items_of w ps stop)).tokens n Anything
@@ -159,8 +173,12 @@ past c t n P h m p =
 
 name-bytes : {bytes : List ℕ} {k : Kind} {s : Nesting} {rest : List ℕ} → Stands bytes (Word k s) rest → kind_number k ≡ kind_number Name → IsName bytes
 name-bytes (name first more stop) e = (first, more)
-name-bytes open_brace e = absurd (omega (arith, e))
-name-bytes close_brace e = absurd (omega (arith, e))
+name-bytes (mark is) e = absurd (omega (arith, e))
+name-bytes spread e = absurd (omega (arith, e))
+name-bytes (integer run ends) e = absurd (omega (arith, e))
+name-bytes (float run ends) e = absurd (omega (arith, e))
+name-bytes (string body units next) e = absurd (omega (arith, e))
+name-bytes (block_string closes) e = absurd (omega (arith, e))
 
 -- a token of a class of names is spelled as a name
 pub class_name : (c : Class) (t : Token) → kind_of c ≡ kind_number Name → matches c t ≡ true → IsLexeme t → IsName t.spelling

@@ -1,50 +1,60 @@
 -- The front of a text is its first piece, and so a text has one cut into pieces.
-use Rattle.std.proofs.Common.{◌≡◌, ◌≢◌, ℕ, ◌+◌, Bool, true, false, ◌==◌, List, [], ◌∷◌, ◌++◌, length, get_or, take, drop, le_refl, refl, sym, ap, ◌∙◌, subst, arith, length-append, append_assoc}
-use Rattle.std.proofs.lemmas.Bool.{and_parts}
+use Rattle.std.proofs.Common.{◌≡◌, ℕ, ◌+◌, true, false, List, [], ◌∷◌, ◌++◌, length, get_or, take, drop, le_refl, refl, sym, ap, ◌∙◌, subst, arith, length-append, append_assoc}
 use Rattle.std.proofs.lemmas.Bool.Decides.{nat_tests}
 use Rattle.std.proofs.lemmas.List.{take_at, drop_at, drop_all, append-nil}
 use Rattle.std.specs.List.{prefix_len, list_all}
-use Rattle.graphql_core.specs.declared.tokenizer.token.Kind.TheVariants.{Name}
+use Rattle.graphql_core.specs.declared.tokenizer.token.Kind.TheVariants.{Punctuator, Name, StringValue, BlockString}
 use Rattle.graphql_core.specs.declared.tokenizer.piece.Move.{Move}
 use Rattle.graphql_core.specs.declared.tokenizer.piece.Move.TheVariants.{Stay, Down}
 use Rattle.graphql_core.specs.declared.tokenizer.piece.Piece.{Piece as Ahead}
 use Rattle.graphql_core.specs.declared.tokenizer.piece.Piece.TheVariants.{Skips, Takes}
 use Rattle.graphql_core.specs.declared.tokenizer.piece.Nesting.TheVariants.{Level}
-use Rattle.graphql_core.specs.Front.{front, front_of, comment, line_end}
-use Rattle.graphql_core.specs.Lexical.{is_name_start, is_name_continue, is_in_line, Meaning, Ignored, Word, Stands, tab, line_feed, carriage_return, space, comma, byte_order_mark, comment_at_end, comment_feed, comment_return_feed, comment_return, name, open_brace, close_brace, Piece, IsCutInto}
+use Rattle.graphql_core.specs.Front.{front, front_of, token_of, comment, line_end}
+use Rattle.graphql_core.specs.Numbers.{number}
+use Rattle.graphql_core.proofs.Runs.{run, run_all, not_equal, differs}
+use Rattle.graphql_core.proofs.Numbers.{starts_number, NumberRun, integer_run, float_run, integer_front, float_front}
+use Rattle.graphql_core.proofs.Strings.{string_front, block_front}
+use Rattle.graphql_core.specs.Lexical.{is_name_start, is_name_continue, is_in_line, is_mark, nesting_of, Meaning, Ignored, Word, Stands, tab, line_feed, carriage_return, space, comma, byte_order_mark, comment_at_end, comment_feed, comment_return_feed, comment_return, name, mark, spread, integer, float, string, block_string, Piece, IsCutInto}
 
 -- what the front is where a piece of this meaning has n bytes
 abbrev pub shape : Meaning → ℕ → Ahead
 shape (Ignored m) n = Skips n m
 shape (Word k t) n = Takes n k t
 
--- a run is found again in front of a byte that does not pass
-run : (p : ℕ → Bool) (xs rest : List ℕ) → list_all p xs ≡ true → p (get_or rest 0 0) ≡ false → prefix_len p (xs ++ rest) ≡ length xs
-run p [] [] all stop = refl
-run p [] (c ∷ rest) all stop = rw stop
-run p (c ∷ xs) rest all stop =
-    let (here, more) = and_parts (p c) (list_all p xs) all in
-    rw here (omega (arith, run p xs rest more stop))
-
-run_all : (p : ℕ → Bool) (xs : List ℕ) → list_all p xs ≡ true → prefix_len p xs ≡ length xs
-run_all p [] all = refl
-run_all p (c ∷ xs) all =
-    let (here, more) = and_parts (p c) (list_all p xs) all in
-    rw here (omega (arith, run_all p xs more))
-
-no_name : (b k : ℕ) → is_name_start b ≡ true → is_name_start k ≡ false → (b == k) ≡ false
-no_name b k h other = grind (arith, nat_tests)
-
 name_first : (b : ℕ) (bs : List ℕ) → is_name_start b ≡ true → front_of b bs ≡ Takes (prefix_len is_name_continue bs + 1) Name Level
 name_first b bs h =
-    rw (no_name b 9 h refl, no_name b 10 h refl, no_name b 13 h refl, no_name b 32 h refl, no_name b 44 h refl, no_name b 35 h refl, no_name b 123 h refl, no_name b 125 h refl, no_name b 239 h refl, h) refl
+    let d = λ (k : ℕ) (other : is_name_start k ≡ false). differs is_name_start b k h other in
+    rw (d 9 refl, d 10 refl, d 13 refl, d 32 refl, d 44 refl, h) refl
+
+mark_no_name : (b : ℕ) → is_mark b ≡ true → is_name_start b ≡ false
+mark_no_name b h = grind (arith, nat_tests)
+
+mark_first : (b : ℕ) (bs : List ℕ) → is_mark b ≡ true → front_of b bs ≡ Takes 1 Punctuator (nesting_of b)
+unfolding token_of
+mark_first b bs h =
+    let d = λ (k : ℕ) (other : is_mark k ≡ false). differs is_mark b k h other in
+    rw (d 9 refl, d 10 refl, d 13 refl, d 32 refl, d 44 refl, mark_no_name b h, d 35 refl, d 239 refl, h) refl
+
+number_no_name : (b : ℕ) → starts_number b ≡ true → is_name_start b ≡ false
+number_no_name b h = grind (arith, nat_tests)
+
+number_no_mark : (b : ℕ) → starts_number b ≡ true → is_mark b ≡ false
+number_no_mark b h = grind (arith, nat_tests)
+
+number_first : (b : ℕ) (bs : List ℕ) → starts_number b ≡ true → front_of b bs ≡ number (b ∷ bs)
+unfolding token_of
+number_first b bs h =
+    let d = λ (k : ℕ) (other : starts_number k ≡ false). differs starts_number b k h other in
+    rw (d 9 refl, d 10 refl, d 13 refl, d 32 refl, d 44 refl, number_no_name b h, d 35 refl, d 239 refl, number_no_mark b h, d 34 refl, d 46 refl, h) refl
+
+-- a text that begins with a number's run
+run_first : (xs rest : List ℕ) → NumberRun xs → front (xs ++ rest) ≡ number (xs ++ rest)
+unfolding front
+run_first xs rest r = rw r.is (number_first r.first (r.more ++ rest) r.starts)
 
 in_line : (line rest : List ℕ) → list_all is_in_line line ≡ true → is_in_line (get_or rest 0 0) ≡ false → comment (line ++ rest) ≡ line_end (length line) rest
 unfolding comment
 in_line line rest all stop = rw (run is_in_line line rest all stop, drop_at line rest (length line) refl) refl
-
-not_equal : (a b : ℕ) → a ≢ b → (a == b) ≡ false
-not_equal a b h = grind (arith, nat_tests)
 
 -- a comment whose line ends with these bytes
 ended : (line end rest : List ℕ) → list_all is_in_line line ≡ true → is_in_line (get_or (end ++ rest) 0 0) ≡ false → comment (line ++ end ++ rest) ≡ line_end (length line) (end ++ rest)
@@ -58,7 +68,7 @@ skips_same : (i j : ℕ) (m : Move) → i ≡ j → Skips i m ≡ Skips j m
 skips_same i j m e = ap (λ n. Skips n m) e
 
 pub stands_front : {bytes : List ℕ} {m : Meaning} {rest : List ℕ} → Stands bytes m rest → front (bytes ++ rest) ≡ shape m (length bytes)
-unfolding front
+unfolding front token_of
 stands_front tab = refl
 stands_front line_feed = refl
 stands_front carriage_return = refl
@@ -71,8 +81,13 @@ stands_front (comment_return_feed line {rest} all) = ended line (13 ∷ 10 ∷ [
 stands_front (comment_return line {rest} all stop) =
     ended line (13 ∷ []) rest all refl ∙ rw (not_equal _ _ stop) (skips_same (length line + 2) _ Down (omega (arith, length-append line (13 ∷ []))))
 stands_front (name {b} {bs} {rest} first more stop) = name_first b (bs ++ rest) first ∙ rw (run is_name_continue bs rest more stop) (ap (λ n. Takes n Name Level) (omega arith))
-stands_front open_brace = refl
-stands_front close_brace = refl
+stands_front (mark {b} {rest} h) = mark_first b rest h
+stands_front spread = refl
+stands_front (integer {run} {rest} h ends) = run_first run rest (integer_run run h) ∙ integer_front run rest h ends
+stands_front (float {run} {rest} h ends) = run_first run rest (float_run h) ∙ float_front run rest h ends
+stands_front (string body {rest} valid some) =
+    ap (λ l. front (34 ∷ l)) (append_assoc body (34 ∷ []) rest) ∙ string_front valid rest some ∙ ap (λ n. Takes n StringValue Level) (omega (arith, length-append body (34 ∷ [])))
+stands_front (block_string {body} {rest} closes) = block_front closes rest ∙ ap (λ n. Takes n BlockString Level) (omega arith)
 
 shape_same : (m n : Meaning) (i j : ℕ) → shape m i ≡ shape n j → (m ≡ n) × (i ≡ j)
 shape_same (Ignored m) (Ignored n) i j e = (cc, cc)

@@ -1,23 +1,28 @@
 -- What the front of a text takes, and the items one step on.
-use Rattle.std.proofs.Common.{◌≡◌, ℕ, zero, suc, ◌+◌, ◌-◌, ◌<◌, ◌≤◌, Bool, true, false, cond, ◌&&◌, ◌||◌, ◌==◌, List, [], ◌∷◌, ◌++◌, length, get_or, take, drop, IsUtf8, refl, sym, ap, ◌∙◌, subst, inl, inr, arith, add-zero, add_assoc, eqb-true, length-drop}
+use Rattle.std.proofs.Common.{◌≡◌, ℕ, zero, suc, ◌+◌, ◌-◌, ◌<◌, ◌≤◌, Bool, true, false, cond, ◌&&◌, ◌||◌, ◌==◌, List, [], ◌∷◌, ◌++◌, Option, Some, None, append_assoc, length-append, length, get_or, take, drop, IsUtf8, refl, sym, ap, ◌∙◌, subst, inl, inr, arith, add-zero, add_assoc, eqb-true, length-drop}
 use Rattle.std.proofs.lemmas.Bool.{cases_lt, and_parts}
 use Rattle.std.proofs.lemmas.Bool.Decides.{nat_tests}
-use Rattle.std.proofs.lemmas.List.{get_or_past, get_or-drop}
+use Rattle.std.proofs.lemmas.List.{get_or_past, get_or-drop, get_or_at}
 use Rattle.std.proofs.lemmas.List.Sums.{prefix_len-le-length, prefix_len_passes, prefix_len_stops}
 use Rattle.std.proofs.lemmas.Str.{IsCharBoundary-end, IsCharBoundary-after_ascii, IsCharBoundary-at_seam, IsUtf8-past_char}
-use Rattle.std.specs.Str.{IsCharBoundary, chars}
-use Rattle.std.specs.Char.{encode_utf8}
+use Rattle.std.specs.Str.{IsCharBoundary}
+use Rattle.std.specs.Char.{encode_utf8, is_ascii_digit}
 use Rattle.std.specs.List.{prefix_len}
 use Rattle.graphql_core.specs.declared.position.Pos.{Pos}
-use Rattle.graphql_core.specs.declared.tokenizer.token.Bad.TheVariants.{Character, TooDeep}
+use Rattle.graphql_core.specs.declared.tokenizer.token.Kind.TheVariants.{StringValue, BlockString}
 use Rattle.graphql_core.specs.declared.tokenizer.piece.Move.{Move}
 use Rattle.graphql_core.specs.declared.tokenizer.piece.Piece.{Piece}
 use Rattle.graphql_core.specs.declared.tokenizer.piece.Piece.TheVariants.{AtEnd, Skips, Takes, Stops}
-use Rattle.graphql_core.specs.Lexical.{is_name_start, is_name_continue, is_in_line, steps_over}
-use Rattle.graphql_core.specs.Front.{front, comment, line_end, FitsIn, IsItem}
-use Rattle.graphql_core.specs.Items.{Where, Item, item, Lexeme, Wrong, past_ignored, past_token, is_too_deep, last_item, moved, token_then}
+use Rattle.graphql_core.specs.Causes.{too_deep}
+use Rattle.graphql_core.specs.Lexical.{is_name_start, is_name_continue, is_in_line, is_mark, is_in_run, is_integer, begins_quotes, steps_over}
+use Rattle.graphql_core.specs.Numbers.{is_float, number}
+use Rattle.graphql_core.specs.Quoted.{string_end, block_end, closed, quoted}
+use Rattle.graphql_core.specs.Front.{front, comment, line_end, dots, token_of, FitsIn, IsItem}
+use Rattle.graphql_core.specs.Items.{Where, Item, item, Lexeme, Wrong, past_ignored, past_token, is_too_deep, last_item, moved, token_then, run_at, cause_at}
 use Rattle.graphql_core.specs.Stream.{further, next_place}
 use Rattle.graphql_core.specs.Cut.{items_by, items_in, items}
+use Rattle.graphql_core.proofs.Numbers.{run_boundary}
+use Rattle.graphql_core.proofs.Strings.{string_found, block_found, block_last}
 
 -- the first n bytes are some, and whole characters where the bytes are text
 abbrev pub Part : List ℕ → ℕ → Type 0
@@ -103,6 +108,80 @@ in_comment : (a : ℕ) (bs : List ℕ) → Within (a ∷ bs) (comment bs)
 unfolding comment
 in_comment a bs = line_fits a bs _ _ refl refl
 
+mark_ascii : (b : ℕ) → is_mark b ≡ true → b < 128
+mark_ascii b h = grind (arith, nat_tests)
+
+in_dots : (b : ℕ) (bs : List ℕ) → Within (b ∷ bs) (dots (b ∷ bs))
+in_dots b bs =
+    either (b ∷ bs) (get_or bs 0 0 == 46 && get_or bs 1 0 == 46) _ _
+    (λ t.
+    let last : get_or bs 1 0 ≡ 46 = eqb-true _ _ (and_parts (get_or bs 0 0 == 46) (get_or bs 1 0 == 46) t).1 in
+    behind b bs 1 3 refl (is_inside bs 1 (omega arith)) (omega arith))
+    (λ _. omega arith)
+
+-- through an ASCII byte that stands behind some bytes
+through : (bs front rest : List ℕ) (c n : ℕ) → bs ≡ front ++ c ∷ rest → c < 128 → n ≡ length front + 1 → Part bs n
+through bs front rest c n e h len =
+    let here : get_or bs (length front) 0 ≡ c = rw e (get_or_at front c rest 0 (length front) refl) in
+    subst (Part bs) (sym len) (through_ascii bs (length front) (omega (arith, ap length e, length-append front (c ∷ rest))) (omega arith))
+
+in_string : (b : ℕ) (bs : List ℕ) (x : Option ℕ) → string_end 0 false bs ≡ x → Within (b ∷ bs) (closed StringValue 1 x)
+in_string b bs None e = omega arith
+in_string b bs (Some m) e =
+    let f = string_found bs false 0 m e in
+    through (b ∷ bs) (b ∷ f.body) f.rest 34 (m + 1) (ap (λ l. b ∷ l) f.is) (omega arith) (omega (arith, f.len))
+
+in_block : (a b c : ℕ) (bs : List ℕ) (x : Option ℕ) → block_end 0 0 bs ≡ x → Within (a ∷ b ∷ c ∷ bs) (closed BlockString 3 x)
+in_block a b c bs None e = omega arith
+in_block a b c bs (Some m) e =
+    let f = block_found bs 0 m e in
+    let last = block_last f.closes in
+    through (a ∷ b ∷ c ∷ bs) (a ∷ b ∷ c ∷ last.0) f.rest 34 (m + 3) (ap (λ l. a ∷ b ∷ c ∷ l) (f.is ∙ ap (λ l. l ++ f.rest) last.1 ∙ append_assoc last.0 (34 ∷ []) f.rest)) (omega arith)
+    (omega (arith, f.len, ap length last.1, length-append last.0 (34 ∷ [])))
+
+in_quotes : (bs : List ℕ) → begins_quotes bs ≡ true → Within bs (closed BlockString 3 (block_end 0 0 (drop 3 bs)))
+in_quotes [] h = absurd cc
+in_quotes (a ∷ []) h = absurd cc
+in_quotes (a ∷ b ∷ []) h = absurd cc
+in_quotes (a ∷ b ∷ c ∷ bs) h = in_block a b c bs (block_end 0 0 bs) refl
+
+in_quoted : (b : ℕ) (bs : List ℕ) → Within (b ∷ bs) (quoted (b ∷ bs))
+unfolding quoted
+in_quoted b bs =
+    either (b ∷ bs) (begins_quotes (b ∷ bs)) _ _
+    (λ t. in_quotes (b ∷ bs) t)
+    (λ _. in_string b bs (string_end 0 false bs) refl)
+
+integer_some : (n : ℕ) (xs : List ℕ) → is_integer (take n xs) ≡ true → 0 < n
+integer_some zero xs h = absurd cc
+integer_some (suc n) xs h = omega arith
+
+float_some : (n : ℕ) (xs : List ℕ) → is_float (take n xs) ≡ true → 0 < n
+unfolding is_float
+float_some zero xs h = absurd cc
+float_some (suc n) xs h = omega arith
+
+in_number : (b : ℕ) (bs : List ℕ) → Within (b ∷ bs) (number (b ∷ bs))
+unfolding number
+in_number b bs =
+    let B = b ∷ bs in
+    let le = prefix_len-le-length is_in_run B in
+    either B (is_integer (run_at B)) _ _
+    (λ t. (integer_some _ B t, le, λ utf8. run_boundary B))
+    (λ _. either B (is_float (run_at B)) _ _
+    (λ t. (float_some _ B t, le, λ utf8. run_boundary B))
+    (λ _. omega arith))
+
+in_token : (b : ℕ) (bs : List ℕ) → Within (b ∷ bs) (token_of b (b ∷ bs))
+unfolding token_of
+in_token b bs =
+    let B = b ∷ bs in
+    either B (is_mark b) _ _ (λ e. one b bs (mark_ascii b e))
+    (λ _. either B (b == 34) _ _ (λ _. in_quoted b bs)
+    (λ _. either B (b == 46) _ _ (λ _. in_dots b bs)
+    (λ _. either B (b == 45 || is_ascii_digit b) _ _ (λ _. in_number b bs)
+    (λ _. omega arith))))
+
 pub front_within : (bytes : List ℕ) → Within bytes (front bytes)
 unfolding front
 front_within [] = refl
@@ -112,12 +191,10 @@ front_within (b ∷ bs) =
     (λ _. either B (b == 10) _ _ (λ e. (one b bs (omega (arith, eqb-true b 10 e)), omega arith))
     (λ _. either B (b == 13) _ _ (λ e. (one b bs (omega (arith, eqb-true b 13 e)), omega arith))
     (λ _. either B (b == 32 || b == 44) _ _ (λ e. (one b bs (grind (arith, nat_tests)), omega arith))
-    (λ _. either B (b == 35) _ _ (λ e. in_comment b bs)
-    (λ _. either B (b == 123) _ _ (λ e. one b bs (omega (arith, eqb-true b 123 e)))
-    (λ _. either B (b == 125) _ _ (λ e. one b bs (omega (arith, eqb-true b 125 e)))
-    (λ _. either B (b == 239 && (get_or bs 0 0 == 187 && get_or bs 1 0 == 191)) _ _ (λ e. (bom b bs e, omega arith))
     (λ _. either B (is_name_start b) _ _ (λ e. name b bs e)
-    (λ _. omega arith)))))))))
+    (λ _. either B (b == 35) _ _ (λ e. in_comment b bs)
+    (λ _. either B (b == 239 && (get_or bs 0 0 == 187 && get_or bs 1 0 == 191)) _ _ (λ e. (bom b bs e, omega arith))
+    (λ _. in_token b bs)))))))
 
 fits : (bytes : List ℕ) (x : Piece) → IsUtf8 bytes → Within bytes x → FitsIn bytes x
 fits bytes AtEnd utf8 h = h
@@ -138,7 +215,7 @@ by_same f g w bytes AtEnd fits same = refl
 by_same f g w bytes Stops fits same = refl
 by_same f g w bytes (Skips n m) fits same = same _ _ (omega (arith, length-drop n bytes))
 by_same f g w bytes (Takes n k t) fits same =
-    ap (token_then (is_too_deep t w) (item (Wrong TooDeep) w) (item (Lexeme k (take n bytes)) w)) (same (past_token t n w) (drop n bytes) (omega (arith, length-drop n bytes)))
+    ap (token_then (is_too_deep t w) (item (Wrong too_deep) w) (item (Lexeme k (take n bytes)) w)) (same (past_token t (take n bytes) w) (drop n bytes) (omega (arith, length-drop n bytes)))
 
 fuel_same : (n m : ℕ) (w : Where) (bytes : List ℕ) → length bytes ≤ n → length bytes ≤ m → items_in n w bytes ≡ items_in m w bytes
 unfolding items_in front
@@ -188,6 +265,6 @@ pub next_place_items : (w : Where) (bytes : List ℕ) → IsItem (front bytes) �
 next_place_items w bytes h = ap next_place (items_unfold w bytes) ∙ place_by w bytes (front bytes) h
 
 -- the last item of a text that no piece begins
-pub last_some : (w : Where) (bytes : List ℕ) → 0 < length bytes → last_item w bytes ≡ item (Wrong (Character (get_or (chars bytes) 0 0))) w
+pub last_some : (w : Where) (bytes : List ℕ) → 0 < length bytes → last_item w bytes ≡ item (Wrong (cause_at (get_or bytes 0 0) (drop 1 bytes))) w
 last_some w [] h = absurd (omega arith)
 last_some w (b ∷ bs) h = refl

@@ -3,7 +3,7 @@ use Rattle.std.specs.Prelude.{ℕ, List, string_bytes}
 use Rattle.graphql_core.specs.declared.tokenizer.token.Kind.{Kind}
 use Rattle.graphql_core.specs.declared.tokenizer.token.Kind.TheVariants.{Punctuator, Name, IntValue, FloatValue, StringValue, BlockString}
 use Rattle.graphql_core.specs.declared.tokenizer.token.Bad.{Bad}
-use Rattle.graphql_core.specs.declared.tokenizer.token.Bad.TheVariants.{Character, TooDeep}
+use Rattle.graphql_core.specs.declared.tokenizer.token.Bad.TheVariants as bad
 use Rattle.graphql_core.specs.declared.common.cause.BadToken.{BadToken}
 use Rattle.graphql_core.specs.declared.common.cause.BadToken.TheVariants as token
 use Rattle.graphql_core.specs.declared.common.cause.Cause.{Cause}
@@ -40,8 +40,13 @@ pub data CauseText : Type 0 where
 
 -- why no token stands at a bad place
 abbrev pub bad_text : Bad → CauseText
-bad_text (Character c) = bad_character c
-bad_text TooDeep = too_deep
+bad_text (bad.Character c) = bad_character c
+bad_text bad.BareDot = bare_dot
+bad_text (bad.Integer run) = bad_integer run.now
+bad_text (bad.Float run) = bad_float run.now
+bad_text bad.UnterminatedString = unterminated_string
+bad_text bad.UnterminatedBlockString = unterminated_block_string
+bad_text bad.TooDeep = too_deep
 
 abbrev pub token_text : BadToken → CauseText
 token_text (token.Character c) = bad_character c

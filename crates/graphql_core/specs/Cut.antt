@@ -1,6 +1,6 @@
 -- The items of a text, found piece by piece. `HasItems` says what they are.
 use Rattle.std.specs.Prelude.{ℕ, zero, suc, List, [], ◌∷◌, length, take, drop}
-use Rattle.graphql_core.specs.declared.tokenizer.token.Bad.TheVariants.{TooDeep}
+use Rattle.graphql_core.specs.Causes.{too_deep}
 use Rattle.graphql_core.specs.declared.tokenizer.piece.Piece.{Piece}
 use Rattle.graphql_core.specs.declared.tokenizer.piece.Piece.TheVariants.{AtEnd, Skips, Takes, Stops}
 use Rattle.graphql_core.specs.Front.{front}
@@ -12,7 +12,7 @@ items_by more w bytes AtEnd = item End w ∷ []
 items_by more w bytes Stops = last_item w bytes ∷ []
 items_by more w bytes (Skips n m) = more (past_ignored m n w) (drop n bytes)
 items_by more w bytes (Takes n k t) =
-    token_then (is_too_deep t w) (item (Wrong TooDeep) w) (item (Lexeme k (take n bytes)) w) (more (past_token t n w) (drop n bytes))
+    token_then (is_too_deep t w) (item (Wrong too_deep) w) (item (Lexeme k (take n bytes)) w) (more (past_token t (take n bytes) w) (drop n bytes))
 
 -- the same, going on at most this often
 unfoldable pub items_in : ℕ → Where → List ℕ → List Item

@@ -1,5 +1,7 @@
 pub mod Lexical
 pub mod Items
+pub mod Numbers
+pub mod Quoted
 pub mod Front
 pub mod Cut
 pub mod Stream
@@ -9,3 +11,6 @@ pub mod Causes
 pub mod Source
 pub mod Style
 pub mod Matching
+pub mod Strings
+pub mod BlockStrings
+pub mod Literals

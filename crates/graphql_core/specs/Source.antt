@@ -16,7 +16,7 @@ use Rattle.graphql_core.specs.Causes as causes
 -- after the last token: the end, or a bad place
 pub data Last : Type 0 where
   End : Place → Last
-  Wrong : Place → Bad → Last
+  Wrong : Place → CauseText → Last
 
 pub record Items : Type 0 where
   pub tokens : List Token
@@ -69,7 +69,7 @@ IsAtEnd i = (i.tokens ≡ []) × IsEnd i.last
 abbrev pub held : Pos → Result (Option Cut) Bad → Items → Items
 held p (Ok (Some t)) behind = then_items (token_of p t.kind t.value.now) behind
 held p (Ok None) behind = only_last (End (place_of p))
-held p (Err b) behind = only_last (Wrong (place_of p) b)
+held p (Err b) behind = only_last (Wrong (place_of p) (bad_text b))
 
 -- ---- faults
 
@@ -81,7 +81,7 @@ pub record FaultText : Type 0 where
 abbrev pub fault_by : List Token → Last → FaultText
 fault_by (t ∷ ts) last = record { cause = causes.unexpected_token t.kind t.spelling; place = t.place }
 fault_by [] (End p) = record { cause = causes.unexpected_end; place = p }
-fault_by [] (Wrong p b) = record { cause = bad_text b; place = p }
+fault_by [] (Wrong p b) = record { cause = b; place = p }
 
 -- the fault of the next item, where it may not stand there
 abbrev pub fault_at : Items → FaultText

@@ -3,6 +3,7 @@ use Rattle.std.specs.Prelude.{◌≡◌, ℕ, ◌+◌, ◌-◌, ◌^◌, min, Li
 use Rattle.graphql_core.specs.declared.position.Pos.{Pos}
 use Rattle.graphql_core.specs.declared.tokenizer.token.Token.{Token}
 use Rattle.graphql_core.specs.declared.tokenizer.token.Bad.{Bad}
+use Rattle.graphql_core.specs.Causes.{bad_text}
 use Rattle.graphql_core.specs.Items.{Where, start, Item, item, Lexeme, End, Wrong}
 
 -- at this position, n bytes on, with no bracket in between
@@ -22,4 +23,4 @@ one_more n = min (n + 1) (2 ^ 64 - 1)
 abbrev pub NextItem : List Item → Result (Option Token) Bad → List Item → Type 0
 NextItem old (Ok (Some t)) new = (w : Where) × (old ≡ item (Lexeme t.kind t.value.now) w ∷ new)
 NextItem old (Ok None) new = (w : Where) × (old ≡ item End w ∷ []) × (new ≡ old)
-NextItem old (Err bad) new = (w : Where) × (old ≡ item (Wrong bad) w ∷ []) × (new ≡ old)
+NextItem old (Err bad) new = (w : Where) × (old ≡ item (Wrong (bad_text bad)) w ∷ []) × (new ≡ old)

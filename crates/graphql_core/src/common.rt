@@ -1,9 +1,15 @@
-//! Text types, and why a text is refused.
+//! Text types, numbers, values of strings, and why a text is refused.
 
 mod cause;
 mod fault;
+mod number;
+mod strings;
+#[cfg(test)]
+mod tests;
 mod text;
 
 pub use cause::{BadToken, Cause};
 pub use fault::Fault;
+pub use number::{FloatLiteral, Number};
+pub use strings::{UnquoteError, unquote_block_string, unquote_string};
 pub use text::{Names, Text};

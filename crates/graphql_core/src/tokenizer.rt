@@ -1,7 +1,10 @@
 //! A text cut into its tokens.
 
 mod laws;
+pub(crate) mod number;
 mod piece;
+mod quoted;
+mod stop;
 mod stream;
 mod token;
 

@@ -6,9 +6,12 @@ pub use graphql_core::format::{FormatError, Style};
 pub use graphql_core::position::Pos;
 pub use graphql_query::parse_query;
 
-/// Texts and causes of faults.
+/// Text types, numbers, values of strings, and causes of faults.
 pub mod common {
-    pub use graphql_core::common::{BadToken, Cause, Names, Text};
+    pub use graphql_core::common::{
+        BadToken, Cause, FloatLiteral, Names, Number, Text, UnquoteError, unquote_block_string,
+        unquote_string,
+    };
 }
 
 /// A text cut into its tokens.
@@ -18,6 +21,7 @@ pub mod tokenizer {
 
 /// Query documents.
 pub mod query {
+    pub use graphql_core::common::{FloatLiteral, Number};
     pub use graphql_query::{
         Definition, Document, Field, Names, OperationDefinition, ParseError, Selection,
         SelectionSet, Text, parse_query,

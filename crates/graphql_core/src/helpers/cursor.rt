@@ -1,8 +1,8 @@
 //! A token stream as a source.
-ghost use Rattle.std.specs.Prelude.{◌≡◌, ◌≤◌, ◌/◌, List, length};
+ghost use Rattle.std.specs.Prelude.{◌≡◌, ◌≤◌, ◌/◌, List, IfOk, length};
 ghost use Rattle.graphql_core.specs.Items.{HasItems, Item};
 ghost use Rattle.graphql_core.specs.Causes.{cause_text, bad_text};
-ghost use Rattle.graphql_core.specs.Source.{Items, IsFaultOf, split, then_items, token_of};
+ghost use Rattle.graphql_core.specs.Source.{Items, Wrong, IsFaultOf, split, then_items, token_of, only_last, place_of};
 
 use crate::common::{BadToken, Cause, Fault, Names, Text};
 use crate::helpers::source::{Lexeme, TokenSource};
@@ -16,7 +16,7 @@ use std::marker::{Model, PhantomData};
 pub struct Cursor<'a, T: Text<'a>> {
     stream: TokenStream<'a>,
     position: Pos,
-    next: Result<Option<Token<'a>>, Bad>,
+    next: Result<Option<Token<'a>>, Bad<'a>>,
     of: PhantomData<T>,
 }
 
@@ -62,13 +62,29 @@ fn unexpected(alloc: Global, token: Token<'_>, position: Pos) -> Fault
     }
 }
 
-/// The cause of a bad place.
-fn cause_of(bad: Bad) -> Cause
-    ensures { cause_text result ≡ bad_text bad }
+/// The cause of a bad place, unless memory runs out.
+fn cause_of(alloc: Global, bad: Bad<'_>) -> Result<Cause, AllocError>
+    ensures { IfOk result (λ cause. cause_text cause ≡ bad_text bad.entry) }
 {
-    match bad {
-        Bad::Character(character) => Cause::BadToken(BadToken::Character(character)),
-        Bad::TooDeep => Cause::TooDeep,
+    let token = match bad {
+        Bad::Character(character) => BadToken::Character(character),
+        Bad::BareDot => BadToken::BareDot,
+        Bad::Integer(run) => BadToken::Integer(String::from_str(alloc, run)?),
+        Bad::Float(run) => BadToken::Float(String::from_str(alloc, run)?),
+        Bad::UnterminatedString => BadToken::UnterminatedString,
+        Bad::UnterminatedBlockString => BadToken::UnterminatedBlockString,
+        Bad::TooDeep => return Ok(Cause::TooDeep),
+    };
+    Ok(Cause::BadToken(token))
+}
+
+/// The fault of a bad place.
+fn bad_place(alloc: Global, bad: Bad<'_>, position: Pos) -> Fault
+    ensures { IsFaultOf (only_last (Wrong (place_of position) (bad_text bad.entry))) result }
+{
+    match cause_of(alloc, bad) {
+        Ok(cause) => Fault::At(cause, position),
+        Err(_) => Fault::OutOfMemory,
     }
 }
 
@@ -107,7 +123,7 @@ impl<'a, T: Text<'a>> TokenSource for Cursor<'a, T> {
         match self.next {
             Ok(Some(token)) => unexpected(alloc, token, self.position),
             Ok(None) => Fault::At(Cause::UnexpectedEnd, self.position),
-            Err(bad) => Fault::At(cause_of(bad), self.position),
+            Err(bad) => bad_place(alloc, bad, self.position),
         }
     }
 

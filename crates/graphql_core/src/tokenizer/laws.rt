@@ -20,4 +20,18 @@ pub fn worked_examples()
     ensures bad_character { example.BadCharacter }
     ensures too_deep { example.TooDeepAtLast }
     ensures closed_first { example.ClosedFirst }
+    ensures integers { example.Integers }
+    ensures bad_integers { example.BadIntegers }
+    ensures floats { example.Floats }
+    ensures bad_floats { example.BadFloats }
+    ensures long_runs { example.LongRuns }
+    ensures bare_dot { example.BareDot }
+    ensures no_break_space { example.NoBreakSpace }
+    ensures character_in_string { example.CharacterInString }
+    ensures unterminated_string { example.UnterminatedString }
+    ensures unterminated_block { example.UnterminatedBlock }
+    ensures quote_in_block { example.QuoteInBlock }
+    ensures quote_behind_block { example.QuoteBehindBlock }
+    ensures lines_in_block { example.LinesInBlock }
+    ensures punctuators { example.Punctuators }
 {}

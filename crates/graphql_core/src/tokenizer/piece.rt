@@ -2,8 +2,10 @@
 ghost use Rattle.std.specs.Prelude.{◌≡◌, ◌<◌, ◌≤◌, ◌^◌, length, slice_index};
 ghost use Rattle.std.specs.List.{prefix_len};
 ghost use Rattle.graphql_core.specs.Front as spec;
-ghost use Rattle.graphql_core.specs.Lexical.{is_name_start, is_name_continue, is_in_line};
+ghost use Rattle.graphql_core.specs.Lexical as lexical;
 
+use crate::tokenizer::number::number;
+use crate::tokenizer::quoted::quoted;
 use crate::tokenizer::token::Kind;
 
 /// How ignored text moves the position.
@@ -37,27 +39,70 @@ pub enum Piece {
     Skips(usize, Move),
     /// A token.
     Takes(usize, Kind, Nesting),
-    /// A character that begins no piece.
+    /// No piece.
     Stops,
 }
 
 #[inline(always)]
 fn is_name_start(byte: u8) -> bool
-    ensures { result ≡ is_name_start byte }
+    ensures { result ≡ lexical.is_name_start byte }
 {
     byte.is_ascii_alphabetic() || byte == b'_'
 }
 
 #[inline(always)]
 fn is_name_continue(byte: u8) -> bool
-    ensures { result ≡ is_name_continue byte }
+    ensures { result ≡ lexical.is_name_continue byte }
 {
     byte.is_ascii_alphanumeric() || byte == b'_'
 }
 
 #[inline(always)]
+fn is_opener(byte: u8) -> bool
+    ensures { result ≡ lexical.is_opener byte }
+{
+    byte == b'(' || byte == b'[' || byte == b'{'
+}
+
+#[inline(always)]
+fn is_closer(byte: u8) -> bool
+    ensures { result ≡ lexical.is_closer byte }
+{
+    byte == b')' || byte == b']' || byte == b'}'
+}
+
+/// Whether it is a punctuator of one character.
+#[inline(always)]
+pub fn is_mark(byte: u8) -> bool
+    ensures { result ≡ lexical.is_mark byte }
+{
+    is_opener(byte)
+        || is_closer(byte)
+        || byte == b'!'
+        || byte == b'$'
+        || byte == b'&'
+        || byte == b':'
+        || byte == b'='
+        || byte == b'@'
+        || byte == b'|'
+}
+
+#[inline(always)]
+fn nesting_of(byte: u8) -> Nesting
+    ensures { result ≡ lexical.nesting_of byte }
+{
+    if is_opener(byte) {
+        Nesting::Opens
+    } else if is_closer(byte) {
+        Nesting::Closes
+    } else {
+        Nesting::Level
+    }
+}
+
+#[inline(always)]
 fn is_in_line(byte: u8) -> bool
-    ensures { result ≡ is_in_line byte }
+    ensures { result ≡ lexical.is_in_line byte }
 {
     byte != b'\n' && byte != b'\r'
 }
@@ -65,7 +110,7 @@ fn is_in_line(byte: u8) -> bool
 /// How many bytes a name goes on.
 #[inline]
 fn name_len(bytes: &[u8]) -> usize
-    ensures len { result ≡ prefix_len is_name_continue bytes.now }
+    ensures len { result ≡ prefix_len lexical.is_name_continue bytes.now }
     ensures within { result ≤ length bytes.now }
 {
     bytes.iter().take_while(|b| is_name_continue(**b)).count()
@@ -74,7 +119,7 @@ fn name_len(bytes: &[u8]) -> usize
 /// How many bytes a comment goes on in its line.
 #[inline]
 fn line_len(bytes: &[u8]) -> usize
-    ensures len { result ≡ prefix_len is_in_line bytes.now }
+    ensures len { result ≡ prefix_len lexical.is_in_line bytes.now }
     ensures within { result ≤ length bytes.now }
 {
     bytes.iter().take_while(|b| is_in_line(**b)).count()
@@ -82,7 +127,7 @@ fn line_len(bytes: &[u8]) -> usize
 
 /// The byte at `index`, or 0 past the end.
 #[inline(always)]
-fn byte_at(bytes: &[u8], index: usize) -> u8
+pub fn byte_at(bytes: &[u8], index: usize) -> u8
     ensures { result ≡ slice_index bytes.now index }
 {
     bytes.get(index).copied().unwrap_or(0)
@@ -108,44 +153,66 @@ fn comment(bytes: &[u8]) -> Piece
     }
 }
 
-/// What stands at the front where this byte is the first.
+/// What stands at the front where that is a dot.
 #[inline]
-fn piece_of(byte: u8, rest: &[u8]) -> Piece
-    requires { length rest.now < 2 ^ 62 }
-    ensures { result ≡ spec.front_of byte rest.now }
+fn dots(bytes: &[u8]) -> Piece
+    ensures { result ≡ spec.dots bytes.now }
 {
-    if byte == b'\t' {
-        Piece::Skips(1, Move::Over(8))
-    } else if byte == b'\n' {
-        Piece::Skips(1, Move::Down)
-    } else if byte == b'\r' {
-        Piece::Skips(1, Move::Stay)
-    } else if byte == b' ' || byte == b',' {
-        Piece::Skips(1, Move::Over(1))
-    } else if byte == b'#' {
-        comment(rest)
-    } else if byte == b'{' {
-        Piece::Takes(1, Kind::Punctuator, Nesting::Opens)
-    } else if byte == b'}' {
-        Piece::Takes(1, Kind::Punctuator, Nesting::Closes)
-    } else if byte == 0xEF && (byte_at(rest, 0) == 0xBB && byte_at(rest, 1) == 0xBF) {
-        Piece::Skips(3, Move::Stay)
-    } else if is_name_start(byte) {
-        Piece::Takes(name_len(rest) + 1, Kind::Name, Nesting::Level)
+    if byte_at(bytes, 1) == b'.' && byte_at(bytes, 2) == b'.' {
+        Piece::Takes(3, Kind::Punctuator, Nesting::Level)
     } else {
         Piece::Stops
     }
 }
 
+/// The token at the front of a text that begins with this byte, which begins no name.
+#[tactic(auto, unfolding(crate::specs::Front::token_of))]
+fn token_of(byte: u8, bytes: &[u8]) -> Piece
+    requires some { 0 < length bytes.now }
+    requires small { length bytes.now < 2 ^ 62 }
+    ensures { result ≡ spec.token_of byte bytes.now }
+{
+    if is_mark(byte) {
+        Piece::Takes(1, Kind::Punctuator, nesting_of(byte))
+    } else if byte == b'"' {
+        quoted(bytes)
+    } else if byte == b'.' {
+        dots(bytes)
+    } else if byte == b'-' || byte.is_ascii_digit() {
+        number(bytes)
+    } else {
+        Piece::Stops
+    }
+}
+
+/// What stands at the front of these bytes.
 #[inline]
 #[tactic(auto, unfolding(crate::specs::Front::front))]
-fn piece_of_bytes(bytes: &[u8]) -> Piece
+fn piece_of(bytes: &[u8]) -> Piece
     requires { length bytes.now < 2 ^ 62 }
     ensures { result ≡ spec.front bytes.now }
 {
     match bytes.split_first() {
         None => Piece::AtEnd,
-        Some((byte, rest)) => piece_of(*byte, rest),
+        Some((byte, rest)) => {
+            if *byte == b'\t' {
+                Piece::Skips(1, Move::Over(8))
+            } else if *byte == b'\n' {
+                Piece::Skips(1, Move::Down)
+            } else if *byte == b'\r' {
+                Piece::Skips(1, Move::Stay)
+            } else if *byte == b' ' || *byte == b',' {
+                Piece::Skips(1, Move::Over(1))
+            } else if is_name_start(*byte) {
+                Piece::Takes(name_len(rest) + 1, Kind::Name, Nesting::Level)
+            } else if *byte == b'#' {
+                comment(rest)
+            } else if *byte == 0xEF && (byte_at(rest, 0) == 0xBB && byte_at(rest, 1) == 0xBF) {
+                Piece::Skips(3, Move::Stay)
+            } else {
+                token_of(*byte, bytes)
+            }
+        }
     }
 }
 
@@ -157,5 +224,5 @@ pub fn front_of(text: &str) -> Piece
     ensures is { result ≡ spec.front text.now }
     ensures fits { spec.FitsIn text.now result }
 {
-    piece_of_bytes(text.as_bytes())
+    piece_of(text.as_bytes())
 }

@@ -1,15 +1,15 @@
 //! A text as a stream of tokens.
-ghost use Rattle.std.specs.Prelude.{◌≡◌, ℕ, List, ◌+◌, ◌-◌, ◌*◌, ◌/◌, ◌<◌, ◌≤◌, ◌^◌, length, slice_index};
-ghost use Rattle.std.specs.Str.{chars};
+ghost use Rattle.std.specs.Prelude.{◌≡◌, ℕ, List, ◌+◌, ◌-◌, ◌*◌, ◌/◌, ◌<◌, ◌≤◌, ◌^◌, length};
 ghost use Rattle.graphql_core.specs.Lexical.{steps_over};
-ghost use Rattle.graphql_core.specs.Items.{Where, Item, moved, HasItems, depth_of, openers_after, closers_after, is_too_deep};
+ghost use Rattle.graphql_core.specs.Items.{Where, Item, moved, past, past_character, HasItems, depth_of, openers_after, closers_after, is_too_deep};
 ghost use Rattle.graphql_core.specs.Stream.{NextItem, further, next_place, one_more};
-ghost use Rattle.graphql_core.specs.Front.{front, IsItem};
+ghost use Rattle.graphql_core.specs.Front.{front, IsItem, IsFlat, is_quoted};
 ghost use Rattle.graphql_core.specs.Cut.{items};
 
 use crate::position::Pos;
 use crate::tokenizer::piece::{Move, Nesting, Piece, front_of};
-use crate::tokenizer::token::{Bad, Token};
+use crate::tokenizer::stop::bad_at;
+use crate::tokenizer::token::{Bad, Kind, Token};
 use std::marker::Model;
 
 /// The most brackets that may be open at once.
@@ -35,12 +35,65 @@ fn moved(by: Move, at: Pos) -> Pos
     }
 }
 
-/// The first character of a text that has one.
-fn first_char(text: &str) -> char
-    requires { 0 < length text.now }
-    ensures { result ≡ slice_index (chars text.now) 0 }
+/// The position behind a character of a token.
+#[inline]
+fn past_character(character: char, at: Pos) -> Pos
+    requires line { at.line + 1 < 2 ^ 64 }
+    requires column { at.column + 1 < 2 ^ 64 }
+    ensures { result ≡ past_character character at }
 {
-    text.chars().next().unwrap()
+    if character == '\n' {
+        Pos {
+            line: at.line + 1,
+            column: 1,
+        }
+    } else {
+        Pos {
+            line: at.line,
+            column: at.column + 1,
+        }
+    }
+}
+
+/// The position behind the characters of a token.
+fn past_characters(value: &str, at: Pos) -> Pos
+    requires line { at.line + length value.now < 2 ^ 62 }
+    requires column { at.column + length value.now < 2 ^ 63 }
+    ensures is { result ≡ past value.now at }
+    ensures line { result.line ≤ at.line + length value.now }
+    ensures column { result.column ≤ at.column + length value.now }
+{
+    let mut place = at;
+    'characters: for character in value.chars() {
+        place = past_character(character, place);
+    }
+    place
+}
+
+/// Whether it is a string, which may have line ends and characters of several bytes.
+fn is_quoted(kind: Kind) -> bool
+    ensures { result ≡ is_quoted kind }
+{
+    matches!(kind, Kind::StringValue | Kind::BlockString)
+}
+
+/// The position behind a token.
+fn past(kind: Kind, value: &str, at: Pos) -> Pos
+    requires line { at.line + length value.now < 2 ^ 62 }
+    requires column { at.column + length value.now < 2 ^ 63 }
+    requires flat { IsFlat kind value.now }
+    ensures is { result ≡ past value.now at }
+    ensures line { result.line ≤ at.line + length value.now }
+    ensures column { result.column ≤ at.column + length value.now }
+{
+    if is_quoted(kind) {
+        past_characters(value, at)
+    } else {
+        Pos {
+            line: at.line,
+            column: at.column + value.len(),
+        }
+    }
 }
 
 /// Past the ignored text at the front.
@@ -150,14 +203,14 @@ impl<'a> TokenStream<'a> {
     /// The next token, `None` at the end, an error at a bad place.
     ///
     /// At the end and at a bad place the stream stays, and the next call answers the same.
-    pub fn next_token(&mut self) -> Result<Option<Token<'a>>, Bad>
+    pub fn next_token(&mut self) -> Result<Option<Token<'a>>, Bad<'a>>
         ensures item { NextItem self.old.items result self.new.items }
         ensures cuts { self.new.cuts ≡ one_more self.old.cuts }
     {
         self.cuts = self.cuts.saturating_add(1);
         let (len, kind, nesting) = match front_of(self.rest) {
             Piece::AtEnd => return Ok(None),
-            Piece::Stops => return Err(Bad::Character(first_char(self.rest))),
+            Piece::Stops => return Err(bad_at(self.rest)),
             Piece::Skips(_, _) => unreachable!(),
             Piece::Takes(len, kind, nesting) => (len, kind, nesting),
         };
@@ -165,10 +218,7 @@ impl<'a> TokenStream<'a> {
             return Err(Bad::TooDeep);
         }
         let (value, behind) = self.rest.split_at(len);
-        let end = Pos {
-            line: self.position.line,
-            column: self.position.column + len,
-        };
+        let end = past(kind, value, self.position);
         let (rest, position) = skip_ignored(behind, end);
         self.offset += self.rest.len() - rest.len();
         self.rest = rest;

@@ -38,9 +38,19 @@ impl fmt::Display for Token<'_> {
 
 /// Why no token stands at a place.
 #[derive(Clone, Copy, Debug, PartialEq, Eq)]
-pub enum Bad {
+pub enum Bad<'a> {
     /// A character that begins no token.
     Character(char),
+    /// A dot without two more behind it.
+    BareDot,
+    /// A run that begins like a whole number and is none.
+    Integer(&'a str),
+    /// A run that begins like a number with a fraction or an exponent and is none.
+    Float(&'a str),
+    /// A string without its closing quote in its line.
+    UnterminatedString,
+    /// A block string without its closing quotes.
+    UnterminatedBlockString,
     /// An opening bracket behind 50 that are open.
     TooDeep,
 }

@@ -117,16 +117,28 @@ fn texts_without_a_document_are_refused(rt: HostRuntime) -> Result<(), Fail> {
         kind: Kind::Punctuator,
         text: String::from_str(alloc, "}")?,
     };
+    let parenthesis = Cause::UnexpectedToken {
+        kind: Kind::Punctuator,
+        text: String::from_str(alloc, "(")?,
+    };
+    let run = String::from_str(alloc, "1\"x\"")?;
     for (text, cause, position) in [
         ("", Cause::UnexpectedEnd, at(1, 1)),
         ("   \t,#x", Cause::UnexpectedEnd, at(1, 13)),
         ("{ }", brace, at(1, 3)),
         ("{ a", Cause::UnexpectedEnd, at(1, 4)),
         ("{ a;}", Cause::BadToken(BadToken::Character(';')), at(1, 4)),
+        ("{ a(b: 1) }", parenthesis, at(1, 4)),
         (
-            "{ a(b: 1) }",
-            Cause::BadToken(BadToken::Character('(')),
-            at(1, 4),
+            "{ a 1\"x\" }",
+            Cause::BadToken(BadToken::Integer(run)),
+            at(1, 5),
+        ),
+        ("{ a .5 }", Cause::BadToken(BadToken::BareDot), at(1, 5)),
+        (
+            "{ a \"x }",
+            Cause::BadToken(BadToken::UnterminatedString),
+            at(1, 5),
         ),
         (
             "{ \u{e9} }",

@@ -1,7 +1,9 @@
 use Rattle.std.proofs.Common.{◌≡◌, ℕ, List, ◌∷◌, replicate, take, refl, subst}
 use Rattle.std.specs.Str.{chars}
 use Rattle.graphql_core.specs.Items.{Item, HasItems, start}
-use Rattle.graphql_core.specs.Front.{front, comment}
+use Rattle.graphql_core.specs.Front.{front, comment, token_of}
+use Rattle.graphql_core.specs.Numbers.{number, is_float, is_unsigned, is_behind_integer, is_behind_dot}
+use Rattle.graphql_core.specs.Quoted.{quoted, string_end, block_end}
 use Rattle.graphql_core.specs.Cut.{items, items_in}
 use Rattle.graphql_core.proofs.Cutting.{has_items}
 use Rattle.graphql_core.proofs.tokenizer.laws.worked_examples.Goals as goal
@@ -10,38 +12,30 @@ use Rattle.graphql_core.proofs.tokenizer.laws.worked_examples.Goals as goal
 computed : (text : List ℕ) (found : List Item) → items start text ≡ found → HasItems text found
 computed text found e = subst (HasItems text) e (has_items text)
 
-pub returns-clause-empty : goal.returns-clause-empty
-unfolding items items_in front
-returns-clause-empty c = computed _ _ refl
-
-pub returns-clause-ignored_alone : goal.returns-clause-ignored_alone
-unfolding items items_in front comment
-returns-clause-ignored_alone c = computed _ _ refl
-
-pub returns-clause-comment_return_feed : goal.returns-clause-comment_return_feed
-unfolding items items_in front comment
-returns-clause-comment_return_feed c = computed _ _ refl
-
-pub returns-clause-comment_return : goal.returns-clause-comment_return
-unfolding items items_in front comment
-returns-clause-comment_return c = computed _ _ refl
-
-pub returns-clause-byte_order_mark : goal.returns-clause-byte_order_mark
-unfolding items items_in front
-returns-clause-byte_order_mark c = computed _ _ refl
-
-pub returns-clause-return_alone : goal.returns-clause-return_alone
-unfolding items items_in front
-returns-clause-return_alone c = computed _ _ refl
-
-pub returns-clause-bad_character : goal.returns-clause-bad_character
-unfolding items items_in front chars
-returns-clause-bad_character c = computed _ _ refl
-
-pub returns-clause-too_deep : goal.returns-clause-too_deep
-unfolding items items_in front
-returns-clause-too_deep c = (take 50 (items start (replicate 51 123)), refl, refl, computed _ _ refl)
-
-pub returns-clause-closed_first : goal.returns-clause-closed_first
-unfolding items items_in front
-returns-clause-closed_first c = (take 52 (items start (125 ∷ replicate 51 123)), refl, refl, computed _ _ refl)
+pub returns : goal.returns
+unfolding items items_in front comment token_of number is_float is_unsigned is_behind_integer is_behind_dot quoted string_end block_end chars
+returns c = record {
+  empty = computed _ _ refl;
+  ignored_alone = computed _ _ refl;
+  comment_return_feed = computed _ _ refl;
+  comment_return = computed _ _ refl;
+  byte_order_mark = computed _ _ refl;
+  return_alone = computed _ _ refl;
+  bad_character = computed _ _ refl;
+  too_deep = (take 50 (items start (replicate 51 123)), refl, refl, computed _ _ refl);
+  closed_first = (take 52 (items start (125 ∷ replicate 51 123)), refl, refl, computed _ _ refl);
+  integers = (computed _ _ refl, computed _ _ refl, computed _ _ refl);
+  bad_integers = (computed _ _ refl, computed _ _ refl);
+  floats = (computed _ _ refl, computed _ _ refl, computed _ _ refl);
+  bad_floats = (computed _ _ refl, computed _ _ refl);
+  long_runs = (computed _ _ refl, computed _ _ refl, computed _ _ refl);
+  bare_dot = computed _ _ refl;
+  no_break_space = computed _ _ refl;
+  character_in_string = computed _ _ refl;
+  unterminated_string = computed _ _ refl;
+  unterminated_block = computed _ _ refl;
+  quote_in_block = computed _ _ refl;
+  quote_behind_block = computed _ _ refl;
+  lines_in_block = computed _ _ refl;
+  punctuators = computed _ _ refl;
+}

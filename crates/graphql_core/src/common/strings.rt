@@ -1,0 +1,9 @@
+//! The values of strings, read off their spellings.
+
+mod block;
+mod error;
+mod quoted;
+
+pub use block::unquote_block_string;
+pub use error::UnquoteError;
+pub use quoted::unquote_string;
