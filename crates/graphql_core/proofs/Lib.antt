@@ -11,3 +11,6 @@ pub mod Nested
 pub mod Escapes
 pub mod BlockLines
 pub mod FloatLiterals
+pub mod Members
+pub mod Viewed
+pub mod Cloned

@@ -14,3 +14,5 @@ pub mod Matching
 pub mod Strings
 pub mod BlockStrings
 pub mod Literals
+pub mod Values
+pub mod ValueViews

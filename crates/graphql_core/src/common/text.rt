@@ -1,10 +1,12 @@
 //! What trees keep their names as.
-ghost use Rattle.std.specs.Prelude.{◌≡◌, ℕ, List, IfOk, IsOk, nat_eq, refl};
+ghost use Rattle.std.specs.Prelude.{◌≡◌, ℕ, List, IfOk, IsOk, nat_eq, refl, string_bytes};
+ghost use Rattle.std.specs.Cow.{IsBorrowedStr, cow_str_bytes};
 ghost use Rattle.std.specs.Ordering.{nat_cmp};
 ghost use Rattle.std.specs.Cmp.Lexicographic.{pointwise, slice_cmp};
 ghost use Rattle.std.proofs.Common.{rules};
 
 use std::alloc::{AllocError, Global};
+use std::borrow::CowStr;
 use std::fmt::Debug;
 
 /// What a tree keeps each of its names as.
@@ -58,5 +60,55 @@ impl<'a> Text<'a> for &'a str {
         ensures always { IsOk result }
     {
         Ok(text)
+    }
+}
+
+impl Names for String {
+    type Value = String;
+
+    ghost bytes = { λ v. string_bytes v };
+
+    ghost eq_by_bytes = { λ x y. refl };
+
+    ghost cmp_by_bytes = { λ x y. refl };
+
+    ghost clone_keeps = { Prim.search rules };
+
+    fn view<'v>(value: &'v String) -> &'v str {
+        value.as_str()
+    }
+}
+
+/// A name owns a copy of its text, so `make` succeeds where there is memory for it.
+impl<'a> Text<'a> for String {
+    fn make(alloc: Global, text: &'a str) -> Result<String, AllocError> {
+        String::from_str(alloc, text)
+    }
+}
+
+impl<'a> Names for CowStr<'a> {
+    type Value = CowStr<'a>;
+
+    ghost bytes = { cow_str_bytes };
+
+    ghost eq_by_bytes = { λ x y. refl };
+
+    ghost cmp_by_bytes = { λ x y. refl };
+
+    ghost clone_keeps = { Prim.search rules };
+
+    fn view<'v>(value: &'v CowStr<'a>) -> &'v str {
+        value.as_str()
+    }
+}
+
+/// A name that is made borrows its text, so `make` takes no memory and always succeeds.
+impl<'a> Text<'a> for CowStr<'a> {
+    fn make(_alloc: Global, text: &'a str) -> Result<CowStr<'a>, AllocError>
+        ensures text { IfOk result (λ v. cow_str_bytes v ≡ text.now) }
+        ensures always { IsOk result }
+        ensures borrowed { IfOk result IsBorrowedStr }
+    {
+        Ok(CowStr::Borrowed(text))
     }
 }
