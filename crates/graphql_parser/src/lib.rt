@@ -21,7 +21,7 @@ pub mod tokenizer {
 
 /// Query documents.
 pub mod query {
-    pub use graphql_core::common::{FloatLiteral, Number};
+    pub use graphql_core::common::{Directive, FloatLiteral, Number, Type, Value};
     pub use graphql_query::{
         Definition, Document, Field, Names, OperationDefinition, ParseError, Selection,
         SelectionSet, Text, parse_query,

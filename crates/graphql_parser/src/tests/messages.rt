@@ -1,4 +1,5 @@
 //! The texts of causes and faults.
+use crate::common::UnquoteError;
 use crate::query::{Document, ParseError, parse_query};
 use crate::tokenizer::Kind;
 use crate::{BadToken, Cause, FormatError};
@@ -135,6 +136,19 @@ fn format_errors_are_shown(rt: HostRuntime) -> Result<(), Fail> {
     assert_eq!(rt;
         FormatError::OutOfMemory.to_string(rt.alloc())?.as_str(),
         "format error: out of memory"
+    );
+    Ok(())
+}
+
+#[test]
+fn unquote_errors_are_shown(rt: HostRuntime) -> Result<(), Fail> {
+    assert_eq!(rt;
+        UnquoteError::BadEscape.to_string(rt.alloc())?.as_str(),
+        "bad escape in string"
+    );
+    assert_eq!(rt;
+        UnquoteError::OutOfMemory.to_string(rt.alloc())?.as_str(),
+        "out of memory"
     );
     Ok(())
 }
