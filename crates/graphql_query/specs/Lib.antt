@@ -4,3 +4,4 @@ pub mod Refusal
 pub mod Gives
 pub mod Document
 pub mod Layout
+pub mod Examples

@@ -3,6 +3,7 @@
 
 mod document;
 mod error;
+mod laws;
 mod print;
 mod read;
 mod tree;
@@ -10,6 +11,7 @@ mod tree;
 pub use document::parse_query;
 pub use error::ParseError;
 pub use graphql_core::common::{Names, Text};
+pub use laws::worked_examples;
 
 /// A query document (October 2021, section 2.2).
 pub type Document<'a, T> = tree::Document<T>;

@@ -1,0 +1,43 @@
+-- What some small texts mean, and how their documents are laid out, written out.
+use Rattle.std.specs.Prelude.{◌≡◌, ℕ, ◌+◌, List, [], ◌∷◌, ◌++◌, codes}
+use Rattle.graphql_grammar.specs.Tokens.{Place}
+use Rattle.graphql_core.specs.Style.{default_style}
+use Rattle.graphql_query.specs.Tree.{field, SetTree, set, none, more, no_set, DocumentTree}
+use Rattle.graphql_query.specs.Document.{IsDocumentOf}
+use Rattle.graphql_query.specs.Layout.{layout}
+
+abbrev at : ℕ → ℕ → Place
+at line column = record { line = line; column = column }
+
+-- `{ a { b } }`
+abbrev pub nested : DocumentTree
+nested = set (at 1 1) (at 1 11) (more (field (at 1 3) (codes "a") (set (at 1 5) (at 1 9) (more (field (at 1 7) (codes "b") (no_set (at 1 7))) none))) none) ∷ []
+
+-- a field alone in braces
+abbrev alone : ℕ → ℕ → List ℕ → SetTree
+alone line column name = set (at line column) (at line (column + 4)) (more (field (at line (column + 2)) name (no_set (at line (column + 2)))) none)
+
+abbrev pub Nested : Type 0
+Nested = IsDocumentOf (codes "{ a { b } }") nested
+
+abbrev pub TwoDefinitions : Type 0
+TwoDefinitions = IsDocumentOf (codes "{ a } { b }") (alone 1 1 (codes "a") ∷ alone 1 7 (codes "b") ∷ [])
+
+-- a comment that ends in CR LF ends one line
+abbrev pub CommentReturnFeed : Type 0
+CommentReturnFeed = IsDocumentOf (codes "# c" ++ 13 ∷ 10 ∷ codes "{ a }") (alone 2 1 (codes "a") ∷ [])
+
+-- and so does one that ends in CR
+abbrev pub CommentReturn : Type 0
+CommentReturn = IsDocumentOf (codes "# c" ++ 13 ∷ codes "{ a }") (alone 2 1 (codes "a") ∷ [])
+
+-- U+FEFF takes no column
+abbrev pub ByteOrderMark : Type 0
+ByteOrderMark = IsDocumentOf (239 ∷ 187 ∷ 191 ∷ codes "{ a }") (alone 1 1 (codes "a") ∷ [])
+
+abbrev pub NestedLayout : Type 0
+NestedLayout = layout default_style nested ≡ codes "{" ++ 10 ∷ codes "  a {" ++ 10 ∷ codes "    b" ++ 10 ∷ codes "  }" ++ 10 ∷ codes "}" ++ 10 ∷ []
+
+abbrev pub TwoDefinitionsLayout : Type 0
+TwoDefinitionsLayout = layout default_style (alone 1 1 (codes "a") ∷ alone 1 7 (codes "b") ∷ [])
+    ≡ codes "{" ++ 10 ∷ codes "  a" ++ 10 ∷ codes "}" ++ 10 ∷ 10 ∷ codes "{" ++ 10 ∷ codes "  b" ++ 10 ∷ codes "}" ++ 10 ∷ []
