@@ -6,12 +6,13 @@ ghost use Rattle.graphql_query.specs.Refusal.{too_long, refusal_of};
 
 use graphql_core::common::{Cause, Fault};
 use graphql_core::position::Pos;
-use std::error::Error;
 use std::fmt;
 use std::marker::Model;
+use thiserror::Error;
 
 /// Why a text is no query document: a cause, and the position at which it stands.
-#[derive(Debug, Drop)]
+#[derive(Debug, Drop, Error)]
+#[error("query parse error: {}", Located {cause: .cause, position: *.position})]
 pub struct ParseError {
     cause: Cause,
     position: Option<Pos>,
@@ -71,14 +72,19 @@ impl From<Fault> for ParseError {
     }
 }
 
-impl fmt::Display for ParseError {
+/// A cause as a message tells it, with its position where it has one.
+#[derive(Clone, Copy)]
+struct Located<'a> {
+    cause: &'a Cause,
+    position: Option<Pos>,
+}
+
+impl fmt::Display for Located<'_> {
     fn fmt<W: fmt::Write>(&self, f: &mut fmt::Formatter<W>) -> fmt::Result {
-        let cause = &self.cause;
+        let cause = self.cause;
         match self.position {
-            Some(position) => write!(f, "query parse error: Parse error at {position}\n{cause}\n"),
-            None => write!(f, "query parse error: {cause}"),
+            Some(position) => write!(f, "Parse error at {position}\n{cause}\n"),
+            None => write!(f, "{cause}"),
         }
     }
 }
-
-impl Error for ParseError {}
