@@ -1,10 +1,11 @@
 -- Trees of the second rules and trees of the written ones are the same.
 use Rattle.std.proofs.Common.{◌≡◌, ℕ, zero, suc, true, List, [], ◌∷◌, ◌++◌, take, drop, Option, Some, None, refl, sym, ap, ap₂, subst, ◌∙◌, append_assoc}
-use Rattle.graphql_grammar.specs.Tokens.{Token}
-use Rattle.graphql_grammar.specs.Trees.{Expr, Empty, Then, Either, Sym, Shape, Nothing, Leaf, Both, First, Second, Stop, More, Node, Row, Grammar, row_at, leaves, Derives, Begins, Ends, Fits, fits_nothing, fits_leaf, fits_both, fits_first, fits_second, fits_stop, fits_more, fits_node}
+use Rattle.graphql_grammar.specs.Tokens.{Token, Class}
+use Rattle.graphql_grammar.specs.Trees.{Expr, Empty, Then, Either, Sym, Shape, Nothing, Leaf, Both, First, Second, Stop, More, Node, Row, Grammar, row_at, leaves, peek, Derives, Begins, Ends, Fits, fits_nothing, fits_leaf, fits_both, fits_first, fits_second, fits_stop, fits_more, fits_node}
 use Rattle.graphql_grammar.specs.Tables.{decides, is_ll1, has_samples, is_productive}
-use Rattle.graphql_grammar.specs.Reading.{unchecked}
-use Rattle.graphql_grammar.specs.Factored.{Change, unchanged, change_at, written, with_rows, IsSecond, AreSecond, EachIsSecond, out_of_head, in_second, out_of_prefix, IsExactFor}
+use Rattle.graphql_grammar.specs.Reading.{unchecked, lax}
+use Rattle.graphql_grammar.specs.Theorems.{IsValue}
+use Rattle.graphql_grammar.specs.Factored.{Change, unchanged, change_at, written, with_rows, IsSecond, AreSecond, EachIsSecond, out_of_head, in_second, out_of_prefix, out_of_symbols, IsExactFor}
 use Rattle.graphql_grammar.specs.Texts.{Ending, End, Bad, EndsAt, IsWholeFor}
 use Rattle.graphql_grammar.proofs.Exact.{exact}
 use Rattle.graphql_grammar.proofs.Whole.{whole}
@@ -90,7 +91,18 @@ module _ (g : Grammar) (rs : List Row) (cs : List Change) (each : EachIsSecond g
   ends_at-written e front (u ∷ us) Bad h = ends-written e front (Some u) h
   ends_at-written e front (u ∷ us) End h = ends-written e front (Some u) h
 
-module _ (g : Grammar) (rs : List Row) (cs : List Change) (each : EachIsSecond g rs cs) (each_unchecked : EachIsSecond (unchecked g) rs cs) where
+-- a token without a value, that would go on with a list were all values good
+value-written : (g : Grammar) (rs : List Row) (cs : List Change) → EachIsSecond (lax g) rs cs → (e : Expr) (front us : List Token) (c : Class) → IsValue (with_rows g rs cs) e front c us → IsValue g e front c us
+value-written g rs cs each_lax e front us c v = record {
+  token = v.token;
+  rest = v.rest;
+  is = v.is;
+  of_class = v.of_class;
+  not_good = v.not_good;
+  begins = begins-written (lax g) rs cs each_lax e (front ++ v.token ∷ []) v.begins;
+}
+
+module _ (g : Grammar) (rs : List Row) (cs : List Change) (each : EachIsSecond g rs cs) (each_unchecked : EachIsSecond (unchecked g) rs cs) (each_lax : EachIsSecond (lax g) rs cs) where
   pub exact_for : is_ll1 rs ≡ true → is_productive (with_rows g rs cs) ≡ true → (e : Expr) → decides rs e ≡ true → has_samples (with_rows g rs cs) e ≡ true → IsExactFor g rs cs e
   exact_for ok full e d f =
       let x = exact (with_rows g rs cs) ok full e d f in
@@ -98,12 +110,14 @@ module _ (g : Grammar) (rs : List Row) (cs : List Change) (each : EachIsSecond g
         sound = λ ts us y h. let s = x.sound ts us y h in (to-written g rs cs each e (leaves y) y s.0, s.1);
         complete = λ ts rest y h n. (seconds cs y, x.complete ts rest (seconds cs y) (to-second g rs cs each e ts y h) n, written-seconds g rs cs each h.0);
         unambiguous = λ ts y z h k. sym (written-seconds g rs cs each h.0) ∙ ap (written cs) (x.unambiguous ts (seconds cs y) (seconds cs z) (to-second g rs cs each e ts y h) (to-second g rs cs each e ts z k)) ∙ written-seconds g rs cs each k.0;
-        earliest = λ ts us why h. let s = x.earliest ts us why h in (
-          s.front,
-          s.parts,
-          begins-written (unchecked g) rs cs each_unchecked e s.front s.begins,
-          λ y more k i. s.ends (seconds cs y) more (to-second g rs cs each e (s.front ++ more) y k) i,
-        );
+        earliest = λ ts us why h. let s = x.earliest ts us why h in record {
+          front = s.front;
+          parts = s.parts;
+          begins = begins-written (unchecked g) rs cs each_unchecked e s.front s.begins;
+          ends = ends-written g rs cs each e s.front (peek us) s.ends;
+          value = λ c i. value-written g rs cs each_lax e s.front us c (s.value c i);
+          unexpected = λ i. ends-written (lax g) rs cs each_lax e s.front (peek us) (s.unexpected i);
+        };
       }
 
   pub whole_for : is_ll1 rs ≡ true → is_productive (with_rows g rs cs) ≡ true → (e : Expr) → decides rs e ≡ true → has_samples (with_rows g rs cs) e ≡ true → IsWholeFor g rs cs e
@@ -112,7 +126,13 @@ module _ (g : Grammar) (rs : List Row) (cs : List Change) (each : EachIsSecond g
       record {
         sound = λ t x a. let r = (w.tree t x).0 a in (to-written g rs cs each e t.tokens x r.0, r.1);
         complete = λ t y h k. (seconds cs y, (w.tree t (seconds cs y)).1 (to-second g rs cs each e t.tokens y h, k), written-seconds g rs cs each h.0);
-        wrong = λ t why place a. let r = w.wrong t why place a in (r.0, begins-written (unchecked g) rs cs each_unchecked e (take place t.tokens) r.1, ends_at-written g rs cs each e (take place t.tokens) (drop place t.tokens) t.ending r.2);
+        wrong = λ t why place a. let r = w.wrong t why place a in record {
+          within = r.within;
+          begins = begins-written (unchecked g) rs cs each_unchecked e (take place t.tokens) r.begins;
+          ends = ends_at-written g rs cs each e (take place t.tokens) (drop place t.tokens) t.ending r.ends;
+          value = λ c i. value-written g rs cs each_lax e (take place t.tokens) (drop place t.tokens) c (r.value c i);
+          unexpected = λ i. ends_at-written (lax g) rs cs each_lax e (take place t.tokens) (drop place t.tokens) t.ending (r.unexpected i);
+        };
       }
 
 -- ---- ways to factor
@@ -135,6 +155,45 @@ IsSecond-head g rs cs d p q = record { fits = fit; leaves = same; fits_back = fi
     again : (y : Shape) → Fits (with_rows g rs cs) (Either (Then d p) (Then d q)) y → out_of_head.to_written (written cs (out_of_head.to_second y)) ≡ written cs y
     again _ (fits_first (fits_both h x)) = refl
     again _ (fits_second (fits_both h y)) = refl
+
+pub IsSecond-symbols : (g : Grammar) (rs : List Row) (cs : List Change) (j k : ℕ) (d p q : Expr)
+    → (row_at g.rows j).rule ≡ Then d p → (row_at rs j).rule ≡ Then d p → (row_at g.rows k).rule ≡ Then d q → (row_at rs k).rule ≡ Then d q
+    → ((x : Shape) → (change_at cs j).to_written x ≡ x) → ((x : Shape) → (change_at cs k).to_written x ≡ x) → ((i : ℕ) (x : Shape) → g.check i x ≡ true)
+    → IsSecond g rs cs (Either (Sym j) (Sym k)) (Then d (Either p q)) (out_of_symbols j k)
+IsSecond-symbols g rs cs j k d p q wj sj wk sk uj uk pass = record { fits = fit; leaves = same; fits_back = fit_back; back = again }
+  where
+    fit : (x : Shape) → Fits g (Then d (Either p q)) x → Fits g (Either (Sym j) (Sym k)) ((out_of_symbols j k).to_written x)
+    fit _ (fits_both {x = h} a (fits_first {x = x} b)) = fits_first (fits_node (subst (λ (e : Expr). Fits g e (Both h x)) (sym wj) (fits_both a b)) (pass j (Both h x)))
+    fit _ (fits_both {x = h} a (fits_second {y = y} b)) = fits_second (fits_node (subst (λ (e : Expr). Fits g e (Both h y)) (sym wk) (fits_both a b)) (pass k (Both h y)))
+
+    same : (x : Shape) → Fits g (Then d (Either p q)) x → leaves ((out_of_symbols j k).to_written x) ≡ leaves x
+    same _ (fits_both a (fits_first b)) = refl
+    same _ (fits_both a (fits_second b)) = refl
+
+    in_node : (i : ℕ) (r : Expr) → (row_at rs i).rule ≡ Then d r → (z : Shape) → Fits (with_rows g rs cs) (Sym i) z
+        → (a : Shape) × (b : Shape) × (z ≡ Node i (Both a b)) × Fits (with_rows g rs cs) d a × Fits (with_rows g rs cs) r b
+    in_node i r s _ (fits_node {x = x} h pass') = go x (subst (λ (e : Expr). Fits (with_rows g rs cs) e x) s h)
+      where
+        go : (y : Shape) → Fits (with_rows g rs cs) (Then d r) y → (a : Shape) × (b : Shape) × (Node i y ≡ Node i (Both a b)) × Fits (with_rows g rs cs) d a × Fits (with_rows g rs cs) r b
+        go _ (fits_both {x = a} {y = b} f f') = (a, b, refl, f, f')
+
+    fit_back : (y : Shape) → Fits (with_rows g rs cs) (Either (Sym j) (Sym k)) y → Fits (with_rows g rs cs) (Then d (Either p q)) ((out_of_symbols j k).to_second y)
+    fit_back _ (fits_first {x = z} h) =
+        let i = in_node j p sj z h in
+        subst (λ (y : Shape). Fits (with_rows g rs cs) (Then d (Either p q)) ((out_of_symbols j k).to_second (First y))) (sym i.2) (fits_both i.3 (fits_first i.4))
+    fit_back _ (fits_second {y = z} h) =
+        let i = in_node k q sk z h in
+        subst (λ (y : Shape). Fits (with_rows g rs cs) (Then d (Either p q)) ((out_of_symbols j k).to_second (Second y))) (sym i.2) (fits_both i.3 (fits_second i.4))
+
+    again : (y : Shape) → Fits (with_rows g rs cs) (Either (Sym j) (Sym k)) y → (out_of_symbols j k).to_written (written cs ((out_of_symbols j k).to_second y)) ≡ written cs y
+    again _ (fits_first {x = z} h) =
+        let i = in_node j p sj z h in
+        subst (λ (y : Shape). (out_of_symbols j k).to_written (written cs ((out_of_symbols j k).to_second (First y))) ≡ written cs (First y)) (sym i.2)
+        (ap (λ (y : Shape). First (Node j y)) (sym (uj (Both (written cs i.0) (written cs i.1)))))
+    again _ (fits_second {y = z} h) =
+        let i = in_node k q sk z h in
+        subst (λ (y : Shape). (out_of_symbols j k).to_written (written cs ((out_of_symbols j k).to_second (Second y))) ≡ written cs (Second y)) (sym i.2)
+        (ap (λ (y : Shape). Second (Node k y)) (sym (uk (Both (written cs i.0) (written cs i.1)))))
 
 pub IsSecond-second : (g : Grammar) (rs : List Row) (cs : List Change) (a e q : Expr) (c : Change) → IsSecond g rs cs e q c → IsSecond g rs cs (Either a e) (Either a q) (in_second c)
 IsSecond-second g rs cs a e q c i = record { fits = fit; leaves = same; fits_back = fit_back; back = again }

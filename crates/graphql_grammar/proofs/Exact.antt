@@ -8,7 +8,7 @@ use Rattle.graphql_grammar.specs.Theorems.{IsFirstFault, IsExact}
 use Rattle.graphql_grammar.proofs.Taken.{takes-fits, takes-leaves}
 use Rattle.graphql_grammar.proofs.Complete.{complete}
 use Rattle.graphql_grammar.proofs.Same.{same-take, take-or_fail, same-fail}
-use Rattle.graphql_grammar.proofs.Stuck.{stuck, stuck-ends, taken-ends, fails-lax}
+use Rattle.graphql_grammar.proofs.Stuck.{stuck, stuck-ends, taken-ends, takes-lax, fails-lax}
 use Rattle.graphql_grammar.proofs.Ends.{answer}
 
 complete_at : (g : Grammar) → is_ll1 g.rows ≡ true → (e : Expr) → decides g.rows e ≡ true → (ts rest : List Token) (x : Shape) → Derives g e ts x → sees (cont g.rows e) (peek rest) ≡ false → Takes g e (ts ++ rest) x rest
@@ -42,7 +42,7 @@ first_fault g ok full e d f ts us why h =
 pub exact : (g : Grammar) → is_ll1 g.rows ≡ true → is_productive g ≡ true → (e : Expr) → decides g.rows e ≡ true → has_samples g e ≡ true → IsExact g e
 exact g ok full e d f = record {
   sound = λ ts us x h. ((takes-fits g h, refl), takes-leaves g h);
-  longest = λ ts us x h. taken-ends g ok e d ts us x h;
+  longest = λ ts us x h. taken-ends (lax g) ok e d ts us x (takes-lax g h);
   complete = complete_at g ok e d;
   unambiguous = λ ts x y h k. (one_split g ok e d ts ts [] [] x y h k refl refl refl).0;
   one_split = one_split g ok e d;

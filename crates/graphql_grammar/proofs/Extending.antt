@@ -1,18 +1,19 @@
 -- What one grammar reads, a grammar that goes on from it reads alike.
-use Rattle.std.proofs.Common.{◌≡◌, ◌<◌, ℕ, Bool, true, ◌&&◌, cond, List, [], ◌∷◌, ◌++◌, Option, refl, sym, ap, ap₂, subst, ◌∙◌, arith}
+use Rattle.std.proofs.Common.{◌≡◌, ◌<◌, ℕ, zero, suc, Bool, true, ◌&&◌, cond, List, [], ◌∷◌, ◌++◌, Option, length, replicate, refl, sym, ap, ap₂, subst, ◌∙◌, arith}
 use Rattle.std.proofs.lemmas.Bool.{and_parts}
 use Rattle.std.proofs.lemmas.Bool.Decides.{nat_tests}
 use Rattle.graphql_grammar.specs.Tokens.{Token, Class, matches}
-use Rattle.graphql_grammar.specs.Trees.{Expr, Empty, One, Then, Either, Many, Sym, Shape, Row, Grammar, row_at, row, accepts, peek, Fits, fits_nothing, fits_leaf, fits_both, fits_first, fits_second, fits_stop, fits_more, fits_node}
+use Rattle.graphql_grammar.specs.Trees.{Expr, Empty, One, Then, Either, Many, Sym, Shape, Both, First, Second, More, Node, Row, Grammar, row_at, row, accepts, peek, Fits, fits_nothing, fits_leaf, fits_both, fits_first, fits_second, fits_stop, fits_more, fits_node}
 use Rattle.graphql_grammar.specs.Tables.{nullable, first, only_if}
 use Rattle.graphql_grammar.specs.Reading.{sees, Choice, choose, Takes, takes_nothing, takes_leaf, takes_both, takes_first, takes_second, takes_stop, takes_more, takes_node, Reason, Fails, fails_one, fails_value, fails_before, fails_after, fails_first, fails_second, fails_neither, fails_turn, fails_later, fails_node, fails_check}
-use Rattle.graphql_grammar.specs.Extended.{is_below, Extends, ReadsOn}
+use Rattle.graphql_grammar.specs.Extended.{is_below, Extends, ReadsOn, LeavesAlone}
+use Rattle.graphql_grammar.specs.Factored.{Change, unchanged, change_at, written}
 
-below_is : (k n : ℕ) → is_below n (Sym k) ≡ true → k < n
+pub below_is : (k n : ℕ) → is_below n (Sym k) ≡ true → k < n
 below_is k n h = grind (arith, nat_tests)
 
 module _ (n : ℕ) (g h : Grammar) (x : Extends n g h) where
-  row_same : (k : ℕ) → is_below n (Sym k) ≡ true → row_at h.rows k ≡ row_at g.rows k
+  pub row_same : (k : ℕ) → is_below n (Sym k) ≡ true → row_at h.rows k ≡ row_at g.rows k
   row_same k b = x.rows k (below_is k n b)
 
   nullable-same : (e : Expr) → is_below n e ≡ true → nullable h.rows e ≡ nullable g.rows e
@@ -40,7 +41,7 @@ module _ (n : ℕ) (g h : Grammar) (x : Extends n g h) where
   accepts-same : (c : Class) (t : Token) → accepts g c t ≡ true → accepts h c t ≡ true
   accepts-same c t a = ap (λ v. matches c t && v) (x.good c t) ∙ a
 
-  rule_below : (k : ℕ) → is_below n (Sym k) ≡ true → is_below n (row g k).rule ≡ true
+  pub rule_below : (k : ℕ) → is_below n (Sym k) ≡ true → is_below n (row g k).rule ≡ true
   rule_below k b = x.closed k (below_is k n b)
 
   fits-on : {e : Expr} {s : Shape} → Fits g e s → is_below n e ≡ true → Fits h e s
@@ -90,3 +91,54 @@ module _ (n : ℕ) (g h : Grammar) (x : Extends n g h) where
     fails = λ ts us why f. fails-on f b;
     derives = λ ts s d. (fits-on d.0 b, d.1);
   }
+
+-- a tree of these symbols is its own written tree
+pub left_alone : (n : ℕ) (g : Grammar) (cs : List Change) → LeavesAlone n g cs → {e : Expr} {x : Shape} → Fits g e x → is_below n e ≡ true → written cs x ≡ x
+left_alone n g cs a fits_nothing b = refl
+left_alone n g cs a (fits_leaf h) b = refl
+left_alone n g cs a (fits_both {a = p} {b = q} f k) b = let s = and_parts (is_below n p) (is_below n q) b in ap₂ Both (left_alone n g cs a f s.0) (left_alone n g cs a k s.1)
+left_alone n g cs a (fits_first {a = p} {b = q} f) b = let s = and_parts (is_below n p) (is_below n q) b in ap First (left_alone n g cs a f s.0)
+left_alone n g cs a (fits_second {a = p} {b = q} f) b = let s = and_parts (is_below n p) (is_below n q) b in ap Second (left_alone n g cs a f s.1)
+left_alone n g cs a fits_stop b = refl
+left_alone n g cs a (fits_more f k) b = ap₂ More (left_alone n g cs a f b) (left_alone n g cs a k b)
+left_alone n g cs a (fits_node {k} {x = s} f c) b =
+    let i = below_is k n b in
+    ap (Node k) (ap (change_at cs k).to_written (left_alone n g cs a f (a.closed k i)) ∙ a.alone k i s)
+
+-- ---- rows behind those of another grammar
+
+row_before : (rs more : List Row) (k : ℕ) → k < length rs → row_at (rs ++ more) k ≡ row_at rs k
+row_before [] more k h = absurd (omega arith)
+row_before (r ∷ rs) more zero h = refl
+row_before (r ∷ rs) more (suc k) h = row_before rs more k (omega arith)
+
+abbrev pub all_below : ℕ → List Row → Bool
+all_below n [] = true
+all_below n (r ∷ rs) = is_below n r.rule && all_below n rs
+
+below_at : (n : ℕ) (rs : List Row) (k : ℕ) → all_below n rs ≡ true → k < length rs → is_below n (row_at rs k).rule ≡ true
+below_at n [] k b h = absurd (omega arith)
+below_at n (r ∷ rs) zero b h = (and_parts (is_below n r.rule) (all_below n rs) b).0
+below_at n (r ∷ rs) (suc k) b h = below_at n rs k (and_parts (is_below n r.rule) (all_below n rs) b).1 (omega arith)
+
+-- g, with more rows
+pub with_more : (g : Grammar) (more : List Row) (check : ℕ → Shape → Bool) (samples : List Token) → all_below (length g.rows) g.rows ≡ true → ((k : ℕ) (x : Shape) → k < length g.rows → check k x ≡ g.check k x)
+    → Extends (length g.rows) g (record { rows = g.rows ++ more; good = g.good; check = check; samples = samples })
+with_more g more check samples b same = record {
+  rows = λ k h. row_before g.rows more k h;
+  closed = λ k h. below_at (length g.rows) g.rows k b h;
+  good = λ c t. refl;
+  check = same;
+}
+
+change_before : (n : ℕ) (cs : List Change) (k : ℕ) → k < n → change_at (replicate n unchanged ++ cs) k ≡ unchanged
+change_before zero cs k h = absurd (omega arith)
+change_before (suc n) cs zero h = refl
+change_before (suc n) cs (suc k) h = change_before n cs k (omega arith)
+
+-- changes of symbols behind those of g
+pub alone_before : (g : Grammar) (cs : List Change) → all_below (length g.rows) g.rows ≡ true → LeavesAlone (length g.rows) g (replicate (length g.rows) unchanged ++ cs)
+alone_before g cs b = record {
+  closed = λ k h. below_at (length g.rows) g.rows k b h;
+  alone = λ k h x. ap (λ (c : Change). c.to_written x) (change_before (length g.rows) cs k h);
+}

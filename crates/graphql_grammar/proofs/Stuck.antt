@@ -69,7 +69,7 @@ fits-weaker g good check w fits_stop = fits_stop
 fits-weaker g good check w (fits_more p q) = fits_more (fits-weaker g good check w p) (fits-weaker g good check w q)
 fits-weaker g good check w (fits_node {k = k} {x = x} p c) = fits_node (fits-weaker g good check w p) (w.1 k x c)
 
-fits-lax : (g : Grammar) {e : Expr} {x : Shape} → Fits g e x → Fits (lax g) e x
+pub fits-lax : (g : Grammar) {e : Expr} {x : Shape} → Fits g e x → Fits (lax g) e x
 fits-lax g h = fits-weaker g (λ c t. true) (λ k x. true) (λ c t i. refl, λ k x i. refl) h
 
 pub fits-unchecked : (g : Grammar) {e : Expr} {x : Shape} → Fits g e x → Fits (unchecked g) e x

@@ -2,6 +2,7 @@
 use Rattle.std.specs.Prelude.{◌≡◌, ◌<◌, ℕ, Bool, true, ◌&&◌, nat_lt, List}
 use Rattle.graphql_grammar.specs.Tokens.{Token, Class}
 use Rattle.graphql_grammar.specs.Trees.{Expr, Empty, One, Then, Either, Many, Sym, Shape, Row, Grammar, row_at, Derives}
+use Rattle.graphql_grammar.specs.Factored.{Change, change_at}
 use Rattle.graphql_grammar.specs.Reading.{Takes, Reason, Fails}
 
 -- an expression names only symbols below n
@@ -19,6 +20,11 @@ pub record Extends (n : ℕ) (g h : Grammar) : Type 0 where
   pub closed : (k : ℕ) → k < n → is_below n (row_at g.rows k).rule ≡ true
   pub good : (c : Class) (t : Token) → h.good c t ≡ g.good c t
   pub check : (k : ℕ) (x : Shape) → k < n → h.check k x ≡ g.check k x
+
+-- g's first n rules name only these symbols, whose trees no change touches
+pub record LeavesAlone (n : ℕ) (g : Grammar) (cs : List Change) : Type 0 where
+  pub closed : (k : ℕ) → k < n → is_below n (row_at g.rows k).rule ≡ true
+  pub alone : (k : ℕ) → k < n → (x : Shape) → (change_at cs k).to_written x ≡ x
 
 -- what is read by g is read alike by h
 pub record ReadsOn (g h : Grammar) (e : Expr) : Type 0 where

@@ -1,9 +1,10 @@
 -- A written grammar, and a second list of rules for the same symbols, which one item of lookahead can read.
 use Rattle.std.specs.Prelude.{◌≡◌, ℕ, zero, suc, false, List, [], ◌∷◌, ◌++◌}
-use Rattle.graphql_grammar.specs.Tokens.{Token}
+use Rattle.graphql_grammar.specs.Tokens.{Token, Class}
 use Rattle.graphql_grammar.specs.Trees.{Expr, Shape, Nothing, Leaf, Both, First, Second, Stop, More, Node, Row, Grammar, row_at, leaves, peek, Fits, Derives, Begins, Ends}
 use Rattle.graphql_grammar.specs.Tables.{cont}
-use Rattle.graphql_grammar.specs.Reading.{sees, Takes, Reason, Fails, unchecked}
+use Rattle.graphql_grammar.specs.Reading.{sees, Takes, Reason, Unexpected, Improper, Fails, unchecked, lax}
+use Rattle.graphql_grammar.specs.Theorems.{IsValue}
 
 -- a tree of one symbol's second rule as one of its written rule, and back
 pub record Change : Type 0 where
@@ -88,9 +89,32 @@ out_of_prefix k = record { to_written = spread; to_second = gather }
     gather (Both (Second z) (Both n r)) = Both n (Both (Second z) r)
     gather s = s
 
+-- two symbols j and k whose rules have the same head
+abbrev pub out_of_symbols : ℕ → ℕ → Change
+out_of_symbols j k = record { to_written = spread; to_second = gather }
+  where
+    spread : Shape → Shape
+    spread (Both h (First x)) = First (Node j (Both h x))
+    spread (Both h (Second y)) = Second (Node k (Both h y))
+    spread s = s
+
+    gather : Shape → Shape
+    gather (First (Node i (Both h x))) = Both h (First x)
+    gather (Second (Node i (Both h y))) = Both h (Second y)
+    gather s = s
+
+-- The first place where no list of the written grammar goes on. But for the checks of trees, some list goes on up to there.
+pub record IsFirstFaultFor (g : Grammar) (e : Expr) (ts : List Token) (why : Reason) (us : List Token) : Type 0 where
+  pub front : List Token
+  pub parts : ts ≡ front ++ us
+  pub begins : Begins (unchecked g) e front
+  pub ends : Ends g e front (peek us)
+  pub value : (c : Class) → why ≡ Improper c → IsValue g e front c us
+  pub unexpected : why ≡ Unexpected → Ends (lax g) e front (peek us)
+
 -- The reader of the second grammar answers what the written grammar g derives.
 pub record IsExactFor (g : Grammar) (rs : List Row) (cs : List Change) (e : Expr) : Type 0 where
   pub sound : (ts us : List Token) (x : Shape) → Takes (with_rows g rs cs) e ts x us → Derives g e (leaves x) (written cs x) × (ts ≡ leaves x ++ us)
   pub complete : (ts rest : List Token) (y : Shape) → Derives g e ts y → sees (cont rs e) (peek rest) ≡ false → (x : Shape) × Takes (with_rows g rs cs) e (ts ++ rest) x rest × (written cs x ≡ y)
   pub unambiguous : (ts : List Token) (x y : Shape) → Derives g e ts x → Derives g e ts y → x ≡ y
-  pub earliest : (ts us : List Token) (why : Reason) → Fails (with_rows g rs cs) e ts why us → (front : List Token) × (ts ≡ front ++ us) × Begins (unchecked g) e front × Ends g e front (peek us)
+  pub earliest : (ts us : List Token) (why : Reason) → Fails (with_rows g rs cs) e ts why us → IsFirstFaultFor g e ts why us

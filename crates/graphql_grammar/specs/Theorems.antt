@@ -36,8 +36,8 @@ pub record IsFirstFault (g : Grammar) (e : Expr) (ts : List Token) (why : Reason
 pub record IsExact (g : Grammar) (e : Expr) : Type 0 where
   -- what is taken is derived, and stands at the front
   pub sound : (ts us : List Token) (x : Shape) → Takes g e ts x us → Derives g e (leaves x) x × (ts ≡ leaves x ++ us)
-  -- no other derived list begins with it and goes on with the next item
-  pub longest : (ts us : List Token) (x : Shape) → Takes g e ts x us → (y : Shape) (more : List Token) → Derives g e (leaves x ++ more) y → peek more ≡ peek us → (y ≡ x) × (more ≡ [])
+  -- no other list, were all values good, begins with it and goes on with the next item
+  pub longest : (ts us : List Token) (x : Shape) → Takes g e ts x us → (y : Shape) (more : List Token) → Derives (lax g) e (leaves x ++ more) y → peek more ≡ peek us → (y ≡ x) × (more ≡ [])
   -- what is derived is taken, where the next item cannot go on with it
   pub complete : (ts rest : List Token) (x : Shape) → Derives g e ts x → sees (cont g.rows e) (peek rest) ≡ false → Takes g e (ts ++ rest) x rest
   -- a list has one tree

@@ -4,13 +4,13 @@
 #![tactic(auto)]
 
 ghost use Rattle.std.specs.Prelude.{◌≡◌, ℕ, List, true};
-ghost use Rattle.graphql_grammar.specs.Trees.{Expr, Empty, Then, Either, Sym, Shape, Row, Grammar, row_at};
+ghost use Rattle.graphql_grammar.specs.Trees.{Expr, Empty, Then, Either, Sym, Shape, Row, Grammar, Fits, row_at};
 ghost use Rattle.graphql_grammar.specs.Tables.{is_ll1, is_productive, decides, has_samples};
-ghost use Rattle.graphql_grammar.specs.Reading.{unchecked};
+ghost use Rattle.graphql_grammar.specs.Reading.{unchecked, lax};
 ghost use Rattle.graphql_grammar.specs.Theorems.{IsExact, ReadsAlike};
 ghost use Rattle.graphql_grammar.specs.Texts.{IsWhole, IsWholeFor};
-ghost use Rattle.graphql_grammar.specs.Extended.{Extends, ReadsOn, is_below};
-ghost use Rattle.graphql_grammar.specs.Factored.{Change, change_at, unchanged, out_of_head, in_second, out_of_prefix, with_rows, IsSecond, AreSecond, EachIsSecond, IsExactFor};
+ghost use Rattle.graphql_grammar.specs.Extended.{Extends, ReadsOn, LeavesAlone, is_below};
+ghost use Rattle.graphql_grammar.specs.Factored.{Change, change_at, unchanged, out_of_head, in_second, out_of_prefix, out_of_symbols, written, with_rows, IsSecond, AreSecond, EachIsSecond, IsExactFor};
 
 /// A grammar whose tables pass the test is read with one item of lookahead, exactly.
 pub fn reading()
@@ -23,15 +23,16 @@ pub fn reading()
 
 /// A written grammar is read exactly by second rules for its symbols whose tables pass the test.
 pub fn factored()
-    ensures exact { (g : Grammar) (rs : List Row) (cs : List Change) → EachIsSecond g rs cs → EachIsSecond (unchecked g) rs cs
+    ensures exact { (g : Grammar) (rs : List Row) (cs : List Change) → EachIsSecond g rs cs → EachIsSecond (unchecked g) rs cs → EachIsSecond (lax g) rs cs
         → is_ll1 rs ≡ true → is_productive (with_rows g rs cs) ≡ true
         → (e : Expr) → decides rs e ≡ true → has_samples (with_rows g rs cs) e ≡ true → IsExactFor g rs cs e }
-    ensures whole { (g : Grammar) (rs : List Row) (cs : List Change) → EachIsSecond g rs cs → EachIsSecond (unchecked g) rs cs
+    ensures whole { (g : Grammar) (rs : List Row) (cs : List Change) → EachIsSecond g rs cs → EachIsSecond (unchecked g) rs cs → EachIsSecond (lax g) rs cs
         → is_ll1 rs ≡ true → is_productive (with_rows g rs cs) ≡ true
         → (e : Expr) → decides rs e ≡ true → has_samples (with_rows g rs cs) e ≡ true → IsWholeFor g rs cs e }
 {}
 
-/// Ways to find second rules: none, out of the head of both sides, in the second side, out of an optional prefix.
+/// Ways to find second rules: none, out of the head of both sides, in the second side, out of an optional prefix,
+/// out of the heads of two symbols.
 pub fn second_rules()
     ensures each { (g : Grammar) (rs : List Row) (cs : List Change) → AreSecond g rs cs g.rows rs cs → EachIsSecond g rs cs }
     ensures same { (g : Grammar) (rs : List Row) (cs : List Change) (e : Expr) → IsSecond g rs cs e e unchanged }
@@ -43,9 +44,15 @@ pub fn second_rules()
         → (row_at g.rows k).rule ≡ Then n c → (row_at rs k).rule ≡ Then n c
         → ((x : Shape) → (change_at cs k).to_written x ≡ x) → ((x : Shape) → g.check k x ≡ true)
         → IsSecond g rs cs (Then (Either (Sym k) Empty) (Then n r)) (Then n (Then (Either (Then c n) Empty) r)) (out_of_prefix k) }
+    ensures symbols { (g : Grammar) (rs : List Row) (cs : List Change) (j k : ℕ) (d p q : Expr)
+        → (row_at g.rows j).rule ≡ Then d p → (row_at rs j).rule ≡ Then d p → (row_at g.rows k).rule ≡ Then d q → (row_at rs k).rule ≡ Then d q
+        → ((x : Shape) → (change_at cs j).to_written x ≡ x) → ((x : Shape) → (change_at cs k).to_written x ≡ x) → ((i : ℕ) (x : Shape) → g.check i x ≡ true)
+        → IsSecond g rs cs (Either (Sym j) (Sym k)) (Then d (Either p q)) (out_of_symbols j k) }
 {}
 
-/// What a grammar reads, a grammar that goes on from it reads alike.
+/// What a grammar reads, a grammar that goes on from it reads alike; second rules for other symbols leave its trees alone.
 pub fn extended()
-    ensures { (n : ℕ) (g h : Grammar) → Extends n g h → (e : Expr) → is_below n e ≡ true → ReadsOn g h e }
+    ensures on { (n : ℕ) (g h : Grammar) → Extends n g h → (e : Expr) → is_below n e ≡ true → ReadsOn g h e }
+    ensures alone { (n : ℕ) (g : Grammar) (cs : List Change) → LeavesAlone n g cs → (e : Expr) → is_below n e ≡ true
+        → (x : Shape) → Fits g e x → written cs x ≡ x }
 {}

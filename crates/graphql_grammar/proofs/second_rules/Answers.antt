@@ -1,5 +1,5 @@
-use Rattle.graphql_grammar.proofs.Carried.{each_is_second, IsSecond-unchanged, IsSecond-head, IsSecond-second, IsSecond-prefix}
+use Rattle.graphql_grammar.proofs.Carried.{each_is_second, IsSecond-unchanged, IsSecond-head, IsSecond-second, IsSecond-prefix, IsSecond-symbols}
 use Rattle.graphql_grammar.proofs.second_rules.Goals as goal
 
 pub returns : goal.returns
-returns c = record { each = each_is_second; same = IsSecond-unchanged; head = IsSecond-head; second = IsSecond-second; prefix = IsSecond-prefix }
+returns c = record { each = each_is_second; same = IsSecond-unchanged; head = IsSecond-head; second = IsSecond-second; prefix = IsSecond-prefix; symbols = IsSecond-symbols }
