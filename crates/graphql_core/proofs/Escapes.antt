@@ -27,7 +27,7 @@ digit_small c h = grind (arith, nat_tests)
 digit_no_plus : (c : ℕ) → is_ascii_hexdigit c ≡ true → c ≢ 43
 digit_no_plus c h e = grind (arith, nat_tests)
 
-all_digits : (ds : List ℕ) → list_all is_ascii_hexdigit ds ≡ true → AllDigits 16 ds
+pub all_digits : (ds : List ℕ) → list_all is_ascii_hexdigit ds ≡ true → AllDigits 16 ds
 all_digits [] h = tt
 all_digits (c ∷ cs) h =
     let (here, others) = and_parts (is_ascii_hexdigit c) (list_all is_ascii_hexdigit cs) h in

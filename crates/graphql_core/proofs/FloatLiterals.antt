@@ -159,7 +159,7 @@ no_dot r b rest text e other test = (λ h. exponent text (sym test ∙ h), λ h.
 leading_digit : (b : ℕ) → (is_in 49 57 b) ≡ true → is_ascii_digit b ≡ true
 leading_digit b h = grind (arith, nat_tests)
 
-natural_digits : (xs : List ℕ) → is_natural xs ≡ true → list_all is_ascii_digit xs ≡ true
+pub natural_digits : (xs : List ℕ) → is_natural xs ≡ true → list_all is_ascii_digit xs ≡ true
 natural_digits [] h = absurd (false≢true h)
 natural_digits (b ∷ []) h = and_from (is_ascii_digit b) true h refl
 natural_digits (b ∷ c ∷ cs) h =

@@ -8,9 +8,7 @@ pub mod Runs
 pub mod Numbers
 pub mod Positions
 pub mod Nested
+pub mod Room
 pub mod Escapes
 pub mod BlockLines
 pub mod FloatLiterals
-pub mod Members
-pub mod Viewed
-pub mod Cloned

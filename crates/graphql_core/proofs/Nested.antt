@@ -1,6 +1,7 @@
 -- What the tokens of a text are, and how deep their brackets are nested.
-use Rattle.std.proofs.Common.{◌≡◌, ℕ, zero, suc, ◌+◌, Bool, true, false, cond, ◌||◌, ◌&&◌, ◌==◌, List, [], ◌∷◌, ◌++◌, length, refl, sym, ap₂, ◌∙◌, subst, arith, inl, inr, codes, eqb-true}
+use Rattle.std.proofs.Common.{◌≡◌, ℕ, zero, suc, ◌+◌, Bool, true, false, cond, ◌||◌, ◌&&◌, ◌==◌, List, [], ◌∷◌, ◌++◌, length, All, refl, sym, ap₂, ◌∙◌, subst, arith, inl, inr, codes, eqb-true}
 use Rattle.std.proofs.lemmas.Bool.Decides.{nat_tests}
+use Rattle.std.proofs.lemmas.List.Elements.{All-nil, All-cons}
 use Rattle.std.proofs.lemmas.Bool.{cases_Bool, and_parts, or_cases, false_from_ne_true, eq-eqb, both_ways}
 use Rattle.graphql_grammar.specs.Tokens.{Token, Place, Class, Spelled, kind_of, takes_spelling, matches, in_any, apart_from, within_any}
 use Rattle.graphql_grammar.specs.Trees.{Shape, Nothing, Leaf, Both, First, Second, Stop, More, Node, leaves}
@@ -12,7 +13,7 @@ use Rattle.graphql_core.specs.declared.tokenizer.piece.Nesting.TheVariants.{Leve
 use Rattle.graphql_core.specs.Causes.{kind_number}
 use Rattle.graphql_core.specs.Lexical.{IsName, Meaning, Ignored, Word, Stands, name, mark, spread, integer, float, string, block_string, Piece, IsCutInto, is_opener, is_closer}
 use Rattle.graphql_core.specs.Items.{Where, Item, HasItems, start, past_ignored, past_token, is_full, last_item, piece_then, items_of}
-use Rattle.graphql_core.specs.Source.{split, place_of}
+use Rattle.graphql_core.specs.Source.{split, place_of, IsLexeme}
 
 -- ---- what a token does to the depth
 
@@ -24,10 +25,6 @@ closings = Spelled (kind_number Punctuator) (codes ")") ∷ Spelled (kind_number
 
 abbrev pub nesting_of : Token → Nesting
 nesting_of t = cond (in_any openings t) Opens (cond (in_any closings t) Closes Level)
-
--- it is a token of the lexical grammar
-abbrev pub IsLexeme : Token → Type 0
-IsLexeme t = (k : Kind) × (s : Nesting) × (rest : List ℕ) × (t.kind ≡ kind_number k) × Stands t.spelling (Word k s) rest
 
 -- P holds of how many brackets may still be opened behind a token, where n may be opened before it
 abbrev pub Past : Nesting → ℕ → (ℕ → Type 0) → Type 0
@@ -112,6 +109,19 @@ nests_items (q ∷ qs) text stop (rest, is, st, cut) w n e = nests_piece q.meani
 -- at most 50 brackets are open among the tokens of a text
 pub nests : (text : List ℕ) (items : List Item) → HasItems text items → Nests (split items).tokens 50 Anything
 nests text items (ps, stop, cut, e) = rw e (nests_items ps text stop cut start 50 refl)
+
+past_inside : (s : Nesting) (n : ℕ) (P : ℕ → Type 0) → Past s n P → (m : ℕ) × P m
+past_inside Level n P h = (n, h)
+past_inside Opens n P (m, e, h) = (m, h)
+past_inside Closes n P h = (suc n, h)
+
+nests-lexemes : (ts : List Token) (n : ℕ) (P : ℕ → Type 0) → Nests ts n P → All IsLexeme ts
+nests-lexemes [] n P h = All-nil IsLexeme
+nests-lexemes (t ∷ ts) n P (l, h) = let (m, more) = past_inside (nesting_of t) n _ h in All-cons IsLexeme t ts l (nests-lexemes ts m P more)
+
+-- the tokens of a text are of the lexical grammar
+pub lexemes : (text : List ℕ) (items : List Item) → HasItems text items → All IsLexeme (split items).tokens
+lexemes text items has = nests-lexemes _ 50 Anything (nests text items has)
 
 -- ---- from a list of tokens to its tree
 

@@ -10,9 +10,8 @@ pub mod Joined
 pub mod Causes
 pub mod Source
 pub mod Style
+pub mod Parts
 pub mod Matching
 pub mod Strings
 pub mod BlockStrings
 pub mod Literals
-pub mod Values
-pub mod ValueViews

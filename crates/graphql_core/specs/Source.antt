@@ -8,6 +8,8 @@ use Rattle.graphql_core.specs.declared.tokenizer.token.Token.{Token as Cut}
 use Rattle.graphql_core.specs.declared.common.fault.Fault.{Fault}
 use Rattle.graphql_core.specs.declared.common.fault.Fault.TheVariants as fault
 use Rattle.graphql_core.specs.declared.helpers.source.Lexeme.{Lexeme}
+use Rattle.graphql_core.specs.declared.tokenizer.piece.Nesting.{Nesting}
+use Rattle.graphql_core.specs.Lexical.{Stands, Word}
 use Rattle.graphql_core.specs.Items.{Item, Content}
 use Rattle.graphql_core.specs.Items as items
 use Rattle.graphql_core.specs.Causes.{CauseText, kind_number, cause_text, bad_text}
@@ -57,6 +59,10 @@ abbrev pub Peeks : {T : Type 0} → (T → List ℕ) → Option (Lexeme T) → I
 Peeks bytes (Some t) i = i.tokens ≡ lexeme_token bytes t ∷ drop 1 i.tokens
 Peeks bytes None i = i.tokens ≡ []
 
+-- it is a token of the lexical grammar
+abbrev pub IsLexeme : Token → Type 0
+IsLexeme t = (k : Kind) × (s : Nesting) × (rest : List ℕ) × (t.kind ≡ kind_number k) × Stands t.spelling (Word k s) rest
+
 abbrev pub IsEnd : Last → Type 0
 IsEnd (End p) = Unit {0}
 IsEnd (Wrong p b) = ⊥
@@ -86,6 +92,10 @@ fault_by [] (Wrong p b) = record { cause = b; place = p }
 -- the fault of the next item, where it may not stand there
 abbrev pub fault_at : Items → FaultText
 fault_at i = fault_by i.tokens i.last
+
+-- where the next item begins
+abbrev pub place_next : Items → Place
+place_next i = (fault_at i).place
 
 -- memory ran out, or it is the fault of the next item
 abbrev pub IsFaultOf : Items → Fault → Type 0

@@ -5,5 +5,5 @@ mod matching;
 mod source;
 
 pub use cursor::Cursor;
-pub use matching::{name, punctuator, sees_name, sees_punctuator};
+pub use matching::{keyword, name, punctuator, sees_keyword, sees_name, sees_punctuator};
 pub use source::{Lexeme, TokenSource};

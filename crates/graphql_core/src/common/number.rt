@@ -135,7 +135,7 @@ impl Model for Number {
 
 impl Number {
     /// The number of this value.
-    pub(crate) fn from_i64(value: i64) -> Number
+    pub fn from_i64(value: i64) -> Number
         ensures { result ≡ value }
     {
         Number(value)

@@ -1,6 +1,6 @@
 //! The style of a text.
 ghost use Rattle.std.specs.Prelude.{◌≡◌, ℕ, ◌<◌, ◌^◌};
-ghost use Rattle.graphql_core.specs.Style.{default_style};
+ghost use Rattle.graphql_core.specs.Style.{default_style, with_indent, with_multiline};
 
 use std::marker::Model;
 
@@ -8,6 +8,7 @@ use std::marker::Model;
 #[derive(Clone, Debug, PartialEq, Drop)]
 pub struct Style {
     indent: u32,
+    multiline_arguments: bool,
 }
 
 impl Model for Style {
@@ -16,19 +17,40 @@ impl Model for Style {
 
     ghost Value = { spec.Layout };
 
-    ghost view = { λ s. record { indent = s.indent } };
+    ghost view = { λ s. record { indent = s.indent; multiline = s.multiline_arguments } };
 
     ghost invariant = { λ s. s.indent < 2 ^ 32 };
 
-    ghost inverse = { λ s. record { indent = s.indent } };
+    ghost inverse = { λ s. record { indent = s.indent; multiline_arguments = s.multiline } };
 }
 
 impl Style {
-    /// Two spaces a level.
+    /// Two spaces a level, and arguments in one line.
     pub fn default() -> Self
         ensures { result ≡ default_style }
     {
-        Style { indent: 2 }
+        Style {
+            indent: 2,
+            multiline_arguments: false,
+        }
+    }
+
+    /// Sets the spaces by which each level is indented, and answers the same style.
+    pub fn indent(&mut self, indent: u32) -> &mut Self
+        ensures same { result.ghost_name ≡ self.entry.ghost_name }
+        ensures indent { result.now ≡ with_indent self.old indent }
+    {
+        self.indent = indent;
+        self
+    }
+
+    /// Sets whether arguments, lists and objects take a line for each part, and answers the same style.
+    pub fn multiline_arguments(&mut self, multiline_arguments: bool) -> &mut Self
+        ensures same { result.ghost_name ≡ self.entry.ghost_name }
+        ensures multiline { result.now ≡ with_multiline self.old multiline_arguments }
+    {
+        self.multiline_arguments = multiline_arguments;
+        self
     }
 
     /// The spaces by which each level is indented.
@@ -36,5 +58,12 @@ impl Style {
         ensures { result ≡ self.now.indent }
     {
         self.indent
+    }
+
+    /// Whether arguments, lists and objects take a line for each part.
+    pub fn has_multiline_arguments(&self) -> bool
+        ensures { result ≡ self.now.multiline }
+    {
+        self.multiline_arguments
     }
 }

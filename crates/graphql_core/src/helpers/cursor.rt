@@ -21,11 +21,14 @@ pub struct Cursor<'a, T: Text<'a>> {
 }
 
 impl<'a, T: Text<'a>> Model for Cursor<'a, T> {
-    ghost use Rattle.graphql_core.specs.Source.{Items, split, held};
+    ghost use Rattle.std.specs.Prelude.{All};
+    ghost use Rattle.graphql_core.specs.Source.{Items, IsLexeme, split, held};
 
     ghost Value = { Items };
 
     ghost view = { λ c. held c.position c.next (split c.stream.items) };
+
+    ghost invariant = { λ c. All IsLexeme (held c.position c.next (split c.stream.items)).tokens };
 }
 
 impl<'a, T: Text<'a>> Cursor<'a, T> {
@@ -106,6 +109,10 @@ impl<'a, T: Text<'a>> TokenSource for Cursor<'a, T> {
             }),
             _ => None,
         }
+    }
+
+    fn position(&self) -> Pos {
+        self.position
     }
 
     fn is_at_end(&self) -> bool {

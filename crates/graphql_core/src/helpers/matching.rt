@@ -22,6 +22,16 @@ fn is_punctuator<S: TokenSource>(token: &Lexeme<S::Text>, spelling: &str) -> boo
     }
 }
 
+/// Whether a token is the name of this spelling.
+fn is_keyword<S: TokenSource>(token: &Lexeme<S::Text>, spelling: &str) -> bool
+    ensures { result ≡ matches (Spelled (kind_number Name) spelling.now) (lexeme_token S.bytes token.now) }
+{
+    match token.kind {
+        Kind::Name => S::as_str(&token.text) == spelling,
+        _ => false,
+    }
+}
+
 /// Whether a token is a name.
 fn is_name<S: TokenSource>(token: &Lexeme<S::Text>) -> bool
     ensures { result ≡ matches (AnyOf (kind_number Name)) (lexeme_token S.bytes token.now) }
@@ -35,6 +45,16 @@ pub fn sees_punctuator<S: TokenSource>(source: &S, spelling: &str) -> bool
 {
     match source.peek() {
         Some(token) => is_punctuator::<S>(&token, spelling),
+        None => false,
+    }
+}
+
+/// Whether the next item is the name of this spelling.
+pub fn sees_keyword<S: TokenSource>(source: &S, spelling: &str) -> bool
+    ensures { result ≡ sees_class (Spelled (kind_number Name) spelling.now) (S.items source.now) }
+{
+    match source.peek() {
+        Some(token) => is_keyword::<S>(&token, spelling),
         None => false,
     }
 }
@@ -60,6 +80,20 @@ pub fn punctuator<S: TokenSource>(
 {
     match source.peek() {
         Some(token) if is_punctuator::<S>(&token, spelling) => {
+            source.advance();
+            Ok(token.position)
+        }
+        _ => Err(source.fault(alloc)),
+    }
+}
+
+/// Takes the name of this spelling, and answers its position.
+pub fn keyword<S: TokenSource>(alloc: Global, source: &mut S, spelling: &str) -> Result<Pos, Fault>
+    ensures { TakesOne (Spelled (kind_number Name) spelling.now) (S.items source.old) (S.items source.new)
+        (λ p t. t.place ≡ place_of p) result }
+{
+    match source.peek() {
+        Some(token) if is_keyword::<S>(&token, spelling) => {
             source.advance();
             Ok(token.position)
         }

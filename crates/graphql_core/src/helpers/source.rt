@@ -17,8 +17,8 @@ pub struct Lexeme<T> {
 
 /// The items of a text, the next of which can be looked at.
 pub trait TokenSource {
-    ghost use Rattle.std.specs.Prelude.{ℕ, List, ◌≡◌, IfOk, IsTrue, ◌↔◌};
-    ghost use Rattle.graphql_core.specs.Source.{Items, Peeks, IsAtEnd, IsFaultOf, after};
+    ghost use Rattle.std.specs.Prelude.{ℕ, List, ◌≡◌, IfOk, IfSome, IsTrue, ◌↔◌};
+    ghost use Rattle.graphql_core.specs.Source.{Items, place_of, place_next, Peeks, IsLexeme, IsAtEnd, IsFaultOf, after, lexeme_token};
 
     /// A token's spelling.
     type Text: Copy;
@@ -34,7 +34,12 @@ pub trait TokenSource {
 
     /// The next item, where it is a token.
     fn peek(&self) -> Option<Lexeme<Self::Text>>
-        ensures { Peeks bytes result (items self.now) };
+        ensures next { Peeks bytes result (items self.now) }
+        ensures lexeme { IfSome result (λ t. IsLexeme (lexeme_token bytes t)) };
+
+    /// Where the next item begins.
+    fn position(&self) -> Pos
+        ensures { place_of result ≡ place_next (items self.now) };
 
     /// Whether the next item is the end.
     fn is_at_end(&self) -> bool

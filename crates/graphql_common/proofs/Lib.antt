@@ -1,0 +1,15 @@
+pub mod Members
+pub mod Viewed
+pub mod Cloned
+pub mod Reading
+pub mod Choices
+pub mod Sides
+pub mod StringValues
+pub mod LeafValues
+pub mod LeafSteps
+pub mod PlainChoices
+pub mod Laying
+pub mod Quoting
+pub mod Enclosing
+pub mod Leaves
+pub mod Printable

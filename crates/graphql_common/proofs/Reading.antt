@@ -1,0 +1,189 @@
+-- The steps of readers, for every grammar: single tokens, choices, and loops.
+use Rattle.std.proofs.Common.{◌≡◌, Bool, true, false, List, [], ◌∷◌, ◌++◌, map, Result, Ok, Err, IsErrAnd, Option, Some, None, refl, sym, ap, ap₂, subst, ◌∙◌, append_assoc, inl, inr}
+use Rattle.std.proofs.lemmas.Bool.{and_from, cases_Bool}
+use Rattle.graphql_grammar.specs.Tokens.{Token, Class, matches}
+use Rattle.graphql_grammar.specs.Trees.{Expr, Empty, One, Then, Either, Many, Shape, Nothing, Leaf, Both, First, Second, Stop, More, Row, Grammar, optional, some_of}
+use Rattle.graphql_grammar.specs.Trees as trees
+use Rattle.graphql_grammar.specs.Tables.{nullable, first}
+use Rattle.graphql_grammar.specs.Reading.{sees, choose, Left, Right, Takes, takes_nothing, takes_leaf, takes_both, takes_first, takes_second, takes_stop, takes_more, Reason, Unexpected, Fails, fails_one, fails_before, fails_after, fails_first, fails_second, fails_neither, fails_turn}
+use Rattle.graphql_grammar.specs.Words.{TakesSome, Stops, Turns, values}
+use Rattle.graphql_grammar.proofs.Items.{sees-parts}
+use Rattle.graphql_grammar.proofs.Same.{take-or_fail, same-fail}
+use Rattle.graphql_grammar.proofs.Turning.{exits, Stops-first, Stops-after, Turns-stop, picks-first, picks-neither}
+use Rattle.graphql_core.specs.declared.common.cause.Cause.{Cause}
+use Rattle.graphql_core.specs.declared.common.cause.Cause.TheVariants as cause
+use Rattle.graphql_core.specs.declared.common.fault.Fault.{Fault}
+use Rattle.graphql_core.specs.declared.common.fault.Fault.TheVariants.{OutOfMemory, At}
+use Rattle.graphql_core.specs.declared.position.Pos.{Pos}
+use Rattle.graphql_core.specs.Causes.{cause_text, unexpected_token, int_out_of_range, malformed_float, bad_escape}
+use Rattle.graphql_core.specs.Source.{Items, Last, FaultText, fault_by, place_of}
+use Rattle.graphql_core.specs.Matching.{TakesToken, TakesOne}
+use Rattle.graphql_common.specs.Gives.{Gives, reason_by, reason_of, IsFaultLeft}
+
+-- ---- single tokens
+
+-- a token that a match takes is a leaf, where every token of its class has a value
+pub takes_one : (g : Grammar) (c : Class) (old new : Items) (t : Token) → g.good c t ≡ true → TakesToken c old new t → Takes g (One c) old.tokens (Leaf t) new.tokens
+takes_one g c old new t good h = subst (λ (ts : List Token). Takes g (One c) ts (Leaf t) new.tokens) (sym h.tokens) (takes_leaf (and_from (matches c t) (g.good c t) h.of_class good))
+
+-- what a match leaves that takes nothing
+abbrev pub TakesNone : Class → Items → Items → Fault → Type 0
+TakesNone c old new e = TakesOne {A = Unit {0}} c old new (λ v t. Unit {0}) (Err e)
+
+-- a token that may not stand there has a cause of its own
+pub unexpected_by : (ts : List Token) (l : Last) (c : Cause) (p : Pos) → record { cause = cause_text c; place = place_of p } ≡ fault_by ts l → reason_by ts c ≡ Unexpected
+unexpected_by [] l c p h = refl
+unexpected_by (t ∷ ts) l (cause.BadToken b) p h = refl
+unexpected_by (t ∷ ts) l (cause.UnexpectedToken k s) p h = refl
+unexpected_by (t ∷ ts) l cause.UnexpectedEnd p h = refl
+unexpected_by (t ∷ ts) l cause.TooDeep p h = refl
+unexpected_by (t ∷ ts) l cause.IntOutOfRange p h = let e : int_out_of_range ≡ unexpected_token t.kind t.spelling = ap (λ (f : FaultText). f.cause) h in absurd cc
+unexpected_by (t ∷ ts) l cause.MalformedFloat p h = let e : malformed_float ≡ unexpected_token t.kind t.spelling = ap (λ (f : FaultText). f.cause) h in absurd cc
+unexpected_by (t ∷ ts) l cause.BadEscape p h = let e : bad_escape ≡ unexpected_token t.kind t.spelling = ap (λ (f : FaultText). f.cause) h in absurd cc
+unexpected_by (t ∷ ts) l cause.UnknownLocation p h = refl
+unexpected_by (t ∷ ts) l (cause.DuplicateOperation s) p h = refl
+unexpected_by (t ∷ ts) l (cause.UnknownOperation s) p h = refl
+unexpected_by (t ∷ ts) l cause.EmptyExtension p h = refl
+unexpected_by (t ∷ ts) l cause.TextTooLong p h = refl
+unexpected_by (t ∷ ts) l cause.OutOfMemory p h = refl
+
+-- its error is the theory's
+pub stops_one : (g : Grammar) (c : Class) (old new : Items) (e : Fault) → TakesNone c old new e → Stops g (One c) old.tokens new.tokens (reason_of new e)
+stops_one g c old new OutOfMemory h = tt
+stops_one g c old new (At cause p) (same, unseen, fault) = rw (same, unexpected_by old.tokens old.last cause p fault) (fails_one unseen)
+
+-- and the fault of the item that stays
+pub fault_one : (c : Class) (old new : Items) (e : Fault) → TakesNone c old new e → IsFaultLeft new e
+fault_one c old new OutOfMemory h = tt
+fault_one c old new (At cause p) (same, unseen, fault) = rw (same, unexpected_by old.tokens old.last cause p fault) fault
+
+pub last_one : (c : Class) (old new : Items) (e : Fault) → TakesNone c old new e → new.last ≡ old.last
+last_one c old new OutOfMemory h = ap (λ (i : Items). i.last) h
+last_one c old new (At cause p) h = ap (λ (i : Items). i.last) h.0
+
+-- ---- choices where one side is left
+
+-- The expression is not read where the next item is none of its first: it fails there.
+abbrev pub FailsUnseen : Grammar → Expr → List Token → Type 0
+FailsUnseen g a ts = sees (first g.rows a) (trees.peek ts) ≡ false → Fails g a ts Unexpected ts
+
+pub unseen_one : (g : Grammar) (c : Class) (ts : List Token) → FailsUnseen g (One c) ts
+unseen_one g c ts h = fails_one h
+
+pub unseen_then : (g : Grammar) (a b : Expr) (ts : List Token) → nullable g.rows a ≡ false → FailsUnseen g a ts → FailsUnseen g (Then a b) ts
+unseen_then g a b ts n f h = fails_before (f (sees-parts (first g.rows a) _ (trees.peek ts) h).0)
+
+pub unseen_either : (g : Grammar) (a b : Expr) (ts : List Token) → nullable g.rows a ≡ false → nullable g.rows b ≡ false → FailsUnseen g (Either a b) ts
+unseen_either g a b ts n m h = fails_neither (picks-neither g.rows a b (trees.peek ts) n m h)
+
+-- what is taken begins with one of its first
+pub takes_seen : (g : Grammar) (a : Expr) (ts us : List Token) (x : Shape) → FailsUnseen g a ts → Takes g a ts x us → sees (first g.rows a) (trees.peek ts) ≡ true
+takes_seen g a ts us x f h = elim (cases_Bool (sees (first g.rows a) (trees.peek ts))) [ inl seen ↦ seen | inr unseen ↦ absurd (take-or_fail g h (f unseen)) ]
+
+-- a reader of an expression stops where it is seen, or where it is not
+stops_cases : (g : Grammar) (a e : Expr) (ts ss us : List Token) (why : Reason) → FailsUnseen g a ts
+    → (sees (first g.rows a) (trees.peek ts) ≡ true → Fails g e ss why us) → (sees (first g.rows a) (trees.peek ts) ≡ false → Fails g e ss Unexpected ts) → Fails g a ts why us → Fails g e ss why us
+stops_cases g a e ts ss us why f where_seen elsewhere h =
+    elim (cases_Bool (sees (first g.rows a) (trees.peek ts))) [
+      | inl seen ↦ where_seen seen
+      | inr unseen ↦ let (reason, place) = same-fail g h (f unseen) in rw (reason, place) (elsewhere unseen)
+    ]
+
+-- the second side is not seen: the first is taken, or fails
+pub takes_left : (g : Grammar) (a b : Expr) (ts us : List Token) (x : Shape) → FailsUnseen g a ts → Takes g a ts x us → choose g.rows a b (trees.peek ts) ≡ Left
+takes_left g a b ts us x f h = picks-first g.rows a b (trees.peek ts) (takes_seen g a ts us x f h)
+
+pub stops_left : (g : Grammar) (a b : Expr) (ts us : List Token) (o : Option Reason) → nullable g.rows a ≡ false → nullable g.rows b ≡ false → FailsUnseen g a ts
+    → sees (first g.rows b) (trees.peek ts) ≡ false → Stops g a ts us o → Stops g (Either a b) ts us o
+stops_left g a b ts us None n m f other h = tt
+stops_left g a b ts us (Some why) n m f other h =
+    stops_cases g a (Either a b) ts ts us why f (λ seen. fails_first (picks-first g.rows a b (trees.peek ts) seen) h) (λ unseen. fails_neither (rw (unseen, other, n, m) refl)) h
+
+-- the first side is not seen: the second is taken, or fails
+pub takes_right : (g : Grammar) (a b : Expr) (ts us : List Token) (x : Shape) → FailsUnseen g b ts → sees (first g.rows a) (trees.peek ts) ≡ false → Takes g b ts x us → choose g.rows a b (trees.peek ts) ≡ Right
+takes_right g a b ts us x f other h = rw (other, takes_seen g b ts us x f h) refl
+
+pub stops_right : (g : Grammar) (a b : Expr) (ts us : List Token) (o : Option Reason) → nullable g.rows a ≡ false → nullable g.rows b ≡ false → FailsUnseen g b ts
+    → sees (first g.rows a) (trees.peek ts) ≡ false → Stops g b ts us o → Stops g (Either a b) ts us o
+stops_right g a b ts us None n m f other h = tt
+stops_right g a b ts us (Some why) n m f other h =
+    stops_cases g b (Either a b) ts ts us why f (λ seen. fails_second (rw (other, seen) refl) h) (λ unseen. fails_neither (rw (other, unseen, n, m) refl)) h
+
+-- ---- what may be missing
+
+pub picks_none : (rs : List Row) (a : Expr) (item : Option Token) → nullable rs a ≡ false → sees (first rs a) item ≡ false → choose rs a Empty item ≡ Right
+picks_none rs a None n h = rw n refl
+picks_none rs a (Some t) n h = rw (h, n) refl
+
+pub takes_some : (g : Grammar) (a : Expr) (ts us : List Token) (x : Shape) → sees (first g.rows a) (trees.peek ts) ≡ true → Takes g a ts x us → Takes g (optional a) ts (First x) us
+takes_some g a ts us x seen h = takes_first (picks-first g.rows a Empty (trees.peek ts) seen) h
+
+pub takes_none : (g : Grammar) (a : Expr) (ts : List Token) → nullable g.rows a ≡ false → sees (first g.rows a) (trees.peek ts) ≡ false → Takes g (optional a) ts (Second Nothing) ts
+takes_none g a ts n unseen = takes_second (picks_none g.rows a (trees.peek ts) n unseen) takes_nothing
+
+pub stops_optional : (g : Grammar) (a : Expr) (ts us : List Token) (o : Option Reason) → sees (first g.rows a) (trees.peek ts) ≡ true → Stops g a ts us o → Stops g (optional a) ts us o
+stops_optional g a ts us o seen h = Stops-first g a Empty ts us o (picks-first g.rows a Empty (trees.peek ts) seen) h
+
+-- ---- what another reader gives
+
+-- the last step of a reader is another's
+pub gives_then : {A : Type 0} (g : Grammar) (e f : Expr) (old mid new : Items) (P Q : A → Shape → Type 0) (r : Result A Fault)
+    → ((v : A) (x : Shape) → Takes g f mid.tokens x new.tokens → P v x → TakesSome g e old.tokens new.tokens (Q v))
+    → ((o : Option Reason) → Stops g f mid.tokens new.tokens o → Stops g e old.tokens new.tokens o)
+    → Gives g f mid new P r → Gives g e old new Q r
+gives_then g e f old mid new P Q (Ok v) takes stops (x, h, p) = takes v x h p
+gives_then g e f old mid new P Q (Err d) takes stops h = stops (reason_of new d) h
+
+-- an error goes up
+pub gives_error : {A : Type 0} (g : Grammar) (e : Expr) (old new : Items) (P : A → Shape → Type 0) (r : Result A Fault) (d : Fault)
+    → Stops g e old.tokens new.tokens (reason_of new d) → IsErrAnd r (λ x. x ≡ d) → Gives g e old new P r
+gives_error g e old new P (Ok v) d stops h = absurd h
+gives_error g e old new P (Err x) d stops h = rw h stops
+
+-- ---- one after the other
+
+abbrev pub one_of : {A : Type 0} → (Shape → A) → Shape → List A
+one_of f x = f x ∷ []
+
+-- what a repetition means, by what its turns mean
+pub many_means : {A B : Type 0} (g : Grammar) (a : Expr) (f : Shape → A) (m : Shape → B) (of : List A → B) → m Stop ≡ of [] → ((x y : Shape) (vs : List A) → m y ≡ of vs → m (More x y) ≡ of (f x ∷ vs))
+    → {ts : List Token} {x : Shape} {us : List Token} → Takes g (Many a) ts x us → m x ≡ of (values (one_of f) x)
+many_means g a f m of stop more (takes_stop h) = stop
+many_means g a f m of stop more (takes_more {x = x} {y = y} h p q) = more x y (values (one_of f) y) (many_means g a f m of stop more q)
+
+pub map_push : {A B : Type 0} (f : A → B) (xs : List A) (x : A) → map f (xs ++ x ∷ []) ≡ map f xs ++ f x ∷ []
+map_push f [] x = refl
+map_push f (y ∷ ys) x = ap (λ l. f y ∷ l) (map_push f ys x)
+
+-- one more turn of a loop that pushes: f is what a value is seen as, and h what its shape means
+module _ {V A : Type 0} (f : V → A) (h : Shape → A) where
+  pub turn_more : (start found next : List V) (v : V) (items : List A) (x : Shape)
+      → next ≡ found ++ v ∷ [] → f v ≡ h x → map f found ≡ map f start ++ items → map f next ≡ map f start ++ (items ++ h x ∷ [])
+  turn_more start found next v items x push one so_far =
+      ap (map f) push ∙ map_push f found v ∙ ap₂ (λ (k l : List A). k ++ l) so_far (ap (λ (t : A). t ∷ []) one) ∙ append_assoc (map f start) items (h x ∷ [])
+
+  -- all turns of a loop that began with nothing
+  pub turns_only : (start found : List V) (items : List A) → start ≡ [] → map f found ≡ map f start ++ items → map f found ≡ items
+  turns_only start found items none so_far = so_far ∙ ap (λ (l : List V). map f l ++ items) none
+
+  -- the first, and then those of all turns
+  pub turns_all : (empty start found : List V) (v : V) (items : List A) (x : Shape)
+      → empty ≡ [] → start ≡ empty ++ v ∷ [] → f v ≡ h x → map f found ≡ map f start ++ items → map f found ≡ h x ∷ items
+  turns_all empty start found v items x none push one so_far =
+      so_far ∙ ap (λ (l : List V). map f l ++ items) (push ∙ ap (λ (l : List V). l ++ v ∷ []) none) ∙ ap (λ (t : A). t ∷ items) one
+
+-- an error behind the last turn of a loop over some_of
+pub stops_some : {A : Type 0} (g : Grammar) (a b : Expr) (f : Shape → List A) (ts start now us : List Token) (x : Shape) (items : List A) (o : Option Reason)
+    → Takes g a ts x start → Turns g a f start now items → sees (first g.rows a) (trees.peek now) ≡ false → Stops g b now us o → Stops g (Then (some_of a) b) ts us o
+stops_some g a b f ts start now us x items o h t s k = let r = Turns-stop g a f start now items t s in Stops-after g (some_of a) b ts now us (Both x r.0) o (takes_both h r.1) k
+
+-- an error in a turn of a loop that goes on until it sees what stands behind the repetition
+pub stops_until : {A : Type 0} (g : Grammar) (a : Expr) (c : Class) (f : Shape → List A) (start now us : List Token) (items : List A) (o : Option Reason) → FailsUnseen g a now
+    → Turns g a f start now items → sees (c ∷ []) (trees.peek now) ≡ false → Stops g a now us o → Stops g (Then (Many a) (One c)) start us o
+stops_until g a c f start now us items None un t s h = tt
+stops_until g a c f start now us items (Some why) un t s h =
+    stops_cases g a (Then (Many a) (One c)) now start us why un (λ seen. fails_before (t.fails why us (fails_turn seen h)))
+    (λ unseen. let r = Turns-stop g a f start now items t unseen in fails_after r.1 (fails_one s)) h
+
+-- for errors that go up
+pub ruleset reading = (exits, stops_one, fault_one, last_one)

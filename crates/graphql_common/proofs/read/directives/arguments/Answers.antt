@@ -1,0 +1,77 @@
+use Rattle.std.proofs.Common.{refl, sym, ap, ◌∙◌, [], ◌∷◌, ◌++◌, arith, append-nil}
+use Rattle.graphql_grammar.specs.Trees.{Leaf, Both, Node}
+use Rattle.graphql_grammar.specs.Reading.{takes_node, takes_both}
+use Rattle.graphql_grammar.proofs.Turning.{Stops-before, Stops-after, Stops-node, Stops-turn, Turns-start, Turns-more, Turns-stop}
+use Rattle.graphql_common.specs.declared.read.values.Sort.TheVariants.{Value}
+use Rattle.graphql_common.specs.Grammar.{core, arguments_symbol}
+use Rattle.graphql_common.specs.Meanings.{argument_of}
+use Rattle.graphql_common.specs.ValueViews.{value_view}
+use Rattle.graphql_common.proofs.Choices.{begins_pair, pairs_means}
+use Rattle.graphql_common.proofs.Reading.{takes_one, stops_one, stops_some, gives_error, one_of, turn_more, turns_all}
+use Rattle.graphql_common.proofs.read.directives.arguments.Goals as goal
+
+pub returns-in_err-punctuator-clause-reads : goal.returns-in_err-punctuator-clause-reads
+returns-in_err-punctuator-clause-reads g c =
+    let old = g.S.TokenSource.items c.args.source.now in
+    let new = g.S.TokenSource.items c.punctuator.new.source in
+    gives_error core _ old new _ _ _ (Stops-node core arguments_symbol _ _ _ (Stops-before core _ _ _ _ _ (stops_one core _ old new _ c.in_err-punctuator.ensures))) c.from_residual.ensures.1
+
+pub returns-in_err-argument-clause-reads : goal.returns-in_err-argument-clause-reads
+returns-in_err-argument-clause-reads g c =
+    let before = takes_one core _ _ _ _ refl c.in_ok-punctuator.ensures.1 in
+    gives_error core _ (g.S.TokenSource.items c.args.source.now) (g.S.TokenSource.items c.argument.new.source) _ _ _
+    (Stops-node core arguments_symbol _ _ _ (Stops-after core _ _ _ _ _ _ _ before (Stops-before core _ _ _ _ _ (Stops-before core _ _ _ _ _ c.in_err-argument.ensures.reads))))
+    c.from_residual-in_err-argument.ensures.1
+
+pub more-init : goal.more-init
+more-init g c = record { turns = ([], Turns-start core _ (one_of argument_of) _, sym (append-nil _)); last = refl; within = omega arith }
+
+pub more-preserved : goal.more-preserved
+more-preserved g c =
+    let bytes = g.S.Names.Names.bytes in
+    let (items, turns, views) = c.more.invariant.turns in
+    let (x, takes, view) = c.in_ok-argument-2.ensures.reads in
+    record {
+      turns = (
+        items ++ one_of argument_of x,
+        Turns-more core _ (one_of argument_of) _ _ _ items x turns (begins_pair Value _ ∙ sym c.sees_name.ensures ∙ c.more-test.true) takes,
+        turn_more (λ a. (bytes a.0, value_view bytes a.1)) argument_of _ _ _ _ items x c.in_ok-push-2.ensures.items view views,
+      );
+      last = c.in_ok-argument-2.ensures.last ∙ c.more.invariant.last;
+      within = omega (arith, c.more.invariant.within, c.in_ok-argument-2.ensures.shorter);
+    }
+
+pub returns-in_err-argument-2-clause-reads : goal.returns-in_err-argument-2-clause-reads
+returns-in_err-argument-2-clause-reads g c =
+    let before = takes_one core _ _ _ _ refl c.in_ok-punctuator.ensures.1 in
+    let (first, takes, view) = c.in_ok-argument.ensures.reads in
+    let (items, turns, views) = c.more.invariant.turns in
+    gives_error core _ (g.S.TokenSource.items c.args.source.now) (g.S.TokenSource.items c.argument-in-more.new.source) _ _ _
+    (Stops-node core arguments_symbol _ _ _ (Stops-after core _ _ _ _ _ _ _ before (Stops-before core _ _ _ _ _ (Stops-after core _ _ _ _ _ _ _ takes
+    (Stops-turn core _ (one_of argument_of) _ _ _ items _ turns (begins_pair Value _ ∙ sym c.sees_name.ensures ∙ c.more-test.true) c.in_err-argument-2.ensures.reads)))))
+    c.from_residual-in_err-argument-2.ensures.1
+
+pub returns-in_err-punctuator-2-clause-reads : goal.returns-in_err-punctuator-2-clause-reads
+returns-in_err-punctuator-2-clause-reads g c =
+    let now = g.S.TokenSource.items c.more.source in
+    let new = g.S.TokenSource.items c.punctuator-2.new.source in
+    let before = takes_one core _ _ _ _ refl c.in_ok-punctuator.ensures.1 in
+    let (first, takes, view) = c.in_ok-argument.ensures.reads in
+    let (items, turns, views) = c.more.invariant.turns in
+    gives_error core _ (g.S.TokenSource.items c.args.source.now) new _ _ _
+    (Stops-node core arguments_symbol _ _ _ (Stops-after core _ _ _ _ _ _ _ before
+    (stops_some core _ _ (one_of argument_of) _ _ _ _ first items _ takes turns (begins_pair Value _ ∙ sym c.sees_name.ensures ∙ c.more-test.false) (stops_one core _ now new _ c.in_err-punctuator-2.ensures))))
+    c.from_residual-in_err-punctuator-2.ensures.1
+
+pub returns-clause-reads : goal.returns-clause-reads
+returns-clause-reads g c =
+    let bytes = g.S.Names.Names.bytes in
+    let (o, opens, at) = c.in_ok-punctuator.ensures in
+    let (first, takes, view) = c.in_ok-argument.ensures.reads in
+    let (items, turns, views) = c.more.invariant.turns in
+    let (e, ends, until) = c.in_ok-punctuator-2.ensures in
+    let r = Turns-stop core _ (one_of argument_of) _ _ items turns (begins_pair Value _ ∙ sym c.sees_name.ensures ∙ c.more-test.false) in (
+      Node arguments_symbol (Both (Leaf o) (Both (Both first r.0) (Leaf e))),
+      takes_node (takes_both (takes_one core _ _ _ o refl opens) (takes_both (takes_both takes r.1) (takes_one core _ _ _ e refl ends))) refl,
+      turns_all (λ a. (bytes a.0, value_view bytes a.1)) argument_of _ _ _ _ items first c.new-items.ensures.items c.in_ok-push.ensures.items view views ∙ ap (λ l. argument_of first ∷ l) (sym (pairs_means Value r.1 ∙ r.2)),
+    )

@@ -1,0 +1,39 @@
+use Rattle.std.proofs.Common.{refl, sym, ◌∙◌}
+use Rattle.graphql_grammar.specs.Trees.{Leaf, Both, Node}
+use Rattle.graphql_grammar.specs.Reading.{takes_node, takes_both}
+use Rattle.graphql_grammar.proofs.Turning.{Stops-before, Stops-after, Stops-node}
+use Rattle.graphql_common.specs.Grammar.{core, directive_symbol}
+use Rattle.graphql_common.proofs.Reading.{takes_one, stops_one, gives_error}
+use Rattle.graphql_common.proofs.read.directives.directive.Goals as goal
+
+pub returns-in_err-position-clause-reads : goal.returns-in_err-position-clause-reads
+returns-in_err-position-clause-reads g c =
+    let old = g.S.TokenSource.items c.args.source.now in
+    let new = g.S.TokenSource.items c.punctuator.new.source in
+    gives_error core _ old new _ _ _ (Stops-node core directive_symbol _ _ _ (Stops-before core _ _ _ _ _ (stops_one core _ old new _ c.in_err-position.ensures))) c.from_residual.ensures.1
+
+pub returns-in_err-name-clause-reads : goal.returns-in_err-name-clause-reads
+returns-in_err-name-clause-reads g c =
+    let new = g.S.TokenSource.items c.name.new.source in
+    let before = takes_one core _ _ _ _ refl c.in_ok-position.ensures.1 in
+    gives_error core _ (g.S.TokenSource.items c.args.source.now) new _ _ _
+    (Stops-node core directive_symbol _ _ _ (Stops-after core _ _ _ _ _ _ _ before (Stops-before core _ _ _ _ _ (stops_one core _ (g.S.TokenSource.items c.punctuator.new.source) new _ c.in_err-name.ensures))))
+    c.from_residual-in_err-name.ensures.1
+
+pub returns-in_err-arguments-clause-reads : goal.returns-in_err-arguments-clause-reads
+returns-in_err-arguments-clause-reads g c =
+    let before = takes_one core _ _ _ _ refl c.in_ok-position.ensures.1 in
+    let named = takes_one core _ _ _ _ refl c.in_ok-name.ensures.1 in
+    gives_error core _ (g.S.TokenSource.items c.args.source.now) (g.S.TokenSource.items c.optional_arguments.new.source) _ _ _
+    (Stops-node core directive_symbol _ _ _ (Stops-after core _ _ _ _ _ _ _ before (Stops-after core _ _ _ _ _ _ _ named c.in_err-arguments.ensures.reads)))
+    c.from_residual-in_err-arguments.ensures.1
+
+pub returns-clause-reads : goal.returns-clause-reads
+returns-clause-reads g c =
+    let (a, sign, at) = c.in_ok-position.ensures in
+    let (n, named, (place, spelled)) = c.in_ok-name.ensures in
+    let (x, takes, view) = c.in_ok-arguments.ensures.reads in (
+      Node directive_symbol (Both (Leaf a) (Both (Leaf n) x)),
+      takes_node (takes_both (takes_one core _ _ _ a refl sign) (takes_both (takes_one core _ _ _ n refl named) takes)) refl,
+      rw (at, spelled, view) refl,
+    )

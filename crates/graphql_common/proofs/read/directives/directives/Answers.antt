@@ -1,0 +1,43 @@
+use Rattle.std.proofs.Common.{refl, sym, ◌∙◌, [], ◌++◌, arith, append-nil}
+use Rattle.graphql_grammar.specs.Trees.{Node}
+use Rattle.graphql_grammar.specs.Reading.{takes_node}
+use Rattle.graphql_grammar.proofs.Turning.{Stops-node, Stops-turn, Turns-start, Turns-more, Turns-stop}
+use Rattle.graphql_common.specs.Grammar.{core, directives_symbol}
+use Rattle.graphql_common.specs.Meanings.{directive_of}
+use Rattle.graphql_common.specs.ValueViews.{directive_view}
+use Rattle.graphql_common.proofs.Choices.{begins_directive, each_directive_means}
+use Rattle.graphql_common.proofs.Reading.{gives_error, one_of, turn_more, turns_only}
+use Rattle.graphql_common.proofs.read.directives.directives.Goals as goal
+
+pub more-init : goal.more-init
+more-init g c = record { turns = ([], Turns-start core _ (one_of directive_of) _, sym (append-nil _)); last = refl; within = omega arith }
+
+pub more-preserved : goal.more-preserved
+more-preserved g c =
+    let (items, turns, views) = c.more.invariant.turns in
+    let (x, takes, view) = c.in_ok-directive.ensures.reads in
+    record {
+      turns = (
+        items ++ one_of directive_of x,
+        Turns-more core _ (one_of directive_of) _ _ _ items x turns (begins_directive _ ∙ sym c.sees_punctuator.ensures ∙ c.more-test.true) takes,
+        turn_more (directive_view g.S.Names.Names.bytes) directive_of _ _ _ _ items x c.in_ok-push.ensures.items view views,
+      );
+      last = c.in_ok-directive.ensures.last ∙ c.more.invariant.last;
+      within = omega (arith, c.more.invariant.within, c.in_ok-directive.ensures.shorter);
+    }
+
+pub returns-in_err-directive-clause-reads : goal.returns-in_err-directive-clause-reads
+returns-in_err-directive-clause-reads g c =
+    let (items, turns, views) = c.more.invariant.turns in
+    gives_error core _ (g.S.TokenSource.items c.args.source.now) (g.S.TokenSource.items c.directive.new.source) _ _ _
+    (Stops-node core directives_symbol _ _ _ (Stops-turn core _ (one_of directive_of) _ _ _ items _ turns (begins_directive _ ∙ sym c.sees_punctuator.ensures ∙ c.more-test.true) c.in_err-directive.ensures.reads))
+    c.from_residual.ensures.1
+
+pub returns-clause-reads : goal.returns-clause-reads
+returns-clause-reads g c =
+    let (items, turns, views) = c.more.invariant.turns in
+    let r = Turns-stop core _ (one_of directive_of) _ _ items turns (begins_directive _ ∙ sym c.sees_punctuator.ensures ∙ c.more-test.false) in (
+      Node directives_symbol r.0,
+      takes_node r.1 refl,
+      turns_only (directive_view g.S.Names.Names.bytes) directive_of _ _ items c.new-items.ensures.items views ∙ sym (each_directive_means r.1 ∙ r.2),
+    )

@@ -1,0 +1,16 @@
+use Rattle.std.proofs.Common.{sym, ap, ◌∙◌}
+use Rattle.graphql_grammar.specs.Trees.{First, Second, Nothing}
+use Rattle.graphql_common.specs.Grammar.{core}
+use Rattle.graphql_common.specs.ValueViews.{arguments_view}
+use Rattle.graphql_common.proofs.Choices.{some_arguments, no_arguments}
+use Rattle.graphql_common.proofs.Sides.{gives_side}
+use Rattle.graphql_common.proofs.read.directives.optional_arguments.Goals as goal
+
+pub returns-then-sees_punctuator-clause-reads : goal.returns-then-sees_punctuator-clause-reads
+returns-then-sees_punctuator-clause-reads g c =
+    let old = g.S.TokenSource.items c.args.source.now in
+    let side = some_arguments old.tokens (sym c.sees_punctuator.ensures ∙ c.if-sees_punctuator.true) in
+    gives_side core _ _ First old (g.S.TokenSource.items c.arguments.new.source) _ _ _ side (λ v x h. h) c.arguments.ensures.reads
+
+pub returns-clause-reads : goal.returns-clause-reads
+returns-clause-reads g c = (Second Nothing, no_arguments _ (sym c.sees_punctuator.ensures ∙ c.if-sees_punctuator.false), ap (arguments_view g.S.Names.Names.bytes) c.new.ensures.items)

@@ -1,0 +1,19 @@
+use Rattle.std.proofs.Common.{refl, sym, ap, ◌∙◌, codes}
+use Rattle.graphql_grammar.specs.Trees.{Leaf, First, Second, Nothing}
+use Rattle.graphql_common.specs.Grammar.{core, punctuator}
+use Rattle.graphql_common.specs.Values.{non_null}
+use Rattle.graphql_common.specs.ValueViews.{type_view}
+use Rattle.graphql_common.proofs.Reading.{takes_one, takes_some, takes_none}
+use Rattle.graphql_common.proofs.Viewed.{non_null_made}
+use Rattle.graphql_common.proofs.read.types.marked.Goals as goal
+
+pub returns-then-sees_punctuator-clause-reads : goal.returns-then-sees_punctuator-clause-reads
+returns-then-sees_punctuator-clause-reads g c =
+    let (t, takes, at) = c.in_ok-punctuator.ensures in (
+      First (Leaf t),
+      takes_some core (punctuator (codes "!")) _ _ _ (sym c.sees_punctuator.ensures ∙ c.if-sees_punctuator.true) (takes_one core _ _ _ t refl takes),
+      non_null_made _ _ g.S.Names.Names.bytes _ ∙ ap (λ t. non_null (type_view g.S.Names.Names.bytes t)) c.in_ok-new.ensures.ok,
+    )
+
+pub returns-clause-reads : goal.returns-clause-reads
+returns-clause-reads g c = (Second Nothing, takes_none core (punctuator (codes "!")) _ refl (sym c.sees_punctuator.ensures ∙ c.if-sees_punctuator.false), refl)

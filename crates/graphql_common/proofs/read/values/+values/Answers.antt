@@ -1,0 +1,190 @@
+use Rattle.std.proofs.Common.{refl, sym, ap, ap₂, ◌∙◌, [], ◌++◌, arith, append-nil, codes}
+use Rattle.graphql_grammar.specs.Trees.{Leaf, Both, Node}
+use Rattle.graphql_grammar.specs.Reading.{takes_both}
+use Rattle.graphql_grammar.proofs.Turning.{Stops-before, Stops-after, Stops-turn, Turns-start, Turns-more, Turns-stop}
+use Rattle.graphql_common.specs.Grammar.{core, mark}
+use Rattle.graphql_common.specs.Meanings.{put_all}
+use Rattle.graphql_common.specs.Sorts.{pair_symbol_of, tree_of, pair_of, as_variable, as_plain, as_list, as_object}
+use Rattle.graphql_common.specs.Values.{list, object, put}
+use Rattle.graphql_common.specs.ValueViews.{value_view, items_of, members_view}
+use Rattle.graphql_common.proofs.Choices.{variable_side, list_side, object_side, plain_side, pair_side, plain_means, list_means, object_means, pair_means, unseen_value, ends_list, begins_pair, put_more, trees_means, pairs_means}
+use Rattle.graphql_common.proofs.Members.{view_insert}
+use Rattle.graphql_common.proofs.Reading.{takes_one, stops_one, stops_until, takes_seen, gives_error, one_of, turn_more, turns_only}
+use Rattle.graphql_common.proofs.Sides.{gives_side}
+use Rattle.graphql_common.proofs.Viewed.{list_made, object_made}
+use Rattle.graphql_common.proofs.read.values.+values.Goals as goal
+
+-- ---- value_of_sort
+
+pub value_of_sort-returns-then-sees_variable-clause-reads : goal.value_of_sort-returns-then-sees_variable-clause-reads
+value_of_sort-returns-then-sees_variable-clause-reads g t c =
+    let old = g.S.TokenSource.items c.args.source.now in
+    let (side, same) = variable_side c.args.sort old (sym c.sees_variable.ensures ∙ c.if-sees_variable.true) in
+    gives_side core _ _ as_variable old (g.S.TokenSource.items c.variable.new.source) _ _ _ side (λ v x h. h ∙ sym (same x)) c.variable.ensures.reads
+
+pub value_of_sort-returns-then-sees_punctuator-clause-reads : goal.value_of_sort-returns-then-sees_punctuator-clause-reads
+value_of_sort-returns-then-sees_punctuator-clause-reads g t c =
+    let old = g.S.TokenSource.items c.args.source.now in
+    let side = list_side c.args.sort old.tokens (sym c.sees_punctuator.ensures ∙ c.if-sees_punctuator.true) in
+    gives_side core _ _ (as_list c.args.sort) old (g.S.TokenSource.items c.list.new.source) _ _ _ side (λ v x h. h) c.list.ensures.reads
+
+pub value_of_sort-returns-then-sees_punctuator-2-clause-reads : goal.value_of_sort-returns-then-sees_punctuator-2-clause-reads
+value_of_sort-returns-then-sees_punctuator-2-clause-reads g t c =
+    let old = g.S.TokenSource.items c.args.source.now in
+    let side = object_side c.args.sort old.tokens (sym c.sees_punctuator-2.ensures ∙ c.if-sees_punctuator-2.true) in
+    gives_side core _ _ (as_object c.args.sort) old (g.S.TokenSource.items c.object.new.source) _ _ _ side (λ v x h. h) c.object.ensures.reads
+
+pub value_of_sort-returns-clause-reads : goal.value_of_sort-returns-clause-reads
+value_of_sort-returns-clause-reads g t c =
+    let old = g.S.TokenSource.items c.args.source.now in
+    let side = plain_side c.args.sort old (sym c.sees_variable.ensures ∙ c.if-sees_variable.false) (sym c.sees_punctuator.ensures ∙ c.if-sees_punctuator.false) (sym c.sees_punctuator-2.ensures ∙ c.if-sees_punctuator-2.false) in
+    gives_side core _ _ (as_plain c.args.sort) old (g.S.TokenSource.items c.plain_value.new.source) _ _ _ side (λ v x h. h ∙ sym (plain_means c.args.sort x)) c.plain_value.ensures.reads
+
+-- ---- list
+
+pub list-returns-in_err-punctuator-clause-reads : goal.list-returns-in_err-punctuator-clause-reads
+list-returns-in_err-punctuator-clause-reads g t c =
+    let old = g.S.TokenSource.items c.args.source.now in
+    let new = g.S.TokenSource.items c.punctuator.new.source in
+    gives_error core _ old new _ _ _ (Stops-before core _ _ _ _ _ (stops_one core _ old new _ c.in_err-punctuator.ensures)) c.from_residual.ensures.1
+
+pub list-more-init : goal.list-more-init
+list-more-init g t c = record { turns = ([], Turns-start core _ (one_of (tree_of c.args.sort)) _, sym (append-nil _)); last = refl; within = omega arith }
+
+pub list-more-preserved : goal.list-more-preserved
+list-more-preserved g t c =
+    let f = tree_of c.args.sort in
+    let (items, turns, views) = c.more.invariant.turns in
+    let (x, takes, view) = c.in_ok-value_of_sort.ensures.reads in
+    record {
+      turns = (
+        items ++ one_of f x,
+        Turns-more core _ (one_of f) _ _ _ items x turns (takes_seen core _ _ _ x (unseen_value c.args.sort _) takes) takes,
+        turn_more (value_view g.S.Names.Names.bytes) f _ _ _ _ items x c.in_ok-push.ensures.items view views,
+      );
+      last = c.in_ok-value_of_sort.ensures.last ∙ c.more.invariant.last;
+      within = omega (arith, c.more.invariant.within, c.in_ok-value_of_sort.ensures.shorter);
+    }
+
+pub list-returns-in_err-value_of_sort-clause-reads : goal.list-returns-in_err-value_of_sort-clause-reads
+list-returns-in_err-value_of_sort-clause-reads g t c =
+    let before = takes_one core _ _ _ _ refl c.in_ok-punctuator.ensures.1 in
+    let (items, turns, views) = c.more.invariant.turns in
+    gives_error core _ (g.S.TokenSource.items c.args.source.now) (g.S.TokenSource.items c.value_of_sort.new.source) _ _ _
+    (Stops-after core _ _ _ _ _ _ _ before
+    (stops_until core _ (mark (codes "]")) (one_of (tree_of c.args.sort)) _ _ _ items _ (unseen_value c.args.sort _) turns (sym c.sees_punctuator.ensures ∙ c.more-test.true) c.in_err-value_of_sort.ensures.reads))
+    c.from_residual-in_err-value_of_sort.ensures.1
+
+pub list-returns-clause-reads : goal.list-returns-clause-reads
+list-returns-clause-reads g t c =
+    let s = c.args.sort in
+    let f = tree_of s in
+    let bytes = g.S.Names.Names.bytes in
+    let (o, opens, at) = c.in_ok-punctuator.ensures in
+    let (e, ends, until) = c.in_ok-punctuator-2.ensures in
+    let (items, turns, views) = c.more.invariant.turns in
+    let r = Turns-stop core _ (one_of f) _ _ items turns (ends_list s _ (sym c.sees_punctuator.ensures ∙ c.more-test.false)) in (
+      Both (Leaf o) (Both r.0 (Leaf e)),
+      takes_both (takes_one core _ _ _ o refl opens) (takes_both r.1 (takes_one core _ _ _ e refl ends)),
+      list_made _ _ bytes _ ∙ ap list (ap items_of (turns_only (value_view bytes) f _ _ items c.new-items.ensures.items views ∙ sym r.2) ∙ sym (trees_means s r.1)) ∙ sym (list_means s (Leaf o) r.0 (Leaf e)),
+    )
+
+-- ---- object
+
+pub object-returns-in_err-punctuator-clause-reads : goal.object-returns-in_err-punctuator-clause-reads
+object-returns-in_err-punctuator-clause-reads g t c =
+    let old = g.S.TokenSource.items c.args.source.now in
+    let new = g.S.TokenSource.items c.punctuator.new.source in
+    gives_error core _ old new _ _ _ (Stops-before core _ _ _ _ _ (stops_one core _ old new _ c.in_err-punctuator.ensures)) c.from_residual.ensures.1
+
+pub object-more-init : goal.object-more-init
+object-more-init g t c = record { turns = ([], Turns-start core _ (one_of (pair_of c.args.sort)) _, refl); last = refl; within = omega arith }
+
+pub object-more-preserved : goal.object-more-preserved
+object-more-preserved g t c =
+    let bytes = g.S.Names.Names.bytes in
+    let f = pair_of c.args.sort in
+    let (pairs, turns, views) = c.more.invariant.turns in
+    let (x, takes, view) = c.in_ok-name.ensures.reads in
+    let inserted = ap (members_view bytes) c.in_ok-insert.ensures.entries ∙ view_insert bytes g.S.Names.Value.Ord.cmp g.met.S.Names.Names.cmp_by_bytes c.more.fields.entries c.in_ok-name.name c.in_ok-name.value in
+    record {
+      turns = (
+        pairs ++ one_of f x,
+        Turns-more core _ (one_of f) _ _ _ pairs x turns (begins_pair c.args.sort _ ∙ sym c.sees_name.ensures ∙ c.more-test.true) takes,
+        inserted ∙ ap₂ (λ p ms. put p.0 p.1 ms) view views ∙ sym (put_more pairs (f x) _),
+      );
+      last = c.in_ok-name.ensures.last ∙ c.more.invariant.last;
+      within = omega (arith, c.more.invariant.within, c.in_ok-name.ensures.shorter);
+    }
+
+pub object-returns-in_err-name-clause-reads : goal.object-returns-in_err-name-clause-reads
+object-returns-in_err-name-clause-reads g t c =
+    let before = takes_one core _ _ _ _ refl c.in_ok-punctuator.ensures.1 in
+    let (pairs, turns, views) = c.more.invariant.turns in
+    gives_error core _ (g.S.TokenSource.items c.args.source.now) (g.S.TokenSource.items c.pair.new.source) _ _ _
+    (Stops-after core _ _ _ _ _ _ _ before
+    (Stops-before core _ _ _ _ _ (Stops-turn core _ (one_of (pair_of c.args.sort)) _ _ _ pairs _ turns (begins_pair c.args.sort _ ∙ sym c.sees_name.ensures ∙ c.more-test.true) c.in_err-name.ensures.reads)))
+    c.from_residual-in_err-name.ensures.1
+
+pub object-returns-in_err-punctuator-2-clause-reads : goal.object-returns-in_err-punctuator-2-clause-reads
+object-returns-in_err-punctuator-2-clause-reads g t c =
+    let now = g.S.TokenSource.items c.more.source in
+    let new = g.S.TokenSource.items c.punctuator-2.new.source in
+    let before = takes_one core _ _ _ _ refl c.in_ok-punctuator.ensures.1 in
+    let (pairs, turns, views) = c.more.invariant.turns in
+    let r = Turns-stop core _ (one_of (pair_of c.args.sort)) _ _ pairs turns (begins_pair c.args.sort _ ∙ sym c.sees_name.ensures ∙ c.more-test.false) in
+    gives_error core _ (g.S.TokenSource.items c.args.source.now) new _ _ _
+    (Stops-after core _ _ _ _ _ _ _ before (Stops-after core _ _ _ _ _ _ _ r.1 (stops_one core _ now new _ c.in_err-punctuator-2.ensures)))
+    c.from_residual-in_err-punctuator-2.ensures.1
+
+pub object-returns-clause-reads : goal.object-returns-clause-reads
+object-returns-clause-reads g t c =
+    let s = c.args.sort in
+    let bytes = g.S.Names.Names.bytes in
+    let (o, opens, at) = c.in_ok-punctuator.ensures in
+    let (e, ends, until) = c.in_ok-punctuator-2.ensures in
+    let (pairs, turns, views) = c.more.invariant.turns in
+    let r = Turns-stop core _ (one_of (pair_of s)) _ _ pairs turns (begins_pair s _ ∙ sym c.sees_name.ensures ∙ c.more-test.false) in
+    let fields = views ∙ ap₂ put_all (sym (pairs_means s r.1 ∙ r.2)) (ap (members_view bytes) c.new-fields.ensures.empty) in (
+      Both (Leaf o) (Both r.0 (Leaf e)),
+      takes_both (takes_one core _ _ _ o refl opens) (takes_both r.1 (takes_one core _ _ _ e refl ends)),
+      object_made _ _ bytes _ ∙ ap object fields ∙ sym (object_means s (Leaf o) r.0 (Leaf e)),
+    )
+
+-- ---- pair
+
+pub pair-returns-in_err-name-clause-reads : goal.pair-returns-in_err-name-clause-reads
+pair-returns-in_err-name-clause-reads g t c =
+    let old = g.S.TokenSource.items c.args.source.now in
+    let new = g.S.TokenSource.items c.name.new.source in
+    gives_error core _ old new _ _ _
+    ((pair_side c.args.sort old.tokens).stops _ _ (Stops-before core _ _ _ _ _ (stops_one core _ old new _ c.in_err-name.ensures))) c.from_residual.ensures.1
+
+pub pair-returns-in_err-punctuator-clause-reads : goal.pair-returns-in_err-punctuator-clause-reads
+pair-returns-in_err-punctuator-clause-reads g t c =
+    let old = g.S.TokenSource.items c.args.source.now in
+    let new = g.S.TokenSource.items c.punctuator.new.source in
+    let named = takes_one core _ _ _ _ refl c.in_ok-name.ensures.1 in
+    gives_error core _ old new _ _ _
+    ((pair_side c.args.sort old.tokens).stops _ _ (Stops-after core _ _ _ _ _ _ _ named (Stops-before core _ _ _ _ _ (stops_one core _ (g.S.TokenSource.items c.name.new.source) new _ c.in_err-punctuator.ensures))))
+    c.from_residual-in_err-punctuator.ensures.1
+
+pub pair-returns-in_err-value-clause-reads : goal.pair-returns-in_err-value-clause-reads
+pair-returns-in_err-value-clause-reads g t c =
+    let old = g.S.TokenSource.items c.args.source.now in
+    let named = takes_one core _ _ _ _ refl c.in_ok-name.ensures.1 in
+    let before = takes_one core _ _ _ _ refl c.in_ok-punctuator.ensures.1 in
+    gives_error core _ old (g.S.TokenSource.items c.value_of_sort.new.source) _ _ _
+    ((pair_side c.args.sort old.tokens).stops _ _ (Stops-after core _ _ _ _ _ _ _ named (Stops-after core _ _ _ _ _ _ _ before c.in_err-value.ensures.reads)))
+    c.from_residual-in_err-value.ensures.1
+
+pub pair-returns-clause-reads : goal.pair-returns-clause-reads
+pair-returns-clause-reads g t c =
+    let s = c.args.sort in
+    let (n, named, (at, spelled)) = c.in_ok-name.ensures in
+    let (m, marks, until) = c.in_ok-punctuator.ensures in
+    let (x, takes, view) = c.in_ok-value.ensures.reads in (
+      Node (pair_symbol_of s) (Both (Leaf n) (Both (Leaf m) x)),
+      (pair_side s _).takes _ _ (takes_both (takes_one core _ _ _ n refl named) (takes_both (takes_one core _ _ _ m refl marks) takes)),
+      ap₂ (λ a b. (a, b)) (sym spelled) view ∙ sym (pair_means s (pair_symbol_of s) (Leaf n) (Leaf m) x),
+    )

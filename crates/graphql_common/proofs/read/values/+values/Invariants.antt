@@ -1,0 +1,45 @@
+use Rattle.std.proofs.Common.{ℕ, ◌+◌, ◌*◌, ◌≤◌, ◌≡◌, ◌++◌, List, length, map}
+use Rattle.graphql_grammar.specs.Trees.{Sym}
+use Rattle.graphql_grammar.specs.Words.{Turns}
+use Rattle.graphql_common.specs.Grammar.{core}
+use Rattle.graphql_common.specs.Meanings.{put_all}
+use Rattle.graphql_common.specs.Sorts.{symbol_of, pair_symbol_of, tree_of, pair_of}
+use Rattle.graphql_common.specs.Values.{ValueTree, no_members}
+use Rattle.graphql_common.specs.ValueViews.{value_view, members_view}
+use Rattle.graphql_common.proofs.Reading.{one_of}
+use Rattle.graphql_common.proofs.read.values.+values.Given as goal
+
+-- a list, an object and a pair take a token before they read a value
+abbrev pub decreases-value_of_sort : goal.decreases-value_of_sort
+decreases-value_of_sort g l = 2 * length (g.S.TokenSource.items l.source.now).tokens + 1
+
+abbrev pub decreases-list : goal.decreases-list
+decreases-list g l = 2 * length (g.S.TokenSource.items l.source.now).tokens
+
+abbrev pub decreases-object : goal.decreases-object
+decreases-object g l = 2 * length (g.S.TokenSource.items l.source.now).tokens
+
+abbrev pub decreases-pair : goal.decreases-pair
+decreases-pair g l = 2 * length (g.S.TokenSource.items l.source.now).tokens
+
+abbrev pub invariant-list-more : goal.invariant-list-more
+invariant-list-more g l = record {
+  turns : (items : List ValueTree) × Turns core (Sym (symbol_of l.sort)) (one_of (tree_of l.sort)) (g.S.TokenSource.items l.initial.source).tokens (g.S.TokenSource.items l.source).tokens items
+      × (map (value_view g.S.Names.Names.bytes) l.items.items ≡ map (value_view g.S.Names.Names.bytes) l.initial.items.items ++ items);
+  last : (g.S.TokenSource.items l.source).last ≡ (g.S.TokenSource.items l.initial.source).last;
+  within : length (g.S.TokenSource.items l.source).tokens ≤ length (g.S.TokenSource.items l.initial.source).tokens;
+}
+
+abbrev pub decreases-list-more : goal.decreases-list-more
+decreases-list-more g l = length (g.S.TokenSource.items l.source).tokens
+
+abbrev pub invariant-object-more : goal.invariant-object-more
+invariant-object-more g l = record {
+  turns : (pairs : List (List ℕ × ValueTree)) × Turns core (Sym (pair_symbol_of l.sort)) (one_of (pair_of l.sort)) (g.S.TokenSource.items l.initial.source).tokens (g.S.TokenSource.items l.source).tokens pairs
+      × (members_view g.S.Names.Names.bytes l.fields.entries ≡ put_all pairs (members_view g.S.Names.Names.bytes l.initial.fields.entries));
+  last : (g.S.TokenSource.items l.source).last ≡ (g.S.TokenSource.items l.initial.source).last;
+  within : length (g.S.TokenSource.items l.source).tokens ≤ length (g.S.TokenSource.items l.initial.source).tokens;
+}
+
+abbrev pub decreases-object-more : goal.decreases-object-more
+decreases-object-more g l = length (g.S.TokenSource.items l.source).tokens

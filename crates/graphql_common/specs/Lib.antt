@@ -1,0 +1,11 @@
+pub mod Values
+pub mod ValueViews
+pub mod Leaves
+pub mod Grammar
+pub mod Meanings
+pub mod Printable
+pub mod Gives
+pub mod Sorts
+pub mod LeafReading
+pub mod ValueLayout
+pub mod LayoutExamples

@@ -1,0 +1,97 @@
+//! How many levels a layout opens at once, and whether it is too wide.
+ghost use Rattle.std.specs.Prelude.{◌≡◌, ◌-◌, ◌^◌, ◌↔◌, ℕ, IsTrue, min};
+ghost use Rattle.graphql_common.specs.Values.{list, object};
+ghost use Rattle.graphql_common.specs.ValueViews.{value_view, items_view, members_view, arguments_view, directives_view};
+ghost use Rattle.graphql_common.specs.ValueLayout.{IsTooWide, arguments_levels, directives_levels, opened, string_levels, value_levels};
+
+use crate::print::block::has_block_form;
+use crate::tree::{Directive, Value};
+use graphql_core::common::Names;
+use graphql_core::format::Style;
+use std::collections::BTreeMap;
+
+/// The levels of some parts, and the one that they stand in, as far as a `usize` counts.
+fn levels_around(style: &Style, levels: usize) -> usize
+    ensures { (n : ℕ) → levels ≡ min n (2 ^ 64 - 1) → result ≡ min (opened style.now n) (2 ^ 64 - 1) }
+{
+    if style.has_multiline_arguments() {
+        levels.saturating_add(1)
+    } else {
+        levels
+    }
+}
+
+/// How many levels a value opens at once, as far as a `usize` counts.
+#[cycle(levels)]
+pub fn levels_in_value<N: Names>(value: &Value<N>, style: &Style) -> usize
+    ensures { result ≡ min (value_levels style.now (value_view N.bytes value.now)) (2 ^ 64 - 1) }
+{
+    match value {
+        Value::String(text) => levels_in_string(text.as_str()),
+        Value::List(items) => levels_in_list(items, style),
+        Value::Object(members) => levels_in_object(members, style),
+        _ => 0,
+    }
+}
+
+/// How many levels a string opens.
+fn levels_in_string(text: &str) -> usize
+    ensures { result ≡ string_levels text.now }
+{
+    if has_block_form(text) { 1 } else { 0 }
+}
+
+#[cycle(levels)]
+fn levels_in_list<N: Names>(items: &Vec<Value<N>>, style: &Style) -> usize
+    ensures { result ≡ min (value_levels style.now (list (items_view N.bytes items.now.items))) (2 ^ 64 - 1) }
+{
+    let mut most = 0;
+    'items: for item in items {
+        most = levels_in_value(item, style).max(most);
+    }
+    levels_around(style, most)
+}
+
+#[cycle(levels)]
+fn levels_in_object<N: Names>(members: &BTreeMap<N::Value, Value<N>>, style: &Style) -> usize
+    ensures { result ≡ min (value_levels style.now (object (members_view N.bytes members.now.entries))) (2 ^ 64 - 1) }
+{
+    let mut most = 0;
+    'members: for (_name, member) in members.iter() {
+        most = levels_in_value(member, style).max(most);
+    }
+    levels_around(style, most)
+}
+
+/// How many levels arguments open at once, as far as a `usize` counts.
+pub fn levels_in_arguments<N: Names>(arguments: &Vec<(N::Value, Value<N>)>, style: &Style) -> usize
+    ensures { result ≡ min (arguments_levels style.now (arguments_view N.bytes arguments.now.items)) (2 ^ 64 - 1) }
+{
+    if arguments.is_empty() {
+        return 0;
+    }
+    let mut most = 0;
+    'arguments: for argument in arguments {
+        most = levels_in_value(&argument.1, style).max(most);
+    }
+    levels_around(style, most)
+}
+
+/// How many levels directives open at once, as far as a `usize` counts.
+pub fn levels_in_directives<N: Names>(directives: &Vec<Directive<N>>, style: &Style) -> usize
+    ensures { result ≡ min (directives_levels style.now (directives_view N.bytes directives.now.items)) (2 ^ 64 - 1) }
+{
+    let mut most = 0;
+    'directives: for directive in directives {
+        most = levels_in_arguments(&directive.arguments, style).max(most);
+    }
+    most
+}
+
+/// Whether the deepest line would be indented by more than `u32::MAX` spaces, where so many levels
+/// are open at once.
+pub fn is_too_wide(levels: usize, style: &Style) -> bool
+    ensures { (n : ℕ) → levels ≡ min n (2 ^ 64 - 1) → IsTrue result ↔ IsTooWide style.now n }
+{
+    levels.saturating_mul(style.indentation() as usize) > u32::MAX as usize
+}

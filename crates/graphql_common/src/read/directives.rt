@@ -1,0 +1,110 @@
+//! Arguments, directives and default values.
+ghost use Rattle.std.specs.Prelude.{◌≡◌, ◌≤◌, OnOk, length};
+ghost use Rattle.graphql_grammar.specs.Trees.{Sym, optional};
+ghost use Rattle.graphql_common.specs.Grammar.{core, arguments_symbol, directive_symbol, directives_symbol, default_symbol};
+ghost use Rattle.graphql_common.specs.Meanings.{arguments_of, optional_arguments_of, directive_of, directives_of, default_of};
+ghost use Rattle.graphql_common.specs.ValueViews.{value_view, arguments_view, directive_view, directives_view};
+ghost use Rattle.graphql_common.specs.Gives.{Gives, StopsAt, Shortens};
+
+use crate::read::values::{argument, constant};
+use crate::tree::{Directive, Value};
+use graphql_core::common::{Fault, Names};
+use graphql_core::helpers::{TokenSource, name, punctuator, sees_name, sees_punctuator};
+use std::alloc::Global;
+
+/// `Arguments = "(" Argument+ ")"`
+#[tactic(auto, using(crate::proofs::Reading::reading))]
+pub fn arguments<S: TokenSource>(
+    alloc: Global,
+    source: &mut S,
+) -> Result<Vec<(<S::Names as Names>::Value, Value<S::Names>)>, Fault>
+    ensures reads { Gives core (Sym arguments_symbol) (S.items source.old) (S.items source.new)
+        (λ v x. arguments_view S.Names.bytes v.items ≡ arguments_of x) result }
+    ensures fault { StopsAt (S.items source.new) result }
+    ensures last { (S.items source.new).last ≡ (S.items source.old).last }
+    ensures shorter { Shortens (S.items source.old) (S.items source.new) result }
+{
+    punctuator(alloc, source, "(")?;
+    let mut items = Vec::new(alloc);
+    items.push(argument(alloc, source)?)?;
+    'more: while sees_name(source) {
+        items.push(argument(alloc, source)?)?;
+    }
+    punctuator(alloc, source, ")")?;
+    Ok(items)
+}
+
+/// `Arguments?`: none where they are missing.
+#[tactic(auto, using(crate::proofs::Reading::reading))]
+pub fn optional_arguments<S: TokenSource>(
+    alloc: Global,
+    source: &mut S,
+) -> Result<Vec<(<S::Names as Names>::Value, Value<S::Names>)>, Fault>
+    ensures reads { Gives core (optional (Sym arguments_symbol)) (S.items source.old) (S.items source.new)
+        (λ v x. arguments_view S.Names.bytes v.items ≡ optional_arguments_of x) result }
+    ensures fault { StopsAt (S.items source.new) result }
+    ensures last { (S.items source.new).last ≡ (S.items source.old).last }
+    ensures within { OnOk result (length (S.items source.new).tokens ≤ length (S.items source.old).tokens) }
+{
+    if sees_punctuator(source, "(") {
+        return arguments(alloc, source);
+    }
+    Ok(Vec::new(alloc))
+}
+
+/// `Directive = "@" Name Arguments?`
+#[tactic(auto, using(crate::proofs::Reading::reading))]
+pub fn directive<S: TokenSource>(
+    alloc: Global,
+    source: &mut S,
+) -> Result<Directive<S::Names>, Fault>
+    ensures reads { Gives core (Sym directive_symbol) (S.items source.old) (S.items source.new)
+        (λ v x. directive_view S.Names.bytes v ≡ directive_of x) result }
+    ensures fault { StopsAt (S.items source.new) result }
+    ensures last { (S.items source.new).last ≡ (S.items source.old).last }
+    ensures shorter { Shortens (S.items source.old) (S.items source.new) result }
+{
+    let position = punctuator(alloc, source, "@")?;
+    let (_, name) = name(alloc, source)?;
+    let arguments = optional_arguments(alloc, source)?;
+    Ok(Directive {
+        position,
+        name,
+        arguments,
+    })
+}
+
+/// `Directives = Directive*`
+#[tactic(auto, using(crate::proofs::Reading::reading))]
+pub fn directives<S: TokenSource>(
+    alloc: Global,
+    source: &mut S,
+) -> Result<Vec<Directive<S::Names>>, Fault>
+    ensures reads { Gives core (Sym directives_symbol) (S.items source.old) (S.items source.new)
+        (λ v x. directives_view S.Names.bytes v.items ≡ directives_of x) result }
+    ensures fault { StopsAt (S.items source.new) result }
+    ensures last { (S.items source.new).last ≡ (S.items source.old).last }
+    ensures within { OnOk result (length (S.items source.new).tokens ≤ length (S.items source.old).tokens) }
+{
+    let mut items = Vec::new(alloc);
+    'more: while sees_punctuator(source, "@") {
+        items.push(directive(alloc, source)?)?;
+    }
+    Ok(items)
+}
+
+/// `Default = "=" Const`
+#[tactic(auto, using(crate::proofs::Reading::reading))]
+pub fn default_value<S: TokenSource>(
+    alloc: Global,
+    source: &mut S,
+) -> Result<Value<S::Names>, Fault>
+    ensures reads { Gives core (Sym default_symbol) (S.items source.old) (S.items source.new)
+        (λ v x. value_view S.Names.bytes v ≡ default_of x) result }
+    ensures fault { StopsAt (S.items source.new) result }
+    ensures last { (S.items source.new).last ≡ (S.items source.old).last }
+    ensures shorter { Shortens (S.items source.old) (S.items source.new) result }
+{
+    punctuator(alloc, source, "=")?;
+    constant(alloc, source)
+}
