@@ -1,4 +1,13 @@
-pub mod Facts
+pub mod Readable
+pub mod Lifted
+pub mod Selecting
+pub mod Viewed
+pub mod Steps
+pub mod Parts
+pub mod Keywords
+pub mod Defining
+pub mod Variables
 pub mod Whole
-pub mod Printing
 pub mod Printable
+pub mod Printing
+pub mod Erased

@@ -1,78 +1,168 @@
 -- What the grammar derives from a text can be printed.
-use Rattle.std.proofs.Common.{◌≡◌, ℕ, ◌≤◌, true, List, codes, refl, sym, subst, arith}
-use Rattle.std.proofs.lemmas.Bool.{and_parts}
-use Rattle.graphql_grammar.specs.Tokens.{Token, Place, Class, Spelled, AnyOf, matches}
-use Rattle.graphql_grammar.specs.Trees.{Many, Sym, Shape, Leaf, Both, accepts, Fits, fits_nothing, fits_leaf, fits_both, fits_first, fits_second, fits_stop, fits_more, fits_node}
-use Rattle.graphql_core.specs.Causes.{kind_number}
-use Rattle.graphql_core.specs.declared.tokenizer.token.Kind.TheVariants.{Punctuator, Name}
+use Rattle.std.proofs.Common.{◌≡◌, ◌≤◌, ◌-◌, ℕ, true, List, ◌∷◌, codes, refl, sym, subst, arith}
+use Rattle.std.specs.List.{AllByRecursion}
+use Rattle.std.specs.Option.{IfSome, option_map_or}
+use Rattle.graphql_grammar.specs.Tokens.{Token, Place}
+use Rattle.graphql_grammar.specs.Trees.{Expr, Many, Sym, Shape, Both, leaves, optional}
+use Rattle.graphql_grammar.specs.Extended.{is_below, Extends}
+use Rattle.graphql_grammar.proofs.Extending.{with_more}
 use Rattle.graphql_core.specs.Lexical.{IsName}
-use Rattle.graphql_core.proofs.Nested.{Nests, NestsTree, Past, Anything, nests, nests_tree, class_nesting, has_nesting, past, class_name}
-use Rattle.graphql_query.specs.Tree.{field, SetTree, set, none, more, DocumentTree}
-use Rattle.graphql_query.specs.Grammar.{query, document_symbol, definition_symbol, set_symbol, field_symbol, field_of, set_of, fields_of, definition_of, definitions_of, document_of}
-use Rattle.graphql_query.specs.Document.{IsDocumentOf, IsPrintable, Selects, all_sets, field_levels, fields_levels, set_levels, levels, field_names, set_names, fields_names}
+use Rattle.graphql_core.proofs.Nested.{Nests, Anything, nests, nests_tree}
+use Rattle.graphql_core.proofs.Room.{HasRoom, room_nothing, room_leaf, room_both, room_first, room_second, room_stop, room_more, room_node, has_room, room_back, all_turns}
+use Rattle.graphql_common.specs.Grammar.{core, name, default_symbol}
+use Rattle.graphql_common.specs.Printable.{IsPrintableDefault, value_brackets}
+use Rattle.graphql_common.proofs.Leaves.{leaf_name, leaf_except}
+use Rattle.graphql_common.proofs.Printable.{Within, all_within, optional_arguments_printable, directives_printable, type_printable, default_printable}
+use Rattle.graphql_query.specs.Tree.{SelectionTree, SetTree, set, none, more, OperationKind, query_kind, mutation_kind, subscription_kind, DefinitionTree, operation, DocumentTree}
+use Rattle.graphql_query.specs.Grammar.{query, samples, document_symbol, definition_symbol, operation_symbol, common_symbol, variables_symbol, variable_symbol, set_symbol, selection_symbol, field_symbol, alias_symbol, spread_symbol, inline_symbol, condition_symbol}
+use Rattle.graphql_query.specs.Meanings.{first_place, alias_of, condition_of, optional_condition_of, spread_of, field_of, selected_of, inline_of, selection_of, set_of, selections_of, optional_default_of, variable_of, each_variable_of, variables_of, optional_variables_of, optional_name_of, keyword_of, operation_of, definition_of, definitions_of, document_of}
+use Rattle.graphql_query.specs.Document.{IsDocumentOf}
+use Rattle.graphql_query.specs.Printable.{IsPrintable, IsPrintableSelection, IsPrintableSet, ArePrintableSelections, IsPrintableVariable, IsPrintableDefinition, Selects, SelectsInside, SelectInside, AllSelectInside, DefinitionSelects, selection_brackets, selected_brackets, set_brackets, selections_brackets, variable_brackets, variables_brackets, definition_brackets}
 
-abbrev punctuator : List ℕ → Class
-punctuator s = Spelled (kind_number Punctuator) s
+-- ---- the symbols that are shared
 
-abbrev any_name : Class
-any_name = AnyOf (kind_number Name)
+goes_on : Extends 11 core query
+goes_on = with_more core _ (λ k x. true) samples refl (λ k x h. refl)
 
--- past a leaf that stands for a class
-past_leaf : (c : Class) (t : Token) (n : ℕ) (P : ℕ → Type 0) → has_nesting c ≡ true → accepts query c t ≡ true → NestsTree (Leaf t) n P → Past (class_nesting c) n P
-past_leaf c t n P h a (l, p) = past c t n P h (and_parts (matches c t) true a).0 p
+shared : {n : ℕ} {e : Expr} {x : Shape} → HasRoom query n e x → is_below 11 e ≡ true → HasRoom core n e x
+shared f b = room_back 11 core query goes_on f b
 
-past_name : (t : Token) (n : ℕ) (P : ℕ → Type 0) → accepts query any_name t ≡ true → NestsTree (Leaf t) n P → IsName t.spelling × P n
-past_name t n P a h = (class_name any_name t refl (and_parts (matches any_name t) true a).0 h.0, past_leaf any_name t n P refl a h)
+-- ---- selections
 
--- a field opens as many levels as the braces behind it
-selected_levels : (p : Place) (name : List ℕ) (s : SetTree) (n : ℕ) → set_levels s ≤ n → field_levels (field p name s) ≤ n
-selected_levels p name (set o c none) n h = omega arith
-selected_levels p name (set o c (more f fs)) n h = h
+alias_printable : {n : ℕ} {x : Shape} → HasRoom query n (optional (Sym alias_symbol)) x → IfSome (alias_of x) IsName
+alias_printable (room_first (room_node (room_both n e) c)) = leaf_name refl n
+alias_printable (room_second room_nothing) = tt
 
--- Where n brackets may be opened before a tree, it opens no more levels. P holds of how many may be opened behind it.
+condition_printable : {n : ℕ} {x : Shape} → HasRoom query n (Sym condition_symbol) x → IsName (condition_of x)
+condition_printable (room_node (room_both o n) c) = leaf_name refl n
+
+optional_condition_printable : {n : ℕ} {x : Shape} → HasRoom query n (optional (Sym condition_symbol)) x → IfSome (optional_condition_of x) IsName
+optional_condition_printable (room_first f) = condition_printable f
+optional_condition_printable (room_second room_nothing) = tt
+
+abbrev IsSelection : ℕ → SelectionTree → Type 0
+IsSelection n s = IsPrintableSelection s × SelectsInside s × (selection_brackets s ≤ n)
+
+abbrev IsSet : ℕ → SetTree → Type 0
+IsSet n s = IsPrintableSet s × Selects s × SelectInside s × (set_brackets s ≤ n)
+
+-- a field opens as many brackets as the braces behind it
+selected_within : (s : SetTree) (n : ℕ) → set_brackets s ≤ n → selected_brackets s ≤ n
+selected_within (set o c none) n h = omega arith
+selected_within (set o c (more f fs)) n h = h
+
+spread_printable : {n : ℕ} {x : Shape} → HasRoom query n (Sym spread_symbol) x → IsSelection n (spread_of x)
+spread_printable (room_node (room_both dots (room_both (room_node n e) ds)) c) =
+    let (are, b) = directives_printable (shared ds refl) in
+    (((leaf_name refl n, (leaf_except (codes "on") refl n, tt)), are), tt, b)
+
 mutual
-  field_printable : {x : Shape} → Fits query (Sym field_symbol) x → (n : ℕ) (P : ℕ → Type 0) → NestsTree x n P → field_names (field_of x) × (field_levels (field_of x) ≤ n) × P n
-  field_printable (fits_node (fits_both (fits_leaf {t = t} a) (fits_first {x = s} f)) c) n P h =
-      let (is_name, inside) = past_name t n (λ m. NestsTree s m P) a h in
-      let (names, selects, depth, p) = set_printable f n P inside in
-      ((is_name, names), selected_levels t.place t.spelling (set_of s) n depth, p)
-  field_printable (fits_node (fits_both (fits_leaf {t = t} a) (fits_second fits_nothing)) c) n P h =
-      let (is_name, p) = past_name t n P a h in
-      ((is_name, tt), omega arith, p)
+  field_printable : {n : ℕ} {x : Shape} → HasRoom query n (Sym field_symbol) x → IsSelection n (field_of x)
+  field_printable (room_node (room_both {x = a} alias (room_both {x = m} called (room_both arguments (room_both ds s)))) c) =
+      let (values, d) = optional_arguments_printable (shared arguments refl) in
+      let (are, b) = directives_printable (shared ds refl) in
+      let (is, inside, e) = selected_printable (first_place (leaves (Both a m))) s in
+      ((alias_printable alias, leaf_name refl called, values, are, is), inside, omega arith)
 
-  set_printable : {x : Shape} → Fits query (Sym set_symbol) x → (n : ℕ) (P : ℕ → Type 0) → NestsTree x n P → set_names (set_of x) × Selects (set_of x) × (set_levels (set_of x) ≤ n) × P n
-  set_printable (fits_node (fits_both (fits_leaf {t = o} a) (fits_both (fits_both {x = x} {y = xs} f fs) (fits_leaf {t = e} b))) c) n P h =
-      let (m, is, inside) = past_leaf (punctuator (codes "{")) o n (λ k. NestsTree (Both x xs) k (λ l. NestsTree (Leaf e) l P)) refl a h in
-      let (names, depth, rest) = field_printable f m (λ k. NestsTree xs k (λ l. NestsTree (Leaf e) l P)) inside in
-      let (others, depths, last) = fields_printable fs m (λ k. NestsTree (Leaf e) k P) rest in
-      let p = past_leaf (punctuator (codes "}")) e m P refl b last in
-      ((names, others), tt, omega arith, subst P (sym is) p)
+  selected_printable : {n : ℕ} {x : Shape} (p : Place) → HasRoom query n (optional (Sym set_symbol)) x → IsPrintableSet (selected_of p x) × SelectInside (selected_of p x) × (selected_brackets (selected_of p x) ≤ n)
+  selected_printable {n} p (room_first {x = s} f) =
+      let (is, selects, inside, b) = set_printable f in
+      (is, inside, selected_within (set_of s) n b)
+  selected_printable p (room_second room_nothing) = (tt, tt, omega arith)
 
-  fields_printable : {x : Shape} → Fits query (Many (Sym field_symbol)) x → (n : ℕ) (P : ℕ → Type 0) → NestsTree x n P → fields_names (fields_of x) × (fields_levels (fields_of x) ≤ n) × P n
-  fields_printable fits_stop n P h = (tt, omega arith, h)
-  fields_printable (fits_more {y = y} f fs) n P h =
-      let (names, depth, rest) = field_printable f n (λ m. NestsTree y m P) h in
-      let (others, depths, p) = fields_printable fs n P rest in
-      ((names, others), omega arith, p)
+  inline_printable : {n : ℕ} {x : Shape} → HasRoom query n (Sym inline_symbol) x → IsSelection n (inline_of x)
+  inline_printable (room_node (room_both dots (room_both condition (room_both ds s))) c) =
+      let (are, b) = directives_printable (shared ds refl) in
+      let (is, selects, inside, e) = set_printable s in
+      ((optional_condition_printable condition, are, is), (selects, inside), omega arith)
 
--- the same of definitions
-definition_printable : {x : Shape} → Fits query (Sym definition_symbol) x → (n : ℕ) (P : ℕ → Type 0) → NestsTree x n P → set_names (definition_of x) × Selects (definition_of x) × (set_levels (definition_of x) ≤ n) × P n
-definition_printable (fits_node f c) n P h = set_printable f n P h
+  selection_printable : {n : ℕ} {x : Shape} → HasRoom query n (Sym selection_symbol) x → IsSelection n (selection_of x)
+  selection_printable (room_node (room_first f) c) = field_printable f
+  selection_printable (room_node (room_second (room_first f)) c) = spread_printable f
+  selection_printable (room_node (room_second (room_second f)) c) = inline_printable f
 
-definitions_printable : {x : Shape} → Fits query (Many (Sym definition_symbol)) x → (n : ℕ) (P : ℕ → Type 0) → NestsTree x n P
-    → all_sets set_names (definitions_of x) × all_sets Selects (definitions_of x) × (levels (definitions_of x) ≤ n) × P n
-definitions_printable fits_stop n P h = (tt, tt, omega arith, h)
-definitions_printable (fits_more {y = y} f fs) n P h =
-    let (names, selects, depth, rest) = definition_printable f n (λ m. NestsTree y m P) h in
-    let (others, select, depths, p) = definitions_printable fs n P rest in
-    ((names, others), (selects, select), omega arith, p)
+  set_printable : {n : ℕ} {x : Shape} → HasRoom query n (Sym set_symbol) x → IsSet n (set_of x)
+  set_printable (room_node (room_both (room_leaf a l d) (room_both (room_both f fs) e)) c) =
+      let (is, inside, b) = selection_printable f in
+      let (are, all_inside, g) = selections_printable fs in
+      ((is, are), tt, (inside, all_inside), omega arith)
 
-document_printable : {x : Shape} → Fits query (Sym document_symbol) x → NestsTree x 50 Anything → IsPrintable (document_of x)
-document_printable (fits_node (fits_both {y = y} f fs) c) h =
-    let (names, selects, depth, rest) = definition_printable f 50 (λ m. NestsTree y m Anything) h in
-    let (others, select, depths, p) = definitions_printable fs 50 Anything rest in
-    record { definition = tt; names = (names, others); selections = (selects, select); depth = omega arith }
+  selections_printable : {n : ℕ} {x : Shape} → HasRoom query n (Many (Sym selection_symbol)) x
+      → ArePrintableSelections (selections_of x) × AllSelectInside (selections_of x) × (selections_brackets (selections_of x) ≤ n)
+  selections_printable room_stop = (tt, tt, omega arith)
+  selections_printable (room_more f fs) =
+      let (is, inside, b) = selection_printable f in
+      let (are, all_inside, g) = selections_printable fs in
+      ((is, are), (inside, all_inside), omega arith)
+
+-- ---- variables
+
+optional_default_printable : {n : ℕ} {x : Shape} → HasRoom query n (optional (Sym default_symbol)) x
+    → IfSome (optional_default_of x) IsPrintableDefault × (option_map_or value_brackets (optional_default_of x) 0 ≤ n)
+optional_default_printable (room_first f) = default_printable (shared f refl)
+optional_default_printable (room_second room_nothing) = (tt, omega arith)
+
+variable_printable : {n : ℕ} (x : Shape) → HasRoom query n (Sym variable_symbol) x → Within IsPrintableVariable variable_brackets n (variable_of x)
+variable_printable _ (room_node (room_both sign (room_both called (room_both colon (room_both t v)))) c) =
+    let (is, b) = type_printable (shared t refl) in
+    let (default, d) = optional_default_printable v in
+    ((leaf_name refl called, is, default), omega arith)
+
+variables_printable : {n : ℕ} {x : Shape} → HasRoom query n (Sym variables_symbol) x → Within (AllByRecursion IsPrintableVariable) variables_brackets n (variables_of x)
+variables_printable {n} (room_node (room_both (room_leaf a l d) (room_both (room_both {x = x} {y = xs} f fs) e)) c) =
+    let others = all_turns (Within IsPrintableVariable variable_brackets (n - 1)) variable_of each_variable_of refl (λ x y. refl) variable_printable fs in
+    let (are, b) = all_within IsPrintableVariable variable_brackets (n - 1) (variable_of x ∷ each_variable_of xs) (variable_printable x f, others) in
+    (are, omega arith)
+
+optional_variables_printable : {n : ℕ} {x : Shape} → HasRoom query n (optional (Sym variables_symbol)) x → Within (AllByRecursion IsPrintableVariable) variables_brackets n (optional_variables_of x)
+optional_variables_printable (room_first f) = variables_printable f
+optional_variables_printable (room_second room_nothing) = (tt, omega arith)
+
+-- ---- definitions
+
+abbrev IsDefinition : ℕ → DefinitionTree → Type 0
+IsDefinition n d = IsPrintableDefinition d × DefinitionSelects d × (definition_brackets d ≤ n)
+
+optional_name_printable : {n : ℕ} {x : Shape} → HasRoom query n (optional name) x → IfSome (optional_name_of x) IsName
+optional_name_printable (room_first f) = leaf_name refl f
+optional_name_printable (room_second room_nothing) = tt
+
+keyword_printable : {n : ℕ} {x : Shape} (kind : OperationKind) (w : Shape) → HasRoom query n (Sym common_symbol) x → IsDefinition n (operation (keyword_of kind (Both w x)))
+keyword_printable kind w (room_node (room_both called (room_both vs (room_both ds s))) c) =
+    let (variables, d) = optional_variables_printable vs in
+    let (are, b) = directives_printable (shared ds refl) in
+    let (is, selects, inside, e) = set_printable s in
+    ((optional_name_printable called, variables, are, is), (selects, inside), omega arith)
+
+operation_printable : {n : ℕ} {x : Shape} → HasRoom query n (Sym operation_symbol) x → IsDefinition n (operation_of x)
+operation_printable (room_node (room_first s) c) = let (is, selects, inside, b) = set_printable s in (is, (selects, inside), b)
+operation_printable (room_node (room_second (room_first (room_both {x = w} k f))) c) = keyword_printable query_kind w f
+operation_printable (room_node (room_second (room_second (room_first (room_both {x = w} k f)))) c) = keyword_printable mutation_kind w f
+operation_printable (room_node (room_second (room_second (room_second (room_both {x = w} k f)))) c) = keyword_printable subscription_kind w f
+
+definition_printable : {n : ℕ} {x : Shape} → HasRoom query n (Sym definition_symbol) x → IsDefinition n (definition_of x)
+definition_printable (room_node (room_first f) c) = operation_printable f
+definition_printable (room_node (room_second (room_node (room_both w (room_both called (room_both condition (room_both ds s)))) e)) c) =
+    let (are, b) = directives_printable (shared ds refl) in
+    let (is, selects, inside, d) = set_printable s in
+    ((leaf_name refl called, condition_printable condition, are, is), (selects, inside), omega arith)
+
+definition_within : {n : ℕ} (x : Shape) → HasRoom query n (Sym definition_symbol) x → Within IsPrintableDefinition definition_brackets n (definition_of x)
+definition_within x f = let (is, selects, b) = definition_printable f in (is, b)
+
+definition_selects : {n : ℕ} (x : Shape) → HasRoom query n (Sym definition_symbol) x → DefinitionSelects (definition_of x)
+definition_selects x f = let (is, selects, b) = definition_printable f in selects
+
+-- ---- documents
+
+document_printable : {x : Shape} → HasRoom query 50 (Sym document_symbol) x → IsPrintable (document_of x)
+document_printable (room_node (room_both {x = x} {y = xs} f fs) c) =
+    let others = all_turns (Within IsPrintableDefinition definition_brackets 50) definition_of definitions_of refl (λ x y. refl) definition_within fs in
+    let (are, b) = all_within IsPrintableDefinition definition_brackets 50 (definition_of x ∷ definitions_of xs) (definition_within x f, others) in
+    let select = all_turns DefinitionSelects definition_of definitions_of refl (λ x y. refl) definition_selects fs in
+    record { definition = tt; names = are; selections = (definition_selects x f, select); depth = b }
 
 pub printable : (text : List ℕ) (d : DocumentTree) → IsDocumentOf text d → IsPrintable d
 printable text d (items, has, (x, (fits, is), end, e)) =
-    subst IsPrintable (sym e) (document_printable fits (nests_tree x 50 Anything (subst (λ (ts : List Token). Nests ts 50 Anything) is (nests text items has))))
+    let room = nests_tree x 50 Anything (subst (λ (ts : List Token). Nests ts 50 Anything) is (nests text items has)) in
+    subst IsPrintable (sym e) (document_printable (has_room query refl fits 50 Anything room))

@@ -1,13 +1,20 @@
--- What a text's document is, which documents can be printed, and where a text that has none has its first fault.
-use Rattle.std.specs.Prelude.{◌≡◌, ◌≤◌, ◌<◌, ◌^◌, ◌/◌, ◌+◌, ◌-◌, ℕ, max, List, [], ◌∷◌, length, take, drop, Result, Ok, Err}
+-- What a text's document is, and where a text that has none has its first fault.
+use Rattle.std.specs.Prelude.{◌≡◌, ◌≤◌, ◌<◌, ◌^◌, ◌/◌, ◌-◌, ℕ, false, List, [], ◌∷◌, ◌++◌, length, take, drop, None, Result, Ok, Err}
+use Rattle.graphql_grammar.specs.Tokens.{Token}
 use Rattle.graphql_grammar.specs.Trees.{Shape, Sym, Derives, Begins}
+use Rattle.graphql_grammar.specs.Reading.{lax}
 use Rattle.graphql_grammar.specs.Texts as texts
-use Rattle.graphql_core.specs.Lexical.{IsName}
+use Rattle.graphql_core.specs.declared.common.fault.Fault.{Fault}
+use Rattle.graphql_core.specs.declared.common.fault.Fault.TheVariants.{OutOfMemory, At}
+use Rattle.graphql_core.specs.declared.tokenizer.token.Kind.TheVariants.{IntValue, FloatValue, StringValue}
 use Rattle.graphql_core.specs.Items.{Item, HasItems}
-use Rattle.graphql_core.specs.Source.{Items, Last, End, Wrong, IsEnd, split, fault_at, FaultText}
+use Rattle.graphql_core.specs.Causes.{CauseText, cause_text, kind_number, int_out_of_range, malformed_float, bad_escape}
+use Rattle.graphql_core.specs.Source.{Items, Last, End, Wrong, IsEnd, split, place_of, fault_by, FaultText}
+use Rattle.graphql_common.specs.Leaves.{is_in_range, has_whole_exponent, unquoted, without_ends}
 use Rattle.graphql_query.specs.Refusal.{Refusal, at, no_memory, too_long}
-use Rattle.graphql_query.specs.Tree.{FieldTree, field, SetTree, set, FieldTrees, none, more, DocumentTree}
-use Rattle.graphql_query.specs.Grammar.{query, document_symbol, document_of}
+use Rattle.graphql_query.specs.Tree.{DocumentTree}
+use Rattle.graphql_query.specs.Grammar.{query, document_symbol}
+use Rattle.graphql_query.specs.Meanings.{document_of}
 
 -- ---- documents
 
@@ -19,57 +26,6 @@ IsDocument i d = (x : Shape) × Derives query (Sym document_symbol) i.tokens x �
 abbrev pub IsDocumentOf : List ℕ → DocumentTree → Type 0
 IsDocumentOf text d = (items : List Item) × HasItems text items × IsDocument (split items) d
 
--- ---- what can be printed
-
-abbrev mutual
-  -- how many levels of braces a tree opens at once
-  pub field_levels : FieldTree → ℕ
-  field_levels (field p n (set o c none)) = 0
-  field_levels (field p n (set o c (more f fs))) = fields_levels (more f fs) + 1
-
-  pub fields_levels : FieldTrees → ℕ
-  fields_levels none = 0
-  fields_levels (more f fs) = max (field_levels f) (fields_levels fs)
-
-abbrev pub set_levels : SetTree → ℕ
-set_levels (set o c fs) = fields_levels fs + 1
-
-abbrev pub levels : DocumentTree → ℕ
-levels [] = 0
-levels (s ∷ ss) = max (set_levels s) (levels ss)
-
-abbrev mutual
-  -- all names are names
-  pub field_names : FieldTree → Type 0
-  field_names (field p n s) = IsName n × set_names s
-
-  pub set_names : SetTree → Type 0
-  set_names (set o c fs) = fields_names fs
-
-  pub fields_names : FieldTrees → Type 0
-  fields_names none = Unit {0}
-  fields_names (more f fs) = field_names f × fields_names fs
-
--- it selects something
-abbrev pub Selects : SetTree → Type 0
-Selects (set o c none) = ⊥
-Selects (set o c (more f fs)) = Unit {0}
-
-abbrev pub all_sets : (SetTree → Type 0) → DocumentTree → Type 0
-all_sets P [] = Unit {0}
-all_sets P (s ∷ ss) = P s × all_sets P ss
-
-abbrev pub HasDefinition : DocumentTree → Type 0
-HasDefinition [] = ⊥
-HasDefinition (s ∷ ss) = Unit {0}
-
--- a document whose layout is a document again
-pub record IsPrintable (d : DocumentTree) : Type 0 where
-  pub definition : HasDefinition d
-  pub names : all_sets set_names d
-  pub selections : all_sets Selects d
-  pub depth : levels d ≤ 50
-
 -- ---- faults
 
 -- the most bytes that a text may have
@@ -80,14 +36,31 @@ abbrev pub ending_of : Last → texts.Ending
 ending_of (End p) = texts.End
 ending_of (Wrong p b) = texts.Bad
 
--- behind the first n tokens
-abbrev pub left_of : ℕ → Items → Items
-left_of n i = record { tokens = drop n i.tokens; last = i.last }
+-- a token has no value, for this cause
+pub data HasNoValue : Token → CauseText → Type 0 where
+  -- an integer that is no `i64`
+  out_of_range : {t : Token} → t.kind ≡ kind_number IntValue → is_in_range t.spelling ≡ false → HasNoValue t int_out_of_range
+  -- a float whose exponent has no digit
+  malformed : {t : Token} → t.kind ≡ kind_number FloatValue → has_whole_exponent t.spelling ≡ false → HasNoValue t malformed_float
+  -- a string with a bad escape
+  escaped_badly : {t : Token} → t.kind ≡ kind_number StringValue → unquoted (without_ends 1 t.spelling) ≡ None → HasNoValue t bad_escape
 
--- Some document begins with the first n tokens, none goes on with the item behind them, and the fault is that item's.
+-- Why no document goes on behind these tokens.
+pub data IsFaultBehind (front : List Token) : List Token → Last → FaultText → Type 0 where
+  -- even were all values good, none has this item here
+  unexpected : {behind : List Token} {l : Last} → texts.EndsAt (lax query) (Sym document_symbol) front behind (ending_of l) → IsFaultBehind front behind l (fault_by behind l)
+  -- were all values good, some would go on with this token
+  no_value : {t : Token} {behind : List Token} {l : Last} {c : CauseText} → HasNoValue t c → Begins (lax query) (Sym document_symbol) (front ++ t ∷ [])
+      → IsFaultBehind front (t ∷ behind) l (record { cause = c; place = t.place })
+
+-- some document begins with the first n tokens, and the fault is that of the item behind them
 abbrev pub IsFirstFault : Items → FaultText → Type 0
-IsFirstFault i f = (n : ℕ) × (n ≤ length i.tokens) × (f ≡ fault_at (left_of n i))
-    × Begins query (Sym document_symbol) (take n i.tokens) × texts.EndsAt query (Sym document_symbol) (take n i.tokens) (drop n i.tokens) (ending_of i.last)
+IsFirstFault i f = (n : ℕ) × (n ≤ length i.tokens) × Begins query (Sym document_symbol) (take n i.tokens) × IsFaultBehind (take n i.tokens) (drop n i.tokens) i.last f
+
+-- memory ran out, or it is the first fault of the items
+abbrev pub IsFirst : Items → Fault → Type 0
+IsFirst i OutOfMemory = Unit {0}
+IsFirst i (At c p) = IsFirstFault i (record { cause = cause_text c; place = place_of p })
 
 -- the same of a text
 abbrev pub IsFirstFaultOf : List ℕ → FaultText → Type 0

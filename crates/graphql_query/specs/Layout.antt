@@ -1,37 +1,162 @@
--- The text of a document in a style.
-use Rattle.std.specs.Prelude.{ℕ, ◌+◌, ◌*◌, ◌^◌, ◌≤◌, List, [], ◌∷◌, ◌++◌, codes, replicate}
-use Rattle.graphql_core.specs.Style.{Layout}
-use Rattle.graphql_query.specs.Tree.{FieldTree, field, SetTree, set, FieldTrees, none, more, DocumentTree}
-use Rattle.graphql_query.specs.Document.{levels}
+-- The text of a document in a style. A line begins with a margin of so many spaces.
+use Rattle.std.specs.Prelude.{ℕ, ◌+◌, max, List, [], ◌∷◌, ◌++◌, Option, Some, None, codes}
+use Rattle.graphql_core.specs.Style.{Layout, spaces}
+use Rattle.graphql_core.specs.Parts.{Part, text_of, name, mark, gap}
+use Rattle.graphql_common.specs.Values.{ValueTree, DirectiveTree}
+use Rattle.graphql_common.specs.ValueLayout.{value_layout, type_layout, arguments_layout, directives_layout, value_levels, arguments_levels, directives_levels}
+use Rattle.graphql_common.specs.ValueLayout as values
+use Rattle.graphql_query.specs.Tree.{SelectionTree, field, spread, inline, SetTree, set, SelectionTrees, none, more, OperationKind, query_kind, mutation_kind, subscription_kind, VariableTree, OperationTree, FragmentTree, DefinitionTree, short, operation, fragment, DocumentTree}
 
--- the spaces at the beginning of a line at level n
-abbrev pub indentation : Layout → ℕ → List ℕ
-indentation style n = replicate (n * style.indent) 32
+-- ---- selections
 
--- lines in braces, where the closing brace stands in a line at level n
-abbrev pub in_braces : Layout → ℕ → List ℕ → List ℕ
-in_braces style n lines = codes "{" ++ 10 ∷ (lines ++ indentation style n ++ codes "}" ++ 10 ∷ [])
+-- lines in braces, of which the closing one stands at the margin
+abbrev pub in_braces : ℕ → List Part → List Part
+in_braces margin lines = mark (codes "{") ++ (gap (codes "\n") ++ (lines ++ (gap (spaces margin) ++ (mark (codes "}") ++ gap (codes "\n")))))
+
+-- an alias before a name
+abbrev pub alias_layout : Option (List ℕ) → List Part
+alias_layout None = []
+alias_layout (Some a) = name a ++ (mark (codes ":") ++ gap (codes " "))
+
+-- the type that a fragment is on
+abbrev pub condition_layout : List ℕ → List Part
+condition_layout c = name (codes "on") ++ (gap (codes " ") ++ name c)
+
+-- the same of an inline fragment, which may have none
+abbrev pub on_layout : Option (List ℕ) → List Part
+on_layout None = []
+on_layout (Some c) = gap (codes " ") ++ condition_layout c
 
 abbrev mutual
-  -- a field stands in a line of its own; what is selected of it stands in braces, one level deeper
-  pub field_layout : Layout → ℕ → FieldTree → List ℕ
-  field_layout style n (field p name (set o c none)) = indentation style n ++ name ++ 10 ∷ []
-  field_layout style n (field p name (set o c (more f fs))) = indentation style n ++ name ++ codes " " ++ in_braces style n (fields_layout style (n + 1) (more f fs))
+  -- each selection stands in lines of its own
+  pub selection_layout : Layout → ℕ → SelectionTree → List Part
+  selection_layout style margin (field p alias n arguments ds s) =
+      gap (spaces margin) ++ (alias_layout alias ++ (name n ++ (arguments_layout style margin arguments ++ (directives_layout style margin ds ++ selected_layout style margin s))))
+  selection_layout style margin (spread p n ds) =
+      gap (spaces margin) ++ (mark (codes "...") ++ (name n ++ (directives_layout style margin ds ++ gap (codes "\n"))))
+  selection_layout style margin (inline p condition ds s) =
+      gap (spaces margin) ++ (mark (codes "...") ++ (on_layout condition ++ (directives_layout style margin ds ++ (gap (codes " ") ++ set_layout style margin s))))
 
-  pub fields_layout : Layout → ℕ → FieldTrees → List ℕ
-  fields_layout style n none = []
-  fields_layout style n (more f fs) = field_layout style n f ++ fields_layout style n fs
+  -- what is selected of a field, which has no braces where that is nothing
+  pub selected_layout : Layout → ℕ → SetTree → List Part
+  selected_layout style margin (set o c none) = gap (codes "\n")
+  selected_layout style margin (set o c (more s ss)) = gap (codes " ") ++ in_braces margin (selections_layout style (margin + style.indent) (more s ss))
 
--- a selection set: its fields in braces, one level deeper
-abbrev pub set_layout : Layout → ℕ → SetTree → List ℕ
-set_layout style n (set o c fs) = in_braces style n (fields_layout style (n + 1) fs)
+  -- a selection set: its selections in braces, one level deeper
+  pub set_layout : Layout → ℕ → SetTree → List Part
+  set_layout style margin (set o c ss) = in_braces margin (selections_layout style (margin + style.indent) ss)
+
+  pub selections_layout : Layout → ℕ → SelectionTrees → List Part
+  selections_layout style margin none = []
+  selections_layout style margin (more s ss) = selection_layout style margin s ++ selections_layout style margin ss
+
+-- ---- definitions, which have no margin
+
+abbrev pub keyword : OperationKind → List ℕ
+keyword query_kind = codes "query"
+keyword mutation_kind = codes "mutation"
+keyword subscription_kind = codes "subscription"
+
+abbrev pub operation_name_layout : Option (List ℕ) → List Part
+operation_name_layout None = []
+operation_name_layout (Some n) = gap (codes " ") ++ name n
+
+abbrev pub default_layout : Layout → Option ValueTree → List Part
+default_layout style None = []
+default_layout style (Some v) = gap (codes " ") ++ (mark (codes "=") ++ (gap (codes " ") ++ value_layout style 0 v))
+
+abbrev pub variable_layout : Layout → VariableTree → List Part
+variable_layout style v = mark (codes "$") ++ (name v.name ++ (mark (codes ":") ++ (gap (codes " ") ++ (type_layout v.var_type ++ default_layout style v.default_value))))
+
+abbrev pub later_variables : Layout → List VariableTree → List Part
+later_variables style [] = []
+later_variables style (v ∷ vs) = gap (codes ", ") ++ (variable_layout style v ++ later_variables style vs)
+
+-- in parentheses, joined by a comma and a space
+abbrev pub variables_layout : Layout → List VariableTree → List Part
+variables_layout style [] = []
+variables_layout style (v ∷ vs) = mark (codes "(") ++ (variable_layout style v ++ (later_variables style vs ++ mark (codes ")")))
+
+-- an operation by its keyword and its parts
+abbrev pub operation_of : Layout → List ℕ → Option (List ℕ) → List VariableTree → List DirectiveTree → SetTree → List Part
+operation_of style word n vs ds s = name word ++ (operation_name_layout n ++ (variables_layout style vs ++ (directives_layout style 0 ds ++ (gap (codes " ") ++ set_layout style 0 s))))
+
+abbrev pub operation_layout : Layout → OperationTree → List Part
+operation_layout style o = operation_of style (keyword o.kind) o.name o.variables o.directives o.selected
+
+abbrev pub fragment_layout : Layout → FragmentTree → List Part
+fragment_layout style f =
+    name (codes "fragment") ++ (gap (codes " ") ++ (name f.name ++ (gap (codes " ") ++ (condition_layout f.condition ++ (directives_layout style 0 f.directives ++ (gap (codes " ") ++ set_layout style 0 f.selected))))))
+
+abbrev pub definition_layout : Layout → DefinitionTree → List Part
+definition_layout style (short s) = set_layout style 0 s
+definition_layout style (operation o) = operation_layout style o
+definition_layout style (fragment f) = fragment_layout style f
+
+-- each with an empty line before it
+abbrev pub later_definitions : Layout → DocumentTree → List Part
+later_definitions style [] = []
+later_definitions style (d ∷ ds) = gap (codes "\n") ++ (definition_layout style d ++ later_definitions style ds)
 
 -- the definitions, with an empty line between two
-abbrev pub layout : Layout → DocumentTree → List ℕ
-layout style [] = []
-layout style (s ∷ []) = set_layout style 0 s
-layout style (s ∷ t ∷ ss) = set_layout style 0 s ++ 10 ∷ layout style (t ∷ ss)
+abbrev pub document_layout : Layout → DocumentTree → List Part
+document_layout style [] = []
+document_layout style (d ∷ ds) = definition_layout style d ++ later_definitions style ds
 
--- the deepest line's indentation passes `u32::MAX`
+-- the text of a document
+abbrev pub layout : Layout → DocumentTree → List ℕ
+layout style d = text_of (document_layout style d)
+
+-- ---- levels that are open at once
+
+abbrev mutual
+  pub selection_levels : Layout → SelectionTree → ℕ
+  selection_levels style (field p alias n arguments ds s) = max (arguments_levels style arguments) (max (directives_levels style ds) (selected_levels style s))
+  selection_levels style (spread p n ds) = directives_levels style ds
+  selection_levels style (inline p condition ds s) = max (directives_levels style ds) (set_levels style s)
+
+  -- a field without selections opens none
+  pub selected_levels : Layout → SetTree → ℕ
+  selected_levels style (set o c none) = 0
+  selected_levels style (set o c (more s ss)) = selections_levels style (more s ss) + 1
+
+  -- braces open one
+  pub set_levels : Layout → SetTree → ℕ
+  set_levels style (set o c ss) = selections_levels style ss + 1
+
+  pub selections_levels : Layout → SelectionTrees → ℕ
+  selections_levels style none = 0
+  selections_levels style (more s ss) = max (selection_levels style s) (selections_levels style ss)
+
+abbrev pub default_levels : Layout → Option ValueTree → ℕ
+default_levels style None = 0
+default_levels style (Some v) = value_levels style v
+
+abbrev pub variable_levels : Layout → VariableTree → ℕ
+variable_levels style v = default_levels style v.default_value
+
+abbrev pub variables_levels : Layout → List VariableTree → ℕ
+variables_levels style [] = 0
+variables_levels style (v ∷ vs) = max (variable_levels style v) (variables_levels style vs)
+
+abbrev pub operation_levels_of : Layout → List VariableTree → List DirectiveTree → SetTree → ℕ
+operation_levels_of style vs ds s = max (variables_levels style vs) (max (directives_levels style ds) (set_levels style s))
+
+abbrev pub operation_levels : Layout → OperationTree → ℕ
+operation_levels style o = operation_levels_of style o.variables o.directives o.selected
+
+abbrev pub fragment_levels : Layout → FragmentTree → ℕ
+fragment_levels style f = max (directives_levels style f.directives) (set_levels style f.selected)
+
+abbrev pub definition_levels : Layout → DefinitionTree → ℕ
+definition_levels style (short s) = set_levels style s
+definition_levels style (operation o) = operation_levels style o
+definition_levels style (fragment f) = fragment_levels style f
+
+abbrev pub levels : Layout → DocumentTree → ℕ
+levels style [] = 0
+levels style (d ∷ ds) = max (definition_levels style d) (levels style ds)
+
+-- the widest line's indentation passes `u32::MAX`
 abbrev pub IsTooWide : Layout → DocumentTree → Type 0
-IsTooWide style d = 2 ^ 32 ≤ levels d * style.indent
+IsTooWide style d = values.IsTooWide style (levels style d)

@@ -1,7 +1,10 @@
 pub mod Tree
 pub mod Grammar
+pub mod Meanings
+pub mod Common
+pub mod Reads
 pub mod Refusal
-pub mod Gives
 pub mod Document
+pub mod Printable
 pub mod Layout
 pub mod Examples

@@ -3,9 +3,9 @@ ghost use Rattle.std.specs.Prelude.{◌≡◌, ◌<◌, ◌≤◌, length, IfOk,
 ghost use Rattle.graphql_core.specs.declared.common.fault.Fault.TheVariants.{OutOfMemory};
 ghost use Rattle.graphql_query.specs.Tree.{DocumentTree, document_view};
 ghost use Rattle.graphql_query.specs.Refusal.{too_long};
-ghost use Rattle.graphql_query.specs.Document.{IsDocument, IsDocumentOf, IsPrintable, IsRefusalOf};
+ghost use Rattle.graphql_query.specs.Document.{IsDocument, IsDocumentOf, IsFirst, IsRefusalOf};
 ghost use Rattle.graphql_query.specs.Document.{AnswersUnlessMemory, HasOneShape, max_length};
-ghost use Rattle.graphql_query.specs.Gives.{IsFirst};
+ghost use Rattle.graphql_query.specs.Printable.{IsPrintable};
 
 use crate::error::ParseError;
 use crate::read::definitions;
@@ -42,9 +42,10 @@ pub fn read_document<S: TokenSource>(
 /// Parses a text as a query document (October 2021, section 2.2).
 ///
 /// The error is `TextTooLong` at 1:1 for a text of more than `usize::MAX / 16` bytes, which is tested first;
-/// `OutOfMemory` where memory runs out; else the text is no document, and the error is its first fault, with
-/// the position of the item with which no document goes on: `BadToken` and `TooDeep` for a bad place,
-/// `UnexpectedToken` for a token, `UnexpectedEnd` for the end.
+/// `OutOfMemory` where memory runs out; else the text is no document, and the error is its first fault, at
+/// the item with which no document goes on: `BadToken` and `TooDeep` for a bad place, `UnexpectedToken` for a
+/// token, `UnexpectedEnd` for the end; `IntOutOfRange`, `MalformedFloat` and `BadEscape` for a token that stands
+/// as a value and has none.
 pub fn parse_query<'a, S: Text<'a>>(
     alloc: Global,
     source: &'a str,

@@ -11,7 +11,7 @@ mod tree;
 pub use document::parse_query;
 pub use error::ParseError;
 pub use graphql_core::common::{Names, Text};
-pub use laws::worked_examples;
+pub use laws::{text_has_no_positions, worked_examples};
 
 /// A query document (October 2021, section 2.2).
 pub type Document<'a, T> = tree::Document<T>;
@@ -22,6 +22,24 @@ pub type Definition<'a, T> = tree::Definition<T>;
 /// An operation (section 2.3).
 pub type OperationDefinition<'a, T> = tree::OperationDefinition<T>;
 
+/// A query (section 2.3).
+pub type Query<'a, T> = tree::Query<T>;
+
+/// A mutation (section 2.3).
+pub type Mutation<'a, T> = tree::Mutation<T>;
+
+/// A subscription (section 2.3).
+pub type Subscription<'a, T> = tree::Subscription<T>;
+
+/// A variable of an operation (section 2.10).
+pub type VariableDefinition<'a, T> = tree::VariableDefinition<T>;
+
+/// A fragment (section 2.8).
+pub type FragmentDefinition<'a, T> = tree::FragmentDefinition<T>;
+
+/// On which type selections apply (section 2.8.1).
+pub type TypeCondition<'a, T> = tree::TypeCondition<T>;
+
 /// Selections in braces (section 2.4).
 pub type SelectionSet<'a, T> = tree::SelectionSet<T>;
 
@@ -30,3 +48,9 @@ pub type Selection<'a, T> = tree::Selection<T>;
 
 /// A field (section 2.5).
 pub type Field<'a, T> = tree::Field<T>;
+
+/// The selections of a fragment, by its name (section 2.8).
+pub type FragmentSpread<'a, T> = tree::FragmentSpread<T>;
+
+/// Selections that apply on a type (section 2.8.2).
+pub type InlineFragment<'a, T> = tree::InlineFragment<T>;

@@ -1,8 +1,8 @@
 use Rattle.std.proofs.Common.{sym, subst, arith}
 use Rattle.graphql_query.specs.Refusal.{Refusal, refusal_of}
 use Rattle.graphql_query.specs.Document.{IsRefusalOf, past_bound}
-use Rattle.graphql_query.proofs.Whole.{exit, one_document, one_shape, text_document, items_document, refusal, answers_unless_memory}
 use Rattle.graphql_query.proofs.Printable.{printable}
+use Rattle.graphql_query.proofs.Whole.{exit, one_document, one_shape, text_document, items_document, refusal, answers_unless_memory}
 use Rattle.graphql_query.proofs.document.parse_query.Goals as goal
 
 -- ---- too long
@@ -20,7 +20,7 @@ pub returns-clause-derived : goal.returns-clause-derived
 returns-clause-derived g c = text_document c.args.source.now _ _ c.new-cursor.ensures c.in_ok-read_document.ensures.derived
 
 pub returns-clause-printable : goal.returns-clause-printable
-returns-clause-printable g c = printable c.args.source.now _ (returns-clause-derived g c)
+returns-clause-printable g c = printable c.args.source.now _ (text_document c.args.source.now _ _ c.new-cursor.ensures c.in_ok-read_document.ensures.derived)
 
 pub returns-clause-complete : goal.returns-clause-complete
 returns-clause-complete g c d bound h =

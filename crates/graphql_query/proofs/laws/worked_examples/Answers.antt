@@ -1,4 +1,4 @@
-use Rattle.std.proofs.Common.{◌≡◌, true, ℕ, List, codes, refl}
+use Rattle.std.proofs.Common.{◌≡◌, true, ℕ, ◌+◌, List, codes, refl}
 use Rattle.std.specs.Str.{chars}
 use Rattle.graphql_grammar.specs.Trees.{Sym, Shape, Nothing, Leaf, Both, First, Second, Stop, More, Node, leaves}
 use Rattle.graphql_grammar.specs.Tables.{has_tree}
@@ -8,7 +8,12 @@ use Rattle.graphql_core.specs.Source.{IsEnd, split}
 use Rattle.graphql_core.specs.Front.{front, comment, token_of}
 use Rattle.graphql_core.specs.Cut.{items, items_in}
 use Rattle.graphql_core.proofs.Cutting.{has_items}
-use Rattle.graphql_query.specs.Grammar.{query, document_symbol, definition_symbol, set_symbol, field_symbol, document_of}
+use Rattle.graphql_core.specs.Causes.{kind_number}
+use Rattle.graphql_core.specs.declared.tokenizer.token.Kind.{Kind}
+use Rattle.graphql_core.specs.declared.tokenizer.token.Kind.TheVariants.{Punctuator, Name}
+use Rattle.graphql_common.specs.Grammar.{directives_symbol}
+use Rattle.graphql_query.specs.Grammar.{query, document_symbol, definition_symbol, operation_symbol, common_symbol, set_symbol, selection_symbol, field_symbol, alias_symbol, spread_symbol, spread_name_symbol}
+use Rattle.graphql_query.specs.Meanings.{document_of}
 use Rattle.graphql_query.specs.Document.{IsDocumentOf}
 use Rattle.graphql_query.proofs.laws.worked_examples.Goals as goal
 
@@ -16,30 +21,55 @@ use Rattle.graphql_query.proofs.laws.worked_examples.Goals as goal
 computed : (text : List ℕ) (x : Shape) → has_tree query (Sym document_symbol) x ≡ true → (split (items start text)).tokens ≡ leaves x → IsEnd (split (items start text)).last → IsDocumentOf text (document_of x)
 computed text x fits tokens end = (items start text, has_items text, (x, (fits-from_test query (Sym document_symbol) x fits, tokens), end, refl))
 
-abbrev punctuator : List ℕ → ℕ → ℕ → Shape
-punctuator s line column = Leaf (record { kind = 0; spelling = s; place = record { line = line; column = column } })
+-- a leaf of a kind
+abbrev leaf : Kind → List ℕ → ℕ → ℕ → Shape
+leaf k s line column = Leaf (record { kind = kind_number k; spelling = s; place = record { line = line; column = column } })
 
-abbrev plain_field : List ℕ → ℕ → ℕ → Shape
-plain_field s line column = Node field_symbol (Both (Leaf (record { kind = 1; spelling = s; place = record { line = line; column = column } })) (Second Nothing))
+abbrev no_directives : Shape
+no_directives = Node directives_symbol Stop
 
-abbrev selected : List ℕ → ℕ → ℕ → Shape → Shape
-selected s line column x = Node field_symbol (Both (Leaf (record { kind = 1; spelling = s; place = record { line = line; column = column } })) (First x))
+-- a field without arguments and directives: with its alias, its name, and what is selected of it
+abbrev bare_field : Shape → Shape → Shape → Shape
+bare_field a n selected = Node selection_symbol (First (Node field_symbol (Both a (Both n (Both (Second Nothing) (Both no_directives selected))))))
 
--- one selection in braces, in one line
-abbrev braces : ℕ → ℕ → ℕ → Shape → Shape
-braces line from to x = Node set_symbol (Both (punctuator (codes "{") line from) (Both (Both x Stop) (punctuator (codes "}") line to)))
+abbrev plain_field : List ℕ → ℕ → ℕ → Shape → Shape
+plain_field s line column selected = bare_field (Second Nothing) (leaf Name s line column) selected
 
-abbrev only : Shape → Shape
-only x = Node document_symbol (Both (Node definition_symbol x) Stop)
+-- one selection in braces, and others, in one line
+abbrev braces : ℕ → ℕ → ℕ → Shape → Shape → Shape
+braces line from to x xs = Node set_symbol (Both (leaf Punctuator (codes "{") line from) (Both (Both x xs) (leaf Punctuator (codes "}") line to)))
+
+abbrev short_query : Shape → Shape
+short_query set = Node definition_symbol (First (Node operation_symbol (First set)))
+
+-- a definition, and others
+abbrev document : Shape → Shape → Shape
+document x xs = Node document_symbol (Both x xs)
+
+-- a field alone in braces
+abbrev alone : ℕ → ℕ → List ℕ → Shape
+alone line column s = short_query (braces line column (column + 4) (plain_field s line (column + 2) (Second Nothing)) Stop)
+
+abbrev spread_of_g : Shape
+spread_of_g = Node selection_symbol (Second (First (Node spread_symbol (Both (leaf Punctuator (codes "...") 1 16) (Both (Node spread_name_symbol (leaf Name (codes "G") 1 19)) no_directives)))))
+
+abbrev aliased_field : Shape
+aliased_field = bare_field (First (Node alias_symbol (Both (leaf Name (codes "b") 1 11) (leaf Punctuator (codes ":") 1 12)))) (leaf Name (codes "c") 1 14) (Second Nothing)
+
+abbrev named_query : Shape
+named_query = Node definition_symbol (First (Node operation_symbol (Second (First (Both (leaf Name (codes "query") 1 1)
+    (Node common_symbol (Both (First (leaf Name (codes "Q") 1 7)) (Both (Second Nothing) (Both no_directives (braces 1 9 21 aliased_field (More spread_of_g Stop)))))))))))
 
 pub returns : goal.returns
 unfolding items items_in front comment token_of chars
 returns c = record {
-  nested = computed _ (only (braces 1 1 11 (selected (codes "a") 1 3 (braces 1 5 9 (plain_field (codes "b") 1 7))))) refl refl tt;
-  two_definitions = computed _ (Node document_symbol (Both (Node definition_symbol (braces 1 1 5 (plain_field (codes "a") 1 3))) (More (Node definition_symbol (braces 1 7 11 (plain_field (codes "b") 1 9))) Stop))) refl refl tt;
-  comment_return_feed = computed _ (only (braces 2 1 5 (plain_field (codes "a") 2 3))) refl refl tt;
-  comment_return = computed _ (only (braces 2 1 5 (plain_field (codes "a") 2 3))) refl refl tt;
-  byte_order_mark = computed _ (only (braces 1 1 5 (plain_field (codes "a") 1 3))) refl refl tt;
+  nested = computed _ (document (short_query (braces 1 1 11 (plain_field (codes "a") 1 3 (First (braces 1 5 9 (plain_field (codes "b") 1 7 (Second Nothing)) Stop))) Stop)) Stop) refl refl tt;
+  two_definitions = computed _ (document (alone 1 1 (codes "a")) (More (alone 1 7 (codes "b")) Stop)) refl refl tt;
+  comment_return_feed = computed _ (document (alone 2 1 (codes "a")) Stop) refl refl tt;
+  comment_return = computed _ (document (alone 2 1 (codes "a")) Stop) refl refl tt;
+  byte_order_mark = computed _ (document (alone 1 1 (codes "a")) Stop) refl refl tt;
+  named = computed _ (document named_query Stop) refl refl tt;
   nested_layout = refl;
   two_definitions_layout = refl;
+  named_layout = refl;
 }

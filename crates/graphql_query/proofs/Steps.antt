@@ -1,0 +1,49 @@
+-- A rule that is read from left to right: behind what is taken, the rest is read in its place.
+use Rattle.std.proofs.Common.{◌≡◌, ℕ, List, Result, IsErrAnd, Option, refl}
+use Rattle.graphql_grammar.specs.Tokens.{Token, Class}
+use Rattle.graphql_grammar.specs.Trees.{Expr, One, Then, Sym, Shape, Both, Node, Grammar, row}
+use Rattle.graphql_grammar.specs.Reading.{Takes, takes_both, Reason}
+use Rattle.graphql_grammar.specs.Words.{Stops}
+use Rattle.graphql_grammar.proofs.Turning.{Stops-before, Stops-after}
+use Rattle.graphql_core.specs.declared.common.fault.Fault.{Fault}
+use Rattle.graphql_core.specs.Source.{Items}
+use Rattle.graphql_common.specs.Gives.{Gives, reason_of}
+use Rattle.graphql_common.proofs.Reading.{stops_one, gives_error, TakesNone}
+use Rattle.graphql_common.proofs.Sides.{IsSide, side_node}
+use Rattle.graphql_query.specs.Grammar.{reading}
+
+-- e that began at ts has come to us, where its rest f is read, whose shapes stand inside e's
+pub record Leads (g : Grammar) (e f : Expr) (inside : Shape → Shape) (ts us : List Token) : Type 0 where
+  pub takes : (vs : List Token) (x : Shape) → Takes g f us x vs → Takes g e ts (inside x) vs
+  pub stops : (vs : List Token) (o : Option Reason) → Stops g f us vs o → Stops g e ts vs o
+
+-- how f stops at us, e stops that began at ts
+abbrev pub StopsBy : Grammar → Expr → Expr → List Token → List Token → Type 0
+StopsBy g e f ts us = (vs : List Token) (o : Option Reason) → Stops g f us vs o → Stops g e ts vs o
+
+pub leads_in : {g : Grammar} {e f : Expr} {inside : Shape → Shape} {ts : List Token} → IsSide g e f inside ts → Leads g e f inside ts ts
+leads_in s = record { takes = s.takes; stops = s.stops }
+
+-- a symbol's rule
+pub starts : (k : ℕ) (ts : List Token) → Leads reading (Sym k) (row reading k).rule (Node k) ts ts
+starts k ts = leads_in (side_node reading k ts (λ x. refl))
+
+-- its first part is taken
+pub past : {g : Grammar} {e a b : Expr} {inside : Shape → Shape} {ts us vs : List Token} {x : Shape} → Leads g e (Then a b) inside ts us → Takes g a us x vs → Leads g e b (λ y. inside (Both x y)) ts vs
+past {g} {e} {a} {b} {inside} {ts} {us} {vs} {x} l h = record {
+  takes = λ ws y k. l.takes ws (Both x y) (takes_both h k);
+  stops = λ ws o k. l.stops ws o (Stops-after g a b us vs ws x o h k);
+}
+
+-- or stops
+pub before : {g : Grammar} {e a b : Expr} {inside : Shape → Shape} {ts us : List Token} → Leads g e (Then a b) inside ts us → StopsBy g e a ts us
+before {g} {e} {a} {b} {inside} {ts} {us} l vs o h = l.stops vs o (Stops-before g a b us vs o h)
+
+-- an error goes up
+pub error_in : {A : Type 0} {g : Grammar} {e f : Expr} (old mid new : Items) (P : A → Shape → Type 0) (r : Result A Fault) (d : Fault)
+    → StopsBy g e f old.tokens mid.tokens → Stops g f mid.tokens new.tokens (reason_of new d) → IsErrAnd r (λ x. x ≡ d) → Gives g e old new P r
+error_in {g = g} {e = e} old mid new P r d by h up = gives_error g e old new P r d (by new.tokens (reason_of new d) h) up
+
+pub error_one : {A : Type 0} {g : Grammar} {e : Expr} {c : Class} (old mid new : Items) (P : A → Shape → Type 0) (r : Result A Fault) (d : Fault)
+    → StopsBy g e (One c) old.tokens mid.tokens → TakesNone c mid new d → IsErrAnd r (λ x. x ≡ d) → Gives g e old new P r
+error_one {g = g} {c = c} old mid new P r d by h up = error_in old mid new P r d by (stops_one g c mid new d h) up

@@ -1,0 +1,41 @@
+-- What is seen of selections as they are made.
+use Rattle.std.proofs.Common.{◌≡◌, ℕ, List, map, option_map, Option, Vec, Global, rules}
+use Rattle.graphql_core.specs.declared.position.Pos.{Pos}
+use Rattle.graphql_core.specs.Source.{place_of}
+use Rattle.graphql_common.specs.declared.tree.Value.{Value}
+use Rattle.graphql_common.specs.declared.tree.Directive.{Directive}
+use Rattle.graphql_common.specs.ValueViews.{arguments_view, directives_view}
+use Rattle.graphql_query.specs.declared.tree.TypeCondition.{TypeCondition}
+use Rattle.graphql_query.specs.declared.tree.FragmentSpread.{FragmentSpread}
+use Rattle.graphql_query.specs.declared.tree.Field.{Field}
+use Rattle.graphql_query.specs.declared.tree.InlineFragment.{InlineFragment}
+use Rattle.graphql_query.specs.declared.tree.SelectionSet.{SelectionSet}
+use Rattle.graphql_query.specs.declared.tree.Selection.{Selection, the_lemmas}
+use Rattle.graphql_query.specs.declared.tree.Selection.TheViews.{roll-Field, roll-InlineFragment, roll-SelectionSet}
+use Rattle.graphql_query.specs.declared.tree.Selection.TheViews as made
+use Rattle.graphql_query.specs.declared.tree.Selection.TheBlock as block
+use Rattle.graphql_query.specs.Tree.{field, inline, set, trees_of, condition_view, field_view, spread_view, inline_view, selection_view, set_view}
+
+module _ {N T : Type 0} (b : T → List ℕ) where
+  pub field_made : (p : Pos) (a : Option T) (n : T) (xs : Vec (T × Value N T) Global) (ds : Vec (Directive N T) Global) (s : SelectionSet N T)
+      → field_view b (roll-Field N T (record { position = p; alias = a; name = n; arguments = xs; directives = ds; selection_set = s }))
+      ≡ field (place_of p) (option_map b a) (b n) (arguments_view b xs.items) (directives_view b ds.items) (set_view b s)
+  field_made p a n xs ds s = search (rules, the_lemmas)
+
+  pub inline_made : (p : Pos) (c : Option (TypeCondition N T)) (ds : Vec (Directive N T) Global) (s : SelectionSet N T)
+      → inline_view b (roll-InlineFragment N T (record { position = p; type_condition = c; directives = ds; selection_set = s }))
+      ≡ inline (place_of p) (option_map (condition_view b) c) (directives_view b ds.items) (set_view b s)
+  inline_made p c ds s = search (rules, the_lemmas)
+
+  pub field_selected : (f : Field N T) → selection_view b (made.Field f) ≡ field_view b f
+  field_selected f = search (rules, the_lemmas)
+
+  pub spread_selected : (f : FragmentSpread N T) → selection_view b (block.FragmentSpread f) ≡ spread_view {N = N} b f
+  spread_selected f = search (rules, the_lemmas)
+
+  pub inline_selected : (f : InlineFragment N T) → selection_view b (made.InlineFragment f) ≡ inline_view b f
+  inline_selected f = search (rules, the_lemmas)
+
+  pub set_made : (p q : Pos) (ss : Vec (Selection N T) Global)
+      → set_view b (roll-SelectionSet N T (record { span = (p, q); items = ss })) ≡ set (place_of p) (place_of q) (trees_of (map (selection_view b) ss.items))
+  set_made p q ss = search (rules, the_lemmas)

@@ -1,0 +1,25 @@
+use Rattle.std.proofs.Common.{◌≡◌, refl, sym, ap₂, ◌∙◌}
+use Rattle.graphql_grammar.specs.Trees.{One, Node}
+use Rattle.graphql_grammar.specs.Factored.{written}
+use Rattle.graphql_grammar.proofs.Turning.{Stops-node}
+use Rattle.graphql_core.specs.Source.{place_of}
+use Rattle.graphql_common.proofs.Reading.{stops_one}
+use Rattle.graphql_common.proofs.Sides.{gives_side, side_node}
+use Rattle.graphql_query.specs.Grammar.{reading, changes, spread_class, spread_name_symbol}
+use Rattle.graphql_query.specs.Meanings.{spread_name_of}
+use Rattle.graphql_query.proofs.Selecting.{gives_one, refused, narrowed}
+use Rattle.graphql_query.proofs.read.fragment.spread_name.Goals as goal
+
+pub returns-then-not-sees_spread_name-clause-reads : goal.returns-then-not-sees_spread_name-clause-reads
+returns-then-not-sees_spread_name-clause-reads g c =
+    let old = g.S.TokenSource.items c.args.source.now in
+    Stops-node reading spread_name_symbol _ _ _ (stops_one reading spread_class old old _ (refused spread_class old _ (sym c.sees_spread_name.ensures ∙ c.if-not-sees_spread_name.true) c.fault.ensures))
+
+pub returns-clause-reads : goal.returns-clause-reads
+returns-clause-reads g c =
+    let items = g.S.TokenSource.items in
+    let bytes = g.S.Names.Names.bytes in
+    let old = items c.args.source.now in
+    let new = items c.name.new.source in
+    gives_side reading _ (One spread_class) (Node spread_name_symbol) old new (λ v x. (place_of v.0, bytes v.1) ≡ spread_name_of (written changes (Node spread_name_symbol x))) _ _ (side_node reading spread_name_symbol old.tokens (λ x. refl)) (λ v x h. h)
+    (gives_one reading spread_class old new _ _ c.name.result (λ t. refl) (λ v t p. ap₂ (λ a b. (a, b)) (sym p.0) (sym p.1)) (narrowed old new _ c.name.result (sym c.sees_spread_name.ensures ∙ c.if-not-sees_spread_name.false) c.name.ensures))

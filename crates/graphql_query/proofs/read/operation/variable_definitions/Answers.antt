@@ -1,0 +1,78 @@
+use Rattle.std.proofs.Common.{refl, sym, ap, ◌∙◌, [], ◌∷◌, ◌++◌, arith, append-nil}
+use Rattle.graphql_grammar.specs.Trees.{Leaf, Both, Node}
+use Rattle.graphql_grammar.specs.Reading.{takes_node, takes_both}
+use Rattle.graphql_grammar.proofs.Turning.{Stops-before, Stops-after, Stops-turn, Turns-start, Turns-more, Turns-stop}
+use Rattle.graphql_common.proofs.Reading.{takes_one, stops_one, stops_some, one_of, turn_more, turns_all}
+use Rattle.graphql_query.specs.Tree.{variable_view}
+use Rattle.graphql_query.specs.Grammar.{reading, variables_symbol}
+use Rattle.graphql_query.proofs.Steps.{starts, past, before, error_in, error_one}
+use Rattle.graphql_query.proofs.Variables.{read_variable, begins_variable, each_variable_means}
+use Rattle.graphql_query.proofs.read.operation.variable_definitions.Goals as goal
+
+pub returns-in_err-punctuator-clause-reads : goal.returns-in_err-punctuator-clause-reads
+returns-in_err-punctuator-clause-reads g c =
+    let old = g.S.TokenSource.items c.args.source.now in
+    error_one old old (g.S.TokenSource.items c.punctuator.new.source) _ _ _ (before (starts variables_symbol old.tokens)) c.in_err-punctuator.ensures c.from_residual.ensures.1
+
+pub returns-in_err-variable_definition-clause-reads : goal.returns-in_err-variable_definition-clause-reads
+returns-in_err-variable_definition-clause-reads g c =
+    let old = g.S.TokenSource.items c.args.source.now in
+    let mid = g.S.TokenSource.items c.punctuator.new.source in
+    let new = g.S.TokenSource.items c.variable_definition.new.source in
+    let opened = past (starts variables_symbol old.tokens) (takes_one reading _ _ _ _ refl c.in_ok-punctuator.ensures.1) in
+    error_in old mid new _ _ _ (before opened) (Stops-before reading _ _ _ _ _ c.in_err-variable_definition.ensures.reads) c.from_residual-in_err-variable_definition.ensures.1
+
+pub more-init : goal.more-init
+more-init g c = record { turns = ([], Turns-start reading _ (one_of read_variable) _, sym (append-nil _)); last = refl; within = omega arith }
+
+pub more-preserved : goal.more-preserved
+more-preserved g c =
+    let (items, turns, views) = c.more.invariant.turns in
+    let (x, takes, view) = c.in_ok-variable_definition-2.ensures.reads in
+    record {
+      turns = (
+        items ++ one_of read_variable x,
+        Turns-more reading _ (one_of read_variable) _ _ _ items x turns (begins_variable _ ∙ sym c.sees_punctuator.ensures ∙ c.more-test.true) takes,
+        turn_more (variable_view g.S.Names.Names.bytes) read_variable _ _ _ _ items x c.in_ok-push-2.ensures.items view views,
+      );
+      last = c.in_ok-variable_definition-2.ensures.last ∙ c.more.invariant.last;
+      within = omega (arith, c.more.invariant.within, c.in_ok-variable_definition-2.ensures.shorter);
+    }
+
+pub returns-in_err-variable_definition-2-clause-reads : goal.returns-in_err-variable_definition-2-clause-reads
+returns-in_err-variable_definition-2-clause-reads g c =
+    let old = g.S.TokenSource.items c.args.source.now in
+    let mid = g.S.TokenSource.items c.punctuator.new.source in
+    let new = g.S.TokenSource.items c.variable_definition-in-more.new.source in
+    let opened = past (starts variables_symbol old.tokens) (takes_one reading _ _ _ _ refl c.in_ok-punctuator.ensures.1) in
+    let (first, takes, view) = c.in_ok-variable_definition.ensures.reads in
+    let (items, turns, views) = c.more.invariant.turns in
+    let stops = Stops-turn reading _ (one_of read_variable) _ _ _ items _ turns (begins_variable _ ∙ sym c.sees_punctuator.ensures ∙ c.more-test.true) c.in_err-variable_definition-2.ensures.reads in
+    error_in old mid new _ _ _ (before opened) (Stops-after reading _ _ _ _ _ _ _ takes stops) c.from_residual-in_err-variable_definition-2.ensures.1
+
+pub returns-in_err-punctuator-2-clause-reads : goal.returns-in_err-punctuator-2-clause-reads
+returns-in_err-punctuator-2-clause-reads g c =
+    let old = g.S.TokenSource.items c.args.source.now in
+    let mid = g.S.TokenSource.items c.punctuator.new.source in
+    let now = g.S.TokenSource.items c.more.source in
+    let new = g.S.TokenSource.items c.punctuator-2.new.source in
+    let opened = past (starts variables_symbol old.tokens) (takes_one reading _ _ _ _ refl c.in_ok-punctuator.ensures.1) in
+    let (first, takes, view) = c.in_ok-variable_definition.ensures.reads in
+    let (items, turns, views) = c.more.invariant.turns in
+    let closes = stops_one reading _ now new _ c.in_err-punctuator-2.ensures in
+    error_in old mid new _ _ _ opened.stops
+    (stops_some reading _ _ (one_of read_variable) _ _ _ _ first items _ takes turns (begins_variable _ ∙ sym c.sees_punctuator.ensures ∙ c.more-test.false) closes)
+    c.from_residual-in_err-punctuator-2.ensures.1
+
+pub returns-clause-reads : goal.returns-clause-reads
+returns-clause-reads g c =
+    let (o, opens, at) = c.in_ok-punctuator.ensures in
+    let (first, takes, view) = c.in_ok-variable_definition.ensures.reads in
+    let (items, turns, views) = c.more.invariant.turns in
+    let (e, ends, until) = c.in_ok-punctuator-2.ensures in
+    let r = Turns-stop reading _ (one_of read_variable) _ _ items turns (begins_variable _ ∙ sym c.sees_punctuator.ensures ∙ c.more-test.false) in (
+      Node variables_symbol (Both (Leaf o) (Both (Both first r.0) (Leaf e))),
+      takes_node (takes_both (takes_one reading _ _ _ o refl opens) (takes_both (takes_both takes r.1) (takes_one reading _ _ _ e refl ends))) refl,
+      turns_all (variable_view g.S.Names.Names.bytes) read_variable _ _ _ _ items first c.new-definitions.ensures.items c.in_ok-push.ensures.items view views
+          ∙ ap (λ l. read_variable first ∷ l) (sym (each_variable_means r.1 ∙ r.2)),
+    )

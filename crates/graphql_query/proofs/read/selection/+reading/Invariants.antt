@@ -1,0 +1,38 @@
+use Rattle.std.proofs.Common.{◌+◌, ◌*◌, ◌≤◌, ◌≡◌, ◌++◌, List, length, map}
+use Rattle.graphql_grammar.specs.Trees.{Sym}
+use Rattle.graphql_grammar.specs.Words.{Turns}
+use Rattle.graphql_common.proofs.Reading.{one_of}
+use Rattle.graphql_query.specs.Grammar.{reading, selection_symbol}
+use Rattle.graphql_query.specs.Tree.{SelectionTree, selection_view}
+use Rattle.graphql_query.proofs.Selecting.{selection_at}
+use Rattle.graphql_query.proofs.read.selection.+reading.Given as goal
+
+-- one that takes a token before it calls another has less to do than one that calls it at once
+abbrev pub decreases-field : goal.decreases-field
+decreases-field g l = 2 * length (g.S.TokenSource.items l.source.now).tokens
+
+abbrev pub decreases-spread_or_inline : goal.decreases-spread_or_inline
+decreases-spread_or_inline g l = 2 * length (g.S.TokenSource.items l.source.now).tokens
+
+abbrev pub decreases-selection_set : goal.decreases-selection_set
+decreases-selection_set g l = 2 * length (g.S.TokenSource.items l.source.now).tokens
+
+abbrev pub decreases-selected : goal.decreases-selected
+decreases-selected g l = 2 * length (g.S.TokenSource.items l.source.now).tokens + 1
+
+abbrev pub decreases-inline_fragment : goal.decreases-inline_fragment
+decreases-inline_fragment g l = 2 * length (g.S.TokenSource.items l.source.now).tokens + 1
+
+abbrev pub decreases-selection : goal.decreases-selection
+decreases-selection g l = 2 * length (g.S.TokenSource.items l.source.now).tokens + 1
+
+abbrev pub invariant-selection_set-more : goal.invariant-selection_set-more
+invariant-selection_set-more g l = record {
+  turns : (items : List SelectionTree) × Turns reading (Sym selection_symbol) (one_of selection_at) (g.S.TokenSource.items l.initial.source).tokens (g.S.TokenSource.items l.source).tokens items
+      × (map (selection_view g.S.Names.Names.bytes) l.items.items ≡ map (selection_view g.S.Names.Names.bytes) l.initial.items.items ++ items);
+  last : (g.S.TokenSource.items l.source).last ≡ (g.S.TokenSource.items l.initial.source).last;
+  within : length (g.S.TokenSource.items l.source).tokens ≤ length (g.S.TokenSource.items l.initial.source).tokens;
+}
+
+abbrev pub decreases-selection_set-more : goal.decreases-selection_set-more
+decreases-selection_set-more g l = length (g.S.TokenSource.items l.source).tokens

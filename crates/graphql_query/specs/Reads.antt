@@ -1,0 +1,35 @@
+-- What readers of queries answer.
+use Rattle.std.specs.Prelude.{ℕ, Bool, ◌||◌, List, [], Option, Some, None, Result, codes}
+use Rattle.graphql_grammar.specs.Tokens.{nowhere}
+use Rattle.graphql_grammar.specs.Trees.{Expr, Shape, Both, First, Second}
+use Rattle.graphql_grammar.specs.Factored.{written}
+use Rattle.graphql_core.specs.declared.common.fault.Fault.{Fault}
+use Rattle.graphql_core.specs.Source.{Items}
+use Rattle.graphql_core.specs.Matching.{sees_class}
+use Rattle.graphql_common.specs.Gives.{Gives}
+use Rattle.graphql_common.specs.Grammar.{mark, keyword}
+use Rattle.graphql_common.specs.Meanings.{spelling_at}
+use Rattle.graphql_query.specs.Tree.{SelectionTree, spread}
+use Rattle.graphql_query.specs.Grammar.{reading, changes}
+use Rattle.graphql_query.specs.Meanings.{spread_rest_of, inline_rest_of}
+
+-- it reads by the second rules, and its answer is what the written shape means
+abbrev pub Reads : {A : Type 0} → Expr → Items → Items → (A → Shape → Type 0) → Result A Fault → Type 0
+Reads e old new P r = Gives reading e old new (λ v x. P v (written changes x)) r
+
+-- what stands behind a first name as trees of the second rule have it: the alias where there is one, and the name
+abbrev pub renamed : List ℕ → Shape → Option (List ℕ) × List ℕ
+renamed first (First (Both c n)) = (Some first, spelling_at n)
+renamed first _ = (None, first)
+
+-- and what stands in a selection that begins with dots
+abbrev pub behind_dots_of : Shape → SelectionTree
+behind_dots_of (Both dots (First rest)) = spread_rest_of rest
+behind_dots_of (Both dots (Second rest)) = inline_rest_of rest
+behind_dots_of _ = spread nowhere [] []
+
+-- a definition begins with the next item
+abbrev pub sees_definition : Items → Bool
+sees_definition i =
+    sees_class (mark (codes "{")) i || sees_class (keyword (codes "query")) i || sees_class (keyword (codes "mutation")) i
+    || sees_class (keyword (codes "subscription")) i || sees_class (keyword (codes "fragment")) i

@@ -1,0 +1,204 @@
+//! Display of the trees: the text in the default style, unless that is too wide.
+ghost use Rattle.std.specs.Prelude.{Some};
+ghost use Rattle.graphql_core.specs.Style.{default_style};
+ghost use Rattle.graphql_core.specs.Parts.{text_of};
+ghost use Rattle.graphql_query.specs.Tree.{spread_view, field_view, inline_view, set_view, condition_view, variable_view};
+ghost use Rattle.graphql_query.specs.Tree.{query_view, mutation_view, subscription_view, fragment_view, operation_view, definition_view, document_view};
+ghost use Rattle.graphql_query.specs.Layout.{selection_layout, set_layout, condition_layout, variable_layout, operation_layout, fragment_layout, definition_layout, layout};
+
+use crate::print::definitions::{
+    write_definition, write_document, write_fragment, write_operation_definition,
+};
+use crate::print::levels::{
+    levels_in_definition, levels_in_document, levels_in_field, levels_in_fragment,
+    levels_in_inline, levels_in_operation, levels_in_operation_definition, levels_in_set,
+    levels_in_spread, levels_in_variable,
+};
+use crate::print::operations::{write_mutation, write_query, write_subscription, write_variable};
+use crate::print::selections::{
+    write_condition, write_field, write_inline, write_set, write_spread,
+};
+use crate::tree::{
+    Definition, Document, Field, FragmentDefinition, FragmentSpread, InlineFragment, Mutation,
+    OperationDefinition, Query, SelectionSet, Subscription, TypeCondition, VariableDefinition,
+};
+use graphql_common::print::is_too_wide;
+use graphql_core::common::Names;
+use graphql_core::format::Style;
+use std::fmt;
+
+impl<N: Names> fmt::Display for Document<N> {
+    ghost output = { λ t. Some (layout default_style (document_view N.bytes t)) };
+
+    fn fmt<W: fmt::Write>(&self, f: &mut fmt::Formatter<W>) -> fmt::Result {
+        let style = Style::default();
+        if is_too_wide(levels_in_document(self, &style), &style) {
+            return Err(fmt::Error);
+        }
+        write_document(f, self, &style)
+    }
+}
+
+impl<N: Names> fmt::Display for Definition<N> {
+    ghost output = { λ t. Some (text_of (definition_layout default_style (definition_view N.bytes t))) };
+
+    fn fmt<W: fmt::Write>(&self, f: &mut fmt::Formatter<W>) -> fmt::Result {
+        let style = Style::default();
+        if is_too_wide(levels_in_definition(self, &style), &style) {
+            return Err(fmt::Error);
+        }
+        write_definition(f, self, &style)
+    }
+}
+
+impl<N: Names> fmt::Display for OperationDefinition<N> {
+    ghost output = { λ t. Some (text_of (definition_layout default_style (operation_view N.bytes t))) };
+
+    fn fmt<W: fmt::Write>(&self, f: &mut fmt::Formatter<W>) -> fmt::Result {
+        let style = Style::default();
+        if is_too_wide(levels_in_operation_definition(self, &style), &style) {
+            return Err(fmt::Error);
+        }
+        write_operation_definition(f, self, &style)
+    }
+}
+
+impl<N: Names> fmt::Display for FragmentDefinition<N> {
+    ghost output = { λ t. Some (text_of (fragment_layout default_style (fragment_view N.bytes t))) };
+
+    fn fmt<W: fmt::Write>(&self, f: &mut fmt::Formatter<W>) -> fmt::Result {
+        let style = Style::default();
+        if is_too_wide(levels_in_fragment(self, &style), &style) {
+            return Err(fmt::Error);
+        }
+        write_fragment(f, self, &style)
+    }
+}
+
+impl<N: Names> fmt::Display for Query<N> {
+    ghost output = { λ t. Some (text_of (operation_layout default_style (query_view N.bytes t))) };
+
+    fn fmt<W: fmt::Write>(&self, f: &mut fmt::Formatter<W>) -> fmt::Result {
+        let style = Style::default();
+        if is_too_wide(
+            levels_in_operation(
+                &self.variable_definitions,
+                &self.directives,
+                &self.selection_set,
+                &style,
+            ),
+            &style,
+        ) {
+            return Err(fmt::Error);
+        }
+        write_query(f, self, &style)
+    }
+}
+
+impl<N: Names> fmt::Display for Mutation<N> {
+    ghost output = { λ t. Some (text_of (operation_layout default_style (mutation_view N.bytes t))) };
+
+    fn fmt<W: fmt::Write>(&self, f: &mut fmt::Formatter<W>) -> fmt::Result {
+        let style = Style::default();
+        if is_too_wide(
+            levels_in_operation(
+                &self.variable_definitions,
+                &self.directives,
+                &self.selection_set,
+                &style,
+            ),
+            &style,
+        ) {
+            return Err(fmt::Error);
+        }
+        write_mutation(f, self, &style)
+    }
+}
+
+impl<N: Names> fmt::Display for Subscription<N> {
+    ghost output = { λ t. Some (text_of (operation_layout default_style (subscription_view N.bytes t))) };
+
+    fn fmt<W: fmt::Write>(&self, f: &mut fmt::Formatter<W>) -> fmt::Result {
+        let style = Style::default();
+        if is_too_wide(
+            levels_in_operation(
+                &self.variable_definitions,
+                &self.directives,
+                &self.selection_set,
+                &style,
+            ),
+            &style,
+        ) {
+            return Err(fmt::Error);
+        }
+        write_subscription(f, self, &style)
+    }
+}
+
+impl<N: Names> fmt::Display for VariableDefinition<N> {
+    ghost output = { λ t. Some (text_of (variable_layout default_style (variable_view N.bytes t))) };
+
+    fn fmt<W: fmt::Write>(&self, f: &mut fmt::Formatter<W>) -> fmt::Result {
+        let style = Style::default();
+        if is_too_wide(levels_in_variable(self, &style), &style) {
+            return Err(fmt::Error);
+        }
+        write_variable(f, self, &style)
+    }
+}
+
+impl<N: Names> fmt::Display for SelectionSet<N> {
+    ghost output = { λ t. Some (text_of (set_layout default_style 0 (set_view N.bytes t))) };
+
+    fn fmt<W: fmt::Write>(&self, f: &mut fmt::Formatter<W>) -> fmt::Result {
+        let style = Style::default();
+        if is_too_wide(levels_in_set(self, &style), &style) {
+            return Err(fmt::Error);
+        }
+        write_set(f, self, &style, 0)
+    }
+}
+
+impl<N: Names> fmt::Display for Field<N> {
+    ghost output = { λ t. Some (text_of (selection_layout default_style 0 (field_view N.bytes t))) };
+
+    fn fmt<W: fmt::Write>(&self, f: &mut fmt::Formatter<W>) -> fmt::Result {
+        let style = Style::default();
+        if is_too_wide(levels_in_field(self, &style), &style) {
+            return Err(fmt::Error);
+        }
+        write_field(f, self, &style, 0)
+    }
+}
+
+impl<N: Names> fmt::Display for FragmentSpread<N> {
+    ghost output = { λ t. Some (text_of (selection_layout default_style 0 (spread_view N.bytes t))) };
+
+    fn fmt<W: fmt::Write>(&self, f: &mut fmt::Formatter<W>) -> fmt::Result {
+        let style = Style::default();
+        if is_too_wide(levels_in_spread(self, &style), &style) {
+            return Err(fmt::Error);
+        }
+        write_spread(f, self, &style, 0)
+    }
+}
+
+impl<N: Names> fmt::Display for InlineFragment<N> {
+    ghost output = { λ t. Some (text_of (selection_layout default_style 0 (inline_view N.bytes t))) };
+
+    fn fmt<W: fmt::Write>(&self, f: &mut fmt::Formatter<W>) -> fmt::Result {
+        let style = Style::default();
+        if is_too_wide(levels_in_inline(self, &style), &style) {
+            return Err(fmt::Error);
+        }
+        write_inline(f, self, &style, 0)
+    }
+}
+
+impl<N: Names> fmt::Display for TypeCondition<N> {
+    ghost output = { λ t. Some (text_of (condition_layout (condition_view N.bytes t))) };
+
+    fn fmt<W: fmt::Write>(&self, f: &mut fmt::Formatter<W>) -> fmt::Result {
+        write_condition(f, self)
+    }
+}

@@ -1,0 +1,89 @@
+//! Definitions.
+ghost use Rattle.std.specs.Prelude.{◌≡◌, map};
+ghost use Rattle.graphql_grammar.specs.Trees.{Sym, some_of};
+ghost use Rattle.graphql_common.specs.Gives.{StopsAt, Shortens};
+ghost use Rattle.graphql_query.specs.Tree.{fragment_view, definition_view, definitions_view};
+ghost use Rattle.graphql_query.specs.Grammar.{fragment_symbol, definition_symbol};
+ghost use Rattle.graphql_query.specs.Meanings.{fragment_of, definition_of, definitions_of};
+ghost use Rattle.graphql_query.specs.Reads.{Reads, sees_definition};
+
+use crate::read::fragment::type_condition;
+use crate::read::operation::operation_definition;
+use crate::read::selection::selection_set;
+use crate::tree::{Definition, FragmentDefinition};
+use graphql_common::read::directives::directives;
+use graphql_core::common::Fault;
+use graphql_core::helpers::{TokenSource, keyword, name, sees_keyword, sees_punctuator};
+use std::alloc::Global;
+
+/// `Fragment = "fragment" Name Condition Directives SelectionSet`
+#[tactic(auto, using(graphql_common::proofs::Reading::reading))]
+fn fragment_definition<S: TokenSource>(
+    alloc: Global,
+    source: &mut S,
+) -> Result<FragmentDefinition<S::Names>, Fault>
+    ensures reads { Reads (Sym fragment_symbol) (S.items source.old) (S.items source.new)
+        (λ v x. fragment_view S.Names.bytes v ≡ fragment_of x) result }
+    ensures fault { StopsAt (S.items source.new) result }
+    ensures last { (S.items source.new).last ≡ (S.items source.old).last }
+    ensures shorter { Shortens (S.items source.old) (S.items source.new) result }
+{
+    let position = keyword(alloc, source, "fragment")?;
+    let (_, name) = name(alloc, source)?;
+    let type_condition = type_condition(alloc, source)?;
+    let directives = directives(alloc, source)?;
+    let selection_set = selection_set(alloc, source)?;
+    Ok(FragmentDefinition {
+        position,
+        name,
+        type_condition,
+        directives,
+        selection_set,
+    })
+}
+
+/// `Definition = Operation | Fragment`
+#[tactic(auto, using(graphql_common::proofs::Reading::reading))]
+fn definition<S: TokenSource>(alloc: Global, source: &mut S) -> Result<Definition<S::Names>, Fault>
+    ensures reads { Reads (Sym definition_symbol) (S.items source.old) (S.items source.new)
+        (λ v x. definition_view S.Names.bytes v ≡ definition_of x) result }
+    ensures fault { StopsAt (S.items source.new) result }
+    ensures last { (S.items source.new).last ≡ (S.items source.old).last }
+    ensures shorter { Shortens (S.items source.old) (S.items source.new) result }
+{
+    if sees_keyword(source, "fragment") {
+        return Ok(Definition::Fragment(fragment_definition(alloc, source)?));
+    }
+    Ok(Definition::Operation(operation_definition(alloc, source)?))
+}
+
+/// Whether a definition begins with the next item.
+fn sees_definition<S: TokenSource>(source: &S) -> bool
+    ensures { result ≡ sees_definition (S.items source.now) }
+{
+    sees_punctuator(source, "{")
+        || sees_keyword(source, "query")
+        || sees_keyword(source, "mutation")
+        || sees_keyword(source, "subscription")
+        || sees_keyword(source, "fragment")
+}
+
+/// `QueryDocument = Definition+`, without the end behind it.
+#[tactic(auto, using(graphql_common::proofs::Reading::reading))]
+pub fn definitions<S: TokenSource>(
+    alloc: Global,
+    source: &mut S,
+) -> Result<Vec<Definition<S::Names>>, Fault>
+    ensures reads { Reads (some_of (Sym definition_symbol)) (S.items source.old) (S.items source.new)
+        (λ v x. definitions_view S.Names.bytes v.items ≡ definitions_of x) result }
+    ensures fault { StopsAt (S.items source.new) result }
+    ensures last { (S.items source.new).last ≡ (S.items source.old).last }
+    ensures shorter { Shortens (S.items source.old) (S.items source.new) result }
+{
+    let mut definitions = Vec::new(alloc);
+    definitions.push(definition(alloc, source)?)?;
+    'more: while sees_definition(source) {
+        definitions.push(definition(alloc, source)?)?;
+    }
+    Ok(definitions)
+}

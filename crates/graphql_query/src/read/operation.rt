@@ -1,0 +1,247 @@
+//! Operations and their variables.
+ghost use Rattle.std.specs.Prelude.{◌≡◌, ◌≤◌, OnOk, length, codes, option_map};
+ghost use Rattle.graphql_grammar.specs.Trees.{Then, Sym, optional};
+ghost use Rattle.graphql_common.specs.ValueViews.{value_view};
+ghost use Rattle.graphql_common.specs.Grammar.{default_symbol, word};
+ghost use Rattle.graphql_common.specs.Grammar as core;
+ghost use Rattle.graphql_common.specs.Gives.{StopsAt, Shortens};
+ghost use Rattle.graphql_query.specs.Tree.{query_kind, mutation_kind, subscription_kind, variable_view, variables_view, query_view, mutation_view, subscription_view, operation_view};
+ghost use Rattle.graphql_query.specs.Common.{common_view};
+ghost use Rattle.graphql_query.specs.Grammar.{common_symbol, variables_symbol, variable_symbol, operation_symbol};
+ghost use Rattle.graphql_query.specs.Meanings.{optional_name_of, optional_default_of, variable_of, variables_of, optional_variables_of, common_of, keyword_of, operation_of};
+ghost use Rattle.graphql_query.specs.Reads.{Reads};
+
+use crate::read::selection::selection_set;
+use crate::tree::{
+    Mutation, OperationDefinition, Query, SelectionSet, Subscription, VariableDefinition,
+};
+use graphql_common::read::directives::{default_value, directives};
+use graphql_common::read::types::parse_type;
+use graphql_common::tree::{Directive, Value};
+use graphql_core::common::{Fault, Names};
+use graphql_core::helpers::{
+    TokenSource, keyword, name, punctuator, sees_keyword, sees_name, sees_punctuator,
+};
+use std::alloc::Global;
+
+/// What every operation has behind its keyword.
+#[derive(Drop)]
+struct Common<N: Names> {
+    name: Option<N::Value>,
+    variable_definitions: Vec<VariableDefinition<N>>,
+    directives: Vec<Directive<N>>,
+    selection_set: SelectionSet<N>,
+}
+
+/// `Name?`
+#[tactic(auto, using(graphql_common::proofs::Reading::reading))]
+fn optional_name<S: TokenSource>(
+    alloc: Global,
+    source: &mut S,
+) -> Result<Option<<S::Names as Names>::Value>, Fault>
+    ensures reads { Reads (optional core.name) (S.items source.old) (S.items source.new)
+        (λ v x. option_map S.Names.bytes v ≡ optional_name_of x) result }
+    ensures fault { StopsAt (S.items source.new) result }
+    ensures last { (S.items source.new).last ≡ (S.items source.old).last }
+    ensures within { OnOk result (length (S.items source.new).tokens ≤ length (S.items source.old).tokens) }
+{
+    if !sees_name(source) {
+        return Ok(None);
+    }
+    let (_, name) = name(alloc, source)?;
+    Ok(Some(name))
+}
+
+/// `Default?`
+#[tactic(auto, using(graphql_common::proofs::Reading::reading))]
+fn optional_default<S: TokenSource>(
+    alloc: Global,
+    source: &mut S,
+) -> Result<Option<Value<S::Names>>, Fault>
+    ensures reads { Reads (optional (Sym default_symbol)) (S.items source.old) (S.items source.new)
+        (λ v x. option_map (value_view S.Names.bytes) v ≡ optional_default_of x) result }
+    ensures fault { StopsAt (S.items source.new) result }
+    ensures last { (S.items source.new).last ≡ (S.items source.old).last }
+    ensures within { OnOk result (length (S.items source.new).tokens ≤ length (S.items source.old).tokens) }
+{
+    if !sees_punctuator(source, "=") {
+        return Ok(None);
+    }
+    Ok(Some(default_value(alloc, source)?))
+}
+
+/// `Variable = "$" Name ":" Type Default?`
+#[tactic(auto, using(graphql_common::proofs::Reading::reading))]
+fn variable_definition<S: TokenSource>(
+    alloc: Global,
+    source: &mut S,
+) -> Result<VariableDefinition<S::Names>, Fault>
+    ensures reads { Reads (Sym variable_symbol) (S.items source.old) (S.items source.new)
+        (λ v x. variable_view S.Names.bytes v ≡ variable_of x) result }
+    ensures fault { StopsAt (S.items source.new) result }
+    ensures last { (S.items source.new).last ≡ (S.items source.old).last }
+    ensures shorter { Shortens (S.items source.old) (S.items source.new) result }
+{
+    let position = punctuator(alloc, source, "$")?;
+    let (_, name) = name(alloc, source)?;
+    punctuator(alloc, source, ":")?;
+    let var_type = parse_type(alloc, source)?;
+    let default_value = optional_default(alloc, source)?;
+    Ok(VariableDefinition {
+        position,
+        name,
+        var_type,
+        default_value,
+    })
+}
+
+/// `Variables = "(" Variable+ ")"`
+#[tactic(auto, using(graphql_common::proofs::Reading::reading))]
+fn variable_definitions<S: TokenSource>(
+    alloc: Global,
+    source: &mut S,
+) -> Result<Vec<VariableDefinition<S::Names>>, Fault>
+    ensures reads { Reads (Sym variables_symbol) (S.items source.old) (S.items source.new)
+        (λ v x. variables_view S.Names.bytes v.items ≡ variables_of x) result }
+    ensures fault { StopsAt (S.items source.new) result }
+    ensures last { (S.items source.new).last ≡ (S.items source.old).last }
+    ensures shorter { Shortens (S.items source.old) (S.items source.new) result }
+{
+    punctuator(alloc, source, "(")?;
+    let mut definitions = Vec::new(alloc);
+    definitions.push(variable_definition(alloc, source)?)?;
+    'more: while sees_punctuator(source, "$") {
+        definitions.push(variable_definition(alloc, source)?)?;
+    }
+    punctuator(alloc, source, ")")?;
+    Ok(definitions)
+}
+
+/// `Variables?`
+#[tactic(auto, using(graphql_common::proofs::Reading::reading))]
+fn optional_variables<S: TokenSource>(
+    alloc: Global,
+    source: &mut S,
+) -> Result<Vec<VariableDefinition<S::Names>>, Fault>
+    ensures reads { Reads (optional (Sym variables_symbol)) (S.items source.old) (S.items source.new)
+        (λ v x. variables_view S.Names.bytes v.items ≡ optional_variables_of x) result }
+    ensures fault { StopsAt (S.items source.new) result }
+    ensures last { (S.items source.new).last ≡ (S.items source.old).last }
+    ensures within { OnOk result (length (S.items source.new).tokens ≤ length (S.items source.old).tokens) }
+{
+    if !sees_punctuator(source, "(") {
+        return Ok(Vec::new(alloc));
+    }
+    variable_definitions(alloc, source)
+}
+
+/// `Common = Name? Variables? Directives SelectionSet`
+#[tactic(auto, using(graphql_common::proofs::Reading::reading))]
+fn operation_common<S: TokenSource>(
+    alloc: Global,
+    source: &mut S,
+) -> Result<Common<S::Names>, Fault>
+    ensures reads { Reads (Sym common_symbol) (S.items source.old) (S.items source.new)
+        (λ v x. common_view S.Names.bytes v ≡ common_of x) result }
+    ensures fault { StopsAt (S.items source.new) result }
+    ensures last { (S.items source.new).last ≡ (S.items source.old).last }
+    ensures shorter { Shortens (S.items source.old) (S.items source.new) result }
+{
+    let name = optional_name(alloc, source)?;
+    let variable_definitions = optional_variables(alloc, source)?;
+    let directives = directives(alloc, source)?;
+    let selection_set = selection_set(alloc, source)?;
+    Ok(Common {
+        name,
+        variable_definitions,
+        directives,
+        selection_set,
+    })
+}
+
+/// `"query" Common`
+#[tactic(auto, using(graphql_common::proofs::Reading::reading))]
+fn query<S: TokenSource>(alloc: Global, source: &mut S) -> Result<Query<S::Names>, Fault>
+    ensures reads { Reads (Then (word (codes "query")) (Sym common_symbol)) (S.items source.old) (S.items source.new)
+        (λ v x. query_view S.Names.bytes v ≡ keyword_of query_kind x) result }
+    ensures fault { StopsAt (S.items source.new) result }
+    ensures last { (S.items source.new).last ≡ (S.items source.old).last }
+    ensures shorter { Shortens (S.items source.old) (S.items source.new) result }
+{
+    let position = keyword(alloc, source, "query")?;
+    let common = operation_common(alloc, source)?;
+    Ok(Query {
+        position,
+        name: common.name,
+        variable_definitions: common.variable_definitions,
+        directives: common.directives,
+        selection_set: common.selection_set,
+    })
+}
+
+/// `"mutation" Common`
+#[tactic(auto, using(graphql_common::proofs::Reading::reading))]
+fn mutation<S: TokenSource>(alloc: Global, source: &mut S) -> Result<Mutation<S::Names>, Fault>
+    ensures reads { Reads (Then (word (codes "mutation")) (Sym common_symbol)) (S.items source.old) (S.items source.new)
+        (λ v x. mutation_view S.Names.bytes v ≡ keyword_of mutation_kind x) result }
+    ensures fault { StopsAt (S.items source.new) result }
+    ensures last { (S.items source.new).last ≡ (S.items source.old).last }
+    ensures shorter { Shortens (S.items source.old) (S.items source.new) result }
+{
+    let position = keyword(alloc, source, "mutation")?;
+    let common = operation_common(alloc, source)?;
+    Ok(Mutation {
+        position,
+        name: common.name,
+        variable_definitions: common.variable_definitions,
+        directives: common.directives,
+        selection_set: common.selection_set,
+    })
+}
+
+/// `"subscription" Common`
+#[tactic(auto, using(graphql_common::proofs::Reading::reading))]
+fn subscription<S: TokenSource>(
+    alloc: Global,
+    source: &mut S,
+) -> Result<Subscription<S::Names>, Fault>
+    ensures reads { Reads (Then (word (codes "subscription")) (Sym common_symbol)) (S.items source.old) (S.items source.new)
+        (λ v x. subscription_view S.Names.bytes v ≡ keyword_of subscription_kind x) result }
+    ensures fault { StopsAt (S.items source.new) result }
+    ensures last { (S.items source.new).last ≡ (S.items source.old).last }
+    ensures shorter { Shortens (S.items source.old) (S.items source.new) result }
+{
+    let position = keyword(alloc, source, "subscription")?;
+    let common = operation_common(alloc, source)?;
+    Ok(Subscription {
+        position,
+        name: common.name,
+        variable_definitions: common.variable_definitions,
+        directives: common.directives,
+        selection_set: common.selection_set,
+    })
+}
+
+/// `Operation = SelectionSet | "query" Common | "mutation" Common | "subscription" Common`
+#[tactic(auto, using(graphql_common::proofs::Reading::reading))]
+pub fn operation_definition<S: TokenSource>(
+    alloc: Global,
+    source: &mut S,
+) -> Result<OperationDefinition<S::Names>, Fault>
+    ensures reads { Reads (Sym operation_symbol) (S.items source.old) (S.items source.new)
+        (λ v x. operation_view S.Names.bytes v ≡ operation_of x) result }
+    ensures fault { StopsAt (S.items source.new) result }
+    ensures last { (S.items source.new).last ≡ (S.items source.old).last }
+    ensures shorter { Shortens (S.items source.old) (S.items source.new) result }
+{
+    if sees_keyword(source, "query") {
+        return Ok(OperationDefinition::Query(query(alloc, source)?));
+    }
+    if sees_keyword(source, "mutation") {
+        return Ok(OperationDefinition::Mutation(mutation(alloc, source)?));
+    }
+    if sees_keyword(source, "subscription") {
+        return Ok(OperationDefinition::Subscription(subscription(alloc, source)?));
+    }
+    Ok(OperationDefinition::SelectionSet(selection_set(alloc, source)?))
+}
