@@ -21,10 +21,12 @@ pub mod tokenizer {
 
 /// Query documents.
 pub mod query {
-    pub use graphql_core::common::{Directive, FloatLiteral, Number, Type, Value};
+    pub use graphql_common::{Directive, Type, Value};
+    pub use graphql_core::common::{FloatLiteral, Number};
     pub use graphql_query::{
-        Definition, Document, Field, Names, OperationDefinition, ParseError, Selection,
-        SelectionSet, Text, parse_query,
+        Definition, Document, Field, FragmentDefinition, FragmentSpread, InlineFragment, Mutation,
+        Names, OperationDefinition, ParseError, Query, Selection, SelectionSet, Subscription, Text,
+        TypeCondition, VariableDefinition, parse_query,
     };
 }
 

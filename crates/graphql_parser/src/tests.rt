@@ -5,4 +5,5 @@ mod documents;
 mod memory;
 mod messages;
 mod positions;
+mod queries;
 mod tokens;

@@ -11,17 +11,17 @@ use std::io::Write;
 /// A writer that needs no memory.
 #[derive(Drop)]
 struct Page {
-    bytes: [u8; 64],
+    bytes: [u8; 128],
     count: usize,
 }
 
 impl Write for Page {
     fn write(&mut self, buf: &[u8]) -> io::Result<usize> {
-        if self.count > 64 {
+        if self.count > 128 {
             return Ok(0);
         }
         let start = self.count;
-        let count = buf.len().min(64 - start);
+        let count = buf.len().min(128 - start);
         self.bytes[start..start + count].copy_from_slice(&buf[..count]);
         self.count += count;
         Ok(count)
@@ -47,10 +47,14 @@ fn a_run_is_done_or_out_of_memory(rt: HostRuntime) {
     for (text, output) in [
         ("{ a } { b }", "{\n  a\n}\n\n{\n  b\n}\n"),
         ("{ a { b } }", "{\n  a {\n    b\n  }\n}\n"),
+        (
+            "query Q($a: [Int!]! = [1, 2]) @d(x: $a) { b: c ... on T @e { f } ...G }",
+            "query Q($a: [Int!]! = [1, 2]) @d(x: $a) {\n  b: c\n  ... on T @e {\n    f\n  }\n  ...G\n}\n",
+        ),
         ("{ a", ""),
     ] {
         let mut page = Page {
-            bytes: [0; 64],
+            bytes: [0; 128],
             count: 0,
         };
         let mut reader = Counted::new(Source::of(text.as_bytes()));

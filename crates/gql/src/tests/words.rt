@@ -23,12 +23,55 @@ fn query_is_the_only_command(rt: HostRuntime) -> Result<(), Fail> {
     Ok(())
 }
 
+/// Whether these words say a style with these settings.
+fn says(alloc: Global, words: &[&str], indent: u32, multiline: bool) -> Result<bool, AllocError> {
+    match said(alloc, words)? {
+        Some((_, style)) => Ok(
+            style.indentation() == indent && style.has_multiline_arguments() == multiline,
+        ),
+        None => Ok(false),
+    }
+}
+
+#[test]
+fn options_follow_in_any_order(rt: HostRuntime) -> Result<(), Fail> {
+    let alloc = rt.alloc();
+    assert!(rt; says(alloc, &["query"], 2, false)?);
+    assert!(rt; says(alloc, &["query", "--multiline"], 2, true)?);
+    assert!(rt; says(alloc, &["query", "--indent", "4"], 4, false)?);
+    assert!(rt;
+        says(
+            alloc,
+            &["query", "--indent", "0000000007", "--multiline"],
+            7,
+            true
+        )?
+    );
+    assert!(rt;
+        says(
+            alloc,
+            &["query", "--multiline", "--indent", "4294967295"],
+            4294967295,
+            true
+        )?
+    );
+    Ok(())
+}
+
 #[test]
 fn wrong_words_say_nothing(rt: HostRuntime) -> Result<(), Fail> {
     let alloc = rt.alloc();
     assert!(rt; said(alloc, &[])?.is_none());
     assert!(rt; said(alloc, &["minify", "--multiline"])?.is_none());
-    assert!(rt; said(alloc, &["query", "--indent", "4"])?.is_none());
+    for number in ["", "+4", "-4", "4 ", "a", "4294967296", "00000000004"] {
+        assert!(rt;
+            said(alloc, &["query", "--indent", number])?.is_none(),
+            "{number}"
+        );
+    }
+    assert!(rt; said(alloc, &["query", "--indent"])?.is_none());
+    assert!(rt; said(alloc, &["query", "--multiline", "--multiline"])?.is_none());
+    assert!(rt; said(alloc, &["query", "--indent", "4", "--indent", "4"])?.is_none());
     assert!(rt; said(alloc, &["query", "query"])?.is_none());
     assert!(rt; said(alloc, &["Query"])?.is_none());
     assert_eq!(rt; status(None), 2);

@@ -1,9 +1,14 @@
 //! Callers at concrete text types, one of them the tests' own.
 ghost use Rattle.std.specs.Prelude.{IfOk, ◌≡◌, string_bytes, refl, nat_eq};
 ghost use Rattle.std.proofs.Common.{rules};
+ghost use Rattle.std.specs.Prelude.{IfSome};
+ghost use Rattle.graphql_query.specs.Tree.{DocumentTree};
+ghost use Rattle.graphql_query.specs.Document.{IsDocumentOf};
+ghost use Rattle.graphql_query.specs.Layout.{layout};
 
 use crate::common::{Names, Text};
 use crate::query::{Definition, Document, OperationDefinition, ParseError, Selection, parse_query};
+use crate::{Cause, Pos, Style};
 use std::alloc::{AllocError, Global};
 use std::test::Fail;
 
@@ -56,9 +61,56 @@ fn with_owned_names(alloc: Global, source: &str) -> Result<Document<'static, Own
 fn first_name<'a, 'd, T: Text<'a>>(document: &'d Document<'a, T>) -> Option<&'d str> {
     let Definition::Operation(OperationDefinition::SelectionSet(set)) = document
         .definitions
-        .first()?;
-    let Selection::Field(field) = set.items.first()?;
-    Some(T::view(&field.name))
+        .first()?
+    else {
+        return None;
+    };
+    match set.items.first()? {
+        Selection::Field(field) => Some(T::view(&field.name)),
+        _ => None,
+    }
+}
+
+/// A text laid out in a style, if it is a document and there is memory.
+fn laid_out(alloc: Global, source: &str, style: &Style) -> Option<String>
+    ensures { IfSome result (λ text. (d : DocumentTree) × IsDocumentOf source.now d × (string_bytes text ≡ layout style.now d)) }
+{
+    let document: Document<'_, &str> = parse_query(alloc, source).ok()?;
+    document.format(alloc, style).ok()
+}
+
+/// Where a text is refused, and whether a number is the cause.
+fn refusal(error: &ParseError) -> (Option<Pos>, bool) {
+    let is_number = matches!(error.cause(), Cause::IntOutOfRange | Cause::MalformedFloat);
+    (error.position(), is_number)
+}
+
+/// Four spaces a level, and a line for each part of arguments.
+fn wide() -> Style {
+    let mut style = Style::default();
+    style.indent(4).multiline_arguments(true);
+    style
+}
+
+#[test]
+fn texts_are_laid_out(rt: HostRuntime) -> Result<(), Fail> {
+    let alloc = rt.alloc();
+    let text = laid_out(alloc, "{ a(b: 1) }", &wide()).ok_or("refused")?;
+    assert_eq!(rt; text.as_str(), "{\n    a(\n        b: 1\n    )\n}\n");
+    assert!(rt; laid_out(alloc, "{ a( }", &wide()).is_none());
+    Ok(())
+}
+
+#[test]
+fn refusals_have_a_position_and_a_cause(rt: HostRuntime) -> Result<(), Fail> {
+    let answer: Result<Document<'_, &str>, _> = parse_query(rt.alloc(), "{ a(x: 1e+) }");
+    match answer {
+        Ok(_) => Err(Fail::new("accepted")),
+        Err(error) => {
+            assert_eq!(rt; refusal(&error), (Some(Pos { line: 1, column: 8 }), true));
+            Ok(())
+        }
+    }
 }
 
 #[test]

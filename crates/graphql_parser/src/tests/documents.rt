@@ -17,24 +17,36 @@ fn parsed(alloc: Global, text: &str) -> Result<Document<'_, &str>, ParseError> {
     parse_query(alloc, text)
 }
 
-/// The selection set of a document's only definition.
+/// The selection set of a document that is one query in its short form.
 fn only_set<'d, 'a>(
     rt: &impl Abort,
     document: &'d Document<'a, &'a str>,
-) -> &'d SelectionSet<'a, &'a str> {
+) -> Result<&'d SelectionSet<'a, &'a str>, Fail> {
     assert_eq!(rt; document.definitions.len(), 1);
-    let Definition::Operation(OperationDefinition::SelectionSet(set)) = &document.definitions[0];
-    set
+    match document.definitions.first() {
+        Some(Definition::Operation(OperationDefinition::SelectionSet(set))) => Ok(set),
+        _ => Err(Fail::new("no query in its short form")),
+    }
+}
+
+/// The field at an index of a selection set.
+fn field_at<'d, 'a>(
+    set: &'d SelectionSet<'a, &'a str>,
+    index: usize,
+) -> Result<&'d Field<'a, &'a str>, Fail> {
+    match set.items.get(index) {
+        Some(Selection::Field(field)) => Ok(field),
+        _ => Err(Fail::new("no field")),
+    }
 }
 
 /// The field of a selection set with one.
 fn only_field<'d, 'a>(
     rt: &impl Abort,
     set: &'d SelectionSet<'a, &'a str>,
-) -> &'d Field<'a, &'a str> {
+) -> Result<&'d Field<'a, &'a str>, Fail> {
     assert_eq!(rt; set.items.len(), 1);
-    let Selection::Field(field) = &set.items[0];
-    field
+    field_at(set, 0)
 }
 
 /// Some copies of a text, one after another.
@@ -66,9 +78,9 @@ fn assert_refused(
 fn a_comment_ends_a_line(rt: HostRuntime) -> Result<(), Fail> {
     for text in ["# c\r\n{ a }", "# c\r{ a }", "# c\n{ a }"] {
         let document = parsed(rt.alloc(), text)?;
-        let set = only_set(&rt, &document);
+        let set = only_set(&rt, &document)?;
         assert_eq!(rt; set.span, (at(2, 1), at(2, 5)), "at {text:?}");
-        let field = only_field(&rt, set);
+        let field = only_field(&rt, set)?;
         assert_eq!(rt; field.name, "a");
         assert_eq!(rt; field.position, at(2, 3));
         assert_eq!(rt; field.selection_set.span, (at(2, 3), at(2, 3)));
@@ -80,7 +92,7 @@ fn a_comment_ends_a_line(rt: HostRuntime) -> Result<(), Fail> {
 #[test]
 fn a_byte_order_mark_takes_no_column(rt: HostRuntime) -> Result<(), Fail> {
     let document = parsed(rt.alloc(), "\u{feff}{ a }")?;
-    assert_eq!(rt; only_set(&rt, &document).span, (at(1, 1), at(1, 5)));
+    assert_eq!(rt; only_set(&rt, &document)?.span, (at(1, 1), at(1, 5)));
     Ok(())
 }
 
@@ -88,7 +100,7 @@ fn a_byte_order_mark_takes_no_column(rt: HostRuntime) -> Result<(), Fail> {
 fn a_return_alone_takes_no_column(rt: HostRuntime) -> Result<(), Fail> {
     let document = parsed(rt.alloc(), "{\ra }")?;
     assert_eq!(rt;
-        only_field(&rt, only_set(&rt, &document)).position,
+        only_field(&rt, only_set(&rt, &document)?)?.position,
         at(1, 2)
     );
     Ok(())
@@ -97,15 +109,15 @@ fn a_return_alone_takes_no_column(rt: HostRuntime) -> Result<(), Fail> {
 #[test]
 fn selections_nest(rt: HostRuntime) -> Result<(), Fail> {
     let document = parsed(rt.alloc(), "{ a { b } c }")?;
-    let set = only_set(&rt, &document);
+    let set = only_set(&rt, &document)?;
     assert_eq!(rt; set.span, (at(1, 1), at(1, 13)));
     assert_eq!(rt; set.items.len(), 2);
-    let Selection::Field(a) = &set.items[0];
+    let a = field_at(set, 0)?;
     assert_eq!(rt; (a.name, a.position), ("a", at(1, 3)));
     assert_eq!(rt; a.selection_set.span, (at(1, 5), at(1, 9)));
-    let b = only_field(&rt, &a.selection_set);
+    let b = only_field(&rt, &a.selection_set)?;
     assert_eq!(rt; (b.name, b.position), ("b", at(1, 7)));
-    let Selection::Field(c) = &set.items[1];
+    let c = field_at(set, 1)?;
     assert_eq!(rt; (c.name, c.position), ("c", at(1, 11)));
     Ok(())
 }
@@ -117,10 +129,6 @@ fn texts_without_a_document_are_refused(rt: HostRuntime) -> Result<(), Fail> {
         kind: Kind::Punctuator,
         text: String::from_str(alloc, "}")?,
     };
-    let parenthesis = Cause::UnexpectedToken {
-        kind: Kind::Punctuator,
-        text: String::from_str(alloc, "(")?,
-    };
     let run = String::from_str(alloc, "1\"x\"")?;
     for (text, cause, position) in [
         ("", Cause::UnexpectedEnd, at(1, 1)),
@@ -128,7 +136,6 @@ fn texts_without_a_document_are_refused(rt: HostRuntime) -> Result<(), Fail> {
         ("{ }", brace, at(1, 3)),
         ("{ a", Cause::UnexpectedEnd, at(1, 4)),
         ("{ a;}", Cause::BadToken(BadToken::Character(';')), at(1, 4)),
-        ("{ a(b: 1) }", parenthesis, at(1, 4)),
         (
             "{ a 1\"x\" }",
             Cause::BadToken(BadToken::Integer(run)),

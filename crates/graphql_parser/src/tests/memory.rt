@@ -4,6 +4,17 @@ use crate::{Cause, FormatError, Pos, Style};
 use std::alloc::Global;
 use std::process::Abort;
 
+/// Each kind of part.
+const WHOLE: &str = "query Q($a: [Int!]! = [1, 2]) @d(x: $a) { b: c ... on T @e { f } ...G }";
+
+const WHOLE_LAYOUT: &str =
+    "query Q($a: [Int!]! = [1, 2]) @d(x: $a) {\n  b: c\n  ... on T @e {\n    f\n  }\n  ...G\n}\n";
+
+/// Each kind of value.
+const VALUES: &str = "{ a(o: {b: 1e+2, a: \"x\\u00e9\", b: [E, null, true]}) }";
+
+const VALUES_LAYOUT: &str = "{\n  a(o: {a: \"xé\", b: [E, null, true]})\n}\n";
+
 fn parsed(alloc: Global, text: &str) -> Result<Document<'_, &str>, ParseError> {
     parse_query(alloc, text)
 }
@@ -32,6 +43,8 @@ fn a_document_or_want_of_memory(rt: HostRuntime) {
     for (text, laid_out) in [
         ("{ a { b } }", "{\n  a {\n    b\n  }\n}\n"),
         ("{ a } { b }", "{\n  a\n}\n\n{\n  b\n}\n"),
+        (WHOLE, WHOLE_LAYOUT),
+        (VALUES, VALUES_LAYOUT),
     ] {
         match parsed(alloc, text) {
             Ok(document) => assert_laid_out(&rt, alloc, &document, laid_out),
@@ -41,9 +54,33 @@ fn a_document_or_want_of_memory(rt: HostRuntime) {
 }
 
 #[test]
+fn owned_names_or_want_of_memory(rt: HostRuntime) {
+    let alloc = rt.alloc();
+    match parse_query::<String>(alloc, WHOLE) {
+        Ok(document) => {
+            if let Ok(text) = document.format(alloc, &Style::default()) {
+                assert_eq!(rt; text.as_str(), WHOLE_LAYOUT);
+            }
+            if let Ok(copy) = document.clone() {
+                assert!(rt; copy == document);
+            }
+        }
+        Err(error) => assert!(rt; ran_out(&error)),
+    }
+}
+
+#[test]
 fn a_refusal_or_want_of_memory(rt: HostRuntime) {
     let alloc = rt.alloc();
-    for (text, column) in [("{ }", 3), ("{ a", 4), ("{ a;}", 4), ("{ a { b } } b", 13)] {
+    for (text, column) in [
+        ("{ }", 3),
+        ("{ a", 4),
+        ("{ a;}", 4),
+        ("{ a { b } } b", 13),
+        ("{ a(x: [1, \"\\q\"]) }", 12),
+        ("{ a(x: 1e+) }", 8),
+        ("{ a(x: 9223372036854775808) }", 8),
+    ] {
         match parsed(alloc, text) {
             Ok(_) => assert!(rt; false, "accepted: {text}"),
             Err(error) => {
