@@ -1,9 +1,13 @@
 -- One token against a class.
-use Rattle.std.proofs.Common.{◌≡◌, ℕ, true, false, eqb, nat_eq, ◌||◌, List, [], ◌∷◌, drop, refl, sym, ap, ◌∙◌, arith}
+use Rattle.std.proofs.Common.{rules, ◌≡◌, ℕ, true, false, eqb, nat_eq, ◌==◌, ◌||◌, List, [], ◌∷◌, drop, refl, sym, ap, ◌∙◌, arith}
 use Rattle.std.specs.Cmp.Lexicographic.{pointwise}
+use denote.Enum.Bare.{sameb, same_true}
 use Rattle.graphql_grammar.specs.Tokens.{Token, Class, same_spelling, matches}
 use Rattle.graphql_grammar.specs.Trees.{peek}
 use Rattle.graphql_grammar.specs.Reading.{sees}
+use Rattle.graphql_core.specs.contracts.tokenizer.token.Kind.{the_type}
+use Rattle.graphql_core.specs.declared.tokenizer.token.Kind.{Kind}
+use Rattle.graphql_core.specs.Causes.{kind_number}
 use Rattle.graphql_core.specs.Source.{Items, after}
 use Rattle.graphql_core.specs.Matching.{sees_class, TakesToken}
 
@@ -16,6 +20,10 @@ same_text_spelling [] [] = refl
 same_text_spelling [] (y ∷ ys) = refl
 same_text_spelling (x ∷ xs) [] = refl
 same_text_spelling (x ∷ xs) (y ∷ ys) = rw (eqb-comm x y, same_text_spelling xs ys) refl
+
+-- tokens of one kind have one number
+pub same_kind_number : (a b : Kind) → sameb the_type a b ≡ true → (kind_number b == kind_number a) ≡ true
+same_kind_number a b e = rw (same_true the_type (search rules) a b e) (grind (arith))
 
 -- whether the first token is of a class
 pub sees_first : (c : Class) (i : Items) (t : Token) (rest : List Token) → i.tokens ≡ t ∷ rest → sees_class c i ≡ matches c t || false

@@ -12,24 +12,11 @@ use crate::position::Pos;
 use crate::tokenizer::Kind;
 use std::alloc::Global;
 
-/// Whether a token is this punctuator.
-fn is_punctuator<S: TokenSource>(token: &Lexeme<S::Text>, spelling: &str) -> bool
-    ensures { result ≡ matches (Spelled (kind_number Punctuator) spelling.now) (lexeme_token S.bytes token.now) }
+/// Whether a token is of this kind and has this spelling.
+fn is_spelled<S: TokenSource>(token: &Lexeme<S::Text>, kind: Kind, spelling: &str) -> bool
+    ensures { result ≡ matches (Spelled (kind_number kind) spelling.now) (lexeme_token S.bytes token.now) }
 {
-    match token.kind {
-        Kind::Punctuator => S::as_str(&token.text) == spelling,
-        _ => false,
-    }
-}
-
-/// Whether a token is the name of this spelling.
-fn is_keyword<S: TokenSource>(token: &Lexeme<S::Text>, spelling: &str) -> bool
-    ensures { result ≡ matches (Spelled (kind_number Name) spelling.now) (lexeme_token S.bytes token.now) }
-{
-    match token.kind {
-        Kind::Name => S::as_str(&token.text) == spelling,
-        _ => false,
-    }
+    token.kind == kind && S::as_str(&token.text) == spelling
 }
 
 /// Whether a token is a name.
@@ -39,24 +26,28 @@ fn is_name<S: TokenSource>(token: &Lexeme<S::Text>) -> bool
     matches!(token.kind, Kind::Name)
 }
 
+/// Whether the next item is a token of this kind and spelling.
+fn sees_spelled<S: TokenSource>(source: &S, kind: Kind, spelling: &str) -> bool
+    ensures { result ≡ sees_class (Spelled (kind_number kind) spelling.now) (S.items source.now) }
+{
+    match source.peek() {
+        Some(token) => is_spelled::<S>(&token, kind, spelling),
+        None => false,
+    }
+}
+
 /// Whether the next item is this punctuator.
 pub fn sees_punctuator<S: TokenSource>(source: &S, spelling: &str) -> bool
     ensures { result ≡ sees_class (Spelled (kind_number Punctuator) spelling.now) (S.items source.now) }
 {
-    match source.peek() {
-        Some(token) => is_punctuator::<S>(&token, spelling),
-        None => false,
-    }
+    sees_spelled(source, Kind::Punctuator, spelling)
 }
 
 /// Whether the next item is the name of this spelling.
 pub fn sees_keyword<S: TokenSource>(source: &S, spelling: &str) -> bool
     ensures { result ≡ sees_class (Spelled (kind_number Name) spelling.now) (S.items source.now) }
 {
-    match source.peek() {
-        Some(token) => is_keyword::<S>(&token, spelling),
-        None => false,
-    }
+    sees_spelled(source, Kind::Name, spelling)
 }
 
 /// Whether the next item is a name.
@@ -69,6 +60,25 @@ pub fn sees_name<S: TokenSource>(source: &S) -> bool
     }
 }
 
+/// Takes the token of this kind and spelling, and answers its position.
+fn spelled<S: TokenSource>(
+    alloc: Global,
+    source: &mut S,
+    kind: Kind,
+    spelling: &str,
+) -> Result<Pos, Fault>
+    ensures { TakesOne (Spelled (kind_number kind) spelling.now) (S.items source.old) (S.items source.new)
+        (λ p t. t.place ≡ place_of p) result }
+{
+    match source.peek() {
+        Some(token) if is_spelled::<S>(&token, kind, spelling) => {
+            source.advance();
+            Ok(token.position)
+        }
+        _ => Err(source.fault(alloc)),
+    }
+}
+
 /// Takes this punctuator, and answers its position.
 pub fn punctuator<S: TokenSource>(
     alloc: Global,
@@ -78,13 +88,7 @@ pub fn punctuator<S: TokenSource>(
     ensures { TakesOne (Spelled (kind_number Punctuator) spelling.now) (S.items source.old) (S.items source.new)
         (λ p t. t.place ≡ place_of p) result }
 {
-    match source.peek() {
-        Some(token) if is_punctuator::<S>(&token, spelling) => {
-            source.advance();
-            Ok(token.position)
-        }
-        _ => Err(source.fault(alloc)),
-    }
+    spelled(alloc, source, Kind::Punctuator, spelling)
 }
 
 /// Takes the name of this spelling, and answers its position.
@@ -92,13 +96,7 @@ pub fn keyword<S: TokenSource>(alloc: Global, source: &mut S, spelling: &str) ->
     ensures { TakesOne (Spelled (kind_number Name) spelling.now) (S.items source.old) (S.items source.new)
         (λ p t. t.place ≡ place_of p) result }
 {
-    match source.peek() {
-        Some(token) if is_keyword::<S>(&token, spelling) => {
-            source.advance();
-            Ok(token.position)
-        }
-        _ => Err(source.fault(alloc)),
-    }
+    spelled(alloc, source, Kind::Name, spelling)
 }
 
 /// Takes a name, and answers its position and what a tree keeps of it.

@@ -1,6 +1,0 @@
-use Rattle.std.proofs.Common.{sym, ◌∙◌, refl}
-use Rattle.graphql_core.proofs.Matches.{takes_first}
-use Rattle.graphql_core.proofs.helpers.matching.punctuator.Goals as goal
-
-pub returns-in-Some : goal.returns-in-Some
-returns-in-Some g c = (_, takes_first _ _ _ _ c.in-Some.ensures.next c.advance.ensures (sym c.is_punctuator.ensures ∙ c.if-is_punctuator.true), refl)
