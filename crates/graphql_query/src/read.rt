@@ -1,4 +1,5 @@
 //! Readers, one for each symbol of the grammar. Each has its production above it.
+mod alias;
 mod definition;
 mod fragment;
 mod operation;

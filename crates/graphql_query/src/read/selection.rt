@@ -1,51 +1,24 @@
 //! Selections.
-ghost use Rattle.std.specs.Prelude.{◌≡◌, ◌≤◌, ◌||◌, OnOk, length, codes, option_map};
+ghost use Rattle.std.specs.Prelude.{◌≡◌, ◌≤◌, ◌||◌, OnOk, length, codes};
 ghost use Rattle.graphql_grammar.specs.Trees.{Then, Sym, Either, optional};
 ghost use Rattle.graphql_core.specs.declared.tokenizer.token.Kind.TheVariants.{Name};
 ghost use Rattle.graphql_core.specs.Source.{place_of};
 ghost use Rattle.graphql_core.specs.Matching.{sees_class};
 ghost use Rattle.graphql_common.specs.Grammar.{punctuator, any, mark};
-ghost use Rattle.graphql_common.specs.Grammar as core;
 ghost use Rattle.graphql_common.specs.Gives.{StopsAt, Shortens};
 ghost use Rattle.graphql_query.specs.Tree.{field_view, inline_view, selection_view, set_view};
 ghost use Rattle.graphql_query.specs.Grammar.{field_symbol, set_symbol, selection_symbol, spread_rest, inline_rest};
 ghost use Rattle.graphql_query.specs.Meanings.{field_of, selected_of, inline_rest_of, selection_of, set_of};
-ghost use Rattle.graphql_query.specs.Reads.{Reads, renamed, behind_dots_of};
+ghost use Rattle.graphql_query.specs.Reads.{Reads, behind_dots_of};
 
+use crate::read::alias::aliased;
 use crate::read::fragment::{fragment_spread, optional_condition, sees_spread_name};
 use crate::tree::{Field, InlineFragment, Selection, SelectionSet};
 use graphql_common::read::directives::{directives, optional_arguments};
-use graphql_core::common::{Fault, Names};
+use graphql_core::common::Fault;
 use graphql_core::helpers::{TokenSource, name, punctuator, sees_name, sees_punctuator};
 use graphql_core::position::Pos;
 use std::alloc::Global;
-
-/// `(":" Name)?` behind a first name: the alias where there is one, and the name.
-#[tactic(auto, using(graphql_common::proofs::Reading::reading))]
-fn aliased<S: TokenSource>(
-    alloc: Global,
-    source: &mut S,
-    first: <S::Names as Names>::Value,
-) -> Result<
-    (
-        Option<<S::Names as Names>::Value>,
-        <S::Names as Names>::Value,
-    ),
-    Fault,
->
-    ensures reads { Reads (optional (Then (punctuator (codes ":")) core.name)) (S.items source.old) (S.items source.new)
-        (λ v x. (option_map S.Names.bytes v.0, S.Names.bytes v.1) ≡ renamed (S.Names.bytes first) x) result }
-    ensures fault { StopsAt (S.items source.new) result }
-    ensures last { (S.items source.new).last ≡ (S.items source.old).last }
-    ensures within { OnOk result (length (S.items source.new).tokens ≤ length (S.items source.old).tokens) }
-{
-    if !sees_punctuator(source, ":") {
-        return Ok((None, first));
-    }
-    punctuator(alloc, source, ":")?;
-    let (_, name) = name(alloc, source)?;
-    Ok((Some(first), name))
-}
 
 /// `Field = Alias? Name Arguments? Directives SelectionSet?`, where `Alias = Name ":"`
 #[cycle(reading)]

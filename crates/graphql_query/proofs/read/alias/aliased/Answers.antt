@@ -5,7 +5,7 @@ use Rattle.graphql_grammar.proofs.Turning.{Stops-after}
 use Rattle.graphql_common.specs.Grammar.{punctuator, name}
 use Rattle.graphql_common.proofs.Reading.{takes_one, stops_one, takes_some, takes_none, stops_optional, gives_error}
 use Rattle.graphql_query.specs.Grammar.{reading}
-use Rattle.graphql_query.proofs.read.selection.aliased.Goals as goal
+use Rattle.graphql_query.proofs.read.alias.aliased.Goals as goal
 
 pub returns-then-not-sees_punctuator-clause-reads : goal.returns-then-not-sees_punctuator-clause-reads
 returns-then-not-sees_punctuator-clause-reads g c = (Second Nothing, takes_none reading (Then (punctuator (codes ":")) name) _ refl (sym c.sees_punctuator.ensures ∙ c.if-not-sees_punctuator.true), refl)
