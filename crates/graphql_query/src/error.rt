@@ -81,8 +81,8 @@ struct Located<'a> {
 
 impl fmt::Display for Located<'_> {
     fn fmt<W: fmt::Write>(&self, f: &mut fmt::Formatter<W>) -> fmt::Result {
-        let cause = self.cause;
-        match self.position {
+        let Located { cause, position } = *self;
+        match position {
             Some(position) => write!(f, "Parse error at {position}\n{cause}\n"),
             None => write!(f, "{cause}"),
         }
