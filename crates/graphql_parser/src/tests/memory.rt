@@ -11,9 +11,10 @@ const WHOLE_LAYOUT: &str =
     "query Q($a: [Int!]! = [1, 2]) @d(x: $a) {\n  b: c\n  ... on T @e {\n    f\n  }\n  ...G\n}\n";
 
 /// Each kind of value.
-const VALUES: &str = "{ a(o: {b: 1e+2, a: \"x\\u00e9\", b: [E, null, true]}) }";
+const VALUES: &str =
+    "{ a(o: {b: 1e+2, a: \"x\\u00e9\", b: [E, null, true], c: \"\"\"x\"\"\", d: $v}) }";
 
-const VALUES_LAYOUT: &str = "{\n  a(o: {a: \"xé\", b: [E, null, true]})\n}\n";
+const VALUES_LAYOUT: &str = "{\n  a(o: {a: \"xé\", b: [E, null, true], c: \"x\", d: $v})\n}\n";
 
 fn parsed(alloc: Global, text: &str) -> Result<Document<'_, &str>, ParseError> {
     parse_query(alloc, text)
