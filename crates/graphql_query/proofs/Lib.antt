@@ -8,6 +8,7 @@ pub mod Keywords
 pub mod Defining
 pub mod Variables
 pub mod Whole
+pub mod OneFault
 pub mod Printable
 pub mod Printing
 pub mod Erased

@@ -1,5 +1,5 @@
 -- What a whole document is, by the theorems on every grammar.
-use Rattle.std.proofs.Common.{◌≡◌, ℕ, ◌-◌, true, false, List, [], ◌∷◌, ◌++◌, length, take, drop, length-append, ◌≤◌, Option, Some, None, is_some, refl, sym, ap, ap₂, subst, ◌∙◌, arith, Result, Ok, Err, IfErr}
+use Rattle.std.proofs.Common.{◌≡◌, ℕ, ◌-◌, true, false, List, [], ◌∷◌, ◌++◌, length, take, drop, length-append, ◌≤◌, Option, Some, None, is_some, refl, sym, ap, subst, ◌∙◌, arith, Result, Ok, Err, IfErr}
 use Rattle.std.specs.Result.{IsErrAnd}
 use Rattle.std.proofs.lemmas.List.{drop_at}
 use Rattle.std.proofs.lemmas.Bool.{and_parts}
@@ -20,16 +20,16 @@ use Rattle.graphql_core.specs.declared.common.fault.Fault.{Fault}
 use Rattle.graphql_core.specs.declared.common.fault.Fault.TheVariants.{OutOfMemory, At}
 use Rattle.graphql_core.specs.declared.position.Pos.{Pos}
 use Rattle.graphql_core.specs.declared.tokenizer.token.Kind.TheVariants.{IntValue, FloatValue, StringValue}
-use Rattle.graphql_core.specs.Source.{Items, Last, End, Wrong, IsEnd, IsAtEnd, IsFaultOf, FaultText, fault_by, fault_at, place_of, split}
-use Rattle.graphql_core.specs.Causes.{CauseText, cause_text, kind_number, int_out_of_range, malformed_float, bad_escape}
+use Rattle.graphql_core.specs.Source.{Items, Last, End, Wrong, IsEnd, IsAtEnd, IsFaultOf, FaultText, place_of, split}
+use Rattle.graphql_core.specs.Causes.{CauseText, cause_text, int_out_of_range, malformed_float, bad_escape}
 use Rattle.graphql_core.specs.Items.{Item, HasItems, start}
 use Rattle.graphql_core.specs.Cut.{items}
 use Rattle.graphql_core.proofs.Cutting.{has_items}
-use Rattle.graphql_common.specs.Grammar.{any, tables as core_tables}
+use Rattle.graphql_common.specs.Grammar.{any}
 use Rattle.graphql_common.specs.Leaves.{is_good, unquoted, without_ends}
 use Rattle.graphql_common.specs.Gives.{reason_by, reason_of, fault_for, IsFaultLeft}
 use Rattle.graphql_query.specs.Tree.{DocumentTree}
-use Rattle.graphql_query.specs.Grammar.{query, reading, second_rows, changes, tables, document_symbol, document_rule}
+use Rattle.graphql_query.specs.Grammar.{query, reading, changes, tables, document_symbol, document_rule}
 use Rattle.graphql_query.specs.Meanings.{document_of}
 use Rattle.graphql_query.specs.Document.{ending_of, IsDocument, IsDocumentOf, HasNoValue, out_of_range, malformed, escaped_badly, IsFaultBehind, unexpected, no_value, IsFirstFault, IsFirst, IsRefusalOf, AnswersUnlessMemory, ran_out, faulty, HasOneShape, max_length}
 use Rattle.graphql_query.specs.Refusal.{Refusal, refusal_of}
@@ -136,7 +136,7 @@ first i j c p why front a e l r h =
     (λ is. subst (λ (us : List Token). texts.EndsAt (lax query) (Sym document_symbol) (take n i.tokens) us (ending_of j.last)) d
     (subst (λ (m : Last). texts.EndsAt (lax query) (Sym document_symbol) (take n i.tokens) (drop n i.tokens) (ending_of m)) (sym l) (w.unexpected (r ∙ is))))
     h in
-    (n, w.within, w.begins, subst (λ (m : Last). IsFaultBehind (take n i.tokens) (drop n i.tokens) m f) l (subst (λ (us : List Token). IsFaultBehind (take n i.tokens) us j.last f) (sym d) behind))
+    (n, w.within, w.begins, w.ends, subst (λ (m : Last). IsFaultBehind (take n i.tokens) (drop n i.tokens) m f) l (subst (λ (us : List Token). IsFaultBehind (take n i.tokens) us j.last f) (sym d) behind))
 
 -- ---- no document is refused
 

@@ -53,9 +53,10 @@ pub data IsFaultBehind (front : List Token) : List Token → Last → FaultText 
   no_value : {t : Token} {behind : List Token} {l : Last} {c : CauseText} → HasNoValue t c → Begins (lax query) (Sym document_symbol) (front ++ t ∷ [])
       → IsFaultBehind front (t ∷ behind) l (record { cause = c; place = t.place })
 
--- some document begins with the first n tokens, and the fault is that of the item behind them
+-- some document begins with the first n tokens, none goes on with the item behind them, and the fault is that of the item
 abbrev pub IsFirstFault : Items → FaultText → Type 0
-IsFirstFault i f = (n : ℕ) × (n ≤ length i.tokens) × Begins query (Sym document_symbol) (take n i.tokens) × IsFaultBehind (take n i.tokens) (drop n i.tokens) i.last f
+IsFirstFault i f = (n : ℕ) × (n ≤ length i.tokens) × Begins query (Sym document_symbol) (take n i.tokens)
+    × texts.EndsAt query (Sym document_symbol) (take n i.tokens) (drop n i.tokens) (ending_of i.last) × IsFaultBehind (take n i.tokens) (drop n i.tokens) i.last f
 
 -- memory ran out, or it is the first fault of the items
 abbrev pub IsFirst : Items → Fault → Type 0
@@ -65,6 +66,14 @@ IsFirst i (At c p) = IsFirstFault i (record { cause = cause_text c; place = plac
 -- the same of a text
 abbrev pub IsFirstFaultOf : List ℕ → FaultText → Type 0
 IsFirstFaultOf text f = (items : List Item) × HasItems text items × IsFirstFault (split items) f
+
+-- a text has at most one first fault
+abbrev pub HasOneFault : List ℕ → Type 0
+HasOneFault text = (f g : FaultText) → IsFirstFaultOf text f → IsFirstFaultOf text g → f ≡ g
+
+-- a text that is a document has no first fault
+abbrev pub HasNoFault : List ℕ → DocumentTree → Type 0
+HasNoFault text d = IsDocumentOf text d → (f : FaultText) → IsFirstFaultOf text f → ⊥
 
 -- Why a text is refused: memory ran out, or it is too long, or it has no document, and this is its first fault.
 pub data IsRefusalOf (text : List ℕ) : Refusal → Type 0 where

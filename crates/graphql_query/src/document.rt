@@ -4,7 +4,7 @@ ghost use Rattle.graphql_core.specs.declared.common.fault.Fault.TheVariants.{Out
 ghost use Rattle.graphql_query.specs.Tree.{DocumentTree, document_view};
 ghost use Rattle.graphql_query.specs.Refusal.{too_long};
 ghost use Rattle.graphql_query.specs.Document.{IsDocument, IsDocumentOf, IsFirst, IsRefusalOf};
-ghost use Rattle.graphql_query.specs.Document.{AnswersUnlessMemory, HasOneShape, max_length};
+ghost use Rattle.graphql_query.specs.Document.{AnswersUnlessMemory, HasNoFault, HasOneFault, HasOneShape, max_length};
 ghost use Rattle.graphql_query.specs.Printable.{IsPrintable};
 
 use crate::error::ParseError;
@@ -64,6 +64,10 @@ pub fn parse_query<'a, S: Text<'a>>(
     // A refusal is the first fault of the text. A text past the bound is refused before any memory is taken.
     ensures refused { IfErr result (IsRefusalOf source.now) }
     ensures too_long { max_length < length source.now → IsErrOf result too_long }
+
+    // A text has at most one first fault, and none where it is a document.
+    ensures one_fault { HasOneFault source.now }
+    ensures no_fault { (d : DocumentTree) → HasNoFault source.now d }
 {
     if source.len() > MAX_LENGTH {
         return Err(ParseError::text_too_long());
