@@ -1,5 +1,5 @@
 -- The steps of readers, for every grammar: single tokens, choices, and loops.
-use Rattle.std.proofs.Common.{◌≡◌, Bool, true, false, List, [], ◌∷◌, ◌++◌, map, Result, Ok, Err, IsErrAnd, Option, Some, None, refl, sym, ap, ap₂, subst, ◌∙◌, append_assoc, inl, inr}
+use Rattle.std.proofs.Common.{◌≡◌, true, false, List, [], ◌∷◌, ◌++◌, map, Result, Ok, Err, IsErrAnd, Option, Some, None, refl, sym, ap, ap₂, subst, ◌∙◌, append_assoc, inl, inr}
 use Rattle.std.proofs.lemmas.Bool.{and_from, cases_Bool}
 use Rattle.graphql_grammar.specs.Tokens.{Token, Class, matches}
 use Rattle.graphql_grammar.specs.Trees.{Expr, Empty, One, Then, Either, Many, Shape, Nothing, Leaf, Both, First, Second, Stop, More, Row, Grammar, optional, some_of}

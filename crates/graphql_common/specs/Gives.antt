@@ -1,6 +1,6 @@
 -- What a reader answered, and where it left its source. The same words serve every grammar.
-use Rattle.std.specs.Prelude.{◌≡◌, ◌<◌, List, [], ◌∷◌, length, Result, Ok, Err, OnOk, IfErr, Option, Some, None}
-use Rattle.graphql_grammar.specs.Tokens.{Token, AnyOf}
+use Rattle.std.specs.Prelude.{◌≡◌, ◌<◌, List, ◌∷◌, length, Result, Ok, Err, OnOk, IfErr, Option, Some, None}
+use Rattle.graphql_grammar.specs.Tokens.{Token}
 use Rattle.graphql_grammar.specs.Trees.{Expr, Shape, Grammar}
 use Rattle.graphql_grammar.specs.Reading.{Reason, Unexpected, Improper}
 use Rattle.graphql_grammar.specs.Words.{TakesSome, Stops}
@@ -9,7 +9,7 @@ use Rattle.graphql_core.specs.declared.common.cause.Cause.TheVariants as cause
 use Rattle.graphql_core.specs.declared.common.fault.Fault.{Fault}
 use Rattle.graphql_core.specs.declared.common.fault.Fault.TheVariants.{OutOfMemory, At}
 use Rattle.graphql_core.specs.declared.tokenizer.token.Kind.TheVariants.{IntValue, FloatValue, StringValue}
-use Rattle.graphql_core.specs.Causes.{kind_number, cause_text}
+use Rattle.graphql_core.specs.Causes.{cause_text}
 use Rattle.graphql_core.specs.Source.{Items, Last, FaultText, fault_by, place_of}
 use Rattle.graphql_common.specs.Grammar.{any}
 

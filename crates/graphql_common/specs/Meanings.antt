@@ -1,7 +1,7 @@
 -- What the shapes of values, types and directives mean, a line for each production.
-use Rattle.std.specs.Prelude.{ℕ, true, false, List, [], ◌∷◌, Option, Some, None}
+use Rattle.std.specs.Prelude.{ℕ, true, false, List, [], ◌∷◌}
 use Rattle.graphql_grammar.specs.Tokens.{Place, nowhere}
-use Rattle.graphql_grammar.specs.Trees.{Shape, Leaf, Both, First, Second, Stop, More, Node, Nothing}
+use Rattle.graphql_grammar.specs.Trees.{Shape, Leaf, Both, First, Second, More, Node}
 use Rattle.graphql_common.specs.Leaves.{int_of, string_of, block_string_of}
 use Rattle.graphql_common.specs.Values.{ValueTree, variable, int, float, string, boolean, null, enum, list, object, ValueItems, no_items, item, ValueMembers, no_members, put, TypeTree, named, list_of, non_null, DirectiveTree}
 

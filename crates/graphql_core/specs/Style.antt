@@ -1,5 +1,5 @@
 -- The settings of a layout.
-use Rattle.std.specs.Prelude.{ℕ, ◌+◌, Bool, false, if◌then◌else◌, List, replicate}
+use Rattle.std.specs.Prelude.{ℕ, Bool, false, List, replicate}
 
 pub record Layout : Type 0 where
   -- spaces for each level

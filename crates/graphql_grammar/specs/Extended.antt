@@ -1,7 +1,7 @@
 -- A grammar that goes on from another: it has the other's rows first.
 use Rattle.std.specs.Prelude.{◌≡◌, ◌<◌, ℕ, Bool, true, ◌&&◌, nat_lt, List}
 use Rattle.graphql_grammar.specs.Tokens.{Token, Class}
-use Rattle.graphql_grammar.specs.Trees.{Expr, Empty, One, Then, Either, Many, Sym, Shape, Row, Grammar, row_at, Derives}
+use Rattle.graphql_grammar.specs.Trees.{Expr, Empty, One, Then, Either, Many, Sym, Shape, Grammar, row_at, Derives}
 use Rattle.graphql_grammar.specs.Factored.{Change, change_at}
 use Rattle.graphql_grammar.specs.Reading.{Takes, Reason, Fails}
 

@@ -1,7 +1,7 @@
 -- The grammar of query documents, as it is written, and the rules by which it is read.
 use Rattle.std.specs.Prelude.{ℕ, true, List, [], ◌∷◌, ◌++◌, codes, drop, replicate}
 use Rattle.graphql_grammar.specs.Tokens.{Token, Class, Except, matches}
-use Rattle.graphql_grammar.specs.Trees.{Expr, Empty, One, Then, Either, Many, Sym, Row, Grammar, optional, some_of}
+use Rattle.graphql_grammar.specs.Trees.{Expr, One, Then, Either, Sym, Row, Grammar, optional, some_of}
 use Rattle.graphql_grammar.specs.Solve.{solve, with_tables}
 use Rattle.graphql_grammar.specs.Factored.{Change, unchanged, in_second, out_of_symbols, out_of_prefix, with_rows}
 use Rattle.graphql_core.specs.Causes.{kind_number}

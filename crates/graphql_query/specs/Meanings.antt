@@ -1,7 +1,7 @@
 -- What the shapes of query documents mean, a line or two for each production.
 use Rattle.std.specs.Prelude.{ℕ, List, [], ◌∷◌, Option, Some, None}
 use Rattle.graphql_grammar.specs.Tokens.{Token, Place, nowhere}
-use Rattle.graphql_grammar.specs.Trees.{Shape, Leaf, Both, First, Second, More, Node, leaves}
+use Rattle.graphql_grammar.specs.Trees.{Shape, Both, First, Second, More, Node, leaves}
 use Rattle.graphql_common.specs.Values.{ValueTree, DirectiveTree, named}
 use Rattle.graphql_common.specs.Meanings.{place_at, spelling_at, type_of, default_of, optional_arguments_of, directives_of}
 use Rattle.graphql_query.specs.Tree.{SelectionTree, field, spread, inline, SetTree, set, no_set, SelectionTrees, none, more, OperationKind, query_kind, mutation_kind, subscription_kind, VariableTree, OperationTree, FragmentTree, DefinitionTree, short, operation, fragment, DocumentTree}

@@ -1,4 +1,4 @@
-use Rattle.std.proofs.Common.{◌≡◌, ◌≤◌, ◌++◌, List, length, map}
+use Rattle.std.proofs.Common.{◌≡◌, ◌≤◌, ◌++◌, List, length}
 use Rattle.graphql_grammar.specs.Trees.{Sym}
 use Rattle.graphql_grammar.specs.Words.{Turns}
 use Rattle.graphql_common.specs.Grammar.{core, directive_symbol}

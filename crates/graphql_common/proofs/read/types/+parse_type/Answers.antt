@@ -1,8 +1,8 @@
-use Rattle.std.proofs.Common.{refl, sym, ap, ◌∙◌, codes}
+use Rattle.std.proofs.Common.{refl, sym, ap, ◌∙◌}
 use Rattle.graphql_grammar.specs.Trees.{Leaf, Both, First, Second, Node}
 use Rattle.graphql_grammar.specs.Reading.{takes_both}
 use Rattle.graphql_grammar.proofs.Turning.{Stops-before, Stops-after}
-use Rattle.graphql_common.specs.Grammar.{core, type_symbol, punctuator}
+use Rattle.graphql_common.specs.Grammar.{core, type_symbol}
 use Rattle.graphql_common.specs.Meanings.{marked}
 use Rattle.graphql_common.specs.Values.{named, list_of}
 use Rattle.graphql_common.specs.ValueViews.{type_view}

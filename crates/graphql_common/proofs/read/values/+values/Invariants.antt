@@ -4,7 +4,7 @@ use Rattle.graphql_grammar.specs.Words.{Turns}
 use Rattle.graphql_common.specs.Grammar.{core}
 use Rattle.graphql_common.specs.Meanings.{put_all}
 use Rattle.graphql_common.specs.Sorts.{symbol_of, pair_symbol_of, tree_of, pair_of}
-use Rattle.graphql_common.specs.Values.{ValueTree, no_members}
+use Rattle.graphql_common.specs.Values.{ValueTree}
 use Rattle.graphql_common.specs.ValueViews.{value_view, members_view}
 use Rattle.graphql_common.proofs.Reading.{one_of}
 use Rattle.graphql_common.proofs.read.values.+values.Given as goal
