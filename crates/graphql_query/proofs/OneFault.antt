@@ -1,20 +1,20 @@
 -- A text has at most one first fault, and none where it is a document.
-use Rattle.std.proofs.Common.{◌≡◌, ℕ, zero, suc, ◌+◌, ◌-◌, ◌<◌, ◌≤◌, Bool, true, false, nat_lt, List, [], ◌∷◌, ◌++◌, length, take, drop, Option, Some, None, refl, sym, ap, subst, ◌∙◌, arith}
+use Rattle.std.proofs.Common.{◌≡◌, ℕ, suc, ◌+◌, ◌-◌, ◌<◌, ◌≤◌, Bool, true, false, nat_lt, List, [], ◌∷◌, ◌++◌, length, take, drop, Some, refl, sym, ap, subst, ◌∙◌, arith}
 use Rattle.std.proofs.lemmas.List.{append_assoc, append-nil, length-drop, length-take-le, take-append-drop}
 use Rattle.std.proofs.Math.Seq.{take-append-add, take-length}
 use Rattle.std.proofs.lemmas.Bool.Decides.{nat_tests}
 use Rattle.graphql_grammar.specs.Tokens.{Token}
 use Rattle.graphql_grammar.specs.Trees.{Expr, Sym, Shape, Grammar, Derives, Begins, Ends}
 use Rattle.graphql_grammar.specs.Reading.{lax}
-use Rattle.graphql_grammar.specs.Texts.{Ending, End, Bad, EndsAt}
-use Rattle.graphql_core.specs.Source.{Items, Last, FaultText, IsEnd, split}
-use Rattle.graphql_core.specs.Source as source
+use Rattle.graphql_grammar.specs.Texts.{Ending, End, EndsAt}
+use Rattle.graphql_core.specs.Source.{Items, Last, FaultText, split}
 use Rattle.graphql_core.specs.Causes.{CauseText}
-use Rattle.graphql_core.specs.Items.{Item, HasItems}
+use Rattle.graphql_core.specs.Items.{Item}
 use Rattle.graphql_core.proofs.Cutting.{items_unique}
 use Rattle.graphql_query.specs.Tree.{DocumentTree}
 use Rattle.graphql_query.specs.Grammar.{query, document_symbol}
 use Rattle.graphql_query.specs.Document.{ending_of, IsDocument, IsDocumentOf, HasNoValue, out_of_range, malformed, escaped_badly, IsFaultBehind, unexpected, no_value, IsFirstFault, IsFirstFaultOf}
+use Rattle.graphql_query.proofs.Whole.{ends as ends_at}
 
 -- ---- where a derived list goes on
 
@@ -89,16 +89,12 @@ no_end_there ts x n (fits, is) past ends =
 no_fault_in : (i : Items) (d : DocumentTree) (f : FaultText) → IsDocument i d → IsFirstFault i f → ⊥
 no_fault_in i d f (x, (fits, is), at_end, means) (n, within, begins, ends, why) = by_order (nat_lt n (length i.tokens)) refl
   where
-    ended : (l : Last) → IsEnd l → ending_of l ≡ End
-    ended (source.End p) h = refl
-    ended (source.Wrong p b) h = absurd h
-
     whole : Begins query (Sym document_symbol) (take (length i.tokens) i.tokens)
     whole = (x, [], (fits, append-nil (take (length i.tokens) i.tokens) ∙ take-length i.tokens ∙ is))
 
     by_order : (p : Bool) → nat_lt n (length i.tokens) ≡ p → ⊥
     by_order true e = no_end_before query (Sym document_symbol) i.tokens n (length i.tokens) (ending_of i.last) (grind (arith, nat_tests)) (omega arith) whole ends
-    by_order false e = no_end_there i.tokens x n (fits, is) (grind (arith, nat_tests)) (subst (EndsAt query (Sym document_symbol) (take n i.tokens) (drop n i.tokens)) (ended i.last at_end) ends)
+    by_order false e = no_end_there i.tokens x n (fits, is) (grind (arith, nat_tests)) (subst (EndsAt query (Sym document_symbol) (take n i.tokens) (drop n i.tokens)) (ends_at i.last at_end) ends)
 
 pub no_fault : (text : List ℕ) (d : DocumentTree) (f : FaultText) → IsDocumentOf text d → IsFirstFaultOf text f → ⊥
 no_fault text d f (items, has, document) (others, has', first) =

@@ -50,7 +50,7 @@ text_of i = record { tokens = i.tokens; ending = ending_of i.last }
 abbrev IsWrong : Reason → Items → Items → Type 0
 IsWrong why i j = Answers reading (Sym document_symbol) (text_of i) (texts.Wrong why (length i.tokens - length j.tokens))
 
-ends : (l : Last) → IsEnd l → ending_of l ≡ texts.End
+pub ends : (l : Last) → IsEnd l → ending_of l ≡ texts.End
 ends (End p) h = refl
 ends (Wrong p b) h = absurd h
 
