@@ -2,9 +2,11 @@
 use Rattle.std.specs.Prelude.{◌≡◌, ◌≢◌, ◌<◌, ◌++◌, ◌⊎◌, ℕ, List, length, Option, IfSome}
 use Rattle.std.specs.Io.KnownBytes.{Appends, IsAtEnd}
 use Rattle.graphql_core.specs.Style.{Layout}
+use Rattle.graphql_core.specs.Minified.{IsMinified}
 use Rattle.graphql_query.specs.Tree.{DocumentTree}
 use Rattle.graphql_query.specs.Document.{IsDocumentOf, IsRefusalOf, max_length}
 use Rattle.graphql_query.specs.Layout.{layout, IsTooWide}
+use Rattle.graphql_query.specs.Minifying.{IsMinifyRefusalOf}
 use Rattle.graphql_query.specs.Refusal.{Refusal, no_memory}
 use Rattle.graphql_core.specs.declared.format.error.FormatError.{FormatError}
 use Rattle.graphql_core.specs.declared.format.error.FormatError.TheVariants.{TooWide}
@@ -14,19 +16,27 @@ use Rattle.gql.specs.declared.error.RunError.{RunError}
 use Rattle.gql.specs.declared.error.RunError.TheVariants.{Read, NotUtf8, Format, Write, OutOfMemory}
 use Rattle.gql.specs.declared.error.RunError.TheVariants as error
 use Rattle.gql.specs.declared.command.Command.{Command}
-use Rattle.gql.specs.declared.command.Command.TheVariants.{Query}
+use Rattle.gql.specs.declared.command.Command.TheVariants.{Query, Minify}
 
 -- a command makes this output of a text
 abbrev pub IsOutputOf : Command → Layout → List ℕ → List ℕ → Type 0
 IsOutputOf Query style text output = (d : DocumentTree) × IsDocumentOf text d × (output ≡ layout style d)
+IsOutputOf Minify style text output = IsMinified text output
 
 -- this is why the text is refused, and, unless memory ran out, it is too long or has no document
 abbrev pub HasNoDocument : Command → List ℕ → Refusal → Type 0
 HasNoDocument Query text e = IsRefusalOf text e × (e ≢ no_memory → (max_length < length text) ⊎ ((d : DocumentTree) → IsDocumentOf text d → ⊥))
+HasNoDocument Minify text e = ⊥
+
+-- this is why the text is not minified: memory ran out, or it is too long, or its items end in a bad place
+abbrev pub HasBadPlace : Command → List ℕ → Refusal → Type 0
+HasBadPlace Query text e = ⊥
+HasBadPlace Minify text e = IsMinifyRefusalOf text e
 
 -- the text's document is too wide for the style
 abbrev pub HasNoLayout : Command → Layout → List ℕ → Type 0
 HasNoLayout Query style text = (d : DocumentTree) × IsDocumentOf text d × IsTooWide style d
+HasNoLayout Minify style text = ⊥
 
 -- all that was left was read, and this holds of it
 abbrev pub ReadsAll : Option (List ℕ) → Option (List ℕ) → (List ℕ → Type 0) → Type 0
@@ -42,6 +52,7 @@ EndsReading old new Read = HasFault old new
 EndsReading old new OutOfMemory = Unit {0}
 EndsReading old new NotUtf8 = ⊥
 EndsReading old new (error.Query e) = ⊥
+EndsReading old new (error.Minify e) = ⊥
 EndsReading old new (Format e) = ⊥
 EndsReading old new Write = ⊥
 
@@ -50,9 +61,10 @@ abbrev pub RefusesLayout : Command → Layout → List ℕ → FormatError → T
 RefusesLayout command style text TooWide = HasNoLayout command style text
 RefusesLayout command style text layout_error.OutOfMemory = Unit {0}
 
--- a text gets no output where it is refused, or its document is not laid out
+-- a text gets no output where it is refused or has a bad place, or its document is not laid out
 abbrev pub EndsEngine : Command → Layout → List ℕ → RunError → Type 0
 EndsEngine command style text (error.Query e) = HasNoDocument command text e
+EndsEngine command style text (error.Minify e) = HasBadPlace command text e
 EndsEngine command style text (Format e) = RefusesLayout command style text e
 EndsEngine command style text OutOfMemory = Unit {0}
 EndsEngine command style text Read = ⊥

@@ -6,7 +6,11 @@ use Rattle.std.specs.Char.{is_ascii_digit}
 use Rattle.std.specs.Str.Parse.{digits_value}
 use Rattle.graphql_core.specs.Style.{Layout}
 use Rattle.gql.specs.declared.command.Command.{Command}
-use Rattle.gql.specs.declared.command.Command.TheVariants.{Query}
+use Rattle.gql.specs.declared.command.Command.TheVariants.{Query, Minify}
+
+-- the style of a command without options
+abbrev pub plain : Layout
+plain = record { indent = 2; multiline = false }
 
 -- one to ten digits, of at most 4294967295
 abbrev pub is_number : List ℕ → Bool
@@ -24,7 +28,7 @@ is_multiline w = pointwise nat_eq w (codes "--multiline")
 
 -- the options, each at most once and in any order
 abbrev pub style_of : List (List ℕ) → Option Layout
-style_of [] = Some (record { indent = 2; multiline = false })
+style_of [] = Some plain
 style_of (m ∷ []) = if is_multiline m then Some (record { indent = 2; multiline = true }) else None
 style_of (i ∷ n ∷ []) = if is_indent i then indented_by n false else None
 style_of (a ∷ b ∷ c ∷ []) =
@@ -36,4 +40,12 @@ style_of (a ∷ b ∷ c ∷ d ∷ ws) = None
 -- the words, each by its bytes: a command and its style, or wrong words
 abbrev pub meaning_of : List (List ℕ) → Option (Command × Layout)
 meaning_of [] = None
-meaning_of (w ∷ ws) = if pointwise nat_eq w (codes "query") then option_map (λ s. (Query, s)) (style_of ws) else None
+meaning_of (w ∷ ws) =
+    if pointwise nat_eq w (codes "query") then option_map (λ s. (Query, s)) (style_of ws)
+    else if pointwise nat_eq w (codes "minify") then alone ws
+    else None
+  where
+    -- it takes no options
+    alone : List (List ℕ) → Option (Command × Layout)
+    alone [] = Some (Minify, plain)
+    alone (o ∷ os) = None

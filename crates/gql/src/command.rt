@@ -2,7 +2,7 @@
 ghost use Rattle.std.specs.Prelude.{◌≡◌, [], ◌∷◌, map, string_bytes};
 ghost use Rattle.std.specs.List.{list_all};
 ghost use Rattle.std.specs.Char.{is_ascii_digit};
-ghost use Rattle.gql.specs.Words.{indented_by, is_indent, is_multiline, meaning_of, style_of};
+ghost use Rattle.gql.specs.Words.{indented_by, is_indent, is_multiline, meaning_of, plain, style_of};
 
 use graphql_parser::Style;
 
@@ -14,6 +14,8 @@ pub const USAGE: &str = "usage: gql query|schema|minify|first [--indent N] [--mu
 pub enum Command {
     /// Lays out a query document.
     Query,
+    /// Writes the tokens with no more spaces between them than keep them apart.
+    Minify,
 }
 
 /// The indentation of two spaces, in which each level stands unless the words say another.
@@ -27,6 +29,13 @@ fn style_with(indent: u32, multiline: bool) -> Style
     style.indent(indent);
     style.multiline_arguments(multiline);
     style
+}
+
+/// The style of a command without options.
+fn plain_style() -> Style
+    ensures { result ≡ plain }
+{
+    style_with(DEFAULT_INDENT, false)
 }
 
 /// Whether a word has digits alone.
@@ -99,7 +108,7 @@ fn style_of(options: &[String]) -> Option<Style>
     ensures { result ≡ style_of (map string_bytes options.now) }
 {
     match options {
-        [] => Some(style_with(DEFAULT_INDENT, false)),
+        [] => Some(plain_style()),
         [option] => style_of_one(option.as_str()),
         [option, number] => style_of_two(option.as_str(), number.as_str()),
         [first, second, third] => style_of_three(first.as_str(), second.as_str(), third.as_str()),
@@ -116,6 +125,7 @@ pub fn read_words(words: Vec<String>) -> Option<(Command, Style)>
             let style = style_of(options)?;
             Some((Command::Query, style))
         }
+        [word] if word.as_str() == "minify" => Some((Command::Minify, plain_style())),
         _ => None,
     }
 }

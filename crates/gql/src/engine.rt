@@ -4,13 +4,14 @@ ghost use Rattle.std.specs.Str.{IsUtf8};
 ghost use Rattle.std.specs.Io.KnownBytes.{Keeps, Appends, Consumes, IsAtEnd};
 ghost use Rattle.graphql_query.specs.Refusal.{Refusal};
 ghost use Rattle.gql.specs.Faults.{HasFault};
-ghost use Rattle.gql.specs.Output.{IsOutputOf, HasNoDocument, HasNoLayout, ReadsAll, EndsReading, EndsEngine, WritesPart};
+ghost use Rattle.gql.specs.Output.{IsOutputOf, HasNoDocument, HasBadPlace, HasNoLayout};
+ghost use Rattle.gql.specs.Output.{ReadsAll, EndsReading, EndsEngine, WritesPart};
 
 use crate::command::Command;
 use crate::counted::Counted;
 use crate::error::RunError;
 use graphql_parser::query::Document;
-use graphql_parser::{FormatError, Style, parse_query};
+use graphql_parser::{FormatError, Style, minify_query, parse_query};
 use std::alloc::Global;
 use std::io::{Read, Write};
 
@@ -72,6 +73,34 @@ fn laid_out(alloc: Global, style: &Style, text: &str) -> Result<String, RunError
     }
 }
 
+/// The tokens of a text, with no more spaces between them than keep them apart.
+fn minified(alloc: Global, style: &Style, text: String) -> Result<String, RunError>
+    ensures ok { IfOk result (λ s. IsOutputOf Command.Minify style.now (string_bytes text) (string_bytes s)) }
+    ensures err { IfErr result (EndsEngine Command.Minify style.now (string_bytes text)) }
+{
+    let _ = style;
+    match minify_query(alloc, text) {
+        Ok(text) => Ok(text),
+        Err(error) => Err(RunError::Minify(error)),
+    }
+}
+
+/// What a command makes of a text.
+fn output_of(
+    alloc: Global,
+    command: Command,
+    style: &Style,
+    text: String,
+) -> Result<String, RunError>
+    ensures ok { IfOk result (λ s. IsOutputOf command style.now (string_bytes text) (string_bytes s)) }
+    ensures err { IfErr result (EndsEngine command style.now (string_bytes text)) }
+{
+    match command {
+        Command::Query => laid_out(alloc, style, &text),
+        Command::Minify => minified(alloc, style, text),
+    }
+}
+
 /// Reads the input to its end, and writes what the command makes of it.
 pub fn run<R: Read, W: Write>(
     alloc: Global,
@@ -89,6 +118,8 @@ pub fn run<R: Read, W: Write>(
         (λ input. ¬ IsUtf8 input) }
     ensures query { (e : Refusal) → result ≡ Err (RunError.Query e) → ReadsAll (R.remaining reader.old.device) (R.remaining reader.new.device)
         (λ input. HasNoDocument command input e) }
+    ensures minify { (e : Refusal) → result ≡ Err (RunError.Minify e) → ReadsAll (R.remaining reader.old.device) (R.remaining reader.new.device)
+        (λ input. HasBadPlace command input e) }
     ensures format { result ≡ Err (RunError.Format FormatError.TooWide) → ReadsAll (R.remaining reader.old.device) (R.remaining reader.new.device)
         (λ input. HasNoLayout command style.now input) }
     // The first fault of a device ends the run.
@@ -101,11 +132,9 @@ pub fn run<R: Read, W: Write>(
         × WritesPart (W.contents writer.old.device) (W.contents writer.new.device) output) }
 {
     let bytes = read_all(alloc, reader)?;
-    let Ok(text) = str::from_utf8(&bytes) else {
+    let Ok(text) = String::from_utf8(bytes) else {
         return Err(RunError::NotUtf8);
     };
-    let output = match command {
-        Command::Query => laid_out(alloc, style, text)?,
-    };
+    let output = output_of(alloc, command, style, text)?;
     write_all(writer, output.as_bytes())
 }

@@ -3,7 +3,7 @@ ghost use Rattle.std.specs.Prelude.{◌≡◌, option_map};
 ghost use Rattle.gql.specs.Status.{ends_its_line, status_of};
 
 use graphql_parser::FormatError;
-use graphql_parser::query::ParseError;
+use graphql_parser::query::{MinifyError, ParseError};
 use std::alloc::AllocError;
 use thiserror::Error;
 
@@ -19,6 +19,9 @@ pub enum RunError {
     /// 3: the input is no query document. Nothing was written.
     #[error("{0}")]
     Query(ParseError),
+    /// 5: the input has a bad place, or is too long. Nothing was written.
+    #[error("{0}")]
+    Minify(MinifyError),
     /// 6: the document cannot be laid out. Nothing was written.
     #[error("{0}")]
     Format(FormatError),
@@ -53,14 +56,14 @@ impl From<AllocError> for RunError {
     }
 }
 
-/// The status with which the program ends: 0 where all was written, 1 for a refused document, 2 for a
+/// The status with which the program ends: 0 where all was written, 1 for a refused text, 2 for a
 /// device, for memory of the engine itself, and for wrong words (`None`).
 pub fn status(answer: Option<&Result<(), RunError>>) -> u8
     ensures { result ≡ status_of (option_map (λ r. r.now) answer.entry) }
 {
     match answer {
         Some(Ok(())) => 0,
-        Some(Err(RunError::Query(_) | RunError::Format(_))) => 1,
+        Some(Err(RunError::Query(_) | RunError::Minify(_) | RunError::Format(_))) => 1,
         Some(Err(_)) | None => 2,
     }
 }

@@ -22,17 +22,11 @@ struct Ran {
     write_faults: u64,
 }
 
-/// Runs `query` from a source to a sink.
-fn run_query(alloc: Global, source: Source<'_>, mut sink: Sink) -> Ran {
+/// Runs a command from a source to a sink.
+fn run_over(alloc: Global, command: Command, source: Source<'_>, mut sink: Sink) -> Ran {
     let mut reader = Counted::new(source);
     let mut writer = Counted::new(&mut sink);
-    let answer = run(
-        alloc,
-        Command::Query,
-        &Style::default(),
-        &mut reader,
-        &mut writer,
-    );
+    let answer = run(alloc, command, &Style::default(), &mut reader, &mut writer);
     let read_faults = reader.faults();
     let write_faults = writer.faults();
     Ran {
@@ -41,6 +35,11 @@ fn run_query(alloc: Global, source: Source<'_>, mut sink: Sink) -> Ran {
         read_faults,
         write_faults,
     }
+}
+
+/// Runs `query`.
+fn run_query(alloc: Global, source: Source<'_>, sink: Sink) -> Ran {
+    run_over(alloc, Command::Query, source, sink)
 }
 
 /// What standard error is told of a run.

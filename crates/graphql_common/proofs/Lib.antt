@@ -13,3 +13,11 @@ pub mod Quoting
 pub mod Enclosing
 pub mod Leaves
 pub mod Printable
+pub mod LeavesBack
+pub mod BlockForm
+pub mod BlockValues
+pub mod TypesBack
+pub mod Ordered
+pub mod ValuesBack
+pub mod DirectivesBack
+pub mod Margins

@@ -9,3 +9,4 @@ pub mod Sorts
 pub mod LeafReading
 pub mod ValueLayout
 pub mod LayoutExamples
+pub mod Lawful

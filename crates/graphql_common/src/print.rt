@@ -7,8 +7,6 @@ mod laws;
 mod quotes;
 mod spaces;
 mod strings;
-#[cfg(test)]
-mod tests;
 mod types;
 mod value;
 mod width;

@@ -3,9 +3,5 @@ pub mod directives;
 pub mod laws;
 pub mod leaf;
 pub mod leaf_laws;
-#[cfg(test)]
-mod leaf_tests;
-#[cfg(test)]
-mod tests;
 pub mod types;
 pub mod values;

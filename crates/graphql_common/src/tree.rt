@@ -1,7 +1,5 @@
 //! Trees that queries and schemas share, over any names.
 mod copies;
-#[cfg(test)]
-mod tests;
 
 use graphql_core::common::{FloatLiteral, Names, Number};
 use graphql_core::position::Pos;

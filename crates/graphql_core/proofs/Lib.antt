@@ -12,3 +12,8 @@ pub mod Room
 pub mod Escapes
 pub mod BlockLines
 pub mod FloatLiterals
+pub mod Laid
+pub mod Back
+pub mod Minifying
+pub mod Lanes
+pub mod Spaces

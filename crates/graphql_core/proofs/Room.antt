@@ -4,8 +4,8 @@ use Rattle.std.specs.List.{AllByRecursion}
 use Rattle.std.proofs.lemmas.Bool.{and_parts}
 use Rattle.graphql_grammar.specs.Tokens.{Token, Class, matches}
 use Rattle.graphql_grammar.specs.Trees.{Expr, Empty, One, Then, Either, Many, Sym, Shape, Nothing, Leaf, Both, First, Second, Stop, More, Node, Row, Grammar, row_at, row, accepts, Fits, fits_nothing, fits_leaf, fits_both, fits_first, fits_second, fits_stop, fits_more, fits_node}
-use Rattle.graphql_grammar.specs.Extended.{is_below, Extends}
-use Rattle.graphql_grammar.proofs.Extending.{below_is, row_same, rule_below}
+use Rattle.graphql_grammar.specs.Extended.{is_below, TestsAlike, Extends}
+use Rattle.graphql_grammar.proofs.Extending.{below_is, row_same, rule_alike, rule_below}
 use Rattle.graphql_core.specs.Source.{IsLexeme}
 use Rattle.graphql_core.specs.declared.tokenizer.piece.Nesting.{Nesting}
 use Rattle.graphql_core.specs.declared.tokenizer.piece.Nesting.TheVariants.{Level, Opens, Closes}
@@ -129,18 +129,19 @@ module _ (g : Grammar) (b : are_balanced g.rows ≡ true) where
 
 module _ (n : ℕ) (g h : Grammar) (x : Extends n g h) where
   -- a tree of its first symbols is one of the other grammar
-  pub room_back : {m : ℕ} {e : Expr} {s : Shape} → HasRoom h m e s → is_below n e ≡ true → HasRoom g m e s
-  room_back room_nothing b = room_nothing
-  room_back (room_leaf {c = c} {t = t} a l d) b = room_leaf (sym (ap (λ (v : Bool). matches c t && v) (x.good c t)) ∙ a) l d
-  room_back (room_both {a = p} {b = q} f k) b = let s = and_parts (is_below n p) (is_below n q) b in room_both (room_back f s.0) (room_back k s.1)
-  room_back (room_first {a = p} {b = q} f) b = let s = and_parts (is_below n p) (is_below n q) b in room_first (room_back f s.0)
-  room_back (room_second {a = p} {b = q} f) b = let s = and_parts (is_below n p) (is_below n q) b in room_second (room_back f s.1)
-  room_back room_stop b = room_stop
-  room_back (room_more f k) b = room_more (room_back f b) (room_back k b)
-  room_back (room_node {n = m} {k = k} {x = s} f c) b =
+  pub room_back : {m : ℕ} {e : Expr} {s : Shape} → HasRoom h m e s → is_below n e ≡ true → TestsAlike g h e → HasRoom g m e s
+  room_back room_nothing b w = room_nothing
+  room_back (room_leaf {c = c} {t = t} a l d) b w = room_leaf (sym (ap (λ (v : Bool). matches c t && v) (w t)) ∙ a) l d
+  room_back (room_both {a = p} {b = q} f k) b w = let s = and_parts (is_below n p) (is_below n q) b in room_both (room_back f s.0 w.0) (room_back k s.1 w.1)
+  room_back (room_first {a = p} {b = q} f) b w = let s = and_parts (is_below n p) (is_below n q) b in room_first (room_back f s.0 w.0)
+  room_back (room_second {a = p} {b = q} f) b w = let s = and_parts (is_below n p) (is_below n q) b in room_second (room_back f s.1 w.1)
+  room_back room_stop b w = room_stop
+  room_back (room_more f k) b w = room_more (room_back f b w) (room_back k b w)
+  room_back (room_node {n = m} {k = k} {x = s} f c) b w =
       let e = row_same n g h x k b in
       let below = subst (λ (r : Row). is_below n r.rule ≡ true) (sym e) (rule_below n g h x k b) in
-      room_node (subst (λ (r : Row). HasRoom g m r.rule s) e (room_back f below)) (sym (x.check k s (below_is k n b)) ∙ c)
+      let alike = subst (λ (r : Row). TestsAlike g h r.rule) (sym e) (rule_alike n g h x k b) in
+      room_node (subst (λ (r : Row). HasRoom g m r.rule s) e (room_back f below alike)) (sym (x.check k s (below_is k n b)) ∙ c)
 
 -- ---- repetitions
 

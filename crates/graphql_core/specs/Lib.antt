@@ -12,6 +12,8 @@ pub mod Source
 pub mod Style
 pub mod Parts
 pub mod Matching
+pub mod Minified
 pub mod Strings
 pub mod BlockStrings
 pub mod Literals
+pub mod Ahead

@@ -4,8 +4,6 @@ mod cause;
 mod fault;
 mod number;
 mod strings;
-#[cfg(test)]
-mod tests;
 mod text;
 
 pub use cause::{BadToken, Cause};

@@ -1,5 +1,6 @@
 //! A text cut into its tokens.
 
+mod lanes;
 mod laws;
 pub(crate) mod number;
 mod piece;

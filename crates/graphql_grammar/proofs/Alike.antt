@@ -12,14 +12,14 @@ use Rattle.graphql_grammar.proofs.Stuck.{reads_all}
 -- ---- lists
 
 -- of two fronts of a list, one is a front of the other
-abbrev Fronts : List Token → List Token → List Token → List Token → Type 0
+abbrev pub Fronts : List Token → List Token → List Token → List Token → Type 0
 Fronts xs ys ks r = ((z : List Token) × (xs ≡ ks ++ z)) ⊎ ((t : Token) × (l : List Token) × (ks ≡ xs ++ t ∷ l) × (ys ≡ (t ∷ l) ++ r))
 
 fronts-more : (x k : Token) (xs ys ks r : List Token) → x ≡ k → Fronts xs ys ks r → Fronts (x ∷ xs) ys (k ∷ ks) r
 fronts-more x k xs ys ks r e (inl p) = inl (p.0, ap₂ (λ (a : Token) (l : List Token). a ∷ l) e p.1)
 fronts-more x k xs ys ks r e (inr p) = inr (p.0, p.1, ap₂ (λ (a : Token) (l : List Token). a ∷ l) (sym e) p.2, p.3)
 
-fronts : (xs ys ks r : List Token) → xs ++ ys ≡ ks ++ r → Fronts xs ys ks r
+pub fronts : (xs ys ks r : List Token) → xs ++ ys ≡ ks ++ r → Fronts xs ys ks r
 fronts xs ys [] r h = inl (xs, refl)
 fronts [] ys (k ∷ ks) r h = inr (k, ks, refl, h)
 fronts (x ∷ xs) ys (k ∷ ks) r h = fronts-more x k xs ys ks r (head_is x k (xs ++ ys) (ks ++ r) h) (fronts xs ys ks r (tail_is x k (xs ++ ys) (ks ++ r) h))
@@ -30,7 +30,7 @@ fronts (x ∷ xs) ys (k ∷ ks) r h = fronts-more x k xs ys ks r (head_is x k (x
     tail_is : (a b : Token) (l m : List Token) → ◌≡◌ {A = List Token} (a ∷ l) (b ∷ m) → l ≡ m
     tail_is a b l m e = cc
 
-cancel : (xs ys zs : List Token) → xs ++ ys ≡ xs ++ zs → ys ≡ zs
+pub cancel : (xs ys zs : List Token) → xs ++ ys ≡ xs ++ zs → ys ≡ zs
 cancel [] ys zs h = h
 cancel (x ∷ xs) ys zs h = cancel xs ys zs (tail_is x (xs ++ ys) (xs ++ zs) h)
   where

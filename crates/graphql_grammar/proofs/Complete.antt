@@ -16,7 +16,7 @@ pub record IsRow (rs : List Row) (r : Row) : Type 0 where
   pub cont : all_within (cont rs r.rule) r.cont ≡ true
   pub ranked : ranked rs r.rank r.rule ≡ true
 
-implied : (b c : Bool) → (not b || c) ≡ true → b ≡ true → c ≡ true
+pub implied : (b c : Bool) → (not b || c) ≡ true → b ≡ true → c ≡ true
 implied true c h k = h
 implied false c h k = absurd cc
 

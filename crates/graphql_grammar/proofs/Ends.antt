@@ -13,7 +13,7 @@ Answer g e ts = (o : Outcome) × Reads g e ts o
 
 -- ---- ranks
 
-ranked-more : (rs : List Row) (m n : ℕ) (e : Expr) → m ≤ n → ranked rs m e ≡ true → ranked rs n e ≡ true
+pub ranked-more : (rs : List Row) (m n : ℕ) (e : Expr) → m ≤ n → ranked rs m e ≡ true → ranked rs n e ≡ true
 ranked-more rs m n Empty le h = refl
 ranked-more rs m n (One c) le h = refl
 ranked-more rs m n (Then a b) le h =
@@ -30,7 +30,7 @@ ranked-more rs m n (Many a) le h = ranked-more rs m n a le h
 ranked-more rs m n (Sym k) le h = let i : (row_at rs k).rank < m = ltb-true _ _ h in lt-ltb (row_at rs k).rank n (omega arith)
 
 -- above each rank
-highest : List Row → ℕ
+pub highest : List Row → ℕ
 highest [] = 1
 highest (r ∷ rs) = max (suc r.rank) (highest rs)
 
@@ -40,7 +40,7 @@ below-highest [] k = omega arith
 below-highest (r ∷ rs) zero = omega arith
 below-highest (r ∷ rs) (suc k) = omega (arith, below-highest rs k)
 
-ranked-highest : (rs : List Row) (e : Expr) → ranked rs (highest rs) e ≡ true
+pub ranked-highest : (rs : List Row) (e : Expr) → ranked rs (highest rs) e ≡ true
 ranked-highest rs Empty = refl
 ranked-highest rs (One c) = refl
 ranked-highest rs (Then a b) = and_from (ranked rs (highest rs) a) (not (nullable rs a) || ranked rs (highest rs) b) (ranked-highest rs a) (or_right (not (nullable rs a)) (ranked rs (highest rs) b) (ranked-highest rs b))

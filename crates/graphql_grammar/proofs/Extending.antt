@@ -6,7 +6,7 @@ use Rattle.graphql_grammar.specs.Tokens.{Token, Class, matches}
 use Rattle.graphql_grammar.specs.Trees.{Expr, Empty, One, Then, Either, Many, Sym, Shape, Both, First, Second, More, Node, Row, Grammar, row_at, row, accepts, peek, Fits, fits_nothing, fits_leaf, fits_both, fits_first, fits_second, fits_stop, fits_more, fits_node}
 use Rattle.graphql_grammar.specs.Tables.{nullable, first}
 use Rattle.graphql_grammar.specs.Reading.{sees, choose, Takes, takes_nothing, takes_leaf, takes_both, takes_first, takes_second, takes_stop, takes_more, takes_node, Reason, Fails, fails_one, fails_value, fails_before, fails_after, fails_first, fails_second, fails_neither, fails_turn, fails_later, fails_node, fails_check}
-use Rattle.graphql_grammar.specs.Extended.{is_below, Extends, ReadsOn, LeavesAlone}
+use Rattle.graphql_grammar.specs.Extended.{is_below, TestsAlike, Extends, ReadsOn, LeavesAlone}
 use Rattle.graphql_grammar.specs.Factored.{Change, unchanged, change_at, written}
 
 pub below_is : (k n : ℕ) → is_below n (Sym k) ≡ true → k < n
@@ -38,58 +38,61 @@ module _ (n : ℕ) (g h : Grammar) (x : Extends n g h) where
   sees-same : (e : Expr) (item : Option Token) (v : Bool) → is_below n e ≡ true → sees (first g.rows e) item ≡ v → sees (first h.rows e) item ≡ v
   sees-same e item v b s = ap (λ cs. sees cs item) (first-same e b) ∙ s
 
-  accepts-same : (c : Class) (t : Token) → accepts g c t ≡ true → accepts h c t ≡ true
-  accepts-same c t a = ap (λ v. matches c t && v) (x.good c t) ∙ a
+  accepts-same : (c : Class) (t : Token) → TestsAlike g h (One c) → accepts g c t ≡ true → accepts h c t ≡ true
+  accepts-same c t w a = ap (λ v. matches c t && v) (w t) ∙ a
+
+  pub rule_alike : (k : ℕ) → is_below n (Sym k) ≡ true → TestsAlike g h (row g k).rule
+  rule_alike k b = x.good k (below_is k n b)
 
   pub rule_below : (k : ℕ) → is_below n (Sym k) ≡ true → is_below n (row g k).rule ≡ true
   rule_below k b = x.closed k (below_is k n b)
 
-  fits-on : {e : Expr} {s : Shape} → Fits g e s → is_below n e ≡ true → Fits h e s
-  fits-on fits_nothing b = fits_nothing
-  fits-on (fits_leaf {c} {t} a) b = fits_leaf (accepts-same c t a)
-  fits-on (fits_both {a = p} {b = q} f k) b = let s = and_parts (is_below n p) (is_below n q) b in fits_both (fits-on f s.0) (fits-on k s.1)
-  fits-on (fits_first {a = p} {b = q} f) b = let s = and_parts (is_below n p) (is_below n q) b in fits_first (fits-on f s.0)
-  fits-on (fits_second {a = p} {b = q} f) b = let s = and_parts (is_below n p) (is_below n q) b in fits_second (fits-on f s.1)
-  fits-on fits_stop b = fits_stop
-  fits-on (fits_more f k) b = fits_more (fits-on f b) (fits-on k b)
-  fits-on (fits_node {k} {x = s} f c) b =
+  fits-on : {e : Expr} {s : Shape} → Fits g e s → is_below n e ≡ true → TestsAlike g h e → Fits h e s
+  fits-on fits_nothing b w = fits_nothing
+  fits-on (fits_leaf {c} {t} a) b w = fits_leaf (accepts-same c t w a)
+  fits-on (fits_both {a = p} {b = q} f k) b w = let s = and_parts (is_below n p) (is_below n q) b in fits_both (fits-on f s.0 w.0) (fits-on k s.1 w.1)
+  fits-on (fits_first {a = p} {b = q} f) b w = let s = and_parts (is_below n p) (is_below n q) b in fits_first (fits-on f s.0 w.0)
+  fits-on (fits_second {a = p} {b = q} f) b w = let s = and_parts (is_below n p) (is_below n q) b in fits_second (fits-on f s.1 w.1)
+  fits-on fits_stop b w = fits_stop
+  fits-on (fits_more f k) b w = fits_more (fits-on f b w) (fits-on k b w)
+  fits-on (fits_node {k} {x = s} f c) b w =
       let e = row_same k b in
-      fits_node (subst (λ (r : Row). Fits h r.rule s) (sym e) (fits-on f (rule_below k b))) (x.check k s (below_is k n b) ∙ c)
+      fits_node (subst (λ (r : Row). Fits h r.rule s) (sym e) (fits-on f (rule_below k b) (rule_alike k b))) (x.check k s (below_is k n b) ∙ c)
 
-  takes-on : {e : Expr} {ts us : List Token} {s : Shape} → Takes g e ts s us → is_below n e ≡ true → Takes h e ts s us
-  takes-on takes_nothing b = takes_nothing
-  takes-on (takes_leaf {c} {t} a) b = takes_leaf (accepts-same c t a)
-  takes-on (takes_both {a = p} {b = q} f k) b = let s = and_parts (is_below n p) (is_below n q) b in takes_both (takes-on f s.0) (takes-on k s.1)
-  takes-on (takes_first {a = p} {b = q} {ts = ts} c f) b = let s = and_parts (is_below n p) (is_below n q) b in takes_first (choose-same p q (peek ts) s.0 s.1 ∙ c) (takes-on f s.0)
-  takes-on (takes_second {a = p} {b = q} {ts = ts} c f) b = let s = and_parts (is_below n p) (is_below n q) b in takes_second (choose-same p q (peek ts) s.0 s.1 ∙ c) (takes-on f s.1)
-  takes-on (takes_stop {a = p} {ts = ts} v) b = takes_stop (sees-same p (peek ts) _ b v)
-  takes-on (takes_more {a = p} {ts = ts} v f k) b = takes_more (sees-same p (peek ts) _ b v) (takes-on f b) (takes-on k b)
-  takes-on (takes_node {k} {ts = ts} {us = us} {x = s} f c) b =
+  takes-on : {e : Expr} {ts us : List Token} {s : Shape} → Takes g e ts s us → is_below n e ≡ true → TestsAlike g h e → Takes h e ts s us
+  takes-on takes_nothing b w = takes_nothing
+  takes-on (takes_leaf {c} {t} a) b w = takes_leaf (accepts-same c t w a)
+  takes-on (takes_both {a = p} {b = q} f k) b w = let s = and_parts (is_below n p) (is_below n q) b in takes_both (takes-on f s.0 w.0) (takes-on k s.1 w.1)
+  takes-on (takes_first {a = p} {b = q} {ts = ts} c f) b w = let s = and_parts (is_below n p) (is_below n q) b in takes_first (choose-same p q (peek ts) s.0 s.1 ∙ c) (takes-on f s.0 w.0)
+  takes-on (takes_second {a = p} {b = q} {ts = ts} c f) b w = let s = and_parts (is_below n p) (is_below n q) b in takes_second (choose-same p q (peek ts) s.0 s.1 ∙ c) (takes-on f s.1 w.1)
+  takes-on (takes_stop {a = p} {ts = ts} v) b w = takes_stop (sees-same p (peek ts) _ b v)
+  takes-on (takes_more {a = p} {ts = ts} v f k) b w = takes_more (sees-same p (peek ts) _ b v) (takes-on f b w) (takes-on k b w)
+  takes-on (takes_node {k} {ts = ts} {us = us} {x = s} f c) b w =
       let e = row_same k b in
-      takes_node (subst (λ (r : Row). Takes h r.rule ts s us) (sym e) (takes-on f (rule_below k b))) (x.check k s (below_is k n b) ∙ c)
+      takes_node (subst (λ (r : Row). Takes h r.rule ts s us) (sym e) (takes-on f (rule_below k b) (rule_alike k b))) (x.check k s (below_is k n b) ∙ c)
 
-  fails-on : {e : Expr} {ts us : List Token} {why : Reason} → Fails g e ts why us → is_below n e ≡ true → Fails h e ts why us
-  fails-on (fails_one v) b = fails_one v
-  fails-on (fails_value {c} {t} m v) b = fails_value m (x.good c t ∙ v)
-  fails-on (fails_before {a = p} {b = q} f) b = let s = and_parts (is_below n p) (is_below n q) b in fails_before (fails-on f s.0)
-  fails-on (fails_after {a = p} {b = q} t f) b = let s = and_parts (is_below n p) (is_below n q) b in fails_after (takes-on t s.0) (fails-on f s.1)
-  fails-on (fails_first {a = p} {b = q} {ts = ts} c f) b = let s = and_parts (is_below n p) (is_below n q) b in fails_first (choose-same p q (peek ts) s.0 s.1 ∙ c) (fails-on f s.0)
-  fails-on (fails_second {a = p} {b = q} {ts = ts} c f) b = let s = and_parts (is_below n p) (is_below n q) b in fails_second (choose-same p q (peek ts) s.0 s.1 ∙ c) (fails-on f s.1)
-  fails-on (fails_neither {a = p} {b = q} {ts = ts} c) b = let s = and_parts (is_below n p) (is_below n q) b in fails_neither (choose-same p q (peek ts) s.0 s.1 ∙ c)
-  fails-on (fails_turn {a = p} {ts = ts} v f) b = fails_turn (sees-same p (peek ts) _ b v) (fails-on f b)
-  fails-on (fails_later {a = p} {ts = ts} v t f) b = fails_later (sees-same p (peek ts) _ b v) (takes-on t b) (fails-on f b)
-  fails-on (fails_node {k} {ts = ts} {us = us} {why = why} f) b =
+  fails-on : {e : Expr} {ts us : List Token} {why : Reason} → Fails g e ts why us → is_below n e ≡ true → TestsAlike g h e → Fails h e ts why us
+  fails-on (fails_one v) b w = fails_one v
+  fails-on (fails_value {c} {t} m v) b w = fails_value m (w t ∙ v)
+  fails-on (fails_before {a = p} {b = q} f) b w = let s = and_parts (is_below n p) (is_below n q) b in fails_before (fails-on f s.0 w.0)
+  fails-on (fails_after {a = p} {b = q} t f) b w = let s = and_parts (is_below n p) (is_below n q) b in fails_after (takes-on t s.0 w.0) (fails-on f s.1 w.1)
+  fails-on (fails_first {a = p} {b = q} {ts = ts} c f) b w = let s = and_parts (is_below n p) (is_below n q) b in fails_first (choose-same p q (peek ts) s.0 s.1 ∙ c) (fails-on f s.0 w.0)
+  fails-on (fails_second {a = p} {b = q} {ts = ts} c f) b w = let s = and_parts (is_below n p) (is_below n q) b in fails_second (choose-same p q (peek ts) s.0 s.1 ∙ c) (fails-on f s.1 w.1)
+  fails-on (fails_neither {a = p} {b = q} {ts = ts} c) b w = let s = and_parts (is_below n p) (is_below n q) b in fails_neither (choose-same p q (peek ts) s.0 s.1 ∙ c)
+  fails-on (fails_turn {a = p} {ts = ts} v f) b w = fails_turn (sees-same p (peek ts) _ b v) (fails-on f b w)
+  fails-on (fails_later {a = p} {ts = ts} v t f) b w = fails_later (sees-same p (peek ts) _ b v) (takes-on t b w) (fails-on f b w)
+  fails-on (fails_node {k} {ts = ts} {us = us} {why = why} f) b w =
       let e = row_same k b in
-      fails_node (subst (λ (r : Row). Fails h r.rule ts why us) (sym e) (fails-on f (rule_below k b)))
-  fails-on (fails_check {k} {ts = ts} {us = us} {x = s} t c) b =
+      fails_node (subst (λ (r : Row). Fails h r.rule ts why us) (sym e) (fails-on f (rule_below k b) (rule_alike k b)))
+  fails-on (fails_check {k} {ts = ts} {us = us} {x = s} t c) b w =
       let e = row_same k b in
-      fails_check (subst (λ (r : Row). Takes h r.rule ts s us) (sym e) (takes-on t (rule_below k b))) (x.check k s (below_is k n b) ∙ c)
+      fails_check (subst (λ (r : Row). Takes h r.rule ts s us) (sym e) (takes-on t (rule_below k b) (rule_alike k b))) (x.check k s (below_is k n b) ∙ c)
 
-  pub reads_on : (e : Expr) → is_below n e ≡ true → ReadsOn g h e
-  reads_on e b = record {
-    takes = λ ts us s t. takes-on t b;
-    fails = λ ts us why f. fails-on f b;
-    derives = λ ts s d. (fits-on d.0 b, d.1);
+  pub reads_on : (e : Expr) → is_below n e ≡ true → TestsAlike g h e → ReadsOn g h e
+  reads_on e b w = record {
+    takes = λ ts us s t. takes-on t b w;
+    fails = λ ts us why f. fails-on f b w;
+    derives = λ ts s d. (fits-on d.0 b w, d.1);
   }
 
 -- a tree of these symbols is its own written tree
@@ -121,13 +124,23 @@ below_at n [] k b h = absurd (omega arith)
 below_at n (r ∷ rs) zero b h = (and_parts (is_below n r.rule) (all_below n rs) b).0
 below_at n (r ∷ rs) (suc k) b h = below_at n rs k (and_parts (is_below n r.rule) (all_below n rs) b).1 (omega arith)
 
--- g, with more rows
-pub with_more : (g : Grammar) (more : List Row) (check : ℕ → Shape → Bool) (samples : List Token) → all_below (length g.rows) g.rows ≡ true → ((k : ℕ) (x : Shape) → k < length g.rows → check k x ≡ g.check k x)
-    → Extends (length g.rows) g (record { rows = g.rows ++ more; good = g.good; check = check; samples = samples })
-with_more g more check samples b same = record {
+pub tests_alike : (g h : Grammar) → ((c : Class) (t : Token) → h.good c t ≡ g.good c t) → (e : Expr) → TestsAlike g h e
+tests_alike g h w Empty = tt
+tests_alike g h w (One c) = w c
+tests_alike g h w (Then a b) = (tests_alike g h w a, tests_alike g h w b)
+tests_alike g h w (Either a b) = (tests_alike g h w a, tests_alike g h w b)
+tests_alike g h w (Many a) = tests_alike g h w a
+tests_alike g h w (Sym k) = tt
+
+-- g, with more rows, and perhaps another test of leaves of classes that g's rows do not name
+pub with_more : (g : Grammar) (more : List Row) (good : Class → Token → Bool) (check : ℕ → Shape → Bool) (samples : List Token) → all_below (length g.rows) g.rows ≡ true
+    → ((k : ℕ) → k < length g.rows → TestsAlike g (record { rows = g.rows ++ more; good = good; check = check; samples = samples }) (row_at g.rows k).rule)
+    → ((k : ℕ) (x : Shape) → k < length g.rows → check k x ≡ g.check k x)
+    → Extends (length g.rows) g (record { rows = g.rows ++ more; good = good; check = check; samples = samples })
+with_more g more good check samples b alike same = record {
   rows = λ k h. row_before g.rows more k h;
   closed = λ k h. below_at (length g.rows) g.rows k b h;
-  good = λ c t. refl;
+  good = alike;
   check = same;
 }
 

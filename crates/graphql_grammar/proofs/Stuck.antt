@@ -26,12 +26,12 @@ fits-from_test g (Sym k) (Node j x) h =
     subst (λ (i : ℕ). Fits g (Sym k) (Node i x)) (eqb-true k j p.0) (fits_node (fits-from_test g (row g k).rule x q.0) q.1)
 fits-from_test g _ _ h = absurd cc
 
-samples-at : (g : Grammar) (more : List Row) (k : ℕ) → are_full g more ≡ true → has_samples g (row_at more k).rule ≡ true
+pub samples-at : (g : Grammar) (more : List Row) (k : ℕ) → are_full g more ≡ true → has_samples g (row_at more k).rule ≡ true
 samples-at g [] k h = refl
 samples-at g (r ∷ more) zero h = (and_parts (has_samples g r.rule) (are_full g more) h).0
 samples-at g (r ∷ more) (suc k) h = samples-at g more k (and_parts (has_samples g r.rule) (are_full g more) h).1
 
-abbrev HasTree : Grammar → Expr → Type 0
+abbrev pub HasTree : Grammar → Expr → Type 0
 HasTree g e = (x : Shape) × Fits g e x
 
 sample-of : (g : Grammar) (c : Class) (ts : List Token) → sample_in ts g c ≡ true → HasTree g (One c)
@@ -42,7 +42,7 @@ sample-of g c (t ∷ ts) h =
       | inr m ↦ sample-of g c ts m
     ]
 
-tree-of : (g : Grammar) → is_productive g ≡ true → (e : Expr) → has_samples g e ≡ true → HasTree g e
+pub tree-of : (g : Grammar) → is_productive g ≡ true → (e : Expr) → has_samples g e ≡ true → HasTree g e
 tree-of g full Empty d = (Nothing, fits_nothing)
 tree-of g full (One c) d = sample-of g c g.samples d
 tree-of g full (Then a b) d =
@@ -107,12 +107,12 @@ pub record Stuck (g : Grammar) (e : Expr) (ts : List Token) (why : Reason) (us :
   pub refused : (k : ℕ) → why ≡ Refused k → IsRefused g front k
   pub again : (vs : List Token) → peek vs ≡ peek us → Fails g e (front ++ vs) why vs
 
-begins-around : (h : Grammar) (a e : Expr) (ts : List Token) (wrap : Shape → Shape) (end : List Token) → ((x : Shape) → Fits h a x → Fits h e (wrap x))
+pub begins-around : (h : Grammar) (a e : Expr) (ts : List Token) (wrap : Shape → Shape) (end : List Token) → ((x : Shape) → Fits h a x → Fits h e (wrap x))
     → ((x : Shape) → leaves (wrap x) ≡ leaves x ++ end) → Begins h a ts → Begins h e ts
 begins-around h a e ts wrap end fit same b =
     (wrap b.0, b.1 ++ end, (fit b.0 b.2.0, sym (append_assoc ts b.1 end) ∙ ap (λ (l : List Token). l ++ end) b.2.1 ∙ sym (same b.0)))
 
-begins-behind : (h : Grammar) (a e : Expr) (xs ts : List Token) (wrap : Shape → Shape) → ((x : Shape) → Fits h a x → Fits h e (wrap x))
+pub begins-behind : (h : Grammar) (a e : Expr) (xs ts : List Token) (wrap : Shape → Shape) → ((x : Shape) → Fits h a x → Fits h e (wrap x))
     → ((x : Shape) → leaves (wrap x) ≡ xs ++ leaves x) → Begins h a ts → Begins h e (xs ++ ts)
 begins-behind h a e xs ts wrap fit same b =
     (wrap b.0, b.1, (fit b.0 b.2.0, append_assoc xs ts b.1 ∙ ap (λ (l : List Token). xs ++ l) b.2.1 ∙ sym (same b.0)))

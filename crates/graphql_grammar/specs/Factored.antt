@@ -4,7 +4,8 @@ use Rattle.graphql_grammar.specs.Tokens.{Token, Class}
 use Rattle.graphql_grammar.specs.Trees.{Expr, Shape, Nothing, Leaf, Both, First, Second, Stop, More, Node, Row, Grammar, row_at, leaves, peek, Fits, Derives, Begins, Ends}
 use Rattle.graphql_grammar.specs.Tables.{cont}
 use Rattle.graphql_grammar.specs.Reading.{sees, Takes, Reason, Unexpected, Improper, Fails, unchecked, lax}
-use Rattle.graphql_grammar.specs.Theorems.{IsValue}
+use Rattle.graphql_grammar.specs.Theorems.{IsValue, classes, ReadsAlike}
+use Rattle.graphql_grammar.specs.Leads.{Leads, IsTested}
 
 -- a tree of one symbol's second rule as one of its written rule, and back
 pub record Change : Type 0 where
@@ -34,11 +35,15 @@ written cs (Node k x) = Node k ((change_at cs k).to_written (written cs x))
 abbrev pub with_rows : Grammar → List Row → List Change → Grammar
 with_rows g rs cs = record { rows = rs; good = g.good; check = λ k x. g.check k ((change_at cs k).to_written (written cs x)); samples = g.samples }
 
--- the second rule q has the trees of the written rule e, with the same tokens: c carries them over, and back
+-- The second rule q has the trees of the written rule e, with the same tokens, of the same classes: c carries them over, and back.
+-- What is tested stands behind the same tokens.
 pub record IsSecond (g : Grammar) (rs : List Row) (cs : List Change) (e q : Expr) (c : Change) : Type 0 where
   pub fits : (x : Shape) → Fits g q x → Fits g e (c.to_written x)
   pub leaves : (x : Shape) → Fits g q x → leaves (c.to_written x) ≡ leaves x
+  pub classes : (x : Shape) → Fits g q x → classes g e (c.to_written x) ≡ classes g q x
   pub fits_back : (y : Shape) → Fits (with_rows g rs cs) e y → Fits (with_rows g rs cs) q (c.to_second y)
+  pub leads : (ts : List Token) (d : Expr) → IsTested g d → Leads (lax g) q ts d → Leads (lax g) e ts d
+  pub leads_back : (ts : List Token) (d : Expr) → IsTested g d → Leads (lax (with_rows g rs cs)) e ts d → Leads (lax (with_rows g rs cs)) q ts d
   pub back : (y : Shape) → Fits (with_rows g rs cs) e y → c.to_written (written cs (c.to_second y)) ≡ written cs y
 
 -- the same of lists of rules
@@ -116,5 +121,13 @@ pub record IsFirstFaultFor (g : Grammar) (e : Expr) (ts : List Token) (why : Rea
 pub record IsExactFor (g : Grammar) (rs : List Row) (cs : List Change) (e : Expr) : Type 0 where
   pub sound : (ts us : List Token) (x : Shape) → Takes (with_rows g rs cs) e ts x us → Derives g e (leaves x) (written cs x) × (ts ≡ leaves x ++ us)
   pub complete : (ts rest : List Token) (y : Shape) → Derives g e ts y → sees (cont rs e) (peek rest) ≡ false → (x : Shape) × Takes (with_rows g rs cs) e (ts ++ rest) x rest × (written cs x ≡ y)
+  -- no other list, were all values good, begins with what is taken and goes on with the next item
+  pub longest : (ts us : List Token) (x : Shape) → Takes (with_rows g rs cs) e ts x us
+      → (y : Shape) (more : List Token) → Derives (lax g) e (leaves x ++ more) y → peek more ≡ peek us
+      → (y ≡ written cs x) × (more ≡ [])
   pub unambiguous : (ts : List Token) (x y : Shape) → Derives g e ts x → Derives g e ts y → x ≡ y
+  pub one_split : (ts us vs ws : List Token) (x y : Shape) → Derives g e ts x → Derives g e us y → ts ++ vs ≡ us ++ ws
+      → sees (cont rs e) (peek vs) ≡ false → sees (cont rs e) (peek ws) ≡ false → (x ≡ y) × (ts ≡ us) × (vs ≡ ws)
+  pub alike : ReadsAlike g e
+  pub alike_lax : ReadsAlike (lax g) e
   pub earliest : (ts us : List Token) (why : Reason) → Fails (with_rows g rs cs) e ts why us → IsFirstFaultFor g e ts why us

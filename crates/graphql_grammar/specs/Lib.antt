@@ -8,3 +8,5 @@ pub mod Factored
 pub mod Words
 pub mod Texts
 pub mod Extended
+pub mod Leads
+pub mod Faults

@@ -65,6 +65,14 @@ are_rows rs (r ∷ more) = is_row rs r && are_rows rs more
 abbrev pub is_ll1 : List Row → Bool
 is_ll1 rs = are_rows rs rs
 
+-- No table says more than its rule: a symbol is nullable only where its rule is, and begins with no class with which that does not.
+abbrev pub are_tight : List Row → List Row → Bool
+are_tight rs [] = true
+are_tight rs (r ∷ more) = ((not r.nullable || nullable rs r.rule) && all_within r.first (first rs r.rule)) && are_tight rs more
+
+abbrev pub is_tight : List Row → Bool
+is_tight rs = are_tight rs rs
+
 -- a tree is one of the expression's, as a test
 abbrev pub has_tree : Grammar → Expr → Shape → Bool
 has_tree g Empty Nothing = true

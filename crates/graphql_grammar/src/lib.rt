@@ -5,11 +5,12 @@
 
 ghost use Rattle.std.specs.Prelude.{◌≡◌, ℕ, List, true};
 ghost use Rattle.graphql_grammar.specs.Trees.{Expr, Empty, Then, Either, Sym, Shape, Row, Grammar, Fits, row_at};
-ghost use Rattle.graphql_grammar.specs.Tables.{is_ll1, is_productive, decides, has_samples};
+ghost use Rattle.graphql_grammar.specs.Tables.{is_ll1, is_tight, is_productive, decides, has_samples};
 ghost use Rattle.graphql_grammar.specs.Reading.{unchecked, lax};
 ghost use Rattle.graphql_grammar.specs.Theorems.{IsExact, ReadsAlike};
 ghost use Rattle.graphql_grammar.specs.Texts.{IsWhole, IsWholeFor};
-ghost use Rattle.graphql_grammar.specs.Extended.{Extends, ReadsOn, LeavesAlone, is_below};
+ghost use Rattle.graphql_grammar.specs.Extended.{Extends, TestsAlike, ReadsOn, LeavesAlone, is_below};
+ghost use Rattle.graphql_grammar.specs.Faults.{AnswersLeast, RefusesTokens};
 ghost use Rattle.graphql_grammar.specs.Factored.{Change, change_at, unchanged, out_of_head, in_second, out_of_prefix, out_of_symbols, written, with_rows, IsSecond, AreSecond, EachIsSecond, IsExactFor};
 
 /// A grammar whose tables pass the test is read with one item of lookahead, exactly.
@@ -31,6 +32,16 @@ pub fn factored()
         → (e : Expr) → decides rs e ≡ true → has_samples (with_rows g rs cs) e ≡ true → IsWholeFor g rs cs e }
 {}
 
+/// Where moreover no table says more than its rule, and no node without tokens is refused, reading answers the fault of
+/// least index, of the grammar and of a written grammar.
+pub fn least()
+    ensures read { (g : Grammar) → is_ll1 g.rows ≡ true → is_tight g.rows ≡ true → is_productive g ≡ true → RefusesTokens g
+        → (e : Expr) → decides g.rows e ≡ true → has_samples g e ≡ true → AnswersLeast g g e }
+    ensures written { (g : Grammar) (rs : List Row) (cs : List Change) → EachIsSecond g rs cs → EachIsSecond (lax g) rs cs
+        → is_ll1 rs ≡ true → is_tight rs ≡ true → is_productive (with_rows g rs cs) ≡ true → RefusesTokens g
+        → (e : Expr) → decides rs e ≡ true → has_samples (with_rows g rs cs) e ≡ true → AnswersLeast g (with_rows g rs cs) e }
+{}
+
 /// Ways to find second rules: none, out of the head of both sides, in the second side, out of an optional prefix,
 /// out of the heads of two symbols.
 pub fn second_rules()
@@ -46,13 +57,14 @@ pub fn second_rules()
         → IsSecond g rs cs (Then (Either (Sym k) Empty) (Then n r)) (Then n (Then (Either (Then c n) Empty) r)) (out_of_prefix k) }
     ensures symbols { (g : Grammar) (rs : List Row) (cs : List Change) (j k : ℕ) (d p q : Expr)
         → (row_at g.rows j).rule ≡ Then d p → (row_at rs j).rule ≡ Then d p → (row_at g.rows k).rule ≡ Then d q → (row_at rs k).rule ≡ Then d q
-        → ((x : Shape) → (change_at cs j).to_written x ≡ x) → ((x : Shape) → (change_at cs k).to_written x ≡ x) → ((i : ℕ) (x : Shape) → g.check i x ≡ true)
+        → ((x : Shape) → (change_at cs j).to_written x ≡ x) → ((x : Shape) → (change_at cs k).to_written x ≡ x)
+        → ((x : Shape) → g.check j x ≡ true) → ((x : Shape) → g.check k x ≡ true)
         → IsSecond g rs cs (Either (Sym j) (Sym k)) (Then d (Either p q)) (out_of_symbols j k) }
 {}
 
 /// What a grammar reads, a grammar that goes on from it reads alike; second rules for other symbols leave its trees alone.
 pub fn extended()
-    ensures on { (n : ℕ) (g h : Grammar) → Extends n g h → (e : Expr) → is_below n e ≡ true → ReadsOn g h e }
+    ensures on { (n : ℕ) (g h : Grammar) → Extends n g h → (e : Expr) → is_below n e ≡ true → TestsAlike g h e → ReadsOn g h e }
     ensures alone { (n : ℕ) (g : Grammar) (cs : List Change) → LeavesAlone n g cs → (e : Expr) → is_below n e ≡ true
         → (x : Shape) → Fits g e x → written cs x ≡ x }
 {}

@@ -4,7 +4,7 @@
 pub use graphql_core::common::{BadToken, Cause};
 pub use graphql_core::format::{FormatError, Style};
 pub use graphql_core::position::Pos;
-pub use graphql_query::parse_query;
+pub use graphql_query::{minify_query, parse_query};
 
 /// Text types, numbers, values of strings, and causes of faults.
 pub mod common {
@@ -24,9 +24,10 @@ pub mod query {
     pub use graphql_common::{Directive, Type, Value};
     pub use graphql_core::common::{FloatLiteral, Number};
     pub use graphql_query::{
-        Definition, Document, Field, FragmentDefinition, FragmentSpread, InlineFragment, Mutation,
-        Names, OperationDefinition, ParseError, Query, Selection, SelectionSet, Subscription, Text,
-        TypeCondition, VariableDefinition, parse_query,
+        Definition, Document, Field, FragmentDefinition, FragmentSpread, InlineFragment,
+        MinifyError, Mutation, Names, OperationDefinition, ParseError, Query, Selection,
+        SelectionSet, Subscription, Text, TypeCondition, VariableDefinition, minify_query,
+        parse_query,
     };
 }
 

@@ -1,9 +1,15 @@
 //! What no clause says, and every public call once with ample memory.
 
+mod built;
 mod callers;
-mod documents;
+mod layouts;
 mod memory;
 mod messages;
+mod minify;
 mod positions;
-mod queries;
+mod refusals;
+mod strings;
+mod support;
 mod tokens;
+mod trees;
+mod values;

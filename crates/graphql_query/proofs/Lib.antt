@@ -8,7 +8,11 @@ pub mod Keywords
 pub mod Defining
 pub mod Variables
 pub mod Whole
-pub mod OneFault
+pub mod Faults
 pub mod Printable
 pub mod Printing
 pub mod Erased
+pub mod WayBack
+pub mod RoundTrip
+pub mod Unplaced
+pub mod Minified

@@ -16,14 +16,14 @@ use Rattle.graphql_common.specs.Grammar.{core}
 use Rattle.graphql_query.specs.Grammar.{query, second_rows, changes, reading}
 use Rattle.graphql_query.specs.Meanings.{first_place}
 use Rattle.graphql_query.specs.Reads.{Reads}
-use Rattle.graphql_query.proofs.Readable.{each, goes_on, alone}
+use Rattle.graphql_query.proofs.Readable.{each, read_alike, goes_on, alone}
 
 pub takes_lifted : (e : Expr) → is_below 11 e ≡ true → (ts us : List Token) (x : Shape) → Takes core e ts x us → Takes reading e ts x us
-takes_lifted e b ts us x h = (reads_on 11 core reading goes_on e b).takes ts us x h
+takes_lifted e b ts us x h = (reads_on 11 core reading goes_on e b (read_alike e)).takes ts us x h
 
 pub stops_lifted : (e : Expr) → is_below 11 e ≡ true → (ts us : List Token) (o : Option Reason) → Stops core e ts us o → Stops reading e ts us o
 stops_lifted e b ts us None h = tt
-stops_lifted e b ts us (Some why) h = (reads_on 11 core reading goes_on e b).fails ts us why h
+stops_lifted e b ts us (Some why) h = (reads_on 11 core reading goes_on e b (read_alike e)).fails ts us why h
 
 -- its shape is its own written shape
 pub some_lifted : (e : Expr) → is_below 11 e ≡ true → (ts us : List Token) (P : Shape → Type 0) → TakesSome core e ts us P → TakesSome reading e ts us (λ x. P (written changes x))

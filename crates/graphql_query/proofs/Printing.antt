@@ -15,6 +15,7 @@ use Rattle.graphql_query.specs.declared.tree.Definition.{Definition}
 use Rattle.graphql_query.specs.declared.tree.VariableDefinition.{VariableDefinition}
 use Rattle.graphql_query.specs.declared.tree.SelectionSet.{SelectionSet, out-SelectionSet, the_lemmas}
 use Rattle.graphql_query.specs.Tree.{field, inline, set, more, condition_view, selection_view, selections_view, field_view, inline_view, set_view, variable_view, variables_view, definition_view, definitions_view}
+use Rattle.graphql_query.specs.Lawful.{IsLawfulSet}
 use Rattle.graphql_query.specs.Layout.{in_braces, selected_layout, set_layout, selected_levels, set_levels}
 
 -- ---- the parts of a tree
@@ -53,6 +54,9 @@ module _ {N T : Type 0} (bytes : T → List ℕ) where
   -- a field that selects nothing
   pub nothing_levels : (s : SelectionSet N T) (style : Layout) → items_of s ≡ [] → selected_levels style (set_view bytes s) ≡ 0
   nothing_levels s style e = rw (set_parts s, e) refl
+
+  pub nothing_lawful : (s : SelectionSet N T) → items_of s ≡ [] → IsLawfulSet (set_view bytes s)
+  nothing_lawful s e = rw (set_parts s, e) tt
 
   pub nothing_layout : (s : SelectionSet N T) (style : Layout) (margin : ℕ) → items_of s ≡ [] → selected_layout style margin (set_view bytes s) ≡ gap (codes "\n")
   nothing_layout s style margin e = rw (set_parts s, e) refl

@@ -1,13 +1,15 @@
 -- The grammar of queries is read exactly, and goes on from that of values, types and directives.
 use Rattle.std.proofs.Common.{◌≡◌, Bool, true, refl}
 use Rattle.graphql_grammar.specs.Tokens.{Token, Class}
-use Rattle.graphql_grammar.specs.Trees.{Expr, Sym, Grammar}
-use Rattle.graphql_grammar.specs.Tables.{is_ll1, is_productive}
+use Rattle.graphql_grammar.specs.Trees.{Expr, Sym, Grammar, row_at}
+use Rattle.graphql_grammar.specs.Tables.{is_ll1, is_tight, is_productive}
 use Rattle.graphql_grammar.specs.Factored.{IsSecond, EachIsSecond, unchanged, IsExactFor}
 use Rattle.graphql_grammar.specs.Texts.{IsWholeFor}
-use Rattle.graphql_grammar.specs.Extended.{Extends, LeavesAlone}
+use Rattle.graphql_grammar.specs.Faults.{AnswersLeast, RefusesTokens}
+use Rattle.graphql_grammar.specs.Extended.{Extends, TestsAlike, LeavesAlone}
 use Rattle.graphql_grammar.proofs.Carried.{each_is_second, exact_for, whole_for, IsSecond-unchanged, IsSecond-second, IsSecond-symbols, IsSecond-prefix}
-use Rattle.graphql_grammar.proofs.Extending.{with_more, alone_before}
+use Rattle.graphql_grammar.proofs.FaultedFor.{least_for}
+use Rattle.graphql_grammar.proofs.Extending.{tests_alike, with_more, alone_before}
 use Rattle.graphql_common.specs.Grammar.{core, tables as core_tables, name}
 use Rattle.graphql_common.specs.Leaves.{unquoted}
 use Rattle.graphql_query.specs.Grammar.{query, second_rows, changes, reading, tables, samples, document_symbol, spread_symbol, inline_symbol, alias_symbol, spread_rest, inline_rest, field_rest}
@@ -15,6 +17,10 @@ use Rattle.graphql_query.specs.Grammar.{query, second_rows, changes, reading, ta
 pub ll1 : is_ll1 second_rows ≡ true
 unfolding tables core_tables
 ll1 = refl
+
+pub tight : is_tight second_rows ≡ true
+unfolding tables core_tables
+tight = refl
 
 pub productive : is_productive reading ≡ true
 unfolding tables core_tables unquoted
@@ -62,7 +68,7 @@ each good = each_is_second g second_rows changes (
                                   (
                                     same _,
                                     (
-                                      IsSecond-second g second_rows changes _ _ _ _ (IsSecond-symbols g second_rows changes spread_symbol inline_symbol _ spread_rest inline_rest refl refl refl refl (λ x. refl) (λ x. refl) (λ i x. refl)),
+                                      IsSecond-second g second_rows changes _ _ _ _ (IsSecond-symbols g second_rows changes spread_symbol inline_symbol _ spread_rest inline_rest refl refl refl refl (λ x. refl) (λ x. refl) (λ x. refl) (λ x. refl)),
                                       (
                                         IsSecond-prefix g second_rows changes alias_symbol name _ field_rest refl refl (λ x. refl) (λ x. refl),
                                         (same _, (same _, (same _, (same _, (same _, (same _, tt)))))),
@@ -101,8 +107,26 @@ pub whole : IsWholeFor query second_rows changes (Sym document_symbol)
 unfolding tables
 whole = whole_for query second_rows changes (each query.good) (each query.good) (each (λ c t. true)) ll1 productive (Sym document_symbol) refl refl
 
+-- no node is refused
+none_refused : RefusesTokens query
+none_refused k x fits refused empty = absurd cc
+
+pub least : AnswersLeast query reading (Sym document_symbol)
+unfolding tables
+least = least_for query second_rows changes (each query.good) (each (λ c t. true)) ll1 tight productive none_refused (Sym document_symbol) refl refl
+
+-- leaves are tested as those of values, types and directives are, in what is written and in what is read
+pub tested_alike : (e : Expr) → TestsAlike core query e
+tested_alike e = tests_alike core query (λ c t. refl) e
+
+pub read_alike : (e : Expr) → TestsAlike core reading e
+read_alike e = tests_alike core reading (λ c t. refl) e
+
+pub written_goes_on : Extends 11 core query
+written_goes_on = with_more core _ core.good (λ k x. true) samples refl (λ k h. tested_alike (row_at core.rows k).rule) (λ k x h. refl)
+
 pub goes_on : Extends 11 core reading
-goes_on = with_more core _ (λ k x. true) samples refl (λ k x h. refl)
+goes_on = with_more core _ core.good (λ k x. true) samples refl (λ k h. read_alike (row_at core.rows k).rule) (λ k x h. refl)
 
 pub alone : LeavesAlone 11 core changes
 alone = alone_before core _ refl

@@ -4,7 +4,10 @@ pub mod Meanings
 pub mod Common
 pub mod Reads
 pub mod Refusal
+pub mod Faults
 pub mod Document
+pub mod Minifying
 pub mod Printable
 pub mod Layout
 pub mod Examples
+pub mod Lawful

@@ -3,8 +3,9 @@ ghost use Rattle.std.specs.Prelude.{◌≡◌, ◌<◌, ◌≤◌, length, IfOk,
 ghost use Rattle.graphql_core.specs.declared.common.fault.Fault.TheVariants.{OutOfMemory};
 ghost use Rattle.graphql_query.specs.Tree.{DocumentTree, document_view};
 ghost use Rattle.graphql_query.specs.Refusal.{too_long};
-ghost use Rattle.graphql_query.specs.Document.{IsDocument, IsDocumentOf, IsFirst, IsRefusalOf};
-ghost use Rattle.graphql_query.specs.Document.{AnswersUnlessMemory, HasNoFault, HasOneFault, HasOneShape, max_length};
+ghost use Rattle.graphql_query.specs.Document.{IsDocument, IsDocumentOf, IsRefusalOf};
+ghost use Rattle.graphql_query.specs.Document.{AnswersUnlessMemory, HasNoFault, HasOneShape, max_length};
+ghost use Rattle.graphql_query.specs.Faults.{IsLeastOf, HasOneFaultEach};
 ghost use Rattle.graphql_query.specs.Printable.{IsPrintable};
 
 use crate::error::ParseError;
@@ -15,7 +16,7 @@ use graphql_core::helpers::{Cursor, TokenSource};
 use std::alloc::Global;
 
 /// The most bytes of a text.
-const MAX_LENGTH: usize = usize::MAX / 16;
+pub(crate) const MAX_LENGTH: usize = usize::MAX / 16;
 
 /// The document that all items of a source are.
 pub fn read_document<S: TokenSource>(
@@ -28,8 +29,8 @@ pub fn read_document<S: TokenSource>(
     // A document is answered, unless memory runs out.
     ensures complete { (d : DocumentTree) → IsDocument (S.items source.old) d
         → IfErr result (λ e. e ≡ OutOfMemory) }
-    // A refusal is the first fault of the items.
-    ensures refused { IfErr result (IsFirst (S.items source.old)) }
+    // A refusal is the fault of least index of the items.
+    ensures refused { IfErr result (IsLeastOf (S.items source.old)) }
 {
     let definitions = definitions(alloc, source)?;
     if source.is_at_end() {
@@ -42,10 +43,10 @@ pub fn read_document<S: TokenSource>(
 /// Parses a text as a query document (October 2021, section 2.2).
 ///
 /// The error is `TextTooLong` at 1:1 for a text of more than `usize::MAX / 16` bytes, which is tested first;
-/// `OutOfMemory` where memory runs out; else the text is no document, and the error is its first fault, at
-/// the item with which no document goes on: `BadToken` and `TooDeep` for a bad place, `UnexpectedToken` for a
-/// token, `UnexpectedEnd` for the end; `IntOutOfRange`, `MalformedFloat` and `BadEscape` for a token that stands
-/// as a value and has none.
+/// `OutOfMemory` where memory runs out; else the text is no document, and the error is the fault that the first
+/// item shows that shows one: `BadToken` and `TooDeep` for a bad place; `UnexpectedToken` for a token and
+/// `UnexpectedEnd` for the end, where no document goes on with it; `IntOutOfRange`, `MalformedFloat` and
+/// `BadEscape` for a token that stands as a value and has none.
 pub fn parse_query<'a, S: Text<'a>>(
     alloc: Global,
     source: &'a str,
@@ -61,12 +62,12 @@ pub fn parse_query<'a, S: Text<'a>>(
     // The list of its tokens has at most one shape.
     ensures one_shape { HasOneShape source.now }
 
-    // A refusal is the first fault of the text. A text past the bound is refused before any memory is taken.
+    // A refusal is the fault of least index of the text. A text past the bound is refused before any memory is taken.
     ensures refused { IfErr result (IsRefusalOf source.now) }
     ensures too_long { max_length < length source.now → IsErrOf result too_long }
 
-    // A text has at most one first fault, and none where it is a document.
-    ensures one_fault { HasOneFault source.now }
+    // No two faults of a text have one index, and a document has none.
+    ensures one_fault { HasOneFaultEach source.now }
     ensures no_fault { (d : DocumentTree) → HasNoFault source.now d }
 {
     if source.len() > MAX_LENGTH {

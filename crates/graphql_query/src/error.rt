@@ -4,6 +4,7 @@ ghost use Rattle.graphql_core.specs.Causes.{cause_text};
 ghost use Rattle.graphql_core.specs.Source.{place_of};
 ghost use Rattle.graphql_query.specs.Refusal.{too_long, refusal_of};
 
+use crate::refused::Refused;
 use graphql_core::common::{Cause, Fault};
 use graphql_core::position::Pos;
 use std::fmt;
@@ -12,21 +13,17 @@ use thiserror::Error;
 
 /// Why a text is no query document: a cause, and the position at which it stands.
 #[derive(Debug, Drop, Error)]
-#[error("query parse error: {}", Located {cause: .cause, position: *.position})]
+#[error("query parse error: {}", Located {cause: &.refused.cause, position: .refused.position})]
 pub struct ParseError {
-    cause: Cause,
-    position: Option<Pos>,
+    refused: Refused,
 }
 
 impl Model for ParseError {
-    ghost use Rattle.std.specs.Prelude.{option_map};
-    ghost use Rattle.graphql_core.specs.Causes.{cause_text};
-    ghost use Rattle.graphql_core.specs.Source.{place_of};
     ghost use Rattle.graphql_query.specs.Refusal as spec;
 
     ghost Value = { spec.Refusal };
 
-    ghost view = { λ e. record { cause = cause_text e.cause; place = option_map place_of e.position } };
+    ghost view = { λ e. e.refused };
 }
 
 impl ParseError {
@@ -35,8 +32,7 @@ impl ParseError {
         ensures { result ≡ too_long }
     {
         ParseError {
-            cause: Cause::TextTooLong,
-            position: Some(Pos { line: 1, column: 1 }),
+            refused: Refused::text_too_long(),
         }
     }
 
@@ -44,14 +40,14 @@ impl ParseError {
     pub fn position(&self) -> Option<Pos>
         ensures { option_map place_of result ≡ self.now.place }
     {
-        self.position
+        self.refused.position
     }
 
     /// Why the text is refused.
     pub fn cause(&self) -> &Cause
         ensures { cause_text result.now ≡ self.now.cause }
     {
-        &self.cause
+        &self.refused.cause
     }
 }
 
@@ -59,15 +55,8 @@ impl From<Fault> for ParseError {
     ghost from_gives = { λ f e. e ≡ refusal_of f };
 
     fn from(fault: Fault) -> ParseError {
-        match fault {
-            Fault::OutOfMemory => ParseError {
-                cause: Cause::OutOfMemory,
-                position: None,
-            },
-            Fault::At(cause, position) => ParseError {
-                cause,
-                position: Some(position),
-            },
+        ParseError {
+            refused: Refused::from(fault),
         }
     }
 }

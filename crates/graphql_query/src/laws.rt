@@ -1,8 +1,16 @@
 //! Laws of the definitions alone.
-ghost use Rattle.std.specs.Prelude.{◌≡◌};
+ghost use Rattle.std.specs.Prelude.{◌≡◌, ℕ, List, Result};
+ghost use Rattle.graphql_core.specs.Minified.{IsMinified};
 ghost use Rattle.graphql_core.specs.Style.{Layout};
 ghost use Rattle.graphql_query.specs.Tree.{DocumentTree, erase};
+ghost use Rattle.graphql_core.specs.Source.{FaultText};
+ghost use Rattle.graphql_query.specs.Document.{IsDocumentOf};
+ghost use Rattle.graphql_query.specs.Faults.{IsFirstFaultOf, IsLeastFaultOf};
+ghost use Rattle.graphql_query.specs.Lawful.{IsLawfulDocument};
 ghost use Rattle.graphql_query.specs.Layout.{layout};
+ghost use Rattle.graphql_query.specs.Printable.{IsPrintable};
+ghost use Rattle.graphql_query.specs.Refusal.{Refusal};
+ghost use Rattle.graphql_query.specs.Minifying.{IsParsed, AreAlike};
 ghost use Rattle.graphql_query.specs.Examples as example;
 
 /// The documents of some small texts, and their layouts.
@@ -18,7 +26,35 @@ pub fn worked_examples()
     ensures named_layout { example.NamedLayout }
 {}
 
+/// The fault of least index of a text is one, and it is the first: some document begins with the items before it, were
+/// the item good or another, and none goes on with it.
+pub fn least_faults_are_first()
+    ensures one { (text : List ℕ) (f g : FaultText) → IsLeastFaultOf text f → IsLeastFaultOf text g → f ≡ g }
+    ensures first { (text : List ℕ) (f : FaultText) → IsLeastFaultOf text f → IsFirstFaultOf text f }
+{}
+
 /// The text of a document is that of the document without its positions.
 pub fn text_has_no_positions()
     ensures { (style : Layout) (d : DocumentTree) → layout style (erase d) ≡ layout style d }
+{}
+
+/// What is read of the text of a printable document is the document, but for positions.
+pub fn printed_documents_are_read_back()
+    // Some document is read, in any style.
+    ensures read_back { (style : Layout) (d : DocumentTree) → IsPrintable d → IsLawfulDocument d
+        → (e : DocumentTree) × IsDocumentOf (layout style d) e × (erase e ≡ erase d) }
+    // Each that is read is the same, and its text in that style is the same text.
+    ensures printed_again { (style : Layout) (d e : DocumentTree) → IsPrintable d → IsLawfulDocument d → IsDocumentOf (layout style d) e
+        → (erase e ≡ erase d) × (layout style e ≡ layout style d) }
+    // What is read of the texts in two styles is the same.
+    ensures styles_agree { (style other : Layout) (d e f : DocumentTree) → IsPrintable d → IsLawfulDocument d
+        → IsDocumentOf (layout style d) e → IsDocumentOf (layout other d) f → erase e ≡ erase f }
+    // Documents that have one text are the same.
+    ensures one_text { (style : Layout) (d e : DocumentTree) → IsPrintable d → IsLawfulDocument d → IsPrintable e → IsLawfulDocument e
+        → layout style d ≡ layout style e → erase d ≡ erase e }
+{}
+
+/// A minified text is parsed as its source is, but for positions: a document for a document, a refusal for a refusal.
+pub fn minified_texts_are_parsed_alike()
+    ensures { (source text : List ℕ) (r s : Result DocumentTree Refusal) → IsMinified source text → IsParsed source r → IsParsed text s → AreAlike r s }
 {}

@@ -4,14 +4,20 @@
 mod document;
 mod error;
 mod laws;
+mod minify;
 mod print;
 mod read;
+mod refused;
 mod tree;
 
 pub use document::parse_query;
 pub use error::ParseError;
 pub use graphql_core::common::{Names, Text};
-pub use laws::{text_has_no_positions, worked_examples};
+pub use laws::{
+    least_faults_are_first, minified_texts_are_parsed_alike, printed_documents_are_read_back,
+    text_has_no_positions, worked_examples,
+};
+pub use minify::{MinifyError, minify_query};
 
 /// A query document (October 2021, section 2.2).
 pub type Document<'a, T> = tree::Document<T>;

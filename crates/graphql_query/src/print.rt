@@ -4,10 +4,10 @@ mod levels;
 mod operations;
 mod selections;
 mod show;
-#[cfg(test)]
-mod tests;
 
 ghost use Rattle.std.specs.Prelude.{◌≡◌, ◌↔◌, IfOk, IsErrOf, string_bytes};
+ghost use Rattle.graphql_query.specs.Document.{IsReadBack};
+ghost use Rattle.graphql_query.specs.Printable.{IsPrintable};
 ghost use Rattle.graphql_query.specs.Tree.{document_view};
 ghost use Rattle.graphql_query.specs.Layout.{layout, IsTooWide};
 
@@ -26,6 +26,9 @@ impl<N: Names> Document<N> {
     /// decided before any memory is taken; `OutOfMemory` where memory runs out.
     pub fn format(&self, alloc: Global, style: &Style) -> Result<String, FormatError>
         ensures text { IfOk result (λ text. string_bytes text ≡ layout style.now (document_view N.bytes self.now)) }
+        // What can be printed is read back, but for positions.
+        ensures read_back { IfOk result (λ text. IsPrintable (document_view N.bytes self.now)
+            → IsReadBack (string_bytes text) (document_view N.bytes self.now)) }
         ensures too_wide { IsErrOf result FormatError.TooWide ↔ IsTooWide style.now (document_view N.bytes self.now) }
     {
         if is_too_wide(levels_in_document(self, style), style) {

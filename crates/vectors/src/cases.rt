@@ -1,10 +1,31 @@
 //! Recorded cases.
 
-/// A text, and the layout that was recorded for it, or none where it was refused.
-#[derive(Drop)]
+/// What is asked of a text.
+#[derive(Clone, Copy)]
+pub enum Asked {
+    /// To parse it as a query document, and to lay that out.
+    Query,
+    /// To minify it.
+    Minify,
+}
+
+/// What was recorded of a text.
+#[derive(Clone, Copy)]
+pub enum Answer<'a> {
+    /// This text in place of it.
+    Text(&'a str),
+    /// That it is accepted.
+    Accepted,
+    /// That it is refused.
+    Refused,
+}
+
+/// A text, what is asked of it, and the answer that was recorded.
+#[derive(Clone, Copy)]
 pub struct Case<'a> {
+    pub asked: Asked,
     pub source: &'a str,
-    pub layout: Option<&'a str>,
+    pub answer: Answer<'a>,
 }
 
 /// A text of so many bytes with LF behind it, and what follows.
@@ -14,22 +35,38 @@ fn sized<'a>(text: &'a str, length: &str) -> Option<(&'a str, &'a str)> {
     Some((sized, behind.strip_prefix('\n')?))
 }
 
+/// What a word asks.
+fn read_asked(word: &str) -> Option<Asked> {
+    match word {
+        "query" => Some(Asked::Query),
+        "minify" => Some(Asked::Minify),
+        _ => None,
+    }
+}
+
+/// The answer at the front, and what follows.
+fn read_answer<'a>(text: &'a str) -> Option<(Answer<'a>, &'a str)> {
+    let (word, behind) = text.split_once('\n')?;
+    match word {
+        "refused" => Some((Answer::Refused, behind)),
+        "accepted" => Some((Answer::Accepted, behind)),
+        _ => {
+            let (text, behind) = sized(behind, word.strip_prefix("ok ")?)?;
+            Some((Answer::Text(text), behind))
+        }
+    }
+}
+
 /// The case at the front, and what follows.
 pub fn next_case<'a>(text: &'a str) -> Option<(Case<'a>, &'a str)> {
-    let (length, behind) = text.split_once('\n')?;
+    let (words, behind) = text.split_once('\n')?;
+    let (word, length) = words.split_once(' ')?;
     let (source, behind) = sized(behind, length)?;
-    let (answer, behind) = behind.split_once('\n')?;
-    if answer == "refused" {
-        let case = Case {
-            source,
-            layout: None,
-        };
-        return Some((case, behind));
-    }
-    let (layout, behind) = sized(behind, answer.strip_prefix("ok ")?)?;
+    let (answer, behind) = read_answer(behind)?;
     let case = Case {
+        asked: read_asked(word)?,
         source,
-        layout: Some(layout),
+        answer,
     };
     Some((case, behind))
 }

@@ -1,48 +1,103 @@
-//! `vectors`: parses and lays out the queries of recorded cases, and tells where the recorded answers differ.
+//! `vectors`: replays recorded cases, and tells how many of the answers are those that were recorded.
 //!
-//! The cases stand on standard input, one after another, all lengths in bytes: a line with a length, a text of that
-//! length and LF; then a line `ok` with a length, a layout of that length and LF, or a line `refused`.
+//! The cases stand on standard input, one after another, all lengths in bytes: a line `query` or `minify` with a length,
+//! a text of that length and LF; then a line `ok` with a length, the answer of that length and LF, or a line `accepted`
+//! or `refused`.
 #![tactic(auto)]
 
 mod cases;
 mod shown;
 
-use crate::cases::{Case, next_case};
-use crate::shown::without_positions;
-use graphql_parser::Style;
+use crate::cases::{Answer, Asked, Case, next_case};
+use crate::shown::shown;
 use graphql_parser::query::{Document, parse_query};
+use graphql_parser::{Style, minify_query};
 use std::alloc::{AllocError, Global};
 use std::io;
 use std::process::ExitCode;
 
-/// Whether a case's text has the answer that was recorded; an accepted text's layout is read back as the same document.
+/// Whether a case has the answer that was recorded.
 fn agrees(alloc: Global, case: &Case<'_>) -> Result<bool, AllocError> {
-    let document: Document<'_, &str> = match parse_query(alloc, case.source) {
-        Ok(document) => document,
-        Err(_) => return Ok(case.layout.is_none()),
-    };
-    let Some(layout) = case.layout else {
-        return Ok(false);
-    };
-    match document.format(alloc, &Style::default()) {
-        Ok(text) if text.as_str() == layout => reads_back(alloc, &document, layout),
-        _ => Ok(false),
+    match case.asked {
+        Asked::Query => query_agrees(alloc, case),
+        Asked::Minify => minify_agrees(alloc, case),
     }
 }
 
-/// Whether a layout is read back as the same document, positions aside.
-fn reads_back(
+/// Whether a text is parsed, and its document laid out, as was recorded; the layouts of an accepted one are read back.
+fn query_agrees(alloc: Global, case: &Case<'_>) -> Result<bool, AllocError> {
+    let document: Document<'_, &str> = match parse_query(alloc, case.source) {
+        Ok(document) => document,
+        Err(_) => return Ok(matches!(case.answer, Answer::Refused)),
+    };
+    let as_recorded = match case.answer {
+        Answer::Text(layout) => is_laid_out(alloc, &document, layout),
+        Answer::Accepted => true,
+        Answer::Refused => false,
+    };
+    Ok(as_recorded && is_read_back(alloc, &document)?)
+}
+
+/// Whether this is the document's layout in the default style.
+fn is_laid_out(alloc: Global, document: &Document<'_, &str>, layout: &str) -> bool {
+    match document.format(alloc, &Style::default()) {
+        Ok(text) => text.as_str() == layout,
+        Err(_) => false,
+    }
+}
+
+/// Whether the document's layouts, in both styles and three indentations, are read back.
+fn is_read_back(alloc: Global, document: &Document<'_, &str>) -> Result<bool, AllocError> {
+    'styles: for (indent, multiline) in [
+        (0, false),
+        (2, false),
+        (7, false),
+        (0, true),
+        (2, true),
+        (7, true),
+    ] {
+        let mut style = Style::default();
+        style.indent(indent).multiline_arguments(multiline);
+        if !is_read_back_in(alloc, document, &style)? {
+            return Ok(false);
+        }
+    }
+    Ok(true)
+}
+
+/// Whether the document's layout is read back as the same document, positions aside, which has the same layout again.
+fn is_read_back_in(
     alloc: Global,
     document: &Document<'_, &str>,
-    layout: &str,
+    style: &Style,
 ) -> Result<bool, AllocError> {
-    let again: Document<'_, &str> = match parse_query(alloc, layout) {
+    let Ok(layout) = document.format(alloc, style) else {
+        return Ok(false);
+    };
+    let again: Document<'_, &str> = match parse_query(alloc, &layout) {
         Ok(again) => again,
         Err(_) => return Ok(false),
     };
-    let shown = without_positions(alloc, format!(in alloc; "{document:?}")?.as_str())?;
-    let shown_again = without_positions(alloc, format!(in alloc; "{again:?}")?.as_str())?;
-    Ok(shown.as_str() == shown_again.as_str())
+    let Ok(layout_again) = again.format(alloc, style) else {
+        return Ok(false);
+    };
+    let same = shown(alloc, document)?.as_str() == shown(alloc, &again)?.as_str();
+    Ok(same && layout_again.as_str() == layout.as_str())
+}
+
+/// Whether a text is minified as was recorded, and its minified text to itself.
+fn minify_agrees(alloc: Global, case: &Case<'_>) -> Result<bool, AllocError> {
+    let Ok(text) = minify_query(alloc, String::from_str(alloc, case.source)?) else {
+        return Ok(matches!(case.answer, Answer::Refused));
+    };
+    let Answer::Text(recorded) = case.answer else {
+        return Ok(false);
+    };
+    let as_recorded = text.as_str() == recorded;
+    match minify_query(alloc, text) {
+        Ok(again) => Ok(as_recorded && again.as_str() == recorded),
+        Err(_) => Ok(false),
+    }
 }
 
 /// How many cases there are, and how many agree; none where they are not written as cases, or memory runs out.

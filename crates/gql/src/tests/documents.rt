@@ -1,7 +1,8 @@
-//! Texts that are laid out, and texts that are refused.
+//! Texts that are laid out or minified, and texts that are refused.
+use crate::command::Command;
 use crate::error::status;
 use crate::tests::devices::{Sink, Source};
-use crate::tests::{run_query, told};
+use crate::tests::{run_over, run_query, told};
 use std::alloc::{AllocError, Global};
 use std::process::Abort;
 use std::test::Fail;
@@ -69,6 +70,27 @@ fn refuses_what_is_no_document(rt: HostRuntime) -> Result<(), Fail> {
         "{ a;}",
         "query parse error: Parse error at 1:4\nUnexpected unexpected character ';'\n",
     )?;
+    Ok(())
+}
+
+#[test]
+fn minifies(rt: HostRuntime) -> Result<(), Fail> {
+    let alloc = rt.alloc();
+    let source = Source::of(b"query Q { a ... on B { c } } # d\n1...");
+    let ran = run_over(alloc, Command::Minify, source, Sink::new(alloc));
+    assert!(rt; ran.written.is_empty());
+    assert_eq!(rt; status(Some(&ran.answer)), 1);
+    assert_eq!(rt;
+        told(alloc, &ran.answer)?.as_str(),
+        "query minify error: Unexpected unsupported float \"1...\""
+    );
+    if let Err(error) = &ran.answer {
+        assert!(rt; !error.ends_its_line());
+    }
+    let source = Source::of(b"query Q { a ... on B { c } } # d\n");
+    let ran = run_over(alloc, Command::Minify, source, Sink::new(alloc));
+    assert_eq!(rt; ran.written.as_slice(), "query Q{a...on B{c}}".as_bytes());
+    assert_eq!(rt; status(Some(&ran.answer)), 0);
     Ok(())
 }
 

@@ -38,20 +38,25 @@ fn ran_out(error: &RunError) -> bool {
         RunError::OutOfMemory | RunError::Format(FormatError::OutOfMemory) => true,
         RunError::Query(error) => matches!(error.cause(), Cause::OutOfMemory)
             && error.position().is_none(),
+        RunError::Minify(error) => matches!(error.cause(), Cause::OutOfMemory)
+            && error.position().is_none(),
         _ => false,
     }
 }
 
 #[test]
 fn a_run_is_done_or_out_of_memory(rt: HostRuntime) {
-    for (text, output) in [
-        ("{ a } { b }", "{\n  a\n}\n\n{\n  b\n}\n"),
-        ("{ a { b } }", "{\n  a {\n    b\n  }\n}\n"),
+    for (command, text, output) in [
+        (Command::Query, "{ a } { b }", "{\n  a\n}\n\n{\n  b\n}\n"),
+        (Command::Query, "{ a { b } }", "{\n  a {\n    b\n  }\n}\n"),
         (
+            Command::Query,
             "query Q($a: [Int!]! = [1, 2]) @d(x: $a) { b: c ... on T @e { f } ...G }",
             "query Q($a: [Int!]! = [1, 2]) @d(x: $a) {\n  b: c\n  ... on T @e {\n    f\n  }\n  ...G\n}\n",
         ),
-        ("{ a", ""),
+        (Command::Query, "{ a", ""),
+        (Command::Minify, "a-1 ... b {", "a -1 ...b{"),
+        (Command::Minify, "a ;", ""),
     ] {
         let mut page = Page {
             bytes: [0; 128],
@@ -61,7 +66,7 @@ fn a_run_is_done_or_out_of_memory(rt: HostRuntime) {
         let mut writer = Counted::new(&mut page);
         let answer = run(
             rt.alloc(),
-            Command::Query,
+            command,
             &Style::default(),
             &mut reader,
             &mut writer,

@@ -15,11 +15,13 @@ fn said(alloc: Global, words: &[&str]) -> Result<Option<(Command, Style)>, Alloc
 }
 
 #[test]
-fn query_is_the_only_command(rt: HostRuntime) -> Result<(), Fail> {
+fn the_first_word_is_the_command(rt: HostRuntime) -> Result<(), Fail> {
     let alloc = rt.alloc();
     let (command, style) = said(alloc, &["query"])?.ok_or("refused")?;
     assert_eq!(rt; command, Command::Query);
     assert_eq!(rt; style.indentation(), 2);
+    let (command, _) = said(alloc, &["minify"])?.ok_or("refused")?;
+    assert_eq!(rt; command, Command::Minify);
     Ok(())
 }
 
@@ -63,6 +65,8 @@ fn wrong_words_say_nothing(rt: HostRuntime) -> Result<(), Fail> {
     let alloc = rt.alloc();
     assert!(rt; said(alloc, &[])?.is_none());
     assert!(rt; said(alloc, &["minify", "--multiline"])?.is_none());
+    assert!(rt; said(alloc, &["schema"])?.is_none());
+    assert!(rt; said(alloc, &["first"])?.is_none());
     for number in ["", "+4", "-4", "4 ", "a", "4294967296", "00000000004"] {
         assert!(rt;
             said(alloc, &["query", "--indent", number])?.is_none(),

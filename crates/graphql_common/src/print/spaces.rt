@@ -5,8 +5,16 @@ ghost use Rattle.graphql_core.specs.Parts.{new_line, text_of};
 
 use graphql_core::format::Sink;
 
-/// Appends some spaces.
-pub fn write_spaces<S: Sink>(out: &mut S, count: usize) -> Result<(), S::Error>
+/// A line end and the longest margin that is appended at once.
+const LINE: &str =
+    "\n                                                                                                                                ";
+
+/// The spaces in `LINE`.
+const MOST: usize = 128;
+
+/// Appends some spaces, one after another.
+#[inline(never)]
+fn write_many_spaces<S: Sink>(out: &mut S, count: usize) -> Result<(), S::Error>
     ensures { OnOk result (S.took out.old (spaces count) out.new) }
 {
     'spaces: for _index in 0..count {
@@ -15,10 +23,25 @@ pub fn write_spaces<S: Sink>(out: &mut S, count: usize) -> Result<(), S::Error>
     Ok(())
 }
 
+/// Appends some spaces.
+#[inline]
+pub fn write_spaces<S: Sink>(out: &mut S, count: usize) -> Result<(), S::Error>
+    ensures { OnOk result (S.took out.old (spaces count) out.new) }
+{
+    if count > MOST {
+        return write_many_spaces(out, count);
+    }
+    out.push_str(&LINE[1..count + 1])
+}
+
 /// Appends a line end and the margin of the next line.
+#[inline]
 pub fn write_new_line<S: Sink>(out: &mut S, margin: usize) -> Result<(), S::Error>
     ensures { OnOk result (S.took out.old (text_of (new_line margin)) out.new) }
 {
-    out.push_str("\n")?;
-    write_spaces(out, margin)
+    if margin > MOST {
+        out.push_str("\n")?;
+        return write_many_spaces(out, margin);
+    }
+    out.push_str(&LINE[..margin + 1])
 }

@@ -100,6 +100,7 @@ impl<'a, T: Text<'a>> TokenSource for Cursor<'a, T> {
 
     ghost items = { λ c. c };
 
+    #[inline(always)]
     fn peek(&self) -> Option<Lexeme<&'a str>> {
         match self.next {
             Ok(Some(token)) => Some(Lexeme {
@@ -111,21 +112,30 @@ impl<'a, T: Text<'a>> TokenSource for Cursor<'a, T> {
         }
     }
 
+    #[inline(always)]
     fn position(&self) -> Pos {
         self.position
     }
 
+    #[inline(always)]
     fn is_at_end(&self) -> bool {
         matches!(self.next, Ok(None))
     }
 
+    #[inline(never)]
     fn advance(&mut self) {
         if let Ok(Some(_)) = self.next {
             self.position = self.stream.position();
-            self.next = self.stream.next_token();
+            match self.stream.next_token() {
+                Ok(Some(token)) => self.next = Ok(Some(token)),
+                Ok(None) => self.next = Ok(None),
+                Err(bad) => self.next = Err(bad),
+            }
         }
     }
 
+    #[cold]
+    #[inline(never)]
     fn fault(&self, alloc: Global) -> Fault {
         match self.next {
             Ok(Some(token)) => unexpected(alloc, token, self.position),

@@ -13,6 +13,7 @@ use crate::tokenizer::Kind;
 use std::alloc::Global;
 
 /// Whether a token is of this kind and has this spelling.
+#[inline(always)]
 fn is_spelled<S: TokenSource>(token: &Lexeme<S::Text>, kind: Kind, spelling: &str) -> bool
     ensures { result ≡ matches (Spelled (kind_number kind) spelling.now) (lexeme_token S.bytes token.now) }
 {
@@ -20,6 +21,7 @@ fn is_spelled<S: TokenSource>(token: &Lexeme<S::Text>, kind: Kind, spelling: &st
 }
 
 /// Whether a token is a name.
+#[inline(always)]
 fn is_name<S: TokenSource>(token: &Lexeme<S::Text>) -> bool
     ensures { result ≡ matches (AnyOf (kind_number Name)) (lexeme_token S.bytes token.now) }
 {
@@ -27,6 +29,7 @@ fn is_name<S: TokenSource>(token: &Lexeme<S::Text>) -> bool
 }
 
 /// Whether the next item is a token of this kind and spelling.
+#[inline(always)]
 fn sees_spelled<S: TokenSource>(source: &S, kind: Kind, spelling: &str) -> bool
     ensures { result ≡ sees_class (Spelled (kind_number kind) spelling.now) (S.items source.now) }
 {
@@ -37,6 +40,7 @@ fn sees_spelled<S: TokenSource>(source: &S, kind: Kind, spelling: &str) -> bool
 }
 
 /// Whether the next item is this punctuator.
+#[inline(always)]
 pub fn sees_punctuator<S: TokenSource>(source: &S, spelling: &str) -> bool
     ensures { result ≡ sees_class (Spelled (kind_number Punctuator) spelling.now) (S.items source.now) }
 {
@@ -44,6 +48,7 @@ pub fn sees_punctuator<S: TokenSource>(source: &S, spelling: &str) -> bool
 }
 
 /// Whether the next item is the name of this spelling.
+#[inline(always)]
 pub fn sees_keyword<S: TokenSource>(source: &S, spelling: &str) -> bool
     ensures { result ≡ sees_class (Spelled (kind_number Name) spelling.now) (S.items source.now) }
 {
@@ -51,6 +56,7 @@ pub fn sees_keyword<S: TokenSource>(source: &S, spelling: &str) -> bool
 }
 
 /// Whether the next item is a name.
+#[inline(always)]
 pub fn sees_name<S: TokenSource>(source: &S) -> bool
     ensures { result ≡ sees_class (AnyOf (kind_number Name)) (S.items source.now) }
 {
@@ -61,6 +67,7 @@ pub fn sees_name<S: TokenSource>(source: &S) -> bool
 }
 
 /// Takes the token of this kind and spelling, and answers its position.
+#[inline(always)]
 fn spelled<S: TokenSource>(
     alloc: Global,
     source: &mut S,
@@ -80,6 +87,7 @@ fn spelled<S: TokenSource>(
 }
 
 /// Takes this punctuator, and answers its position.
+#[inline(always)]
 pub fn punctuator<S: TokenSource>(
     alloc: Global,
     source: &mut S,
@@ -92,6 +100,7 @@ pub fn punctuator<S: TokenSource>(
 }
 
 /// Takes the name of this spelling, and answers its position.
+#[inline(always)]
 pub fn keyword<S: TokenSource>(alloc: Global, source: &mut S, spelling: &str) -> Result<Pos, Fault>
     ensures { TakesOne (Spelled (kind_number Name) spelling.now) (S.items source.old) (S.items source.new)
         (λ p t. t.place ≡ place_of p) result }

@@ -144,6 +144,7 @@ fn is_float(run: &[u8]) -> bool
 
 /// The number at the front, if its run is one.
 #[tactic(auto, unfolding(crate::specs::Numbers::number))]
+#[inline(never)]
 pub fn number(bytes: &[u8]) -> Piece
     ensures { result ≡ spec.number bytes.now }
 {

@@ -1,9 +1,12 @@
 //! What stands at the front of a text.
 ghost use Rattle.std.specs.Prelude.{◌≡◌, ◌<◌, ◌≤◌, ◌^◌, length, slice_index};
 ghost use Rattle.std.specs.List.{prefix_len};
+ghost use Rattle.std.specs.Str.{IsCharBoundary};
 ghost use Rattle.graphql_core.specs.Front as spec;
 ghost use Rattle.graphql_core.specs.Lexical as lexical;
+ghost use Rattle.graphql_core.specs.Ahead.{is_space, is_blank, is_order_mark, ignored, FitsIgnored};
 
+use crate::tokenizer::lanes::{LANES, name_lanes, space_lanes};
 use crate::tokenizer::number::number;
 use crate::tokenizer::quoted::quoted;
 use crate::tokenizer::token::Kind;
@@ -107,13 +110,86 @@ fn is_in_line(byte: u8) -> bool
     byte != b'\n' && byte != b'\r'
 }
 
-/// How many bytes a name goes on.
+/// How many bytes a name goes on, one byte after another.
 #[inline]
-fn name_len(bytes: &[u8]) -> usize
+fn short_name_len(bytes: &[u8]) -> usize
     ensures len { result ≡ prefix_len lexical.is_name_continue bytes.now }
     ensures within { result ≤ length bytes.now }
 {
     bytes.iter().take_while(|b| is_name_continue(**b)).count()
+}
+
+/// How many bytes a name goes on, for what is long or near the end of the text.
+#[inline(never)]
+fn long_name_len(bytes: &[u8]) -> usize
+    ensures len { result ≡ prefix_len lexical.is_name_continue bytes.now }
+    ensures within { result ≤ length bytes.now }
+{
+    let mut rest = bytes;
+    'loads: while rest.len() >= LANES {
+        let run = name_lanes(rest);
+        if run < LANES {
+            return bytes.len() - rest.len() + run;
+        }
+        rest = rest.split_at(LANES).1;
+    }
+    bytes.len() - rest.len() + short_name_len(rest)
+}
+
+/// How many bytes a name goes on.
+#[inline(always)]
+fn name_len(bytes: &[u8]) -> usize
+    ensures len { result ≡ prefix_len lexical.is_name_continue bytes.now }
+    ensures within { result ≤ length bytes.now }
+{
+    if bytes.len() >= LANES {
+        let run = name_lanes(bytes);
+        if run < LANES {
+            return run;
+        }
+    }
+    long_name_len(bytes)
+}
+
+/// How many spaces stand at the front, one byte after another.
+#[inline]
+fn short_spaces_len(bytes: &[u8]) -> usize
+    ensures len { result ≡ prefix_len is_space bytes.now }
+    ensures within { result ≤ length bytes.now }
+{
+    bytes.iter().take_while(|b| **b == b' ').count()
+}
+
+/// How many spaces stand at the front, for what is long or near the end of the text.
+#[inline(never)]
+fn long_spaces_len(bytes: &[u8]) -> usize
+    ensures len { result ≡ prefix_len is_space bytes.now }
+    ensures within { result ≤ length bytes.now }
+{
+    let mut rest = bytes;
+    'loads: while rest.len() >= LANES {
+        let run = space_lanes(rest);
+        if run < LANES {
+            return bytes.len() - rest.len() + run;
+        }
+        rest = rest.split_at(LANES).1;
+    }
+    bytes.len() - rest.len() + short_spaces_len(rest)
+}
+
+/// How many spaces stand at the front.
+#[inline(always)]
+pub fn spaces_len(bytes: &[u8]) -> usize
+    ensures len { result ≡ prefix_len is_space bytes.now }
+    ensures within { result ≤ length bytes.now }
+{
+    if bytes.len() >= LANES {
+        let run = space_lanes(bytes);
+        if run < LANES {
+            return run;
+        }
+    }
+    long_spaces_len(bytes)
 }
 
 /// How many bytes a comment goes on in its line.
@@ -134,7 +210,7 @@ pub fn byte_at(bytes: &[u8], index: usize) -> u8
 }
 
 /// What stands after the `#` of a comment.
-#[inline]
+#[inline(never)]
 #[tactic(auto, unfolding(crate::specs::Front::comment))]
 fn comment(bytes: &[u8]) -> Piece
     requires { length bytes.now < 2 ^ 62 }
@@ -153,6 +229,19 @@ fn comment(bytes: &[u8]) -> Piece
     }
 }
 
+/// What stands after the `#` of a comment, as ignored text.
+#[inline(always)]
+#[tactic(auto, unfolding(crate::specs::Front::comment))]
+fn comment_at(bytes: &[u8]) -> Option<(usize, Move)>
+    requires { length bytes.now < 2 ^ 62 }
+    ensures { result ≡ ignored (spec.comment bytes.now) }
+{
+    match comment(bytes) {
+        Piece::Skips(len, by) => Some((len, by)),
+        _ => None,
+    }
+}
+
 /// What stands at the front where that is a dot.
 #[inline]
 fn dots(bytes: &[u8]) -> Piece
@@ -167,6 +256,7 @@ fn dots(bytes: &[u8]) -> Piece
 
 /// The token at the front of a text that begins with this byte, which begins no name.
 #[tactic(auto, unfolding(crate::specs::Front::token_of))]
+#[inline(always)]
 fn token_of(byte: u8, bytes: &[u8]) -> Piece
     requires some { 0 < length bytes.now }
     requires small { length bytes.now < 2 ^ 62 }
@@ -186,7 +276,7 @@ fn token_of(byte: u8, bytes: &[u8]) -> Piece
 }
 
 /// What stands at the front of these bytes.
-#[inline]
+#[inline(always)]
 #[tactic(auto, unfolding(crate::specs::Front::front))]
 fn piece_of(bytes: &[u8]) -> Piece
     requires { length bytes.now < 2 ^ 62 }
@@ -217,7 +307,7 @@ fn piece_of(bytes: &[u8]) -> Piece
 }
 
 /// What stands at the front of a text.
-#[inline]
+#[inline(always)]
 #[tactic(auto, using(crate::proofs::Steps::front_fits))]
 pub fn front_of(text: &str) -> Piece
     requires { length text.now < 2 ^ 62 }
@@ -225,4 +315,69 @@ pub fn front_of(text: &str) -> Piece
     ensures fits { spec.FitsIn text.now result }
 {
     piece_of(text.as_bytes())
+}
+
+#[inline(always)]
+fn is_blank(byte: u8) -> bool
+    ensures { result ≡ is_blank byte }
+{
+    byte == b' ' || byte == b','
+}
+
+#[inline(always)]
+fn is_order_mark(byte: u8, rest: &[u8]) -> bool
+    ensures { result ≡ is_order_mark byte rest.now }
+{
+    byte == 0xEF && (byte_at(rest, 0) == 0xBB && byte_at(rest, 1) == 0xBF)
+}
+
+/// The ignored text at the front: its length in bytes, and how it moves the position.
+#[inline(always)]
+#[tactic(auto, unfolding(crate::specs::Front::front))]
+fn ignored_bytes(bytes: &[u8]) -> Option<(usize, Move)>
+    requires { length bytes.now < 2 ^ 62 }
+    ensures { result ≡ ignored (spec.front bytes.now) }
+{
+    match bytes.split_first() {
+        None => None,
+        Some((byte, rest)) => {
+            if *byte == b'\t' {
+                Some((1, Move::Over(8)))
+            } else if *byte == b'\n' {
+                Some((1, Move::Down))
+            } else if *byte == b'\r' {
+                Some((1, Move::Stay))
+            } else if is_blank(*byte) {
+                Some((1, Move::Over(1)))
+            } else if *byte == b'#' {
+                comment_at(rest)
+            } else if is_order_mark(*byte, rest) {
+                Some((3, Move::Stay))
+            } else {
+                None
+            }
+        }
+    }
+}
+
+/// The ignored text at the front of a text.
+#[inline(always)]
+#[tactic(auto, using(crate::proofs::Spaces::ignored_fits))]
+pub fn ignored_of(text: &str) -> Option<(usize, Move)>
+    requires { length text.now < 2 ^ 62 }
+    ensures is { result ≡ ignored (spec.front text.now) }
+    ensures fits { FitsIgnored text.now result }
+{
+    ignored_bytes(text.as_bytes())
+}
+
+/// How many spaces stand at the front of a text.
+#[inline(always)]
+#[tactic(auto, using(crate::proofs::Spaces::spaces_boundary))]
+pub fn spaces_of(text: &str) -> usize
+    ensures len { result ≡ prefix_len is_space text.now }
+    ensures within { result ≤ length text.now }
+    ensures cuts { IsCharBoundary text.now result }
+{
+    spaces_len(text.as_bytes())
 }

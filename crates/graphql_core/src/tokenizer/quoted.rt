@@ -63,6 +63,7 @@ fn block_len(bytes: &[u8]) -> Option<usize>
 
 /// The string at the front, behind a quote, if it ends.
 #[tactic(auto, unfolding(crate::specs::Quoted::quoted))]
+#[inline(never)]
 pub fn quoted(bytes: &[u8]) -> Piece
     requires some { 0 < length bytes.now }
     requires small { length bytes.now < 2 ^ 62 }

@@ -42,6 +42,8 @@ fn bad_number(run: &str) -> Bad<'_>
 }
 
 /// Why no piece begins a text that has some characters.
+#[cold]
+#[inline(never)]
 pub fn bad_at(text: &str) -> Bad<'_>
     requires { 0 < length text.now }
     ensures { bad_text result ≡ spec.cause_at (slice_index text.now 0) (drop 1 text.now) }

@@ -5,9 +5,10 @@ ghost use Rattle.graphql_core.specs.Items.{Where, Item, moved, past, past_charac
 ghost use Rattle.graphql_core.specs.Stream.{NextItem, further, next_place, one_more};
 ghost use Rattle.graphql_core.specs.Front.{front, IsItem, IsFlat, is_quoted};
 ghost use Rattle.graphql_core.specs.Cut.{items};
+ghost use Rattle.graphql_core.specs.declared.tokenizer.piece.Move.TheVariants.{Over};
 
 use crate::position::Pos;
-use crate::tokenizer::piece::{Move, Nesting, Piece, front_of};
+use crate::tokenizer::piece::{Move, Nesting, Piece, front_of, ignored_of, spaces_of};
 use crate::tokenizer::stop::bad_at;
 use crate::tokenizer::token::{Bad, Kind, Token};
 use std::marker::Model;
@@ -35,6 +36,18 @@ fn moved(by: Move, at: Pos) -> Pos
     }
 }
 
+/// The position behind some spaces.
+#[inline(always)]
+fn over(spaces: usize, at: Pos) -> Pos
+    requires { at.column + spaces < 2 ^ 64 }
+    ensures { result ≡ moved (Over spaces) at }
+{
+    Pos {
+        line: at.line,
+        column: at.column + spaces,
+    }
+}
+
 /// The position behind a character of a token.
 #[inline]
 fn past_character(character: char, at: Pos) -> Pos
@@ -56,6 +69,7 @@ fn past_character(character: char, at: Pos) -> Pos
 }
 
 /// The position behind the characters of a token.
+#[inline(never)]
 fn past_characters(value: &str, at: Pos) -> Pos
     requires line { at.line + length value.now < 2 ^ 62 }
     requires column { at.column + length value.now < 2 ^ 63 }
@@ -71,6 +85,7 @@ fn past_characters(value: &str, at: Pos) -> Pos
 }
 
 /// Whether it is a string, which may have line ends and characters of several bytes.
+#[inline(always)]
 fn is_quoted(kind: Kind) -> bool
     ensures { result ≡ is_quoted kind }
 {
@@ -78,6 +93,7 @@ fn is_quoted(kind: Kind) -> bool
 }
 
 /// The position behind a token.
+#[inline(always)]
 fn past(kind: Kind, value: &str, at: Pos) -> Pos
     requires line { at.line + length value.now < 2 ^ 62 }
     requires column { at.column + length value.now < 2 ^ 63 }
@@ -97,6 +113,7 @@ fn past(kind: Kind, value: &str, at: Pos) -> Pos
 }
 
 /// Past the ignored text at the front.
+#[inline(always)]
 fn skip_ignored(text: &str, at: Pos) -> (&str, Pos)
     requires small { length text.now < 2 ^ 62 }
     requires line { at.line + length text.now < 2 ^ 62 }
@@ -110,14 +127,17 @@ fn skip_ignored(text: &str, at: Pos) -> (&str, Pos)
 {
     let mut rest = text;
     let mut place = at;
-    'skips: while let Piece::Skips(len, by) = front_of(rest) {
-        place = moved(by, place);
-        rest = rest.split_at(len).1;
+    'skips: while let Some((len, by)) = ignored_of(rest) {
+        let behind = rest.split_at(len).1;
+        let spaces = spaces_of(behind);
+        place = over(spaces, moved(by, place));
+        rest = behind.split_at(spaces).1;
     }
     (rest, place)
 }
 
 /// Whether a token would open a bracket behind 50 that are open.
+#[inline(always)]
 fn is_too_deep(nesting: Nesting, openers: usize, closers: usize) -> bool
     requires { closers < 2 ^ 62 }
     ensures { (w : Where) → w.openers ≡ openers → w.closers ≡ closers → result ≡ is_too_deep nesting w }
@@ -129,6 +149,7 @@ fn is_too_deep(nesting: Nesting, openers: usize, closers: usize) -> bool
 }
 
 /// The opening brackets up to and with a token.
+#[inline(always)]
 fn openers_after(nesting: Nesting, openers: usize) -> usize
     requires { openers < 2 ^ 62 }
     ensures { result ≡ openers_after nesting openers }
@@ -140,6 +161,7 @@ fn openers_after(nesting: Nesting, openers: usize) -> usize
 }
 
 /// The closing brackets up to and with a token.
+#[inline(always)]
 fn closers_after(nesting: Nesting, closers: usize) -> usize
     requires { closers < 2 ^ 62 }
     ensures { result ≡ closers_after nesting closers }
@@ -203,6 +225,7 @@ impl<'a> TokenStream<'a> {
     /// The next token, `None` at the end, an error at a bad place.
     ///
     /// At the end and at a bad place the stream stays, and the next call answers the same.
+    #[inline(always)]
     pub fn next_token(&mut self) -> Result<Option<Token<'a>>, Bad<'a>>
         ensures item { NextItem self.old.items result self.new.items }
         ensures cuts { self.new.cuts ≡ one_more self.old.cuts }
@@ -229,6 +252,7 @@ impl<'a> TokenStream<'a> {
     }
 
     /// The position of the next item, behind ignored text.
+    #[inline(always)]
     pub fn position(&self) -> Pos
         ensures { result ≡ (next_place self.now.items).position }
     {

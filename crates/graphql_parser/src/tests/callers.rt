@@ -1,14 +1,18 @@
 //! Callers at concrete text types, one of them the tests' own.
-ghost use Rattle.std.specs.Prelude.{IfOk, ◌≡◌, string_bytes, refl, nat_eq};
+ghost use Rattle.std.specs.Prelude.{IfOk, IfSome, Err, ◌≡◌, ◌<◌, ◌⊎◌, length, string_bytes, refl, nat_eq};
 ghost use Rattle.std.proofs.Common.{rules};
-ghost use Rattle.std.specs.Prelude.{IfSome};
-ghost use Rattle.graphql_query.specs.Tree.{DocumentTree};
-ghost use Rattle.graphql_query.specs.Document.{IsDocumentOf};
-ghost use Rattle.graphql_query.specs.Layout.{layout};
+ghost use Rattle.graphql_query.specs.Tree.{DocumentTree, document_view, erase};
+ghost use Rattle.graphql_query.specs.Document.{IsDocumentOf, IsReadBack, max_length};
+ghost use Rattle.graphql_query.specs.Layout.{layout, IsTooWide};
+ghost use Rattle.graphql_query.specs.Printable.{IsPrintable};
+ghost use Rattle.graphql_query.specs.Refusal.{Refusal, no_memory, too_long};
 
 use crate::common::{Names, Text};
-use crate::query::{Definition, Document, OperationDefinition, ParseError, Selection, parse_query};
-use crate::{Cause, Pos, Style};
+use crate::query::{
+    Definition, Document, MinifyError, OperationDefinition, ParseError, Selection, minify_query,
+    parse_query,
+};
+use crate::{Cause, FormatError, Pos, Style};
 use std::alloc::{AllocError, Global};
 use std::test::Fail;
 
@@ -79,6 +83,56 @@ fn laid_out(alloc: Global, source: &str, style: &Style) -> Option<String>
     document.format(alloc, style).ok()
 }
 
+/// Why a document is not read again.
+#[derive(Debug, Drop)]
+enum Lost {
+    Format(FormatError),
+    Minify(MinifyError),
+    Parse(ParseError),
+}
+
+/// A document formatted and parsed: the same but for positions, unless memory runs out, or it is too wide or its text too long.
+fn formatted_and_parsed<N: Names>(
+    alloc: Global,
+    document: &Document<'_, N>,
+    style: &Style,
+) -> Result<Document<'static, String>, Lost>
+    requires { IsPrintable (document_view N.bytes document.now) }
+    ensures same { IfOk result (λ d. erase (document_view string_bytes d) ≡ erase (document_view N.bytes document.now)) }
+    ensures formatted { (e : FormatError) → result ≡ Err (Lost.Format e)
+        → (e ≡ FormatError.OutOfMemory) ⊎ IsTooWide style.now (document_view N.bytes document.now) }
+    ensures parsed { (e : Refusal) → result ≡ Err (Lost.Parse e)
+        → (e ≡ no_memory) ⊎ (max_length < length (layout style.now (document_view N.bytes document.now))) }
+    ensures minified { (e : Refusal) → result ≡ Err (Lost.Minify e) → ⊥ }
+{
+    let text = match document.format(alloc, style) {
+        Ok(text) => text,
+        Err(error) => return Err(Lost::Format(error)),
+    };
+    match parse_query::<String>(alloc, &text) {
+        Ok(document) => Ok(document),
+        Err(error) => Err(Lost::Parse(error)),
+    }
+}
+
+/// A text minified and parsed: what the text itself is parsed to but for positions, unless memory runs out, or a text is too long.
+fn minified_and_parsed(alloc: Global, source: String) -> Result<Document<'static, String>, Lost>
+    ensures same { (d : DocumentTree) → IsDocumentOf (string_bytes source) d
+        → IfOk result (λ e. erase (document_view string_bytes e) ≡ erase d) }
+    ensures no_other { IfOk result (λ d. IsReadBack (string_bytes source) (document_view string_bytes d)) }
+    ensures parsed { (d : DocumentTree) (e : Refusal) → IsDocumentOf (string_bytes source) d → result ≡ Err (Lost.Parse e)
+        → (e ≡ no_memory) ⊎ (e ≡ too_long) }
+{
+    let text = match minify_query(alloc, source) {
+        Ok(text) => text,
+        Err(error) => return Err(Lost::Minify(error)),
+    };
+    match parse_query::<String>(alloc, &text) {
+        Ok(document) => Ok(document),
+        Err(error) => Err(Lost::Parse(error)),
+    }
+}
+
 /// Where a text is refused, and whether a number is the cause.
 fn refusal(error: &ParseError) -> (Option<Pos>, bool) {
     let is_number = matches!(error.cause(), Cause::IntOutOfRange | Cause::MalformedFloat);
@@ -98,6 +152,24 @@ fn texts_are_laid_out(rt: HostRuntime) -> Result<(), Fail> {
     let text = laid_out(alloc, "{ a(b: 1) }", &wide()).ok_or("refused")?;
     assert_eq!(rt; text.as_str(), "{\n    a(\n        b: 1\n    )\n}\n");
     assert!(rt; laid_out(alloc, "{ a( }", &wide()).is_none());
+    Ok(())
+}
+
+#[test]
+fn documents_come_back(rt: HostRuntime) -> Result<(), Fail> {
+    let alloc = rt.alloc();
+    let document: Document<'_, &str> = parse_query(alloc, "query Q($a: Int = 1) { b(c: $a) }")?;
+    let again = formatted_and_parsed(alloc, &document, &wide()).or(Err("lost"))?;
+    assert_eq!(rt;
+        again.to_string(alloc)?.as_str(),
+        "query Q($a: Int = 1) {\n  b(c: $a)\n}\n"
+    );
+    let source = String::from_str(alloc, "query Q ( $a : Int = 1 ) { b ( c : $a ) } # d")?;
+    let again = minified_and_parsed(alloc, source).or(Err("lost"))?;
+    assert_eq!(rt;
+        again.to_string(alloc)?.as_str(),
+        "query Q($a: Int = 1) {\n  b(c: $a)\n}\n"
+    );
     Ok(())
 }
 

@@ -1,24 +1,15 @@
 //! An allocation that fails: each answer is the right one or want of memory, in the form of its call.
-use crate::query::{Document, ParseError, parse_query};
-use crate::{Cause, FormatError, Pos, Style};
+use crate::query::{Document, ParseError, minify_query, parse_query};
+use crate::tests::support::{WHOLE, WHOLE_LAYOUT, at, parsed};
+use crate::{Cause, FormatError, Style};
 use std::alloc::Global;
 use std::process::Abort;
-
-/// Each kind of part.
-const WHOLE: &str = "query Q($a: [Int!]! = [1, 2]) @d(x: $a) { b: c ... on T @e { f } ...G }";
-
-const WHOLE_LAYOUT: &str =
-    "query Q($a: [Int!]! = [1, 2]) @d(x: $a) {\n  b: c\n  ... on T @e {\n    f\n  }\n  ...G\n}\n";
 
 /// Each kind of value.
 const VALUES: &str =
     "{ a(o: {b: 1e+2, a: \"x\\u00e9\", b: [E, null, true], c: \"\"\"x\"\"\", d: $v}) }";
 
 const VALUES_LAYOUT: &str = "{\n  a(o: {a: \"xé\", b: [E, null, true], c: \"x\", d: $v})\n}\n";
-
-fn parsed(alloc: Global, text: &str) -> Result<Document<'_, &str>, ParseError> {
-    parse_query(alloc, text)
-}
 
 /// Whether the fault is want of memory, and has no position.
 fn ran_out(error: &ParseError) -> bool {
@@ -71,6 +62,28 @@ fn owned_names_or_want_of_memory(rt: HostRuntime) {
 }
 
 #[test]
+fn a_minified_text_or_want_of_memory(rt: HostRuntime) {
+    let alloc = rt.alloc();
+    for (source, text) in [
+        ("", ""),
+        ("a-1 ... \"b\"\"c\"", "a -1 ...\"b\" \"c\""),
+        ("{ a ; }", "refused"),
+    ] {
+        let Ok(owned) = String::from_str(alloc, source) else {
+            continue;
+        };
+        match minify_query(alloc, owned) {
+            Ok(found) => assert_eq!(rt; found.as_str(), text),
+            Err(error) => {
+                let memory = matches!(error.cause(), Cause::OutOfMemory);
+                assert!(rt; memory == error.position().is_none());
+                assert!(rt; memory || text == "refused", "at {source}");
+            }
+        }
+    }
+}
+
+#[test]
 fn a_refusal_or_want_of_memory(rt: HostRuntime) {
     let alloc = rt.alloc();
     for (text, column) in [
@@ -86,7 +99,7 @@ fn a_refusal_or_want_of_memory(rt: HostRuntime) {
             Ok(_) => assert!(rt; false, "accepted: {text}"),
             Err(error) => {
                 assert!(rt;
-                    ran_out(&error) || error.position() == Some(Pos { line: 1, column }),
+                    ran_out(&error) || error.position() == Some(at(1, column)),
                     "at {text}"
                 );
             }

@@ -1,7 +1,7 @@
 //! The calls of a token stream.
 ghost use Rattle.std.specs.Prelude.{◌<◌, length};
 
-use crate::Pos;
+use crate::tests::support::at;
 use crate::tokenizer::{Bad, Kind, Token, TokenStream};
 use std::process::Abort;
 use std::test::Fail;
@@ -16,11 +16,11 @@ fn punctuator(value: &str) -> Token<'_> {
 #[test]
 fn a_text_to_its_end(rt: HostRuntime) {
     let mut stream = TokenStream::new(" { # c\r\n a }");
-    assert_eq!(rt; stream.position(), Pos { line: 1, column: 2 });
+    assert_eq!(rt; stream.position(), at(1, 2));
     assert_eq!(rt; stream.offset(), 1);
     assert_eq!(rt; stream.cuts(), 0);
     assert_eq!(rt; stream.next_token(), Ok(Some(punctuator("{"))));
-    assert_eq!(rt; stream.position(), Pos { line: 2, column: 2 });
+    assert_eq!(rt; stream.position(), at(2, 2));
     assert_eq!(rt; stream.offset(), 9);
     assert_eq!(rt; stream.depth(), 1);
     let name = Token {
@@ -32,7 +32,7 @@ fn a_text_to_its_end(rt: HostRuntime) {
     assert_eq!(rt; stream.depth(), 0);
     assert_eq!(rt; stream.next_token(), Ok(None));
     assert_eq!(rt; stream.next_token(), Ok(None));
-    assert_eq!(rt; stream.position(), Pos { line: 2, column: 5 });
+    assert_eq!(rt; stream.position(), at(2, 5));
     assert_eq!(rt; stream.offset(), 12);
     assert_eq!(rt; stream.cuts(), 5);
 }
@@ -47,7 +47,7 @@ fn a_bad_place_stays(rt: HostRuntime) {
     assert_eq!(rt; stream.next_token(), Ok(Some(name)));
     assert_eq!(rt; stream.next_token(), Err(Bad::Character('\u{a0}')));
     assert_eq!(rt; stream.next_token(), Err(Bad::Character('\u{a0}')));
-    assert_eq!(rt; stream.position(), Pos { line: 1, column: 2 });
+    assert_eq!(rt; stream.position(), at(1, 2));
     assert_eq!(rt; stream.cuts(), 3);
 }
 
@@ -76,7 +76,7 @@ fn a_string_takes_a_column_for_each_character(rt: HostRuntime) {
         value: "\"\u{e9}\"",
     };
     assert_eq!(rt; stream.next_token(), Ok(Some(string)));
-    assert_eq!(rt; stream.position(), Pos { line: 1, column: 5 });
+    assert_eq!(rt; stream.position(), at(1, 5));
     assert_eq!(rt; stream.offset(), 5);
     let name = Token {
         kind: Kind::Name,
@@ -95,9 +95,9 @@ fn a_block_string_may_span_lines(rt: HostRuntime) {
         value: "\"\"\"x\n\u{e9}\"\"\"",
     };
     assert_eq!(rt; stream.next_token(), Ok(Some(string)));
-    assert_eq!(rt; stream.position(), Pos { line: 2, column: 5 });
+    assert_eq!(rt; stream.position(), at(2, 5));
     assert_eq!(rt; stream.next_token(), Ok(Some(punctuator(")"))));
-    assert_eq!(rt; stream.position(), Pos { line: 2, column: 7 });
+    assert_eq!(rt; stream.position(), at(2, 7));
 }
 
 /// The first item of a text is the whole text, as a token of this kind.

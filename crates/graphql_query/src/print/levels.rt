@@ -5,6 +5,8 @@ ghost use Rattle.graphql_query.specs.Tree.{spread_view, field_view, inline_view,
 ghost use Rattle.graphql_query.specs.Tree.{variable_view, variables_view, fragment_view, operation_view, definition_view, document_view};
 ghost use Rattle.graphql_query.specs.Layout.{selection_levels, selected_levels, selections_levels, set_levels};
 ghost use Rattle.graphql_query.specs.Layout.{variable_levels, variables_levels, operation_levels_of, fragment_levels, definition_levels, levels};
+ghost use Rattle.graphql_query.specs.Lawful.{IsLawfulSelection, IsLawfulSet, AreLawfulSelections, IsLawfulVariable, AreLawfulVariables};
+ghost use Rattle.graphql_query.specs.Lawful.{AreLawfulParts, IsLawfulFragment, IsLawfulDefinition, IsLawfulDocument};
 
 use crate::tree::{
     Definition, Document, Field, FragmentDefinition, FragmentSpread, InlineFragment,
@@ -16,21 +18,24 @@ use graphql_core::common::Names;
 use graphql_core::format::Style;
 
 pub fn levels_in_spread<N: Names>(spread: &FragmentSpread<N>, style: &Style) -> usize
-    ensures { result ≡ min (selection_levels style.now (spread_view N.bytes spread.now)) (2 ^ 64 - 1) }
+    ensures levels { result ≡ min (selection_levels style.now (spread_view N.bytes spread.now)) (2 ^ 64 - 1) }
+    ensures lawful { IsLawfulSelection (spread_view N.bytes spread.now) }
 {
     levels_in_directives(&spread.directives, style)
 }
 
 #[cycle(levels)]
 pub fn levels_in_set<N: Names>(set: &SelectionSet<N>, style: &Style) -> usize
-    ensures { result ≡ min (set_levels style.now (set_view N.bytes set.now)) (2 ^ 64 - 1) }
+    ensures levels { result ≡ min (set_levels style.now (set_view N.bytes set.now)) (2 ^ 64 - 1) }
+    ensures lawful { IsLawfulSet (set_view N.bytes set.now) }
 {
     levels_in_selections(&set.items, style).saturating_add(1)
 }
 
 #[cycle(levels)]
 fn levels_in_selections<N: Names>(items: &Vec<Selection<N>>, style: &Style) -> usize
-    ensures { result ≡ min (selections_levels style.now (selections_view N.bytes items.now.items)) (2 ^ 64 - 1) }
+    ensures levels { result ≡ min (selections_levels style.now (selections_view N.bytes items.now.items)) (2 ^ 64 - 1) }
+    ensures lawful { AreLawfulSelections (selections_view N.bytes items.now.items) }
 {
     let mut most = 0;
     'items: for item in items {
@@ -41,7 +46,8 @@ fn levels_in_selections<N: Names>(items: &Vec<Selection<N>>, style: &Style) -> u
 
 #[cycle(levels)]
 fn levels_in_selection<N: Names>(selection: &Selection<N>, style: &Style) -> usize
-    ensures { result ≡ min (selection_levels style.now (selection_view N.bytes selection.now)) (2 ^ 64 - 1) }
+    ensures levels { result ≡ min (selection_levels style.now (selection_view N.bytes selection.now)) (2 ^ 64 - 1) }
+    ensures lawful { IsLawfulSelection (selection_view N.bytes selection.now) }
 {
     match selection {
         Selection::Field(field) => levels_in_field(field, style),
@@ -52,7 +58,8 @@ fn levels_in_selection<N: Names>(selection: &Selection<N>, style: &Style) -> usi
 
 #[cycle(levels)]
 pub fn levels_in_field<N: Names>(field: &Field<N>, style: &Style) -> usize
-    ensures { result ≡ min (selection_levels style.now (field_view N.bytes field.now)) (2 ^ 64 - 1) }
+    ensures levels { result ≡ min (selection_levels style.now (field_view N.bytes field.now)) (2 ^ 64 - 1) }
+    ensures lawful { IsLawfulSelection (field_view N.bytes field.now) }
 {
     let directives = levels_in_directives(&field.directives, style);
     let selected = levels_in_selected(&field.selection_set, style);
@@ -64,7 +71,8 @@ pub fn levels_in_field<N: Names>(field: &Field<N>, style: &Style) -> usize
 /// The same of what is selected of a field, which opens none where that is nothing.
 #[cycle(levels)]
 fn levels_in_selected<N: Names>(set: &SelectionSet<N>, style: &Style) -> usize
-    ensures { result ≡ min (selected_levels style.now (set_view N.bytes set.now)) (2 ^ 64 - 1) }
+    ensures levels { result ≡ min (selected_levels style.now (set_view N.bytes set.now)) (2 ^ 64 - 1) }
+    ensures lawful { IsLawfulSet (set_view N.bytes set.now) }
 {
     if set.items.is_empty() {
         return 0;
@@ -74,14 +82,16 @@ fn levels_in_selected<N: Names>(set: &SelectionSet<N>, style: &Style) -> usize
 
 #[cycle(levels)]
 pub fn levels_in_inline<N: Names>(fragment: &InlineFragment<N>, style: &Style) -> usize
-    ensures { result ≡ min (selection_levels style.now (inline_view N.bytes fragment.now)) (2 ^ 64 - 1) }
+    ensures levels { result ≡ min (selection_levels style.now (inline_view N.bytes fragment.now)) (2 ^ 64 - 1) }
+    ensures lawful { IsLawfulSelection (inline_view N.bytes fragment.now) }
 {
     let selected = levels_in_set(&fragment.selection_set, style);
     levels_in_directives(&fragment.directives, style).max(selected)
 }
 
 pub fn levels_in_variable<N: Names>(variable: &VariableDefinition<N>, style: &Style) -> usize
-    ensures { result ≡ min (variable_levels style.now (variable_view N.bytes variable.now)) (2 ^ 64 - 1) }
+    ensures levels { result ≡ min (variable_levels style.now (variable_view N.bytes variable.now)) (2 ^ 64 - 1) }
+    ensures lawful { IsLawfulVariable (variable_view N.bytes variable.now) }
 {
     match &variable.default_value {
         Some(value) => levels_in_value(value, style),
@@ -90,7 +100,8 @@ pub fn levels_in_variable<N: Names>(variable: &VariableDefinition<N>, style: &St
 }
 
 fn levels_in_variables<N: Names>(variables: &Vec<VariableDefinition<N>>, style: &Style) -> usize
-    ensures { result ≡ min (variables_levels style.now (variables_view N.bytes variables.now.items)) (2 ^ 64 - 1) }
+    ensures levels { result ≡ min (variables_levels style.now (variables_view N.bytes variables.now.items)) (2 ^ 64 - 1) }
+    ensures lawful { AreLawfulVariables (variables_view N.bytes variables.now.items) }
 {
     let mut most = 0;
     'variables: for variable in variables {
@@ -106,14 +117,16 @@ pub fn levels_in_operation<N: Names>(
     set: &SelectionSet<N>,
     style: &Style,
 ) -> usize
-    ensures { result ≡ min (operation_levels_of style.now (variables_view N.bytes variables.now.items) (directives_view N.bytes directives.now.items) (set_view N.bytes set.now)) (2 ^ 64 - 1) }
+    ensures levels { result ≡ min (operation_levels_of style.now (variables_view N.bytes variables.now.items) (directives_view N.bytes directives.now.items) (set_view N.bytes set.now)) (2 ^ 64 - 1) }
+    ensures lawful { AreLawfulParts (variables_view N.bytes variables.now.items) (directives_view N.bytes directives.now.items) (set_view N.bytes set.now) }
 {
     let around = levels_in_variables(variables, style).max(levels_in_directives(directives, style));
     around.max(levels_in_set(set, style))
 }
 
 pub fn levels_in_fragment<N: Names>(fragment: &FragmentDefinition<N>, style: &Style) -> usize
-    ensures { result ≡ min (fragment_levels style.now (fragment_view N.bytes fragment.now)) (2 ^ 64 - 1) }
+    ensures levels { result ≡ min (fragment_levels style.now (fragment_view N.bytes fragment.now)) (2 ^ 64 - 1) }
+    ensures lawful { IsLawfulFragment (fragment_view N.bytes fragment.now) }
 {
     let selected = levels_in_set(&fragment.selection_set, style);
     levels_in_directives(&fragment.directives, style).max(selected)
@@ -123,7 +136,8 @@ pub fn levels_in_operation_definition<N: Names>(
     operation: &OperationDefinition<N>,
     style: &Style,
 ) -> usize
-    ensures { result ≡ min (definition_levels style.now (operation_view N.bytes operation.now)) (2 ^ 64 - 1) }
+    ensures levels { result ≡ min (definition_levels style.now (operation_view N.bytes operation.now)) (2 ^ 64 - 1) }
+    ensures lawful { IsLawfulDefinition (operation_view N.bytes operation.now) }
 {
     match operation {
         OperationDefinition::SelectionSet(set) => levels_in_set(set, style),
@@ -149,7 +163,8 @@ pub fn levels_in_operation_definition<N: Names>(
 }
 
 pub fn levels_in_definition<N: Names>(definition: &Definition<N>, style: &Style) -> usize
-    ensures { result ≡ min (definition_levels style.now (definition_view N.bytes definition.now)) (2 ^ 64 - 1) }
+    ensures levels { result ≡ min (definition_levels style.now (definition_view N.bytes definition.now)) (2 ^ 64 - 1) }
+    ensures lawful { IsLawfulDefinition (definition_view N.bytes definition.now) }
 {
     match definition {
         Definition::Operation(operation) => levels_in_operation_definition(operation, style),
@@ -158,7 +173,8 @@ pub fn levels_in_definition<N: Names>(definition: &Definition<N>, style: &Style)
 }
 
 pub fn levels_in_document<N: Names>(document: &Document<N>, style: &Style) -> usize
-    ensures { result ≡ min (levels style.now (document_view N.bytes document.now)) (2 ^ 64 - 1) }
+    ensures levels { result ≡ min (levels style.now (document_view N.bytes document.now)) (2 ^ 64 - 1) }
+    ensures lawful { IsLawfulDocument (document_view N.bytes document.now) }
 {
     let mut most = 0;
     'definitions: for definition in &document.definitions {

@@ -3,9 +3,8 @@ use Rattle.std.proofs.lemmas.Result.{err_from_is_err_and, IfErr-at_err, on_ok_we
 use Rattle.std.specs.Io.KnownBytes.{Appends, Consumes, IsAtEnd}
 use Rattle.graphql_core.specs.Style.{Layout}
 use Rattle.gql.specs.declared.command.Command.{Command}
-use Rattle.gql.specs.declared.command.Command.TheVariants.{Query}
 use Rattle.gql.specs.declared.error.RunError.TheVariants as error
-use Rattle.gql.specs.Output.{IsOutputOf, HasNoDocument, EndsEngine, ReadsAll, WritesPart}
+use Rattle.gql.specs.Output.{IsOutputOf, HasNoDocument, HasBadPlace, EndsEngine, ReadsAll, WritesPart}
 use Rattle.gql.proofs.engine.run.Goals as goal
 
 -- what was read to its end is all that was left
@@ -15,35 +14,39 @@ reads_all (Some xs) None text P h e p = absurd h
 reads_all (Some xs) (Some ys) text P h e p =
     (e, subst P (sym (h ∙ ap (λ l. text ++ l) e ∙ append-nil text)) p)
 
--- there is no other command
-of_command : (P : Command → Type 0) (command : Command) → P Query → P command
-of_command P Query h = h
-
 -- the output that was made of the text is one of all that was left
-reads_for_output : (command : Command) (style : Layout) (old new : Option (List ℕ)) (text bytes made output : List ℕ) (P : List ℕ → Type 0) → text ≡ bytes → output ≡ made → Consumes old new bytes → IsAtEnd new → IsOutputOf Query style text made → P output → ReadsAll old new (λ input. (x : List ℕ) × IsOutputOf command style input x × P x)
+reads_for_output : (command : Command) (style : Layout) (old new : Option (List ℕ)) (text bytes made output : List ℕ) (P : List ℕ → Type 0) → text ≡ bytes → output ≡ made → Consumes old new bytes → IsAtEnd new → IsOutputOf command style text made → P output → ReadsAll old new (λ input. (x : List ℕ) × IsOutputOf command style input x × P x)
 reads_for_output command style old new text bytes made output P same_text same_output taken end is h =
-    let of_bytes = subst (λ t. IsOutputOf Query style t output) same_text (subst (IsOutputOf Query style text) (sym same_output) is) in
-    reads_all old new bytes _ taken end (output, of_command (λ k. IsOutputOf k style bytes output) command of_bytes, h)
+    let of_bytes = subst (λ t. IsOutputOf command style t output) same_text (subst (IsOutputOf command style text) (sym same_output) is) in
+    reads_all old new bytes _ taken end (output, of_bytes, h)
 
 pub returns-in_err-output-clause-query : goal.returns-in_err-output-clause-query
 returns-in_err-output-clause-query g c = λ e is.
     let read = c.in_ok-bytes.ensures in
-    let same = c.in-Ok.ensures.cases.0 ∙ c.deref.ensures.value in
+    let same = ap (λ v. v.items) c.in-Ok.ensures.ok in
     let passed = err_from_is_err_and c.from_residual-in_err-output.result c.from_residual-in_err-output.ensures.1 in
     let why : c.in_err-output.field-0.0 ≡ error.Query e = cc (passed.1, passed.2) in
-    let none = subst (EndsEngine Query c.args.style.now c.in-Ok.text.now) why c.in_err-output.ensures.err in
-    let of_bytes = subst (λ text. HasNoDocument Query text e) same none in
-    reads_all _ _ _ _ read.bytes read.end (of_command (λ k. HasNoDocument k c.in_ok-bytes.bytes.items e) c.args.command of_bytes)
+    let none = subst (EndsEngine c.args.command c.args.style.now _) why c.in_err-output.ensures.err in
+    reads_all _ _ _ _ read.bytes read.end (subst (λ text. HasNoDocument c.args.command text e) same none)
+
+pub returns-in_err-output-clause-minify : goal.returns-in_err-output-clause-minify
+returns-in_err-output-clause-minify g c = λ e is.
+    let read = c.in_ok-bytes.ensures in
+    let same = ap (λ v. v.items) c.in-Ok.ensures.ok in
+    let passed = err_from_is_err_and c.from_residual-in_err-output.result c.from_residual-in_err-output.ensures.1 in
+    let why : c.in_err-output.field-0.0 ≡ error.Minify e = cc (passed.1, passed.2) in
+    let none = subst (EndsEngine c.args.command c.args.style.now _) why c.in_err-output.ensures.err in
+    reads_all _ _ _ _ read.bytes read.end (subst (λ text. HasBadPlace c.args.command text e) same none)
 
 pub returns-clause-ok : goal.returns-clause-ok
 returns-clause-ok g c =
     let read = c.in_ok-bytes.ensures in
-    let same = c.in-Ok.ensures.cases.0 ∙ c.deref.ensures.value in
+    let same = ap (λ v. v.items) c.in-Ok.ensures.ok in
     on_ok_weaker c.write_all.result (reads_for_output c.args.command _ _ _ _ _ _ _ (Appends _ _) same c.as_bytes.ensures.value read.bytes read.end c.in_ok-output.ensures.ok) c.write_all.ensures.ok
 
 pub returns-clause-write : goal.returns-clause-write
 returns-clause-write g c = λ is.
     let read = c.in_ok-bytes.ensures in
-    let same = c.in-Ok.ensures.cases.0 ∙ c.deref.ensures.value in
+    let same = ap (λ v. v.items) c.in-Ok.ensures.ok in
     let failed = IfErr-at_err _ is c.write_all.ensures.err in
     (failed.1, reads_for_output c.args.command _ _ _ _ _ _ _ (WritesPart _ _) same c.as_bytes.ensures.value read.bytes read.end c.in_ok-output.ensures.ok failed.2)

@@ -3,7 +3,7 @@ use Rattle.graphql_query.specs.Refusal.{Refusal, refusal_of}
 use Rattle.graphql_query.specs.Document.{IsRefusalOf, past_bound}
 use Rattle.graphql_query.proofs.Printable.{printable}
 use Rattle.graphql_query.proofs.Whole.{exit, one_document, one_shape, text_document, items_document, refusal, answers_unless_memory}
-use Rattle.graphql_query.proofs.OneFault.{one_fault, no_fault}
+use Rattle.graphql_query.proofs.Faults.{one_each, no_fault}
 use Rattle.graphql_query.proofs.document.parse_query.Goals as goal
 
 -- ---- too long
@@ -12,10 +12,10 @@ pub returns-then-source-gt-MAX_LENGTH-clause-one_shape : goal.returns-then-sourc
 returns-then-source-gt-MAX_LENGTH-clause-one_shape g c = one_shape c.args.source.now
 
 pub returns-then-source-gt-MAX_LENGTH-clause-one_fault : goal.returns-then-source-gt-MAX_LENGTH-clause-one_fault
-returns-then-source-gt-MAX_LENGTH-clause-one_fault g c = one_fault c.args.source.now
+returns-then-source-gt-MAX_LENGTH-clause-one_fault g c = one_each c.args.source.now
 
 pub returns-then-source-gt-MAX_LENGTH-clause-no_fault : goal.returns-then-source-gt-MAX_LENGTH-clause-no_fault
-returns-then-source-gt-MAX_LENGTH-clause-no_fault g c d h f = no_fault c.args.source.now d f h
+returns-then-source-gt-MAX_LENGTH-clause-no_fault g c d = no_fault c.args.source.now d
 
 pub returns-then-source-gt-MAX_LENGTH-clause-refused : goal.returns-then-source-gt-MAX_LENGTH-clause-refused
 returns-then-source-gt-MAX_LENGTH-clause-refused g c =
@@ -37,10 +37,10 @@ pub returns-clause-one_shape : goal.returns-clause-one_shape
 returns-clause-one_shape g c = one_shape c.args.source.now
 
 pub returns-clause-one_fault : goal.returns-clause-one_fault
-returns-clause-one_fault g c = one_fault c.args.source.now
+returns-clause-one_fault g c = one_each c.args.source.now
 
 pub returns-clause-no_fault : goal.returns-clause-no_fault
-returns-clause-no_fault g c d h f = no_fault c.args.source.now d f h
+returns-clause-no_fault g c d = no_fault c.args.source.now d
 
 -- ---- a fault
 
@@ -52,10 +52,10 @@ pub returns-in_err-read_document-clause-one_shape : goal.returns-in_err-read_doc
 returns-in_err-read_document-clause-one_shape g c = one_shape c.args.source.now
 
 pub returns-in_err-read_document-clause-one_fault : goal.returns-in_err-read_document-clause-one_fault
-returns-in_err-read_document-clause-one_fault g c = one_fault c.args.source.now
+returns-in_err-read_document-clause-one_fault g c = one_each c.args.source.now
 
 pub returns-in_err-read_document-clause-no_fault : goal.returns-in_err-read_document-clause-no_fault
-returns-in_err-read_document-clause-no_fault g c d h f = no_fault c.args.source.now d f h
+returns-in_err-read_document-clause-no_fault g c d = no_fault c.args.source.now d
 
 pub returns-in_err-read_document-clause-refused : goal.returns-in_err-read_document-clause-refused
 returns-in_err-read_document-clause-refused g c =

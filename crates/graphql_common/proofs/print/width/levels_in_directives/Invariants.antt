@@ -1,9 +1,13 @@
 use Rattle.std.proofs.Common.{◌≡◌, ◌-◌, ◌^◌, min, max, drop}
 use Rattle.graphql_common.specs.ValueViews.{directives_view}
 use Rattle.graphql_common.specs.ValueLayout.{directives_levels}
+use Rattle.graphql_common.specs.Lawful.{AreLawfulDirectives}
 use Rattle.graphql_common.proofs.print.width.levels_in_directives.Given as goal
 
 abbrev pub invariant-directives : goal.invariant-directives
 invariant-directives g l =
     let left = directives_levels l.style (directives_view g.N.Names.bytes (drop l.directive-index l.directive-items)) in
-    max l.most (min left (2 ^ 64 - 1)) ≡ min (directives_levels l.style (directives_view g.N.Names.bytes l.directive-items)) (2 ^ 64 - 1)
+    record {
+      levels : max l.most (min left (2 ^ 64 - 1)) ≡ min (directives_levels l.style (directives_view g.N.Names.bytes l.directive-items)) (2 ^ 64 - 1);
+      lawful : AreLawfulDirectives (directives_view g.N.Names.bytes (drop l.directive-index l.directive-items)) → AreLawfulDirectives (directives_view g.N.Names.bytes l.directive-items);
+    }

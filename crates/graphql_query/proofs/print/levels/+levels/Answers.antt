@@ -1,8 +1,9 @@
-use Rattle.std.proofs.Common.{arith, sym, ◌∙◌}
+use Rattle.std.proofs.Common.{arith, sym, subst, ◌∙◌}
 use Rattle.std.proofs.lemmas.List.{at_drop_all}
 use Rattle.graphql_query.specs.Tree.{selections_view}
 use Rattle.graphql_query.specs.Layout.{selections_levels}
-use Rattle.graphql_query.proofs.Printing.{no_items, some_items, nothing_levels, some_levels, selection_here}
+use Rattle.graphql_query.specs.Lawful.{AreLawfulSelections}
+use Rattle.graphql_query.proofs.Printing.{no_items, some_items, nothing_levels, nothing_lawful, some_levels, selection_here}
 use Rattle.graphql_query.proofs.print.levels.+levels.Goals as goal
 
 pub levels_in_selected-returns : goal.levels_in_selected-returns
@@ -10,27 +11,31 @@ levels_in_selected-returns g t c =
     let bytes = g.N.Names.bytes in
     let s = c.args.set.now in
     let same = some_levels bytes s c.args.style.now (some_items bytes s (sym c.is_empty.ensures ∙ c.if-is_empty.false)) in
-    rw same c.levels_in_set.ensures
+    record { levels = rw same c.levels_in_set.ensures.levels; lawful = c.levels_in_set.ensures.lawful }
 
 pub levels_in_selected-returns-then-is_empty : goal.levels_in_selected-returns-then-is_empty
 levels_in_selected-returns-then-is_empty g t c =
     let bytes = g.N.Names.bytes in
     let s = c.args.set.now in
     let none = nothing_levels bytes s c.args.style.now (no_items bytes s (sym c.is_empty.ensures ∙ c.if-is_empty.true)) in
-    omega arith
+    record { levels = omega (arith, none); lawful = nothing_lawful bytes s (no_items bytes s (sym c.is_empty.ensures ∙ c.if-is_empty.true)) }
 
 pub levels_in_selections-items-preserved : goal.levels_in_selections-items-preserved
 levels_in_selections-items-preserved g t c =
     let bytes = g.N.Names.bytes in
     let l = c.items in
     let here = selection_here bytes c.deref-item-items.result.now l.item-index c.item-item.result (omega arith) c.item-item.is in
-    let left = rw here at l.invariant in
-    omega (arith, left, c.levels_in_selection.ensures, c.max-most.ensures)
+    let left = rw here at l.invariant.levels in
+    record { levels = omega (arith, left, c.levels_in_selection.ensures.levels, c.max-most.ensures); lawful = λ h. l.invariant.lawful (rw here (c.levels_in_selection.ensures.lawful, h)) }
 
 pub levels_in_selections-returns : goal.levels_in_selections-returns
 levels_in_selections-returns g t c =
     let bytes = g.N.Names.bytes in
     let l = c.items in
     let none = at_drop_all (λ xs. selections_levels c.args.style.now (selections_view bytes xs)) c.deref-item-items.result.now l.item-index (omega arith) in
-    let left = rw (none, c.deref-item-items.ensures.value) at l.invariant in
-    omega (arith, left)
+    let left = rw (none, c.deref-item-items.ensures.value) at l.invariant.levels in
+    let end = at_drop_all (λ xs. selections_view bytes xs) c.deref-item-items.result.now l.item-index (omega arith) in
+    record {
+      levels = omega (arith, left);
+      lawful = subst (λ xs. AreLawfulSelections (selections_view bytes xs)) c.deref-item-items.ensures.value (l.invariant.lawful (subst AreLawfulSelections (sym end) tt));
+    }

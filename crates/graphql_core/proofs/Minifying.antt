@@ -1,0 +1,231 @@
+-- Spaced tokens are cut into just these tokens.
+use Rattle.std.proofs.Common.{◌≡◌, ◌≢◌, ℕ, Bool, true, false, not, ◌&&◌, ◌||◌, List, [], ◌∷◌, ◌++◌, length, get_or, map, Result, Ok, Err, IfOk, string_bytes, String, refl, sym, ap, ◌∙◌, subst, arith}
+use Rattle.std.proofs.lemmas.Bool.Decides.{nat_tests}
+use Rattle.std.specs.Global.{Global}
+use Rattle.graphql_grammar.specs.Tokens.{Token, Place, nowhere}
+use Rattle.graphql_core.specs.declared.tokenizer.token.Kind.{Kind}
+use Rattle.graphql_core.specs.declared.tokenizer.token.Kind.TheVariants.{Punctuator, Name, IntValue, FloatValue, StringValue, BlockString}
+use Rattle.graphql_core.specs.declared.tokenizer.piece.Move.TheVariants.{Over}
+use Rattle.graphql_core.specs.declared.tokenizer.piece.Nesting.{Nesting}
+use Rattle.graphql_core.specs.declared.tokenizer.piece.Nesting.TheVariants.{Level, Opens, Closes}
+use Rattle.graphql_core.specs.declared.tokenizer.piece.Piece.TheVariants.{AtEnd}
+use Rattle.graphql_core.specs.Causes.{kind_number, too_deep}
+use Rattle.graphql_core.specs.Front.{front}
+use Rattle.graphql_core.specs.Lexical.{is_name_continue, is_mark, EndsRun, Meaning, Ignored, Word, Stands, space, name, mark, spread, integer, float, string, block_string, BeginsNone, Piece, IsCutInto}
+use Rattle.graphql_core.specs.Items.{Where, Item, item, Lexeme, Wrong, HasItems, start, past_ignored, past_token, openers_after, closers_after, is_too_deep, token_then, piece_then, items_of}
+use Rattle.graphql_core.specs.Source.{Items, split, token_of, IsEnd}
+use Rattle.graphql_core.specs.Cut.{items}
+use Rattle.graphql_core.specs.Minified.{is_past, AreLexemes, is_punctuator, is_number, is_spaced, space_if, spaced_after, spaced, unplaced, IsMinified, HasTokens}
+use Rattle.graphql_core.proofs.Cutting.{has_items, items_unique}
+use Rattle.graphql_core.proofs.Spelled.{shape, stands_front}
+
+-- ---- what may follow a token
+
+abbrev pub MayFollow : Kind → List ℕ → Type 0
+MayFollow Punctuator rest = Unit {0}
+MayFollow Name rest = is_name_continue (get_or rest 0 0) ≡ false
+MayFollow IntValue rest = EndsRun rest
+MayFollow FloatValue rest = EndsRun rest
+MayFollow StringValue rest = get_or rest 0 0 ≢ 34
+MayFollow BlockString rest = Unit {0}
+
+-- a token that stands before one text stands before any other that may follow it
+stands_before : {s : List ℕ} {k : Kind} {n : Nesting} {rest : List ℕ} → Stands s (Word k n) rest → (more : List ℕ) → MayFollow k more → Stands s (Word k n) more
+stands_before (name first continues ends) more f = name first continues f
+stands_before (mark m) more f = mark m
+stands_before spread more f = spread
+stands_before (integer is ends) more f = integer is f
+stands_before (float is ends) more f = float is f
+stands_before (string body is some) more f = string body is (λ e. f)
+stands_before (block_string closes) more f = block_string closes
+
+end_follows : (k : Kind) → MayFollow k []
+end_follows Punctuator = tt
+end_follows Name = refl
+end_follows IntValue = tt
+end_follows FloatValue = tt
+end_follows StringValue = λ e. omega arith
+end_follows BlockString = tt
+
+space_follows : (k : Kind) (more : List ℕ) → MayFollow k (32 ∷ more)
+space_follows Punctuator more = tt
+space_follows Name more = refl
+space_follows IntValue more = refl
+space_follows FloatValue more = refl
+space_follows StringValue more = λ e. omega arith
+space_follows BlockString more = tt
+
+mark_follows : (k : Kind) (b : ℕ) (more : List ℕ) → is_mark b ≡ true → MayFollow k (b ∷ more)
+mark_follows Punctuator b more h = tt
+mark_follows Name b more h = grind (arith, nat_tests)
+mark_follows IntValue b more h = grind (arith, nat_tests)
+mark_follows FloatValue b more h = grind (arith, nat_tests)
+mark_follows StringValue b more h = λ e. grind (arith, nat_tests)
+mark_follows BlockString b more h = tt
+
+-- where a text may follow, it may follow a space too
+spaced_follows : (k : Kind) (b : Bool) (text : List ℕ) → MayFollow k text → MayFollow k (space_if b ++ text)
+spaced_follows k true text f = space_follows k text
+spaced_follows k false text f = f
+
+-- what a word after a token begins with
+word_follows : (k : Kind) (text : List ℕ) → MayFollow k (space_if ((not (is_punctuator (kind_number k)) && true) || (is_number (kind_number k) && false)) ++ text)
+word_follows Punctuator text = tt
+word_follows Name text = space_follows Name text
+word_follows IntValue text = space_follows IntValue text
+word_follows FloatValue text = space_follows FloatValue text
+word_follows StringValue text = space_follows StringValue text
+word_follows BlockString text = tt
+
+-- what `...` after a token begins with
+spread_follows : (k : Kind) (more : List ℕ) → MayFollow k (space_if ((not (is_punctuator (kind_number k)) && false) || (is_number (kind_number k) && true)) ++ (46 ∷ more))
+spread_follows Punctuator more = tt
+spread_follows Name more = refl
+spread_follows IntValue more = space_follows IntValue (46 ∷ more)
+spread_follows FloatValue more = space_follows FloatValue (46 ∷ more)
+spread_follows StringValue more = λ e. omega arith
+spread_follows BlockString more = tt
+
+token_follows : (k : Kind) {j : Kind} {n : Nesting} {s rest : List ℕ} → Stands s (Word j n) rest → (p : Place) (more : List ℕ)
+    → MayFollow k (space_if (is_spaced (kind_number k) (record { kind = kind_number j; spelling = s; place = p })) ++ (s ++ more))
+token_follows k (name first continues ends) p more = word_follows k _
+token_follows k (mark {b} m) p more = spaced_follows k _ (b ∷ more) (mark_follows k b more m)
+token_follows k spread p more = spread_follows k (46 ∷ 46 ∷ more)
+token_follows k (integer is ends) p more = word_follows k _
+token_follows k (float is ends) p more = word_follows k _
+token_follows k (string body is some) p more = word_follows k _
+token_follows k (block_string closes) p more = word_follows k _
+
+-- ---- tokens that are pieces
+
+past_is : (n : Nesting) (w : Where) → is_too_deep n w ≡ is_past n w.openers w.closers
+past_is Level w = refl
+past_is Opens w = refl
+past_is Closes w = refl
+
+lexeme_kept : (b : Bool) (k : Kind) (n : Nesting) (bytes rest : List ℕ) (w : Where) (more : List Item) → is_past n w.openers w.closers ≡ b → Stands bytes (Word k n) rest
+    → AreLexemes (openers_after n w.openers) (closers_after n w.closers) (split more).tokens
+    → AreLexemes w.openers w.closers (split (token_then b (item (Wrong too_deep) w) (item (Lexeme k bytes) w) more)).tokens
+lexeme_kept true k n bytes rest w more e st h = tt
+lexeme_kept false k n bytes rest w more e st h = (k, n, rest, refl, st, e, h)
+
+-- the tokens of a text are pieces
+piece_lexeme : (m : Meaning) (bytes rest : List ℕ) (w : Where) (more : Where → List Item) → Stands bytes m rest → ((v : Where) → AreLexemes v.openers v.closers (split (more v)).tokens)
+    → AreLexemes w.openers w.closers (split (piece_then m more w bytes)).tokens
+piece_lexeme (Ignored m) bytes rest w more st f = f (past_ignored m (length bytes) w)
+piece_lexeme (Word k n) bytes rest w more st f = lexeme_kept (is_too_deep n w) k n bytes rest w (more (past_token n bytes w)) (sym (past_is n w)) st (f (past_token n bytes w))
+
+pub are_lexemes : (ps : List Piece) (text stop : List ℕ) → IsCutInto text ps stop → (w : Where) → AreLexemes w.openers w.closers (split (items_of w ps stop)).tokens
+unfolding items_of
+are_lexemes [] text [] h w = tt
+are_lexemes [] text (b ∷ bs) h w = tt
+are_lexemes (p ∷ ps) text stop (rest, e, st, h) w = piece_lexeme p.meaning p.bytes rest w (λ v. items_of v ps stop) st (λ v. are_lexemes ps rest stop h v)
+
+-- ---- spaced tokens
+
+-- from this place on, the text has just these tokens, at any places, and then the end
+abbrev pub IsCut : Where → List ℕ → List Token → Type 0
+IsCut w text ts = (pieces : List Piece) × IsCutInto text pieces [] × (map unplaced (split (items_of w pieces [])).tokens ≡ map unplaced ts) × IsEnd (split (items_of w pieces [])).last
+
+no_piece : BeginsNone []
+unfolding front
+no_piece bytes (Ignored m) rest st e = let h : AtEnd ≡ shape (Ignored m) (length bytes) = ap front e ∙ stands_front st in absurd cc
+no_piece bytes (Word k t) rest st e = let h : AtEnd ≡ shape (Word k t) (length bytes) = ap front e ∙ stands_front st in absurd cc
+
+cut_spaced : (b : Bool) (o c : ℕ) (text : List ℕ) (ts : List Token) → ((v : Where) → v.openers ≡ o → v.closers ≡ c → IsCut v text ts)
+    → (w : Where) → w.openers ≡ o → w.closers ≡ c → IsCut w (space_if b ++ text) ts
+unfolding items_of
+cut_spaced false o c text ts f w p q = f w p q
+cut_spaced true o c text ts f w p q =
+    let (pieces, cut, alike, end) = f (past_ignored (Over 1) 1 w) p q in
+    (record { bytes = 32 ∷ []; meaning = Ignored (Over 1) } ∷ pieces, (text, refl, space, cut), alike, end)
+
+cut_token : (k : Kind) (n : Nesting) (s text : List ℕ) (t : Token) (ts : List Token) (w : Where) → is_too_deep n w ≡ false → Stands s (Word k n) text
+    → t.kind ≡ kind_number k → t.spelling ≡ s → IsCut (past_token n s w) text ts → IsCut w (s ++ text) (t ∷ ts)
+unfolding items_of
+cut_token k n s text t ts w fits st kind spelling (pieces, cut, alike, end) =
+    let one : unplaced (token_of w.position k s) ≡ unplaced t = λ i. record { kind = sym kind i; spelling = sym spelling i; place = nowhere } in
+    (record { bytes = s; meaning = Word k n } ∷ pieces, (text, refl, st, cut), rw fits (λ i. one i ∷ alike i), rw fits end)
+
+-- what stands after a token may follow it
+spaced_may_follow : (k : Kind) (o c : ℕ) (ts : List Token) → AreLexemes o c ts → MayFollow k (spaced_after (kind_number k) ts)
+spaced_may_follow k o c [] l = end_follows k
+spaced_may_follow k o c (t ∷ ts) (j, n, rest, kind, st, fits, l) =
+    let same : record { kind = kind_number j; spelling = t.spelling; place = t.place } ≡ t = λ i. record { kind = sym kind i; spelling = t.spelling; place = t.place } in
+    subst (λ (u : Token). MayFollow k (space_if (is_spaced (kind_number k) u) ++ (t.spelling ++ spaced_after t.kind ts))) same (token_follows k st t.place (spaced_after t.kind ts))
+
+-- Any list of tokens that are pieces, spaced, is cut into just these tokens.
+pub cut : (kind o c : ℕ) (ts : List Token) → AreLexemes o c ts → (w : Where) → w.openers ≡ o → w.closers ≡ c → IsCut w (spaced_after kind ts) ts
+unfolding items_of
+cut kind o c [] l w p q = ([], (refl, no_piece), refl, tt)
+cut kind o c (t ∷ ts) (k, n, rest, is, st, fits, l) w p q =
+    let follows = subst (λ (j : ℕ). MayFollow k (spaced_after j ts)) (sym is) (spaced_may_follow k _ _ ts l) in
+    cut_spaced (is_spaced kind t) o c (t.spelling ++ spaced_after t.kind ts) (t ∷ ts) (λ v p q.
+    cut_token k n t.spelling (spaced_after t.kind ts) t ts v (past_is n v ∙ rw (p, q) fits) (stands_before st _ follows) is refl
+    (cut t.kind _ _ ts l (past_token n t.spelling v) (ap (openers_after n) p) (ap (closers_after n) q))) w p q
+
+-- nothing stands before the first token, as after a punctuator
+pub spaced_first : (ts : List Token) → spaced_after 0 ts ≡ spaced ts
+spaced_first [] = refl
+spaced_first (t ∷ ts) = refl
+
+-- ---- minified texts
+
+pub has_tokens : (ts : List Token) → AreLexemes 0 0 ts → HasTokens (spaced ts) ts
+has_tokens ts l =
+    let (pieces, is, alike, end) = subst (λ (text : List ℕ). IsCut start text ts) (spaced_first ts) (cut 0 0 0 ts l start refl refl) in
+    (items_of start pieces [], (pieces, [], is, refl), alike, end)
+
+-- the tokens of a text, spaced, are those of the text
+pub spaced_items : (source : List ℕ) (items : List Item) → HasItems source items → HasTokens (spaced (split items).tokens) (split items).tokens
+spaced_items source items (pieces, stop, is, e) =
+    has_tokens (split items).tokens (subst (λ (l : List Item). AreLexemes 0 0 (split l).tokens) (sym e) (are_lexemes pieces source stop is start))
+
+pub minified_tokens : (source text : List ℕ) → IsMinified source text → (items : List Item) → HasItems source items → HasTokens text (split items).tokens
+minified_tokens source text (others, has, end, e) items h =
+    subst (λ (t : List ℕ). HasTokens t (split items).tokens)
+    (ap (λ (l : List Item). spaced (split l).tokens) (items_unique source items others h has) ∙ sym e) (spaced_items source items h)
+
+-- places say nothing
+unplaced_after : (kind : ℕ) (ts : List Token) → spaced_after kind (map unplaced ts) ≡ spaced_after kind ts
+unplaced_after kind [] = refl
+unplaced_after kind (t ∷ ts) = ap (λ (l : List ℕ). space_if (is_spaced kind t) ++ (t.spelling ++ l)) (unplaced_after t.kind ts)
+
+pub spaced_alike : (ts us : List Token) → map unplaced ts ≡ map unplaced us → spaced ts ≡ spaced us
+spaced_alike ts us e =
+    sym (spaced_first ts) ∙ sym (unplaced_after 0 ts) ∙ ap (spaced_after 0) e ∙ unplaced_after 0 us ∙ spaced_first us
+
+-- a minified text, minified again, is the same
+pub minified_again : (source text : List ℕ) → IsMinified source text → IsMinified text text
+minified_again source text (items, has, end, e) =
+    let (others, h, alike, last) = minified_tokens source text (items, has, end, e) items has in
+    (others, h, last, e ∙ sym (spaced_alike _ _ alike))
+
+-- a source has one minified text
+pub one_minified : (source text other : List ℕ) → IsMinified source text → IsMinified source other → text ≡ other
+one_minified source text other (i, h, x, e) (j, k, y, f) = e ∙ ap (λ (l : List Item). spaced (split l).tokens) (items_unique source i j h k) ∙ sym f
+
+-- ---- what a call answers
+
+-- the items are those of the text
+abbrev pub AreItems : List ℕ → Items → Type 0
+AreItems text i = (items : List Item) → HasItems text items → i ≡ split items
+
+minified_by : (source text : List ℕ) (i : Items) → AreItems source i → IsEnd i.last → text ≡ spaced i.tokens → IsMinified source text
+minified_by source text i are end e =
+    let is = are (items start source) (has_items source) in
+    (items start source, has_items source, subst (λ (j : Items). IsEnd j.last) is end, e ∙ ap (λ (j : Items). spaced j.tokens) is)
+
+module _ {F : Type 0} (source : List ℕ) (i : Items) (are : AreItems source i) where
+  pub ok_minified : (r : Result (String Global) F) → IfOk r (λ text. string_bytes text ≡ spaced i.tokens) → IfOk r (λ text. IsEnd i.last) → IfOk r (λ text. IsMinified source (string_bytes text))
+  ok_minified (Ok text) e end = minified_by source (string_bytes text) i are end e
+  ok_minified (Err f) e end = tt
+
+  pub ok_tokens : (r : Result (String Global) F) → IfOk r (λ text. string_bytes text ≡ spaced i.tokens) → IfOk r (λ text. IsEnd i.last)
+      → (items : List Item) → HasItems source items → IfOk r (λ text. HasTokens (string_bytes text) (split items).tokens)
+  ok_tokens (Ok text) e end items h = minified_tokens source (string_bytes text) (minified_by source (string_bytes text) i are end e) items h
+  ok_tokens (Err f) e end items h = tt
+
+  pub ok_again : (r : Result (String Global) F) → IfOk r (λ text. string_bytes text ≡ spaced i.tokens) → IfOk r (λ text. IsEnd i.last) → IfOk r (λ text. IsMinified (string_bytes text) (string_bytes text))
+  ok_again (Ok text) e end = minified_again source (string_bytes text) (minified_by source (string_bytes text) i are end e)
+  ok_again (Err f) e end = tt

@@ -1,0 +1,78 @@
+-- A minified text: the spellings of a text's tokens, with no more spaces between them than keep them apart.
+use Rattle.std.specs.Prelude.{◌≡◌, ℕ, Bool, true, false, not, ◌&&◌, ◌||◌, ◌==◌, ◌+◌, List, [], ◌∷◌, ◌++◌, map}
+use Rattle.graphql_grammar.specs.Tokens.{Token, Spelled, matches, nowhere}
+use Rattle.graphql_core.specs.declared.tokenizer.token.Kind.TheVariants.{Punctuator, IntValue, FloatValue}
+use Rattle.graphql_core.specs.declared.common.fault.Fault.{Fault}
+use Rattle.graphql_core.specs.declared.common.fault.Fault.TheVariants.{OutOfMemory, At}
+use Rattle.graphql_core.specs.declared.tokenizer.token.Kind.{Kind}
+use Rattle.graphql_core.specs.declared.tokenizer.piece.Nesting.{Nesting}
+use Rattle.graphql_core.specs.declared.tokenizer.piece.Nesting.TheVariants.{Level, Opens, Closes}
+use Rattle.graphql_core.specs.Lexical.{Stands, Word}
+use Rattle.graphql_core.specs.Causes.{cause_text, kind_number}
+use Rattle.graphql_core.specs.Items.{Item, HasItems, openers_after, closers_after}
+use Rattle.graphql_core.specs.Source.{Items, Wrong, IsEnd, split, place_of}
+
+-- ---- spaced tokens
+
+abbrev pub is_punctuator : ℕ → Bool
+is_punctuator kind = kind == kind_number Punctuator
+
+abbrev pub is_number : ℕ → Bool
+is_number kind = kind == kind_number IntValue || kind == kind_number FloatValue
+
+-- `...`
+abbrev pub is_spread : Token → Bool
+is_spread t = matches (Spelled (kind_number Punctuator) (46 ∷ 46 ∷ 46 ∷ [])) t
+
+-- Whether a space stands between a token of this kind and the next token: neither is a punctuator, or a number stands before `...`.
+abbrev pub is_spaced : (kind : ℕ) → Token → Bool
+is_spaced kind t = (not (is_punctuator kind) && not (is_punctuator t.kind)) || (is_number kind && is_spread t)
+
+abbrev pub space_if : Bool → List ℕ
+space_if true = 32 ∷ []
+space_if false = []
+
+-- the tokens after one of this kind
+abbrev pub spaced_after : (kind : ℕ) → List Token → List ℕ
+spaced_after kind [] = []
+spaced_after kind (t ∷ ts) = space_if (is_spaced kind t) ++ (t.spelling ++ spaced_after t.kind ts)
+
+-- the spellings of the tokens, joined
+abbrev pub spaced : List Token → List ℕ
+spaced [] = []
+spaced (t ∷ ts) = t.spelling ++ spaced_after t.kind ts
+
+-- ---- minified texts
+
+-- the text is the tokens of the source, spaced, and they end with the source's end
+abbrev pub IsMinified : (source text : List ℕ) → Type 0
+IsMinified source text = (items : List Item) × HasItems source items × IsEnd (split items).last × (text ≡ spaced (split items).tokens)
+
+-- a token but for its place
+abbrev pub unplaced : Token → Token
+unplaced t = record { kind = t.kind; spelling = t.spelling; place = nowhere }
+
+-- the items of the text are tokens of these kinds and spellings, and then the end
+abbrev pub HasTokens : (text : List ℕ) → List Token → Type 0
+HasTokens text ts = (items : List Item) × HasItems text items × (map unplaced (split items).tokens ≡ map unplaced ts) × IsEnd (split items).last
+
+-- ---- tokens that are pieces
+
+-- an opening bracket would be the 51st that is open
+abbrev pub is_past : Nesting → (openers closers : ℕ) → Bool
+is_past Level o c = false
+is_past Opens o c = o == c + 50
+is_past Closes o c = false
+
+-- each token is a piece before some text, and at most 50 brackets are open, where these stand before them
+abbrev pub AreLexemes : (openers closers : ℕ) → List Token → Type 0
+AreLexemes o c [] = Unit {0}
+AreLexemes o c (t ∷ ts) = (k : Kind) × (n : Nesting) × (rest : List ℕ) × (t.kind ≡ kind_number k) × Stands t.spelling (Word k n) rest
+    × (is_past n o c ≡ false) × AreLexemes (openers_after n o) (closers_after n c) ts
+
+-- ---- refusals
+
+-- memory ran out, or the items end in a bad place, and this is its cause and its position
+abbrev pub IsBadPlaceOf : Items → Fault → Type 0
+IsBadPlaceOf i OutOfMemory = Unit {0}
+IsBadPlaceOf i (At c p) = i.last ≡ Wrong (place_of p) (cause_text c)

@@ -1,0 +1,183 @@
+-- What a refusal says of the item at the index of a fault, and what follows of a text's faults.
+use Rattle.std.proofs.Common.{◌≡◌, ℕ, suc, ◌-◌, true, false, List, [], ◌∷◌, ◌++◌, length, take, drop, Option, Some, None, is_some, refl, sym, ap, subst, ◌∙◌, arith}
+use Rattle.std.proofs.lemmas.List.{drop_at}
+use Rattle.std.proofs.lemmas.Bool.{and_parts}
+use Rattle.std.proofs.lemmas.Bool.Decides.{nat_tests}
+use Rattle.graphql_grammar.specs.Tokens.{Token, Class, AnyOf, matches}
+use Rattle.graphql_grammar.specs.Trees.{Sym, Begins}
+use Rattle.graphql_grammar.specs.Reading.{Reason, Unexpected, Improper, Refused, lax}
+use Rattle.graphql_grammar.specs.Theorems.{IsExact}
+use Rattle.graphql_grammar.specs.Texts as texts
+use Rattle.graphql_grammar.specs.Texts.{Answers, Answer, IsWhole}
+use Rattle.graphql_grammar.specs.Faults.{IsFault, leaf_refused, IsLeast, index_of}
+use Rattle.graphql_grammar.proofs.Exact as theory
+use Rattle.graphql_grammar.proofs.Whole as whole_theory
+use Rattle.graphql_core.specs.declared.common.cause.Cause.{Cause}
+use Rattle.graphql_core.specs.declared.common.cause.Cause.TheVariants as cause
+use Rattle.graphql_core.specs.declared.tokenizer.token.Kind.TheVariants.{IntValue, FloatValue, StringValue}
+use Rattle.graphql_core.specs.Source.{Items, Last, End, Wrong, IsEnd, FaultText, fault_by, split}
+use Rattle.graphql_core.specs.Causes.{CauseText, int_out_of_range, malformed_float, bad_escape}
+use Rattle.graphql_core.specs.Items.{Item}
+use Rattle.graphql_core.proofs.Cutting.{items_unique}
+use Rattle.graphql_common.specs.Grammar.{any}
+use Rattle.graphql_common.specs.Leaves.{is_good, unquoted, without_ends}
+use Rattle.graphql_common.specs.Gives.{reason_by, fault_for}
+use Rattle.graphql_query.specs.Tree.{DocumentTree}
+use Rattle.graphql_query.specs.Grammar.{query, reading, tables, document_symbol}
+use Rattle.graphql_query.specs.Document.{IsDocument, HasNoFault}
+use Rattle.graphql_query.specs.Faults.{ending_of, text_of, HasNoValue, out_of_range, malformed, escaped_badly, from_item, Says, IsFaultAt, IsLeastFault, IsFaultOf, IsLeastFaultOf, HasOneFaultEach, IsFaultBehind, unexpected, no_value, IsFirstFault, IsFirstFaultOf}
+use Rattle.graphql_query.proofs.Readable.{ll1, productive, whole, least}
+
+pub exact_reading : IsExact reading (Sym document_symbol)
+unfolding tables
+exact_reading = theory.exact reading ll1 productive (Sym document_symbol) refl refl
+
+pub whole_reading : IsWhole reading (Sym document_symbol)
+whole_reading = whole_theory.whole reading (Sym document_symbol) exact_reading
+
+pub ends : (l : Last) → IsEnd l → ending_of l ≡ texts.End
+ends (End p) h = refl
+ends (Wrong p b) h = absurd h
+
+-- ---- tokens without a value
+
+kind_is : (k : ℕ) (t : Token) → matches (AnyOf k) t ≡ true → t.kind ≡ k
+kind_is k t h = let s = (and_parts _ true h).0 in grind (arith, nat_tests)
+
+none_there : {A : Type 0} (o : Option A) → is_some o ≡ false → o ≡ None
+none_there None h = refl
+none_there (Some x) h = absurd cc
+
+-- each token of this class that is not good has no value, for this cause
+abbrev Lacks : Class → CauseText → Type 0
+Lacks c k = (t : Token) → matches c t ≡ true → is_good c t ≡ false → HasNoValue t k
+
+no_integer : Lacks (any IntValue) int_out_of_range
+no_integer t m h = out_of_range (kind_is _ t m) h
+
+no_float : Lacks (any FloatValue) malformed_float
+no_float t m h = malformed (kind_is _ t m) h
+
+no_string : Lacks (any StringValue) bad_escape
+no_string t m h = escaped_badly (kind_is _ t m) (none_there (unquoted (without_ends 1 t.spelling)) h)
+
+one_cause : (t : Token) (c d : CauseText) → HasNoValue t c → HasNoValue t d → c ≡ d
+one_cause t c d (out_of_range e r) (out_of_range f s) = refl
+one_cause t c d (out_of_range e r) (malformed f s) = absurd (omega (arith, e, f))
+one_cause t c d (out_of_range e r) (escaped_badly f s) = absurd (omega (arith, e, f))
+one_cause t c d (malformed e r) (out_of_range f s) = absurd (omega (arith, e, f))
+one_cause t c d (malformed e r) (malformed f s) = refl
+one_cause t c d (malformed e r) (escaped_badly f s) = absurd (omega (arith, e, f))
+one_cause t c d (escaped_badly e r) (out_of_range f s) = absurd (omega (arith, e, f))
+one_cause t c d (escaped_badly e r) (malformed f s) = absurd (omega (arith, e, f))
+one_cause t c d (escaped_badly e r) (escaped_badly f s) = refl
+
+-- ---- what is said where a reader stops
+
+head_is : (t u : Token) (ts us : List Token) → t ∷ ts ≡ u ∷ us → u ≡ t
+head_is t u ts us h = cc
+
+-- the token that is refused as a leaf, and the index of its fault
+abbrev RefusedLeaf : texts.Text → Class → ℕ → Type 0
+RefusedLeaf t c n = (u : Token) × (us : List Token) × (front : List Token) × (t.tokens ≡ front ++ u ∷ us) × (n ≡ suc (length front)) × (matches c u ≡ true) × (is_good c u ≡ false)
+
+refused_leaf : (t : texts.Text) (c : Class) (n : ℕ) → IsFault query (Sym document_symbol) t (Improper c) n → RefusedLeaf t c n
+refused_leaf t c _ (leaf_refused front us u _ p l m g) = (u, us, front, p, refl, m, g)
+
+module _ (i : Items) (n : ℕ) (f : FaultText) where
+  unexpected_here : (us : List Token) (l : Last) → IsLeast query (Sym document_symbol) (text_of i) Unexpected (suc n) → drop n i.tokens ≡ us → i.last ≡ l → f ≡ fault_by us l → IsLeastFault i f
+  unexpected_here us l w d e h = (suc n, Unexpected, w, h ∙ sym (λ k. fault_by (d k) (e k)))
+
+  no_value_here : (t : Token) (ts : List Token) (c : Class) (k : CauseText) → Lacks c k → IsLeast query (Sym document_symbol) (text_of i) (Improper c) (suc n) → drop n i.tokens ≡ t ∷ ts
+      → f ≡ record { cause = k; place = t.place } → IsLeastFault i f
+  no_value_here t ts c k lacks w d h =
+      let (u, us, front, p, m, is, not_good) = refused_leaf (text_of i) c (suc n) w.0 in
+      let here : drop n i.tokens ≡ u ∷ us = ap (drop n) p ∙ drop_at front (u ∷ us) n (omega (arith, m)) in
+      let same : t ≡ u = head_is u t us ts (sym here ∙ d) in
+      let lack = subst (λ (v : Token). HasNoValue v k) (sym same) (lacks u is not_good) in
+      (suc n, Improper c, w, (t, ts, d, subst (HasNoValue t) (sym (ap (λ (y : FaultText). y.cause) h)) lack, ap (λ (y : FaultText). y.place) h))
+
+  -- the fault of the items left is the least, where its reason is
+  pub least_by : (us : List Token) (l : Last) (c : Cause) → IsLeast query (Sym document_symbol) (text_of i) (reason_by us c) (index_of (reason_by us c) n) → drop n i.tokens ≡ us → i.last ≡ l
+      → f ≡ fault_for c (reason_by us c) us l → IsLeastFault i f
+  least_by [] l c w d e h = unexpected_here [] l w d e h
+  least_by (t ∷ ts) l cause.IntOutOfRange w d e h = no_value_here t ts (any IntValue) int_out_of_range no_integer w d h
+  least_by (t ∷ ts) l cause.MalformedFloat w d e h = no_value_here t ts (any FloatValue) malformed_float no_float w d h
+  least_by (t ∷ ts) l cause.BadEscape w d e h = no_value_here t ts (any StringValue) bad_escape no_string w d h
+  least_by (t ∷ ts) l (cause.BadToken b) w d e h = unexpected_here (t ∷ ts) l w d e h
+  least_by (t ∷ ts) l (cause.UnexpectedToken k s) w d e h = unexpected_here (t ∷ ts) l w d e h
+  least_by (t ∷ ts) l cause.UnexpectedEnd w d e h = unexpected_here (t ∷ ts) l w d e h
+  least_by (t ∷ ts) l cause.TooDeep w d e h = unexpected_here (t ∷ ts) l w d e h
+  least_by (t ∷ ts) l cause.UnknownLocation w d e h = unexpected_here (t ∷ ts) l w d e h
+  least_by (t ∷ ts) l (cause.DuplicateOperation s) w d e h = unexpected_here (t ∷ ts) l w d e h
+  least_by (t ∷ ts) l (cause.UnknownOperation s) w d e h = unexpected_here (t ∷ ts) l w d e h
+  least_by (t ∷ ts) l cause.EmptyExtension w d e h = unexpected_here (t ∷ ts) l w d e h
+  least_by (t ∷ ts) l cause.TextTooLong w d e h = unexpected_here (t ∷ ts) l w d e h
+  least_by (t ∷ ts) l cause.OutOfMemory w d e h = unexpected_here (t ∷ ts) l w d e h
+
+-- ---- one fault an index
+
+one_said : (why : Reason) (i : Items) (f g : FaultText) → Says why i f → Says why i g → f ≡ g
+one_said Unexpected i f g h k = h ∙ sym k
+one_said (Improper c) i f g (t, ts, p, lacks, at) (u, us, q, lacks', at') =
+    let same : u ≡ t = head_is t u ts us (sym p ∙ q) in
+    let cause_is = one_cause t f.cause g.cause lacks (subst (λ (v : Token). HasNoValue v g.cause) same lacks') in
+    let place_is = at ∙ ap (λ (v : Token). v.place) (sym same) ∙ sym at' in
+    λ k. record { cause = cause_is k; place = place_is k }
+one_said (Refused k) i f g h w = absurd h
+
+pub one_each : (text : List ℕ) → HasOneFaultEach text
+one_each text f g n (items, has, (why, x, said)) (others, has', (other, y, said')) =
+    let same = subst (λ (is : List Item). IsFault query (Sym document_symbol) (text_of (split is)) other n) (items_unique text others items has' has) y in
+    let said_same = subst (λ (is : List Item). Says other (from_item n (split is)) g) (items_unique text others items has' has) said' in
+    let reason = least.one_index (text_of (split items)) why other n x same in
+    one_said why (from_item n (split items)) f g said (subst (λ (r : Reason). Says r (from_item n (split items)) g) (sym reason) said_same)
+
+pub one_least : (text : List ℕ) (f g : FaultText) → IsLeastFaultOf text f → IsLeastFaultOf text g → f ≡ g
+one_least text f g (items, has, (n, why, x, said)) (others, has', (m, other, y, said')) =
+    let same = subst (λ (is : List Item). IsLeast query (Sym document_symbol) (text_of (split is)) other m) (items_unique text others items has' has) y in
+    let at = (least.one (text_of (split items)) why other n m x same).1 in
+    one_each text f g n (items, has, (why, x.0, said))
+    (subst (λ (k : ℕ). IsFaultOf text g k) (sym at) (others, has', (other, y.0, said')))
+
+-- ---- documents
+
+no_fault_in : (i : Items) (d : DocumentTree) (f : FaultText) (n : ℕ) → IsDocument i d → IsFaultAt i f n → ⊥
+no_fault_in i d f n (x, derived, at_end, means) (why, fault, said) =
+    let c = whole.complete (text_of i) x derived (ends i.last at_end) in
+    least.tree (text_of i) c.0 c.1 why n fault
+
+pub no_fault : (text : List ℕ) (d : DocumentTree) → HasNoFault text d
+no_fault text d (items, has, document) f n (others, has', fault) =
+    no_fault_in (split items) d f n document (subst (λ (is : List Item). IsFaultAt (split is) f n) (items_unique text others items has' has) fault)
+
+-- ---- the least is the first
+
+module _ (i : Items) (f : FaultText) (place : ℕ) where
+  -- the fault behind the first items, where the theory answers that place for this reason
+  behind_first : (why : Reason) → texts.IsFaultAt query (Sym document_symbol) (text_of i) why place → Says why (from_item (index_of why place) i) f
+      → IsFaultBehind (take place i.tokens) (drop place i.tokens) i.last f
+  behind_first Unexpected w said = subst (IsFaultBehind (take place i.tokens) (drop place i.tokens) i.last) (sym said) (unexpected (w.unexpected refl))
+  behind_first (Improper c) w (t, ts, is, lacks, at) =
+      let v = w.value c refl in
+      let same : v.token ≡ t = head_is t v.token ts v.rest (sym is ∙ v.is) in
+      let begins = subst (λ (u : Token). Begins (lax query) (Sym document_symbol) (take place i.tokens ++ u ∷ [])) same v.begins in
+      let found : IsFaultBehind (take place i.tokens) (t ∷ ts) i.last (record { cause = f.cause; place = t.place }) = no_value lacks begins in
+      let here = subst (λ (us : List Token). IsFaultBehind (take place i.tokens) us i.last (record { cause = f.cause; place = t.place })) (sym is) found in
+      subst (IsFaultBehind (take place i.tokens) (drop place i.tokens) i.last) (λ k. record { cause = f.cause; place = sym at k }) here
+  behind_first (Refused k) w said = absurd said
+
+first_by : (i : Items) (f : FaultText) (n : ℕ) (why : Reason) → IsLeast query (Sym document_symbol) (text_of i) why n → Says why (from_item n i) f
+    → (a : Answer) → Answers reading (Sym document_symbol) (text_of i) a → IsFirstFault i f
+first_by i f n why w said (texts.Tree x) a = absurd (least.tree (text_of i) x a why n w.0)
+first_by i f n why w said (texts.Wrong other place) a =
+    let (reason, at) = least.one (text_of i) why other n (index_of other place) w (least.wrong (text_of i) other place a) in
+    let x = whole.wrong (text_of i) other place a in
+    let said_here = subst (λ (k : ℕ). Says why (from_item k i) f) at said in
+    let said_other = subst (λ (r : Reason). Says r (from_item (index_of other place) i) f) reason said_here in
+    (place, x.within, x.begins, x.ends, behind_first i f place other x said_other)
+
+pub least_is_first : (text : List ℕ) (f : FaultText) → IsLeastFaultOf text f → IsFirstFaultOf text f
+least_is_first text f (items, has, (n, why, w, said)) =
+    let a = whole_reading.answer (text_of (split items)) in
+    (items, has, first_by (split items) f n why w said a.0 a.1)

@@ -1,0 +1,42 @@
+use Rattle.std.proofs.Common.{◌≡◌, List, ℕ, string_bytes, length, sym, ap, subst, arith}
+use Rattle.graphql_core.specs.Minified.{IsMinified}
+use Rattle.graphql_core.proofs.Minifying.{one_minified}
+use Rattle.graphql_query.specs.Document.{IsDocumentOf, IsReadBack}
+use Rattle.graphql_query.specs.Refusal.{Refusal, refusal_of}
+use Rattle.graphql_query.specs.Minifying.{IsMinifyRefusalOf, past_bound}
+use Rattle.graphql_query.proofs.Whole.{exit}
+use Rattle.graphql_query.proofs.Minified.{refusal, tells_refusal}
+use Rattle.graphql_query.proofs.Unplaced.{minified_document, source_document}
+use Rattle.graphql_query.proofs.minify.minify_query.Goals as goal
+
+pub returns-then-len-gt-MAX_LENGTH-clause-refused : goal.returns-then-len-gt-MAX_LENGTH-clause-refused
+returns-then-len-gt-MAX_LENGTH-clause-refused c =
+    let source : List ℕ = string_bytes c.args.source in
+    subst (λ (r : Refusal). IsMinifyRefusalOf source r) (sym c.text_too_long.ensures) (past_bound (omega arith))
+
+pub returns-in_err-text-clause-complete : goal.returns-in_err-text-clause-complete
+returns-in_err-text-clause-complete c text bound is =
+    let same : c.deref.result.now ≡ string_bytes c.args.source = c.deref.ensures in
+    tells_refusal c.deref.result.now text c.in_err-text.field-0.0 _ c.from_residual.ensures.1 c.in_err-text.ensures.refused (subst (λ (t : List ℕ). IsMinified t text) (sym same) is)
+
+pub returns-in_err-text-clause-refused : goal.returns-in_err-text-clause-refused
+returns-in_err-text-clause-refused c =
+    let same : c.deref.result.now ≡ string_bytes c.args.source = c.deref.ensures in
+    let e = c.in_err-text.field-0.0 in
+    let source : List ℕ = string_bytes c.args.source in
+    exit _ (refusal_of e) (IsMinifyRefusalOf source) c.from_residual.ensures.1 (subst (λ (t : List ℕ). IsMinifyRefusalOf t (refusal_of e)) same (refusal c.deref.result.now e (omega (arith, ap length same)) c.in_err-text.ensures.refused))
+
+pub returns-clause-complete : goal.returns-clause-complete
+returns-clause-complete c text bound is =
+    let same : c.deref.result.now ≡ string_bytes c.args.source = c.deref.ensures in
+    one_minified c.deref.result.now _ text c.in_ok-text.ensures.minified (subst (λ (t : List ℕ). IsMinified t text) (sym same) is)
+
+pub returns-clause-document : goal.returns-clause-document
+returns-clause-document c d h =
+    let same : c.deref.result.now ≡ string_bytes c.args.source = c.deref.ensures in
+    minified_document c.deref.result.now _ c.in_ok-text.ensures.minified d (subst (λ (t : List ℕ). IsDocumentOf t d) (sym same) h)
+
+pub returns-clause-no_other : goal.returns-clause-no_other
+returns-clause-no_other c d h =
+    let same : c.deref.result.now ≡ string_bytes c.args.source = c.deref.ensures in
+    subst (λ (t : List ℕ). IsReadBack t d) same (source_document c.deref.result.now _ c.in_ok-text.ensures.minified d h)

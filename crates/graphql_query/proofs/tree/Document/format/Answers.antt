@@ -1,0 +1,12 @@
+use Rattle.std.proofs.Common.{◌≡◌, rules, sym, subst, string_bytes}
+use Rattle.graphql_query.specs.Document.{IsReadBack}
+use Rattle.graphql_query.specs.Layout.{layout}
+use Rattle.graphql_query.specs.Tree.{document_view}
+use Rattle.graphql_query.proofs.WayBack.{way_back}
+use Rattle.graphql_query.proofs.tree.Document.format.Goals as goal
+
+pub returns-clause-read_back : goal.returns-clause-read_back
+returns-clause-read_back g c printable =
+    let d = document_view g.N.Names.bytes c.args.self.now in
+    let printed : string_bytes c.write_document.new.out ≡ layout c.args.style.now d = search rules in
+    subst (λ text. IsReadBack text d) (sym printed) (way_back c.args.style.now d printable c.levels_in_document.ensures.lawful)

@@ -1,0 +1,93 @@
+-- The faults of a text that is no query document, each with its index and what a refusal says of it.
+use Rattle.std.specs.Prelude.{◌≡◌, ◌≤◌, ℕ, zero, suc, false, List, [], ◌∷◌, ◌++◌, length, take, drop, None}
+use Rattle.graphql_grammar.specs.Tokens.{Token}
+use Rattle.graphql_grammar.specs.Trees.{Sym, Begins}
+use Rattle.graphql_grammar.specs.Reading.{Reason, Unexpected, Improper, Refused, lax}
+use Rattle.graphql_grammar.specs.Texts as texts
+use Rattle.graphql_grammar.specs.Faults.{IsFault, IsLeast}
+use Rattle.graphql_core.specs.declared.common.fault.Fault.{Fault}
+use Rattle.graphql_core.specs.declared.common.fault.Fault.TheVariants.{OutOfMemory, At}
+use Rattle.graphql_core.specs.declared.tokenizer.token.Kind.TheVariants.{IntValue, FloatValue, StringValue}
+use Rattle.graphql_core.specs.Items.{Item, HasItems}
+use Rattle.graphql_core.specs.Causes.{CauseText, cause_text, kind_number, int_out_of_range, malformed_float, bad_escape}
+use Rattle.graphql_core.specs.Source.{Items, Last, End, Wrong, split, place_of, fault_by, fault_at, FaultText}
+use Rattle.graphql_common.specs.Leaves.{is_in_range, has_whole_exponent, unquoted, without_ends}
+use Rattle.graphql_query.specs.Grammar.{query, document_symbol}
+
+-- ---- what a refusal says
+
+abbrev pub ending_of : Last → texts.Ending
+ending_of (End p) = texts.End
+ending_of (Wrong p b) = texts.Bad
+
+-- the items as the theory of grammars sees them
+abbrev pub text_of : Items → texts.Text
+text_of i = record { tokens = i.tokens; ending = ending_of i.last }
+
+-- a token has no value, for this cause
+pub data HasNoValue : Token → CauseText → Type 0 where
+  -- an integer that is no `i64`
+  out_of_range : {t : Token} → t.kind ≡ kind_number IntValue → is_in_range t.spelling ≡ false → HasNoValue t int_out_of_range
+  -- a float whose exponent has no digit
+  malformed : {t : Token} → t.kind ≡ kind_number FloatValue → has_whole_exponent t.spelling ≡ false → HasNoValue t malformed_float
+  -- a string with a bad escape
+  escaped_badly : {t : Token} → t.kind ≡ kind_number StringValue → unquoted (without_ends 1 t.spelling) ≡ None → HasNoValue t bad_escape
+
+-- the items from the n-th on; they are numbered from 1
+abbrev pub from_item : ℕ → Items → Items
+from_item zero i = i
+from_item (suc n) i = record { tokens = drop n i.tokens; last = i.last }
+
+-- What is said of the first of these items, for this reason: that it may not stand there, or that it is a token without a value.
+-- No node of a query document is refused.
+abbrev pub Says : Reason → Items → FaultText → Type 0
+Says Unexpected i f = f ≡ fault_at i
+Says (Improper c) i f = (t : Token) × (rest : List Token) × (i.tokens ≡ t ∷ rest) × HasNoValue t f.cause × (f.place ≡ t.place)
+Says (Refused k) i f = ⊥
+
+-- ---- faults by index
+
+-- a fault of the items, its index, and what is said of the item with that index
+abbrev pub IsFaultAt : Items → FaultText → ℕ → Type 0
+IsFaultAt i f n = (why : Reason) × IsFault query (Sym document_symbol) (text_of i) why n × Says why (from_item n i) f
+
+-- the fault of least index
+abbrev pub IsLeastFault : Items → FaultText → Type 0
+IsLeastFault i f = (n : ℕ) × (why : Reason) × IsLeast query (Sym document_symbol) (text_of i) why n × Says why (from_item n i) f
+
+-- memory ran out, or it is the least fault of the items
+abbrev pub IsLeastOf : Items → Fault → Type 0
+IsLeastOf i OutOfMemory = Unit {0}
+IsLeastOf i (At c p) = IsLeastFault i (record { cause = cause_text c; place = place_of p })
+
+-- the same of a text
+abbrev pub IsFaultOf : List ℕ → FaultText → ℕ → Type 0
+IsFaultOf text f n = (items : List Item) × HasItems text items × IsFaultAt (split items) f n
+
+abbrev pub IsLeastFaultOf : List ℕ → FaultText → Type 0
+IsLeastFaultOf text f = (items : List Item) × HasItems text items × IsLeastFault (split items) f
+
+-- no two faults of a text have one index; so at most one has the least
+abbrev pub HasOneFaultEach : List ℕ → Type 0
+HasOneFaultEach text = (f g : FaultText) (n : ℕ) → IsFaultOf text f n → IsFaultOf text g n → f ≡ g
+
+-- ---- the first fault
+
+-- Why no document goes on behind these tokens.
+pub data IsFaultBehind (front : List Token) : List Token → Last → FaultText → Type 0 where
+  -- even were all values good, none has this item here
+  unexpected : {behind : List Token} {l : Last} → texts.EndsAt (lax query) (Sym document_symbol) front behind (ending_of l)
+      → IsFaultBehind front behind l (fault_by behind l)
+  -- were all values good, some would go on with this token
+  no_value : {t : Token} {behind : List Token} {l : Last} {c : CauseText} → HasNoValue t c → Begins (lax query) (Sym document_symbol) (front ++ t ∷ [])
+      → IsFaultBehind front (t ∷ behind) l (record { cause = c; place = t.place })
+
+-- some document begins with the first n tokens, none goes on with the item behind them, and the fault is that of the item
+abbrev pub IsFirstFault : Items → FaultText → Type 0
+IsFirstFault i f = (n : ℕ) × (n ≤ length i.tokens) × Begins query (Sym document_symbol) (take n i.tokens)
+    × texts.EndsAt query (Sym document_symbol) (take n i.tokens) (drop n i.tokens) (ending_of i.last)
+    × IsFaultBehind (take n i.tokens) (drop n i.tokens) i.last f
+
+-- the same of a text
+abbrev pub IsFirstFaultOf : List ℕ → FaultText → Type 0
+IsFirstFaultOf text f = (items : List Item) × HasItems text items × IsFirstFault (split items) f

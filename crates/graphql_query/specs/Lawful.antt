@@ -1,0 +1,40 @@
+-- What holds of the values of every document that a program can make.
+use Rattle.std.specs.Prelude.{List}
+use Rattle.std.specs.List.{AllByRecursion}
+use Rattle.std.specs.Option.{IfSome}
+use Rattle.graphql_query.specs.Tree.{SelectionTree, field, spread, inline, SetTree, set, SelectionTrees, none, more, VariableTree, FragmentTree, DefinitionTree, short, operation, fragment, DocumentTree}
+use Rattle.graphql_common.specs.Values.{DirectiveTree}
+use Rattle.graphql_common.specs.Lawful.{IsLawful, AreLawfulArguments, AreLawfulDirectives}
+
+abbrev mutual
+  pub IsLawfulSelection : SelectionTree → Type 0
+  IsLawfulSelection (field p a n arguments ds s) = AreLawfulArguments arguments × AreLawfulDirectives ds × IsLawfulSet s
+  IsLawfulSelection (spread p n ds) = AreLawfulDirectives ds
+  IsLawfulSelection (inline p c ds s) = AreLawfulDirectives ds × IsLawfulSet s
+
+  pub IsLawfulSet : SetTree → Type 0
+  IsLawfulSet (set o c ss) = AreLawfulSelections ss
+
+  pub AreLawfulSelections : SelectionTrees → Type 0
+  AreLawfulSelections none = Unit {0}
+  AreLawfulSelections (more s ss) = IsLawfulSelection s × AreLawfulSelections ss
+
+abbrev pub IsLawfulVariable : VariableTree → Type 0
+IsLawfulVariable v = IfSome v.default_value IsLawful
+
+abbrev pub AreLawfulVariables : List VariableTree → Type 0
+AreLawfulVariables = AllByRecursion IsLawfulVariable
+
+abbrev pub AreLawfulParts : List VariableTree → List DirectiveTree → SetTree → Type 0
+AreLawfulParts vs ds s = AreLawfulVariables vs × AreLawfulDirectives ds × IsLawfulSet s
+
+abbrev pub IsLawfulFragment : FragmentTree → Type 0
+IsLawfulFragment f = AreLawfulDirectives f.directives × IsLawfulSet f.selected
+
+abbrev pub IsLawfulDefinition : DefinitionTree → Type 0
+IsLawfulDefinition (short s) = IsLawfulSet s
+IsLawfulDefinition (operation o) = AreLawfulParts o.variables o.directives o.selected
+IsLawfulDefinition (fragment f) = IsLawfulFragment f
+
+abbrev pub IsLawfulDocument : DocumentTree → Type 0
+IsLawfulDocument = AllByRecursion IsLawfulDefinition

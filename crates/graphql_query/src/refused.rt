@@ -1,0 +1,54 @@
+//! What the refusals of this crate say.
+ghost use Rattle.std.specs.Prelude.{◌≡◌};
+ghost use Rattle.graphql_query.specs.Refusal.{too_long, refusal_of};
+
+use graphql_core::common::{Cause, Fault};
+use graphql_core::position::Pos;
+use std::marker::Model;
+
+/// A cause, and the position at which it stands; none where memory ran out.
+#[derive(Debug, Drop)]
+pub struct Refused {
+    pub cause: Cause,
+    pub position: Option<Pos>,
+}
+
+impl Model for Refused {
+    ghost use Rattle.std.specs.Prelude.{option_map};
+    ghost use Rattle.graphql_core.specs.Causes.{cause_text};
+    ghost use Rattle.graphql_core.specs.Source.{place_of};
+    ghost use Rattle.graphql_query.specs.Refusal as spec;
+
+    ghost Value = { spec.Refusal };
+
+    ghost view = { λ e. record { cause = cause_text e.cause; place = option_map place_of e.position } };
+}
+
+impl Refused {
+    /// The text has more than `usize::MAX / 16` bytes.
+    pub fn text_too_long() -> Self
+        ensures { result ≡ too_long }
+    {
+        Refused {
+            cause: Cause::TextTooLong,
+            position: Some(Pos { line: 1, column: 1 }),
+        }
+    }
+}
+
+impl From<Fault> for Refused {
+    ghost from_gives = { λ f e. e ≡ refusal_of f };
+
+    fn from(fault: Fault) -> Refused {
+        match fault {
+            Fault::OutOfMemory => Refused {
+                cause: Cause::OutOfMemory,
+                position: None,
+            },
+            Fault::At(cause, position) => Refused {
+                cause,
+                position: Some(position),
+            },
+        }
+    }
+}
