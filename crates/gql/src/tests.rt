@@ -2,7 +2,6 @@
 mod devices;
 mod documents;
 mod failures;
-mod memory;
 mod words;
 
 use crate::command::Command;
@@ -22,11 +21,17 @@ struct Ran {
     write_faults: u64,
 }
 
-/// Runs a command from a source to a sink.
-fn run_over(alloc: Global, command: Command, source: Source<'_>, mut sink: Sink) -> Ran {
+/// Runs a command in a style from a source to a sink.
+fn run_over(
+    alloc: Global,
+    command: Command,
+    style: &Style,
+    source: Source<'_>,
+    mut sink: Sink,
+) -> Ran {
     let mut reader = Counted::new(source);
     let mut writer = Counted::new(&mut sink);
-    let answer = run(alloc, command, &Style::default(), &mut reader, &mut writer);
+    let answer = run(alloc, command, style, &mut reader, &mut writer);
     let read_faults = reader.faults();
     let write_faults = writer.faults();
     Ran {
@@ -37,9 +42,9 @@ fn run_over(alloc: Global, command: Command, source: Source<'_>, mut sink: Sink)
     }
 }
 
-/// Runs `query`.
+/// Runs `query` with no options.
 fn run_query(alloc: Global, source: Source<'_>, sink: Sink) -> Ran {
-    run_over(alloc, Command::Query, source, sink)
+    run_over(alloc, Command::Query, &Style::default(), source, sink)
 }
 
 /// What standard error is told of a run.

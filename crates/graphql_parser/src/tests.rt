@@ -3,7 +3,6 @@
 mod built;
 mod callers;
 mod layouts;
-mod memory;
 mod messages;
 mod minify;
 mod positions;

@@ -1,8 +1,9 @@
 //! Texts that are laid out or minified, and texts that are refused.
-use crate::command::Command;
+use crate::command::{Command, read_words};
 use crate::error::status;
 use crate::tests::devices::{Sink, Source};
 use crate::tests::{run_over, run_query, told};
+use graphql_parser::Style;
 use std::alloc::{AllocError, Global};
 use std::process::Abort;
 use std::test::Fail;
@@ -74,10 +75,29 @@ fn refuses_what_is_no_document(rt: HostRuntime) -> Result<(), Fail> {
 }
 
 #[test]
+fn options_set_the_style(rt: HostRuntime) -> Result<(), Fail> {
+    let alloc = rt.alloc();
+    let mut words = Vec::new(alloc);
+    for word in ["query", "--indent", "3", "--multiline"] {
+        words.push(String::from_str(alloc, word)?)?;
+    }
+    let (command, style) = read_words(words).ok_or("refused")?;
+    let source = Source::of(b"{ a(b: 1) { c } }");
+    let ran = run_over(alloc, command, &style, source, Sink::new(alloc));
+    assert_eq!(rt;
+        ran.written.as_slice(),
+        b"{\n   a(\n      b: 1\n   ) {\n      c\n   }\n}\n".as_slice()
+    );
+    assert_eq!(rt; status(Some(&ran.answer)), 0);
+    Ok(())
+}
+
+#[test]
 fn minifies(rt: HostRuntime) -> Result<(), Fail> {
     let alloc = rt.alloc();
+    let plain = Style::default();
     let source = Source::of(b"query Q { a ... on B { c } } # d\n1...");
-    let ran = run_over(alloc, Command::Minify, source, Sink::new(alloc));
+    let ran = run_over(alloc, Command::Minify, &plain, source, Sink::new(alloc));
     assert!(rt; ran.written.is_empty());
     assert_eq!(rt; status(Some(&ran.answer)), 1);
     assert_eq!(rt;
@@ -88,7 +108,7 @@ fn minifies(rt: HostRuntime) -> Result<(), Fail> {
         assert!(rt; !error.ends_its_line());
     }
     let source = Source::of(b"query Q { a ... on B { c } } # d\n");
-    let ran = run_over(alloc, Command::Minify, source, Sink::new(alloc));
+    let ran = run_over(alloc, Command::Minify, &plain, source, Sink::new(alloc));
     assert_eq!(rt; ran.written.as_slice(), "query Q{a...on B{c}}".as_bytes());
     assert_eq!(rt; status(Some(&ran.answer)), 0);
     Ok(())

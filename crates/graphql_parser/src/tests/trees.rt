@@ -212,30 +212,6 @@ fn names_have_their_text(rt: HostRuntime) -> Result<(), Fail> {
     Ok(())
 }
 
-/// A clone is equal, unless memory ran out.
-fn is_equal_or_refused<C: Clone + PartialEq>(value: &C) -> bool {
-    match value.clone() {
-        Ok(copy) => copy == *value,
-        Err(_) => true,
-    }
-}
-
-/// Where memory runs out a clone is refused, and no other value than an equal one comes.
-#[test]
-fn clones_are_equal_or_refused(rt: HostRuntime) {
-    if let Ok(values) = values::<String>(rt.alloc()) {
-        for value in &values {
-            assert!(rt; is_equal_or_refused(value));
-        }
-    }
-    if let Ok(declared) = wrapped::<String>(rt.alloc(), "Int", true) {
-        assert!(rt; is_equal_or_refused(&declared));
-    }
-    if let Ok(directive) = directive::<String>(rt.alloc(), 1, "if") {
-        assert!(rt; is_equal_or_refused(&directive));
-    }
-}
-
 /// Each kind of tree.
 const EVERY: &str = "{ a } query Q($v: Int = 1) @d { b } mutation M { c } subscription S { e } \
     { x: f(y: 2) @g { n } ... on U @h { i } ...G @j } fragment F on T { k } { l }";
