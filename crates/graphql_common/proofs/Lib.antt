@@ -21,3 +21,4 @@ pub mod Ordered
 pub mod ValuesBack
 pub mod DirectivesBack
 pub mod Margins
+pub mod Narrow

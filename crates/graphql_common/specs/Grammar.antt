@@ -43,6 +43,10 @@ directive_symbol = 9
 abbrev pub default_symbol : ℕ
 default_symbol = 10
 
+-- how many they are
+abbrev pub shared_symbols : ℕ
+shared_symbols = 11
+
 -- ---- single tokens
 
 abbrev pub mark : List ℕ → Class

@@ -9,4 +9,5 @@ pub mod Sorts
 pub mod LeafReading
 pub mod ValueLayout
 pub mod LayoutExamples
+pub mod MeaningExamples
 pub mod Lawful

@@ -6,7 +6,7 @@ use Rattle.std.specs.Str.{chars}
 use Rattle.graphql_core.specs.declared.tokenizer.token.Kind.TheVariants.{IntValue, FloatValue, StringValue, BlockString}
 use Rattle.graphql_core.specs.Lexical.{begins_quotes}
 use Rattle.graphql_core.specs.BlockStrings.{is_white, is_blank}
-use Rattle.graphql_core.specs.Style.{Layout, spaces}
+use Rattle.graphql_core.specs.Style.{Layout, default_style, spaces}
 use Rattle.graphql_core.specs.Parts.{Part, token, name, mark, gap, new_line}
 use Rattle.graphql_common.specs.Values.{ValueTree, variable, int, float, string, boolean, null, enum, list, object, ValueItems, no_items, item, ValueMembers, no_members, member, TypeTree, named, list_of, non_null, DirectiveTree}
 
@@ -65,7 +65,7 @@ abbrev pub begins_white : List ℕ → Bool
 begins_white [] = false
 begins_white (b ∷ bs) = is_white b
 
--- a text reads back from its block form
+-- a text is written in block form
 abbrev pub has_block_form : List ℕ → Bool
 has_block_form text =
     list_any (λ b. b == 10) text
@@ -209,6 +209,10 @@ abbrev pub directives_levels : Layout → List DirectiveTree → ℕ
 directives_levels style [] = 0
 directives_levels style (d ∷ ds) = max (arguments_levels style d.arguments) (directives_levels style ds)
 
--- the widest line's indentation passes `u32::MAX`
+-- so many levels take more than `u32::MAX` spaces, whether a line stands in the last of them or not
 abbrev pub IsTooWide : Layout → ℕ → Type 0
 IsTooWide style levels = 2 ^ 32 ≤ levels * style.indent
+
+-- so many levels are not too wide in the default style
+abbrev pub IsNarrow : ℕ → Type 0
+IsNarrow levels = IsTooWide default_style levels → ⊥

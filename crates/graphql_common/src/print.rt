@@ -13,9 +13,12 @@ mod width;
 
 pub use block::{has_block_form, write_block};
 pub use directives::{write_arguments, write_directive, write_directives};
+pub use laws::worked_layouts;
 pub use quotes::write_quoted;
 pub use spaces::{write_new_line, write_spaces};
 pub use strings::write_string;
 pub use types::write_type;
 pub use value::write_value;
-pub use width::{is_too_wide, levels_in_arguments, levels_in_directives, levels_in_value};
+pub use width::{
+    check_width, is_too_wide, levels_in_arguments, levels_in_directives, levels_in_value,
+};

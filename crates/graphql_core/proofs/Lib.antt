@@ -1,6 +1,7 @@
 pub mod Steps
 pub mod Spelled
 pub mod Cutting
+pub mod Ending
 pub mod Matches
 pub mod Holding
 pub mod Strings

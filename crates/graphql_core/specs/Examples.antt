@@ -1,10 +1,10 @@
 -- The items of some small texts, written out.
-use Rattle.std.specs.Prelude.{◌≡◌, ℕ, ◌+◌, Bool, true, false, List, [], ◌∷◌, ◌++◌, length, replicate, codes}
+use Rattle.std.specs.Prelude.{◌≡◌, ℕ, ◌+◌, true, List, [], ◌∷◌, ◌++◌, length, replicate, codes}
 use Rattle.std.specs.List.{list_all}
 use Rattle.graphql_core.specs.declared.tokenizer.token.Kind.TheVariants.{Punctuator, Name, IntValue, FloatValue, StringValue, BlockString}
 use Rattle.graphql_core.specs.declared.tokenizer.token.Kind.{Kind}
 use Rattle.graphql_core.specs.Causes.{CauseText, bad_character, bare_dot, bad_integer, bad_float, unterminated_string, unterminated_block_string, too_deep}
-use Rattle.graphql_core.specs.Items.{Item, item, Content, Lexeme, End, Wrong, HasItems}
+use Rattle.graphql_core.specs.Items.{Item, item, Content, Lexeme, End, Wrong, is_token, HasItems}
 
 -- an item on this line, in this column, behind this many bytes, opening and closing brackets
 abbrev at : Content → ℕ → ℕ → ℕ → ℕ → ℕ → Item
@@ -19,14 +19,9 @@ close_brace = Lexeme Punctuator (codes "}")
 abbrev name_a : Content
 name_a = Lexeme Name (codes "a")
 
-abbrev is_lexeme : Content → Bool
-is_lexeme (Lexeme k bytes) = true
-is_lexeme End = false
-is_lexeme (Wrong bad) = false
-
 -- the items of the text are so many tokens, and then this last item
 abbrev EndsAfter : List ℕ → ℕ → Item → Type 0
-EndsAfter text n last = (tokens : List Item) × (length tokens ≡ n) × (list_all (λ i. is_lexeme i.content) tokens ≡ true) × HasItems text (tokens ++ last ∷ [])
+EndsAfter text n last = (tokens : List Item) × (length tokens ≡ n) × (list_all (λ i. is_token i.content) tokens ≡ true) × HasItems text (tokens ++ last ∷ [])
 
 abbrev pub Empty : Type 0
 Empty = HasItems [] (at End 1 1 0 0 0 ∷ [])
@@ -50,7 +45,7 @@ abbrev pub ByteOrderMark : Type 0
 ByteOrderMark = HasItems (239 ∷ 187 ∷ 191 ∷ codes "{ a }")
     (at open_brace 1 1 3 0 0 ∷ at name_a 1 3 5 1 0 ∷ at close_brace 1 5 7 1 0 ∷ at End 1 6 8 1 1 ∷ [])
 
--- CR outside of comments takes no column and ends no line
+-- CR in ignored text, outside of comments, takes no column and ends no line
 abbrev pub ReturnAlone : Type 0
 ReturnAlone = HasItems (codes "{" ++ 13 ∷ codes "a }")
     (at open_brace 1 1 0 0 0 ∷ at name_a 1 2 2 1 0 ∷ at close_brace 1 4 4 1 0 ∷ at End 1 5 5 1 1 ∷ [])

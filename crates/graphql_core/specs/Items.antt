@@ -1,10 +1,10 @@
 -- The items of a text: its tokens in order, and then its end or its first bad place.
-use Rattle.std.specs.Prelude.{◌≡◌, ℕ, ◌+◌, Bool, true, false, ◌||◌, ◌==◌, if◌then◌else◌, List, [], ◌∷◌, length, take, slice_index, ℤ, pos}
+use Rattle.std.specs.Prelude.{◌≡◌, ℕ, ◌+◌, Bool, true, false, ◌||◌, ◌==◌, if◌then◌else◌, List, [], ◌∷◌, ◌++◌, length, take, slice_index, ℤ, pos}
 use Rattle.std.specs.Prelude.{◌-ℤ◌}
 use Rattle.std.specs.Str.{chars}
 use Rattle.graphql_core.specs.declared.position.Pos.{Pos}
 use Rattle.graphql_core.specs.declared.tokenizer.token.Kind.{Kind}
-use Rattle.std.specs.List.{prefix_len, list_any}
+use Rattle.std.specs.List.{prefix_len, list_all, list_any}
 use Rattle.std.specs.Char.{is_ascii_digit}
 use Rattle.graphql_core.specs.declared.tokenizer.piece.Move.{Move}
 use Rattle.graphql_core.specs.declared.tokenizer.piece.Move.TheVariants.{Stay, Over, Down}
@@ -126,6 +126,20 @@ piece_then (Word k t) more w bytes =
 unfoldable pub items_of : Where → List Piece → List ℕ → List Item
 items_of w [] stop = last_item w stop ∷ []
 items_of w (q ∷ qs) stop = piece_then q.meaning (λ v. items_of v qs stop) w q.bytes
+
+-- an item that is a token
+abbrev pub is_token : Content → Bool
+is_token (Lexeme k bytes) = true
+is_token End = false
+is_token (Wrong bad) = false
+
+-- tokens, and then exactly one item that is none
+pub record EndsOnce (items : List Item) : Type 0 where
+  pub tokens : List Item
+  pub last : Item
+  pub all : items ≡ tokens ++ last ∷ []
+  pub before : list_all (λ i. is_token i.content) tokens ≡ true
+  pub ends : is_token last.content ≡ false
 
 -- these are the items of the text
 abbrev pub HasItems : List ℕ → List Item → Type 0

@@ -1,4 +1,5 @@
--- The lexical grammar (GraphQL, October 2021, section 2.1): a text is made of pieces, one after another, each as long as can be.
+-- The lexical grammar (GraphQL, October 2021, section 2.1): a text is made of pieces, one after another.
+-- Each is as long as can be, but strings and block strings, which end at the first quotes that close them.
 use Rattle.std.specs.Prelude.{◌≡◌, ◌≢◌, ℕ, true, false, Bool, not, ◌&&◌, ◌||◌, ◌==◌, if◌then◌else◌, nat_le, List, [], ◌∷◌, ◌++◌, slice_index}
 use Rattle.std.specs.List.{list_all}
 use Rattle.std.specs.Char.{is_ascii_alphabetic, is_ascii_alphanumeric, is_ascii_digit}

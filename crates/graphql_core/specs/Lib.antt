@@ -6,6 +6,7 @@ pub mod Front
 pub mod Cut
 pub mod Stream
 pub mod Examples
+pub mod ValueExamples
 pub mod Joined
 pub mod Causes
 pub mod Source

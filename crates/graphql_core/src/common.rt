@@ -2,12 +2,14 @@
 
 mod cause;
 mod fault;
+mod laws;
 mod number;
 mod strings;
 mod text;
 
 pub use cause::{BadToken, Cause};
 pub use fault::Fault;
+pub use laws::{one_value, worked_values};
 pub use number::{FloatLiteral, Number};
 pub use strings::{UnquoteError, unquote_block_string, unquote_string};
 pub use text::{Names, Text};

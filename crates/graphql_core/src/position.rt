@@ -2,6 +2,9 @@
 ghost use Rattle.std.specs.Prelude.{ℕ, List, ◌++◌, Some, codes};
 ghost use Rattle.std.specs.Fmt.{decimal};
 
+mod laws;
+
+pub use laws::{are_same_position, compare_positions, default_position};
 use std::fmt;
 
 /// The place of a character: its line, and its column in that line, both from 1.
@@ -9,7 +12,8 @@ use std::fmt;
 pub struct Pos {
     /// One more than the line ends before the place.
     pub line: usize,
-    /// One more than the characters before the place in its line. A tab in ignored text counts 8.
+    /// One more than the columns of what stands before the place in its line: a character takes one, in ignored text a
+    /// tab takes 8, and CR and U+FEFF there take none.
     pub column: usize,
 }
 

@@ -1,7 +1,7 @@
 -- What a refusal says of the item at the index of a fault, and what follows of a text's faults.
 use Rattle.std.proofs.Common.{◌≡◌, ℕ, suc, ◌-◌, true, false, List, [], ◌∷◌, ◌++◌, length, take, drop, Option, Some, None, is_some, refl, sym, ap, subst, ◌∙◌, arith}
 use Rattle.std.proofs.lemmas.List.{drop_at}
-use Rattle.std.proofs.lemmas.Bool.{and_parts}
+use Rattle.std.proofs.lemmas.Bool.{and_parts, both_ways}
 use Rattle.std.proofs.lemmas.Bool.Decides.{nat_tests}
 use Rattle.graphql_grammar.specs.Tokens.{Token, Class, AnyOf, matches}
 use Rattle.graphql_grammar.specs.Trees.{Sym, Begins}
@@ -19,9 +19,12 @@ use Rattle.graphql_core.specs.Source.{Items, Last, End, Wrong, IsEnd, FaultText,
 use Rattle.graphql_core.specs.Causes.{CauseText, int_out_of_range, malformed_float, bad_escape}
 use Rattle.graphql_core.specs.Items.{Item}
 use Rattle.graphql_core.proofs.Cutting.{items_unique}
+use Rattle.graphql_core.proofs.FloatLiterals.{literal_is_float}
 use Rattle.graphql_common.specs.Grammar.{any}
 use Rattle.graphql_common.specs.Leaves.{is_good, unquoted, without_ends}
 use Rattle.graphql_common.specs.Gives.{reason_by, fault_for}
+use Rattle.graphql_common.proofs.StringValues.{has_unquoted}
+use Rattle.graphql_common.proofs.LeafValues.{in_range, whole_exponent, in_quotes}
 use Rattle.graphql_query.specs.Tree.{DocumentTree}
 use Rattle.graphql_query.specs.Grammar.{query, reading, tables, document_symbol}
 use Rattle.graphql_query.specs.Document.{IsDocument, HasNoFault}
@@ -53,13 +56,16 @@ abbrev Lacks : Class → CauseText → Type 0
 Lacks c k = (t : Token) → matches c t ≡ true → is_good c t ≡ false → HasNoValue t k
 
 no_integer : Lacks (any IntValue) int_out_of_range
-no_integer t m h = out_of_range (kind_is _ t m) h
+no_integer t m h = out_of_range (kind_is _ t m) (λ fits. both_ways _ h ((in_range t.spelling).1 fits))
 
 no_float : Lacks (any FloatValue) malformed_float
-no_float t m h = malformed (kind_is _ t m) h
+no_float t m h = malformed (kind_is _ t m) (λ literal. both_ways _ h ((whole_exponent t.spelling (literal_is_float t.spelling literal)).1 literal))
 
 no_string : Lacks (any StringValue) bad_escape
-no_string t m h = escaped_badly (kind_is _ t m) (none_there (unquoted (without_ends 1 t.spelling)) h)
+no_string t m h = escaped_badly (kind_is _ t m) (λ body is v value.
+    let there : unquoted (without_ends 1 t.spelling) ≡ Some v = ap unquoted (in_quotes t.spelling body is) ∙ (has_unquoted body v).1 value in
+    let none = none_there (unquoted (without_ends 1 t.spelling)) h in
+    cc)
 
 one_cause : (t : Token) (c d : CauseText) → HasNoValue t c → HasNoValue t d → c ≡ d
 one_cause t c d (out_of_range e r) (out_of_range f s) = refl

@@ -12,24 +12,24 @@ use Rattle.graphql_grammar.proofs.Taken.{takes-fits, takes-leaves}
 use Rattle.graphql_core.specs.declared.common.fault.Fault.{Fault}
 use Rattle.graphql_core.specs.Source.{Items, Last, fault_by, place_next}
 use Rattle.graphql_common.specs.Gives.{Gives, reason_of}
-use Rattle.graphql_common.specs.Grammar.{core}
+use Rattle.graphql_common.specs.Grammar.{core, shared_symbols}
 use Rattle.graphql_query.specs.Grammar.{query, second_rows, changes, reading}
 use Rattle.graphql_query.specs.Meanings.{first_place}
 use Rattle.graphql_query.specs.Reads.{Reads}
 use Rattle.graphql_query.proofs.Readable.{each, read_alike, goes_on, alone}
 
-pub takes_lifted : (e : Expr) → is_below 11 e ≡ true → (ts us : List Token) (x : Shape) → Takes core e ts x us → Takes reading e ts x us
-takes_lifted e b ts us x h = (reads_on 11 core reading goes_on e b (read_alike e)).takes ts us x h
+pub takes_lifted : (e : Expr) → is_below shared_symbols e ≡ true → (ts us : List Token) (x : Shape) → Takes core e ts x us → Takes reading e ts x us
+takes_lifted e b ts us x h = (reads_on shared_symbols core reading goes_on e b (read_alike e)).takes ts us x h
 
-pub stops_lifted : (e : Expr) → is_below 11 e ≡ true → (ts us : List Token) (o : Option Reason) → Stops core e ts us o → Stops reading e ts us o
+pub stops_lifted : (e : Expr) → is_below shared_symbols e ≡ true → (ts us : List Token) (o : Option Reason) → Stops core e ts us o → Stops reading e ts us o
 stops_lifted e b ts us None h = tt
-stops_lifted e b ts us (Some why) h = (reads_on 11 core reading goes_on e b (read_alike e)).fails ts us why h
+stops_lifted e b ts us (Some why) h = (reads_on shared_symbols core reading goes_on e b (read_alike e)).fails ts us why h
 
 -- its shape is its own written shape
-pub some_lifted : (e : Expr) → is_below 11 e ≡ true → (ts us : List Token) (P : Shape → Type 0) → TakesSome core e ts us P → TakesSome reading e ts us (λ x. P (written changes x))
-some_lifted e b ts us P (x, h, p) = (x, takes_lifted e b ts us x h, subst P (sym (left_alone 11 core changes alone (takes-fits core h) b)) p)
+pub some_lifted : (e : Expr) → is_below shared_symbols e ≡ true → (ts us : List Token) (P : Shape → Type 0) → TakesSome core e ts us P → TakesSome reading e ts us (λ x. P (written changes x))
+some_lifted e b ts us P (x, h, p) = (x, takes_lifted e b ts us x h, subst P (sym (left_alone shared_symbols core changes alone (takes-fits core h) b)) p)
 
-pub lifted : {A : Type 0} (e : Expr) → is_below 11 e ≡ true → (old new : Items) (P : A → Shape → Type 0) (r : Result A Fault) → Gives core e old new P r → Reads e old new P r
+pub lifted : {A : Type 0} (e : Expr) → is_below shared_symbols e ≡ true → (old new : Items) (P : A → Shape → Type 0) (r : Result A Fault) → Gives core e old new P r → Reads e old new P r
 lifted e b old new P (Ok v) h = some_lifted e b old.tokens new.tokens (P v) h
 lifted e b old new P (Err d) h = stops_lifted e b old.tokens new.tokens (reason_of new d) h
 

@@ -8,7 +8,7 @@ use Rattle.graphql_grammar.specs.Extended.{is_below}
 use Rattle.graphql_core.specs.Lexical.{IsName}
 use Rattle.graphql_core.proofs.Nested.{Nests, Anything, nests, nests_tree}
 use Rattle.graphql_core.proofs.Room.{HasRoom, room_nothing, room_leaf, room_both, room_first, room_second, room_stop, room_more, room_node, has_room, room_back, all_turns}
-use Rattle.graphql_common.specs.Grammar.{core, name, default_symbol}
+use Rattle.graphql_common.specs.Grammar.{core, name, default_symbol, shared_symbols}
 use Rattle.graphql_common.specs.Printable.{IsPrintableDefault, value_brackets}
 use Rattle.graphql_common.proofs.Leaves.{leaf_name, leaf_except}
 use Rattle.graphql_common.proofs.Printable.{Within, all_within, optional_arguments_printable, directives_printable, type_printable, default_printable}
@@ -21,8 +21,8 @@ use Rattle.graphql_query.specs.Printable.{IsPrintable, IsPrintableSelection, IsP
 
 -- ---- the symbols that are shared
 
-shared : {n : ℕ} {e : Expr} {x : Shape} → HasRoom query n e x → is_below 11 e ≡ true → HasRoom core n e x
-shared {e = e} f b = room_back 11 core query written_goes_on f b (tested_alike e)
+shared : {n : ℕ} {e : Expr} {x : Shape} → HasRoom query n e x → is_below shared_symbols e ≡ true → HasRoom core n e x
+shared {e = e} f b = room_back shared_symbols core query written_goes_on f b (tested_alike e)
 
 -- ---- selections
 

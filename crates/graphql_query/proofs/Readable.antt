@@ -3,14 +3,15 @@ use Rattle.std.proofs.Common.{◌≡◌, Bool, true, refl}
 use Rattle.graphql_grammar.specs.Tokens.{Token, Class}
 use Rattle.graphql_grammar.specs.Trees.{Expr, Sym, Grammar, row_at}
 use Rattle.graphql_grammar.specs.Tables.{is_ll1, is_tight, is_productive}
-use Rattle.graphql_grammar.specs.Factored.{IsSecond, EachIsSecond, unchanged, IsExactFor}
+use Rattle.graphql_grammar.specs.Reading.{lax}
+use Rattle.graphql_grammar.specs.Factored.{IsSecond, EachIsSecond, unchanged, with_rows, IsExactFor}
 use Rattle.graphql_grammar.specs.Texts.{IsWholeFor}
 use Rattle.graphql_grammar.specs.Faults.{AnswersLeast, RefusesTokens}
 use Rattle.graphql_grammar.specs.Extended.{Extends, TestsAlike, LeavesAlone}
 use Rattle.graphql_grammar.proofs.Carried.{each_is_second, exact_for, whole_for, IsSecond-unchanged, IsSecond-second, IsSecond-symbols, IsSecond-prefix}
 use Rattle.graphql_grammar.proofs.FaultedFor.{least_for}
 use Rattle.graphql_grammar.proofs.Extending.{tests_alike, with_more, alone_before}
-use Rattle.graphql_common.specs.Grammar.{core, tables as core_tables, name}
+use Rattle.graphql_common.specs.Grammar.{core, tables as core_tables, name, shared_symbols}
 use Rattle.graphql_common.specs.Leaves.{unquoted}
 use Rattle.graphql_query.specs.Grammar.{query, second_rows, changes, reading, tables, samples, document_symbol, spread_symbol, inline_symbol, alias_symbol, spread_rest, inline_rest, field_rest}
 
@@ -25,6 +26,10 @@ tight = refl
 pub productive : is_productive reading ≡ true
 unfolding tables core_tables unquoted
 productive = refl
+
+productive_lax : is_productive (with_rows (lax query) second_rows changes) ≡ true
+unfolding tables core_tables unquoted
+productive_lax = refl
 
 -- the written grammar with other leaf tests
 abbrev tested : (Class → Token → Bool) → Grammar
@@ -103,6 +108,11 @@ pub exact : IsExactFor query second_rows changes (Sym document_symbol)
 unfolding tables
 exact = exact_for query second_rows changes (each query.good) (each query.good) (each (λ c t. true)) ll1 productive (Sym document_symbol) refl refl
 
+-- the same, whatever values the leaves have
+pub exact_lax : IsExactFor (lax query) second_rows changes (Sym document_symbol)
+unfolding tables
+exact_lax = exact_for (lax query) second_rows changes (each (λ c t. true)) (each (λ c t. true)) (each (λ c t. true)) ll1 productive_lax (Sym document_symbol) refl refl
+
 pub whole : IsWholeFor query second_rows changes (Sym document_symbol)
 unfolding tables
 whole = whole_for query second_rows changes (each query.good) (each query.good) (each (λ c t. true)) ll1 productive (Sym document_symbol) refl refl
@@ -122,11 +132,11 @@ tested_alike e = tests_alike core query (λ c t. refl) e
 pub read_alike : (e : Expr) → TestsAlike core reading e
 read_alike e = tests_alike core reading (λ c t. refl) e
 
-pub written_goes_on : Extends 11 core query
+pub written_goes_on : Extends shared_symbols core query
 written_goes_on = with_more core _ core.good (λ k x. true) samples refl (λ k h. tested_alike (row_at core.rows k).rule) (λ k x h. refl)
 
-pub goes_on : Extends 11 core reading
+pub goes_on : Extends shared_symbols core reading
 goes_on = with_more core _ core.good (λ k x. true) samples refl (λ k h. read_alike (row_at core.rows k).rule) (λ k x h. refl)
 
-pub alone : LeavesAlone 11 core changes
+pub alone : LeavesAlone shared_symbols core changes
 alone = alone_before core _ refl

@@ -11,7 +11,7 @@ use Rattle.graphql_core.specs.Style.{Layout}
 use Rattle.graphql_core.specs.Parts.{Part, name, mark, gap}
 use Rattle.graphql_common.specs.Values.{ValueTree, DirectiveTree, no_place, erase_all}
 use Rattle.graphql_common.specs.ValueLayout.{arguments_layout, directives_layout}
-use Rattle.graphql_common.specs.Grammar.{core, arguments_symbol, directives_symbol, default_symbol, name as a_name}
+use Rattle.graphql_common.specs.Grammar.{core, arguments_symbol, directives_symbol, default_symbol, shared_symbols, name as a_name}
 use Rattle.graphql_common.specs.Meanings.{place_at, spelling_at, optional_arguments_of, directives_of}
 use Rattle.graphql_common.specs.Printable.{IsNameBut, IsPrintableArgument, IsPrintableDirective, IsPrintableDefault, most, arguments_brackets, directives_brackets, value_brackets}
 use Rattle.graphql_query.specs.Tree.{SelectionTree, field, spread, inline, SetTree, set, SelectionTrees, none, more, OperationKind, query_kind, mutation_kind, subscription_kind, VariableTree, OperationTree, DefinitionTree, short, operation, fragment, DocumentTree, erase_selection, erase_set, erase_selections, erase_variable, erase_operation, erase_definition, erase}
@@ -30,7 +30,7 @@ use Rattle.graphql_query.proofs.Readable.{tested_alike, written_goes_on}
 use Rattle.graphql_common.proofs.DirectivesBack.{arguments_back, directives_back, default_back}
 
 -- what is shared is read back in queries too
-shared : {e : Expr} {p q : Bool} {d f : ℕ} {ps : List Part} {R : Shape → Type 0} → is_below 11 e ≡ true → Back core e p d ps q f R → Back query e p d ps q f R
+shared : {e : Expr} {p q : Bool} {d f : ℕ} {ps : List Part} {R : Shape → Type 0} → is_below shared_symbols e ≡ true → Back core e p d ps q f R → Back query e p d ps q f R
 shared {e} below b = lift_back written_goes_on below (tested_alike e) b
 
 -- any name

@@ -27,7 +27,7 @@ use Rattle.graphql_query.specs.Faults.{ending_of, text_of, IsLeastFault, IsLeast
 use Rattle.graphql_query.specs.Document.{IsDocument, IsDocumentOf, IsRefusalOf, AnswersUnlessMemory, ran_out, faulty, HasOneShape, max_length}
 use Rattle.graphql_query.specs.Refusal.{Refusal, refusal_of}
 use Rattle.graphql_common.proofs.Reading.{unexpected_by}
-use Rattle.graphql_query.proofs.Readable.{exact, whole, least}
+use Rattle.graphql_query.proofs.Readable.{exact, exact_lax, whole, least}
 use Rattle.graphql_query.proofs.Faults.{exact_reading, whole_reading, ends, least_by}
 
 -- the answer to i is a fault at its item where j is left
@@ -121,7 +121,7 @@ one_document i d e (x, derived, at_end, means) (y, derived', at_end', means') = 
 -- ---- of texts
 
 pub one_shape : (text : List ℕ) → HasOneShape text
-one_shape text items x y h = exact.unambiguous (split items).tokens x y
+one_shape text items x y h = exact_lax.unambiguous (split items).tokens x y
 
 -- these are the items of the text
 abbrev pub AreItems : List ℕ → Items → Type 0

@@ -1,6 +1,7 @@
 -- What a text's document is, and what is said of a text that has none.
 use Rattle.std.specs.Prelude.{◌≡◌, ◌≤◌, ◌<◌, ◌^◌, ◌/◌, ◌-◌, ℕ, List, length, Result, Ok, Err}
 use Rattle.graphql_grammar.specs.Trees.{Shape, Sym, Derives}
+use Rattle.graphql_grammar.specs.Reading.{lax}
 use Rattle.graphql_core.specs.Items.{Item, HasItems}
 use Rattle.graphql_core.specs.Source.{Items, IsEnd, split, FaultText}
 use Rattle.graphql_query.specs.Refusal.{Refusal, at, no_memory, too_long}
@@ -44,7 +45,7 @@ abbrev pub AnswersUnlessMemory : {D : Type 0} → (D → DocumentTree) → Docum
 AnswersUnlessMemory view d (Ok v) = view v ≡ d
 AnswersUnlessMemory view d (Err e) = e ≡ no_memory
 
--- the list of tokens of a text has at most one shape
+-- the list of tokens of a text has at most one shape, also where integers, floats and strings without a value are let through
 abbrev pub HasOneShape : List ℕ → Type 0
 HasOneShape text = (items : List Item) (x y : Shape) → HasItems text items
-    → Derives query (Sym document_symbol) (split items).tokens x → Derives query (Sym document_symbol) (split items).tokens y → x ≡ y
+    → Derives (lax query) (Sym document_symbol) (split items).tokens x → Derives (lax query) (Sym document_symbol) (split items).tokens y → x ≡ y

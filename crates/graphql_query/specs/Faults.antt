@@ -1,5 +1,7 @@
 -- The faults of a text that is no query document, each with its index and what a refusal says of it.
-use Rattle.std.specs.Prelude.{◌≡◌, ◌≤◌, ℕ, zero, suc, false, List, [], ◌∷◌, ◌++◌, length, take, drop, None}
+use Rattle.std.specs.Prelude.{◌≡◌, ◌≤◌, ℕ, zero, suc, List, [], ◌∷◌, ◌++◌, length, take, drop}
+use Rattle.std.specs.Int.RustNames.{FitsSigned}
+use mir.Syntax.{w64}
 use Rattle.graphql_grammar.specs.Tokens.{Token}
 use Rattle.graphql_grammar.specs.Trees.{Sym, Begins}
 use Rattle.graphql_grammar.specs.Reading.{Reason, Unexpected, Improper, Refused, lax}
@@ -11,7 +13,10 @@ use Rattle.graphql_core.specs.declared.tokenizer.token.Kind.TheVariants.{IntValu
 use Rattle.graphql_core.specs.Items.{Item, HasItems}
 use Rattle.graphql_core.specs.Causes.{CauseText, cause_text, kind_number, int_out_of_range, malformed_float, bad_escape}
 use Rattle.graphql_core.specs.Source.{Items, Last, End, Wrong, split, place_of, fault_by, fault_at, FaultText}
-use Rattle.graphql_common.specs.Leaves.{is_in_range, has_whole_exponent, unquoted, without_ends}
+use Rattle.graphql_core.specs.Literals.{IsFloatLiteral}
+use Rattle.graphql_core.specs.Strings as strings
+use Rattle.graphql_core.specs.Strings.{IsInQuotes}
+use Rattle.graphql_common.specs.Leaves.{int_of}
 use Rattle.graphql_query.specs.Grammar.{query, document_symbol}
 
 -- ---- what a refusal says
@@ -27,11 +32,11 @@ text_of i = record { tokens = i.tokens; ending = ending_of i.last }
 -- a token has no value, for this cause
 pub data HasNoValue : Token → CauseText → Type 0 where
   -- an integer that is no `i64`
-  out_of_range : {t : Token} → t.kind ≡ kind_number IntValue → is_in_range t.spelling ≡ false → HasNoValue t int_out_of_range
+  out_of_range : {t : Token} → t.kind ≡ kind_number IntValue → (FitsSigned w64 (int_of t.spelling) → ⊥) → HasNoValue t int_out_of_range
   -- a float whose exponent has no digit
-  malformed : {t : Token} → t.kind ≡ kind_number FloatValue → has_whole_exponent t.spelling ≡ false → HasNoValue t malformed_float
-  -- a string with a bad escape
-  escaped_badly : {t : Token} → t.kind ≡ kind_number StringValue → unquoted (without_ends 1 t.spelling) ≡ None → HasNoValue t bad_escape
+  malformed : {t : Token} → t.kind ≡ kind_number FloatValue → (IsFloatLiteral t.spelling → ⊥) → HasNoValue t malformed_float
+  -- a string with a bad escape: what stands between its quotes has no value
+  escaped_badly : {t : Token} → t.kind ≡ kind_number StringValue → ((body : List ℕ) → IsInQuotes t.spelling body → strings.HasNoValue body) → HasNoValue t bad_escape
 
 -- the items from the n-th on; they are numbered from 1
 abbrev pub from_item : ℕ → Items → Items

@@ -8,12 +8,12 @@ use Rattle.graphql_core.specs.Causes.{kind_number}
 use Rattle.graphql_core.specs.declared.tokenizer.token.Kind.TheVariants.{Punctuator, Name}
 use Rattle.graphql_common.specs.Leaves.{is_good}
 use Rattle.graphql_common.specs.Grammar as core
-use Rattle.graphql_common.specs.Grammar.{type_symbol, arguments_symbol, directives_symbol, default_symbol, punctuator, word, name, sample}
+use Rattle.graphql_common.specs.Grammar.{type_symbol, arguments_symbol, directives_symbol, default_symbol, shared_symbols, punctuator, word, name, sample}
 
 -- ---- the symbols, after those of values, types and directives
 
 abbrev pub document_symbol : ℕ
-document_symbol = 11
+document_symbol = shared_symbols
 
 abbrev pub definition_symbol : ℕ
 definition_symbol = 12
@@ -170,7 +170,7 @@ second_rules =
     ∷ alias_rule ∷ spread_rule ∷ spread_name_rule ∷ inline_rule ∷ condition_rule ∷ fragment_rule ∷ []
 
 unfoldable pub tables : List Row
-tables = drop 11 (solve matches samples 9 (core.rules ++ second_rules))
+tables = drop shared_symbols (solve matches samples 9 (core.rules ++ second_rules))
 
 abbrev pub second_rows : List Row
 second_rows = core.rows ++ with_tables second_rules tables

@@ -157,6 +157,6 @@ abbrev pub levels : Layout → DocumentTree → ℕ
 levels style [] = 0
 levels style (d ∷ ds) = max (definition_levels style d) (levels style ds)
 
--- the widest line's indentation passes `u32::MAX`
+-- the levels that are open at once take more than `u32::MAX` spaces, whether a line stands in the last of them or not
 abbrev pub IsTooWide : Layout → DocumentTree → Type 0
 IsTooWide style d = values.IsTooWide style (levels style d)

@@ -22,8 +22,8 @@ use std::alloc::Global;
 impl<N: Names> Document<N> {
     /// The text of the document in a style.
     ///
-    /// `TooWide` where the deepest line would be indented by more than `u32::MAX` spaces, which is
-    /// decided before any memory is taken; `OutOfMemory` where memory runs out.
+    /// `TooWide` where the levels that are open at once take more than `u32::MAX` spaces, which is decided before any
+    /// memory is taken; `OutOfMemory` where memory runs out.
     pub fn format(&self, alloc: Global, style: &Style) -> Result<String, FormatError>
         ensures text { IfOk result (λ text. string_bytes text ≡ layout style.now (document_view N.bytes self.now)) }
         // What can be printed is read back, but for positions.

@@ -1,5 +1,5 @@
 //! How many levels a layout opens at once, and whether it is too wide.
-ghost use Rattle.std.specs.Prelude.{◌≡◌, ◌-◌, ◌^◌, ◌↔◌, ℕ, IsTrue, min};
+ghost use Rattle.std.specs.Prelude.{◌≡◌, ◌-◌, ◌^◌, ◌↔◌, ℕ, IsTrue, min, OnOk};
 ghost use Rattle.graphql_common.specs.Lawful.{IsLawful, AreLawful, AreLawfulArguments, AreLawfulDirectives};
 ghost use Rattle.graphql_common.specs.Values.{int, float, list, object};
 ghost use Rattle.graphql_common.specs.ValueViews.{value_view, items_view, members_view, arguments_view, directives_view};
@@ -10,6 +10,7 @@ use crate::tree::{Directive, Value};
 use graphql_core::common::{FloatLiteral, Names, Number};
 use graphql_core::format::Style;
 use std::collections::BTreeMap;
+use std::fmt;
 
 /// The levels of some parts, and the one that they stand in, as far as a `usize` counts.
 fn levels_around(style: &Style, levels: usize) -> usize
@@ -114,10 +115,19 @@ pub fn levels_in_directives<N: Names>(directives: &Vec<Directive<N>>, style: &St
     most
 }
 
-/// Whether the deepest line would be indented by more than `u32::MAX` spaces, where so many levels
-/// are open at once.
+/// Whether so many levels, open at once, take more than `u32::MAX` spaces.
 pub fn is_too_wide(levels: usize, style: &Style) -> bool
     ensures { (n : ℕ) → levels ≡ min n (2 ^ 64 - 1) → IsTrue result ↔ IsTooWide style.now n }
 {
     levels.saturating_mul(style.indentation() as usize) > u32::MAX as usize
+}
+
+/// The fault of a formatter where so many levels are too wide.
+pub fn check_width(levels: usize, style: &Style) -> fmt::Result
+    ensures { (n : ℕ) → levels ≡ min n (2 ^ 64 - 1) → OnOk result (IsTooWide style.now n → ⊥) }
+{
+    if is_too_wide(levels, style) {
+        return Err(fmt::Error);
+    }
+    Ok(())
 }

@@ -32,10 +32,10 @@ pub enum BadToken {
     /// A dot without two more behind it.
     #[error("bare dot '.' is not supported, only \"...\"")]
     BareDot,
-    /// A run that begins like a whole number and is none.
+    /// A run that begins with a minus sign or a digit, has no `.`, `e` or `E`, and is no integer.
     #[error("unsupported integer \"{0}\"")]
     Integer(String),
-    /// A run that begins like a number with a fraction or an exponent and is none.
+    /// A run that begins with a minus sign or a digit, has a `.`, `e` or `E` somewhere, and is no float.
     #[error("unsupported float \"{0}\"")]
     Float(String),
     /// A string without its closing quote in its line.

@@ -1,12 +1,13 @@
 //! Laws of the definitions alone.
 ghost use Rattle.std.specs.Prelude.{◌≡◌, ℕ, List};
 ghost use Rattle.graphql_core.specs.Examples as example;
-ghost use Rattle.graphql_core.specs.Items.{Item, HasItems};
+ghost use Rattle.graphql_core.specs.Items.{Item, HasItems, EndsOnce};
 
-/// Each text has exactly one list of items.
+/// Each text has exactly one list of items: tokens, and then one last item.
 pub fn one_list_of_items()
     ensures some { (text : List ℕ) → (items : List Item) × HasItems text items }
     ensures one { (text : List ℕ) (items others : List Item) → HasItems text items → HasItems text others → items ≡ others }
+    ensures last { (text : List ℕ) (items : List Item) → HasItems text items → EndsOnce items }
 {}
 
 /// The items of some small texts.

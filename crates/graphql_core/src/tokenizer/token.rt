@@ -43,9 +43,9 @@ pub enum Bad<'a> {
     Character(char),
     /// A dot without two more behind it.
     BareDot,
-    /// A run that begins like a whole number and is none.
+    /// A run that begins with a minus sign or a digit, has no `.`, `e` or `E`, and is no integer.
     Integer(&'a str),
-    /// A run that begins like a number with a fraction or an exponent and is none.
+    /// A run that begins with a minus sign or a digit, has a `.`, `e` or `E` somewhere, and is no float.
     Float(&'a str),
     /// A string without its closing quote in its line.
     UnterminatedString,

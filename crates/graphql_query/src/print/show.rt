@@ -1,10 +1,13 @@
 //! Display of the trees: the text in the default style, unless that is too wide.
-ghost use Rattle.std.specs.Prelude.{Some};
+ghost use Rattle.std.specs.Prelude.{Some, None, OnOk};
+ghost use Rattle.std.specs.Fmt.{DisplaysOnOk, DisplaysStyledOnOk};
 ghost use Rattle.graphql_core.specs.Style.{default_style};
 ghost use Rattle.graphql_core.specs.Parts.{text_of};
+ghost use Rattle.graphql_common.specs.ValueLayout.{IsNarrow};
 ghost use Rattle.graphql_query.specs.Tree.{spread_view, field_view, inline_view, set_view, condition_view, variable_view};
 ghost use Rattle.graphql_query.specs.Tree.{query_view, mutation_view, subscription_view, fragment_view, operation_view, definition_view, document_view};
 ghost use Rattle.graphql_query.specs.Layout.{selection_layout, set_layout, condition_layout, variable_layout, operation_layout, fragment_layout, definition_layout, layout};
+ghost use Rattle.graphql_query.specs.Layout.{selection_levels, set_levels, variable_levels, operation_levels, fragment_levels, definition_levels, levels};
 
 use crate::print::definitions::{
     write_definition, write_document, write_fragment, write_operation_definition,
@@ -22,7 +25,7 @@ use crate::tree::{
     Definition, Document, Field, FragmentDefinition, FragmentSpread, InlineFragment, Mutation,
     OperationDefinition, Query, SelectionSet, Subscription, TypeCondition, VariableDefinition,
 };
-use graphql_common::print::is_too_wide;
+use graphql_common::print::check_width;
 use graphql_core::common::Names;
 use graphql_core::format::Style;
 use std::fmt;
@@ -30,11 +33,13 @@ use std::fmt;
 impl<N: Names> fmt::Display for Document<N> {
     ghost output = { λ t. Some (layout default_style (document_view N.bytes t)) };
 
-    fn fmt<W: fmt::Write>(&self, f: &mut fmt::Formatter<W>) -> fmt::Result {
+    fn fmt<W: fmt::Write>(&self, f: &mut fmt::Formatter<W>) -> fmt::Result
+        ensures writes { DisplaysOnOk W.write_str_gives f.old result (Some (layout default_style (document_view N.bytes self.now))) f.new }
+        ensures styled { DisplaysStyledOnOk W.write_str_gives f.old result None f.new }
+        ensures narrow { OnOk result (IsNarrow (levels default_style (document_view N.bytes self.now))) }
+    {
         let style = Style::default();
-        if is_too_wide(levels_in_document(self, &style), &style) {
-            return Err(fmt::Error);
-        }
+        check_width(levels_in_document(self, &style), &style)?;
         write_document(f, self, &style)
     }
 }
@@ -42,11 +47,13 @@ impl<N: Names> fmt::Display for Document<N> {
 impl<N: Names> fmt::Display for Definition<N> {
     ghost output = { λ t. Some (text_of (definition_layout default_style (definition_view N.bytes t))) };
 
-    fn fmt<W: fmt::Write>(&self, f: &mut fmt::Formatter<W>) -> fmt::Result {
+    fn fmt<W: fmt::Write>(&self, f: &mut fmt::Formatter<W>) -> fmt::Result
+        ensures writes { DisplaysOnOk W.write_str_gives f.old result (Some (text_of (definition_layout default_style (definition_view N.bytes self.now)))) f.new }
+        ensures styled { DisplaysStyledOnOk W.write_str_gives f.old result None f.new }
+        ensures narrow { OnOk result (IsNarrow (definition_levels default_style (definition_view N.bytes self.now))) }
+    {
         let style = Style::default();
-        if is_too_wide(levels_in_definition(self, &style), &style) {
-            return Err(fmt::Error);
-        }
+        check_width(levels_in_definition(self, &style), &style)?;
         write_definition(f, self, &style)
     }
 }
@@ -54,11 +61,13 @@ impl<N: Names> fmt::Display for Definition<N> {
 impl<N: Names> fmt::Display for OperationDefinition<N> {
     ghost output = { λ t. Some (text_of (definition_layout default_style (operation_view N.bytes t))) };
 
-    fn fmt<W: fmt::Write>(&self, f: &mut fmt::Formatter<W>) -> fmt::Result {
+    fn fmt<W: fmt::Write>(&self, f: &mut fmt::Formatter<W>) -> fmt::Result
+        ensures writes { DisplaysOnOk W.write_str_gives f.old result (Some (text_of (definition_layout default_style (operation_view N.bytes self.now)))) f.new }
+        ensures styled { DisplaysStyledOnOk W.write_str_gives f.old result None f.new }
+        ensures narrow { OnOk result (IsNarrow (definition_levels default_style (operation_view N.bytes self.now))) }
+    {
         let style = Style::default();
-        if is_too_wide(levels_in_operation_definition(self, &style), &style) {
-            return Err(fmt::Error);
-        }
+        check_width(levels_in_operation_definition(self, &style), &style)?;
         write_operation_definition(f, self, &style)
     }
 }
@@ -66,11 +75,13 @@ impl<N: Names> fmt::Display for OperationDefinition<N> {
 impl<N: Names> fmt::Display for FragmentDefinition<N> {
     ghost output = { λ t. Some (text_of (fragment_layout default_style (fragment_view N.bytes t))) };
 
-    fn fmt<W: fmt::Write>(&self, f: &mut fmt::Formatter<W>) -> fmt::Result {
+    fn fmt<W: fmt::Write>(&self, f: &mut fmt::Formatter<W>) -> fmt::Result
+        ensures writes { DisplaysOnOk W.write_str_gives f.old result (Some (text_of (fragment_layout default_style (fragment_view N.bytes self.now)))) f.new }
+        ensures styled { DisplaysStyledOnOk W.write_str_gives f.old result None f.new }
+        ensures narrow { OnOk result (IsNarrow (fragment_levels default_style (fragment_view N.bytes self.now))) }
+    {
         let style = Style::default();
-        if is_too_wide(levels_in_fragment(self, &style), &style) {
-            return Err(fmt::Error);
-        }
+        check_width(levels_in_fragment(self, &style), &style)?;
         write_fragment(f, self, &style)
     }
 }
@@ -78,19 +89,19 @@ impl<N: Names> fmt::Display for FragmentDefinition<N> {
 impl<N: Names> fmt::Display for Query<N> {
     ghost output = { λ t. Some (text_of (operation_layout default_style (query_view N.bytes t))) };
 
-    fn fmt<W: fmt::Write>(&self, f: &mut fmt::Formatter<W>) -> fmt::Result {
+    fn fmt<W: fmt::Write>(&self, f: &mut fmt::Formatter<W>) -> fmt::Result
+        ensures writes { DisplaysOnOk W.write_str_gives f.old result (Some (text_of (operation_layout default_style (query_view N.bytes self.now)))) f.new }
+        ensures styled { DisplaysStyledOnOk W.write_str_gives f.old result None f.new }
+        ensures narrow { OnOk result (IsNarrow (operation_levels default_style (query_view N.bytes self.now))) }
+    {
         let style = Style::default();
-        if is_too_wide(
-            levels_in_operation(
-                &self.variable_definitions,
-                &self.directives,
-                &self.selection_set,
-                &style,
-            ),
+        let levels = levels_in_operation(
+            &self.variable_definitions,
+            &self.directives,
+            &self.selection_set,
             &style,
-        ) {
-            return Err(fmt::Error);
-        }
+        );
+        check_width(levels, &style)?;
         write_query(f, self, &style)
     }
 }
@@ -98,19 +109,19 @@ impl<N: Names> fmt::Display for Query<N> {
 impl<N: Names> fmt::Display for Mutation<N> {
     ghost output = { λ t. Some (text_of (operation_layout default_style (mutation_view N.bytes t))) };
 
-    fn fmt<W: fmt::Write>(&self, f: &mut fmt::Formatter<W>) -> fmt::Result {
+    fn fmt<W: fmt::Write>(&self, f: &mut fmt::Formatter<W>) -> fmt::Result
+        ensures writes { DisplaysOnOk W.write_str_gives f.old result (Some (text_of (operation_layout default_style (mutation_view N.bytes self.now)))) f.new }
+        ensures styled { DisplaysStyledOnOk W.write_str_gives f.old result None f.new }
+        ensures narrow { OnOk result (IsNarrow (operation_levels default_style (mutation_view N.bytes self.now))) }
+    {
         let style = Style::default();
-        if is_too_wide(
-            levels_in_operation(
-                &self.variable_definitions,
-                &self.directives,
-                &self.selection_set,
-                &style,
-            ),
+        let levels = levels_in_operation(
+            &self.variable_definitions,
+            &self.directives,
+            &self.selection_set,
             &style,
-        ) {
-            return Err(fmt::Error);
-        }
+        );
+        check_width(levels, &style)?;
         write_mutation(f, self, &style)
     }
 }
@@ -118,19 +129,19 @@ impl<N: Names> fmt::Display for Mutation<N> {
 impl<N: Names> fmt::Display for Subscription<N> {
     ghost output = { λ t. Some (text_of (operation_layout default_style (subscription_view N.bytes t))) };
 
-    fn fmt<W: fmt::Write>(&self, f: &mut fmt::Formatter<W>) -> fmt::Result {
+    fn fmt<W: fmt::Write>(&self, f: &mut fmt::Formatter<W>) -> fmt::Result
+        ensures writes { DisplaysOnOk W.write_str_gives f.old result (Some (text_of (operation_layout default_style (subscription_view N.bytes self.now)))) f.new }
+        ensures styled { DisplaysStyledOnOk W.write_str_gives f.old result None f.new }
+        ensures narrow { OnOk result (IsNarrow (operation_levels default_style (subscription_view N.bytes self.now))) }
+    {
         let style = Style::default();
-        if is_too_wide(
-            levels_in_operation(
-                &self.variable_definitions,
-                &self.directives,
-                &self.selection_set,
-                &style,
-            ),
+        let levels = levels_in_operation(
+            &self.variable_definitions,
+            &self.directives,
+            &self.selection_set,
             &style,
-        ) {
-            return Err(fmt::Error);
-        }
+        );
+        check_width(levels, &style)?;
         write_subscription(f, self, &style)
     }
 }
@@ -138,11 +149,13 @@ impl<N: Names> fmt::Display for Subscription<N> {
 impl<N: Names> fmt::Display for VariableDefinition<N> {
     ghost output = { λ t. Some (text_of (variable_layout default_style (variable_view N.bytes t))) };
 
-    fn fmt<W: fmt::Write>(&self, f: &mut fmt::Formatter<W>) -> fmt::Result {
+    fn fmt<W: fmt::Write>(&self, f: &mut fmt::Formatter<W>) -> fmt::Result
+        ensures writes { DisplaysOnOk W.write_str_gives f.old result (Some (text_of (variable_layout default_style (variable_view N.bytes self.now)))) f.new }
+        ensures styled { DisplaysStyledOnOk W.write_str_gives f.old result None f.new }
+        ensures narrow { OnOk result (IsNarrow (variable_levels default_style (variable_view N.bytes self.now))) }
+    {
         let style = Style::default();
-        if is_too_wide(levels_in_variable(self, &style), &style) {
-            return Err(fmt::Error);
-        }
+        check_width(levels_in_variable(self, &style), &style)?;
         write_variable(f, self, &style)
     }
 }
@@ -150,11 +163,13 @@ impl<N: Names> fmt::Display for VariableDefinition<N> {
 impl<N: Names> fmt::Display for SelectionSet<N> {
     ghost output = { λ t. Some (text_of (set_layout default_style 0 (set_view N.bytes t))) };
 
-    fn fmt<W: fmt::Write>(&self, f: &mut fmt::Formatter<W>) -> fmt::Result {
+    fn fmt<W: fmt::Write>(&self, f: &mut fmt::Formatter<W>) -> fmt::Result
+        ensures writes { DisplaysOnOk W.write_str_gives f.old result (Some (text_of (set_layout default_style 0 (set_view N.bytes self.now)))) f.new }
+        ensures styled { DisplaysStyledOnOk W.write_str_gives f.old result None f.new }
+        ensures narrow { OnOk result (IsNarrow (set_levels default_style (set_view N.bytes self.now))) }
+    {
         let style = Style::default();
-        if is_too_wide(levels_in_set(self, &style), &style) {
-            return Err(fmt::Error);
-        }
+        check_width(levels_in_set(self, &style), &style)?;
         write_set(f, self, &style, 0)
     }
 }
@@ -162,11 +177,13 @@ impl<N: Names> fmt::Display for SelectionSet<N> {
 impl<N: Names> fmt::Display for Field<N> {
     ghost output = { λ t. Some (text_of (selection_layout default_style 0 (field_view N.bytes t))) };
 
-    fn fmt<W: fmt::Write>(&self, f: &mut fmt::Formatter<W>) -> fmt::Result {
+    fn fmt<W: fmt::Write>(&self, f: &mut fmt::Formatter<W>) -> fmt::Result
+        ensures writes { DisplaysOnOk W.write_str_gives f.old result (Some (text_of (selection_layout default_style 0 (field_view N.bytes self.now)))) f.new }
+        ensures styled { DisplaysStyledOnOk W.write_str_gives f.old result None f.new }
+        ensures narrow { OnOk result (IsNarrow (selection_levels default_style (field_view N.bytes self.now))) }
+    {
         let style = Style::default();
-        if is_too_wide(levels_in_field(self, &style), &style) {
-            return Err(fmt::Error);
-        }
+        check_width(levels_in_field(self, &style), &style)?;
         write_field(f, self, &style, 0)
     }
 }
@@ -174,11 +191,13 @@ impl<N: Names> fmt::Display for Field<N> {
 impl<N: Names> fmt::Display for FragmentSpread<N> {
     ghost output = { λ t. Some (text_of (selection_layout default_style 0 (spread_view N.bytes t))) };
 
-    fn fmt<W: fmt::Write>(&self, f: &mut fmt::Formatter<W>) -> fmt::Result {
+    fn fmt<W: fmt::Write>(&self, f: &mut fmt::Formatter<W>) -> fmt::Result
+        ensures writes { DisplaysOnOk W.write_str_gives f.old result (Some (text_of (selection_layout default_style 0 (spread_view N.bytes self.now)))) f.new }
+        ensures styled { DisplaysStyledOnOk W.write_str_gives f.old result None f.new }
+        ensures narrow { OnOk result (IsNarrow (selection_levels default_style (spread_view N.bytes self.now))) }
+    {
         let style = Style::default();
-        if is_too_wide(levels_in_spread(self, &style), &style) {
-            return Err(fmt::Error);
-        }
+        check_width(levels_in_spread(self, &style), &style)?;
         write_spread(f, self, &style, 0)
     }
 }
@@ -186,11 +205,13 @@ impl<N: Names> fmt::Display for FragmentSpread<N> {
 impl<N: Names> fmt::Display for InlineFragment<N> {
     ghost output = { λ t. Some (text_of (selection_layout default_style 0 (inline_view N.bytes t))) };
 
-    fn fmt<W: fmt::Write>(&self, f: &mut fmt::Formatter<W>) -> fmt::Result {
+    fn fmt<W: fmt::Write>(&self, f: &mut fmt::Formatter<W>) -> fmt::Result
+        ensures writes { DisplaysOnOk W.write_str_gives f.old result (Some (text_of (selection_layout default_style 0 (inline_view N.bytes self.now)))) f.new }
+        ensures styled { DisplaysStyledOnOk W.write_str_gives f.old result None f.new }
+        ensures narrow { OnOk result (IsNarrow (selection_levels default_style (inline_view N.bytes self.now))) }
+    {
         let style = Style::default();
-        if is_too_wide(levels_in_inline(self, &style), &style) {
-            return Err(fmt::Error);
-        }
+        check_width(levels_in_inline(self, &style), &style)?;
         write_inline(f, self, &style, 0)
     }
 }

@@ -1,5 +1,8 @@
-use Rattle.std.proofs.Common.{refl}
-use Rattle.graphql_common.specs.Grammar.{tables}
+use Rattle.std.proofs.Common.{◌≡◌, ◌<◌, ℕ, zero, suc, true, refl, arith}
+use Rattle.graphql_grammar.specs.Trees.{Sym}
+use Rattle.graphql_grammar.specs.Tables.{has_samples}
+use Rattle.graphql_grammar.proofs.Exact as theory
+use Rattle.graphql_common.specs.Grammar.{core, tables, shared_symbols}
 use Rattle.graphql_common.specs.Leaves.{unquoted}
 use Rattle.graphql_common.proofs.read.laws.core_is_readable.Goals as goal
 
@@ -10,3 +13,21 @@ returns-clause-tables c = refl
 pub returns-clause-productive : goal.returns-clause-productive
 unfolding tables unquoted
 returns-clause-productive c = refl
+
+samples_of : (k : ℕ) → k < shared_symbols → has_samples core (Sym k) ≡ true
+unfolding tables unquoted
+samples_of zero h = refl
+samples_of (suc zero) h = refl
+samples_of (suc (suc zero)) h = refl
+samples_of (suc (suc (suc zero))) h = refl
+samples_of (suc (suc (suc (suc zero)))) h = refl
+samples_of (suc (suc (suc (suc (suc zero))))) h = refl
+samples_of (suc (suc (suc (suc (suc (suc zero)))))) h = refl
+samples_of (suc (suc (suc (suc (suc (suc (suc zero))))))) h = refl
+samples_of (suc (suc (suc (suc (suc (suc (suc (suc zero)))))))) h = refl
+samples_of (suc (suc (suc (suc (suc (suc (suc (suc (suc zero))))))))) h = refl
+samples_of (suc (suc (suc (suc (suc (suc (suc (suc (suc (suc zero)))))))))) h = refl
+samples_of (suc (suc (suc (suc (suc (suc (suc (suc (suc (suc (suc k))))))))))) h = absurd (omega (arith, h))
+
+pub returns-clause-exact : goal.returns-clause-exact
+returns-clause-exact c k h = theory.exact core (returns-clause-tables c) (returns-clause-productive c) (Sym k) refl (samples_of k h)

@@ -1,6 +1,7 @@
 use Rattle.graphql_core.specs.Cut.{items}
 use Rattle.graphql_core.specs.Items.{start}
 use Rattle.graphql_core.proofs.Cutting.{has_items, items_unique}
+use Rattle.graphql_core.proofs.Ending.{end_once}
 use Rattle.graphql_core.proofs.tokenizer.laws.one_list_of_items.Goals as goal
 
 pub returns-clause-some : goal.returns-clause-some
@@ -8,3 +9,6 @@ returns-clause-some c text = (items start text, has_items text)
 
 pub returns-clause-one : goal.returns-clause-one
 returns-clause-one c = items_unique
+
+pub returns-clause-last : goal.returns-clause-last
+returns-clause-last c = end_once

@@ -1,0 +1,27 @@
+//! Laws of positions: what the derived impls answer.
+ghost use Rattle.std.specs.Prelude.{◌≡◌, ◌↔◌, IsTrue};
+ghost use Rattle.std.specs.Ordering.{nat_cmp, ordering_then};
+
+use crate::position::Pos;
+use std::cmp::Ordering;
+
+/// Positions are ordered by line, and in one line by column.
+pub fn compare_positions(a: &Pos, b: &Pos) -> Ordering
+    ensures { result ≡ ordering_then (nat_cmp a.now.line b.now.line) (nat_cmp a.now.column b.now.column) }
+{
+    a.cmp(b)
+}
+
+/// Equal positions are the same; hashes are alike of equal ones, as of all values with these traits.
+pub fn are_same_position(a: &Pos, b: &Pos) -> bool
+    ensures { IsTrue result ↔ (a.now ≡ b.now) }
+{
+    a == b
+}
+
+/// The default is 0:0, where no character stands.
+pub fn default_position() -> Pos
+    ensures { (result.line ≡ 0) × (result.column ≡ 0) }
+{
+    Pos::default()
+}
