@@ -1,15 +1,17 @@
-//! Recorded cases.
+//! Cases: what is asked of a text, and what is wanted.
 
 /// What is asked of a text.
 #[derive(Clone, Copy)]
 pub enum Asked {
-    /// To parse it as a query document, and to lay that out.
+    /// To parse it as a query document, and to lay that out in the default style.
     Query,
+    /// The same in the style of a line for each part.
+    Lines,
     /// To minify it.
     Minify,
 }
 
-/// What was recorded of a text.
+/// What is wanted of a text.
 #[derive(Clone, Copy)]
 pub enum Answer<'a> {
     /// This text in place of it.
@@ -18,9 +20,11 @@ pub enum Answer<'a> {
     Accepted,
     /// That it is refused.
     Refused,
+    /// That it is refused with this message.
+    Message(&'a str),
 }
 
-/// A text, what is asked of it, and the answer that was recorded.
+/// A text, what is asked of it, and the answer that is wanted.
 #[derive(Clone, Copy)]
 pub struct Case<'a> {
     pub asked: Asked,
@@ -39,6 +43,7 @@ fn sized<'a>(text: &'a str, length: &str) -> Option<(&'a str, &'a str)> {
 fn read_asked(word: &str) -> Option<Asked> {
     match word {
         "query" => Some(Asked::Query),
+        "lines" => Some(Asked::Lines),
         "minify" => Some(Asked::Minify),
         _ => None,
     }
@@ -46,14 +51,22 @@ fn read_asked(word: &str) -> Option<Asked> {
 
 /// The answer at the front, and what follows.
 fn read_answer<'a>(text: &'a str) -> Option<(Answer<'a>, &'a str)> {
-    let (word, behind) = text.split_once('\n')?;
-    match word {
+    let (words, behind) = text.split_once('\n')?;
+    match words {
         "refused" => Some((Answer::Refused, behind)),
         "accepted" => Some((Answer::Accepted, behind)),
-        _ => {
-            let (text, behind) = sized(behind, word.strip_prefix("ok ")?)?;
-            Some((Answer::Text(text), behind))
-        }
+        _ => read_sized_answer(words, behind),
+    }
+}
+
+/// The same of an answer with a length.
+fn read_sized_answer<'a>(words: &str, behind: &'a str) -> Option<(Answer<'a>, &'a str)> {
+    let (word, length) = words.split_once(' ')?;
+    let (text, behind) = sized(behind, length)?;
+    match word {
+        "ok" => Some((Answer::Text(text), behind)),
+        "refused" => Some((Answer::Message(text), behind)),
+        _ => None,
     }
 }
 

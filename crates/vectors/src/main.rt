@@ -1,8 +1,8 @@
-//! `vectors`: replays recorded cases, and tells how many of the answers are those that were recorded.
+//! `vectors`: replays cases of texts, and tells how many of the answers are those that a case wants.
 //!
-//! The cases stand on standard input, one after another, all lengths in bytes: a line `query` or `minify` with a length,
-//! a text of that length and LF; then a line `ok` with a length, the answer of that length and LF, or a line `accepted`
-//! or `refused`.
+//! The cases stand on standard input, one after another, all lengths in bytes: a line `query`, `lines` or `minify` with a
+//! length, a text of that length and LF; then a line `ok` or `refused` with a length, and the layout, the minified text or
+//! the message of that length and LF; or a line `accepted` or `refused` alone.
 #![tactic(auto)]
 
 mod cases;
@@ -13,34 +13,55 @@ use crate::shown::shown;
 use graphql_parser::query::{Document, parse_query};
 use graphql_parser::{Style, minify_query};
 use std::alloc::{AllocError, Global};
-use std::io;
 use std::process::ExitCode;
+use std::{fmt, io};
 
-/// Whether a case has the answer that was recorded.
+/// Whether a case has the answer that it wants.
 fn agrees(alloc: Global, case: &Case<'_>) -> Result<bool, AllocError> {
     match case.asked {
-        Asked::Query => query_agrees(alloc, case),
+        Asked::Query => query_agrees(alloc, case, false),
+        Asked::Lines => query_agrees(alloc, case, true),
         Asked::Minify => minify_agrees(alloc, case),
     }
 }
 
-/// Whether a text is parsed, and its document laid out, as was recorded; the layouts of an accepted one are read back.
-fn query_agrees(alloc: Global, case: &Case<'_>) -> Result<bool, AllocError> {
-    let document: Document<'_, &str> = match parse_query(alloc, case.source) {
-        Ok(document) => document,
-        Err(_) => return Ok(matches!(case.answer, Answer::Refused)),
-    };
-    let as_recorded = match case.answer {
-        Answer::Text(layout) => is_laid_out(alloc, &document, layout),
-        Answer::Accepted => true,
-        Answer::Refused => false,
-    };
-    Ok(as_recorded && is_read_back(alloc, &document)?)
+/// Whether a refusal is wanted, and with this message.
+fn is_refusal<E: fmt::Display>(
+    alloc: Global,
+    answer: Answer<'_>,
+    error: &E,
+) -> Result<bool, AllocError> {
+    match answer {
+        Answer::Refused => Ok(true),
+        Answer::Message(message) => Ok(error.to_string(alloc)?.as_str() == message),
+        _ => Ok(false),
+    }
 }
 
-/// Whether this is the document's layout in the default style.
-fn is_laid_out(alloc: Global, document: &Document<'_, &str>, layout: &str) -> bool {
-    match document.format(alloc, &Style::default()) {
+/// Whether a text is parsed, and its document laid out, as the case wants; the layouts of an accepted one are read back.
+fn query_agrees(alloc: Global, case: &Case<'_>, multiline: bool) -> Result<bool, AllocError> {
+    let document: Document<'_, &str> = match parse_query(alloc, case.source) {
+        Ok(document) => document,
+        Err(error) => return is_refusal(alloc, case.answer, &error),
+    };
+    let as_wanted = match case.answer {
+        Answer::Text(layout) => is_laid_out(alloc, &document, multiline, layout),
+        Answer::Accepted => true,
+        _ => false,
+    };
+    Ok(as_wanted && is_read_back(alloc, &document)?)
+}
+
+/// Whether this is the document's layout, with two spaces a level.
+fn is_laid_out(
+    alloc: Global,
+    document: &Document<'_, &str>,
+    multiline: bool,
+    layout: &str,
+) -> bool {
+    let mut style = Style::default();
+    style.multiline_arguments(multiline);
+    match document.format(alloc, &style) {
         Ok(text) => text.as_str() == layout,
         Err(_) => false,
     }
@@ -85,17 +106,18 @@ fn is_read_back_in(
     Ok(same && layout_again.as_str() == layout.as_str())
 }
 
-/// Whether a text is minified as was recorded, and its minified text to itself.
+/// Whether a text is minified as the case wants, and its minified text to itself.
 fn minify_agrees(alloc: Global, case: &Case<'_>) -> Result<bool, AllocError> {
-    let Ok(text) = minify_query(alloc, String::from_str(alloc, case.source)?) else {
-        return Ok(matches!(case.answer, Answer::Refused));
+    let text = match minify_query(alloc, String::from_str(alloc, case.source)?) {
+        Ok(text) => text,
+        Err(error) => return is_refusal(alloc, case.answer, &error),
     };
-    let Answer::Text(recorded) = case.answer else {
+    let Answer::Text(wanted) = case.answer else {
         return Ok(false);
     };
-    let as_recorded = text.as_str() == recorded;
+    let as_wanted = text.as_str() == wanted;
     match minify_query(alloc, text) {
-        Ok(again) => Ok(as_recorded && again.as_str() == recorded),
+        Ok(again) => Ok(as_wanted && again.as_str() == wanted),
         Err(_) => Ok(false),
     }
 }

@@ -1,9 +1,7 @@
 //! The texts of causes and faults.
 use crate::common::UnquoteError;
-use crate::query::{Document, ParseError, parse_query};
 use crate::tokenizer::Kind;
 use crate::{BadToken, Cause, FormatError};
-use std::alloc::Global;
 use std::test::Fail;
 
 #[test]
@@ -82,47 +80,6 @@ fn causes_are_shown(rt: HostRuntime) -> Result<(), Fail> {
     ];
     for (cause, text) in causes {
         assert_eq!(rt; cause.to_string(alloc)?.as_str(), text);
-    }
-    Ok(())
-}
-
-/// The message of a refusal, and nothing for a document.
-fn refusal(alloc: Global, text: &str) -> Result<Option<String>, Fail> {
-    let answer: Result<Document<'_, &str>, ParseError> = parse_query(alloc, text);
-    match answer {
-        Ok(_) => Ok(None),
-        Err(error) => Ok(Some(error.to_string(alloc)?)),
-    }
-}
-
-#[test]
-fn refusals_are_shown(rt: HostRuntime) -> Result<(), Fail> {
-    for (text, message) in [
-        (
-            "{ }",
-            "query parse error: Parse error at 1:3\nUnexpected `}[Punctuator]`\n",
-        ),
-        (
-            "{ a",
-            "query parse error: Parse error at 1:4\nUnexpected end of input\n",
-        ),
-        (
-            "{ a;}",
-            "query parse error: Parse error at 1:4\nUnexpected unexpected character ';'\n",
-        ),
-        (
-            "where a > 1",
-            "query parse error: Parse error at 1:1\nUnexpected `where[Name]`\n",
-        ),
-        (
-            "{ \u{e9} }",
-            "query parse error: Parse error at 1:3\nUnexpected unexpected character '\\u{e9}'\n",
-        ),
-    ] {
-        assert_eq!(rt;
-            refusal(rt.alloc(), text)?.ok_or("a refusal")?.as_str(),
-            message
-        );
     }
     Ok(())
 }

@@ -1,10 +1,10 @@
 //! What several files of tests use.
+use crate::Pos;
 use crate::query::{
     Definition, Document, Field, OperationDefinition, ParseError, Query, Selection, SelectionSet,
     Value, parse_query,
 };
-use crate::{Cause, Pos, Style};
-use std::alloc::{AllocError, Global};
+use std::alloc::Global;
 use std::process::Abort;
 use std::test::Fail;
 
@@ -22,23 +22,6 @@ pub fn at(line: usize, column: usize) -> Pos {
 /// A text read with borrowed names.
 pub fn parsed(alloc: Global, text: &str) -> Result<Document<'_, &str>, ParseError> {
     parse_query(alloc, text)
-}
-
-/// The text is refused for this cause, at this position.
-pub fn assert_refused(
-    rt: &impl Abort,
-    answer: Result<Document<'_, &str>, ParseError>,
-    cause: &Cause,
-    position: Pos,
-    text: &str,
-) {
-    match answer {
-        Ok(_) => assert!(rt; false, "accepted: {text}"),
-        Err(error) => {
-            assert!(rt; error.cause() == cause, "at {text}");
-            assert_eq!(rt; error.position(), Some(position), "at {text}");
-        }
-    }
 }
 
 /// The query of a document that begins with one.
@@ -84,35 +67,4 @@ pub fn first_argument<'d, 'a>(
         Some((_, value)) => Ok(value),
         None => Err(Fail::new("no argument")),
     }
-}
-
-/// Some copies of a text, one after another.
-pub fn repeated(alloc: Global, text: &str, count: usize) -> Result<String, AllocError> {
-    let mut all = String::new(alloc);
-    for _ in 0..count {
-        all.push_str(text)?;
-    }
-    Ok(all)
-}
-
-/// Two spaces a level, and a line for each part of arguments, lists and objects.
-pub fn in_lines() -> Style {
-    let mut style = Style::default();
-    style.multiline_arguments(true);
-    style
-}
-
-/// What is shown of a document, with its positions left out.
-pub fn without_positions(
-    alloc: Global,
-    document: &Document<'_, &str>,
-) -> Result<String, AllocError> {
-    let shown = format!(in alloc; "{document:?}")?;
-    let mut parts = shown.as_str().split("Pos(");
-    let mut text = String::from_str(alloc, parts.next().unwrap_or(""))?;
-    for part in parts {
-        let (_, after) = part.split_once(')').unwrap_or((part, ""));
-        text.push_str(after)?;
-    }
-    Ok(text)
 }

@@ -61,62 +61,6 @@ fn values(rt: HostRuntime) -> Result<(), Fail> {
 }
 
 #[test]
-fn whole_numbers(rt: HostRuntime) -> Result<(), Fail> {
-    let alloc = rt.alloc();
-    for (text, number) in [
-        ("0", 0),
-        ("-0", 0),
-        ("-12", -12),
-        (" 42 ", 42),
-        ("9223372036854775807", i64::MAX),
-        ("-9223372036854775808", i64::MIN),
-    ] {
-        let source = with_argument(alloc, text)?;
-        let document = parsed(alloc, &source)?;
-        let expected = Value::Int(Number::from_i64(number));
-        assert!(rt; *first_argument(&rt, &document)? == expected, "at {text}");
-    }
-    Ok(())
-}
-
-#[test]
-fn floats(rt: HostRuntime) -> Result<(), Fail> {
-    let alloc = rt.alloc();
-    for text in ["-0.5", "1e+10", "6.25E3", "2.50"] {
-        let source = with_argument(alloc, text)?;
-        let document = parsed(alloc, &source)?;
-        let Value::Float(literal) = first_argument(&rt, &document)? else {
-            return Err(Fail::new("no float"));
-        };
-        assert_eq!(rt; literal.as_str(), text);
-    }
-    Ok(())
-}
-
-#[test]
-fn strings(rt: HostRuntime) -> Result<(), Fail> {
-    let alloc = rt.alloc();
-    for (text, meant) in [
-        ("\"\"", ""),
-        ("\"x\"", "x"),
-        ("\"é\"", "é"),
-        ("\"a\\u0041\\n\"", "aA\n"),
-        ("\"\"\"\"\"\"", ""),
-        ("\"\"\" y\"\"\"", " y"),
-        ("\"\"\"x\né\"\"\"", "x\né"),
-        ("\"\"\"\n    a\n      b \\\"\"\"\n  \"\"\"", "a\n  b \"\"\""),
-    ] {
-        let source = with_argument(alloc, text)?;
-        let document = parsed(alloc, &source)?;
-        let Value::String(value) = first_argument(&rt, &document)? else {
-            return Err(Fail::new("no string"));
-        };
-        assert_eq!(rt; value.as_str(), meant, "at {text}");
-    }
-    Ok(())
-}
-
-#[test]
 fn arguments(rt: HostRuntime) -> Result<(), Fail> {
     let alloc = rt.alloc();
     for (text, shown) in [
