@@ -22,3 +22,4 @@ pub mod ValuesBack
 pub mod DirectivesBack
 pub mod Margins
 pub mod Narrow
+pub mod Depths

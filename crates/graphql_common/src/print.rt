@@ -13,7 +13,7 @@ mod width;
 
 pub use block::{has_block_form, write_block};
 pub use directives::{write_arguments, write_directive, write_directives};
-pub use laws::worked_layouts;
+pub use laws::{brackets_are_those_of_layouts, worked_layouts};
 pub use quotes::write_quoted;
 pub use spaces::{write_new_line, write_spaces};
 pub use strings::write_string;

@@ -13,6 +13,7 @@ pub mod Room
 pub mod Escapes
 pub mod BlockLines
 pub mod FloatLiterals
+pub mod Depths
 pub mod Laid
 pub mod Back
 pub mod Minifying

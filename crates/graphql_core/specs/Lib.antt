@@ -12,6 +12,7 @@ pub mod Causes
 pub mod Source
 pub mod Style
 pub mod Parts
+pub mod Depths
 pub mod Matching
 pub mod Minified
 pub mod Strings

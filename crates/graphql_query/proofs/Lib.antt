@@ -2,6 +2,7 @@ pub mod Readable
 pub mod Lifted
 pub mod Selecting
 pub mod Viewed
+pub mod Depths
 pub mod Steps
 pub mod Parts
 pub mod Keywords

@@ -1,14 +1,16 @@
 //! Laws of the definitions alone.
 ghost use Rattle.std.specs.Prelude.{◌≡◌, ℕ, List, Result};
+ghost use Rattle.graphql_core.specs.Depths.{deepest};
 ghost use Rattle.graphql_core.specs.Minified.{IsMinified};
 ghost use Rattle.graphql_core.specs.Style.{Layout};
+ghost use Rattle.graphql_common.specs.Printable.{most};
 ghost use Rattle.graphql_query.specs.Tree.{DocumentTree, erase};
 ghost use Rattle.graphql_core.specs.Source.{FaultText};
 ghost use Rattle.graphql_query.specs.Document.{IsDocumentOf};
 ghost use Rattle.graphql_query.specs.Faults.{IsFirstFaultOf, IsLeastFaultOf};
 ghost use Rattle.graphql_query.specs.Lawful.{IsLawfulDocument};
-ghost use Rattle.graphql_query.specs.Layout.{layout};
-ghost use Rattle.graphql_query.specs.Printable.{IsPrintable};
+ghost use Rattle.graphql_query.specs.Layout.{document_layout, layout};
+ghost use Rattle.graphql_query.specs.Printable.{IsPrintable, definition_brackets};
 ghost use Rattle.graphql_query.specs.Refusal.{Refusal};
 ghost use Rattle.graphql_query.specs.Minifying.{IsParsed, AreAlike};
 ghost use Rattle.graphql_query.specs.Examples as example;
@@ -31,6 +33,11 @@ pub fn worked_examples()
 pub fn least_faults_are_first()
     ensures one { (text : List ℕ) (f g : FaultText) → IsLeastFaultOf text f → IsLeastFaultOf text g → f ≡ g }
     ensures first { (text : List ℕ) (f : FaultText) → IsLeastFaultOf text f → IsFirstFaultOf text f }
+{}
+
+/// The brackets counted on a document are those that are open at once in its layout, in each style.
+pub fn brackets_are_those_of_the_layout()
+    ensures { (style : Layout) (d : DocumentTree) → deepest (document_layout style d) ≡ most definition_brackets d }
 {}
 
 /// The text of a document is that of the document without its positions.

@@ -14,8 +14,8 @@ pub use document::parse_query;
 pub use error::ParseError;
 pub use graphql_core::common::{Names, Text};
 pub use laws::{
-    least_faults_are_first, minified_texts_are_parsed_alike, printed_documents_are_read_back,
-    text_has_no_positions, worked_examples,
+    brackets_are_those_of_the_layout, least_faults_are_first, minified_texts_are_parsed_alike,
+    printed_documents_are_read_back, text_has_no_positions, worked_examples,
 };
 pub use minify::{MinifyError, minify_query};
 
