@@ -77,23 +77,28 @@ closes_escaped : (s : List ℕ) {more : List ℕ} → ClosesBlock (10 ∷ more) 
 closes_escaped [] h = h
 closes_escaped (a ∷ []) {more} h = unit (no_quotes_escaped (a ∷ []) more) (no_escape a (10 ∷ more) (no_quotes_escaped [] more)) h
 closes_escaped (a ∷ b ∷ []) {more} h =
-    unit (no_quotes_escaped (a ∷ b ∷ []) more) (no_escape a (b ∷ 10 ∷ more) (no_quotes_escaped (b ∷ []) more)) (unit (no_quotes_escaped (b ∷ []) more) (no_escape b (10 ∷ more) (no_quotes_escaped [] more)) h)
+    unit (no_quotes_escaped (a ∷ b ∷ []) more) (no_escape a (b ∷ 10 ∷ more) (no_quotes_escaped (b ∷ []) more))
+    (unit (no_quotes_escaped (b ∷ []) more) (no_escape b (10 ∷ more) (no_quotes_escaped [] more)) h)
 closes_escaped (a ∷ b ∷ c ∷ s) {more} h =
     elim (cases_Bool (is_triple a b c)) [
       | inl t ↦ rw (triple_front a b c s t) (escape (closes_escaped s h))
       | inr t ↦
-          let front : begins_quotes (a ∷ (escaped_quotes (b ∷ c ∷ s) ++ 10 ∷ more)) ≡ false = subst (λ (l : List ℕ). begins_quotes (l ++ 10 ∷ more) ≡ false) (other_front a b c s t) (no_quotes_escaped (a ∷ b ∷ c ∷ s) more) in
-          rw (other_front a b c s t) (unit front (no_escape a (escaped_quotes (b ∷ c ∷ s) ++ 10 ∷ more) (no_quotes_escaped (b ∷ c ∷ s) more)) (closes_escaped (b ∷ c ∷ s) h))
+          let front : begins_quotes (a ∷ (escaped_quotes (b ∷ c ∷ s) ++ 10 ∷ more))
+          ≡ false = subst (λ (l : List ℕ). begins_quotes (l ++ 10 ∷ more) ≡ false) (other_front a b c s t) (no_quotes_escaped (a ∷ b ∷ c ∷ s) more) in
+          rw (other_front a b c s t) (unit front (no_escape a (escaped_quotes (b ∷ c ∷ s) ++ 10 ∷ more) (no_quotes_escaped (b ∷ c ∷ s) more))
+          (closes_escaped (b ∷ c ∷ s) h))
     ]
 
 closes_line : (inside : ℕ) (l : List ℕ) {more : List ℕ} → ClosesBlock more → ClosesBlock (block_line inside l ++ more)
 closes_line inside [] h = closes_feed h
 closes_line inside (b ∷ bs) {more} h =
-    rw (append_assoc (spaces inside) (escaped_quotes (b ∷ bs) ++ 10 ∷ []) more, append_assoc (escaped_quotes (b ∷ bs)) (10 ∷ []) more) (closes_spaces inside (closes_escaped (b ∷ bs) (closes_feed h)))
+    rw (append_assoc (spaces inside) (escaped_quotes (b ∷ bs) ++ 10 ∷ []) more, append_assoc (escaped_quotes (b ∷ bs)) (10 ∷ []) more)
+    (closes_spaces inside (closes_escaped (b ∷ bs) (closes_feed h)))
 
 closes_lines : (inside : ℕ) (ls : List (List ℕ)) {more : List ℕ} → ClosesBlock more → ClosesBlock (flat_map (block_line inside) ls ++ more)
 closes_lines inside [] h = h
-closes_lines inside (l ∷ ls) {more} h = rw (append_assoc (block_line inside l) (flat_map (block_line inside) ls) more) (closes_line inside l (closes_lines inside ls h))
+closes_lines inside (l ∷ ls) {more} h =
+    rw (append_assoc (block_line inside l) (flat_map (block_line inside) ls) more) (closes_line inside l (closes_lines inside ls h))
 
 pub block_word : (inside margin : ℕ) (text : List ℕ) → IsWord BlockString (in_block_form inside margin text)
 block_word inside margin text rest ends = block_string (closes_feed (closes_lines inside (lines_of text) (closes_spaces margin closing)))

@@ -1,5 +1,6 @@
 -- The value of a block form is the text that it was made of.
-use Rattle.std.proofs.Common.{◌≡◌, ◌≤◌, ℕ, zero, suc, ◌+◌, ◌-◌, min, Bool, true, false, not, ◌&&◌, ◌||◌, ◌==◌, List, [], ◌∷◌, ◌++◌, Some, length, get_or, take, drop, map, reverse, refl, sym, ap, ap₂, ◌∙◌, inl, inr, ◌⊎◌, arith, append_assoc, append-nil, eqb-true, length-append}
+use Rattle.std.proofs.Common.{◌≡◌, ◌≤◌, ℕ, zero, suc, ◌+◌, ◌-◌, min, Bool, true, false, not, ◌&&◌, ◌||◌, ◌==◌, List, [], ◌∷◌, ◌++◌, Some, length, get_or, take}
+use Rattle.std.proofs.Common.{drop, map, reverse, refl, sym, ap, ap₂, ◌∙◌, inl, inr, ◌⊎◌, arith, append_assoc, append-nil, eqb-true, length-append}
 use Rattle.std.proofs.lemmas.Bool.{cases_Bool, and_parts, and_from, or_cases}
 use Rattle.std.proofs.lemmas.Bool.Decides.{nat_tests}
 use Rattle.std.proofs.lemmas.List.{take_at, reverse-append}
@@ -8,9 +9,11 @@ use Rattle.std.specs.List.{list_all, list_any, flat_map, filter, fold, reduce, s
 use Rattle.std.specs.Str.Lines.{lines, lines_of_parts, strip_carriage_return}
 use Rattle.graphql_core.specs.Lexical.{begins_quotes}
 use Rattle.graphql_core.specs.Style.{spaces}
-use Rattle.graphql_core.specs.BlockStrings.{is_white, is_blank, indent, common_indent, unindented, without_blank_ends, unescaped, joined, value_of_lines, block_value}
+use Rattle.graphql_core.specs.BlockStrings.{is_white, is_blank, indent, common_indent, unindented, without_blank_ends, unescaped, joined, value_of_lines}
+use Rattle.graphql_core.specs.BlockStrings.{block_value}
 use Rattle.graphql_common.specs.Leaves.{block_string_of}
-use Rattle.graphql_common.specs.ValueLayout.{lines_of, first_line, last_line, is_empty, ends_in_return, begins_white, has_block_form, escaped_quotes, block_line, in_block_form}
+use Rattle.graphql_common.specs.ValueLayout.{lines_of, first_line, last_line, is_empty, ends_in_return, begins_white, has_block_form, escaped_quotes}
+use Rattle.graphql_common.specs.ValueLayout.{block_line, in_block_form}
 use Rattle.graphql_common.proofs.LeafValues.{in_triple_quotes}
 use Rattle.graphql_common.proofs.Quoting.{ends_in_return_is}
 use Rattle.graphql_common.proofs.BlockForm.{is_triple, triple_front, other_front, no_quotes_escaped}
@@ -93,7 +96,8 @@ split_lines n (l ∷ ls) end (here, others) e =
     let all = flat_map (block_line n) ls ++ end in
     let parts : (block_line n l ++ flat_map (block_line n) ls) ++ end ≡ indented n l ++ 10 ∷ all =
     append_assoc (block_line n l) (flat_map (block_line n) ls) end ∙ ap (λ (x : List ℕ). x ++ all) (line_is n l) ∙ append_assoc (indented n l) (10 ∷ []) all in
-    ap (slice_split (λ b. b == 10)) parts ∙ split_feed (indented n l) all (indented_no_feed n l here) ∙ ap (λ (x : List (List ℕ)). indented n l ∷ x) (split_lines n ls end others e)
+    ap (slice_split (λ b. b == 10)) parts ∙ split_feed (indented n l) all (indented_no_feed n l here)
+    ∙ ap (λ (x : List (List ℕ)). indented n l ∷ x) (split_lines n ls end others e)
 
 -- ---- carriage returns
 
@@ -126,7 +130,8 @@ NoReturn l = ends_in_return l ≡ false
 
 indented_no_return : (n : ℕ) (l : List ℕ) → NoReturn l → NoReturn (indented n l)
 indented_no_return n [] h = h
-indented_no_return n (b ∷ bs) h = ends_by_last (spaces n ++ escaped_quotes (b ∷ bs)) ∙ ap (λ x. x == 13) (last_spaced 0 n b bs) ∙ sym (ends_by_last (b ∷ bs)) ∙ h
+indented_no_return n (b ∷ bs) h =
+    ends_by_last (spaces n ++ escaped_quotes (b ∷ bs)) ∙ ap (λ x. x == 13) (last_spaced 0 n b bs) ∙ sym (ends_by_last (b ∷ bs)) ∙ h
 
 kept : (l : List ℕ) → NoReturn l → strip_carriage_return l ≡ l
 kept l h = let e : (get_or l (length l - 1) 0 == 13) ≡ false = sym (ends_in_return_is l) ∙ h in rw e refl
@@ -155,8 +160,10 @@ all_indented n (l ∷ ls) h =
 raw_lines : (n margin : ℕ) (text : List ℕ) → list_all (λ l. not (ends_in_return l)) (lines_of text) ≡ true
     → lines (10 ∷ (flat_map (block_line n) (lines_of text) ++ spaces margin)) ≡ [] ∷ (map (indented n) (lines_of text) ++ tail (spaces margin))
 raw_lines n margin text h =
-    let e = split_lines n (lines_of text) (spaces margin) (lines_no_feed text) (ap (list_all (λ b. not (b == 10))) (sym (append-nil (spaces margin))) ∙ spaces_all (λ b. not (b == 10)) margin [] refl) in
-    ap (λ (x : List (List ℕ)). lines_of_parts ([] ∷ x)) e ∙ parts_lines ([] ∷ map (indented n) (lines_of text)) (spaces margin) (refl, all_indented n (lines_of text) h)
+    let e = split_lines n (lines_of text) (spaces margin) (lines_no_feed text)
+    (ap (list_all (λ b. not (b == 10))) (sym (append-nil (spaces margin))) ∙ spaces_all (λ b. not (b == 10)) margin [] refl) in
+    ap (λ (x : List (List ℕ)). lines_of_parts ([] ∷ x)) e ∙ parts_lines ([] ∷ map (indented n) (lines_of text)) (spaces margin)
+    (refl, all_indented n (lines_of text) h)
 
 -- ---- the common indent
 
@@ -221,7 +228,8 @@ none_less n margin ((b ∷ bs) ∷ ls) h =
     let (here, others) = and_parts (IsNeat (b ∷ bs)) (list_all IsNeat ls) h in
     rw (indented_blank n b bs here) (omega (arith, white_indent n (escaped_quotes (b ∷ bs))), none_less n margin ls others)
 
-some_equal : (n margin : ℕ) (ls : List (List ℕ)) → list_all IsNeat ls ≡ true → list_any is_sharp ls ≡ true → list_any (λ k. k == n) (indents (map (indented n) ls ++ tail (spaces margin))) ≡ true
+some_equal : (n margin : ℕ) (ls : List (List ℕ)) → list_all IsNeat ls ≡ true → list_any is_sharp ls ≡ true
+    → list_any (λ k. k == n) (indents (map (indented n) ls ++ tail (spaces margin))) ≡ true
 some_equal n margin [] h k = absurd cc
 some_equal n margin ([] ∷ ls) h k = some_equal n margin ls h k
 some_equal n margin ((b ∷ bs) ∷ ls) h k =
@@ -229,7 +237,8 @@ some_equal n margin ((b ∷ bs) ∷ ls) h k =
     elim (cases_Bool (is_sharp (b ∷ bs))) [
       | inl t ↦
           let w = (and_parts (not (is_blank (b ∷ bs))) (not (begins_white (b ∷ bs))) t).1 in
-          let z : indent (spaces n ++ escaped_quotes (b ∷ bs)) ≡ n = white_indent n (escaped_quotes (b ∷ bs)) ∙ ap (λ x. n + x) (sharp_escaped (b ∷ bs) (negated (begins_white (b ∷ bs)) w)) ∙ omega arith in
+          let z : indent (spaces n ++ escaped_quotes (b ∷ bs)) ≡ n = white_indent n (escaped_quotes (b ∷ bs))
+          ∙ ap (λ x. n + x) (sharp_escaped (b ∷ bs) (negated (begins_white (b ∷ bs)) w)) ∙ omega arith in
           let e : (n == n) ≡ true = grind (arith, nat_tests) in
           rw (indented_blank n b bs here, z, e) refl
       | inr t ↦
@@ -254,9 +263,11 @@ fold_least n x (y ∷ ys) low (here, all) (inr e) =
 least : (n : ℕ) (xs : List ℕ) → AllFrom n xs → list_any (λ k. k == n) xs ≡ true → reduce min xs ≡ Some n
 least n [] all some = absurd cc
 least n (x ∷ xs) (here, all) some =
-    ap Some (elim (or_cases (x == n) (list_any (λ k. k == n) xs) some) [ inl e ↦ fold_least n x xs here all (inl (eqb-true x n e)) | inr e ↦ fold_least n x xs here all (inr e) ])
+    ap Some (elim (or_cases (x == n) (list_any (λ k. k == n) xs) some)
+    [ inl e ↦ fold_least n x xs here all (inl (eqb-true x n e)) | inr e ↦ fold_least n x xs here all (inr e) ])
 
-indent_is : (n margin : ℕ) (ls : List (List ℕ)) → list_all IsNeat ls ≡ true → list_any is_sharp ls ≡ true → common_indent ([] ∷ (map (indented n) ls ++ tail (spaces margin))) ≡ n
+indent_is : (n margin : ℕ) (ls : List (List ℕ)) → list_all IsNeat ls ≡ true → list_any is_sharp ls ≡ true
+    → common_indent ([] ∷ (map (indented n) ls ++ tail (spaces margin))) ≡ n
 unfolding common_indent
 indent_is n margin ls h k = rw (least n _ (none_less n margin ls h) (some_equal n margin ls h k)) refl
 
@@ -292,7 +303,8 @@ tail_reverse : (margin : ℕ) → reverse (tail (spaces margin)) ≡ tail (space
 tail_reverse zero = refl
 tail_reverse (suc n) = refl
 
-prefix_past : (xs : List (List ℕ)) (y : List ℕ) (ys : List (List ℕ)) → prefix_len is_blank xs ≡ length xs → is_blank y ≡ false → prefix_len is_blank (xs ++ y ∷ ys) ≡ length xs
+prefix_past : (xs : List (List ℕ)) (y : List ℕ) (ys : List (List ℕ)) → prefix_len is_blank xs ≡ length xs → is_blank y ≡ false
+    → prefix_len is_blank (xs ++ y ∷ ys) ≡ length xs
 prefix_past [] y ys h e = rw e refl
 prefix_past (x ∷ xs) y ys h e =
     elim (cases_Bool (is_blank x)) [
@@ -313,9 +325,11 @@ with_last : (l : List ℕ) (ls : List (List ℕ)) → l ∷ ls ≡ but_last (l �
 with_last l [] = refl
 with_last l (m ∷ ls) = ap (λ (x : List (List ℕ)). l ∷ x) (with_last m ls)
 
-blank_suffix : (margin : ℕ) (front : List (List ℕ)) (last : List ℕ) → is_blank last ≡ false → suffix_len is_blank ((front ++ last ∷ []) ++ tail (spaces margin)) ≡ length (tail (spaces margin))
+blank_suffix : (margin : ℕ) (front : List (List ℕ)) (last : List ℕ) → is_blank last ≡ false
+    → suffix_len is_blank ((front ++ last ∷ []) ++ tail (spaces margin)) ≡ length (tail (spaces margin))
 blank_suffix margin front last h =
-    ap (prefix_len is_blank) (reverse-append (front ++ last ∷ []) (tail (spaces margin)) ∙ ap₂ (λ (a b : List (List ℕ)). a ++ b) (tail_reverse margin) (reverse-append front (last ∷ [])))
+    ap (prefix_len is_blank) (reverse-append (front ++ last ∷ []) (tail (spaces margin))
+    ∙ ap₂ (λ (a b : List (List ℕ)). a ++ b) (tail_reverse margin) (reverse-append front (last ∷ [])))
     ∙ prefix_past (tail (spaces margin)) last (reverse front) (all_tail margin) h
 
 -- neat lines that are not blank are not blank with their margin
@@ -323,18 +337,21 @@ shown : (n : ℕ) (l : List ℕ) → is_blank l ≡ false → is_blank (indented
 shown n [] h = absurd cc
 shown n (b ∷ bs) h = spaces_all is_white n (escaped_quotes (b ∷ bs)) refl ∙ blank_escaped (b ∷ bs) ∙ h
 
-last_of_map : (n : ℕ) (l : List ℕ) (ls : List (List ℕ)) → map (indented n) (l ∷ ls) ≡ map (indented n) (but_last (l ∷ ls)) ++ indented n (last_line (l ∷ ls)) ∷ []
+last_of_map : (n : ℕ) (l : List ℕ) (ls : List (List ℕ))
+    → map (indented n) (l ∷ ls) ≡ map (indented n) (but_last (l ∷ ls)) ++ indented n (last_line (l ∷ ls)) ∷ []
 last_of_map n l ls = ap (map (indented n)) (with_last l ls) ∙ map_append (indented n) (but_last (l ∷ ls)) (last_line (l ∷ ls) ∷ [])
 
 -- the lines that are left
 lines_left : (n margin : ℕ) (l : List ℕ) (ls : List (List ℕ)) → is_blank l ≡ false → is_blank (last_line (l ∷ ls)) ≡ false
-    → without_blank_ends ([] ∷ (map (indented n) (l ∷ ls) ++ tail (spaces margin))) (unindented n ([] ∷ (map (indented n) (l ∷ ls) ++ tail (spaces margin)))) ≡ map escaped_quotes (l ∷ ls)
+    → without_blank_ends ([] ∷ (map (indented n) (l ∷ ls) ++ tail (spaces margin))) (unindented n ([] ∷ (map (indented n) (l ∷ ls) ++ tail (spaces margin))))
+    ≡ map escaped_quotes (l ∷ ls)
 lines_left n margin l ls first last =
     let all = map (indented n) (l ∷ ls) in
     let t = tail (spaces margin) in
     let prefix : prefix_len is_blank ([] ∷ (all ++ t)) ≡ 1 = rw (shown n l first) refl in
     let suffix : suffix_len is_blank ([] ∷ (all ++ t)) ≡ length t =
-    ap (λ (x : List (List ℕ)). suffix_len is_blank ([] ∷ (x ++ t))) (last_of_map n l ls) ∙ blank_suffix margin ([] ∷ map (indented n) (but_last (l ∷ ls))) (indented n (last_line (l ∷ ls))) (shown n (last_line (l ∷ ls)) last) in
+    ap (λ (x : List (List ℕ)). suffix_len is_blank ([] ∷ (x ++ t))) (last_of_map n l ls)
+    ∙ blank_suffix margin ([] ∷ map (indented n) (but_last (l ∷ ls))) (indented n (last_line (l ∷ ls))) (shown n (last_line (l ∷ ls)) last) in
     let count : length ([] ∷ (all ++ t)) - suffix_len is_blank ([] ∷ (all ++ t)) ≡ suc (length all) = omega (arith, suffix, length-append all t) in
     let front : take (length all) (map (drop n) (all ++ t)) ≡ map (drop n) all =
     ap (take (length all)) (map_append (drop n) all t) ∙ take_at (map (drop n) all) (map (drop n) t) (length all) (length_map (drop n) all) in
@@ -361,7 +378,8 @@ unescaped_escaped (a ∷ b ∷ c ∷ s) =
       | inl t ↦
           let (ea, more) = and_parts (a == 34) (b == 34 && c == 34) t in
           let (eb, ec) = and_parts (b == 34) (c == 34) more in
-          rw (triple_front a b c s t) (ap (λ (x : List ℕ). 34 ∷ 34 ∷ 34 ∷ x) (unescaped_escaped s) ∙ rw (eqb-true a 34 ea, eqb-true b 34 eb, eqb-true c 34 ec) refl)
+          rw (triple_front a b c s t) (ap (λ (x : List ℕ). 34 ∷ 34 ∷ 34 ∷ x) (unescaped_escaped s)
+          ∙ rw (eqb-true a 34 ea, eqb-true b 34 eb, eqb-true c 34 ec) refl)
       | inr t ↦
           let front = quotes_front (escaped_quotes (b ∷ c ∷ s)) (10 ∷ []) (no_quotes_escaped (b ∷ c ∷ s) []) in
           rw (other_front a b c s t) (plain_first a (escaped_quotes (b ∷ c ∷ s)) front ∙ ap (λ (x : List ℕ). a ∷ x) (unescaped_escaped (b ∷ c ∷ s)))
@@ -374,9 +392,12 @@ joined_lines l (m ∷ ls) = ap₂ (λ (x y : List ℕ). x ++ 10 ∷ y) (unescape
 -- ---- the value
 
 abbrev HasForm : List ℕ → List (List ℕ) → Type 0
-HasForm text ls = (is_blank (first_line ls) ≡ false) × (is_blank (last_line ls) ≡ false) × (list_all IsNeat ls ≡ true) × (list_all (λ l. not (ends_in_return l)) ls ≡ true) × (list_any is_sharp ls ≡ true)
+HasForm text ls =
+    (is_blank (first_line ls) ≡ false) × (is_blank (last_line ls) ≡ false) × (list_all IsNeat ls ≡ true) × (list_all (λ l. not (ends_in_return l)) ls ≡ true)
+    × (list_any is_sharp ls ≡ true)
 
-lines_value : (n margin : ℕ) (text : List ℕ) (ls : List (List ℕ)) → lines_of text ≡ ls → HasForm text ls → value_of_lines ([] ∷ (map (indented n) ls ++ tail (spaces margin))) ≡ text
+lines_value : (n margin : ℕ) (text : List ℕ) (ls : List (List ℕ)) → lines_of text ≡ ls → HasForm text ls
+    → value_of_lines ([] ∷ (map (indented n) ls ++ tail (spaces margin))) ≡ text
 lines_value n margin text [] e f = absurd cc
 lines_value n margin text (l ∷ ls) e (first, last, neat, no_return, sharp) =
     let all = [] ∷ (map (indented n) (l ∷ ls) ++ tail (spaces margin)) in
@@ -387,8 +408,10 @@ has_form : (text : List ℕ) → has_block_form text ≡ true → HasForm text (
 has_form text h =
     let ls = lines_of text in
     let (feed, h1) = and_parts (list_any (λ b. b == 10) text) _ h in
-    let (chars, h2) = and_parts _ (not (is_blank (first_line ls)) && (not (is_blank (last_line ls)) && (list_all IsNeat ls && (list_all (λ l. not (ends_in_return l)) ls && list_any is_sharp ls)))) h1 in
-    let (first, h3) = and_parts (not (is_blank (first_line ls))) (not (is_blank (last_line ls)) && (list_all IsNeat ls && (list_all (λ l. not (ends_in_return l)) ls && list_any is_sharp ls))) h2 in
+    let (chars, h2) = and_parts _ (not (is_blank (first_line ls)) &&
+    (not (is_blank (last_line ls)) && (list_all IsNeat ls && (list_all (λ l. not (ends_in_return l)) ls && list_any is_sharp ls)))) h1 in
+    let (first, h3) = and_parts (not (is_blank (first_line ls)))
+    (not (is_blank (last_line ls)) && (list_all IsNeat ls && (list_all (λ l. not (ends_in_return l)) ls && list_any is_sharp ls))) h2 in
     let (last, h4) = and_parts (not (is_blank (last_line ls))) (list_all IsNeat ls && (list_all (λ l. not (ends_in_return l)) ls && list_any is_sharp ls)) h3 in
     let (neat, h5) = and_parts (list_all IsNeat ls) (list_all (λ l. not (ends_in_return l)) ls && list_any is_sharp ls) h4 in
     let (no_return, sharp) = and_parts (list_all (λ l. not (ends_in_return l)) ls) (list_any is_sharp ls) h5 in
@@ -400,5 +423,7 @@ block_means n margin text h =
     let f = has_form text h in
     let flat = flat_map (block_line n) (lines_of text) in
     let content = 10 ∷ (flat ++ spaces margin) in
-    let is : in_block_form n margin text ≡ 34 ∷ 34 ∷ 34 ∷ (content ++ 34 ∷ 34 ∷ 34 ∷ []) = ap (λ (x : List ℕ). 34 ∷ 34 ∷ 34 ∷ 10 ∷ x) (sym (append_assoc flat (spaces margin) (34 ∷ 34 ∷ 34 ∷ []))) in
-    ap block_value (in_triple_quotes (in_block_form n margin text) content is) ∙ ap value_of_lines (raw_lines n margin text f.3) ∙ lines_value n margin text (lines_of text) refl f
+    let is : in_block_form n margin text ≡ 34 ∷ 34 ∷ 34 ∷ (content ++ 34 ∷ 34 ∷ 34 ∷ []) = ap (λ (x : List ℕ). 34 ∷ 34 ∷ 34 ∷ 10 ∷ x)
+    (sym (append_assoc flat (spaces margin) (34 ∷ 34 ∷ 34 ∷ []))) in
+    ap block_value (in_triple_quotes (in_block_form n margin text) content is) ∙ ap value_of_lines (raw_lines n margin text f.3)
+    ∙ lines_value n margin text (lines_of text) refl f

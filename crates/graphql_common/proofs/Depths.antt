@@ -5,10 +5,14 @@ use Rattle.graphql_core.specs.declared.tokenizer.token.Kind.TheVariants.{Punctua
 use Rattle.graphql_core.specs.Style.{Layout}
 use Rattle.graphql_core.specs.Parts.{Part, mark}
 use Rattle.graphql_core.specs.Depths.{bracket_of}
-use Rattle.graphql_core.proofs.Depths.{Rises, Sinks, rises_as, none_rise, gap_rises, level_rises, both_rise, gap_sinks, closer_sinks, both_sink, opener_rises, either_rises}
-use Rattle.graphql_common.specs.Values.{ValueTree, variable, int, float, string, boolean, null, enum, list, object, ValueItems, no_items, item, ValueMembers, no_members, member, TypeTree, named, list_of, non_null, DirectiveTree}
-use Rattle.graphql_common.specs.ValueLayout.{has_block_form, before_part, behind_parts, parts, enclosed, inside, pair_layout, value_layout, items_layout, members_layout, type_layout, each_argument, arguments_layout, directive_layout, directives_layout}
-use Rattle.graphql_common.specs.Printable.{value_brackets, items_brackets, members_brackets, type_brackets, argument_brackets, arguments_brackets, directive_brackets, directives_brackets, most}
+use Rattle.graphql_core.proofs.Depths.{Rises, Sinks, rises_as, none_rise, gap_rises, level_rises, both_rise, gap_sinks, closer_sinks, both_sink, opener_rises}
+use Rattle.graphql_core.proofs.Depths.{either_rises}
+use Rattle.graphql_common.specs.Values.{ValueTree, variable, int, float, string, boolean, null, enum, list, object, ValueItems, no_items, item, ValueMembers}
+use Rattle.graphql_common.specs.Values.{no_members, member, TypeTree, named, list_of, non_null, DirectiveTree}
+use Rattle.graphql_common.specs.ValueLayout.{has_block_form, before_part, behind_parts, parts, enclosed, inside, pair_layout, value_layout, items_layout}
+use Rattle.graphql_common.specs.ValueLayout.{members_layout, type_layout, each_argument, arguments_layout, directive_layout, directives_layout}
+use Rattle.graphql_common.specs.Printable.{value_brackets, items_brackets, members_brackets, type_brackets, argument_brackets, arguments_brackets}
+use Rattle.graphql_common.specs.Printable.{directive_brackets, directives_brackets, most}
 
 -- ---- parts between brackets
 
@@ -29,7 +33,8 @@ parts_rise style margin later none_at_all = none_rise
 parts_rise style margin later (one_more {m} {n} h all) =
     rises_as {m = max 0 (max m n)} {n = max m n} (omega arith) (both_rise (before_rises style margin later) (both_rise h (parts_rise style margin true all)))
 
-pub enclosed_rises : {n : ℕ} {ps : List (List Part)} (style : Layout) (margin : ℕ) (opener closer : List ℕ) → bracket_of Punctuator opener ≡ Opens → bracket_of Punctuator closer ≡ Closes
+pub enclosed_rises : {n : ℕ} {ps : List (List Part)} (style : Layout) (margin : ℕ) (opener closer : List ℕ) → bracket_of Punctuator opener ≡ Opens
+    → bracket_of Punctuator closer ≡ Closes
     → AllRise n ps → Rises (n + 1) (enclosed style margin opener closer ps)
 enclosed_rises {n} style margin opener closer o c all =
     rises_as {m = max n (max 0 0) + 1} {n = n + 1} (omega arith)
@@ -64,16 +69,20 @@ mutual
 
 pub type_rises : (t : TypeTree) → Rises (type_brackets t) (type_layout t)
 type_rises (named n) = level_rises refl none_rise
-type_rises (list_of t) = rises_as {m = max (type_brackets t) 0 + 1} {n = type_brackets t + 1} (omega arith) (opener_rises refl (both_sink (type_rises t) (closer_sinks refl none_rise)))
+type_rises (list_of t) =
+    rises_as {m = max (type_brackets t) 0 + 1} {n = type_brackets t + 1} (omega arith)
+    (opener_rises refl (both_sink (type_rises t) (closer_sinks refl none_rise)))
 type_rises (non_null t) = rises_as {m = max (type_brackets t) 0} {n = type_brackets t} (omega arith) (both_rise (type_rises t) (level_rises refl none_rise))
 
 -- ---- arguments and directives
 
-each_rises : (style : Layout) (margin : ℕ) (arguments : List (List ℕ × ValueTree)) → AllRise (most argument_brackets arguments) (each_argument style margin arguments)
+each_rises : (style : Layout) (margin : ℕ) (arguments : List (List ℕ × ValueTree))
+    → AllRise (most argument_brackets arguments) (each_argument style margin arguments)
 each_rises style margin [] = none_at_all
 each_rises style margin (a ∷ more) = one_more (pair_rises a.0 (value_rises style margin a.1)) (each_rises style margin more)
 
-pub arguments_rise : (style : Layout) (margin : ℕ) (arguments : List (List ℕ × ValueTree)) → Rises (arguments_brackets arguments) (arguments_layout style margin arguments)
+pub arguments_rise : (style : Layout) (margin : ℕ) (arguments : List (List ℕ × ValueTree))
+    → Rises (arguments_brackets arguments) (arguments_layout style margin arguments)
 arguments_rise style margin [] = none_rise
 arguments_rise style margin (a ∷ more) = enclosed_rises style margin (codes "(") (codes ")") refl refl (each_rises style (inside style margin) (a ∷ more))
 

@@ -8,22 +8,27 @@ use Rattle.graphql_common.specs.Values.{ValueTree, DirectiveTree, no_place, eras
 use Rattle.graphql_common.specs.ValueLayout.{value_layout, parts, inside, each_argument, arguments_layout, directive_layout, directives_layout}
 use Rattle.graphql_common.specs.Grammar.{core, argument_symbol, arguments_symbol, directive_symbol, directives_symbol, default_symbol}
 use Rattle.graphql_common.specs.Meanings.{spelling_at, pairs_of, optional_arguments_of, directive_of, each_directive_of, directives_of, default_of}
-use Rattle.graphql_common.specs.Printable.{IsPrintableArgument, IsPrintableDirective, IsPrintableDefault, most, argument_brackets, arguments_brackets, directive_brackets, directives_brackets, value_brackets}
+use Rattle.graphql_common.specs.Printable.{IsPrintableArgument, IsPrintableDirective, IsPrintableDefault, most, argument_brackets, arguments_brackets}
+use Rattle.graphql_common.specs.Printable.{directive_brackets, directives_brackets, value_brackets}
 use Rattle.graphql_common.specs.Lawful.{IsLawful, AreLawfulArguments, AreLawfulDirectives}
 use Rattle.graphql_common.specs.declared.read.values.Sort.TheVariants.{Value, Constant}
 use Rattle.graphql_common.proofs.LeavesBack.{name_word}
-use Rattle.graphql_core.proofs.Back.{Back, as_word_back, gap_back, word_back, mark_back, open_back, close_back, nothing_back, both_back, first_back, second_back, node_back, stop_back, more_back, three_back}
+use Rattle.graphql_core.proofs.Back.{Back, as_word_back, gap_back, word_back, mark_back, open_back, close_back, nothing_back, both_back, first_back}
+use Rattle.graphql_core.proofs.Back.{second_back, node_back, stop_back, more_back, three_back}
 use Rattle.graphql_common.proofs.ValuesBack.{to_word, before_back, closer_back, pair_back, value_back}
 
 module _ (style : Layout) where
-  each_back : (margin : ℕ) (later : Bool) (args : List (List ℕ × ValueTree)) (d : ℕ) → AllByRecursion IsPrintableArgument args → AreLawfulArguments args → d + most argument_brackets args ≤ 50
+  each_back : (margin : ℕ) (later : Bool) (args : List (List ℕ × ValueTree)) (d : ℕ) → AllByRecursion IsPrintableArgument args → AreLawfulArguments args
+      → d + most argument_brackets args ≤ 50
       → Back core (Many (Sym argument_symbol)) later d (parts style margin later (each_argument style margin args)) true d (λ x. pairs_of x ≡ args)
   each_back margin later [] d is lawful deep = to_word later (stop_back refl)
   each_back margin later (a ∷ args) d (is, are) (law, laws) deep =
-      before_back style margin later (more_back (pair_back Value style margin a.0 a.1 d is.0 (value_back style Value margin a.1 d is.1 law tt (omega arith))) (each_back margin true args d are laws (omega arith))
+      before_back style margin later (more_back (pair_back Value style margin a.0 a.1 d is.0 (value_back style Value margin a.1 d is.1 law tt (omega arith)))
+      (each_back margin true args d are laws (omega arith))
       (λ x y hx hy. ap₂ (λ p ps. p ∷ ps) hx hy))
 
-  pub arguments_back : (margin : ℕ) (args : List (List ℕ × ValueTree)) (d : ℕ) → AllByRecursion IsPrintableArgument args → AreLawfulArguments args → d + arguments_brackets args ≤ 50
+  pub arguments_back : (margin : ℕ) (args : List (List ℕ × ValueTree)) (d : ℕ) → AllByRecursion IsPrintableArgument args → AreLawfulArguments args
+      → d + arguments_brackets args ≤ 50
       → Back core (optional (Sym arguments_symbol)) true d (arguments_layout style margin args) true d (λ x. optional_arguments_of x ≡ args)
   arguments_back margin [] d is lawful deep = second_back (nothing_back refl)
   arguments_back margin (a ∷ args) d (is, are) (law, laws) deep =
@@ -45,13 +50,16 @@ module _ (style : Layout) where
       (arguments_back margin t.arguments d is.1 lawful deep)
       (λ a n o ha hn ho. λ i. record { position = no_place; name = hn i; arguments = ho i }))
 
-  each_directive_back : (margin : ℕ) (ts : List DirectiveTree) (d : ℕ) → AllByRecursion IsPrintableDirective ts → AreLawfulDirectives ts → d + directives_brackets ts ≤ 50
+  each_directive_back : (margin : ℕ) (ts : List DirectiveTree) (d : ℕ) → AllByRecursion IsPrintableDirective ts → AreLawfulDirectives ts
+      → d + directives_brackets ts ≤ 50
       → Back core (Many (Sym directive_symbol)) true d (directives_layout style margin ts) true d (λ x. erase_all (each_directive_of x) ≡ erase_all ts)
   each_directive_back margin [] d is lawful deep = stop_back refl
   each_directive_back margin (t ∷ ts) d (is, are) (law, laws) deep =
-      gap_back refl (more_back (directive_back margin t d is law (omega arith)) (each_directive_back margin ts d are laws (omega arith)) (λ x y hx hy. ap₂ (λ t us. t ∷ us) hx hy))
+      gap_back refl (more_back (directive_back margin t d is law (omega arith)) (each_directive_back margin ts d are laws (omega arith))
+      (λ x y hx hy. ap₂ (λ t us. t ∷ us) hx hy))
 
-  pub directives_back : (margin : ℕ) (ts : List DirectiveTree) (d : ℕ) → AllByRecursion IsPrintableDirective ts → AreLawfulDirectives ts → d + directives_brackets ts ≤ 50
+  pub directives_back : (margin : ℕ) (ts : List DirectiveTree) (d : ℕ) → AllByRecursion IsPrintableDirective ts → AreLawfulDirectives ts
+      → d + directives_brackets ts ≤ 50
       → Back core (Sym directives_symbol) true d (directives_layout style margin ts) true d (λ x. erase_all (directives_of x) ≡ erase_all ts)
   directives_back margin ts d is lawful deep = node_back (λ x. refl) (each_directive_back margin ts d is lawful deep)
 
@@ -59,4 +67,5 @@ module _ (style : Layout) where
   pub default_back : (margin : ℕ) (v : ValueTree) (d : ℕ) → IsPrintableDefault v → IsLawful v → d + value_brackets v ≤ 50
       → Back core (Sym default_symbol) false d (mark (codes "=") ++ (gap (codes " ") ++ value_layout style margin v)) true d (λ x. default_of x ≡ v)
   default_back margin v d (is, constant) lawful deep =
-      node_back (λ x. refl) (both_back (mark_back (codes "=") (refl, refl) (λ p. refl)) (gap_back refl (value_back style Constant margin v d is lawful constant deep)) (λ e x he hx. hx))
+      node_back (λ x. refl) (both_back (mark_back (codes "=") (refl, refl) (λ p. refl))
+      (gap_back refl (value_back style Constant margin v d is lawful constant deep)) (λ e x he hx. hx))

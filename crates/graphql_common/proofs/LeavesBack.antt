@@ -1,5 +1,6 @@
 -- Names, numbers and quoted strings as tokens of layouts: they stand as their kinds, and mean what was written.
-use Rattle.std.proofs.Common.{◌≡◌, ◌≢◌, ◌<◌, ◌≤◌, ℕ, zero, suc, ℤ, pos, negsuc, ◌+◌, ◌-◌, ◌/◌, ◌%◌, ◌^◌, Bool, true, false, cond, ◌&&◌, ◌==◌, nat_lt, List, [], ◌∷◌, ◌++◌, get_or, codes, refl, sym, ap, ◌∙◌, subst, inl, inr, arith, eqb-true}
+use Rattle.std.proofs.Common.{◌≡◌, ◌≢◌, ◌<◌, ◌≤◌, ℕ, zero, suc, ℤ, pos, negsuc, ◌+◌, ◌-◌, ◌/◌, ◌%◌, ◌^◌, Bool, true, false, cond, ◌&&◌, ◌==◌, nat_lt, List, []}
+use Rattle.std.proofs.Common.{◌∷◌, ◌++◌, get_or, codes, refl, sym, ap, ◌∙◌, subst, inl, inr, arith, eqb-true}
 use Rattle.std.proofs.lemmas.Bool.{cases_eq, and_parts, and_from, false_from_ne_true, ltb-true}
 use Rattle.std.proofs.lemmas.Bool.Decides.{nat_tests}
 use Rattle.std.proofs.lemmas.Fmt.{decimal_is_IsNumeral, decimal_by_steps}
@@ -15,7 +16,8 @@ use mir.Val.{SFits}
 use Rattle.graphql_grammar.specs.Tokens.{is_listed, same_spelling}
 use Rattle.graphql_grammar.proofs.Classes.{same_spelling-true}
 use Rattle.graphql_core.specs.declared.tokenizer.token.Kind.TheVariants.{Name, IntValue, FloatValue, StringValue}
-use Rattle.graphql_core.specs.Lexical.{IsName, is_name_continue, is_delimiter, is_in, is_natural, is_integer, EndsRun, IsStringBody, empty, plain, escaped, name, integer, float, string as a_string}
+use Rattle.graphql_core.specs.Lexical.{IsName, is_name_continue, is_delimiter, is_in, is_natural, is_integer, EndsRun, IsStringBody, empty, plain, escaped}
+use Rattle.graphql_core.specs.Lexical.{name, integer, float, string as a_string}
 use Rattle.graphql_core.specs.Literals.{IsFloatLiteral}
 use Rattle.graphql_core.specs.Strings as units
 use Rattle.graphql_core.specs.Strings.{NamesCharacter, StandsFor, HasValue}
@@ -59,8 +61,11 @@ IsLed (b ∷ bs) = (is_in 49 57 b ≡ true) × (list_all is_ascii_digit bs ≡ t
 led_more : (ds : List ℕ) (m : ℕ) → IsLed ds → m < 10 → IsLed (ds ++ (48 + m) ∷ [])
 led_more [] m h l = absurd h
 led_more (b ∷ bs) m (first, others) l =
-    let digit : is_ascii_digit (48 + m) ≡ true = grind (arith, nat_tests) in
-    (first, list_all-append is_ascii_digit bs ((48 + m) ∷ []) ∙ and_from (list_all is_ascii_digit bs) _ others (and_from (is_ascii_digit (48 + m)) true digit refl))
+    let digit : is_ascii_digit (48 + m) ≡ true = grind (arith, nat_tests) in (
+      first,
+      list_all-append is_ascii_digit bs ((48 + m) ∷ [])
+          ∙ and_from (list_all is_ascii_digit bs) _ others (and_from (is_ascii_digit (48 + m)) true digit refl),
+    )
 
 led_digit : (b : ℕ) → is_in 49 57 b ≡ true → is_ascii_digit b ≡ true
 led_digit b h = grind (arith, nat_tests)
@@ -76,7 +81,8 @@ natural_decimal n small = (decimal_by_steps (λ m ds. (is_natural ds ≡ true) �
     one : (m : ℕ) → m < 10 → (is_natural ((48 + m) ∷ []) ≡ true) × (0 < m → IsLed ((48 + m) ∷ []))
     one m l = (grind (arith, nat_tests), λ some. (grind (arith, nat_tests), refl))
 
-    more : (m : ℕ) (ds : List ℕ) → 10 ≤ m → (is_natural ds ≡ true) × (0 < m / 10 → IsLed ds) → (is_natural (ds ++ (48 + m % 10) ∷ []) ≡ true) × (0 < m → IsLed (ds ++ (48 + m % 10) ∷ []))
+    more : (m : ℕ) (ds : List ℕ) → 10 ≤ m → (is_natural ds ≡ true) × (0 < m / 10 → IsLed ds)
+        → (is_natural (ds ++ (48 + m % 10) ∷ []) ≡ true) × (0 < m → IsLed (ds ++ (48 + m % 10) ∷ []))
     more m ds l (is, led) = let h = led_more ds (m % 10) (led (omega arith)) (omega arith) in (led_natural _ h, λ some. h)
 
 -- a natural number has no sign

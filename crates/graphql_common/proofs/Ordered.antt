@@ -20,7 +20,8 @@ joined_none : (ms : ValueMembers) → joined ms no_members ≡ ms
 joined_none no_members = refl
 joined_none (member k v ms) = ap (member k v) (joined_none ms)
 
-joined_one : (done : ValueMembers) (k : List ℕ) (v : ValueTree) (ms : ValueMembers) → joined (joined done (member k v no_members)) ms ≡ joined done (member k v ms)
+joined_one : (done : ValueMembers) (k : List ℕ) (v : ValueTree) (ms : ValueMembers)
+    → joined (joined done (member k v no_members)) ms ≡ joined done (member k v ms)
 joined_one no_members k v ms = refl
 joined_one (member l w done) k v ms = ap (member l w) (joined_one done k v ms)
 
@@ -36,11 +37,13 @@ put_last : (done : ValueMembers) (k : List ℕ) (v : ValueTree) → IsAbove done
 put_last no_members k v h = refl
 put_last (member l w done) k v (above, h) = rw above (ap (member l w) (put_last done k v h))
 
-above_joined : (done : ValueMembers) (k j : List ℕ) (v : ValueTree) → IsAbove done j → slice_cmp nat_cmp k j ≡ Less → IsAbove (joined done (member k v no_members)) j
+above_joined : (done : ValueMembers) (k j : List ℕ) (v : ValueTree) → IsAbove done j → slice_cmp nat_cmp k j ≡ Less
+    → IsAbove (joined done (member k v no_members)) j
 above_joined no_members k j v h l = (nat_list_cmp_total.antisymm j k ∙ ap ordering_reverse l, tt)
 above_joined (member i w done) k j v (here, h) l = (here, above_joined done k j v h l)
 
-all_above : (done : ValueMembers) (k : List ℕ) (v : ValueTree) (js : List (List ℕ)) → AllByRecursion (IsAbove done) js → AllByRecursion (λ y. slice_cmp nat_cmp k y ≡ Less) js
+all_above : (done : ValueMembers) (k : List ℕ) (v : ValueTree) (js : List (List ℕ)) → AllByRecursion (IsAbove done) js
+    → AllByRecursion (λ y. slice_cmp nat_cmp k y ≡ Less) js
     → AllByRecursion (IsAbove (joined done (member k v no_members))) js
 all_above done k v [] h l = tt
 all_above done k v (j ∷ js) (a, h) (b, l) = (above_joined done k j v a b, all_above done k v js h l)

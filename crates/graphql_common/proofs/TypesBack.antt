@@ -9,7 +9,8 @@ use Rattle.graphql_common.specs.Grammar.{core, type_symbol, punctuator}
 use Rattle.graphql_common.specs.Meanings.{spelling_at, marked, type_of}
 use Rattle.graphql_common.specs.Printable.{AdmitsNull, IsPrintableType, type_brackets}
 use Rattle.graphql_common.proofs.LeavesBack.{name_word}
-use Rattle.graphql_core.proofs.Back.{Back, as_word_back, anywhere_back, same_parts, means, word_back, mark_back, open_back, close_back, nothing_back, both_back, first_back, second_back, node_back, four_back}
+use Rattle.graphql_core.proofs.Back.{Back, as_word_back, anywhere_back, same_parts, means, word_back, mark_back, open_back, close_back, nothing_back, both_back}
+use Rattle.graphql_core.proofs.Back.{first_back, second_back, node_back, four_back}
 
 -- with a `!` or without
 abbrev bang : Bool → List Part
@@ -34,7 +35,8 @@ banged_back (named n) b d is a deep =
     node_back (λ x. refl) (first_back (both_back {P = λ x. spelling_at x ≡ n} (word_back (name_word n is) (λ p. refl) (λ t e. e)) (bang_back b d)
     (λ x m hx hm. hm (named (spelling_at x)) ∙ ap (λ s. banged b (named s)) hx)))
 banged_back (list_of t) b d is a deep =
-    same_parts (mark (codes "[") ++ (type_layout t ++ (mark (codes "]") ++ bang b))) _ (ap (λ (l : List Part). token Punctuator (codes "[") ∷ l) (append_assoc (type_layout t) (mark (codes "]")) (bang b)))
+    same_parts (mark (codes "[") ++ (type_layout t ++ (mark (codes "]") ++ bang b))) _
+    (ap (λ (l : List Part). token Punctuator (codes "[") ∷ l) (append_assoc (type_layout t) (mark (codes "]")) (bang b)))
     (node_back (λ x. refl) (second_back (four_back
     (open_back (codes "[") (refl, refl) (omega arith) (λ p. refl))
     (same_parts (type_layout t ++ []) (type_layout t) (sym (append-nil (type_layout t))) (banged_back t false (d + 1) is tt (omega arith)))
@@ -44,5 +46,6 @@ banged_back (list_of t) b d is a deep =
 banged_back (non_null t) true d is a deep = absurd a
 banged_back (non_null t) false d (a, is) _ deep = same_parts (type_layout t ++ bang true) _ (append-nil _) (banged_back t true d is a deep)
 
-pub type_back : (t : TypeTree) (d : ℕ) → IsPrintableType t → d + type_brackets t ≤ 50 → Back core (Sym type_symbol) false d (type_layout t) true d (λ x. type_of x ≡ t)
+pub type_back : (t : TypeTree) (d : ℕ) → IsPrintableType t → d + type_brackets t ≤ 50
+    → Back core (Sym type_symbol) false d (type_layout t) true d (λ x. type_of x ≡ t)
 type_back t d is deep = same_parts (type_layout t ++ []) (type_layout t) (sym (append-nil (type_layout t))) (banged_back t false d is tt deep)

@@ -10,19 +10,24 @@ use Rattle.graphql_core.specs.Parts.{Part, token, name, mark, gap, new_line}
 use Rattle.graphql_common.specs.declared.read.values.Sort.{Sort}
 use Rattle.graphql_common.specs.declared.read.values.Sort.TheVariants.{Value, Constant}
 use Rattle.graphql_common.specs.Sorts.{symbol_of, pair_symbol_of, list_rule, object_rule, pair_rule, tree_of, trees_of, pair_of, pairs_by, as_list, as_object}
-use Rattle.graphql_common.specs.Values.{ValueTree, variable, int, float, string, boolean, null, enum, list, object, ValueItems, no_items, item, ValueMembers, no_members, member}
-use Rattle.graphql_common.specs.ValueLayout.{value_layout, items_layout, members_layout, pair_layout, before_part, parts, behind_parts, inside, boolean_name, has_block_form, in_block_form, quoted}
+use Rattle.graphql_common.specs.Values.{ValueTree, variable, int, float, string, boolean, null, enum, list, object, ValueItems, no_items, item, ValueMembers}
+use Rattle.graphql_common.specs.Values.{no_members, member}
+use Rattle.graphql_common.specs.ValueLayout.{value_layout, items_layout, members_layout, pair_layout, before_part, parts, behind_parts, inside, boolean_name}
+use Rattle.graphql_common.specs.ValueLayout.{has_block_form, in_block_form, quoted}
 use Rattle.graphql_common.specs.Grammar.{core, plain_symbol}
 use Rattle.graphql_common.specs.Meanings.{spelling_at, plain_of, put_all}
 use Rattle.graphql_common.specs.Leaves.{block_string_of}
-use Rattle.graphql_common.specs.Printable.{IsPrintableValue, ArePrintableItems, ArePrintableMembers, IsConstant, AreConstant, HoldConstants, value_brackets, items_brackets, members_brackets}
+use Rattle.graphql_common.specs.Printable.{IsPrintableValue, ArePrintableItems, ArePrintableMembers, IsConstant, AreConstant, HoldConstants, value_brackets}
+use Rattle.graphql_common.specs.Printable.{items_brackets, members_brackets}
 use Rattle.graphql_common.specs.Lawful.{IsLawful, AreLawful, HoldLawful}
 use Rattle.graphql_core.proofs.Laid.{is_blank}
-use Rattle.graphql_common.proofs.LeavesBack.{name_word, enum_takes, int_word, int_takes, int_decimal, float_word, float_takes, quoted_word, quoted_takes, quoted_means}
+use Rattle.graphql_common.proofs.LeavesBack.{name_word, enum_takes, int_word, int_takes, int_decimal, float_word, float_takes, quoted_word, quoted_takes}
+use Rattle.graphql_common.proofs.LeavesBack.{quoted_means}
 use Rattle.graphql_common.proofs.BlockForm.{block_word}
 use Rattle.graphql_common.proofs.BlockValues.{block_means}
 use Rattle.graphql_common.proofs.Ordered.{pairs_in, put_in_order}
-use Rattle.graphql_core.proofs.Back.{Back, Any, as_word_back, anywhere_back, gap_back, word_back, mark_back, open_back, close_back, both_back, first_back, second_back, node_back, stop_back, more_back, three_back}
+use Rattle.graphql_core.proofs.Back.{Back, Any, as_word_back, anywhere_back, gap_back, word_back, mark_back, open_back, close_back, both_back, first_back}
+use Rattle.graphql_core.proofs.Back.{second_back, node_back, stop_back, more_back, three_back}
 
 -- ---- white space of parts
 
@@ -40,7 +45,8 @@ pub to_word : {e : Expr} {p : Bool} (q : Bool) {d f : ℕ} {ps : List Part} {R :
 to_word true h = h
 to_word false h = as_word_back h
 
-pub choose_line : {e : Expr} {p q : Bool} {d f : ℕ} {ps : List Part} {R : Shape → Type 0} (b : Bool) (n : ℕ) → Back core e p d ps q f R → Back core e p d ((if b then new_line n else []) ++ ps) q f R
+pub choose_line : {e : Expr} {p q : Bool} {d f : ℕ} {ps : List Part} {R : Shape → Type 0} (b : Bool) (n : ℕ) → Back core e p d ps q f R
+    → Back core e p d ((if b then new_line n else []) ++ ps) q f R
 choose_line {p = p} true n h = gap_back (spaces_blank n) (calm p h)
 choose_line false n h = h
 
@@ -50,30 +56,36 @@ choose_comma true n h = gap_back refl (gap_back (spaces_blank n) h)
 choose_comma false n h = gap_back refl h
 
 -- before a part, where one stands before it or none
-pub before_back : {e : Expr} {q : Bool} {d f : ℕ} {ps : List Part} {R : Shape → Type 0} (style : Layout) (margin : ℕ) (later : Bool) → Back core e false d ps q f R
+pub before_back : {e : Expr} {q : Bool} {d f : ℕ} {ps : List Part} {R : Shape → Type 0} (style : Layout) (margin : ℕ) (later : Bool)
+    → Back core e false d ps q f R
     → Back core e later d (before_part style margin later ++ ps) q f R
 before_back style margin false h = choose_line style.multiline margin h
 before_back style margin true h = choose_comma style.multiline margin h
 
 -- the closer behind all parts
-pub closer_back : {c : Class} {d : ℕ} (style : Layout) (margin : ℕ) (s : List ℕ) → Back core (One c) true (d + 1) (mark s) false d Any → Back core (One c) true (d + 1) (behind_parts style margin ++ mark s) false d Any
+pub closer_back : {c : Class} {d : ℕ} (style : Layout) (margin : ℕ) (s : List ℕ) → Back core (One c) true (d + 1) (mark s) false d Any
+    → Back core (One c) true (d + 1) (behind_parts style margin ++ mark s) false d Any
 closer_back style margin s h = choose_line style.multiline margin h
 
 -- ---- the sides of a sort's rule
 
-plain_in : (s : Sort) (v : ValueTree) {p q : Bool} {d f : ℕ} {ps : List Part} → Back core (Sym plain_symbol) p d ps q f (λ x. plain_of x ≡ v) → Back core (Sym (symbol_of s)) p d ps q f (λ x. tree_of s x ≡ v)
+plain_in : (s : Sort) (v : ValueTree) {p q : Bool} {d f : ℕ} {ps : List Part} → Back core (Sym plain_symbol) p d ps q f (λ x. plain_of x ≡ v)
+    → Back core (Sym (symbol_of s)) p d ps q f (λ x. tree_of s x ≡ v)
 plain_in Value v h = node_back (λ x. refl) (second_back (first_back h))
 plain_in Constant v h = node_back (λ x. refl) (first_back h)
 
-list_in : (s : Sort) (v : ValueTree) {p q : Bool} {d f : ℕ} {ps : List Part} → Back core (list_rule s) p d ps q f (λ x. tree_of s (as_list s x) ≡ v) → Back core (Sym (symbol_of s)) p d ps q f (λ x. tree_of s x ≡ v)
+list_in : (s : Sort) (v : ValueTree) {p q : Bool} {d f : ℕ} {ps : List Part} → Back core (list_rule s) p d ps q f (λ x. tree_of s (as_list s x) ≡ v)
+    → Back core (Sym (symbol_of s)) p d ps q f (λ x. tree_of s x ≡ v)
 list_in Value v h = node_back (λ x. refl) (second_back (second_back (first_back h)))
 list_in Constant v h = node_back (λ x. refl) (second_back (first_back h))
 
-object_in : (s : Sort) (v : ValueTree) {p q : Bool} {d f : ℕ} {ps : List Part} → Back core (object_rule s) p d ps q f (λ x. tree_of s (as_object s x) ≡ v) → Back core (Sym (symbol_of s)) p d ps q f (λ x. tree_of s x ≡ v)
+object_in : (s : Sort) (v : ValueTree) {p q : Bool} {d f : ℕ} {ps : List Part} → Back core (object_rule s) p d ps q f (λ x. tree_of s (as_object s x) ≡ v)
+    → Back core (Sym (symbol_of s)) p d ps q f (λ x. tree_of s x ≡ v)
 object_in Value v h = node_back (λ x. refl) (second_back (second_back (second_back h)))
 object_in Constant v h = node_back (λ x. refl) (second_back (second_back h))
 
-pair_in : (s : Sort) (a : List ℕ × ValueTree) {p q : Bool} {d f : ℕ} {ps : List Part} → Back core (pair_rule s) p d ps q f (λ x. pair_of s (Node (pair_symbol_of s) x) ≡ a) → Back core (Sym (pair_symbol_of s)) p d ps q f (λ x. pair_of s x ≡ a)
+pair_in : (s : Sort) (a : List ℕ × ValueTree) {p q : Bool} {d f : ℕ} {ps : List Part}
+    → Back core (pair_rule s) p d ps q f (λ x. pair_of s (Node (pair_symbol_of s) x) ≡ a) → Back core (Sym (pair_symbol_of s)) p d ps q f (λ x. pair_of s x ≡ a)
 pair_in Value a h = node_back (λ x. refl) h
 pair_in Constant a h = node_back (λ x. refl) h
 
@@ -106,7 +118,8 @@ pairs_means Value x y = refl
 pairs_means Constant x y = refl
 
 -- a name, a colon and a value
-pub pair_back : (s : Sort) (style : Layout) (margin : ℕ) (n : List ℕ) (v : ValueTree) (d : ℕ) → IsName n → Back core (Sym (symbol_of s)) false d (value_layout style margin v) true d (λ x. tree_of s x ≡ v)
+pub pair_back : (s : Sort) (style : Layout) (margin : ℕ) (n : List ℕ) (v : ValueTree) (d : ℕ) → IsName n
+    → Back core (Sym (symbol_of s)) false d (value_layout style margin v) true d (λ x. tree_of s x ≡ v)
     → Back core (Sym (pair_symbol_of s)) false d (pair_layout n (value_layout style margin v)) true d (λ x. pair_of s x ≡ (n, v))
 pair_back s style margin n v d is value =
     pair_in s (n, v) (three_back {P = λ x. spelling_at x ≡ n}
@@ -152,27 +165,44 @@ boolean_back false d = node_back (λ x. refl) (second_back (first_back (word_bac
 
 module _ (style : Layout) where
   form_back : (margin : ℕ) (text : List ℕ) (d : ℕ) (b : Bool) → has_block_form text ≡ b
-      → Back core (Sym plain_symbol) false d (if b then token BlockString (in_block_form (margin + style.indent) margin text) ∷ [] else token StringValue (quoted text) ∷ []) true d (λ x. plain_of x ≡ string text)
+      → Back core (Sym plain_symbol) false d (if b then token BlockString (in_block_form (margin + style.indent) margin text)
+      ∷ [] else token StringValue (quoted text) ∷ []) true d (λ x. plain_of x ≡ string text)
   form_back margin text d true h =
-      node_back (λ x. refl) (second_back (second_back (second_back (second_back (second_back (second_back (second_back (word_back (block_word (margin + style.indent) margin text) (λ p. refl) (λ t e. ap (λ s. string (block_string_of s)) e ∙ ap string (block_means (margin + style.indent) margin text h))))))))))
+      node_back (λ x. refl) (second_back (second_back (second_back (second_back (second_back
+      (second_back (second_back (word_back (block_word (margin + style.indent) margin text) (λ p. refl)
+      (λ t e. ap (λ s. string (block_string_of s)) e ∙ ap string (block_means (margin + style.indent) margin text h))))))))))
   form_back margin text d false h =
-      node_back (λ x. refl) (second_back (second_back (second_back (second_back (second_back (second_back (first_back (word_back (quoted_word text) (quoted_takes text) (λ t e. ap (λ s. plain_of (Node plain_symbol (Second (Second (Second (Second (Second (Second (First (Leaf (record { kind = t.kind; spelling = s; place = t.place }))))))))))) e ∙ ap string (quoted_means text))))))))))
+      node_back (λ x. refl) (second_back (second_back (second_back (second_back (second_back
+      (second_back (first_back (word_back (quoted_word text) (quoted_takes text)
+      (λ t e. ap (λ s. plain_of (Node plain_symbol
+      (Second (Second (Second (Second (Second (Second (First (Leaf (record { kind = t.kind; spelling = s; place = t.place }))))))))))) e
+      ∙ ap string (quoted_means text))))))))))
 
   mutual
     pub value_back : (s : Sort) (margin : ℕ) (v : ValueTree) (d : ℕ) → IsPrintableValue v → IsLawful v → Suits s v → d + value_brackets v ≤ 50
         → Back core (Sym (symbol_of s)) false d (value_layout style margin v) true d (λ x. tree_of s x ≡ v)
     value_back Constant margin (variable n) d is lawful suits deep = absurd suits
     value_back Value margin (variable n) d is lawful suits deep =
-        node_back (λ x. refl) (first_back (both_back {Q = λ x. spelling_at x ≡ n} (mark_back (codes "$") (refl, refl) (λ p. refl)) (word_back (name_word n is) (λ p. refl) (λ t e. e)) (λ o x ho hx. ap variable hx)))
+        node_back (λ x. refl) (first_back (both_back {Q = λ x. spelling_at x ≡ n} (mark_back (codes "$") (refl, refl) (λ p. refl))
+        (word_back (name_word n is) (λ p. refl) (λ t e. e)) (λ o x ho hx. ap variable hx)))
     value_back s margin (int i) d is lawful suits deep =
-        plain_in s (int i) (node_back (λ x. refl) (second_back (second_back (second_back (second_back (first_back (word_back (int_word i lawful) (int_takes i lawful) (λ t e. ap (λ r. plain_of (Node plain_symbol (Second (Second (Second (Second (First (Leaf (record { kind = t.kind; spelling = r; place = t.place }))))))))) e ∙ ap int (int_decimal i lawful)))))))))
+        plain_in s (int i) (node_back (λ x. refl)
+        (second_back (second_back (second_back (second_back (first_back (word_back (int_word i lawful) (int_takes i lawful)
+        (λ t e. ap (λ r. plain_of (Node plain_symbol
+        (Second (Second (Second (Second (First (Leaf (record { kind = t.kind; spelling = r; place = t.place }))))))))) e
+        ∙ ap int (int_decimal i lawful)))))))))
     value_back s margin (float literal) d is lawful suits deep =
-        plain_in s (float literal) (node_back (λ x. refl) (second_back (second_back (second_back (second_back (second_back (first_back (word_back (float_word literal lawful) (float_takes literal lawful) (λ t e. ap float e)))))))))
+        plain_in s (float literal) (node_back (λ x. refl)
+        (second_back (second_back (second_back (second_back (second_back (first_back (word_back (float_word literal lawful) (float_takes literal lawful)
+        (λ t e. ap float e)))))))))
     value_back s margin (string text) d is lawful suits deep = plain_in s (string text) (form_back margin text d (has_block_form text) refl)
     value_back s margin (boolean b) d is lawful suits deep = plain_in s (boolean b) (boolean_back b d)
-    value_back s margin null d is lawful suits deep = plain_in s null (node_back (λ x. refl) (second_back (second_back (first_back (word_back (name_word (codes "null") (refl, refl)) (λ p. refl) (λ t e. refl))))))
+    value_back s margin null d is lawful suits deep =
+        plain_in s null (node_back (λ x. refl) (second_back (second_back (first_back (word_back (name_word (codes "null") (refl, refl)) (λ p. refl)
+        (λ t e. refl))))))
     value_back s margin (enum n) d is lawful suits deep =
-        plain_in s (enum n) (node_back (λ x. refl) (second_back (second_back (second_back (first_back (node_back (λ x. refl) (word_back (name_word n is.0) (enum_takes n is) (λ t e. ap enum e))))))))
+        plain_in s (enum n) (node_back (λ x. refl)
+        (second_back (second_back (second_back (first_back (node_back (λ x. refl) (word_back (name_word n is.0) (enum_takes n is) (λ t e. ap enum e))))))))
     value_back s margin (list vs) d is lawful suits deep =
         list_in s (list vs) (as_word_back (three_back
         (open_back (codes "[") (refl, refl) (omega arith) (λ p. refl))
@@ -186,15 +216,18 @@ module _ (style : Layout) where
         (closer_back style margin (codes "}") (close_back (codes "}") (refl, refl) (λ p. refl)))
         (λ o x c ho hx hc. object_means s o x c ∙ ap (λ ps. object (put_all ps no_members)) hx ∙ ap object (put_in_order ms ordered))))
 
-    items_back : (s : Sort) (margin : ℕ) (later : Bool) (vs : ValueItems) (d : ℕ) → ArePrintableItems vs → AreLawful vs → SuitItems s vs → d + items_brackets vs ≤ 50
+    items_back : (s : Sort) (margin : ℕ) (later : Bool) (vs : ValueItems) (d : ℕ) → ArePrintableItems vs → AreLawful vs → SuitItems s vs
+        → d + items_brackets vs ≤ 50
         → Back core (Many (Sym (symbol_of s))) later d (parts style margin later (items_layout style margin vs)) true d (λ x. trees_of s x ≡ vs)
     items_back s margin later no_items d is lawful suits deep = to_word later (stop_back (no_items_means s))
     items_back s margin later (item v vs) d (is, are) (law, laws) suits deep =
         let (here, others) = suits_item s v vs suits in
-        before_back style margin later (more_back (value_back s margin v d is law here (omega arith)) (items_back s margin true vs d are laws others (omega arith))
+        before_back style margin later (more_back (value_back s margin v d is law here (omega arith))
+        (items_back s margin true vs d are laws others (omega arith))
         (λ x y hx hy. items_means s x y ∙ ap₂ item hx hy))
 
-    members_back : (s : Sort) (margin : ℕ) (later : Bool) (ms : ValueMembers) (d : ℕ) → ArePrintableMembers ms → HoldLawful ms → SuitMembers s ms → d + members_brackets ms ≤ 50
+    members_back : (s : Sort) (margin : ℕ) (later : Bool) (ms : ValueMembers) (d : ℕ) → ArePrintableMembers ms → HoldLawful ms → SuitMembers s ms
+        → d + members_brackets ms ≤ 50
         → Back core (Many (Sym (pair_symbol_of s))) later d (parts style margin later (members_layout style margin ms)) true d (λ x. pairs_by s x ≡ pairs_in ms)
     members_back s margin later no_members d is lawful suits deep = to_word later (stop_back (no_pairs_means s))
     members_back s margin later (member n v ms) d (is, prints, are) (law, laws) suits deep =

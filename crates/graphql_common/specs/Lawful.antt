@@ -3,7 +3,8 @@ use Rattle.std.specs.Prelude.{ℕ, List, FitsSigned}
 use Rattle.std.specs.Int.{w64}
 use Rattle.std.specs.List.{AllByRecursion}
 use Rattle.graphql_core.specs.Literals.{IsFloatLiteral}
-use Rattle.graphql_common.specs.Values.{ValueTree, int, float, list, object, ValueItems, no_items, item, ValueMembers, no_members, member, AreInKeyOrder, DirectiveTree}
+use Rattle.graphql_common.specs.Values.{ValueTree, int, float, list, object, ValueItems, no_items, item, ValueMembers, no_members, member, AreInKeyOrder}
+use Rattle.graphql_common.specs.Values.{DirectiveTree}
 
 -- Integers are `i64`s, floats are literals, and each object has its keys in order.
 abbrev mutual

@@ -2,7 +2,9 @@
 use Rattle.std.proofs.Common.{◌≡◌, ℕ, ◌+◌, ◌<◌, Bool, true, false, List, [], ◌∷◌, ◌++◌, refl, sym, ap, ap₂, ◌∙◌, subst}
 use Rattle.std.specs.List.{list_all}
 use Rattle.graphql_grammar.specs.Tokens.{Token, Place, Class}
-use Rattle.graphql_grammar.specs.Trees.{Expr, Empty, One, Then, Either, Many, Sym, Shape, Nothing, Leaf, Both, First, Second, Stop, More, Node, Grammar, row, accepts, leaves, Derives, Fits, fits_nothing, fits_leaf, fits_both, fits_first, fits_second, fits_stop, fits_more, fits_node}
+use Rattle.graphql_grammar.specs.Trees.{Expr, Empty, One, Then, Either, Many, Sym, Shape, Nothing, Leaf, Both, First, Second, Stop, More, Node, Grammar, row}
+use Rattle.graphql_grammar.specs.Trees.{accepts, leaves, Derives, Fits, fits_nothing, fits_leaf, fits_both, fits_first, fits_second, fits_stop, fits_more}
+use Rattle.graphql_grammar.specs.Trees.{fits_node}
 use Rattle.graphql_grammar.specs.Extended.{Extends, TestsAlike, is_below}
 use Rattle.graphql_grammar.proofs.Extending.{reads_on}
 use Rattle.graphql_core.specs.declared.tokenizer.token.Kind.{Kind}
@@ -14,7 +16,8 @@ use Rattle.graphql_core.specs.Lexical.{is_mark, nesting_of}
 use Rattle.graphql_core.specs.Items.{Item, HasItems}
 use Rattle.graphql_core.specs.Source.{split, IsEnd}
 use Rattle.graphql_core.specs.Parts.{Part, token, ignored, text_of}
-use Rattle.graphql_core.proofs.Laid.{IsWord, is_blank, Nests, Laid, done, as_word, margin, gap, word, mark, dots, anywhere, behind, Spells, spells_split, has_tokens}
+use Rattle.graphql_core.proofs.Laid.{IsWord, is_blank, Nests, Laid, done, as_word, margin, gap, word, mark, dots, anywhere, behind, Spells, spells_split}
+use Rattle.graphql_core.proofs.Laid.{has_tokens}
 
 -- these tokens have a tree of the expression, of which R holds
 abbrev pub HasShape : Grammar → Expr → (Shape → Type 0) → List Token → Type 0
@@ -37,11 +40,13 @@ pub anywhere_back : {g : Grammar} {e : Expr} {q : Bool} {d f : ℕ} {ps : List P
 anywhere_back b = record { laid = anywhere b.laid; reads = b.reads }
 
 -- the same parts, written otherwise
-pub same_parts : {g : Grammar} {e : Expr} {p q : Bool} {d f : ℕ} {R : Shape → Type 0} (ps qs : List Part) → qs ≡ ps → Back g e p d ps q f R → Back g e p d qs q f R
+pub same_parts : {g : Grammar} {e : Expr} {p q : Bool} {d f : ℕ} {R : Shape → Type 0} (ps qs : List Part) → qs ≡ ps → Back g e p d ps q f R
+    → Back g e p d qs q f R
 same_parts {g} {e} {p} {q} {d} {f} {R} ps qs same b = subst (λ (rs : List Part). Back g e p d rs q f R) (sym same) b
 
 -- the same, where more is known
-pub means : {g : Grammar} {e : Expr} {p q : Bool} {d f : ℕ} {ps : List Part} {P R : Shape → Type 0} → ((x : Shape) → P x → R x) → Back g e p d ps q f P → Back g e p d ps q f R
+pub means : {g : Grammar} {e : Expr} {p q : Bool} {d f : ℕ} {ps : List Part} {P R : Shape → Type 0} → ((x : Shape) → P x → R x) → Back g e p d ps q f P
+    → Back g e p d ps q f R
 means h b = record { laid = b.laid; reads = λ ts s. let (x, fits, is, r) = b.reads ts s in (x, fits, is, h x r) }
 
 -- ---- white space before an expression, and behind it
@@ -60,7 +65,8 @@ spells_gap (ignored other ∷ ps) text ts h = spells_gap ps text ts h
 spells_gap (token k s ∷ ps) text [] h = absurd h
 spells_gap (token k s ∷ ps) text (t ∷ ts) (kind, spelling, h) = (kind, spelling, spells_gap ps text ts h)
 
-pub then_gap : {g : Grammar} {e : Expr} {p q : Bool} {d f : ℕ} {ps : List Part} {R : Shape → Type 0} (c : ℕ) (text : List ℕ) → list_all is_blank (c ∷ text) ≡ true
+pub then_gap : {g : Grammar} {e : Expr} {p q : Bool} {d f : ℕ} {ps : List Part} {R : Shape → Type 0} (c : ℕ) (text : List ℕ)
+    → list_all is_blank (c ∷ text) ≡ true
     → Back g e p d ps q f R → Back g e p d (ps ++ ignored (c ∷ text) ∷ []) false f R
 then_gap {ps = ps} c text h b = record { laid = behind b.laid (gap h done); reads = λ ts s. b.reads ts (spells_gap ps (c ∷ text) ts s) }
 
@@ -70,13 +76,15 @@ then_gap {ps = ps} c text h b = record { laid = behind b.laid (gap h done); read
 abbrev pub Takes : Grammar → Class → Kind → List ℕ → Type 0
 Takes g c k s = (p : Place) → accepts g c (record { kind = kind_number k; spelling = s; place = p }) ≡ true
 
-leaf_of : {g : Grammar} (c : Class) (k : Kind) (s : List ℕ) {R : Shape → Type 0} → Takes g c k s → ((t : Token) → t.spelling ≡ s → R (Leaf t)) → (ts : List Token) → Spells (token k s ∷ []) ts → HasShape g (One c) R ts
+leaf_of : {g : Grammar} (c : Class) (k : Kind) (s : List ℕ) {R : Shape → Type 0} → Takes g c k s → ((t : Token) → t.spelling ≡ s → R (Leaf t))
+    → (ts : List Token) → Spells (token k s ∷ []) ts → HasShape g (One c) R ts
 leaf_of c k s takes r [] h = absurd h
 leaf_of {g} c k s takes r (t ∷ ts) (kind, spelling, none) =
     let same : t ≡ record { kind = kind_number k; spelling = s; place = t.place } = λ i. record { kind = kind i; spelling = spelling i; place = t.place } in
     (Leaf t, fits_leaf (ap (accepts g c) same ∙ takes t.place), ap (λ (l : List Token). t ∷ l) none, r t spelling)
 
-pub word_back : {g : Grammar} {c : Class} {k : Kind} {s : List ℕ} {d : ℕ} {R : Shape → Type 0} → IsWord k s → Takes g c k s → ((t : Token) → t.spelling ≡ s → R (Leaf t)) → Back g (One c) false d (token k s ∷ []) true d R
+pub word_back : {g : Grammar} {c : Class} {k : Kind} {s : List ℕ} {d : ℕ} {R : Shape → Type 0} → IsWord k s → Takes g c k s
+    → ((t : Token) → t.spelling ≡ s → R (Leaf t)) → Back g (One c) false d (token k s ∷ []) true d R
 word_back {c = c} {k = k} {s = s} w takes r = record { laid = word w done; reads = leaf_of c k s takes r }
 
 -- a punctuator of one character, and how it nests
@@ -84,23 +92,28 @@ abbrev pub IsMark : Nesting → List ℕ → Type 0
 IsMark n (b ∷ []) = (is_mark b ≡ true) × (nesting_of b ≡ n)
 IsMark n s = ⊥
 
-mark_of : {g : Grammar} {c : Class} {p : Bool} {d e : ℕ} (n : Nesting) (s : List ℕ) → IsMark n s → Nests n d e → Takes g c Punctuator s → Back g (One c) p d (token Punctuator s ∷ []) false e Any
+mark_of : {g : Grammar} {c : Class} {p : Bool} {d e : ℕ} (n : Nesting) (s : List ℕ) → IsMark n s → Nests n d e → Takes g c Punctuator s
+    → Back g (One c) p d (token Punctuator s ∷ []) false e Any
 mark_of n [] h nests takes = absurd h
 mark_of {c = c} {d = d} {e = e} n (b ∷ []) (m, is) nests takes =
     record { laid = mark m (subst (λ (x : Nesting). Nests x d e) (sym is) nests) done; reads = leaf_of c Punctuator (b ∷ []) takes (λ t h. tt) }
 mark_of n (b ∷ c ∷ cs) h nests takes = absurd h
 
 -- a mark that is no bracket, an opening one, where fewer than 50 are open, and a closing one
-pub mark_back : {g : Grammar} {c : Class} {p : Bool} {d : ℕ} (s : List ℕ) → IsMark Level s → Takes g c Punctuator s → Back g (One c) p d (token Punctuator s ∷ []) false d Any
+pub mark_back : {g : Grammar} {c : Class} {p : Bool} {d : ℕ} (s : List ℕ) → IsMark Level s → Takes g c Punctuator s
+    → Back g (One c) p d (token Punctuator s ∷ []) false d Any
 mark_back s m takes = mark_of Level s m refl takes
 
-pub open_back : {g : Grammar} {c : Class} {p : Bool} {d : ℕ} (s : List ℕ) → IsMark Opens s → d < 50 → Takes g c Punctuator s → Back g (One c) p d (token Punctuator s ∷ []) false (d + 1) Any
+pub open_back : {g : Grammar} {c : Class} {p : Bool} {d : ℕ} (s : List ℕ) → IsMark Opens s → d < 50 → Takes g c Punctuator s
+    → Back g (One c) p d (token Punctuator s ∷ []) false (d + 1) Any
 open_back s m room takes = mark_of Opens s m (room, refl) takes
 
-pub close_back : {g : Grammar} {c : Class} {p : Bool} {d : ℕ} (s : List ℕ) → IsMark Closes s → Takes g c Punctuator s → Back g (One c) p (d + 1) (token Punctuator s ∷ []) false d Any
+pub close_back : {g : Grammar} {c : Class} {p : Bool} {d : ℕ} (s : List ℕ) → IsMark Closes s → Takes g c Punctuator s
+    → Back g (One c) p (d + 1) (token Punctuator s ∷ []) false d Any
 close_back s m takes = mark_of Closes s m refl takes
 
-pub dots_back : {g : Grammar} {c : Class} {d : ℕ} → Takes g c Punctuator (46 ∷ 46 ∷ 46 ∷ []) → Back g (One c) false d (token Punctuator (46 ∷ 46 ∷ 46 ∷ []) ∷ []) false d Any
+pub dots_back : {g : Grammar} {c : Class} {d : ℕ} → Takes g c Punctuator (46 ∷ 46 ∷ 46 ∷ [])
+    → Back g (One c) false d (token Punctuator (46 ∷ 46 ∷ 46 ∷ []) ∷ []) false d Any
 dots_back {c = c} takes = record { laid = dots done; reads = leaf_of c Punctuator (46 ∷ 46 ∷ 46 ∷ []) takes (λ t h. tt) }
 
 -- ---- what expressions are made of
@@ -119,10 +132,12 @@ both_back {ps = ps} {qs = qs} h k both = record {
       (Both x y, fits_both fx fy, parts ∙ ap₂ (λ (l m : List Token). l ++ m) lx ly, both x y rx ry);
 }
 
-pub first_back : {g : Grammar} {a b : Expr} {p q : Bool} {d f : ℕ} {ps : List Part} {R : Shape → Type 0} → Back g a p d ps q f (λ x. R (First x)) → Back g (Either a b) p d ps q f R
+pub first_back : {g : Grammar} {a b : Expr} {p q : Bool} {d f : ℕ} {ps : List Part} {R : Shape → Type 0} → Back g a p d ps q f (λ x. R (First x))
+    → Back g (Either a b) p d ps q f R
 first_back h = record { laid = h.laid; reads = λ ts s. let (x, fits, is, r) = h.reads ts s in (First x, fits_first fits, is, r) }
 
-pub second_back : {g : Grammar} {a b : Expr} {p q : Bool} {d f : ℕ} {ps : List Part} {R : Shape → Type 0} → Back g b p d ps q f (λ x. R (Second x)) → Back g (Either a b) p d ps q f R
+pub second_back : {g : Grammar} {a b : Expr} {p q : Bool} {d f : ℕ} {ps : List Part} {R : Shape → Type 0} → Back g b p d ps q f (λ x. R (Second x))
+    → Back g (Either a b) p d ps q f R
 second_back h = record { laid = h.laid; reads = λ ts s. let (x, fits, is, r) = h.reads ts s in (Second x, fits_second fits, is, r) }
 
 pub node_back : {g : Grammar} {k : ℕ} {p q : Bool} {d f : ℕ} {ps : List Part} {R : Shape → Type 0} → ((x : Shape) → g.check k x ≡ true)
@@ -130,9 +145,11 @@ pub node_back : {g : Grammar} {k : ℕ} {p q : Bool} {d f : ℕ} {ps : List Part
 node_back {k = k} passes h = record { laid = h.laid; reads = λ ts s. let (x, fits, is, r) = h.reads ts s in (Node k x, fits_node fits (passes x), is, r) }
 
 -- a node with a check of its own: what is known of its shape shows that it passes
-pub checked_back : {g : Grammar} {k : ℕ} {p q : Bool} {d f : ℕ} {ps : List Part} {P R : Shape → Type 0} → ((x : Shape) → P x → g.check k x ≡ true) → ((x : Shape) → P x → R (Node k x))
+pub checked_back : {g : Grammar} {k : ℕ} {p q : Bool} {d f : ℕ} {ps : List Part} {P R : Shape → Type 0} → ((x : Shape) → P x → g.check k x ≡ true)
+    → ((x : Shape) → P x → R (Node k x))
     → Back g (row g k).rule p d ps q f P → Back g (Sym k) p d ps q f R
-checked_back {k = k} passes means h = record { laid = h.laid; reads = λ ts s. let (x, fits, is, r) = h.reads ts s in (Node k x, fits_node fits (passes x r), is, means x r) }
+checked_back {k = k} passes means h =
+    record { laid = h.laid; reads = λ ts s. let (x, fits, is, r) = h.reads ts s in (Node k x, fits_node fits (passes x r), is, means x r) }
 
 pub stop_back : {g : Grammar} {a : Expr} {p : Bool} {d : ℕ} {R : Shape → Type 0} → R Stop → Back g (Many a) p d [] p d R
 stop_back r = record { laid = done; reads = λ ts h. (Stop, fits_stop, h, r) }
@@ -161,19 +178,23 @@ pub four_back : {g : Grammar} {a b c n : Expr} {p q r s u : Bool} {d e f h i : �
     → Back g a p d ps q e P → Back g b q e qs r f Q → Back g c r f rs s h R → Back g n s h ss u i S
     → ((x y z w : Shape) → P x → Q y → R z → S w → T (Both x (Both y (Both z w)))) → Back g (Then a (Then b (Then c n))) p d (ps ++ (qs ++ (rs ++ ss))) u i T
 four_back {Q = Q} {R = R} {S = S} {T = T} k l m o all =
-    both_back k (three_back {S = λ (v : Shape). (y : Shape) × (z : Shape) × (w : Shape) × (v ≡ Both y (Both z w)) × Q y × R z × S w} l m o (λ y z w hy hz hw. (y, z, w, refl, hy, hz, hw)))
+    both_back k (three_back {S = λ (v : Shape). (y : Shape) × (z : Shape) × (w : Shape) × (v ≡ Both y (Both z w)) × Q y × R z × S w} l m o
+    (λ y z w hy hz hw. (y, z, w, refl, hy, hz, hw)))
     (λ x v hx j. subst (λ (v : Shape). T (Both x v)) (sym j.3) (all x j.0 j.1 j.2 hx j.4 j.5 j.6))
 
 pub five_back : {g : Grammar} {a b c n m : Expr} {p q r s u v : Bool} {d e f h i j : ℕ} {ps qs rs ss us : List Part} {P Q R S T V : Shape → Type 0}
     → Back g a p d ps q e P → Back g b q e qs r f Q → Back g c r f rs s h R → Back g n s h ss u i S → Back g m u i us v j T
-    → ((x y z w k : Shape) → P x → Q y → R z → S w → T k → V (Both x (Both y (Both z (Both w k))))) → Back g (Then a (Then b (Then c (Then n m)))) p d (ps ++ (qs ++ (rs ++ (ss ++ us)))) v j V
+    → ((x y z w k : Shape) → P x → Q y → R z → S w → T k → V (Both x (Both y (Both z (Both w k)))))
+    → Back g (Then a (Then b (Then c (Then n m)))) p d (ps ++ (qs ++ (rs ++ (ss ++ us)))) v j V
 five_back {Q = Q} {R = R} {S = S} {T = T} {V = V} k l m o t all =
-    both_back k (four_back {T = λ (v : Shape). (y : Shape) × (z : Shape) × (w : Shape) × (u : Shape) × (v ≡ Both y (Both z (Both w u))) × Q y × R z × S w × T u} l m o t (λ y z w u hy hz hw hu. (y, z, w, u, refl, hy, hz, hw, hu)))
+    both_back k (four_back {T = λ (v : Shape). (y : Shape) × (z : Shape) × (w : Shape) × (u : Shape) × (v ≡ Both y (Both z (Both w u))) × Q y × R z × S w
+    × T u} l m o t (λ y z w u hy hz hw hu. (y, z, w, u, refl, hy, hz, hw, hu)))
     (λ x v hx j. subst (λ (v : Shape). V (Both x v)) (sym j.4) (all x j.0 j.1 j.2 j.3 hx j.5 j.6 j.7 j.8))
 
 -- ---- a grammar that goes on from another
 
-pub lift_back : {n : ℕ} {g h : Grammar} {e : Expr} {p q : Bool} {d f : ℕ} {ps : List Part} {R : Shape → Type 0} → Extends n g h → is_below n e ≡ true → TestsAlike g h e → Back g e p d ps q f R
+pub lift_back : {n : ℕ} {g h : Grammar} {e : Expr} {p q : Bool} {d f : ℕ} {ps : List Part} {R : Shape → Type 0} → Extends n g h → is_below n e ≡ true
+    → TestsAlike g h e → Back g e p d ps q f R
     → Back h e p d ps q f R
 lift_back {n} {g} {h} {e} on below alike b = record {
   laid = b.laid;

@@ -11,7 +11,8 @@ last_ends : (w : Where) (stop : List ℕ) → EndsOnce (last_item w stop ∷ [])
 last_ends w [] = alone _ refl
 last_ends w (b ∷ bs) = alone _ refl
 
-token_ends : (deep : Bool) (bad token : Item) (more : List Item) → is_token bad.content ≡ false → is_token token.content ≡ true → EndsOnce more → EndsOnce (token_then deep bad token more)
+token_ends : (deep : Bool) (bad token : Item) (more : List Item) → is_token bad.content ≡ false → is_token token.content ≡ true → EndsOnce more
+    → EndsOnce (token_then deep bad token more)
 token_ends true bad token more b t e = alone bad b
 token_ends false bad token more b t e =
     record { tokens = token ∷ e.tokens; last = e.last; all = ap (λ l. token ∷ l) e.all; before = rw (t, e.before) refl; ends = e.ends }

@@ -1,5 +1,6 @@
 -- Parts that may stand together: a text of them is cut into just their tokens.
-use Rattle.std.proofs.Common.{◌≡◌, ℕ, ◌+◌, ◌<◌, Bool, true, false, ◌||◌, ◌==◌, List, [], ◌∷◌, ◌++◌, length, refl, sym, ap, ◌∙◌, subst, inl, inr, arith, append_assoc}
+use Rattle.std.proofs.Common.{◌≡◌, ℕ, ◌+◌, ◌<◌, Bool, true, false, ◌||◌, ◌==◌, List, [], ◌∷◌, ◌++◌, length, refl, sym, ap, ◌∙◌, subst, inl, inr, arith}
+use Rattle.std.proofs.Common.{append_assoc}
 use Rattle.std.proofs.lemmas.Bool.{cases_eq, and_parts}
 use Rattle.std.proofs.lemmas.Bool.Decides.{nat_tests}
 use Rattle.std.specs.List.{list_all}
@@ -13,7 +14,8 @@ use Rattle.graphql_core.specs.declared.tokenizer.piece.Nesting.TheVariants.{Leve
 use Rattle.graphql_core.specs.declared.tokenizer.piece.Piece.TheVariants.{AtEnd}
 use Rattle.graphql_core.specs.Causes.{kind_number}
 use Rattle.graphql_core.specs.Front.{front}
-use Rattle.graphql_core.specs.Lexical.{is_mark, is_delimiter, nesting_of, EndsRun, Ignored, Word, Stands, line_feed, space, comma, mark as a_mark, spread, BeginsNone, Piece, IsCutInto}
+use Rattle.graphql_core.specs.Lexical.{is_mark, is_delimiter, nesting_of, EndsRun, Ignored, Word, Stands, line_feed, space, comma, mark as a_mark, spread}
+use Rattle.graphql_core.specs.Lexical.{BeginsNone, Piece, IsCutInto}
 use Rattle.graphql_core.specs.Items.{Where, Item, HasItems, start, past_ignored, past_token, is_too_deep, items_of}
 use Rattle.graphql_core.specs.Source.{split, IsEnd}
 use Rattle.graphql_core.specs.Parts.{Part, token, ignored, text_of}
@@ -42,9 +44,11 @@ pub data Laid : Bool → ℕ → List Part → Bool → ℕ → Type 0 where
   as_word : {p : Bool} {d e : ℕ} {ps : List Part} → Laid p d ps false e → Laid p d ps true e
   -- text that may be empty, and text that is not
   margin : {p q : Bool} {d e : ℕ} {text : List ℕ} {ps : List Part} → list_all is_blank text ≡ true → Laid p d ps q e → Laid p d (ignored text ∷ ps) q e
-  gap : {p q : Bool} {d e b : ℕ} {text : List ℕ} {ps : List Part} → list_all is_blank (b ∷ text) ≡ true → Laid false d ps q e → Laid p d (ignored (b ∷ text) ∷ ps) q e
+  gap : {p q : Bool} {d e b : ℕ} {text : List ℕ} {ps : List Part} → list_all is_blank (b ∷ text) ≡ true → Laid false d ps q e
+      → Laid p d (ignored (b ∷ text) ∷ ps) q e
   word : {q : Bool} {d e : ℕ} {k : Kind} {s : List ℕ} {ps : List Part} → IsWord k s → Laid true d ps q e → Laid false d (token k s ∷ ps) q e
-  mark : {p q : Bool} {d e f b : ℕ} {ps : List Part} → is_mark b ≡ true → Nests (nesting_of b) d e → Laid false e ps q f → Laid p d (token Punctuator (b ∷ []) ∷ ps) q f
+  mark : {p q : Bool} {d e f b : ℕ} {ps : List Part} → is_mark b ≡ true → Nests (nesting_of b) d e → Laid false e ps q f
+      → Laid p d (token Punctuator (b ∷ []) ∷ ps) q f
   dots : {q : Bool} {d e : ℕ} {ps : List Part} → Laid false d ps q e → Laid false d (token Punctuator (46 ∷ 46 ∷ 46 ∷ []) ∷ ps) q e
 
 -- what may stand behind a word may stand anywhere
@@ -88,7 +92,8 @@ spells_split (token k s ∷ ps) qs (t ∷ ts) (kind, spelling, h) =
 
 -- from this place on, the text of the parts has just their tokens, and then the end
 abbrev pub IsCut : Where → List Part → Type 0
-IsCut w ps = (pieces : List Piece) × IsCutInto (text_of ps) pieces [] × Spells ps (split (items_of w pieces [])).tokens × IsEnd (split (items_of w pieces [])).last
+IsCut w ps =
+    (pieces : List Piece) × IsCutInto (text_of ps) pieces [] × Spells ps (split (items_of w pieces [])).tokens × IsEnd (split (items_of w pieces [])).last
 
 no_piece : BeginsNone []
 unfolding front
@@ -106,7 +111,8 @@ cut_one bytes m text ps w st (pieces, cut, spells, end) =
     (record { bytes = bytes; meaning = Ignored m } ∷ pieces, (text ++ text_of ps, append_assoc bytes text (text_of ps), st, cut), spells, end)
 
 -- ignored text
-cut_blank : (text : List ℕ) → list_all is_blank text ≡ true → (ps : List Part) (d : ℕ) → ((w : Where) → IsDeep d w → IsCut w ps) → (w : Where) → IsDeep d w → IsCut w (ignored text ∷ ps)
+cut_blank : (text : List ℕ) → list_all is_blank text ≡ true → (ps : List Part) (d : ℕ) → ((w : Where) → IsDeep d w → IsCut w ps) → (w : Where) → IsDeep d w
+    → IsCut w (ignored text ∷ ps)
 cut_blank [] h ps d k w deep = k w deep
 cut_blank (b ∷ text) h ps d k w deep =
     let (one, others) = and_parts (is_blank b) (list_all is_blank text) h in
@@ -115,12 +121,14 @@ cut_blank (b ∷ text) h ps d k w deep =
       | inl e ↦ subst (λ (c : ℕ). IsCut w (ignored (c ∷ text) ∷ ps)) (sym e) (cut_one (32 ∷ []) (Over 1) text ps w space (more _ deep))
       | inr n ↦ elim (cases_eq b 10) [
         | inl e ↦ subst (λ (c : ℕ). IsCut w (ignored (c ∷ text) ∷ ps)) (sym e) (cut_one (10 ∷ []) Down text ps w line_feed (more _ deep))
-        | inr m ↦ let e : b ≡ 44 = grind (arith, nat_tests) in subst (λ (c : ℕ). IsCut w (ignored (c ∷ text) ∷ ps)) (sym e) (cut_one (44 ∷ []) (Over 1) text ps w comma (more _ deep))
+        | inr m ↦ let e : b ≡ 44 =
+            grind (arith, nat_tests) in subst (λ (c : ℕ). IsCut w (ignored (c ∷ text) ∷ ps)) (sym e) (cut_one (44 ∷ []) (Over 1) text ps w comma (more _ deep))
       ]
     ]
 
 -- a token that is not too deep
-cut_token : (k : Kind) (t : Nesting) (s : List ℕ) (ps : List Part) (w : Where) → is_too_deep t w ≡ false → Stands s (Word k t) (text_of ps) → IsCut (past_token t s w) ps → IsCut w (token k s ∷ ps)
+cut_token : (k : Kind) (t : Nesting) (s : List ℕ) (ps : List Part) (w : Where) → is_too_deep t w ≡ false → Stands s (Word k t) (text_of ps)
+    → IsCut (past_token t s w) ps → IsCut w (token k s ∷ ps)
 unfolding items_of
 cut_token k t s ps w fits st (pieces, cut, spells, end) =
     (record { bytes = s; meaning = Word k t } ∷ pieces, (text_of ps, refl, st, cut), rw fits (refl, refl, spells), rw fits end)

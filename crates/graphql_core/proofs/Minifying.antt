@@ -1,5 +1,6 @@
 -- Spaced tokens are cut into just these tokens.
-use Rattle.std.proofs.Common.{◌≡◌, ◌≢◌, ℕ, Bool, true, false, not, ◌&&◌, ◌||◌, List, [], ◌∷◌, ◌++◌, length, get_or, map, Result, Ok, Err, IfOk, string_bytes, String, refl, sym, ap, ◌∙◌, subst, arith}
+use Rattle.std.proofs.Common.{◌≡◌, ◌≢◌, ℕ, Bool, true, false, not, ◌&&◌, ◌||◌, List, [], ◌∷◌, ◌++◌, length, get_or, map, Result, Ok, Err, IfOk, string_bytes}
+use Rattle.std.proofs.Common.{String, refl, sym, ap, ◌∙◌, subst, arith}
 use Rattle.std.proofs.lemmas.Bool.Decides.{nat_tests}
 use Rattle.std.specs.Global.{Global}
 use Rattle.graphql_grammar.specs.Tokens.{Token, Place, nowhere}
@@ -11,11 +12,14 @@ use Rattle.graphql_core.specs.declared.tokenizer.piece.Nesting.TheVariants.{Leve
 use Rattle.graphql_core.specs.declared.tokenizer.piece.Piece.TheVariants.{AtEnd}
 use Rattle.graphql_core.specs.Causes.{kind_number, too_deep}
 use Rattle.graphql_core.specs.Front.{front}
-use Rattle.graphql_core.specs.Lexical.{is_name_continue, is_mark, EndsRun, Meaning, Ignored, Word, Stands, space, name, mark, spread, integer, float, string, block_string, BeginsNone, Piece, IsCutInto}
-use Rattle.graphql_core.specs.Items.{Where, Item, item, Lexeme, Wrong, HasItems, start, past_ignored, past_token, openers_after, closers_after, is_too_deep, token_then, piece_then, items_of}
+use Rattle.graphql_core.specs.Lexical.{is_name_continue, is_mark, EndsRun, Meaning, Ignored, Word, Stands, space, name, mark, spread, integer, float, string}
+use Rattle.graphql_core.specs.Lexical.{block_string, BeginsNone, Piece, IsCutInto}
+use Rattle.graphql_core.specs.Items.{Where, Item, item, Lexeme, Wrong, HasItems, start, past_ignored, past_token, openers_after, closers_after, is_too_deep}
+use Rattle.graphql_core.specs.Items.{token_then, piece_then, items_of}
 use Rattle.graphql_core.specs.Source.{Items, split, token_of, IsEnd}
 use Rattle.graphql_core.specs.Cut.{items}
-use Rattle.graphql_core.specs.Minified.{is_past, AreLexemes, is_punctuator, is_number, is_spaced, space_if, spaced_after, spaced, unplaced, IsMinified, HasTokens}
+use Rattle.graphql_core.specs.Minified.{is_past, AreLexemes, is_punctuator, is_number, is_spaced, space_if, spaced_after, spaced, unplaced, IsMinified}
+use Rattle.graphql_core.specs.Minified.{HasTokens}
 use Rattle.graphql_core.proofs.Cutting.{has_items, items_unique}
 use Rattle.graphql_core.proofs.Spelled.{shape, stands_front}
 
@@ -69,7 +73,8 @@ spaced_follows k true text f = space_follows k text
 spaced_follows k false text f = f
 
 -- what a word after a token begins with
-word_follows : (k : Kind) (text : List ℕ) → MayFollow k (space_if ((not (is_punctuator (kind_number k)) && true) || (is_number (kind_number k) && false)) ++ text)
+word_follows : (k : Kind) (text : List ℕ)
+    → MayFollow k (space_if ((not (is_punctuator (kind_number k)) && true) || (is_number (kind_number k) && false)) ++ text)
 word_follows Punctuator text = tt
 word_follows Name text = space_follows Name text
 word_follows IntValue text = space_follows IntValue text
@@ -78,7 +83,8 @@ word_follows StringValue text = space_follows StringValue text
 word_follows BlockString text = tt
 
 -- what `...` after a token begins with
-spread_follows : (k : Kind) (more : List ℕ) → MayFollow k (space_if ((not (is_punctuator (kind_number k)) && false) || (is_number (kind_number k) && true)) ++ (46 ∷ more))
+spread_follows : (k : Kind) (more : List ℕ)
+    → MayFollow k (space_if ((not (is_punctuator (kind_number k)) && false) || (is_number (kind_number k) && true)) ++ (46 ∷ more))
 spread_follows Punctuator more = tt
 spread_follows Name more = refl
 spread_follows IntValue more = space_follows IntValue (46 ∷ more)
@@ -103,19 +109,23 @@ past_is Level w = refl
 past_is Opens w = refl
 past_is Closes w = refl
 
-lexeme_kept : (b : Bool) (k : Kind) (n : Nesting) (bytes rest : List ℕ) (w : Where) (more : List Item) → is_past n w.openers w.closers ≡ b → Stands bytes (Word k n) rest
+lexeme_kept : (b : Bool) (k : Kind) (n : Nesting) (bytes rest : List ℕ) (w : Where) (more : List Item) → is_past n w.openers w.closers ≡ b
+    → Stands bytes (Word k n) rest
     → AreLexemes (openers_after n w.openers) (closers_after n w.closers) (split more).tokens
     → AreLexemes w.openers w.closers (split (token_then b (item (Wrong too_deep) w) (item (Lexeme k bytes) w) more)).tokens
 lexeme_kept true k n bytes rest w more e st h = tt
 lexeme_kept false k n bytes rest w more e st h = (k, n, rest, refl, st, e, h)
 
 -- the tokens of a text are pieces
-piece_lexeme : (m : Meaning) (bytes rest : List ℕ) (w : Where) (more : Where → List Item) → Stands bytes m rest → ((v : Where) → AreLexemes v.openers v.closers (split (more v)).tokens)
+piece_lexeme : (m : Meaning) (bytes rest : List ℕ) (w : Where) (more : Where → List Item) → Stands bytes m rest
+    → ((v : Where) → AreLexemes v.openers v.closers (split (more v)).tokens)
     → AreLexemes w.openers w.closers (split (piece_then m more w bytes)).tokens
 piece_lexeme (Ignored m) bytes rest w more st f = f (past_ignored m (length bytes) w)
-piece_lexeme (Word k n) bytes rest w more st f = lexeme_kept (is_too_deep n w) k n bytes rest w (more (past_token n bytes w)) (sym (past_is n w)) st (f (past_token n bytes w))
+piece_lexeme (Word k n) bytes rest w more st f =
+    lexeme_kept (is_too_deep n w) k n bytes rest w (more (past_token n bytes w)) (sym (past_is n w)) st (f (past_token n bytes w))
 
-pub are_lexemes : (ps : List Piece) (text stop : List ℕ) → IsCutInto text ps stop → (w : Where) → AreLexemes w.openers w.closers (split (items_of w ps stop)).tokens
+pub are_lexemes : (ps : List Piece) (text stop : List ℕ) → IsCutInto text ps stop → (w : Where)
+    → AreLexemes w.openers w.closers (split (items_of w ps stop)).tokens
 unfolding items_of
 are_lexemes [] text [] h w = tt
 are_lexemes [] text (b ∷ bs) h w = tt
@@ -125,7 +135,9 @@ are_lexemes (p ∷ ps) text stop (rest, e, st, h) w = piece_lexeme p.meaning p.b
 
 -- from this place on, the text has just these tokens, at any places, and then the end
 abbrev pub IsCut : Where → List ℕ → List Token → Type 0
-IsCut w text ts = (pieces : List Piece) × IsCutInto text pieces [] × (map unplaced (split (items_of w pieces [])).tokens ≡ map unplaced ts) × IsEnd (split (items_of w pieces [])).last
+IsCut w text ts =
+    (pieces : List Piece) × IsCutInto text pieces [] × (map unplaced (split (items_of w pieces [])).tokens ≡ map unplaced ts)
+    × IsEnd (split (items_of w pieces [])).last
 
 no_piece : BeginsNone []
 unfolding front
@@ -151,8 +163,10 @@ cut_token k n s text t ts w fits st kind spelling (pieces, cut, alike, end) =
 spaced_may_follow : (k : Kind) (o c : ℕ) (ts : List Token) → AreLexemes o c ts → MayFollow k (spaced_after (kind_number k) ts)
 spaced_may_follow k o c [] l = end_follows k
 spaced_may_follow k o c (t ∷ ts) (j, n, rest, kind, st, fits, l) =
-    let same : record { kind = kind_number j; spelling = t.spelling; place = t.place } ≡ t = λ i. record { kind = sym kind i; spelling = t.spelling; place = t.place } in
-    subst (λ (u : Token). MayFollow k (space_if (is_spaced (kind_number k) u) ++ (t.spelling ++ spaced_after t.kind ts))) same (token_follows k st t.place (spaced_after t.kind ts))
+    let same : record { kind = kind_number j; spelling = t.spelling; place = t.place }
+    ≡ t = λ i. record { kind = sym kind i; spelling = t.spelling; place = t.place } in
+    subst (λ (u : Token). MayFollow k (space_if (is_spaced (kind_number k) u) ++ (t.spelling ++ spaced_after t.kind ts))) same
+    (token_follows k st t.place (spaced_after t.kind ts))
 
 -- Any list of tokens that are pieces, spaced, is cut into just these tokens.
 pub cut : (kind o c : ℕ) (ts : List Token) → AreLexemes o c ts → (w : Where) → w.openers ≡ o → w.closers ≡ c → IsCut w (spaced_after kind ts) ts
@@ -217,7 +231,8 @@ minified_by source text i are end e =
     (items start source, has_items source, subst (λ (j : Items). IsEnd j.last) is end, e ∙ ap (λ (j : Items). spaced j.tokens) is)
 
 module _ {F : Type 0} (source : List ℕ) (i : Items) (are : AreItems source i) where
-  pub ok_minified : (r : Result (String Global) F) → IfOk r (λ text. string_bytes text ≡ spaced i.tokens) → IfOk r (λ text. IsEnd i.last) → IfOk r (λ text. IsMinified source (string_bytes text))
+  pub ok_minified : (r : Result (String Global) F) → IfOk r (λ text. string_bytes text ≡ spaced i.tokens) → IfOk r (λ text. IsEnd i.last)
+      → IfOk r (λ text. IsMinified source (string_bytes text))
   ok_minified (Ok text) e end = minified_by source (string_bytes text) i are end e
   ok_minified (Err f) e end = tt
 
@@ -226,6 +241,7 @@ module _ {F : Type 0} (source : List ℕ) (i : Items) (are : AreItems source i) 
   ok_tokens (Ok text) e end items h = minified_tokens source (string_bytes text) (minified_by source (string_bytes text) i are end e) items h
   ok_tokens (Err f) e end items h = tt
 
-  pub ok_again : (r : Result (String Global) F) → IfOk r (λ text. string_bytes text ≡ spaced i.tokens) → IfOk r (λ text. IsEnd i.last) → IfOk r (λ text. IsMinified (string_bytes text) (string_bytes text))
+  pub ok_again : (r : Result (String Global) F) → IfOk r (λ text. string_bytes text ≡ spaced i.tokens) → IfOk r (λ text. IsEnd i.last)
+      → IfOk r (λ text. IsMinified (string_bytes text) (string_bytes text))
   ok_again (Ok text) e end = minified_again source (string_bytes text) (minified_by source (string_bytes text) i are end e)
   ok_again (Err f) e end = tt

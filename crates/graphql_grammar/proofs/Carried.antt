@@ -14,7 +14,17 @@ use Rattle.graphql_grammar.proofs.Alike.{reads_alike}
 use Rattle.graphql_grammar.proofs.Whole.{whole}
 
 pub IsSecond-unchanged : (g : Grammar) (rs : List Row) (cs : List Change) (e : Expr) → IsSecond g rs cs e e unchanged
-IsSecond-unchanged g rs cs e = record { fits = λ x h. h; leaves = λ x h. refl; classes = λ x h. refl; leads = λ ts d w l. l; leads_back = λ ts d w l. l; fits_back = λ y h. h; back = λ y h. refl }
+IsSecond-unchanged g rs cs e =
+    record {
+      fits = λ x h. h;
+      leaves = λ x h. refl;
+      classes = λ x h. refl;
+      leads = λ ts d w l. l;
+      leads_back = λ ts d w l. l;
+      fits_back = λ y h. h;
+      back = λ y
+          h. refl;
+    }
 
 second-at : (g : Grammar) (rs : List Row) (cs : List Change) (ws more : List Row) (others : List Change) → AreSecond g rs cs ws more others → (k : ℕ) → IsSecond g rs cs (row_at ws k).rule (row_at more k).rule (change_at others k)
 second-at g rs cs [] [] [] h k = IsSecond-unchanged g rs cs Empty
@@ -132,10 +142,12 @@ module _ (g : Grammar) (rs : List Row) (cs : List Change) (each : EachIsSecond g
             let s = x.one_split ts us vs ws (seconds cs y) (seconds cs z) (to-second g rs cs each e ts y h) (to-second g rs cs each e us z k) same n m in
             (sym (written-seconds g rs cs each h.0) ∙ ap (written cs) s.0 ∙ written-seconds g rs cs each k.0, s.1, s.2);
         alike_lax = λ ts us vs y z h k.
-            let r = reads_alike (lax (with_rows g rs cs)) ok e d ts us vs (seconds cs y) (seconds cs z) (to-second (lax g) rs cs each_lax e (ts ++ us) y h) (to-second (lax g) rs cs each_lax e (ts ++ vs) z k) in
+            let r = reads_alike (lax (with_rows g rs cs)) ok e d ts us vs (seconds cs y) (seconds cs z) (to-second (lax g) rs cs each_lax e (ts ++ us) y h)
+            (to-second (lax g) rs cs each_lax e (ts ++ vs) z k) in
             (r.0, r.1, r.2, sym (classes-second (lax g) rs cs each_lax h.0) ∙ r.3, sym (classes-second (lax g) rs cs each_lax k.0) ∙ r.4, r.5);
         alike = λ ts us vs y z h k.
-            let r = reads_alike (with_rows g rs cs) ok e d ts us vs (seconds cs y) (seconds cs z) (to-second g rs cs each e (ts ++ us) y h) (to-second g rs cs each e (ts ++ vs) z k) in
+            let r = reads_alike (with_rows g rs cs) ok e d ts us vs (seconds cs y) (seconds cs z) (to-second g rs cs each e (ts ++ us) y h)
+            (to-second g rs cs each e (ts ++ vs) z k) in
             (r.0, r.1, r.2, sym (classes-second g rs cs each h.0) ∙ r.3, sym (classes-second g rs cs each k.0) ∙ r.4, r.5);
         unambiguous = λ ts y z h k. sym (written-seconds g rs cs each h.0) ∙ ap (written cs) (x.unambiguous ts (seconds cs y) (seconds cs z) (to-second g rs cs each e ts y h) (to-second g rs cs each e ts z k)) ∙ written-seconds g rs cs each k.0;
         earliest = λ ts us why h. let s = x.earliest ts us why h in record {
@@ -166,7 +178,8 @@ module _ (g : Grammar) (rs : List Row) (cs : List Change) (each : EachIsSecond g
 -- ---- ways to factor
 
 pub IsSecond-head : (g : Grammar) (rs : List Row) (cs : List Change) (d p q : Expr) → IsSecond g rs cs (Either (Then d p) (Then d q)) (Then d (Either p q)) out_of_head
-IsSecond-head g rs cs d p q = record { fits = fit; leaves = same; classes = alike; leads = leading; leads_back = leading_back; fits_back = fit_back; back = again }
+IsSecond-head g rs cs d p q =
+    record { fits = fit; leaves = same; classes = alike; leads = leading; leads_back = leading_back; fits_back = fit_back; back = again }
   where
     fit : (x : Shape) → Fits g (Then d (Either p q)) x → Fits g (Either (Then d p) (Then d q)) (out_of_head.to_written x)
     fit _ (fits_both h (fits_first x)) = fits_first (fits_both h x)
@@ -176,7 +189,8 @@ IsSecond-head g rs cs d p q = record { fits = fit; leaves = same; classes = alik
     same _ (fits_both h (fits_first x)) = refl
     same _ (fits_both h (fits_second y)) = refl
 
-    alike : (x : Shape) → Fits g (Then d (Either p q)) x → classes g (Either (Then d p) (Then d q)) (out_of_head.to_written x) ≡ classes g (Then d (Either p q)) x
+    alike : (x : Shape) → Fits g (Then d (Either p q)) x
+        → classes g (Either (Then d p) (Then d q)) (out_of_head.to_written x) ≡ classes g (Then d (Either p q)) x
     alike _ (fits_both h (fits_first x)) = refl
     alike _ (fits_both h (fits_second y)) = refl
 
@@ -188,7 +202,8 @@ IsSecond-head g rs cs d p q = record { fits = fit; leaves = same; classes = alik
     leading ts v w (leads_after f (leads_first l)) = leads_first (leads_after f l)
     leading ts v w (leads_after f (leads_second l)) = leads_second (leads_after f l)
 
-    leading_back : (ts : List Token) (v : Expr) → IsTested g v → Leads (lax (with_rows g rs cs)) (Either (Then d p) (Then d q)) ts v → Leads (lax (with_rows g rs cs)) (Then d (Either p q)) ts v
+    leading_back : (ts : List Token) (v : Expr) → IsTested g v → Leads (lax (with_rows g rs cs)) (Either (Then d p) (Then d q)) ts v
+        → Leads (lax (with_rows g rs cs)) (Then d (Either p q)) ts v
     leading_back ts v w leads_here = absurd w
     leading_back ts v w (leads_first leads_here) = absurd w
     leading_back ts v w (leads_first (leads_before l f)) = leads_before l (fits_first f)
@@ -207,19 +222,24 @@ IsSecond-head g rs cs d p q = record { fits = fit; leaves = same; classes = alik
 
 pub IsSecond-symbols : (g : Grammar) (rs : List Row) (cs : List Change) (j k : ℕ) (d p q : Expr)
     → (row_at g.rows j).rule ≡ Then d p → (row_at rs j).rule ≡ Then d p → (row_at g.rows k).rule ≡ Then d q → (row_at rs k).rule ≡ Then d q
-    → ((x : Shape) → (change_at cs j).to_written x ≡ x) → ((x : Shape) → (change_at cs k).to_written x ≡ x) → ((x : Shape) → g.check j x ≡ true) → ((x : Shape) → g.check k x ≡ true)
+    → ((x : Shape) → (change_at cs j).to_written x ≡ x) → ((x : Shape) → (change_at cs k).to_written x ≡ x) → ((x : Shape) → g.check j x ≡ true)
+    → ((x : Shape) → g.check k x ≡ true)
     → IsSecond g rs cs (Either (Sym j) (Sym k)) (Then d (Either p q)) (out_of_symbols j k)
-IsSecond-symbols g rs cs j k d p q wj sj wk sk uj uk passj passk = record { fits = fit; leaves = same; classes = alike; leads = leading; leads_back = leading_back; fits_back = fit_back; back = again }
+IsSecond-symbols g rs cs j k d p q wj sj wk sk uj uk passj passk =
+    record { fits = fit; leaves = same; classes = alike; leads = leading; leads_back = leading_back; fits_back = fit_back; back = again }
   where
     fit : (x : Shape) → Fits g (Then d (Either p q)) x → Fits g (Either (Sym j) (Sym k)) ((out_of_symbols j k).to_written x)
-    fit _ (fits_both {x = h} a (fits_first {x = x} b)) = fits_first (fits_node (subst (λ (e : Expr). Fits g e (Both h x)) (sym wj) (fits_both a b)) (passj (Both h x)))
-    fit _ (fits_both {x = h} a (fits_second {y = y} b)) = fits_second (fits_node (subst (λ (e : Expr). Fits g e (Both h y)) (sym wk) (fits_both a b)) (passk (Both h y)))
+    fit _ (fits_both {x = h} a (fits_first {x = x} b)) =
+        fits_first (fits_node (subst (λ (e : Expr). Fits g e (Both h x)) (sym wj) (fits_both a b)) (passj (Both h x)))
+    fit _ (fits_both {x = h} a (fits_second {y = y} b)) =
+        fits_second (fits_node (subst (λ (e : Expr). Fits g e (Both h y)) (sym wk) (fits_both a b)) (passk (Both h y)))
 
     same : (x : Shape) → Fits g (Then d (Either p q)) x → leaves ((out_of_symbols j k).to_written x) ≡ leaves x
     same _ (fits_both a (fits_first b)) = refl
     same _ (fits_both a (fits_second b)) = refl
 
-    alike : (x : Shape) → Fits g (Then d (Either p q)) x → classes g (Either (Sym j) (Sym k)) ((out_of_symbols j k).to_written x) ≡ classes g (Then d (Either p q)) x
+    alike : (x : Shape) → Fits g (Then d (Either p q)) x
+        → classes g (Either (Sym j) (Sym k)) ((out_of_symbols j k).to_written x) ≡ classes g (Then d (Either p q)) x
     alike _ (fits_both {x = h} a (fits_first {x = x} b)) = ap (λ (e : Expr). classes g e (Both h x)) wj
     alike _ (fits_both {x = h} a (fits_second {y = y} b)) = ap (λ (e : Expr). classes g e (Both h y)) wk
 
@@ -234,17 +254,20 @@ IsSecond-symbols g rs cs j k d p q wj sj wk sk uj uk passj passk = record { fits
     leading _ v w (leads_after {ts = ts} {x = x} f (leads_first l)) = leads_first (side j p (leaves x ++ ts) v wj (leads_after f l))
     leading _ v w (leads_after {ts = ts} {x = x} f (leads_second l)) = leads_second (side k q (leaves x ++ ts) v wk (leads_after f l))
 
-    from_first : (ts : List Token) (v : Expr) → IsTested g v → Leads (lax (with_rows g rs cs)) (Then d p) ts v → Leads (lax (with_rows g rs cs)) (Then d (Either p q)) ts v
+    from_first : (ts : List Token) (v : Expr) → IsTested g v → Leads (lax (with_rows g rs cs)) (Then d p) ts v
+        → Leads (lax (with_rows g rs cs)) (Then d (Either p q)) ts v
     from_first ts v w leads_here = absurd w
     from_first ts v w (leads_before l f) = leads_before l (fits_first f)
     from_first ts v w (leads_after f l) = leads_after f (leads_first l)
 
-    from_second : (ts : List Token) (v : Expr) → IsTested g v → Leads (lax (with_rows g rs cs)) (Then d q) ts v → Leads (lax (with_rows g rs cs)) (Then d (Either p q)) ts v
+    from_second : (ts : List Token) (v : Expr) → IsTested g v → Leads (lax (with_rows g rs cs)) (Then d q) ts v
+        → Leads (lax (with_rows g rs cs)) (Then d (Either p q)) ts v
     from_second ts v w leads_here = absurd w
     from_second ts v w (leads_before l f) = leads_before l (fits_second f)
     from_second ts v w (leads_after f l) = leads_after f (leads_second l)
 
-    leading_back : (ts : List Token) (v : Expr) → IsTested g v → Leads (lax (with_rows g rs cs)) (Either (Sym j) (Sym k)) ts v → Leads (lax (with_rows g rs cs)) (Then d (Either p q)) ts v
+    leading_back : (ts : List Token) (v : Expr) → IsTested g v → Leads (lax (with_rows g rs cs)) (Either (Sym j) (Sym k)) ts v
+        → Leads (lax (with_rows g rs cs)) (Then d (Either p q)) ts v
     leading_back ts v w leads_here = absurd w
     leading_back ts v w (leads_first leads_here) = absurd (both_ways (g.check j w.0) w.1 (passj w.0))
     leading_back ts v w (leads_first (leads_node l)) = from_first ts v w (subst (λ (e : Expr). Leads (lax (with_rows g rs cs)) e ts v) sj l)
@@ -277,7 +300,8 @@ IsSecond-symbols g rs cs j k d p q wj sj wk sk uj uk passj passk = record { fits
         (ap (λ (y : Shape). Second (Node k y)) (sym (uk (Both (written cs i.0) (written cs i.1)))))
 
 pub IsSecond-second : (g : Grammar) (rs : List Row) (cs : List Change) (a e q : Expr) (c : Change) → IsSecond g rs cs e q c → IsSecond g rs cs (Either a e) (Either a q) (in_second c)
-IsSecond-second g rs cs a e q c i = record { fits = fit; leaves = same; classes = alike; leads = leading; leads_back = leading_back; fits_back = fit_back; back = again }
+IsSecond-second g rs cs a e q c i =
+    record { fits = fit; leaves = same; classes = alike; leads = leading; leads_back = leading_back; fits_back = fit_back; back = again }
   where
     fit : (x : Shape) → Fits g (Either a q) x → Fits g (Either a e) ((in_second c).to_written x)
     fit _ (fits_first h) = fits_first h
@@ -296,7 +320,8 @@ IsSecond-second g rs cs a e q c i = record { fits = fit; leaves = same; classes 
     leading ts v w (leads_first l) = leads_first l
     leading ts v w (leads_second l) = leads_second (i.leads ts v w l)
 
-    leading_back : (ts : List Token) (v : Expr) → IsTested g v → Leads (lax (with_rows g rs cs)) (Either a e) ts v → Leads (lax (with_rows g rs cs)) (Either a q) ts v
+    leading_back : (ts : List Token) (v : Expr) → IsTested g v → Leads (lax (with_rows g rs cs)) (Either a e) ts v
+        → Leads (lax (with_rows g rs cs)) (Either a q) ts v
     leading_back ts v w leads_here = absurd w
     leading_back ts v w (leads_first l) = leads_first l
     leading_back ts v w (leads_second l) = leads_second (i.leads_back ts v w l)
@@ -311,7 +336,8 @@ IsSecond-second g rs cs a e q c i = record { fits = fit; leaves = same; classes 
 
 pub IsSecond-prefix : (g : Grammar) (rs : List Row) (cs : List Change) (k : ℕ) (n c r : Expr) → (row_at g.rows k).rule ≡ Then n c → (row_at rs k).rule ≡ Then n c → ((x : Shape) → (change_at cs k).to_written x ≡ x) → ((x : Shape) → g.check k x ≡ true)
     → IsSecond g rs cs (Then (Either (Sym k) Empty) (Then n r)) (Then n (Then (Either (Then c n) Empty) r)) (out_of_prefix k)
-IsSecond-prefix g rs cs k n c r w s u pass = record { fits = fit; leaves = same; classes = alike; leads = leading; leads_back = leading_back; fits_back = fit_back; back = again }
+IsSecond-prefix g rs cs k n c r w s u pass =
+    record { fits = fit; leaves = same; classes = alike; leads = leading; leads_back = leading_back; fits_back = fit_back; back = again }
   where
     fit : (x : Shape) → Fits g (Then n (Then (Either (Then c n) Empty) r)) x → Fits g (Then (Either (Sym k) Empty) (Then n r)) ((out_of_prefix k).to_written x)
     fit _ (fits_both {x = a} p (fits_both (fits_first (fits_both {x = b} q m)) t)) =
@@ -323,10 +349,12 @@ IsSecond-prefix g rs cs k n c r w s u pass = record { fits = fit; leaves = same;
         append_assoc (leaves a) (leaves b) (leaves m' ++ leaves d) ∙ ap (λ (l : List Token). leaves a ++ l) (sym (append_assoc (leaves b) (leaves m') (leaves d)))
     same _ (fits_both p (fits_both (fits_second fits_nothing) t)) = refl
 
-    alike : (x : Shape) → Fits g (Then n (Then (Either (Then c n) Empty) r)) x → classes g (Then (Either (Sym k) Empty) (Then n r)) ((out_of_prefix k).to_written x) ≡ classes g (Then n (Then (Either (Then c n) Empty) r)) x
+    alike : (x : Shape) → Fits g (Then n (Then (Either (Then c n) Empty) r)) x
+        → classes g (Then (Either (Sym k) Empty) (Then n r)) ((out_of_prefix k).to_written x) ≡ classes g (Then n (Then (Either (Then c n) Empty) r)) x
     alike _ (fits_both {x = a} p (fits_both {y = d} (fits_first (fits_both {x = b} {y = m'} q m)) t)) =
         ap (λ (e : Expr). classes g e (Both a b) ++ (classes g n m' ++ classes g r d)) w
-        ∙ append_assoc (classes g n a) (classes g c b) (classes g n m' ++ classes g r d) ∙ ap (λ (l : List Class). classes g n a ++ l) (sym (append_assoc (classes g c b) (classes g n m') (classes g r d)))
+        ∙ append_assoc (classes g n a) (classes g c b) (classes g n m' ++ classes g r d)
+        ∙ ap (λ (l : List Class). classes g n a ++ l) (sym (append_assoc (classes g c b) (classes g n m') (classes g r d)))
     alike _ (fits_both p (fits_both (fits_second fits_nothing) t)) = refl
 
     prefix_node : (x : Shape) → Fits (lax g) (Then n c) x → Fits (lax g) (Sym k) (Node k x)
@@ -335,42 +363,54 @@ IsSecond-prefix g rs cs k n c r w s u pass = record { fits = fit; leaves = same;
     prefix_leads : (ts : List Token) (v : Expr) → Leads (lax g) (Then n c) ts v → Leads (lax g) (Sym k) ts v
     prefix_leads ts v l = leads_node (subst (λ (e : Expr). Leads (lax g) e ts v) (sym w) l)
 
-    leading : (ts : List Token) (v : Expr) → IsTested g v → Leads (lax g) (Then n (Then (Either (Then c n) Empty) r)) ts v → Leads (lax g) (Then (Either (Sym k) Empty) (Then n r)) ts v
+    leading : (ts : List Token) (v : Expr) → IsTested g v → Leads (lax g) (Then n (Then (Either (Then c n) Empty) r)) ts v
+        → Leads (lax g) (Then (Either (Sym k) Empty) (Then n r)) ts v
     leading ts v i leads_here = absurd i
-    leading ts v i (leads_before l (fits_both (fits_first (fits_both q m)) t)) = leads_before (leads_first (prefix_leads ts v (leads_before l q))) (fits_both m t)
+    leading ts v i (leads_before l (fits_both (fits_first (fits_both q m)) t)) =
+        leads_before (leads_first (prefix_leads ts v (leads_before l q))) (fits_both m t)
     leading ts v i (leads_before l (fits_both (fits_second fits_nothing) t)) = leads_after (fits_second fits_nothing) (leads_before l t)
     leading ts v i (leads_after f leads_here) = absurd i
     leading ts v i (leads_after f (leads_before leads_here t)) = absurd i
     leading ts v i (leads_after f (leads_before (leads_first leads_here) t)) = absurd i
-    leading _ v i (leads_after {ts = ts} {x = x} f (leads_before (leads_first (leads_before l m)) t)) = leads_before (leads_first (prefix_leads (leaves x ++ ts) v (leads_after f l))) (fits_both m t)
+    leading _ v i (leads_after {ts = ts} {x = x} f (leads_before (leads_first (leads_before l m)) t)) =
+        leads_before (leads_first (prefix_leads (leaves x ++ ts) v (leads_after f l))) (fits_both m t)
     leading _ v i (leads_after {x = x} f (leads_before (leads_first (leads_after {ts = us} {x = y} q l)) t)) =
-        subst (λ (m : List Token). Leads (lax g) (Then (Either (Sym k) Empty) (Then n r)) m v) (append_assoc (leaves x) (leaves y) us) (leads_after (fits_first (prefix_node (Both x y) (fits_both f q))) (leads_before l t))
+        subst (λ (m : List Token). Leads (lax g) (Then (Either (Sym k) Empty) (Then n r)) m v) (append_assoc (leaves x) (leaves y) us)
+        (leads_after (fits_first (prefix_node (Both x y) (fits_both f q))) (leads_before l t))
     leading ts v i (leads_after f (leads_before (leads_second leads_here) t)) = absurd i
     leading _ v i (leads_after {x = x} f (leads_after {ts = us} (fits_first (fits_both {x = y} {y = z} q m)) l)) =
-        subst (λ (m' : List Token). Leads (lax g) (Then (Either (Sym k) Empty) (Then n r)) m' v) (append_assoc (leaves x) (leaves y) (leaves z ++ us) ∙ ap (λ (m' : List Token). leaves x ++ m') (sym (append_assoc (leaves y) (leaves z) us)))
+        subst (λ (m' : List Token). Leads (lax g) (Then (Either (Sym k) Empty) (Then n r)) m' v)
+        (append_assoc (leaves x) (leaves y) (leaves z ++ us) ∙ ap (λ (m' : List Token). leaves x ++ m') (sym (append_assoc (leaves y) (leaves z) us)))
         (leads_after (fits_first (prefix_node (Both x y) (fits_both f q))) (leads_after m l))
     leading ts v i (leads_after f (leads_after (fits_second fits_nothing) l)) = leads_after (fits_second fits_nothing) (leads_after f l)
 
-    in_prefix : (ts : List Token) (v : Expr) (z d : Shape) → IsTested g v → Fits (lax (with_rows g rs cs)) n z → Fits (lax (with_rows g rs cs)) r d → Leads (lax (with_rows g rs cs)) (Then n c) ts v → Leads (lax (with_rows g rs cs)) (Then n (Then (Either (Then c n) Empty) r)) ts v
+    in_prefix : (ts : List Token) (v : Expr) (z d : Shape) → IsTested g v → Fits (lax (with_rows g rs cs)) n z → Fits (lax (with_rows g rs cs)) r d
+        → Leads (lax (with_rows g rs cs)) (Then n c) ts v → Leads (lax (with_rows g rs cs)) (Then n (Then (Either (Then c n) Empty) r)) ts v
     in_prefix ts v z d i m t leads_here = absurd i
     in_prefix ts v z d i m t (leads_before l q) = leads_before l (fits_both (fits_first (fits_both q m)) t)
     in_prefix ts v z d i m t (leads_after f l) = leads_after f (leads_before (leads_first (leads_before l m)) t)
 
-    behind_prefix : (x : Shape) (us : List Token) (v : Expr) → IsTested g v → Fits (lax (with_rows g rs cs)) (Then n c) x → Leads (lax (with_rows g rs cs)) (Then n r) us v → Leads (lax (with_rows g rs cs)) (Then n (Then (Either (Then c n) Empty) r)) (leaves x ++ us) v
+    behind_prefix : (x : Shape) (us : List Token) (v : Expr) → IsTested g v → Fits (lax (with_rows g rs cs)) (Then n c) x
+        → Leads (lax (with_rows g rs cs)) (Then n r) us v → Leads (lax (with_rows g rs cs)) (Then n (Then (Either (Then c n) Empty) r)) (leaves x ++ us) v
     behind_prefix _ _ v i f leads_here = absurd i
     behind_prefix _ us v i (fits_both {x = x} {y = y} f q) (leads_before l t) =
-        subst (λ (m : List Token). Leads (lax (with_rows g rs cs)) (Then n (Then (Either (Then c n) Empty) r)) m v) (sym (append_assoc (leaves x) (leaves y) us)) (leads_after f (leads_before (leads_first (leads_after q l)) t))
+        subst (λ (m : List Token). Leads (lax (with_rows g rs cs)) (Then n (Then (Either (Then c n) Empty) r)) m v)
+        (sym (append_assoc (leaves x) (leaves y) us)) (leads_after f (leads_before (leads_first (leads_after q l)) t))
     behind_prefix _ _ v i (fits_both {x = x} {y = y} f q) (leads_after {ts = us} {x = z} m l) =
-        subst (λ (m' : List Token). Leads (lax (with_rows g rs cs)) (Then n (Then (Either (Then c n) Empty) r)) m' v) (sym (append_assoc (leaves x) (leaves y) (leaves z ++ us) ∙ ap (λ (m' : List Token). leaves x ++ m') (sym (append_assoc (leaves y) (leaves z) us))))
+        subst (λ (m' : List Token). Leads (lax (with_rows g rs cs)) (Then n (Then (Either (Then c n) Empty) r)) m' v)
+        (sym (append_assoc (leaves x) (leaves y) (leaves z ++ us) ∙ ap (λ (m' : List Token). leaves x ++ m') (sym (append_assoc (leaves y) (leaves z) us))))
         (leads_after f (leads_after (fits_first (fits_both q m)) l))
 
-    leading_back : (ts : List Token) (v : Expr) → IsTested g v → Leads (lax (with_rows g rs cs)) (Then (Either (Sym k) Empty) (Then n r)) ts v → Leads (lax (with_rows g rs cs)) (Then n (Then (Either (Then c n) Empty) r)) ts v
+    leading_back : (ts : List Token) (v : Expr) → IsTested g v → Leads (lax (with_rows g rs cs)) (Then (Either (Sym k) Empty) (Then n r)) ts v
+        → Leads (lax (with_rows g rs cs)) (Then n (Then (Either (Then c n) Empty) r)) ts v
     leading_back ts v i leads_here = absurd i
     leading_back ts v i (leads_before leads_here t) = absurd i
     leading_back ts v i (leads_before (leads_first leads_here) t) = absurd (both_ways (g.check k i.0) i.1 (pass i.0))
-    leading_back ts v i (leads_before (leads_first (leads_node l)) (fits_both {x = z} {y = d} m t)) = in_prefix ts v z d i m t (subst (λ (e : Expr). Leads (lax (with_rows g rs cs)) e ts v) s l)
+    leading_back ts v i (leads_before (leads_first (leads_node l)) (fits_both {x = z} {y = d} m t)) =
+        in_prefix ts v z d i m t (subst (λ (e : Expr). Leads (lax (with_rows g rs cs)) e ts v) s l)
     leading_back ts v i (leads_before (leads_second leads_here) t) = absurd i
-    leading_back _ v i (leads_after {ts = us} (fits_first (fits_node {x = x} f pass')) l) = behind_prefix x us v i (subst (λ (e : Expr). Fits (lax (with_rows g rs cs)) e x) s f) l
+    leading_back _ v i (leads_after {ts = us} (fits_first (fits_node {x = x} f pass')) l) =
+        behind_prefix x us v i (subst (λ (e : Expr). Fits (lax (with_rows g rs cs)) e x) s f) l
     leading_back ts v i (leads_after (fits_second fits_nothing) leads_here) = absurd i
     leading_back ts v i (leads_after (fits_second fits_nothing) (leads_before l t)) = leads_before l (fits_both (fits_second fits_nothing) t)
     leading_back ts v i (leads_after (fits_second fits_nothing) (leads_after m l)) = leads_after m (leads_after (fits_second fits_nothing) l)

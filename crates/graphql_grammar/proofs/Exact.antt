@@ -26,7 +26,8 @@ one_split g ok e d ts us vs ws x y h k same n m =
     let i = same-take g (complete_at g ok e d ts vs x h n) (subst (λ (l : List Token). Takes g e l y ws) (sym same) (complete_at g ok e d us ws y k m)) in
     (i.0, h.1 ∙ ap leaves i.0 ∙ sym k.1, i.1)
 
-pub first_fault : (g : Grammar) → is_ll1 g.rows ≡ true → is_productive g ≡ true → (e : Expr) → decides g.rows e ≡ true → has_samples g e ≡ true → (ts us : List Token) (why : Reason) → Fails g e ts why us → IsFirstFault g e ts why us
+pub first_fault : (g : Grammar) → is_ll1 g.rows ≡ true → is_productive g ≡ true → (e : Expr) → decides g.rows e ≡ true → has_samples g e ≡ true
+    → (ts us : List Token) (why : Reason) → Fails g e ts why us → IsFirstFault g e ts why us
 first_fault g ok full e d f ts us why h =
     let s = stuck g full h f in
     record {

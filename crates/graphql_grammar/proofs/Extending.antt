@@ -63,8 +63,10 @@ module _ (n : ℕ) (g h : Grammar) (x : Extends n g h) where
   takes-on takes_nothing b w = takes_nothing
   takes-on (takes_leaf {c} {t} a) b w = takes_leaf (accepts-same c t w a)
   takes-on (takes_both {a = p} {b = q} f k) b w = let s = and_parts (is_below n p) (is_below n q) b in takes_both (takes-on f s.0 w.0) (takes-on k s.1 w.1)
-  takes-on (takes_first {a = p} {b = q} {ts = ts} c f) b w = let s = and_parts (is_below n p) (is_below n q) b in takes_first (choose-same p q (peek ts) s.0 s.1 ∙ c) (takes-on f s.0 w.0)
-  takes-on (takes_second {a = p} {b = q} {ts = ts} c f) b w = let s = and_parts (is_below n p) (is_below n q) b in takes_second (choose-same p q (peek ts) s.0 s.1 ∙ c) (takes-on f s.1 w.1)
+  takes-on (takes_first {a = p} {b = q} {ts = ts} c f) b w =
+      let s = and_parts (is_below n p) (is_below n q) b in takes_first (choose-same p q (peek ts) s.0 s.1 ∙ c) (takes-on f s.0 w.0)
+  takes-on (takes_second {a = p} {b = q} {ts = ts} c f) b w =
+      let s = and_parts (is_below n p) (is_below n q) b in takes_second (choose-same p q (peek ts) s.0 s.1 ∙ c) (takes-on f s.1 w.1)
   takes-on (takes_stop {a = p} {ts = ts} v) b w = takes_stop (sees-same p (peek ts) _ b v)
   takes-on (takes_more {a = p} {ts = ts} v f k) b w = takes_more (sees-same p (peek ts) _ b v) (takes-on f b w) (takes-on k b w)
   takes-on (takes_node {k} {ts = ts} {us = us} {x = s} f c) b w =
@@ -76,9 +78,12 @@ module _ (n : ℕ) (g h : Grammar) (x : Extends n g h) where
   fails-on (fails_value {c} {t} m v) b w = fails_value m (w t ∙ v)
   fails-on (fails_before {a = p} {b = q} f) b w = let s = and_parts (is_below n p) (is_below n q) b in fails_before (fails-on f s.0 w.0)
   fails-on (fails_after {a = p} {b = q} t f) b w = let s = and_parts (is_below n p) (is_below n q) b in fails_after (takes-on t s.0 w.0) (fails-on f s.1 w.1)
-  fails-on (fails_first {a = p} {b = q} {ts = ts} c f) b w = let s = and_parts (is_below n p) (is_below n q) b in fails_first (choose-same p q (peek ts) s.0 s.1 ∙ c) (fails-on f s.0 w.0)
-  fails-on (fails_second {a = p} {b = q} {ts = ts} c f) b w = let s = and_parts (is_below n p) (is_below n q) b in fails_second (choose-same p q (peek ts) s.0 s.1 ∙ c) (fails-on f s.1 w.1)
-  fails-on (fails_neither {a = p} {b = q} {ts = ts} c) b w = let s = and_parts (is_below n p) (is_below n q) b in fails_neither (choose-same p q (peek ts) s.0 s.1 ∙ c)
+  fails-on (fails_first {a = p} {b = q} {ts = ts} c f) b w =
+      let s = and_parts (is_below n p) (is_below n q) b in fails_first (choose-same p q (peek ts) s.0 s.1 ∙ c) (fails-on f s.0 w.0)
+  fails-on (fails_second {a = p} {b = q} {ts = ts} c f) b w =
+      let s = and_parts (is_below n p) (is_below n q) b in fails_second (choose-same p q (peek ts) s.0 s.1 ∙ c) (fails-on f s.1 w.1)
+  fails-on (fails_neither {a = p} {b = q} {ts = ts} c) b w =
+      let s = and_parts (is_below n p) (is_below n q) b in fails_neither (choose-same p q (peek ts) s.0 s.1 ∙ c)
   fails-on (fails_turn {a = p} {ts = ts} v f) b w = fails_turn (sees-same p (peek ts) _ b v) (fails-on f b w)
   fails-on (fails_later {a = p} {ts = ts} v t f) b w = fails_later (sees-same p (peek ts) _ b v) (takes-on t b w) (fails-on f b w)
   fails-on (fails_node {k} {ts = ts} {us = us} {why = why} f) b w =
@@ -133,7 +138,8 @@ tests_alike g h w (Many a) = tests_alike g h w a
 tests_alike g h w (Sym k) = tt
 
 -- g, with more rows, and perhaps another test of leaves of classes that g's rows do not name
-pub with_more : (g : Grammar) (more : List Row) (good : Class → Token → Bool) (check : ℕ → Shape → Bool) (samples : List Token) → all_below (length g.rows) g.rows ≡ true
+pub with_more : (g : Grammar) (more : List Row) (good : Class → Token → Bool) (check : ℕ → Shape → Bool) (samples : List Token)
+    → all_below (length g.rows) g.rows ≡ true
     → ((k : ℕ) → k < length g.rows → TestsAlike g (record { rows = g.rows ++ more; good = good; check = check; samples = samples }) (row_at g.rows k).rule)
     → ((k : ℕ) (x : Shape) → k < length g.rows → check k x ≡ g.check k x)
     → Extends (length g.rows) g (record { rows = g.rows ++ more; good = good; check = check; samples = samples })

@@ -1,14 +1,18 @@
 -- What the reader answers is the least fault.
-use Rattle.std.proofs.Common.{◌≡◌, ℕ, suc, ◌+◌, ◌-◌, ◌<◌, ◌≤◌, true, false, List, [], ◌∷◌, ◌++◌, length, Some, refl, sym, ap, subst, ◌∙◌, append_assoc, append-nil, length-append, arith, inl, inr, ◌⊎◌}
+use Rattle.std.proofs.Common.{◌≡◌, ℕ, suc, ◌+◌, ◌-◌, ◌<◌, ◌≤◌, true, false, List, [], ◌∷◌, ◌++◌, length, Some, refl, sym, ap, subst, ◌∙◌, append_assoc}
+use Rattle.std.proofs.Common.{append-nil, length-append, arith, inl, inr, ◌⊎◌}
 use Rattle.std.proofs.lemmas.Bool.{and_parts, or_left}
 use Rattle.graphql_grammar.specs.Tokens.{Token, Class, matches}
 use Rattle.graphql_grammar.specs.Trees.{Expr, One, Then, Either, Many, Sym, Shape, Node, Grammar, row, leaves, peek, Fits, fits_node, Begins, Ends}
 use Rattle.graphql_grammar.specs.Tables.{first, decides, is_ll1, is_tight, has_samples, is_productive}
-use Rattle.graphql_grammar.specs.Reading.{sees, Takes, Reason, Unexpected, Improper, Refused, Fails, fails_one, fails_value, fails_before, fails_after, fails_first, fails_second, fails_neither, fails_turn, fails_later, fails_node, fails_check, Outcome, Done, Fault, Reads, unchecked, lax}
+use Rattle.graphql_grammar.specs.Reading.{sees, Takes, Reason, Unexpected, Improper, Refused, Fails, fails_one, fails_value, fails_before, fails_after}
+use Rattle.graphql_grammar.specs.Reading.{fails_first, fails_second, fails_neither, fails_turn, fails_later, fails_node, fails_check, Outcome, Done, Fault}
+use Rattle.graphql_grammar.specs.Reading.{Reads, unchecked, lax}
 use Rattle.graphql_grammar.specs.Theorems.{IsFirstFault}
 use Rattle.graphql_grammar.specs.Leads.{Leads, leads_here, leads_before, leads_after, leads_first, leads_second, leads_turn, leads_later, leads_node}
 use Rattle.graphql_grammar.specs.Texts.{Text, Ending, End, Bad, Answer, Tree, Wrong, answer_of}
-use Rattle.graphql_grammar.specs.Faults.{StopsBefore, IsFault, bad_place, unexpected, leaf_refused, node_refused, IsLeast, index_of, AnswersLeast, RefusesTokens}
+use Rattle.graphql_grammar.specs.Faults.{StopsBefore, IsFault, bad_place, unexpected, leaf_refused, node_refused, IsLeast, index_of, AnswersLeast}
+use Rattle.graphql_grammar.specs.Faults.{RefusesTokens}
 use Rattle.graphql_grammar.proofs.Alike.{Fronts, fronts, cancel}
 use Rattle.graphql_grammar.proofs.Taken.{takes-fits, takes-leaves}
 use Rattle.graphql_grammar.proofs.Complete.{IsRow-each, fits-first}
@@ -38,10 +42,12 @@ record IsFrom (g : Grammar) (e : Expr) (ts : List Token) (why : Reason) (us : Li
 here : (g : Grammar) (e : Expr) (ts us : List Token) (why : Reason) → Source g e ts why us → IsFrom g e ts why us
 here g e ts us why s = record { place = e; front = []; rest = ts; parts = refl; leads = leads_here; source = s }
 
-wider : (g : Grammar) (a e : Expr) (ts us : List Token) (why : Reason) → ((d : Expr) (front : List Token) → Leads (lax g) a front d → Leads (lax g) e front d) → IsFrom g a ts why us → IsFrom g e ts why us
+wider : (g : Grammar) (a e : Expr) (ts us : List Token) (why : Reason) → ((d : Expr) (front : List Token) → Leads (lax g) a front d → Leads (lax g) e front d)
+    → IsFrom g a ts why us → IsFrom g e ts why us
 wider g a e ts us why f s = record { place = s.place; front = s.front; rest = s.rest; parts = s.parts; leads = f s.place s.front s.leads; source = s.source }
 
-later : (g : Grammar) (b e : Expr) (ts vs us : List Token) (x : Shape) (why : Reason) → ts ≡ leaves x ++ vs → ((d : Expr) (front : List Token) → Leads (lax g) b front d → Leads (lax g) e (leaves x ++ front) d) → IsFrom g b vs why us → IsFrom g e ts why us
+later : (g : Grammar) (b e : Expr) (ts vs us : List Token) (x : Shape) (why : Reason) → ts ≡ leaves x ++ vs
+    → ((d : Expr) (front : List Token) → Leads (lax g) b front d → Leads (lax g) e (leaves x ++ front) d) → IsFrom g b vs why us → IsFrom g e ts why us
 later g b e ts vs us x why h f s = record {
   place = s.place;
   front = leaves x ++ s.front;
@@ -51,7 +57,8 @@ later g b e ts vs us x why h f s = record {
   source = s.source;
 }
 
-from : (g : Grammar) → is_productive g ≡ true → {e : Expr} {ts us : List Token} {why : Reason} → Fails g e ts why us → has_samples g e ≡ true → IsFrom g e ts why us
+from : (g : Grammar) → is_productive g ≡ true → {e : Expr} {ts us : List Token} {why : Reason} → Fails g e ts why us → has_samples g e ≡ true
+    → IsFrom g e ts why us
 from g full (fails_one {c = c} {ts = ts} h) f = here g (One c) ts ts Unexpected elsewhere
 from g full (fails_value {c = c} {t = t} {ts = ts} m h) f = here g (One c) (t ∷ ts) (t ∷ ts) (Improper c) (at_value m h)
 from g full (fails_before {a = a} {b = b} {ts = ts} {us = us} {why = why} p) f =
@@ -61,22 +68,28 @@ from g full (fails_before {a = a} {b = b} {ts = ts} {us = us} {why = why} p) f =
 from g full (fails_after {a = a} {b = b} {ts = ts} {us = us} {vs = vs} {x = x} {why = why} p q) f =
     let f1 = and_parts (has_samples g a) (has_samples g b) f in
     later g b (Then a b) ts us vs x why (takes-leaves g p) (λ d front l. leads_after (fits-lax g (takes-fits g p)) l) (from g full q f1.1)
-from g full (fails_first {a = a} {b = b} {ts = ts} {us = us} {why = why} h p) f = wider g a (Either a b) ts us why (λ d front l. leads_first l) (from g full p (and_parts (has_samples g a) (has_samples g b) f).0)
-from g full (fails_second {a = a} {b = b} {ts = ts} {us = us} {why = why} h p) f = wider g b (Either a b) ts us why (λ d front l. leads_second l) (from g full p (and_parts (has_samples g a) (has_samples g b) f).1)
+from g full (fails_first {a = a} {b = b} {ts = ts} {us = us} {why = why} h p) f =
+    wider g a (Either a b) ts us why (λ d front l. leads_first l) (from g full p (and_parts (has_samples g a) (has_samples g b) f).0)
+from g full (fails_second {a = a} {b = b} {ts = ts} {us = us} {why = why} h p) f =
+    wider g b (Either a b) ts us why (λ d front l. leads_second l) (from g full p (and_parts (has_samples g a) (has_samples g b) f).1)
 from g full (fails_neither {a = a} {b = b} {ts = ts} h) f = here g (Either a b) ts ts Unexpected elsewhere
 from g full (fails_turn {a = a} {ts = ts} {us = us} {why = why} h p) f = wider g a (Many a) ts us why (λ d front l. leads_turn l) (from g full p f)
-from g full (fails_later {a = a} {ts = ts} {us = us} {vs = vs} {x = x} {why = why} h p q) f = later g (Many a) (Many a) ts us vs x why (takes-leaves g p) (λ d front l. leads_later (fits-lax g (takes-fits g p)) l) (from g full q f)
-from g full (fails_node {k = k} {ts = ts} {us = us} {why = why} p) f = wider g (row g k).rule (Sym k) ts us why (λ d front l. leads_node l) (from g full p (samples-at g g.rows k full))
+from g full (fails_later {a = a} {ts = ts} {us = us} {vs = vs} {x = x} {why = why} h p q) f =
+    later g (Many a) (Many a) ts us vs x why (takes-leaves g p) (λ d front l. leads_later (fits-lax g (takes-fits g p)) l) (from g full q f)
+from g full (fails_node {k = k} {ts = ts} {us = us} {why = why} p) f =
+    wider g (row g k).rule (Sym k) ts us why (λ d front l. leads_node l) (from g full p (samples-at g g.rows k full))
 from g full (fails_check {k = k} {ts = ts} {us = us} {x = x} p h) f = here g (Sym k) ts us (Refused k) (at_check p h)
 
 lax-begins : (g : Grammar) (e : Expr) (ts : List Token) → Begins (unchecked g) e ts → Begins (lax g) e ts
 lax-begins g e ts b = (b.0, b.1, (fits-lax (unchecked g) b.2.0, b.2.1))
 
 -- no list begins with the items that make a list end there
-begins-past : (g : Grammar) (e : Expr) (front us more : List Token) (u : Token) → Ends g e front (peek us) → us ≡ u ∷ more → (l : List Token) → Begins g e (front ++ u ∷ l) → ⊥
+begins-past : (g : Grammar) (e : Expr) (front us more : List Token) (u : Token) → Ends g e front (peek us) → us ≡ u ∷ more → (l : List Token)
+    → Begins g e (front ++ u ∷ l) → ⊥
 begins-past g e front us more u n h l b = n b.0 ((u ∷ l) ++ b.1) (b.2.0, sym (append_assoc front (u ∷ l) b.1) ∙ b.2.1) (sym (ap peek h))
 
-module _ (g : Grammar) (ok : is_ll1 g.rows ≡ true) (full : is_productive g ≡ true) (tight : is_tight g.rows ≡ true) (e : Expr) (d : decides g.rows e ≡ true) (f : has_samples g e ≡ true) where
+module _ (g : Grammar) (ok : is_ll1 g.rows ≡ true) (full : is_productive g ≡ true) (tight : is_tight g.rows ≡ true) (e : Expr) (d : decides g.rows e ≡ true)
+    (f : has_samples g e ≡ true) where
   -- the reader's fault, of index n, is before one of index m, or the same
   abbrev Before : List Token → Reason → List Token → Reason → ℕ → Type 0
   Before ts why us other m = (length ts + step why < m + length us) ⊎ ((length ts + step why ≡ m + length us) × (why ≡ other))
@@ -84,19 +97,22 @@ module _ (g : Grammar) (ok : is_ll1 g.rows ≡ true) (full : is_productive g ≡
   pub sees_leaf : (c : Class) (u : Token) (us : List Token) → matches c u ≡ true → sees (first g.rows (One c)) (peek (u ∷ us)) ≡ true
   sees_leaf c u us m = or_left (matches c u) false m
 
-  pub sees_node : (k : ℕ) (x : Shape) (us : List Token) → Fits g (row g k).rule x → (leaves x ≡ [] → ⊥) → sees (first g.rows (Sym k)) (peek (leaves x ++ us)) ≡ true
+  pub sees_node : (k : ℕ) (x : Shape) (us : List Token) → Fits g (row g k).rule x → (leaves x ≡ [] → ⊥)
+      → sees (first g.rows (Sym k)) (peek (leaves x ++ us)) ≡ true
   sees_node k x us p n = go (leaves x) refl
     where
       go : (xs : List Token) → leaves x ≡ xs → sees (first g.rows (Sym k)) (peek (xs ++ us)) ≡ true
       go [] i = absurd (n i)
       go (t ∷ xs) i = fits-first (lax g) ok (fits_node {k = k} {x = x} (fits-lax g p) refl) t (ap peek i)
 
-  pub node_takes : (k : ℕ) (x : Shape) (us : List Token) → Fits g (row g k).rule x → StopsBefore (lax g) (Sym k) (leaves x) us → Takes g (row g k).rule (leaves x ++ us) x us
+  pub node_takes : (k : ℕ) (x : Shape) (us : List Token) → Fits g (row g k).rule x → StopsBefore (lax g) (Sym k) (leaves x) us
+      → Takes g (row g k).rule (leaves x ++ us) x us
   node_takes k x us p n =
       stops g ok full tight p (IsRow-each g.rows ok k).decides (samples-at g g.rows k full) us (λ u rest h b. n u rest h
       (begins-around (lax g) (row g k).rule (Sym k) (leaves x ++ u ∷ []) (Node k) [] (λ z w. fits_node w refl) (λ z. sym (append-nil (leaves z))) b))
 
-  pub node_fails : (k : ℕ) (x : Shape) (us : List Token) → Fits g (row g k).rule x → g.check k x ≡ false → StopsBefore (lax g) (Sym k) (leaves x) us → Fails g (Sym k) (leaves x ++ us) (Refused k) us
+  pub node_fails : (k : ℕ) (x : Shape) (us : List Token) → Fits g (row g k).rule x → g.check k x ≡ false → StopsBefore (lax g) (Sym k) (leaves x) us
+      → Fails g (Sym k) (leaves x ++ us) (Refused k) us
   node_fails k x us p c n = fails_check (node_takes k x us p n) c
 
   pub positive : (xs : List Token) → (xs ≡ [] → ⊥) → 0 < length xs
@@ -116,7 +132,8 @@ module _ (g : Grammar) (ok : is_ll1 g.rows ≡ true) (full : is_productive g ≡
       go (inl i) = equal i.0 i.1 (cancel front vs (i.0 ++ us) (sym q ∙ p ∙ ap (λ (l : List Token). l ++ us) i.1 ∙ append_assoc front i.0 us))
       go (inr i) = inl (omega (arith, ap length p, ap length i.2, length-append front0 us, length-append front0 (i.0 ∷ i.1)))
 
-  unexpected_met : (ts us front vs : List Token) (why : Reason) → Fails g e ts why us → ts ≡ front ++ vs → Ends (lax g) e front (peek vs) → Before ts why us Unexpected (suc (length front))
+  unexpected_met : (ts us front vs : List Token) (why : Reason) → Fails g e ts why us → ts ≡ front ++ vs → Ends (lax g) e front (peek vs)
+      → Before ts why us Unexpected (suc (length front))
   unexpected_met ts us front vs why h q n = go why refl (past ts us front vs s.front s.parts q (lax-begins g e s.front s.begins) n)
     where
       s : IsFirstFault g e ts why us
@@ -130,7 +147,8 @@ module _ (g : Grammar) (ok : is_ll1 g.rows ≡ true) (full : is_productive g ≡
       go (Refused k) i (inr j) = inl (omega (arith, ap length s.parts, length-append s.front us, ap length j.0))
       go (Improper c) i (inr j) =
           let v = s.value c i in
-          absurd (begins-past (lax g) e front vs v.rest v.token n (sym j.1 ∙ v.is) [] (subst (λ (l : List Token). Begins (lax g) e (l ++ v.token ∷ [])) j.0 v.begins))
+          absurd (begins-past (lax g) e front vs v.rest v.token n (sym j.1 ∙ v.is) []
+          (subst (λ (l : List Token). Begins (lax g) e (l ++ v.token ∷ [])) j.0 v.begins))
 
   meets : (t : Text) (why other : Reason) (us : List Token) (m : ℕ) → Fails g e t.tokens why us → IsFault g e t other m → Before t.tokens why us other m
   meets t why _ us _ h (bad_place b) = go why us refl refl
@@ -170,9 +188,20 @@ module _ (g : Grammar) (ok : is_ll1 g.rows ≡ true) (full : is_productive g ≡
       ]
     where
       again : why ≡ Refused k → us ≡ vs → length t.tokens + step why ≡ length (before ++ leaves x) + length us
-      again i j = omega (arith, ap step i, ap length j, ap length p, length-append before (leaves x ++ vs), length-append before (leaves x), length-append (leaves x) vs)
+      again i j =
+          omega (
+            arith,
+            ap step i,
+            ap length j,
+            ap length p,
+            length-append before (leaves x ++ vs),
+            length-append before (leaves x),
+            length-append (leaves x)
+                vs,
+          )
 
-  meets-taken : (t : Text) (other : Reason) (us : List Token) (m : ℕ) (z : Shape) → Takes g e t.tokens z us → IsFault g e t other m → Before t.tokens Unexpected us other m
+  meets-taken : (t : Text) (other : Reason) (us : List Token) (m : ℕ) (z : Shape) → Takes g e t.tokens z us → IsFault g e t other m
+      → Before t.tokens Unexpected us other m
   meets-taken t _ us _ z h (bad_place b) = go us
     where
       go : (vs : List Token) → Before t.tokens Unexpected vs Unexpected (suc (length t.tokens))
@@ -228,10 +257,12 @@ module _ (g : Grammar) (ok : is_ll1 g.rows ≡ true) (full : is_productive g ≡
   some-or-end [] Bad = inl (refl, refl)
 
   -- an unexpected item, or a bad place
-  at-item : (t : Text) (front us : List Token) → t.tokens ≡ front ++ us → Begins (lax g) e front → ((us ≡ [] → t.ending ≡ End) → Ends (lax g) e front (peek us)) → IsFault g e t Unexpected (suc (length front))
+  at-item : (t : Text) (front us : List Token) → t.tokens ≡ front ++ us → Begins (lax g) e front
+      → ((us ≡ [] → t.ending ≡ End) → Ends (lax g) e front (peek us)) → IsFault g e t Unexpected (suc (length front))
   at-item t front us p b n =
       elim (some-or-end us t.ending) [
-        | inl i ↦ at-index t Unexpected (suc (length t.tokens)) (suc (length front)) (omega (arith, ap length p, length-append front us, ap length i.0)) (bad_place i.1)
+        | inl i ↦ at-index t Unexpected (suc (length t.tokens)) (suc (length front)) (omega (arith, ap length p, length-append front us, ap length i.0))
+            (bad_place i.1)
         | inr i ↦ unexpected front us p i b (n i)
       ]
 
@@ -239,13 +270,16 @@ module _ (g : Grammar) (ok : is_ll1 g.rows ≡ true) (full : is_productive g ≡
       → (u : Token) × (vs : List Token) × (d2 ≡ One c) × (rest ≡ u ∷ vs) × (us ≡ u ∷ vs) × (matches c u ≡ true) × (g.good c u ≡ false)
   source_value c _ _ _ (at_value {t = t} {ts = ts} m h) = (t, ts, refl, refl, refl, m, h)
 
-  source_check : (k : ℕ) (d2 : Expr) (rest us : List Token) → Source g d2 rest (Refused k) us → (x : Shape) × (d2 ≡ Sym k) × Takes g (row g k).rule rest x us × (g.check k x ≡ false)
+  source_check : (k : ℕ) (d2 : Expr) (rest us : List Token) → Source g d2 rest (Refused k) us
+      → (x : Shape) × (d2 ≡ Sym k) × Takes g (row g k).rule rest x us × (g.check k x ≡ false)
   source_check k _ _ _ (at_check {x = x} t h) = (x, refl, t, h)
 
-  faulted : RefusesTokens g → (t : Text) (why : Reason) (us : List Token) → Fails g e t.tokens why us → IsFault g e t why (index_of why (length t.tokens - length us))
+  faulted : RefusesTokens g → (t : Text) (why : Reason) (us : List Token) → Fails g e t.tokens why us
+      → IsFault g e t why (index_of why (length t.tokens - length us))
   faulted tokens t Unexpected us h =
       let s = first_fault g ok full e d f t.tokens us Unexpected h in
-      at-index t Unexpected (suc (length s.front)) (index_of Unexpected (length t.tokens - length us)) (omega (arith, index_is Unexpected t.tokens us s.front s.parts))
+      at-index t Unexpected (suc (length s.front)) (index_of Unexpected (length t.tokens - length us))
+      (omega (arith, index_is Unexpected t.tokens us s.front s.parts))
       (at-item t s.front us s.parts (lax-begins g e s.front s.begins) (λ i. s.unexpected refl))
   faulted tokens t (Improper c) us h =
       let s = from g full h f in
@@ -262,7 +296,8 @@ module _ (g : Grammar) (ok : is_ll1 g.rows ≡ true) (full : is_productive g ≡
       let p : t.tokens ≡ s.front ++ (leaves x ++ us) = s.parts ∙ ap (λ (l : List Token). s.front ++ l) (takes-leaves g v.2) in
       at-index t (Refused k) (length (s.front ++ leaves x)) (index_of (Refused k) (length t.tokens - length us))
       (omega (arith, index_is (Refused k) t.tokens us (s.front ++ leaves x) (p ∙ sym (append_assoc s.front (leaves x) us))))
-      (node_refused s.front us k x p (λ i. tokens k x fits v.3 i) (subst (λ (a : Expr). Leads (lax g) e s.front a) v.1 s.leads) fits v.3 (stopped k x s.rest us v.2))
+      (node_refused s.front us k x p (λ i. tokens k x fits v.3 i) (subst (λ (a : Expr). Leads (lax g) e s.front a) v.1 s.leads) fits v.3
+      (stopped k x s.rest us v.2))
     where
       in_node : (k : ℕ) (ts : List Token) (y : Shape) → Fits (lax g) (Sym k) y → ts ≡ leaves y → (z : Shape) × Fits (lax g) (row g k).rule z × (ts ≡ leaves z)
       in_node k ts _ (fits_node {x = z} w c) i = (z, w, i)
@@ -270,7 +305,8 @@ module _ (g : Grammar) (ok : is_ll1 g.rows ≡ true) (full : is_productive g ≡
       stopped : (k : ℕ) (x : Shape) (ts us : List Token) → Takes g (row g k).rule ts x us → StopsBefore (lax g) (Sym k) (leaves x) us
       stopped k x ts us w u rest i b =
           let z = in_node k ((leaves x ++ u ∷ []) ++ b.1) b.0 b.2.0 b.2.1 in
-          let r = taken-ends (lax g) ok (row g k).rule (IsRow-each g.rows ok k).decides ts us x (takes-lax g w) z.0 (u ∷ b.1) (z.1, sym (append_assoc (leaves x) (u ∷ []) b.1) ∙ z.2) (sym (ap peek i)) in
+          let r = taken-ends (lax g) ok (row g k).rule (IsRow-each g.rows ok k).decides ts us x (takes-lax g w) z.0 (u ∷ b.1)
+          (z.1, sym (append_assoc (leaves x) (u ∷ []) b.1) ∙ z.2) (sym (ap peek i)) in
           not_empty u b.1 r.1
         where
           not_empty : (v : Token) (vs : List Token) → v ∷ vs ≡ [] → ⊥
@@ -285,12 +321,14 @@ module _ (g : Grammar) (ok : is_ll1 g.rows ≡ true) (full : is_productive g ≡
   before-index why ts us front p other m (inl l) = inl (omega (arith, l, index_is why ts us front p, ap length p, length-append front us))
   before-index why ts us front p other m (inr l) = inr (omega (arith, l.0, index_is why ts us front p, ap length p, length-append front us), l.1)
 
-  decided-fails : RefusesTokens g → (t : Text) (why : Reason) (us : List Token) → Fails g e t.tokens why us → Decided t why (index_of why (length t.tokens - length us))
+  decided-fails : RefusesTokens g → (t : Text) (why : Reason) (us : List Token) → Fails g e t.tokens why us
+      → Decided t why (index_of why (length t.tokens - length us))
   decided-fails tokens t why us h =
       let s = first_fault g ok full e d f t.tokens us why h in
       record { fault = faulted tokens t why us h; meets = λ other m x. before-index why t.tokens us s.front s.parts other m (meets t why other us m h x) }
 
-  decided-taken : (t : Text) (us : List Token) (z : Shape) → Takes g e t.tokens z us → (us ≡ [] → t.ending ≡ Bad) → Decided t Unexpected (suc (length t.tokens - length us))
+  decided-taken : (t : Text) (us : List Token) (z : Shape) → Takes g e t.tokens z us → (us ≡ [] → t.ending ≡ Bad)
+      → Decided t Unexpected (suc (length t.tokens - length us))
   decided-taken t us z h k =
       let p = takes-leaves g h in
       record {
@@ -310,16 +348,19 @@ module _ (g : Grammar) (ok : is_ll1 g.rows ≡ true) (full : is_productive g ≡
           not_empty [] h i = cc
           not_empty (v ∷ l) h i = cc
 
-  decided : RefusesTokens g → (ts : List Token) (ending : Ending) (why : Reason) (place : ℕ) (o : Outcome) → Reads g e ts o → Wrong why place ≡ answer_of (record { tokens = ts; ending = ending }) o
+  decided : RefusesTokens g → (ts : List Token) (ending : Ending) (why : Reason) (place : ℕ) (o : Outcome) → Reads g e ts o
+      → Wrong why place ≡ answer_of (record { tokens = ts; ending = ending }) o
       → Decided (record { tokens = ts; ending = ending }) why (index_of why place)
   decided tokens ts ending why place (Fault other us) r h =
       let w = wrong_is why other place (length ts - length us) h in
       let t : Text = record { tokens = ts; ending = ending } in
-      subst (λ (a : Reason). Decided t a (index_of a place)) (sym w.0) (subst (λ (i : ℕ). Decided t other (index_of other i)) (sym w.1) (decided-fails tokens t other us r))
+      subst (λ (a : Reason). Decided t a (index_of a place)) (sym w.0)
+      (subst (λ (i : ℕ). Decided t other (index_of other i)) (sym w.1) (decided-fails tokens t other us r))
   decided tokens ts ending why place (Done z (u ∷ us)) r h =
       let w = wrong_is why Unexpected place (length ts - length (u ∷ us)) h in
       let t : Text = record { tokens = ts; ending = ending } in
-      subst (λ (a : Reason). Decided t a (index_of a place)) (sym w.0) (subst (λ (i : ℕ). Decided t Unexpected (suc i)) (sym w.1) (decided-taken t (u ∷ us) z r (λ i. absurd cc)))
+      subst (λ (a : Reason). Decided t a (index_of a place)) (sym w.0)
+      (subst (λ (i : ℕ). Decided t Unexpected (suc i)) (sym w.1) (decided-taken t (u ∷ us) z r (λ i. absurd cc)))
   decided tokens ts End why place (Done z []) r h = absurd cc
   decided tokens ts Bad why place (Done z []) r h =
       let w = wrong_is why Unexpected place (length ts) h in
@@ -327,7 +368,8 @@ module _ (g : Grammar) (ok : is_ll1 g.rows ≡ true) (full : is_productive g ≡
       let n : suc place ≡ suc (length ts - length {A = Token} []) = omega (arith, w.1) in
       subst (λ (a : Reason). Decided t a (index_of a place)) (sym w.0) (subst (λ (i : ℕ). Decided t Unexpected i) (sym n) (decided-taken t [] z r (λ i. refl)))
 
-  no_fault_in_tree : (ts : List Token) (ending : Ending) (x : Shape) (o : Outcome) → Reads g e ts o → Tree x ≡ answer_of (record { tokens = ts; ending = ending }) o
+  no_fault_in_tree : (ts : List Token) (ending : Ending) (x : Shape) (o : Outcome) → Reads g e ts o
+      → Tree x ≡ answer_of (record { tokens = ts; ending = ending }) o
       → (other : Reason) (m : ℕ) → IsFault g e (record { tokens = ts; ending = ending }) other m → ⊥
   no_fault_in_tree ts ending x (Fault why us) r h = absurd cc
   no_fault_in_tree ts ending x (Done z (u ∷ us)) r h = absurd cc
@@ -342,11 +384,14 @@ module _ (g : Grammar) (ok : is_ll1 g.rows ≡ true) (full : is_productive g ≡
         | inr i ↦ (i.1, i.0)
       ]
 
-  pub answers_least : RefusesTokens g → ((t : Text) (why other : Reason) (n : ℕ) → IsFault g e t why n → IsFault g e t other n → why ≡ other) → AnswersLeast g g e
+  pub answers_least : RefusesTokens g → ((t : Text) (why other : Reason) (n : ℕ) → IsFault g e t why n → IsFault g e t other n → why ≡ other)
+      → AnswersLeast g g e
   answers_least tokens one_index = record {
     one_index = one_index;
     tree = λ t x a why n y. no_fault_in_tree t.tokens t.ending x a.0 a.1 a.2 why n y;
-    wrong = λ t why place a. let x = decided tokens t.tokens t.ending why place a.0 a.1 a.2 in (x.fault, λ other m y. no_later (index_of why place) m (x.meets other m y));
+    wrong =
+        λ t why place a. let x =
+        decided tokens t.tokens t.ending why place a.0 a.1 a.2 in (x.fault, λ other m y. no_later (index_of why place) m (x.meets other m y));
     one = λ t why other m n x y. let a = answer g ok e d t.tokens in one_of t why other m n x y (answer_of t a.0) a.0 a.1 refl;
   }
     where
@@ -354,7 +399,8 @@ module _ (g : Grammar) (ok : is_ll1 g.rows ≡ true) (full : is_productive g ≡
       no_later n m (inl i) = omega (arith, i)
       no_later n m (inr i) = omega (arith, i.0)
 
-      one_of : (t : Text) (why other : Reason) (m n : ℕ) → IsLeast g e t why m → IsLeast g e t other n → (a : Answer) (o : Outcome) → Reads g e t.tokens o → a ≡ answer_of t o → (why ≡ other) × (m ≡ n)
+      one_of : (t : Text) (why other : Reason) (m n : ℕ) → IsLeast g e t why m → IsLeast g e t other n → (a : Answer) (o : Outcome) → Reads g e t.tokens o
+          → a ≡ answer_of t o → (why ≡ other) × (m ≡ n)
       one_of t why other m n x y (Tree z) o r h = absurd (no_fault_in_tree t.tokens t.ending z o r h why m x.0)
       one_of t why other m n x y (Wrong w place) o r h =
           let u = decided tokens t.tokens t.ending w place o r h in

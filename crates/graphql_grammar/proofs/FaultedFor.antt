@@ -20,24 +20,28 @@ module _ (g : Grammar) (rs : List Row) (cs : List Change) (each : EachIsSecond g
   leads-written w leads_here = leads_here
   leads-written w (leads_before l f) = leads_before (leads-written w l) (written-fits (lax g) rs cs each_lax f)
   leads-written w (leads_after {a} {b} {d} {ts = ts} {x = x} f l) =
-      subst (λ (m : List Token). Leads (lax g) (Then a b) (m ++ ts) d) (written-leaves (lax g) rs cs each_lax f) (leads_after (written-fits (lax g) rs cs each_lax f) (leads-written w l))
+      subst (λ (m : List Token). Leads (lax g) (Then a b) (m ++ ts) d) (written-leaves (lax g) rs cs each_lax f)
+      (leads_after (written-fits (lax g) rs cs each_lax f) (leads-written w l))
   leads-written w (leads_first l) = leads_first (leads-written w l)
   leads-written w (leads_second l) = leads_second (leads-written w l)
   leads-written w (leads_turn l) = leads_turn (leads-written w l)
   leads-written w (leads_later {a} {d} {ts = ts} {x = x} f l) =
-      subst (λ (m : List Token). Leads (lax g) (Many a) (m ++ ts) d) (written-leaves (lax g) rs cs each_lax f) (leads_later (written-fits (lax g) rs cs each_lax f) (leads-written w l))
+      subst (λ (m : List Token). Leads (lax g) (Many a) (m ++ ts) d) (written-leaves (lax g) rs cs each_lax f)
+      (leads_later (written-fits (lax g) rs cs each_lax f) (leads-written w l))
   leads-written w (leads_node {k} {d} {ts = ts} l) = leads_node ((each k).leads ts d w (leads-written w l))
 
   leads-second : {e d : Expr} {ts : List Token} → IsTested g d → Leads (lax g) e ts d → Leads (lax (with_rows g rs cs)) e ts d
   leads-second w leads_here = leads_here
   leads-second w (leads_before l f) = leads_before (leads-second w l) (seconds-fits (lax g) rs cs each_lax f)
   leads-second w (leads_after {a} {b} {d} {ts = ts} {x = x} f l) =
-      subst (λ (m : List Token). Leads (lax (with_rows g rs cs)) (Then a b) (m ++ ts) d) (seconds-leaves f) (leads_after (seconds-fits (lax g) rs cs each_lax f) (leads-second w l))
+      subst (λ (m : List Token). Leads (lax (with_rows g rs cs)) (Then a b) (m ++ ts) d) (seconds-leaves f)
+      (leads_after (seconds-fits (lax g) rs cs each_lax f) (leads-second w l))
   leads-second w (leads_first l) = leads_first (leads-second w l)
   leads-second w (leads_second l) = leads_second (leads-second w l)
   leads-second w (leads_turn l) = leads_turn (leads-second w l)
   leads-second w (leads_later {a} {d} {ts = ts} {x = x} f l) =
-      subst (λ (m : List Token). Leads (lax (with_rows g rs cs)) (Many a) (m ++ ts) d) (seconds-leaves f) (leads_later (seconds-fits (lax g) rs cs each_lax f) (leads-second w l))
+      subst (λ (m : List Token). Leads (lax (with_rows g rs cs)) (Many a) (m ++ ts) d) (seconds-leaves f)
+      (leads_later (seconds-fits (lax g) rs cs each_lax f) (leads-second w l))
   leads-second w (leads_node {k} {d} {ts = ts} l) = leads_node ((each k).leads_back ts d w (leads-second w l))
 
   begins-second : (e : Expr) (ts : List Token) → Begins (lax g) e ts → Begins (lax (with_rows g rs cs)) e ts
@@ -73,19 +77,22 @@ module _ (g : Grammar) (rs : List Row) (cs : List Change) (each : EachIsSecond g
   unfolding from-rule to-rule
   from-to k x f = (each k).back (seconds cs x) (seconds-fits g rs cs each f) ∙ written-seconds g rs cs each f
 
-  at-leaves : (h : Grammar) (e : Expr) (t : Text) (k : ℕ) (before xs ys : List Token) → xs ≡ ys → IsFault h e t (Refused k) (length (before ++ xs)) → IsFault h e t (Refused k) (length (before ++ ys))
+  at-leaves : (h : Grammar) (e : Expr) (t : Text) (k : ℕ) (before xs ys : List Token) → xs ≡ ys → IsFault h e t (Refused k) (length (before ++ xs))
+      → IsFault h e t (Refused k) (length (before ++ ys))
   at-leaves h e t k before xs ys i x = subst (λ (l : List Token). IsFault h e t (Refused k) (length (before ++ l))) i x
 
   fault-written : (e : Expr) (t : Text) (why : Reason) (n : ℕ) → IsFault (with_rows g rs cs) e t why n → IsFault g e t why n
   fault-written e t _ _ (bad_place b) = bad_place b
-  fault-written e t _ _ (unexpected front us p i b n) = unexpected front us p i (begins-written (lax g) rs cs each_lax e front b) (ends-written (lax g) rs cs each_lax e front (peek us) n)
+  fault-written e t _ _ (unexpected front us p i b n) =
+      unexpected front us p i (begins-written (lax g) rs cs each_lax e front b) (ends-written (lax g) rs cs each_lax e front (peek us) n)
   fault-written e t _ _ (leaf_refused front us u c p l m n) = leaf_refused front us u c p (leads-written tt l) m n
   fault-written e t _ _ (node_refused before us k x p ne l f c n) =
       let y = to-rule k x in
       let i = rule-leaves k x f in
       let c2 : g.check k y ≡ false = sym (rule-check k x) ∙ c in
       at-leaves g e t k before (leaves y) (leaves x) i
-      (node_refused before us k y (p ∙ ap (λ (m : List Token). before ++ (m ++ us)) (sym i)) (λ j. ne (sym i ∙ j)) (leads-written (y, c2) l) (rule-fits k x f) c2
+      (node_refused before us k y (p ∙ ap (λ (m : List Token). before ++ (m ++ us)) (sym i)) (λ j. ne (sym i ∙ j)) (leads-written (y, c2) l) (rule-fits k x f)
+      c2
       (λ u rest h b. n u rest h (begins-second (Sym k) (leaves x ++ u ∷ []) (subst (λ (m : List Token). Begins (lax g) (Sym k) (m ++ u ∷ [])) i b))))
 
   fault-second : (e : Expr) (t : Text) (why : Reason) (n : ℕ) → IsFault g e t why n → IsFault (with_rows g rs cs) e t why n
@@ -99,12 +106,14 @@ module _ (g : Grammar) (rs : List Row) (cs : List Change) (each : EachIsSecond g
       at-leaves (with_rows g rs cs) e t k before (leaves y) (leaves x) i
       (node_refused before us k y (p ∙ ap (λ (m : List Token). before ++ (m ++ us)) (sym i)) (λ j. ne (sym i ∙ j)) (leads-second (x, c) l) w
       (rule-check k y ∙ ap (g.check k) (from-to k x f) ∙ c)
-      (λ u rest h b. n u rest h (begins-written (lax g) rs cs each_lax (Sym k) (leaves x ++ u ∷ []) (subst (λ (m : List Token). Begins (lax (with_rows g rs cs)) (Sym k) (m ++ u ∷ [])) i b))))
+      (λ u rest h b. n u rest h (begins-written (lax g) rs cs each_lax (Sym k) (leaves x ++ u ∷ [])
+      (subst (λ (m : List Token). Begins (lax (with_rows g rs cs)) (Sym k) (m ++ u ∷ [])) i b))))
 
   pub least_for : is_ll1 rs ≡ true → is_tight rs ≡ true → is_productive (with_rows g rs cs) ≡ true → RefusesTokens g
       → (e : Expr) → decides rs e ≡ true → has_samples (with_rows g rs cs) e ≡ true → AnswersLeast g (with_rows g rs cs) e
   least_for ok tight full tokens e d f =
-      let a = least (with_rows g rs cs) ok full tight e d f (λ k x w c i. tokens k (to-rule k x) (rule-fits k x w) (sym (rule-check k x) ∙ c) (rule-leaves k x w ∙ i)) in
+      let a = least (with_rows g rs cs) ok full tight e d f
+      (λ k x w c i. tokens k (to-rule k x) (rule-fits k x w) (sym (rule-check k x) ∙ c) (rule-leaves k x w ∙ i)) in
       record {
         one_index = λ t why other n x y. a.one_index t why other n (fault-second e t why n x) (fault-second e t other n y);
         tree = λ t x b why n y. a.tree t x b why n (fault-second e t why n y);

@@ -2,7 +2,8 @@
 use Rattle.std.proofs.Common.{◌≡◌, ℕ, zero, Bool, true, false, List, [], ◌∷◌, refl, sym, ap, subst, ◌∙◌}
 use Rattle.std.proofs.lemmas.Bool.{and_parts}
 use Rattle.graphql_grammar.specs.Tokens.{Token, AnyOf, nowhere, matches}
-use Rattle.graphql_grammar.specs.Trees.{Empty, One, Then, Either, Sym, Shape, Nothing, Leaf, Both, First, Second, Node, Grammar, leaves, Fits, fits_leaf, fits_both, fits_first, fits_second, fits_nothing, fits_node}
+use Rattle.graphql_grammar.specs.Trees.{Empty, One, Then, Either, Sym, Shape, Nothing, Leaf, Both, First, Second, Node, Grammar, leaves, Fits, fits_leaf}
+use Rattle.graphql_grammar.specs.Trees.{fits_both, fits_first, fits_second, fits_nothing, fits_node}
 use Rattle.graphql_grammar.specs.Tables.{is_ll1, is_tight, is_productive}
 use Rattle.graphql_grammar.specs.Reading.{Unexpected, Refused, Fails, takes_leaf, fails_node, fails_after, fails_first, fails_one, lax}
 use Rattle.graphql_grammar.specs.Leads.{leads_here}
@@ -18,7 +19,16 @@ passes k x = true
 
 abbrev g : Grammar
 g = record {
-  rows = record { rule = Then (One (AnyOf 0)) (Either (Sym 1) Empty); nullable = false; first = AnyOf 0 ∷ []; cont = AnyOf 1 ∷ AnyOf 2 ∷ []; rank = 1; least = Both (Leaf (token 0)) (First (Node 1 (Leaf (token 1)))) }
+  rows =
+      record {
+        rule = Then (One (AnyOf 0)) (Either (Sym 1) Empty);
+        nullable = false;
+        first = AnyOf 0 ∷ [];
+        cont = AnyOf 1 ∷ AnyOf 2
+            ∷ [];
+        rank = 1;
+        least = Both (Leaf (token 0)) (First (Node 1 (Leaf (token 1))));
+      }
       ∷ record { rule = One (AnyOf 1); nullable = false; first = AnyOf 1 ∷ AnyOf 2 ∷ []; cont = []; rank = 0; least = Leaf (token 1) } ∷ [];
   good = λ c t. true;
   check = passes;
@@ -35,7 +45,8 @@ stops_late : Fails g (Sym 0) (token 0 ∷ token 2 ∷ []) Unexpected (token 2 �
 stops_late = fails_node (fails_after (takes_leaf refl) (fails_first refl (fails_node (fails_one refl))))
 
 inside : (x : Shape) (u : Token) (more : List Token) → Fits (lax g) (Sym 0) x → token 0 ∷ u ∷ more ≡ leaves x → matches (AnyOf 1) u ≡ true
-inside _ u more (fits_node (fits_both (fits_leaf {t = t} h) (fits_first (fits_node (fits_leaf {t = v} k) c2))) c) e = subst (λ (w : Token). matches (AnyOf 1) w ≡ true) (same t v e) (and_parts (matches (AnyOf 1) v) true k).0
+inside _ u more (fits_node (fits_both (fits_leaf {t = t} h) (fits_first (fits_node (fits_leaf {t = v} k) c2))) c) e =
+    subst (λ (w : Token). matches (AnyOf 1) w ≡ true) (same t v e) (and_parts (matches (AnyOf 1) v) true k).0
   where
     same : (t v : Token) → token 0 ∷ u ∷ more ≡ t ∷ v ∷ [] → v ≡ u
     same t v e = cc
@@ -57,4 +68,6 @@ alone u rest h b = wrong u (next u rest h) (inside b.0 u b.1 b.2.0 b.2.1)
         two j = cc
 
 least_is_before : IsFault g (Sym 0) (record { tokens = token 0 ∷ token 2 ∷ []; ending = End }) (Refused 0) 1
-least_is_before = node_refused [] (token 2 ∷ []) 0 (Both (Leaf (token 0)) (Second Nothing)) refl (λ i. absurd cc) leads_here (fits_both (fits_leaf refl) (fits_second fits_nothing)) refl alone
+least_is_before =
+    node_refused [] (token 2 ∷ []) 0 (Both (Leaf (token 0)) (Second Nothing)) refl (λ i. absurd cc) leads_here
+    (fits_both (fits_leaf refl) (fits_second fits_nothing)) refl alone

@@ -1,10 +1,13 @@
 -- No two faults have one index.
-use Rattle.std.proofs.Common.{◌≡◌, ℕ, suc, ◌≤◌, true, false, List, [], ◌∷◌, ◌++◌, length, refl, sym, ap, subst, ◌∙◌, append_assoc, append-nil, length-append, arith, inl, inr, ◌⊎◌}
+use Rattle.std.proofs.Common.{◌≡◌, ℕ, suc, ◌≤◌, true, false, List, [], ◌∷◌, ◌++◌, length, refl, sym, ap, subst, ◌∙◌, append_assoc, append-nil, length-append}
+use Rattle.std.proofs.Common.{arith, inl, inr, ◌⊎◌}
 use Rattle.std.proofs.lemmas.Bool.{both_ways, and_from}
 use Rattle.graphql_grammar.specs.Tokens.{Token, Class, matches}
-use Rattle.graphql_grammar.specs.Trees.{Expr, One, Then, Either, Many, Sym, Shape, Leaf, Both, First, Second, Stop, More, Node, Grammar, row, leaves, peek, Fits, fits_leaf, fits_both, fits_first, fits_second, fits_stop, fits_more, fits_node, Begins, Ends}
+use Rattle.graphql_grammar.specs.Trees.{Expr, One, Then, Either, Many, Sym, Shape, Leaf, Both, First, Second, Stop, More, Node, Grammar, row, leaves, peek}
+use Rattle.graphql_grammar.specs.Trees.{Fits, fits_leaf, fits_both, fits_first, fits_second, fits_stop, fits_more, fits_node, Begins, Ends}
 use Rattle.graphql_grammar.specs.Tables.{first, cont, decides, is_ll1, is_tight, has_samples, is_productive}
-use Rattle.graphql_grammar.specs.Reading.{sees, Left, Right, Takes, takes_leaf, Reason, Improper, Refused, fails_value, takes_both, takes_first, takes_second, takes_stop, takes_more, takes_node, lax}
+use Rattle.graphql_grammar.specs.Reading.{sees, Left, Right, Takes, takes_leaf, Reason, Improper, Refused, fails_value, takes_both, takes_first, takes_second}
+use Rattle.graphql_grammar.specs.Reading.{takes_stop, takes_more, takes_node, lax}
 use Rattle.graphql_grammar.specs.Leads.{Leads, leads_here, leads_before, leads_after, leads_first, leads_second, leads_turn, leads_later, leads_node}
 use Rattle.graphql_grammar.specs.Texts.{Text}
 use Rattle.graphql_grammar.specs.Faults.{StopsBefore, IsFault, bad_place, unexpected, leaf_refused, node_refused, AnswersLeast, RefusesTokens}
@@ -30,24 +33,35 @@ module _ (g : Grammar) (ok : is_ll1 g.rows ≡ true) where
   farther : (d : Expr) (rest us vs : List Token) → length vs ≤ length us → Within d rest us → Within d rest vs
   farther d rest us vs h w = (w.0, w.1, w.2, omega (arith, h, w.3))
 
-  visits : {e d : Expr} {front : List Token} → Leads (lax g) e front d → decides g.rows e ≡ true → (ts rest : List Token) → ts ≡ front ++ rest → sees (first g.rows d) (peek rest) ≡ true
+  visits : {e d : Expr} {front : List Token} → Leads (lax g) e front d → decides g.rows e ≡ true → (ts rest : List Token) → ts ≡ front ++ rest
+      → sees (first g.rows d) (peek rest) ≡ true
       → {x : Shape} {us : List Token} → Takes (lax g) e ts x us → Within d rest us
   visits (leads_here {e}) dc ts rest h s {x} {us} t = (x, us, subst (λ (l : List Token). Takes (lax g) e l x us) h t, omega arith)
-  visits (leads_before {a} {b} {d} l f) dc ts rest h s {us = us} (takes_both {us = vs} p q) = farther d rest vs us (no_more q) (visits l (both g ok a b dc).0 ts rest h s p)
+  visits (leads_before {a} {b} {d} l f) dc ts rest h s {us = us} (takes_both {us = vs} p q) =
+      farther d rest vs us (no_more q) (visits l (both g ok a b dc).0 ts rest h s p)
   visits (leads_after {a} {b} {ts = fr} {x = x} f l) dc ts rest h s (takes_both {us = vs} {x = z} p q) =
       let i = both g ok a b dc in
-      let w = past (lax g) ok a i.0 ts vs (fr ++ rest) z x p f (h ∙ append_assoc (leaves x) fr rest) (sees-apart (cont g.rows a) (first g.rows b) (peek (fr ++ rest)) i.2 (leads-first g ok l rest s)) in
+      let w = past (lax g) ok a i.0 ts vs (fr ++ rest) z x p f (h ∙ append_assoc (leaves x) fr rest)
+      (sees-apart (cont g.rows a) (first g.rows b) (peek (fr ++ rest)) i.2 (leads-first g ok l rest s)) in
       visits l i.1 vs rest w s q
   visits (leads_first {a} {b} l) dc ts rest h s (takes_first c p) = visits l (either g ok a b dc).0 ts rest h s p
-  visits (leads_first {a} {b} l) dc ts rest h s (takes_second c p) = absurd (left_right (sym (goes-left g ok a b (peek ts) (ap (λ (m : List Token). sees (first g.rows a) (peek m)) h ∙ leads-first g ok l rest s)) ∙ c))
-  visits (leads_second {a} {b} l) dc ts rest h s (takes_first c p) = absurd (left_right (sym c ∙ goes-right g ok a b (peek ts) (either g ok a b dc).2 (ap (λ (m : List Token). sees (first g.rows b) (peek m)) h ∙ leads-first g ok l rest s)))
+  visits (leads_first {a} {b} l) dc ts rest h s (takes_second c p) =
+      absurd (left_right (sym (goes-left g ok a b (peek ts) (ap (λ (m : List Token). sees (first g.rows a) (peek m)) h ∙ leads-first g ok l rest s)) ∙ c))
+  visits (leads_second {a} {b} l) dc ts rest h s (takes_first c p) =
+      absurd (left_right (sym c ∙ goes-right g ok a b (peek ts) (either g ok a b dc).2
+      (ap (λ (m : List Token). sees (first g.rows b) (peek m)) h ∙ leads-first g ok l rest s)))
   visits (leads_second {a} {b} l) dc ts rest h s (takes_second c p) = visits l (either g ok a b dc).1 ts rest h s p
-  visits (leads_turn {a} l) dc ts rest h s (takes_stop c) = absurd (both_ways (sees (first g.rows a) (peek ts)) c (ap (λ (m : List Token). sees (first g.rows a) (peek m)) h ∙ leads-first g ok l rest s))
-  visits (leads_turn {a} {d} l) dc ts rest h s {us = us} (takes_more {us = vs} c p q) = farther d rest vs us (no_more q) (visits l (many g ok a dc).0 ts rest h s p)
-  visits (leads_later {a} {ts = fr} {x = x} f l) dc ts rest h s (takes_stop c) = absurd (both_ways (sees (first g.rows a) (peek ts)) c (ap (λ (m : List Token). sees (first g.rows a) (peek m)) h ∙ leads-first g ok (leads_later f l) rest s))
+  visits (leads_turn {a} l) dc ts rest h s (takes_stop c) =
+      absurd (both_ways (sees (first g.rows a) (peek ts)) c (ap (λ (m : List Token). sees (first g.rows a) (peek m)) h ∙ leads-first g ok l rest s))
+  visits (leads_turn {a} {d} l) dc ts rest h s {us = us} (takes_more {us = vs} c p q) =
+      farther d rest vs us (no_more q) (visits l (many g ok a dc).0 ts rest h s p)
+  visits (leads_later {a} {ts = fr} {x = x} f l) dc ts rest h s (takes_stop c) =
+      absurd (both_ways (sees (first g.rows a) (peek ts)) c
+      (ap (λ (m : List Token). sees (first g.rows a) (peek m)) h ∙ leads-first g ok (leads_later f l) rest s))
   visits (leads_later {a} {ts = fr} {x = x} f l) dc ts rest h s (takes_more {us = vs} {x = z} c p q) =
       let i = many g ok a dc in
-      let w = past (lax g) ok a i.0 ts vs (fr ++ rest) z x p f (h ∙ append_assoc (leaves x) fr rest) (sees-apart (cont g.rows a) (first g.rows a) (peek (fr ++ rest)) i.2 (leads-first g ok l rest s)) in
+      let w = past (lax g) ok a i.0 ts vs (fr ++ rest) z x p f (h ∙ append_assoc (leaves x) fr rest)
+      (sees-apart (cont g.rows a) (first g.rows a) (peek (fr ++ rest)) i.2 (leads-first g ok l rest s)) in
       visits l dc vs rest w s q
   visits (leads_node {k} l) dc ts rest h s (takes_node p c) = visits l (IsRow-each g.rows ok k).decides ts rest h s p
 
@@ -58,61 +72,80 @@ module _ (g : Grammar) (ok : is_ll1 g.rows ≡ true) where
       ⊎ (Within d rest rest2 ⊎ Within d2 rest2 rest)
 
   -- a tree that ends before the second place
-  apart-from : (a : Expr) (x : Shape) (ts w : List Token) → decides g.rows a ≡ true → Fits (lax g) a x → ts ≡ leaves x ++ w → sees (cont g.rows a) (peek w) ≡ false → Takes (lax g) a ts x w
+  apart-from : (a : Expr) (x : Shape) (ts w : List Token) → decides g.rows a ≡ true → Fits (lax g) a x → ts ≡ leaves x ++ w
+      → sees (cont g.rows a) (peek w) ≡ false → Takes (lax g) a ts x w
   apart-from a x ts w d f h n = subst (λ (l : List Token). Takes (lax g) a l x w) (sym h) (complete (lax g) ok f d w n)
 
-  compare : {e d d2 : Expr} {fr fr2 : List Token} → Leads (lax g) e fr d → Leads (lax g) e fr2 d2 → decides g.rows e ≡ true → (ts rest rest2 : List Token) → ts ≡ fr ++ rest → ts ≡ fr2 ++ rest2
+  compare : {e d d2 : Expr} {fr fr2 : List Token} → Leads (lax g) e fr d → Leads (lax g) e fr2 d2 → decides g.rows e ≡ true → (ts rest rest2 : List Token)
+      → ts ≡ fr ++ rest → ts ≡ fr2 ++ rest2
       → sees (first g.rows d) (peek rest) ≡ true → sees (first g.rows d2) (peek rest2) ≡ true → Compared fr d rest fr2 d2 rest2
   compare {fr2 = fr2} leads_here m dc ts rest rest2 h k s r = inl (inl (fr2, m, sym h ∙ k))
   compare {fr = fr} l leads_here dc ts rest rest2 h k s r = inl (inr (fr, l, sym k ∙ h))
   compare (leads_before {a} {b} l f) (leads_before m f2) dc ts rest rest2 h k s r = compare l m (both g ok a b dc).0 ts rest rest2 h k s r
   compare (leads_before {a} {b} {d} l f) (leads_after {ts = us} {x = x} f2 m) dc ts rest rest2 h k s r =
       let i = both g ok a b dc in
-      let t = apart-from a x ts (us ++ rest2) i.0 f2 (k ∙ append_assoc (leaves x) us rest2) (sees-apart (cont g.rows a) (first g.rows b) (peek (us ++ rest2)) i.2 (leads-first g ok m rest2 r)) in
+      let t = apart-from a x ts (us ++ rest2) i.0 f2 (k ∙ append_assoc (leaves x) us rest2)
+      (sees-apart (cont g.rows a) (first g.rows b) (peek (us ++ rest2)) i.2 (leads-first g ok m rest2 r)) in
       inr (inl (farther d rest (us ++ rest2) rest2 (omega (arith, length-append us rest2)) (visits l i.0 ts rest h s t)))
   compare (leads_after {a} {b} {ts = us} {x = x} f l) (leads_before {d = d2} m f2) dc ts rest rest2 h k s r =
       let i = both g ok a b dc in
-      let t = apart-from a x ts (us ++ rest) i.0 f (h ∙ append_assoc (leaves x) us rest) (sees-apart (cont g.rows a) (first g.rows b) (peek (us ++ rest)) i.2 (leads-first g ok l rest s)) in
+      let t = apart-from a x ts (us ++ rest) i.0 f (h ∙ append_assoc (leaves x) us rest)
+      (sees-apart (cont g.rows a) (first g.rows b) (peek (us ++ rest)) i.2 (leads-first g ok l rest s)) in
       inr (inr (farther d2 rest2 (us ++ rest) rest (omega (arith, length-append us rest)) (visits m i.0 ts rest2 k r t)))
   compare (leads_after {a} {b} {ts = us} {x = x} f l) (leads_after {ts = vs} {x = y} f2 m) dc ts rest rest2 h k s r =
       let i = both g ok a b dc in
-      let t = apart-from a x ts (us ++ rest) i.0 f (h ∙ append_assoc (leaves x) us rest) (sees-apart (cont g.rows a) (first g.rows b) (peek (us ++ rest)) i.2 (leads-first g ok l rest s)) in
-      let t2 = apart-from a y ts (vs ++ rest2) i.0 f2 (k ∙ append_assoc (leaves y) vs rest2) (sees-apart (cont g.rows a) (first g.rows b) (peek (vs ++ rest2)) i.2 (leads-first g ok m rest2 r)) in
+      let t = apart-from a x ts (us ++ rest) i.0 f (h ∙ append_assoc (leaves x) us rest)
+      (sees-apart (cont g.rows a) (first g.rows b) (peek (us ++ rest)) i.2 (leads-first g ok l rest s)) in
+      let t2 = apart-from a y ts (vs ++ rest2) i.0 f2 (k ∙ append_assoc (leaves y) vs rest2)
+      (sees-apart (cont g.rows a) (first g.rows b) (peek (vs ++ rest2)) i.2 (leads-first g ok m rest2 r)) in
       compare l m i.1 (us ++ rest) rest rest2 refl (same-take (lax g) t t2).1 s r
   compare (leads_first {a} {b} l) (leads_first m) dc ts rest rest2 h k s r = compare l m (either g ok a b dc).0 ts rest rest2 h k s r
   compare (leads_first {a} {b} l) (leads_second m) dc ts rest rest2 h k s r =
-      absurd (left_right (sym (goes-left g ok a b (peek ts) (ap (λ (m : List Token). sees (first g.rows a) (peek m)) h ∙ leads-first g ok l rest s)) ∙ goes-right g ok a b (peek ts) (either g ok a b dc).2 (ap (λ (m : List Token). sees (first g.rows b) (peek m)) k ∙ leads-first g ok m rest2 r)))
+      absurd (left_right (sym (goes-left g ok a b (peek ts) (ap (λ (m : List Token). sees (first g.rows a) (peek m)) h ∙ leads-first g ok l rest s))
+      ∙ goes-right g ok a b (peek ts) (either g ok a b dc).2 (ap (λ (m : List Token). sees (first g.rows b) (peek m)) k ∙ leads-first g ok m rest2 r)))
   compare (leads_second {a} {b} l) (leads_first m) dc ts rest rest2 h k s r =
-      absurd (left_right (sym (goes-left g ok a b (peek ts) (ap (λ (m : List Token). sees (first g.rows a) (peek m)) k ∙ leads-first g ok m rest2 r)) ∙ goes-right g ok a b (peek ts) (either g ok a b dc).2 (ap (λ (m : List Token). sees (first g.rows b) (peek m)) h ∙ leads-first g ok l rest s)))
+      absurd (left_right (sym (goes-left g ok a b (peek ts) (ap (λ (m : List Token). sees (first g.rows a) (peek m)) k ∙ leads-first g ok m rest2 r))
+      ∙ goes-right g ok a b (peek ts) (either g ok a b dc).2 (ap (λ (m : List Token). sees (first g.rows b) (peek m)) h ∙ leads-first g ok l rest s)))
   compare (leads_second {a} {b} l) (leads_second m) dc ts rest rest2 h k s r = compare l m (either g ok a b dc).1 ts rest rest2 h k s r
   compare (leads_turn {a} l) (leads_turn m) dc ts rest rest2 h k s r = compare l m (many g ok a dc).0 ts rest rest2 h k s r
   compare (leads_turn {a} {d} l) (leads_later {ts = us} {x = x} f2 m) dc ts rest rest2 h k s r =
       let i = many g ok a dc in
-      let t = apart-from a x ts (us ++ rest2) i.0 f2 (k ∙ append_assoc (leaves x) us rest2) (sees-apart (cont g.rows a) (first g.rows a) (peek (us ++ rest2)) i.2 (leads-first g ok m rest2 r)) in
+      let t = apart-from a x ts (us ++ rest2) i.0 f2 (k ∙ append_assoc (leaves x) us rest2)
+      (sees-apart (cont g.rows a) (first g.rows a) (peek (us ++ rest2)) i.2 (leads-first g ok m rest2 r)) in
       inr (inl (farther d rest (us ++ rest2) rest2 (omega (arith, length-append us rest2)) (visits l i.0 ts rest h s t)))
   compare (leads_later {a} {ts = us} {x = x} f l) (leads_turn {d = d2} m) dc ts rest rest2 h k s r =
       let i = many g ok a dc in
-      let t = apart-from a x ts (us ++ rest) i.0 f (h ∙ append_assoc (leaves x) us rest) (sees-apart (cont g.rows a) (first g.rows a) (peek (us ++ rest)) i.2 (leads-first g ok l rest s)) in
+      let t = apart-from a x ts (us ++ rest) i.0 f (h ∙ append_assoc (leaves x) us rest)
+      (sees-apart (cont g.rows a) (first g.rows a) (peek (us ++ rest)) i.2 (leads-first g ok l rest s)) in
       inr (inr (farther d2 rest2 (us ++ rest) rest (omega (arith, length-append us rest)) (visits m i.0 ts rest2 k r t)))
   compare (leads_later {a} {ts = us} {x = x} f l) (leads_later {ts = vs} {x = y} f2 m) dc ts rest rest2 h k s r =
       let i = many g ok a dc in
-      let t = apart-from a x ts (us ++ rest) i.0 f (h ∙ append_assoc (leaves x) us rest) (sees-apart (cont g.rows a) (first g.rows a) (peek (us ++ rest)) i.2 (leads-first g ok l rest s)) in
-      let t2 = apart-from a y ts (vs ++ rest2) i.0 f2 (k ∙ append_assoc (leaves y) vs rest2) (sees-apart (cont g.rows a) (first g.rows a) (peek (vs ++ rest2)) i.2 (leads-first g ok m rest2 r)) in
+      let t = apart-from a x ts (us ++ rest) i.0 f (h ∙ append_assoc (leaves x) us rest)
+      (sees-apart (cont g.rows a) (first g.rows a) (peek (us ++ rest)) i.2 (leads-first g ok l rest s)) in
+      let t2 = apart-from a y ts (vs ++ rest2) i.0 f2 (k ∙ append_assoc (leaves y) vs rest2)
+      (sees-apart (cont g.rows a) (first g.rows a) (peek (vs ++ rest2)) i.2 (leads-first g ok m rest2 r)) in
       compare l m dc (us ++ rest) rest rest2 refl (same-take (lax g) t t2).1 s r
   compare (leads_node {k = j} l) (leads_node m) dc ts rest rest2 h k s r = compare l m (IsRow-each g.rows ok j).decides ts rest rest2 h k s r
 
 -- what stands there can be followed to a whole list
 leads-begins : (g : Grammar) {e d : Expr} {front : List Token} {z : Shape} → Leads (lax g) e front d → Fits (lax g) d z → Begins (lax g) e (front ++ leaves z)
 leads-begins g {z = z} leads_here f = (z, [], (f, append-nil (leaves z)))
-leads-begins g {z = z} (leads_before {a} {b} {ts = ts} {y = y} l w) f = begins-around (lax g) a (Then a b) (ts ++ leaves z) (λ x. Both x y) (leaves y) (λ x v. fits_both v w) (λ x. refl) (leads-begins g l f)
+leads-begins g {z = z} (leads_before {a} {b} {ts = ts} {y = y} l w) f =
+    begins-around (lax g) a (Then a b) (ts ++ leaves z) (λ x. Both x y) (leaves y) (λ x v. fits_both v w) (λ x. refl) (leads-begins g l f)
 leads-begins g {z = z} (leads_after {a} {b} {ts = ts} {x = x} w l) f =
-    subst (Begins (lax g) (Then a b)) (sym (append_assoc (leaves x) ts (leaves z))) (begins-behind (lax g) b (Then a b) (leaves x) (ts ++ leaves z) (Both x) (λ y v. fits_both w v) (λ y. refl) (leads-begins g l f))
-leads-begins g {z = z} (leads_first {a} {b} {ts = ts} l) f = begins-around (lax g) a (Either a b) (ts ++ leaves z) First [] (λ x v. fits_first v) (λ x. sym (append-nil (leaves x))) (leads-begins g l f)
-leads-begins g {z = z} (leads_second {a} {b} {ts = ts} l) f = begins-around (lax g) b (Either a b) (ts ++ leaves z) Second [] (λ x v. fits_second v) (λ x. sym (append-nil (leaves x))) (leads-begins g l f)
-leads-begins g {z = z} (leads_turn {a} {ts = ts} l) f = begins-around (lax g) a (Many a) (ts ++ leaves z) (λ x. More x Stop) [] (λ x v. fits_more v fits_stop) (λ x. refl) (leads-begins g l f)
+    subst (Begins (lax g) (Then a b)) (sym (append_assoc (leaves x) ts (leaves z)))
+    (begins-behind (lax g) b (Then a b) (leaves x) (ts ++ leaves z) (Both x) (λ y v. fits_both w v) (λ y. refl) (leads-begins g l f))
+leads-begins g {z = z} (leads_first {a} {b} {ts = ts} l) f =
+    begins-around (lax g) a (Either a b) (ts ++ leaves z) First [] (λ x v. fits_first v) (λ x. sym (append-nil (leaves x))) (leads-begins g l f)
+leads-begins g {z = z} (leads_second {a} {b} {ts = ts} l) f =
+    begins-around (lax g) b (Either a b) (ts ++ leaves z) Second [] (λ x v. fits_second v) (λ x. sym (append-nil (leaves x))) (leads-begins g l f)
+leads-begins g {z = z} (leads_turn {a} {ts = ts} l) f =
+    begins-around (lax g) a (Many a) (ts ++ leaves z) (λ x. More x Stop) [] (λ x v. fits_more v fits_stop) (λ x. refl) (leads-begins g l f)
 leads-begins g {z = z} (leads_later {a} {ts = ts} {x = x} w l) f =
-    subst (Begins (lax g) (Many a)) (sym (append_assoc (leaves x) ts (leaves z))) (begins-behind (lax g) (Many a) (Many a) (leaves x) (ts ++ leaves z) (More x) (λ y v. fits_more w v) (λ y. refl) (leads-begins g l f))
-leads-begins g {z = z} (leads_node {k} {ts = ts} l) f = begins-around (lax g) (row g k).rule (Sym k) (ts ++ leaves z) (Node k) [] (λ x v. fits_node v refl) (λ x. sym (append-nil (leaves x))) (leads-begins g l f)
+    subst (Begins (lax g) (Many a)) (sym (append_assoc (leaves x) ts (leaves z)))
+    (begins-behind (lax g) (Many a) (Many a) (leaves x) (ts ++ leaves z) (More x) (λ y v. fits_more w v) (λ y. refl) (leads-begins g l f))
+leads-begins g {z = z} (leads_node {k} {ts = ts} l) f =
+    begins-around (lax g) (row g k).rule (Sym k) (ts ++ leaves z) (Node k) [] (λ x v. fits_node v refl) (λ x. sym (append-nil (leaves x))) (leads-begins g l f)
 
 one_leads : (g : Grammar) {c : Class} {d : Expr} {ts : List Token} → Leads g (One c) ts d → d ≡ One c
 one_leads g leads_here = refl
@@ -126,30 +159,37 @@ class_is a b h = cc
 no_leaf : (c : Class) (k : ℕ) → Sym k ≡ One c → ⊥
 no_leaf c k h = cc
 
-module _ (g : Grammar) (ok : is_ll1 g.rows ≡ true) (full : is_productive g ≡ true) (tight : is_tight g.rows ≡ true) (e : Expr) (d : decides g.rows e ≡ true) (f : has_samples g e ≡ true) where
+module _ (g : Grammar) (ok : is_ll1 g.rows ≡ true) (full : is_productive g ≡ true) (tight : is_tight g.rows ≡ true) (e : Expr) (d : decides g.rows e ≡ true)
+    (f : has_samples g e ≡ true) where
   -- the plain grammar takes a refused node where it ends
-  node_ends : (k : ℕ) (x : Shape) (us vs : List Token) (z : Shape) → Fits g (row g k).rule x → StopsBefore (lax g) (Sym k) (leaves x) us → Takes (lax g) (Sym k) (leaves x ++ us) z vs → vs ≡ us
+  node_ends : (k : ℕ) (x : Shape) (us vs : List Token) (z : Shape) → Fits g (row g k).rule x → StopsBefore (lax g) (Sym k) (leaves x) us
+      → Takes (lax g) (Sym k) (leaves x ++ us) z vs → vs ≡ us
   node_ends k x us vs z p n t = (same-take (lax g) t (takes_node (takes-lax g (node_takes g ok full tight e d f k x us p n)) refl)).1
 
   -- nothing that is refused stands within a refused node
-  leaf_within : (k : ℕ) (x : Shape) (us : List Token) (c : Class) (u : Token) (vs mid : List Token) → Fits g (row g k).rule x → StopsBefore (lax g) (Sym k) (leaves x) us
+  leaf_within : (k : ℕ) (x : Shape) (us : List Token) (c : Class) (u : Token) (vs mid : List Token) → Fits g (row g k).rule x
+      → StopsBefore (lax g) (Sym k) (leaves x) us
       → matches c u ≡ true → g.good c u ≡ false → leaves x ++ us ≡ mid ++ u ∷ vs → Leads (lax g) (Sym k) mid (One c) → ⊥
   leaf_within k x us c u vs mid p n m b h (leads_node l) =
-      let t = run-takes g ok l (IsRow-each g.rows ok k).decides (leaves x ++ us) (u ∷ vs) h (sees_leaf g ok full tight e d f c u vs m) (node_takes g ok full tight e d f k x us p n) in
+      let t = run-takes g ok l (IsRow-each g.rows ok k).decides (leaves x ++ us) (u ∷ vs) h (sees_leaf g ok full tight e d f c u vs m)
+      (node_takes g ok full tight e d f k x us p n) in
       take-or_fail g t.2 (fails_value {c = c} {t = u} {ts = vs} m b)
 
   node_within : (k j : ℕ) (x y : Shape) (us vs mid : List Token) → Fits g (row g k).rule x → StopsBefore (lax g) (Sym k) (leaves x) us
-      → Fits g (row g j).rule y → g.check j y ≡ false → (leaves y ≡ [] → ⊥) → StopsBefore (lax g) (Sym j) (leaves y) vs → leaves x ++ us ≡ mid ++ (leaves y ++ vs) → Leads (lax g) (Sym k) mid (Sym j) → Refused k ≡ Refused j
+      → Fits g (row g j).rule y → g.check j y ≡ false → (leaves y ≡ [] → ⊥) → StopsBefore (lax g) (Sym j) (leaves y) vs
+      → leaves x ++ us ≡ mid ++ (leaves y ++ vs) → Leads (lax g) (Sym k) mid (Sym j) → Refused k ≡ Refused j
   node_within k j x y us vs mid p n q c ne r h leads_here = refl
   node_within k j x y us vs mid p n q c ne r h (leads_node l) =
-      let t = run-takes g ok l (IsRow-each g.rows ok k).decides (leaves x ++ us) (leaves y ++ vs) h (sees_node g ok full tight e d f j y vs q ne) (node_takes g ok full tight e d f k x us p n) in
+      let t = run-takes g ok l (IsRow-each g.rows ok k).decides (leaves x ++ us) (leaves y ++ vs) h (sees_node g ok full tight e d f j y vs q ne)
+      (node_takes g ok full tight e d f k x us p n) in
       absurd (take-or_fail g t.2 (node_fails g ok full tight e d f j y vs q c r))
 
   leaf_fits : (c : Class) (u : Token) → matches c u ≡ true → Fits (lax g) (One c) (Leaf u)
   leaf_fits c u m = fits_leaf (and_from (matches c u) true m refl)
 
   -- an unexpected item, and a token with which a list begins
-  not_unexpected : (ts front vs front0 us : List Token) → ts ≡ front ++ vs → ts ≡ front0 ++ us → Ends (lax g) e front (peek vs) → Begins (lax g) e front0 → suc (length front) ≡ length front0 → ⊥
+  not_unexpected : (ts front vs front0 us : List Token) → ts ≡ front ++ vs → ts ≡ front0 ++ us → Ends (lax g) e front (peek vs) → Begins (lax g) e front0
+      → suc (length front) ≡ length front0 → ⊥
   not_unexpected ts front vs front0 us p q n b h =
       elim (past_front g ok full tight e d f ts us front vs front0 q p b n) [
         | inl l ↦ omega (arith, l, h, ap length q, length-append front0 us)
@@ -159,8 +199,10 @@ module _ (g : Grammar) (ok : is_ll1 g.rows ≡ true) (full : is_productive g ≡
   split : (front us : List Token) (u : Token) → front ++ u ∷ us ≡ (front ++ u ∷ []) ++ us
   split front us u = sym (append_assoc front (u ∷ []) us)
 
-  leaf_node : (ts front us before vs : List Token) (u : Token) (c : Class) (k : ℕ) (x : Shape) → ts ≡ front ++ u ∷ us → Leads (lax g) e front (One c) → matches c u ≡ true → g.good c u ≡ false
-      → ts ≡ before ++ (leaves x ++ vs) → (leaves x ≡ [] → ⊥) → Leads (lax g) e before (Sym k) → Fits g (row g k).rule x → StopsBefore (lax g) (Sym k) (leaves x) vs
+  leaf_node : (ts front us before vs : List Token) (u : Token) (c : Class) (k : ℕ) (x : Shape) → ts ≡ front ++ u ∷ us → Leads (lax g) e front (One c)
+      → matches c u ≡ true → g.good c u ≡ false
+      → ts ≡ before ++ (leaves x ++ vs) → (leaves x ≡ [] → ⊥) → Leads (lax g) e before (Sym k) → Fits g (row g k).rule x
+      → StopsBefore (lax g) (Sym k) (leaves x) vs
       → suc (length front) ≡ length (before ++ leaves x) → ⊥
   leaf_node ts front us before vs u c k x p l m b q ne r w n h =
       elim (compare g ok l r d ts (u ∷ us) (leaves x ++ vs) p q (sees_leaf g ok full tight e d f c u us m) (sees_node g ok full tight e d f k x vs w ne)) [
@@ -169,8 +211,33 @@ module _ (g : Grammar) (ok : is_ll1 g.rows ≡ true) (full : is_productive g ≡
           | inr i ↦ leaf_within k x vs c u us i.0 w n m b i.2 i.1
         ]
         | inr o ↦ elim o [
-          | inl i ↦ omega (arith, h, ap length p, ap length q, length-append front (u ∷ us), length-append before (leaves x ++ vs), length-append before (leaves x), length-append (leaves x) vs, i.3, leaf_takes (lax g) i.2, positive g ok full tight e d f (leaves x) ne)
-          | inr i ↦ omega (arith, h, ap length p, ap length q, length-append front (u ∷ us), length-append before (leaves x ++ vs), length-append before (leaves x), length-append (leaves x) vs, i.3, ap length (node_ends k x vs i.1 i.0 w n i.2))
+          | inl i ↦ omega (
+            arith,
+            h,
+            ap length p,
+            ap length q,
+            length-append front (u ∷ us),
+            length-append before (leaves x ++ vs),
+            length-append before
+                (leaves x),
+            length-append (leaves x) vs,
+            i.3,
+            leaf_takes (lax g) i.2,
+            positive g ok full tight e d f (leaves x) ne,
+          )
+          | inr i ↦ omega (
+            arith,
+            h,
+            ap length p,
+            ap length q,
+            length-append front (u ∷ us),
+            length-append before (leaves x ++ vs),
+            length-append before
+                (leaves x),
+            length-append (leaves x) vs,
+            i.3,
+            ap length (node_ends k x vs i.1 i.0 w n i.2),
+          )
         ]
       ]
 
@@ -183,23 +250,78 @@ module _ (g : Grammar) (ok : is_ll1 g.rows ≡ true) (full : is_productive g ≡
           | inr i ↦ sym (class_is c k (one_leads (lax g) i.1))
         ]
         | inr o ↦ elim o [
-          | inl i ↦ absurd (omega (arith, h, ap length p, ap length q, length-append front (u ∷ us), length-append front2 (v ∷ vs), i.3, leaf_takes (lax g) i.2))
-          | inr i ↦ absurd (omega (arith, h, ap length p, ap length q, length-append front (u ∷ us), length-append front2 (v ∷ vs), i.3, leaf_takes (lax g) i.2))
+          | inl i ↦ absurd (omega (
+            arith,
+            h,
+            ap length p,
+            ap length q,
+            length-append front (u ∷ us),
+            length-append front2 (v ∷ vs),
+            i.3,
+            leaf_takes (lax g)
+                i.2,
+          ))
+          | inr i ↦ absurd (omega (
+            arith,
+            h,
+            ap length p,
+            ap length q,
+            length-append front (u ∷ us),
+            length-append front2 (v ∷ vs),
+            i.3,
+            leaf_takes (lax g)
+                i.2,
+          ))
         ]
       ]
 
-  node_node : (ts before us before2 vs : List Token) (k j : ℕ) (x y : Shape) → ts ≡ before ++ (leaves x ++ us) → (leaves x ≡ [] → ⊥) → Leads (lax g) e before (Sym k) → Fits g (row g k).rule x → g.check k x ≡ false → StopsBefore (lax g) (Sym k) (leaves x) us
-      → ts ≡ before2 ++ (leaves y ++ vs) → (leaves y ≡ [] → ⊥) → Leads (lax g) e before2 (Sym j) → Fits g (row g j).rule y → g.check j y ≡ false → StopsBefore (lax g) (Sym j) (leaves y) vs
+  node_node : (ts before us before2 vs : List Token) (k j : ℕ) (x y : Shape) → ts ≡ before ++ (leaves x ++ us) → (leaves x ≡ [] → ⊥)
+      → Leads (lax g) e before (Sym k) → Fits g (row g k).rule x → g.check k x ≡ false → StopsBefore (lax g) (Sym k) (leaves x) us
+      → ts ≡ before2 ++ (leaves y ++ vs) → (leaves y ≡ [] → ⊥) → Leads (lax g) e before2 (Sym j) → Fits g (row g j).rule y → g.check j y ≡ false
+      → StopsBefore (lax g) (Sym j) (leaves y) vs
       → length (before ++ leaves x) ≡ length (before2 ++ leaves y) → Refused k ≡ Refused j
   node_node ts before us before2 vs k j x y p ne l w c n q ne2 r w2 c2 n2 h =
-      elim (compare g ok l r d ts (leaves x ++ us) (leaves y ++ vs) p q (sees_node g ok full tight e d f k x us w ne) (sees_node g ok full tight e d f j y vs w2 ne2)) [
+      elim (compare g ok l r d ts (leaves x ++ us) (leaves y ++ vs) p q (sees_node g ok full tight e d f k x us w ne)
+      (sees_node g ok full tight e d f j y vs w2 ne2)) [
         | inl o ↦ elim o [
           | inl i ↦ node_within k j x y us vs i.0 w n w2 c2 ne2 n2 i.2 i.1
           | inr i ↦ sym (node_within j k y x vs us i.0 w2 n2 w c ne n i.2 i.1)
         ]
         | inr o ↦ elim o [
-          | inl i ↦ absurd (omega (arith, h, ap length p, ap length q, length-append before (leaves x ++ us), length-append before (leaves x), length-append (leaves x) us, length-append before2 (leaves y ++ vs), length-append before2 (leaves y), length-append (leaves y) vs, i.3, ap length (node_ends k x us i.1 i.0 w n i.2), positive g ok full tight e d f (leaves y) ne2))
-          | inr i ↦ absurd (omega (arith, h, ap length p, ap length q, length-append before (leaves x ++ us), length-append before (leaves x), length-append (leaves x) us, length-append before2 (leaves y ++ vs), length-append before2 (leaves y), length-append (leaves y) vs, i.3, ap length (node_ends j y vs i.1 i.0 w2 n2 i.2), positive g ok full tight e d f (leaves x) ne))
+          | inl i ↦ absurd (omega (
+            arith,
+            h,
+            ap length p,
+            ap length q,
+            length-append before (leaves x ++ us),
+            length-append before (leaves x),
+            length-append
+                (leaves x) us,
+            length-append before2 (leaves y ++ vs),
+            length-append before2 (leaves y),
+            length-append (leaves y) vs,
+            i.3,
+            ap length
+                (node_ends k x us i.1 i.0 w n i.2),
+            positive g ok full tight e d f (leaves y) ne2,
+          ))
+          | inr i ↦ absurd (omega (
+            arith,
+            h,
+            ap length p,
+            ap length q,
+            length-append before (leaves x ++ us),
+            length-append before (leaves x),
+            length-append
+                (leaves x) us,
+            length-append before2 (leaves y ++ vs),
+            length-append before2 (leaves y),
+            length-append (leaves y) vs,
+            i.3,
+            ap length
+                (node_ends j y vs i.1 i.0 w2 n2 i.2),
+            positive g ok full tight e d f (leaves x) ne,
+          ))
         ]
       ]
 
@@ -207,23 +329,33 @@ module _ (g : Grammar) (ok : is_ll1 g.rows ≡ true) (full : is_productive g ≡
   one_index t _ _ _ _ (bad_place b) (bad_place b2) h = refl
   one_index t _ _ _ _ (bad_place b) (unexpected front us p i b2 n) h = refl
   one_index t _ _ _ _ (bad_place b) (leaf_refused front us u c p l m n) h = absurd (omega (arith, h, ap length p, length-append front (u ∷ us)))
-  one_index t _ _ _ _ (bad_place b) (node_refused before us k x p ne l w c n) h = absurd (omega (arith, h, ap length p, length-append before (leaves x ++ us), length-append before (leaves x), length-append (leaves x) us))
+  one_index t _ _ _ _ (bad_place b) (node_refused before us k x p ne l w c n) h =
+      absurd (omega (arith, h, ap length p, length-append before (leaves x ++ us), length-append before (leaves x), length-append (leaves x) us))
   one_index t _ _ _ _ (unexpected front us p i b n) (bad_place b2) h = refl
   one_index t _ _ _ _ (unexpected front us p i b n) (unexpected front2 us2 p2 i2 b2 n2) h = refl
   one_index t _ _ _ _ (unexpected front us p i b n) (leaf_refused front2 us2 u c p2 l m n2) h =
-      absurd (not_unexpected t.tokens front us (front2 ++ u ∷ []) us2 p (p2 ∙ split front2 us2 u) n (leads-begins g l (leaf_fits c u m)) (omega (arith, h, length-append front2 (u ∷ []))))
+      absurd (not_unexpected t.tokens front us (front2 ++ u ∷ []) us2 p (p2 ∙ split front2 us2 u) n (leads-begins g l (leaf_fits c u m))
+      (omega (arith, h, length-append front2 (u ∷ []))))
   one_index t _ _ _ _ (unexpected front us p i b n) (node_refused before us2 k x p2 ne l w c n2) h =
-      absurd (not_unexpected t.tokens front us (before ++ leaves x) us2 p (p2 ∙ sym (append_assoc before (leaves x) us2)) n (leads-begins g {z = Node k x} l (fits_node (fits-lax g w) refl)) h)
+      absurd (not_unexpected t.tokens front us (before ++ leaves x) us2 p (p2 ∙ sym (append_assoc before (leaves x) us2)) n
+      (leads-begins g {z = Node k x} l (fits_node (fits-lax g w) refl)) h)
   one_index t _ _ _ _ (leaf_refused front us u c p l m n) (bad_place b) h = absurd (omega (arith, h, ap length p, length-append front (u ∷ us)))
   one_index t _ _ _ _ (leaf_refused front2 us2 u c p2 l m n2) (unexpected front us p i b n) h =
-      absurd (not_unexpected t.tokens front us (front2 ++ u ∷ []) us2 p (p2 ∙ split front2 us2 u) n (leads-begins g l (leaf_fits c u m)) (omega (arith, h, length-append front2 (u ∷ []))))
-  one_index t _ _ _ _ (leaf_refused front us u c p l m n) (leaf_refused front2 us2 v k p2 l2 m2 n2) h = leaf_leaf t.tokens front us front2 us2 u v c k p l m p2 l2 m2 h
-  one_index t _ _ _ _ (leaf_refused front us u c p l m n) (node_refused before vs k x q ne r w b n2) h = absurd (leaf_node t.tokens front us before vs u c k x p l m n q ne r w n2 h)
-  one_index t _ _ _ _ (node_refused before us k x p ne l w c n) (bad_place b) h = absurd (omega (arith, h, ap length p, length-append before (leaves x ++ us), length-append before (leaves x), length-append (leaves x) us))
+      absurd (not_unexpected t.tokens front us (front2 ++ u ∷ []) us2 p (p2 ∙ split front2 us2 u) n (leads-begins g l (leaf_fits c u m))
+      (omega (arith, h, length-append front2 (u ∷ []))))
+  one_index t _ _ _ _ (leaf_refused front us u c p l m n) (leaf_refused front2 us2 v k p2 l2 m2 n2) h =
+      leaf_leaf t.tokens front us front2 us2 u v c k p l m p2 l2 m2 h
+  one_index t _ _ _ _ (leaf_refused front us u c p l m n) (node_refused before vs k x q ne r w b n2) h =
+      absurd (leaf_node t.tokens front us before vs u c k x p l m n q ne r w n2 h)
+  one_index t _ _ _ _ (node_refused before us k x p ne l w c n) (bad_place b) h =
+      absurd (omega (arith, h, ap length p, length-append before (leaves x ++ us), length-append before (leaves x), length-append (leaves x) us))
   one_index t _ _ _ _ (node_refused before us2 k x p2 ne l w c n2) (unexpected front us p i b n) h =
-      absurd (not_unexpected t.tokens front us (before ++ leaves x) us2 p (p2 ∙ sym (append_assoc before (leaves x) us2)) n (leads-begins g {z = Node k x} l (fits_node (fits-lax g w) refl)) (sym h))
-  one_index t _ _ _ _ (node_refused before vs k x q ne r w b n2) (leaf_refused front us u c p l m n) h = absurd (leaf_node t.tokens front us before vs u c k x p l m n q ne r w n2 (sym h))
-  one_index t _ _ _ _ (node_refused before us k x p ne l w c n) (node_refused before2 vs j y q ne2 r w2 c2 n2) h = node_node t.tokens before us before2 vs k j x y p ne l w c n q ne2 r w2 c2 n2 h
+      absurd (not_unexpected t.tokens front us (before ++ leaves x) us2 p (p2 ∙ sym (append_assoc before (leaves x) us2)) n
+      (leads-begins g {z = Node k x} l (fits_node (fits-lax g w) refl)) (sym h))
+  one_index t _ _ _ _ (node_refused before vs k x q ne r w b n2) (leaf_refused front us u c p l m n) h =
+      absurd (leaf_node t.tokens front us before vs u c k x p l m n q ne r w n2 (sym h))
+  one_index t _ _ _ _ (node_refused before us k x p ne l w c n) (node_refused before2 vs j y q ne2 r w2 c2 n2) h =
+      node_node t.tokens before us before2 vs k j x y p ne l w c n q ne2 r w2 c2 n2 h
 
   pub least : RefusesTokens g → AnswersLeast g g e
   least tokens = answers_least g ok full tight e d f tokens (λ t why other n x y. one_index t why other n n x y refl)

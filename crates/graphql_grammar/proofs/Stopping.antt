@@ -2,9 +2,11 @@
 use Rattle.std.proofs.Common.{◌≡◌, true, false, not, ◌&&◌, List, [], ◌∷◌, ◌++◌, Some, refl, sym, ap, subst, ◌∙◌, append_assoc, append-nil, inl, inr}
 use Rattle.std.proofs.lemmas.Bool.{and_parts, both_ways, not-true, cases_Bool, false_from_ne_true}
 use Rattle.graphql_grammar.specs.Tokens.{Token, in_any, all_apart}
-use Rattle.graphql_grammar.specs.Trees.{Expr, Then, Either, Many, Sym, Shape, Both, First, Second, Stop, More, Node, Grammar, row, leaves, peek, Fits, fits_nothing, fits_leaf, fits_both, fits_first, fits_second, fits_stop, fits_more, fits_node, Begins}
+use Rattle.graphql_grammar.specs.Trees.{Expr, Then, Either, Many, Sym, Shape, Both, First, Second, Stop, More, Node, Grammar, row, leaves, peek, Fits}
+use Rattle.graphql_grammar.specs.Trees.{fits_nothing, fits_leaf, fits_both, fits_first, fits_second, fits_stop, fits_more, fits_node, Begins}
 use Rattle.graphql_grammar.specs.Tables.{nullable, first, cont, decides, is_ll1, is_tight, has_samples, is_productive}
-use Rattle.graphql_grammar.specs.Reading.{sees, choose, Left, Right, Takes, takes_nothing, takes_leaf, takes_both, takes_first, takes_second, takes_stop, takes_more, takes_node, lax}
+use Rattle.graphql_grammar.specs.Reading.{sees, choose, Left, Right, Takes, takes_nothing, takes_leaf, takes_both, takes_first, takes_second, takes_stop}
+use Rattle.graphql_grammar.specs.Reading.{takes_more, takes_node, lax}
 use Rattle.graphql_grammar.specs.Faults.{StopsBefore}
 use Rattle.graphql_grammar.proofs.Items.{sees-apart}
 use Rattle.graphql_grammar.proofs.Complete.{IsRow-each, fits-nullable, fits-first, complete}
@@ -24,7 +26,8 @@ module _ (g : Grammar) (ok : is_ll1 g.rows ≡ true) (full : is_productive g ≡
 
   not-both : (a b : Expr) → decides g.rows (Either a b) ≡ true → nullable g.rows a ≡ true → nullable g.rows b ≡ true → ⊥
   not-both a b d h k =
-      let p = and_parts ((decides g.rows a && decides g.rows b) && all_apart (first g.rows a) (first g.rows b)) (not (nullable g.rows a && nullable g.rows b)) d in
+      let p = and_parts ((decides g.rows a && decides g.rows b) && all_apart (first g.rows a) (first g.rows b)) (not (nullable g.rows a && nullable g.rows b))
+      d in
       both_ways (nullable g.rows a && nullable g.rows b) (not-true (nullable g.rows a && nullable g.rows b) p.1) (rw (h, k) refl)
 
   begins-left : (a b : Expr) (ts : List Token) → Begins (lax g) a ts → Begins (lax g) (Either a b) ts
@@ -33,7 +36,8 @@ module _ (g : Grammar) (ok : is_ll1 g.rows ≡ true) (full : is_productive g ≡
   begins-right : (a b : Expr) (ts : List Token) → Begins (lax g) b ts → Begins (lax g) (Either a b) ts
   begins-right a b ts h = begins-around (lax g) b (Either a b) ts Second [] (λ x w. fits_second w) (λ x. sym (append-nil (leaves x))) h
 
-  picks-left : (a b : Expr) (x : Shape) (us : List Token) → decides g.rows (Either a b) ≡ true → has_samples g b ≡ true → Fits g a x → StopsBefore (lax g) (Either a b) (leaves x) us
+  picks-left : (a b : Expr) (x : Shape) (us : List Token) → decides g.rows (Either a b) ≡ true → has_samples g b ≡ true → Fits g a x
+      → StopsBefore (lax g) (Either a b) (leaves x) us
       → choose g.rows a b (peek (leaves x ++ us)) ≡ Left
   picks-left a b x us d f p n = go (leaves x) refl n
     where
@@ -52,7 +56,8 @@ module _ (g : Grammar) (ok : is_ll1 g.rows ≡ true) (full : is_productive g ≡
       go [] i n = none us i n
       go (t ∷ xs) i n = goes-left g ok a b (Some t) (fits-first g ok p t (ap peek i))
 
-  picks-right : (a b : Expr) (y : Shape) (us : List Token) → decides g.rows (Either a b) ≡ true → has_samples g a ≡ true → Fits g b y → StopsBefore (lax g) (Either a b) (leaves y) us
+  picks-right : (a b : Expr) (y : Shape) (us : List Token) → decides g.rows (Either a b) ≡ true → has_samples g a ≡ true → Fits g b y
+      → StopsBefore (lax g) (Either a b) (leaves y) us
       → choose g.rows a b (peek (leaves y ++ us)) ≡ Right
   picks-right a b y us d f p n = go (leaves y) refl n
     where
@@ -90,7 +95,8 @@ module _ (g : Grammar) (ok : is_ll1 g.rows ≡ true) (full : is_productive g ≡
   short : (x y u : List Token) → y ≡ [] → x ++ u ≡ (x ++ y) ++ u
   short x y u i = ap (λ (l : List Token). l ++ u) (sym (ap (λ (l : List Token). x ++ l) i ∙ append-nil x))
 
-  pub stops : {e : Expr} {x : Shape} → Fits g e x → decides g.rows e ≡ true → has_samples g e ≡ true → (us : List Token) → StopsBefore (lax g) e (leaves x) us → Takes g e (leaves x ++ us) x us
+  pub stops : {e : Expr} {x : Shape} → Fits g e x → decides g.rows e ≡ true → has_samples g e ≡ true → (us : List Token) → StopsBefore (lax g) e (leaves x) us
+      → Takes g e (leaves x ++ us) x us
   stops fits_nothing d f us n = takes_nothing
   stops (fits_leaf h) d f us n = takes_leaf h
   stops (fits_both {a = a} {b = b} {x = x} {y = y} p q) d f us n =
@@ -98,7 +104,8 @@ module _ (g : Grammar) (ok : is_ll1 g.rows ≡ true) (full : is_productive g ≡
       let f1 = and_parts (has_samples g a) (has_samples g b) f in
       subst (λ (l : List Token). Takes g (Then a b) l (Both x y) us) (sym (append_assoc (leaves x) (leaves y) us))
       (takes_both
-      (join a b x y us i.0 i.2 p q (λ j. stops p i.0 f1.0 us (λ u rest h k. n u rest h (subst (Begins (lax g) (Then a b)) (short (leaves x) (leaves y) (u ∷ []) j)
+      (join a b x y us i.0 i.2 p q (λ j. stops p i.0 f1.0 us
+      (λ u rest h k. n u rest h (subst (Begins (lax g) (Then a b)) (short (leaves x) (leaves y) (u ∷ []) j)
       (begins-around (lax g) a (Then a b) (leaves x ++ u ∷ []) (λ z. Both z y) (leaves y) (λ z w. fits_both w (fits-lax g q)) (λ z. refl) k)))))
       (stops q i.1 f1.1 us (λ u rest h k. n u rest h (subst (Begins (lax g) (Then a b)) (sym (append_assoc (leaves x) (leaves y) (u ∷ [])))
       (begins-behind (lax g) b (Then a b) (leaves x) (leaves y ++ u ∷ []) (Both x) (λ z w. fits_both (fits-lax g p) w) (λ z. refl) k)))))
@@ -115,7 +122,8 @@ module _ (g : Grammar) (ok : is_ll1 g.rows ≡ true) (full : is_productive g ≡
       let i = many g ok a d in
       subst (λ (l : List Token). Takes g (Many a) l (More x y) us) (sym (append_assoc (leaves x) (leaves y) us))
       (takes_more (has-turn a x (leaves y ++ us) i.1 p)
-      (join a (Many a) x y us i.0 i.2 p q (λ j. stops p i.0 f us (λ u rest h k. n u rest h (subst (Begins (lax g) (Many a)) (short (leaves x) (leaves y) (u ∷ []) j)
+      (join a (Many a) x y us i.0 i.2 p q (λ j. stops p i.0 f us (λ u rest h k. n u rest h (subst (Begins (lax g) (Many a))
+      (short (leaves x) (leaves y) (u ∷ []) j)
       (begins-around (lax g) a (Many a) (leaves x ++ u ∷ []) (λ z. More z Stop) [] (λ z w. fits_more w fits_stop) (λ z. refl) k)))))
       (stops q d f us (λ u rest h k. n u rest h (subst (Begins (lax g) (Many a)) (sym (append_assoc (leaves x) (leaves y) (u ∷ [])))
       (begins-behind (lax g) (Many a) (Many a) (leaves x) (leaves y ++ u ∷ []) (More x) (λ z w. fits_more (fits-lax g p) w) (λ z. refl) k)))))

@@ -1,8 +1,11 @@
 -- Where no table says more than its rule, each class that can begin a list does begin one.
-use Rattle.std.proofs.Common.{◌≡◌, ℕ, zero, suc, ◌<◌, Bool, true, false, not, ◌&&◌, ◌||◌, List, [], ◌∷◌, ◌++◌, refl, sym, ap, ◌∙◌, append-nil, arith, inl, inr, ◌⊎◌}
+use Rattle.std.proofs.Common.{◌≡◌, ℕ, zero, suc, ◌<◌, Bool, true, false, not, ◌&&◌, ◌||◌, List, [], ◌∷◌, ◌++◌, refl, sym, ap, ◌∙◌, append-nil, arith, inl, inr}
+use Rattle.std.proofs.Common.{◌⊎◌}
 use Rattle.std.proofs.lemmas.Bool.{and_parts, and_from, or_cases, or_left, or_right, ltb-true}
 use Rattle.graphql_grammar.specs.Tokens.{Token, Class, matches, in_any, all_within}
-use Rattle.graphql_grammar.specs.Trees.{Expr, Empty, One, Then, Either, Many, Sym, Shape, Nothing, Leaf, Both, First, Second, Stop, More, Node, Row, Grammar, row_at, row, leaves, Fits, fits_nothing, fits_leaf, fits_both, fits_first, fits_second, fits_stop, fits_more, fits_node, Begins}
+use Rattle.graphql_grammar.specs.Trees.{Expr, Empty, One, Then, Either, Many, Sym, Shape, Nothing, Leaf, Both, First, Second, Stop, More, Node, Row, Grammar}
+use Rattle.graphql_grammar.specs.Trees.{row_at, row, leaves, Fits, fits_nothing, fits_leaf, fits_both, fits_first, fits_second, fits_stop, fits_more, fits_node}
+use Rattle.graphql_grammar.specs.Trees.{Begins}
 use Rattle.graphql_grammar.specs.Tables.{only_if, nullable, first, ranked, is_ll1, are_tight, is_tight, has_samples, is_productive}
 use Rattle.graphql_grammar.specs.Reading.{lax}
 use Rattle.graphql_grammar.proofs.Classes.{all_within-sound}
@@ -20,7 +23,8 @@ tight-at rs (r ∷ more) zero h =
     let p = and_parts ((not r.nullable || nullable rs r.rule) && all_within r.first (first rs r.rule)) (are_tight rs more) h in
     let q = and_parts (not r.nullable || nullable rs r.rule) (all_within r.first (first rs r.rule)) p.0 in
     record { nullable = implied r.nullable (nullable rs r.rule) q.0; first = q.1 }
-tight-at rs (r ∷ more) (suc k) h = tight-at rs more k (and_parts ((not r.nullable || nullable rs r.rule) && all_within r.first (first rs r.rule)) (are_tight rs more) h).1
+tight-at rs (r ∷ more) (suc k) h =
+    tight-at rs more k (and_parts ((not r.nullable || nullable rs r.rule) && all_within r.first (first rs r.rule)) (are_tight rs more) h).1
 
 in-parts : (cs ds : List Class) (t : Token) → in_any (cs ++ ds) t ≡ true → (in_any cs t ≡ true) ⊎ (in_any ds t ≡ true)
 in-parts [] ds t h = inr h
@@ -69,7 +73,8 @@ module _ (g : Grammar) (ok : is_ll1 g.rows ≡ true) (full : is_productive g ≡
           | inr i ↦
               let j = in-if (nullable g.rows a) (first g.rows b) t i in
               let u = p.empty j.0 in
-              begins-behind (lax g) b (Then a b) [] (t ∷ []) (Both u.0) (λ x w. fits_both u.1 w) (λ x. ap (λ (l : List Token). l ++ leaves x) u.2) ((second j.0).begins t j.1)
+              begins-behind (lax g) b (Then a b) [] (t ∷ []) (Both u.0) (λ x w. fits_both u.1 w) (λ x. ap (λ (l : List Token). l ++ leaves x) u.2)
+              ((second j.0).begins t j.1)
         ];
       }
   at-expr r lo (Either a b) f k =

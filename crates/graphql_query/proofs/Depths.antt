@@ -3,19 +3,25 @@ use Rattle.std.proofs.Common.{ℕ, ◌+◌, max, List, [], ◌∷◌, ◌++◌, 
 use Rattle.std.specs.Option.{option_map_or}
 use Rattle.graphql_core.specs.Style.{Layout}
 use Rattle.graphql_core.specs.Parts.{Part, ignored}
-use Rattle.graphql_core.proofs.Depths.{Rises, rises_as, none_rise, flat_rise, gap_rises, level_rises, both_rise, gap_sinks, closer_sinks, both_sink, opener_rises}
+use Rattle.graphql_core.proofs.Depths.{Rises, rises_as, none_rise, flat_rise, gap_rises, level_rises, both_rise, gap_sinks, closer_sinks, both_sink}
+use Rattle.graphql_core.proofs.Depths.{opener_rises}
 use Rattle.graphql_common.specs.Values.{ValueTree, DirectiveTree}
 use Rattle.graphql_common.specs.Printable.{most, value_brackets, type_brackets, directives_brackets}
 use Rattle.graphql_common.proofs.Depths.{value_rises, type_rises, arguments_rise, directives_rise}
-use Rattle.graphql_query.specs.Tree.{SelectionTree, field, spread, inline, SetTree, set, SelectionTrees, none, more, VariableTree, FragmentTree, OperationTree, DefinitionTree, short, operation, fragment, DocumentTree}
-use Rattle.graphql_query.specs.Printable.{selection_brackets, selected_brackets, set_brackets, selections_brackets, variable_brackets, variables_brackets, definition_brackets}
-use Rattle.graphql_query.specs.Layout.{in_braces, alias_layout, condition_layout, on_layout, selection_layout, selected_layout, set_layout, selections_layout, operation_name_layout, default_layout, variable_layout, later_variables, variables_layout, operation_layout, fragment_layout, definition_layout, later_definitions, document_layout}
+use Rattle.graphql_query.specs.Tree.{SelectionTree, field, spread, inline, SetTree, set, SelectionTrees, none, more, VariableTree, FragmentTree, OperationTree}
+use Rattle.graphql_query.specs.Tree.{DefinitionTree, short, operation, fragment, DocumentTree}
+use Rattle.graphql_query.specs.Printable.{selection_brackets, selected_brackets, set_brackets, selections_brackets, variable_brackets, variables_brackets}
+use Rattle.graphql_query.specs.Printable.{definition_brackets}
+use Rattle.graphql_query.specs.Layout.{in_braces, alias_layout, condition_layout, on_layout, selection_layout, selected_layout, set_layout, selections_layout}
+use Rattle.graphql_query.specs.Layout.{operation_name_layout, default_layout, variable_layout, later_variables, variables_layout, operation_layout}
+use Rattle.graphql_query.specs.Layout.{fragment_layout, definition_layout, later_definitions, document_layout}
 
 -- ---- selections
 
 braces_rise : {n : ℕ} {lines : List Part} (margin : ℕ) → Rises n lines → Rises (n + 1) (in_braces margin lines)
 braces_rise {n} margin h =
-    rises_as {m = max n 0 + 1} {n = n + 1} (omega arith) (opener_rises refl (gap_sinks _ (both_sink h (gap_sinks _ (closer_sinks refl (gap_rises _ none_rise))))))
+    rises_as {m = max n 0 + 1} {n = n + 1} (omega arith)
+    (opener_rises refl (gap_sinks _ (both_sink h (gap_sinks _ (closer_sinks refl (gap_rises _ none_rise))))))
 
 alias_rises : (alias : Option (List ℕ)) → Rises 0 (alias_layout alias)
 alias_rises None = none_rise
@@ -34,7 +40,8 @@ line_end_rises {n} text h = rises_as {m = max n 0} {n = n} (omega arith) (both_r
 mutual
   pub selection_rises : (style : Layout) (margin : ℕ) (s : SelectionTree) → Rises (selection_brackets s) (selection_layout style margin s)
   selection_rises style margin (field p alias n arguments ds s) =
-      gap_rises _ (flat_rise (alias_rises alias) (level_rises refl (both_rise (arguments_rise style margin arguments) (both_rise (directives_rise style margin ds) (selected_rises style margin s)))))
+      gap_rises _ (flat_rise (alias_rises alias)
+      (level_rises refl (both_rise (arguments_rise style margin arguments) (both_rise (directives_rise style margin ds) (selected_rises style margin s)))))
   selection_rises style margin (spread p n ds) = gap_rises _ (level_rises refl (level_rises refl (line_end_rises _ (directives_rise style margin ds))))
   selection_rises style margin (inline p condition ds s) =
       gap_rises _ (level_rises refl (flat_rise (on_rises condition) (both_rise (directives_rise style margin ds) (gap_rises _ (set_rises style margin s)))))
@@ -57,7 +64,8 @@ default_rises style None = none_rise
 default_rises style (Some v) = gap_rises _ (level_rises refl (gap_rises _ (value_rises style 0 v)))
 
 variable_rises : (style : Layout) (v : VariableTree) → Rises (variable_brackets v) (variable_layout style v)
-variable_rises style v = level_rises refl (level_rises refl (level_rises refl (gap_rises _ (both_rise (type_rises v.var_type) (default_rises style v.default_value)))))
+variable_rises style v =
+    level_rises refl (level_rises refl (level_rises refl (gap_rises _ (both_rise (type_rises v.var_type) (default_rises style v.default_value)))))
 
 later_rise : (style : Layout) (vs : List VariableTree) → Rises (most variable_brackets vs) (later_variables style vs)
 later_rise style [] = none_rise
@@ -68,7 +76,8 @@ variables_rise style [] = none_rise
 variables_rise style (v ∷ vs) =
     let m = variable_brackets v in
     let n = most variable_brackets vs in
-    rises_as {m = max m (max n 0) + 1} {n = max m n + 1} (omega arith) (opener_rises refl (both_sink (variable_rises style v) (both_sink (later_rise style vs) (closer_sinks refl none_rise))))
+    rises_as {m = max m (max n 0) + 1} {n = max m n + 1} (omega arith)
+    (opener_rises refl (both_sink (variable_rises style v) (both_sink (later_rise style vs) (closer_sinks refl none_rise))))
 
 name_rises : (n : Option (List ℕ)) → Rises 0 (operation_name_layout n)
 name_rises None = none_rise
@@ -77,9 +86,12 @@ name_rises (Some n) = gap_rises _ (level_rises refl none_rise)
 definition_rises : (style : Layout) (d : DefinitionTree) → Rises (definition_brackets d) (definition_layout style d)
 definition_rises style (short s) = set_rises style 0 s
 definition_rises style (operation o) =
-    level_rises refl (flat_rise (name_rises o.name) (both_rise (variables_rise style o.variables) (both_rise (directives_rise style 0 o.directives) (gap_rises _ (set_rises style 0 o.selected)))))
+    level_rises refl (flat_rise (name_rises o.name)
+    (both_rise (variables_rise style o.variables) (both_rise (directives_rise style 0 o.directives) (gap_rises _ (set_rises style 0 o.selected)))))
 definition_rises style (fragment f) =
-    level_rises refl (gap_rises _ (level_rises refl (gap_rises _ (flat_rise (condition_rises f.condition) (both_rise (directives_rise style 0 f.directives) (gap_rises _ (set_rises style 0 f.selected)))))))
+    level_rises refl (gap_rises _ (level_rises refl
+    (gap_rises _ (flat_rise (condition_rises f.condition)
+    (both_rise (directives_rise style 0 f.directives) (gap_rises _ (set_rises style 0 f.selected)))))))
 
 later_definitions_rise : (style : Layout) (ds : DocumentTree) → Rises (most definition_brackets ds) (later_definitions style ds)
 later_definitions_rise style [] = none_rise

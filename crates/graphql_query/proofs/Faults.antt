@@ -1,5 +1,6 @@
 -- What a refusal says of the item at the index of a fault, and what follows of a text's faults.
-use Rattle.std.proofs.Common.{◌≡◌, ℕ, suc, ◌-◌, true, false, List, [], ◌∷◌, ◌++◌, length, take, drop, Option, Some, None, is_some, refl, sym, ap, subst, ◌∙◌, arith}
+use Rattle.std.proofs.Common.{◌≡◌, ℕ, suc, ◌-◌, true, false, List, [], ◌∷◌, ◌++◌, length, take, drop, Option, Some, None, is_some, refl, sym, ap, subst, ◌∙◌}
+use Rattle.std.proofs.Common.{arith}
 use Rattle.std.proofs.lemmas.List.{drop_at}
 use Rattle.std.proofs.lemmas.Bool.{and_parts, both_ways}
 use Rattle.std.proofs.lemmas.Bool.Decides.{nat_tests}
@@ -28,7 +29,8 @@ use Rattle.graphql_common.proofs.LeafValues.{in_range, whole_exponent, in_quotes
 use Rattle.graphql_query.specs.Tree.{DocumentTree}
 use Rattle.graphql_query.specs.Grammar.{query, reading, tables, document_symbol}
 use Rattle.graphql_query.specs.Document.{IsDocument, HasNoFault}
-use Rattle.graphql_query.specs.Faults.{ending_of, text_of, HasNoValue, out_of_range, malformed, escaped_badly, from_item, Says, IsFaultAt, IsLeastFault, IsFaultOf, IsLeastFaultOf, HasOneFaultEach, IsFaultBehind, unexpected, no_value, IsFirstFault, IsFirstFaultOf}
+use Rattle.graphql_query.specs.Faults.{ending_of, text_of, HasNoValue, out_of_range, malformed, escaped_badly, from_item, Says, IsFaultAt, IsLeastFault}
+use Rattle.graphql_query.specs.Faults.{IsFaultOf, IsLeastFaultOf, HasOneFaultEach, IsFaultBehind, unexpected, no_value, IsFirstFault, IsFirstFaultOf}
 use Rattle.graphql_query.proofs.Readable.{ll1, productive, whole, least}
 
 pub exact_reading : IsExact reading (Sym document_symbol)
@@ -85,16 +87,20 @@ head_is t u ts us h = cc
 
 -- the token that is refused as a leaf, and the index of its fault
 abbrev RefusedLeaf : texts.Text → Class → ℕ → Type 0
-RefusedLeaf t c n = (u : Token) × (us : List Token) × (front : List Token) × (t.tokens ≡ front ++ u ∷ us) × (n ≡ suc (length front)) × (matches c u ≡ true) × (is_good c u ≡ false)
+RefusedLeaf t c n =
+    (u : Token) × (us : List Token) × (front : List Token) × (t.tokens ≡ front ++ u ∷ us) × (n ≡ suc (length front)) × (matches c u ≡ true)
+    × (is_good c u ≡ false)
 
 refused_leaf : (t : texts.Text) (c : Class) (n : ℕ) → IsFault query (Sym document_symbol) t (Improper c) n → RefusedLeaf t c n
 refused_leaf t c _ (leaf_refused front us u _ p l m g) = (u, us, front, p, refl, m, g)
 
 module _ (i : Items) (n : ℕ) (f : FaultText) where
-  unexpected_here : (us : List Token) (l : Last) → IsLeast query (Sym document_symbol) (text_of i) Unexpected (suc n) → drop n i.tokens ≡ us → i.last ≡ l → f ≡ fault_by us l → IsLeastFault i f
+  unexpected_here : (us : List Token) (l : Last) → IsLeast query (Sym document_symbol) (text_of i) Unexpected (suc n) → drop n i.tokens ≡ us → i.last ≡ l
+      → f ≡ fault_by us l → IsLeastFault i f
   unexpected_here us l w d e h = (suc n, Unexpected, w, h ∙ sym (λ k. fault_by (d k) (e k)))
 
-  no_value_here : (t : Token) (ts : List Token) (c : Class) (k : CauseText) → Lacks c k → IsLeast query (Sym document_symbol) (text_of i) (Improper c) (suc n) → drop n i.tokens ≡ t ∷ ts
+  no_value_here : (t : Token) (ts : List Token) (c : Class) (k : CauseText) → Lacks c k → IsLeast query (Sym document_symbol) (text_of i) (Improper c) (suc n)
+      → drop n i.tokens ≡ t ∷ ts
       → f ≡ record { cause = k; place = t.place } → IsLeastFault i f
   no_value_here t ts c k lacks w d h =
       let (u, us, front, p, m, is, not_good) = refused_leaf (text_of i) c (suc n) w.0 in
@@ -104,7 +110,8 @@ module _ (i : Items) (n : ℕ) (f : FaultText) where
       (suc n, Improper c, w, (t, ts, d, subst (HasNoValue t) (sym (ap (λ (y : FaultText). y.cause) h)) lack, ap (λ (y : FaultText). y.place) h))
 
   -- the fault of the items left is the least, where its reason is
-  pub least_by : (us : List Token) (l : Last) (c : Cause) → IsLeast query (Sym document_symbol) (text_of i) (reason_by us c) (index_of (reason_by us c) n) → drop n i.tokens ≡ us → i.last ≡ l
+  pub least_by : (us : List Token) (l : Last) (c : Cause) → IsLeast query (Sym document_symbol) (text_of i) (reason_by us c) (index_of (reason_by us c) n)
+      → drop n i.tokens ≡ us → i.last ≡ l
       → f ≡ fault_for c (reason_by us c) us l → IsLeastFault i f
   least_by [] l c w d e h = unexpected_here [] l w d e h
   least_by (t ∷ ts) l cause.IntOutOfRange w d e h = no_value_here t ts (any IntValue) int_out_of_range no_integer w d h

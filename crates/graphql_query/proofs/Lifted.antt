@@ -26,10 +26,12 @@ stops_lifted e b ts us None h = tt
 stops_lifted e b ts us (Some why) h = (reads_on shared_symbols core reading goes_on e b (read_alike e)).fails ts us why h
 
 -- its shape is its own written shape
-pub some_lifted : (e : Expr) → is_below shared_symbols e ≡ true → (ts us : List Token) (P : Shape → Type 0) → TakesSome core e ts us P → TakesSome reading e ts us (λ x. P (written changes x))
+pub some_lifted : (e : Expr) → is_below shared_symbols e ≡ true → (ts us : List Token) (P : Shape → Type 0) → TakesSome core e ts us P
+    → TakesSome reading e ts us (λ x. P (written changes x))
 some_lifted e b ts us P (x, h, p) = (x, takes_lifted e b ts us x h, subst P (sym (left_alone shared_symbols core changes alone (takes-fits core h) b)) p)
 
-pub lifted : {A : Type 0} (e : Expr) → is_below shared_symbols e ≡ true → (old new : Items) (P : A → Shape → Type 0) (r : Result A Fault) → Gives core e old new P r → Reads e old new P r
+pub lifted : {A : Type 0} (e : Expr) → is_below shared_symbols e ≡ true → (old new : Items) (P : A → Shape → Type 0) (r : Result A Fault)
+    → Gives core e old new P r → Reads e old new P r
 lifted e b old new P (Ok v) h = some_lifted e b old.tokens new.tokens (P v) h
 lifted e b old new P (Err d) h = stops_lifted e b old.tokens new.tokens (reason_of new d) h
 

@@ -25,7 +25,8 @@ memory_only : (source text : List ℕ) (e : Fault) → IsBadPlace source e → I
 memory_only source text OutOfMemory bad is = refl
 memory_only source text (At c p) bad (items, has, end, is) = absurd (subst IsEnd (bad items has) end)
 
-pub tells_refusal : (source text : List ℕ) (e : Fault) (r : Result (String Global) Refusal) → IsErrAnd r (λ y. y ≡ refusal_of e) → IsBadPlace source e → IsMinified source text → TellsUnlessMemory text r
+pub tells_refusal : (source text : List ℕ) (e : Fault) (r : Result (String Global) Refusal) → IsErrAnd r (λ y. y ≡ refusal_of e) → IsBadPlace source e
+    → IsMinified source text → TellsUnlessMemory text r
 tells_refusal source text e (Ok s) h bad is = absurd h
 tells_refusal source text e (Err y) h bad is = h ∙ ap refusal_of (memory_only source text e bad is)
 

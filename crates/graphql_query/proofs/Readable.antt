@@ -73,7 +73,9 @@ each good = each_is_second g second_rows changes (
                                   (
                                     same _,
                                     (
-                                      IsSecond-second g second_rows changes _ _ _ _ (IsSecond-symbols g second_rows changes spread_symbol inline_symbol _ spread_rest inline_rest refl refl refl refl (λ x. refl) (λ x. refl) (λ x. refl) (λ x. refl)),
+                                      IsSecond-second g second_rows changes _ _ _ _
+                                          (IsSecond-symbols g second_rows changes spread_symbol inline_symbol _ spread_rest inline_rest refl refl refl refl
+                                          (λ x. refl) (λ x. refl) (λ x. refl) (λ x. refl)),
                                       (
                                         IsSecond-prefix g second_rows changes alias_symbol name _ field_rest refl refl (λ x. refl) (λ x. refl),
                                         (same _, (same _, (same _, (same _, (same _, (same _, tt)))))),
@@ -111,7 +113,8 @@ exact = exact_for query second_rows changes (each query.good) (each query.good) 
 -- the same, whatever values the leaves have
 pub exact_lax : IsExactFor (lax query) second_rows changes (Sym document_symbol)
 unfolding tables
-exact_lax = exact_for (lax query) second_rows changes (each (λ c t. true)) (each (λ c t. true)) (each (λ c t. true)) ll1 productive_lax (Sym document_symbol) refl refl
+exact_lax =
+    exact_for (lax query) second_rows changes (each (λ c t. true)) (each (λ c t. true)) (each (λ c t. true)) ll1 productive_lax (Sym document_symbol) refl refl
 
 pub whole : IsWholeFor query second_rows changes (Sym document_symbol)
 unfolding tables

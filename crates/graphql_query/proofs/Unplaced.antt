@@ -1,19 +1,28 @@
 -- Documents whose tokens differ in their places alone are equal but for positions.
 use Rattle.std.proofs.Common.{◌≡◌, ℕ, List, [], ◌∷◌, ◌++◌, map, Some, refl, sym, ap, ap₂, ◌∙◌, subst}
 use Rattle.graphql_grammar.specs.Tokens.{Token, Class, Spelled, AnyOf, Except, Place}
-use Rattle.graphql_grammar.specs.Trees.{Expr, Shape, Nothing, Leaf, Both, First, Second, Stop, More, Node, Grammar, leaves, accepts, Fits, fits_nothing, fits_leaf, fits_both, fits_first, fits_second, fits_stop, fits_more, fits_node}
+use Rattle.graphql_grammar.specs.Trees.{Expr, Shape, Nothing, Leaf, Both, First, Second, Stop, More, Node, Grammar, leaves, accepts, Fits, fits_nothing}
+use Rattle.graphql_grammar.specs.Trees.{fits_leaf, fits_both, fits_first, fits_second, fits_stop, fits_more, fits_node}
 use Rattle.graphql_core.specs.Items.{Item}
 use Rattle.graphql_core.specs.Source.{Items, split, IsEnd}
 use Rattle.graphql_core.specs.Minified.{unplaced, IsMinified}
 use Rattle.graphql_core.proofs.Minifying.{minified_tokens}
 use Rattle.graphql_core.proofs.Cutting.{items_unique}
 use Rattle.graphql_common.specs.Leaves.{int_of, string_of, block_string_of}
-use Rattle.graphql_common.specs.Values.{ValueTree, variable, int, float, string, enum, list, object, item, no_members, TypeTree, named, list_of, no_place, erase as erase_directive, erase_all}
-use Rattle.graphql_common.specs.Meanings.{place_at, spelling_at, plain_of, put_all, value_of, values_of, argument_of, pairs_of, const_of, consts_of, const_pair_of, const_pairs_of, default_of, marked, type_of, arguments_of, optional_arguments_of, directive_of, each_directive_of, directives_of}
+use Rattle.graphql_common.specs.Values.{ValueTree, variable, int, float, string, enum, list, object, item, no_members, TypeTree, named, list_of, no_place}
+use Rattle.graphql_common.specs.Values.{erase as erase_directive, erase_all}
+use Rattle.graphql_common.specs.Meanings.{place_at, spelling_at, plain_of, put_all, value_of, values_of, argument_of, pairs_of, const_of, consts_of}
+use Rattle.graphql_common.specs.Meanings.{const_pair_of, const_pairs_of, default_of, marked, type_of, arguments_of, optional_arguments_of, directive_of}
+use Rattle.graphql_common.specs.Meanings.{each_directive_of, directives_of}
 use Rattle.graphql_query.specs.Grammar.{query}
 use Rattle.graphql_query.specs.Document.{IsDocument, IsDocumentOf, IsReadBack}
-use Rattle.graphql_query.specs.Tree.{field, spread, inline, set, more, OperationKind, query_kind, mutation_kind, subscription_kind, short, operation, fragment, DocumentTree, erase_selection, erase_set, erase_selections, erase_variable, erase_operation, erase_fragment, erase_definition, erase}
-use Rattle.graphql_query.specs.Meanings.{first_place, alias_of, condition_of, optional_condition_of, spread_name_of, spread_rest_of, spread_of, field_of, selected_of, inline_rest_of, inline_of, selection_of, set_of, selections_of, optional_default_of, variable_of, each_variable_of, variables_of, optional_variables_of, optional_name_of, common_of, keyword_of, operation_of, fragment_of, definition_of, definitions_of, document_of}
+use Rattle.graphql_query.specs.Tree.{field, spread, inline, set, more, OperationKind, query_kind, mutation_kind, subscription_kind, short, operation, fragment}
+use Rattle.graphql_query.specs.Tree.{DocumentTree, erase_selection, erase_set, erase_selections, erase_variable, erase_operation, erase_fragment}
+use Rattle.graphql_query.specs.Tree.{erase_definition, erase}
+use Rattle.graphql_query.specs.Meanings.{first_place, alias_of, condition_of, optional_condition_of, spread_name_of, spread_rest_of, spread_of, field_of}
+use Rattle.graphql_query.specs.Meanings.{selected_of, inline_rest_of, inline_of, selection_of, set_of, selections_of, optional_default_of, variable_of}
+use Rattle.graphql_query.specs.Meanings.{each_variable_of, variables_of, optional_variables_of, optional_name_of, common_of, keyword_of, operation_of}
+use Rattle.graphql_query.specs.Meanings.{fragment_of, definition_of, definitions_of, document_of}
 
 -- ---- shapes without places
 
@@ -49,7 +58,8 @@ alike_split (x ∷ xs) ys (u ∷ us) h =
     (u ∷ vs, ws, ap (λ (l : List Token). u ∷ l) parts, (λ i. first i ∷ a i), b)
 
 -- A grammar that does not look at places derives alike tokens alike.
-module _ (g : Grammar) (good : (c : Class) (t : Token) → accepts g c (unplaced t) ≡ accepts g c t) (checks : (k : ℕ) (x : Shape) → g.check k (bare x) ≡ g.check k x) where
+module _ (g : Grammar) (good : (c : Class) (t : Token) → accepts g c (unplaced t) ≡ accepts g c t)
+    (checks : (k : ℕ) (x : Shape) → g.check k (bare x) ≡ g.check k x) where
   abbrev pub Refilled : Expr → Shape → List Token → Type 0
   Refilled e x us = (y : Shape) × Fits g e y × (us ≡ leaves y) × (bare y ≡ bare x)
 
@@ -201,7 +211,8 @@ spread_bare _ = refl
 mutual
   field_bare : (x : Shape) → erase_selection (field_of (bare x)) ≡ erase_selection (field_of x)
   field_bare (Node k (Both a (Both n (Both arguments (Both ds s))))) =
-      λ i. field no_place (alias_bare a i) (spelling_bare n i) (optional_arguments_bare arguments i) (directives_bare ds i) (selected_bare (first_place (leaves (Both (bare a) (bare n)))) (first_place (leaves (Both a n))) s i)
+      λ i. field no_place (alias_bare a i) (spelling_bare n i) (optional_arguments_bare arguments i) (directives_bare ds i)
+      (selected_bare (first_place (leaves (Both (bare a) (bare n)))) (first_place (leaves (Both a n))) s i)
   field_bare _ = refl
 
   selected_bare : (p q : Place) (s : Shape) → erase_set (selected_of p (bare s)) ≡ erase_set (selected_of q s)
@@ -260,10 +271,31 @@ optional_name_bare (First n) = ap Some (spelling_bare n)
 optional_name_bare _ = refl
 
 common_bare : (kind : OperationKind) (p q : Place) (c : Shape)
-    → erase_operation (record { kind = kind; position = p; name = (common_of (bare c)).name; variables = (common_of (bare c)).variables; directives = (common_of (bare c)).directives; selected = (common_of (bare c)).selected })
-    ≡ erase_operation (record { kind = kind; position = q; name = (common_of c).name; variables = (common_of c).variables; directives = (common_of c).directives; selected = (common_of c).selected })
+    → erase_operation (record {
+      kind = kind;
+      position = p;
+      name = (common_of (bare c)).name;
+      variables = (common_of (bare c)).variables;
+      directives = (common_of (bare c)).directives;
+      selected = (common_of (bare c)).selected;
+    })
+    ≡ erase_operation (record {
+      kind = kind;
+      position = q;
+      name = (common_of c).name;
+      variables = (common_of c).variables;
+      directives = (common_of c).directives;
+      selected = (common_of c).selected;
+    })
 common_bare kind p q (Node k (Both n (Both vs (Both ds s)))) =
-    λ i. record { kind = kind; position = no_place; name = optional_name_bare n i; variables = optional_variables_bare vs i; directives = directives_bare ds i; selected = set_bare s i }
+    λ i. record {
+      kind = kind;
+      position = no_place;
+      name = optional_name_bare n i;
+      variables = optional_variables_bare vs i;
+      directives = directives_bare ds i;
+      selected = set_bare s i;
+    }
 common_bare kind p q _ = refl
 
 keyword_bare : (kind : OperationKind) (x : Shape) → erase_operation (keyword_of kind (bare x)) ≡ erase_operation (keyword_of kind x)
@@ -303,7 +335,8 @@ query_good (Spelled k s) t = refl
 query_good (AnyOf k) t = refl
 query_good (Except k ss) t = refl
 
-pub same_document : (a b : Items) → Alike b.tokens a.tokens → IsEnd b.last → (d : DocumentTree) → IsDocument a d → (e : DocumentTree) × IsDocument b e × (erase e ≡ erase d)
+pub same_document : (a b : Items) → Alike b.tokens a.tokens → IsEnd b.last → (d : DocumentTree) → IsDocument a d
+    → (e : DocumentTree) × IsDocument b e × (erase e ≡ erase d)
 same_document a b alike end d (x, (fits, is), last, means) =
     let (y, fy, ly, ey) = refilled query query_good (λ k x. refl) fits b.tokens (subst (λ (l : List Token). Alike b.tokens l) is alike) in
     (document_of y, (y, (fy, ly), end, refl), sym (document_bare y) ∙ ap (λ (z : Shape). erase (document_of z)) ey ∙ document_bare x ∙ ap erase (sym means))

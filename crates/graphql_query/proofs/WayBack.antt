@@ -1,5 +1,6 @@
 -- The layouts of query documents are read back, up to positions.
-use Rattle.std.proofs.Common.{◌≡◌, ℕ, ◌+◌, ◌<◌, ◌≤◌, Bool, true, false, List, [], ◌∷◌, ◌++◌, Option, Some, None, codes, map, refl, sym, ap, ap₂, arith, append_assoc}
+use Rattle.std.proofs.Common.{◌≡◌, ℕ, ◌+◌, ◌<◌, ◌≤◌, Bool, true, false, List, [], ◌∷◌, ◌++◌, Option, Some, None, codes, map, refl, sym, ap, ap₂, arith}
+use Rattle.std.proofs.Common.{append_assoc}
 use Rattle.std.specs.List.{AllByRecursion}
 use Rattle.std.specs.Option.{IfSome, option_map_or}
 use Rattle.graphql_grammar.specs.Tokens.{Place}
@@ -13,24 +14,37 @@ use Rattle.graphql_common.specs.Values.{ValueTree, DirectiveTree, no_place, eras
 use Rattle.graphql_common.specs.ValueLayout.{arguments_layout, directives_layout}
 use Rattle.graphql_common.specs.Grammar.{core, arguments_symbol, directives_symbol, default_symbol, shared_symbols, name as a_name}
 use Rattle.graphql_common.specs.Meanings.{place_at, spelling_at, optional_arguments_of, directives_of}
-use Rattle.graphql_common.specs.Printable.{IsNameBut, IsPrintableArgument, IsPrintableDirective, IsPrintableDefault, most, arguments_brackets, directives_brackets, value_brackets}
-use Rattle.graphql_query.specs.Tree.{SelectionTree, field, spread, inline, SetTree, set, SelectionTrees, none, more, OperationKind, query_kind, mutation_kind, subscription_kind, VariableTree, OperationTree, DefinitionTree, short, operation, fragment, DocumentTree, erase_selection, erase_set, erase_selections, erase_variable, erase_operation, erase_definition, erase}
-use Rattle.graphql_query.specs.Grammar.{query, spread_class, document_symbol, definition_symbol, operation_symbol, common_symbol, variables_symbol, variable_symbol, set_symbol, selection_symbol, alias_symbol, condition_symbol}
-use Rattle.graphql_query.specs.Meanings.{first_place, spread_name_of, alias_of, condition_of, optional_condition_of, selected_of, selection_of, set_of, selections_of, optional_default_of, variable_of, each_variable_of, optional_variables_of, optional_name_of, common_of, operation_of, definition_of, definitions_of, document_of}
-use Rattle.graphql_query.specs.Layout.{in_braces, alias_layout, condition_layout, on_layout, selection_layout, selected_layout, set_layout, selections_layout, keyword, operation_name_layout, default_layout, variable_layout, later_variables, variables_layout, definition_layout, later_definitions, document_layout, layout}
-use Rattle.graphql_query.specs.Printable.{IsPrintable, IsPrintableSelection, IsPrintableSet, ArePrintableSelections, IsPrintableVariable, IsPrintableOperation, IsPrintableDefinition, Selects, SelectsInside, SelectInside, AllSelectInside, DefinitionSelects, selection_brackets, selected_brackets, set_brackets, selections_brackets, variable_brackets, variables_brackets, definition_brackets}
+use Rattle.graphql_common.specs.Printable.{IsNameBut, IsPrintableArgument, IsPrintableDirective, IsPrintableDefault, most, arguments_brackets}
+use Rattle.graphql_common.specs.Printable.{directives_brackets, value_brackets}
+use Rattle.graphql_query.specs.Tree.{SelectionTree, field, spread, inline, SetTree, set, SelectionTrees, none, more, OperationKind, query_kind, mutation_kind}
+use Rattle.graphql_query.specs.Tree.{subscription_kind, VariableTree, OperationTree, DefinitionTree, short, operation, fragment, DocumentTree, erase_selection}
+use Rattle.graphql_query.specs.Tree.{erase_set, erase_selections, erase_variable, erase_operation, erase_definition, erase}
+use Rattle.graphql_query.specs.Grammar.{query, spread_class, document_symbol, definition_symbol, operation_symbol, common_symbol, variables_symbol}
+use Rattle.graphql_query.specs.Grammar.{variable_symbol, set_symbol, selection_symbol, alias_symbol, condition_symbol}
+use Rattle.graphql_query.specs.Meanings.{first_place, spread_name_of, alias_of, condition_of, optional_condition_of, selected_of, selection_of, set_of}
+use Rattle.graphql_query.specs.Meanings.{selections_of, optional_default_of, variable_of, each_variable_of, optional_variables_of, optional_name_of, common_of}
+use Rattle.graphql_query.specs.Meanings.{operation_of, definition_of, definitions_of, document_of}
+use Rattle.graphql_query.specs.Layout.{in_braces, alias_layout, condition_layout, on_layout, selection_layout, selected_layout, set_layout, selections_layout}
+use Rattle.graphql_query.specs.Layout.{keyword, operation_name_layout, default_layout, variable_layout, later_variables, variables_layout, definition_layout}
+use Rattle.graphql_query.specs.Layout.{later_definitions, document_layout, layout}
+use Rattle.graphql_query.specs.Printable.{IsPrintable, IsPrintableSelection, IsPrintableSet, ArePrintableSelections, IsPrintableVariable, IsPrintableOperation}
+use Rattle.graphql_query.specs.Printable.{IsPrintableDefinition, Selects, SelectsInside, SelectInside, AllSelectInside, DefinitionSelects, selection_brackets}
+use Rattle.graphql_query.specs.Printable.{selected_brackets, set_brackets, selections_brackets, variable_brackets, variables_brackets, definition_brackets}
 use Rattle.graphql_query.specs.Document.{IsDocumentOf}
 use Rattle.graphql_common.specs.Lawful.{IsLawful, AreLawfulArguments, AreLawfulDirectives}
 use Rattle.graphql_query.specs.Lawful.{IsLawfulSelection, IsLawfulSet, AreLawfulSelections, IsLawfulVariable, IsLawfulDefinition, IsLawfulDocument}
 use Rattle.graphql_common.proofs.LeavesBack.{name_word, not_listed}
 use Rattle.graphql_common.proofs.TypesBack.{type_back}
-use Rattle.graphql_core.proofs.Back.{Back, Any, Takes, as_word_back, same_parts, means, margin_back, gap_back, then_gap, word_back, mark_back, open_back, close_back, dots_back, nothing_back, both_back, first_back, second_back, node_back, stop_back, more_back, three_back, four_back, five_back, lift_back, read_back}
+use Rattle.graphql_core.proofs.Back.{Back, Any, Takes, as_word_back, same_parts, means, margin_back, gap_back, then_gap, word_back, mark_back, open_back}
+use Rattle.graphql_core.proofs.Back.{close_back, dots_back, nothing_back, both_back, first_back, second_back, node_back, stop_back, more_back, three_back}
+use Rattle.graphql_core.proofs.Back.{four_back, five_back, lift_back, read_back}
 use Rattle.graphql_common.proofs.ValuesBack.{spaces_blank}
 use Rattle.graphql_query.proofs.Readable.{tested_alike, written_goes_on}
 use Rattle.graphql_common.proofs.DirectivesBack.{arguments_back, directives_back, default_back}
 
 -- what is shared is read back in queries too
-shared : {e : Expr} {p q : Bool} {d f : ℕ} {ps : List Part} {R : Shape → Type 0} → is_below shared_symbols e ≡ true → Back core e p d ps q f R → Back query e p d ps q f R
+shared : {e : Expr} {p q : Bool} {d f : ℕ} {ps : List Part} {R : Shape → Type 0} → is_below shared_symbols e ≡ true → Back core e p d ps q f R
+    → Back query e p d ps q f R
 shared {e} below b = lift_back written_goes_on below (tested_alike e) b
 
 -- any name
@@ -41,13 +55,17 @@ named_back n d is = word_back (name_word n is) (λ p. refl) (λ t e. e)
 
 alias_back : (a : Option (List ℕ)) (d : ℕ) → IfSome a IsName → Back query (optional (Sym alias_symbol)) false d (alias_layout a) false d (λ x. alias_of x ≡ a)
 alias_back None d is = second_back (nothing_back refl)
-alias_back (Some a) d is = first_back (node_back (λ x. refl) (both_back (named_back a d is) (then_gap 32 [] refl (mark_back (codes ":") (refl, refl) (λ p. refl))) (λ x c hx hc. ap Some hx)))
+alias_back (Some a) d is =
+    first_back (node_back (λ x. refl) (both_back (named_back a d is) (then_gap 32 [] refl (mark_back (codes ":") (refl, refl) (λ p. refl)))
+    (λ x c hx hc. ap Some hx)))
 
 condition_back : (c : List ℕ) (d : ℕ) → IsName c → Back query (Sym condition_symbol) false d (condition_layout c) true d (λ x. condition_of x ≡ c)
 condition_back c d is =
-    node_back (λ x. refl) (both_back {P = Any} (word_back (name_word (codes "on") (refl, refl)) (λ p. refl) (λ t e. tt)) (gap_back refl (named_back c d is)) (λ o x ho hx. hx))
+    node_back (λ x. refl) (both_back {P = Any} (word_back (name_word (codes "on") (refl, refl)) (λ p. refl) (λ t e. tt)) (gap_back refl (named_back c d is))
+    (λ o x ho hx. hx))
 
-on_back : (c : Option (List ℕ)) (d : ℕ) → IfSome c IsName → Back query (optional (Sym condition_symbol)) false d (on_layout c) true d (λ x. optional_condition_of x ≡ c)
+on_back : (c : Option (List ℕ)) (d : ℕ) → IfSome c IsName
+    → Back query (optional (Sym condition_symbol)) false d (on_layout c) true d (λ x. optional_condition_of x ≡ c)
 on_back None d is = as_word_back (second_back (nothing_back refl))
 on_back (Some c) d is = first_back (gap_back refl (means (λ x h. ap Some h) (condition_back c d is)))
 
@@ -57,7 +75,8 @@ spread_takes n (is, other) p = rw (not_listed n (codes "on" ∷ []) other) refl
 -- ---- selections
 
 module _ (style : Layout) where
-  args : (margin : ℕ) (arguments : List (List ℕ × ValueTree)) (d : ℕ) → AllByRecursion IsPrintableArgument arguments → AreLawfulArguments arguments → d + arguments_brackets arguments ≤ 50
+  args : (margin : ℕ) (arguments : List (List ℕ × ValueTree)) (d : ℕ) → AllByRecursion IsPrintableArgument arguments → AreLawfulArguments arguments
+      → d + arguments_brackets arguments ≤ 50
       → Back query (optional (Sym arguments_symbol)) true d (arguments_layout style margin arguments) true d (λ x. optional_arguments_of x ≡ arguments)
   args margin arguments d is lawful deep = shared refl (arguments_back style margin arguments d is lawful deep)
 
@@ -67,9 +86,12 @@ module _ (style : Layout) where
 
   -- selections in braces
   braces_back : (margin : ℕ) (o c : Place) (s : SelectionTree) (ss : SelectionTrees) (d : ℕ) → d < 50
-      → Back query (Sym selection_symbol) false (d + 1) (selection_layout style (margin + style.indent) s) false (d + 1) (λ x. erase_selection (selection_of x) ≡ erase_selection s)
-      → Back query (Many (Sym selection_symbol)) false (d + 1) (selections_layout style (margin + style.indent) ss) false (d + 1) (λ x. erase_selections (selections_of x) ≡ erase_selections ss)
-      → Back query (Sym set_symbol) false d (in_braces margin (selections_layout style (margin + style.indent) (more s ss))) false d (λ x. erase_set (set_of x) ≡ erase_set (set o c (more s ss)))
+      → Back query (Sym selection_symbol) false (d + 1) (selection_layout style (margin + style.indent) s) false (d + 1)
+      (λ x. erase_selection (selection_of x) ≡ erase_selection s)
+      → Back query (Many (Sym selection_symbol)) false (d + 1) (selections_layout style (margin + style.indent) ss) false (d + 1)
+      (λ x. erase_selections (selections_of x) ≡ erase_selections ss)
+      → Back query (Sym set_symbol) false d (in_braces margin (selections_layout style (margin + style.indent) (more s ss))) false d
+      (λ x. erase_set (set_of x) ≡ erase_set (set o c (more s ss)))
   braces_back margin o c s ss d room one others =
       node_back (λ x. refl) (three_back {Q = λ x. erase_selections (selections_of x) ≡ erase_selections (more s ss)}
       (open_back (codes "{") (refl, refl) room (λ p. refl))
@@ -82,7 +104,8 @@ module _ (style : Layout) where
         → Back query (Sym selection_symbol) false d (selection_layout style margin s) false d (λ x. erase_selection (selection_of x) ≡ erase_selection s)
     selection_back margin (field p a n arguments ds s) d (alias, is, arg, dir, sel) inside (arglaw, dirlaw, law) deep =
         margin_back (spaces_blank margin) (node_back (λ x. refl) (first_back (node_back (λ x. refl) (five_back
-        (alias_back a d alias) (named_back n d is) (args margin arguments d arg arglaw (omega arith)) (dirs margin ds d dir dirlaw (omega arith)) (selected_back margin s d sel inside law (omega arith))
+        (alias_back a d alias) (named_back n d is) (args margin arguments d arg arglaw (omega arith)) (dirs margin ds d dir dirlaw (omega arith))
+        (selected_back margin s d sel inside law (omega arith))
         (λ x y z w k hx hy hz hw hk. λ i. field no_place (hx i) (hy i) (hz i) (hw i) (hk (first_place (leaves (Both x y))) i))))))
     selection_back margin (spread p n ds) d (is, dir) inside dirlaw deep =
         margin_back (spaces_blank margin) (node_back (λ x. refl) (second_back (first_back (node_back (λ x. refl) (three_back
@@ -92,7 +115,8 @@ module _ (style : Layout) where
         (λ x y z hx hy hz. λ i. spread no_place (hy i) (hz i)))))))
     selection_back margin (inline p c ds s) d (is, dir, sel) inside (dirlaw, law) deep =
         margin_back (spaces_blank margin) (node_back (λ x. refl) (second_back (second_back (node_back (λ x. refl) (four_back
-        (dots_back (λ p. refl)) (on_back c d is) (dirs margin ds d dir dirlaw (omega arith)) (gap_back refl (set_back margin s d sel inside.0 inside.1 law (omega arith)))
+        (dots_back (λ p. refl)) (on_back c d is) (dirs margin ds d dir dirlaw (omega arith))
+        (gap_back refl (set_back margin s d sel inside.0 inside.1 law (omega arith)))
         (λ x y z w hx hy hz hw. λ i. inline no_place (hy i) (hz i) (hw i)))))))
 
     selected_back : (margin : ℕ) (s : SetTree) (d : ℕ) → IsPrintableSet s → SelectInside s → IsLawfulSet s → d + selected_brackets s ≤ 50
@@ -100,16 +124,20 @@ module _ (style : Layout) where
     selected_back margin (set o c none) d is inside law deep = gap_back refl (second_back (nothing_back (λ p. refl)))
     selected_back margin (set o c (more s ss)) d (is, are) (one, others) (law, laws) deep =
         gap_back refl (first_back (means (λ x h p. h) (braces_back margin o c s ss d (omega arith)
-        (selection_back (margin + style.indent) s (d + 1) is one law (omega arith)) (selections_back (margin + style.indent) ss (d + 1) are others laws (omega arith)))))
+        (selection_back (margin + style.indent) s (d + 1) is one law (omega arith))
+        (selections_back (margin + style.indent) ss (d + 1) are others laws (omega arith)))))
 
     set_back : (margin : ℕ) (s : SetTree) (d : ℕ) → IsPrintableSet s → Selects s → SelectInside s → IsLawfulSet s → d + set_brackets s ≤ 50
         → Back query (Sym set_symbol) false d (set_layout style margin s) false d (λ x. erase_set (set_of x) ≡ erase_set s)
     set_back margin (set o c none) d is some inside law deep = absurd some
     set_back margin (set o c (more s ss)) d (is, are) some (one, others) (law, laws) deep =
-        braces_back margin o c s ss d (omega arith) (selection_back (margin + style.indent) s (d + 1) is one law (omega arith)) (selections_back (margin + style.indent) ss (d + 1) are others laws (omega arith))
+        braces_back margin o c s ss d (omega arith) (selection_back (margin + style.indent) s (d + 1) is one law (omega arith))
+        (selections_back (margin + style.indent) ss (d + 1) are others laws (omega arith))
 
-    selections_back : (margin : ℕ) (ss : SelectionTrees) (d : ℕ) → ArePrintableSelections ss → AllSelectInside ss → AreLawfulSelections ss → d + selections_brackets ss ≤ 50
-        → Back query (Many (Sym selection_symbol)) false d (selections_layout style margin ss) false d (λ x. erase_selections (selections_of x) ≡ erase_selections ss)
+    selections_back : (margin : ℕ) (ss : SelectionTrees) (d : ℕ) → ArePrintableSelections ss → AllSelectInside ss → AreLawfulSelections ss
+        → d + selections_brackets ss ≤ 50
+        → Back query (Many (Sym selection_symbol)) false d (selections_layout style margin ss) false d
+        (λ x. erase_selections (selections_of x) ≡ erase_selections ss)
     selections_back margin none d is inside law deep = stop_back refl
     selections_back margin (more s ss) d (is, are) (one, others) (law, laws) deep =
         more_back (selection_back margin s d is one law (omega arith)) (selections_back margin ss d are others laws (omega arith)) (λ x y hx hy. ap₂ more hx hy)
@@ -129,48 +157,71 @@ module _ (style : Layout) where
       (gap_back refl (shared refl (type_back v.var_type d type (omega arith)))) (default_part v.default_value d default law (omega arith))
       (λ x y z w k hx hy hz hw hk. λ i. record { position = no_place; name = hy i; var_type = hw i; default_value = hk i }))
 
-  later_variables_back : (vs : List VariableTree) (d : ℕ) → AllByRecursion IsPrintableVariable vs → AllByRecursion IsLawfulVariable vs → d + most variable_brackets vs ≤ 50
+  later_variables_back : (vs : List VariableTree) (d : ℕ) → AllByRecursion IsPrintableVariable vs → AllByRecursion IsLawfulVariable vs
+      → d + most variable_brackets vs ≤ 50
       → Back query (Many (Sym variable_symbol)) true d (later_variables style vs) true d (λ x. map erase_variable (each_variable_of x) ≡ map erase_variable vs)
   later_variables_back [] d is law deep = stop_back refl
   later_variables_back (v ∷ vs) d (is, are) (law, laws) deep =
-      gap_back refl (more_back (variable_back v d is law (omega arith)) (later_variables_back vs d are laws (omega arith)) (λ x y hx hy. ap₂ (λ t ts. t ∷ ts) hx hy))
+      gap_back refl (more_back (variable_back v d is law (omega arith)) (later_variables_back vs d are laws (omega arith))
+      (λ x y hx hy. ap₂ (λ t ts. t ∷ ts) hx hy))
 
-  variables_back : (vs : List VariableTree) (d : ℕ) → AllByRecursion IsPrintableVariable vs → AllByRecursion IsLawfulVariable vs → d + variables_brackets vs ≤ 50
-      → Back query (optional (Sym variables_symbol)) true d (variables_layout style vs) true d (λ x. map erase_variable (optional_variables_of x) ≡ map erase_variable vs)
+  variables_back : (vs : List VariableTree) (d : ℕ) → AllByRecursion IsPrintableVariable vs → AllByRecursion IsLawfulVariable vs
+      → d + variables_brackets vs ≤ 50
+      → Back query (optional (Sym variables_symbol)) true d (variables_layout style vs) true d
+      (λ x. map erase_variable (optional_variables_of x) ≡ map erase_variable vs)
   variables_back [] d is law deep = second_back (nothing_back refl)
   variables_back (v ∷ vs) d (is, are) (law, laws) deep =
       same_parts (mark (codes "(") ++ ((variable_layout style v ++ later_variables style vs) ++ mark (codes ")"))) _
       (ap (λ (l : List Part). mark (codes "(") ++ l) (sym (append_assoc (variable_layout style v) (later_variables style vs) (mark (codes ")")))))
       (first_back (node_back (λ x. refl) (as_word_back (three_back {Q = λ x. map erase_variable (each_variable_of x) ≡ map erase_variable (v ∷ vs)}
       (open_back (codes "(") (refl, refl) (omega arith) (λ p. refl))
-      (both_back (variable_back v (d + 1) is law (omega arith)) (later_variables_back vs (d + 1) are laws (omega arith)) (λ x y hx hy. ap₂ (λ t ts. t ∷ ts) hx hy))
+      (both_back (variable_back v (d + 1) is law (omega arith)) (later_variables_back vs (d + 1) are laws (omega arith))
+      (λ x y hx hy. ap₂ (λ t ts. t ∷ ts) hx hy))
       (close_back (codes ")") (refl, refl) (λ p. refl))
       (λ o x c ho hx hc. hx)))))
 
   -- ---- definitions
 
-  operation_name_back : (n : Option (List ℕ)) (d : ℕ) → IfSome n IsName → Back query (optional a_name) true d (operation_name_layout n) true d (λ x. optional_name_of x ≡ n)
+  operation_name_back : (n : Option (List ℕ)) (d : ℕ) → IfSome n IsName
+      → Back query (optional a_name) true d (operation_name_layout n) true d (λ x. optional_name_of x ≡ n)
   operation_name_back None d is = second_back (nothing_back refl)
   operation_name_back (Some n) d is = first_back (gap_back refl (means (λ x h. ap Some h) (named_back n d is)))
 
   -- what stands behind an operation's keyword
-  common_back : (o : OperationTree) (d : ℕ) → IsPrintableOperation o → Selects o.selected → SelectInside o.selected → IsLawfulDefinition (operation o) → d + definition_brackets (operation o) ≤ 50
-      → Back query (Sym common_symbol) true d (operation_name_layout o.name ++ (variables_layout style o.variables ++ (directives_layout style 0 o.directives ++ (gap (codes " ") ++ set_layout style 0 o.selected)))) false d
-      (λ x. (k : OperationKind) (p : Place) → k ≡ o.kind → erase_operation (record { kind = k; position = p; name = (common_of x).name; variables = (common_of x).variables; directives = (common_of x).directives; selected = (common_of x).selected }) ≡ erase_operation o)
+  common_back : (o : OperationTree) (d : ℕ) → IsPrintableOperation o → Selects o.selected → SelectInside o.selected → IsLawfulDefinition (operation o)
+      → d + definition_brackets (operation o) ≤ 50
+      → Back query (Sym common_symbol) true d (operation_name_layout o.name ++ (variables_layout style o.variables
+      ++ (directives_layout style 0 o.directives ++ (gap (codes " ") ++ set_layout style 0 o.selected)))) false d
+      (λ x. (k : OperationKind) (p : Place) → k ≡ o.kind
+      → erase_operation (record {
+        kind = k;
+        position = p;
+        name = (common_of x).name;
+        variables = (common_of x).variables;
+        directives = (common_of x).directives;
+        selected = (common_of x).selected;
+      }) ≡ erase_operation o)
   common_back o d (n, vs, dir, sel) some inside (varlaw, dirlaw, law) deep =
       node_back (λ x. refl) (four_back
-      (operation_name_back o.name d n) (variables_back o.variables d vs varlaw (omega arith)) (dirs 0 o.directives d dir dirlaw (omega arith)) (gap_back refl (set_back 0 o.selected d sel some inside law (omega arith)))
+      (operation_name_back o.name d n) (variables_back o.variables d vs varlaw (omega arith)) (dirs 0 o.directives d dir dirlaw (omega arith))
+      (gap_back refl (set_back 0 o.selected d sel some inside law (omega arith)))
       (λ x y z w hx hy hz hw k p e. λ i. record { kind = e i; position = no_place; name = hx i; variables = hy i; directives = hz i; selected = hw i }))
 
-  operation_back : (k : OperationKind) (o : OperationTree) (d : ℕ) → k ≡ o.kind → IsPrintableOperation o → Selects o.selected → SelectInside o.selected → IsLawfulDefinition (operation o) → d + definition_brackets (operation o) ≤ 50
-      → Back query (Sym operation_symbol) false d (name (keyword k) ++ (operation_name_layout o.name ++ (variables_layout style o.variables ++ (directives_layout style 0 o.directives ++ (gap (codes " ") ++ set_layout style 0 o.selected))))) false d
+  operation_back : (k : OperationKind) (o : OperationTree) (d : ℕ) → k ≡ o.kind → IsPrintableOperation o → Selects o.selected → SelectInside o.selected
+      → IsLawfulDefinition (operation o) → d + definition_brackets (operation o) ≤ 50
+      → Back query (Sym operation_symbol) false d
+      (name (keyword k) ++ (operation_name_layout o.name
+      ++ (variables_layout style o.variables ++ (directives_layout style 0 o.directives ++ (gap (codes " ") ++ set_layout style 0 o.selected))))) false d
       (λ x. erase_definition (operation_of x) ≡ operation (erase_operation o))
   operation_back query_kind o d e is some inside law deep =
-      node_back (λ x. refl) (second_back (first_back (both_back {P = Any} (word_back (name_word (codes "query") (refl, refl)) (λ p. refl) (λ t e. tt)) (common_back o d is some inside law deep) (λ w x hw hx. ap operation (hx query_kind (place_at w) e)))))
+      node_back (λ x. refl) (second_back (first_back (both_back {P = Any} (word_back (name_word (codes "query") (refl, refl)) (λ p. refl) (λ t e. tt))
+      (common_back o d is some inside law deep) (λ w x hw hx. ap operation (hx query_kind (place_at w) e)))))
   operation_back mutation_kind o d e is some inside law deep =
-      node_back (λ x. refl) (second_back (second_back (first_back (both_back {P = Any} (word_back (name_word (codes "mutation") (refl, refl)) (λ p. refl) (λ t e. tt)) (common_back o d is some inside law deep) (λ w x hw hx. ap operation (hx mutation_kind (place_at w) e))))))
+      node_back (λ x. refl) (second_back (second_back (first_back (both_back {P = Any} (word_back (name_word (codes "mutation") (refl, refl)) (λ p. refl)
+      (λ t e. tt)) (common_back o d is some inside law deep) (λ w x hw hx. ap operation (hx mutation_kind (place_at w) e))))))
   operation_back subscription_kind o d e is some inside law deep =
-      node_back (λ x. refl) (second_back (second_back (second_back (both_back {P = Any} (word_back (name_word (codes "subscription") (refl, refl)) (λ p. refl) (λ t e. tt)) (common_back o d is some inside law deep) (λ w x hw hx. ap operation (hx subscription_kind (place_at w) e))))))
+      node_back (λ x. refl) (second_back (second_back (second_back (both_back {P = Any} (word_back (name_word (codes "subscription") (refl, refl)) (λ p. refl)
+      (λ t e. tt)) (common_back o d is some inside law deep) (λ w x hw hx. ap operation (hx subscription_kind (place_at w) e))))))
 
   definition_back : (t : DefinitionTree) (d : ℕ) → IsPrintableDefinition t → DefinitionSelects t → IsLawfulDefinition t → d + definition_brackets t ≤ 50
       → Back query (Sym definition_symbol) false d (definition_layout style t) false d (λ x. erase_definition (definition_of x) ≡ erase_definition t)
@@ -179,25 +230,30 @@ module _ (style : Layout) where
   definition_back (operation o) d is (some, inside) law deep = node_back (λ x. refl) (first_back (operation_back o.kind o d refl is some inside law deep))
   definition_back (fragment f) d (n, c, dir, sel) (some, inside) (dirlaw, law) deep =
       node_back (λ x. refl) (second_back (node_back (λ x. refl) (five_back {P = Any}
-      (word_back (name_word (codes "fragment") (refl, refl)) (λ p. refl) (λ t e. tt)) (gap_back refl (named_back f.name d n)) (gap_back refl (condition_back f.condition d c))
+      (word_back (name_word (codes "fragment") (refl, refl)) (λ p. refl) (λ t e. tt)) (gap_back refl (named_back f.name d n))
+      (gap_back refl (condition_back f.condition d c))
       (dirs 0 f.directives d dir dirlaw (omega arith)) (gap_back refl (set_back 0 f.selected d sel some inside law (omega arith)))
       (λ x y z w k hx hy hz hw hk. λ i. fragment (record { position = no_place; name = hy i; condition = hz i; directives = hw i; selected = hk i })))))
 
   -- ---- documents
 
-  later_back : (ts : DocumentTree) → AllByRecursion IsPrintableDefinition ts → AllByRecursion DefinitionSelects ts → IsLawfulDocument ts → most definition_brackets ts ≤ 50
+  later_back : (ts : DocumentTree) → AllByRecursion IsPrintableDefinition ts → AllByRecursion DefinitionSelects ts → IsLawfulDocument ts
+      → most definition_brackets ts ≤ 50
       → Back query (Many (Sym definition_symbol)) false 0 (later_definitions style ts) false 0 (λ x. erase (definitions_of x) ≡ erase ts)
   later_back [] is selects law deep = stop_back refl
   later_back (t ∷ ts) (is, are) (selects, others) (law, laws) deep =
-      gap_back refl (more_back (definition_back t 0 is selects law (omega arith)) (later_back ts are others laws (omega arith)) (λ x y hx hy. ap₂ (λ u us. u ∷ us) hx hy))
+      gap_back refl (more_back (definition_back t 0 is selects law (omega arith)) (later_back ts are others laws (omega arith))
+      (λ x y hx hy. ap₂ (λ u us. u ∷ us) hx hy))
 
-  document_back : (ts : DocumentTree) → IsPrintable ts → IsLawfulDocument ts → Back query (Sym document_symbol) false 0 (document_layout style ts) false 0 (λ x. erase (document_of x) ≡ erase ts)
+  document_back : (ts : DocumentTree) → IsPrintable ts → IsLawfulDocument ts
+      → Back query (Sym document_symbol) false 0 (document_layout style ts) false 0 (λ x. erase (document_of x) ≡ erase ts)
   document_back [] is law = absurd is.definition
   document_back (t ∷ ts) is (law, laws) =
       let names = is.names in
       let selects = is.selections in
       let deep = is.depth in
-      node_back (λ x. refl) (both_back (definition_back t 0 names.0 selects.0 law (omega arith)) (later_back ts names.1 selects.1 laws (omega arith)) (λ x y hx hy. ap₂ (λ u us. u ∷ us) hx hy))
+      node_back (λ x. refl) (both_back (definition_back t 0 names.0 selects.0 law (omega arith)) (later_back ts names.1 selects.1 laws (omega arith))
+      (λ x y hx hy. ap₂ (λ u us. u ∷ us) hx hy))
 
   -- the layout of a printable document is a document, equal up to positions
   pub way_back : (ts : DocumentTree) → IsPrintable ts → IsLawfulDocument ts → (us : DocumentTree) × IsDocumentOf (layout style ts) us × (erase us ≡ erase ts)

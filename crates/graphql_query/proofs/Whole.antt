@@ -58,8 +58,10 @@ at_rest i [] (Wrong p b) x h e other = (Done (Node document_symbol x) [], takes_
 dropped : (front ts us : List Token) → ts ≡ front ++ us → drop (length ts - length us) ts ≡ us
 dropped front ts us e = ap (drop (length ts - length us)) e ∙ drop_at front us (length ts - length us) (omega (arith, ap length e, length-append front us))
 
-fault_there : (i j : Items) (c : Cause) (p : Pos) (why : Reason) (front : List Token) → IsWrong why i j → i.tokens ≡ front ++ j.tokens → j.last ≡ i.last → why ≡ reason_by j.tokens c
-    → record { cause = cause_text c; place = place_of p } ≡ fault_for c (reason_by j.tokens c) j.tokens j.last → IsLeastFault i (record { cause = cause_text c; place = place_of p })
+fault_there : (i j : Items) (c : Cause) (p : Pos) (why : Reason) (front : List Token) → IsWrong why i j → i.tokens ≡ front ++ j.tokens → j.last ≡ i.last
+    → why ≡ reason_by j.tokens c
+    → record { cause = cause_text c; place = place_of p } ≡ fault_for c (reason_by j.tokens c) j.tokens j.last
+    → IsLeastFault i (record { cause = cause_text c; place = place_of p })
 fault_there i j c p why front a e l r h =
     let n = length i.tokens - length j.tokens in
     let w = least.wrong (text_of i) why n a in
@@ -96,7 +98,8 @@ least_stop i j (At c p) h s l =
 pub none_rest : (i j : Items) (d : DocumentTree) (x : Shape) → Takes reading document_rule i.tokens x j.tokens → j.last ≡ i.last → (IsAtEnd j → ⊥) → IsDocument i d → ⊥
 none_rest i j d x h l other = none_wrong Unexpected i j d (at_rest i j.tokens j.last x h l other)
 
-pub least_left : (i j : Items) (e : Fault) (x : Shape) → Takes reading document_rule i.tokens x j.tokens → j.last ≡ i.last → (IsAtEnd j → ⊥) → IsFaultOf j e → IsLeastOf i e
+pub least_left : (i j : Items) (e : Fault) (x : Shape) → Takes reading document_rule i.tokens x j.tokens → j.last ≡ i.last → (IsAtEnd j → ⊥) → IsFaultOf j e
+    → IsLeastOf i e
 least_left i j OutOfMemory x h l other s = tt
 least_left i j (At c p) x h l other s =
     let k = exact_reading.sound i.tokens j.tokens (Node document_symbol x) (takes_node h refl) in

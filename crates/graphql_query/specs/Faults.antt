@@ -36,7 +36,8 @@ pub data HasNoValue : Token → CauseText → Type 0 where
   -- a float whose exponent has no digit
   malformed : {t : Token} → t.kind ≡ kind_number FloatValue → (IsFloatLiteral t.spelling → ⊥) → HasNoValue t malformed_float
   -- a string with a bad escape: what stands between its quotes has no value
-  escaped_badly : {t : Token} → t.kind ≡ kind_number StringValue → ((body : List ℕ) → IsInQuotes t.spelling body → strings.HasNoValue body) → HasNoValue t bad_escape
+  escaped_badly : {t : Token} → t.kind ≡ kind_number StringValue → ((body : List ℕ) → IsInQuotes t.spelling body → strings.HasNoValue body)
+      → HasNoValue t bad_escape
 
 -- the items from the n-th on; they are numbered from 1
 abbrev pub from_item : ℕ → Items → Items

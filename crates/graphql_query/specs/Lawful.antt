@@ -2,7 +2,8 @@
 use Rattle.std.specs.Prelude.{List}
 use Rattle.std.specs.List.{AllByRecursion}
 use Rattle.std.specs.Option.{IfSome}
-use Rattle.graphql_query.specs.Tree.{SelectionTree, field, spread, inline, SetTree, set, SelectionTrees, none, more, VariableTree, FragmentTree, DefinitionTree, short, operation, fragment, DocumentTree}
+use Rattle.graphql_query.specs.Tree.{SelectionTree, field, spread, inline, SetTree, set, SelectionTrees, none, more, VariableTree, FragmentTree, DefinitionTree}
+use Rattle.graphql_query.specs.Tree.{short, operation, fragment, DocumentTree}
 use Rattle.graphql_common.specs.Values.{DirectiveTree}
 use Rattle.graphql_common.specs.Lawful.{IsLawful, AreLawfulArguments, AreLawfulDirectives}
 

@@ -44,7 +44,8 @@ impl<N: Names> fmt::Display for Directive<N> {
     ghost output = { λ d. Some (text_of (directive_layout default_style 0 (directive_view N.bytes d))) };
 
     fn fmt<W: fmt::Write>(&self, f: &mut fmt::Formatter<W>) -> fmt::Result
-        ensures writes { DisplaysOnOk W.write_str_gives f.old result (Some (text_of (directive_layout default_style 0 (directive_view N.bytes self.now)))) f.new }
+        ensures writes { DisplaysOnOk W.write_str_gives f.old result (Some (text_of (directive_layout default_style 0 (directive_view N.bytes self.now))))
+            f.new }
         ensures styled { DisplaysStyledOnOk W.write_str_gives f.old result None f.new }
         ensures narrow { OnOk result (IsNarrow (arguments_levels default_style (directive_view N.bytes self.now).arguments)) }
     {

@@ -117,7 +117,8 @@ pub fn levels_in_operation<N: Names>(
     set: &SelectionSet<N>,
     style: &Style,
 ) -> usize
-    ensures levels { result ≡ min (operation_levels_of style.now (variables_view N.bytes variables.now.items) (directives_view N.bytes directives.now.items) (set_view N.bytes set.now)) (2 ^ 64 - 1) }
+    ensures levels { result ≡ min (operation_levels_of style.now (variables_view N.bytes variables.now.items) (directives_view N.bytes directives.now.items)
+        (set_view N.bytes set.now)) (2 ^ 64 - 1) }
     ensures lawful { AreLawfulParts (variables_view N.bytes variables.now.items) (directives_view N.bytes directives.now.items) (set_view N.bytes set.now) }
 {
     let around = levels_in_variables(variables, style).max(levels_in_directives(directives, style));

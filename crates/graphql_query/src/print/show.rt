@@ -48,7 +48,8 @@ impl<N: Names> fmt::Display for Definition<N> {
     ghost output = { λ t. Some (text_of (definition_layout default_style (definition_view N.bytes t))) };
 
     fn fmt<W: fmt::Write>(&self, f: &mut fmt::Formatter<W>) -> fmt::Result
-        ensures writes { DisplaysOnOk W.write_str_gives f.old result (Some (text_of (definition_layout default_style (definition_view N.bytes self.now)))) f.new }
+        ensures writes { DisplaysOnOk W.write_str_gives f.old result (Some (text_of (definition_layout default_style (definition_view N.bytes self.now))))
+            f.new }
         ensures styled { DisplaysStyledOnOk W.write_str_gives f.old result None f.new }
         ensures narrow { OnOk result (IsNarrow (definition_levels default_style (definition_view N.bytes self.now))) }
     {
@@ -62,7 +63,8 @@ impl<N: Names> fmt::Display for OperationDefinition<N> {
     ghost output = { λ t. Some (text_of (definition_layout default_style (operation_view N.bytes t))) };
 
     fn fmt<W: fmt::Write>(&self, f: &mut fmt::Formatter<W>) -> fmt::Result
-        ensures writes { DisplaysOnOk W.write_str_gives f.old result (Some (text_of (definition_layout default_style (operation_view N.bytes self.now)))) f.new }
+        ensures writes { DisplaysOnOk W.write_str_gives f.old result (Some (text_of (definition_layout default_style (operation_view N.bytes self.now))))
+            f.new }
         ensures styled { DisplaysStyledOnOk W.write_str_gives f.old result None f.new }
         ensures narrow { OnOk result (IsNarrow (definition_levels default_style (operation_view N.bytes self.now))) }
     {
@@ -130,7 +132,8 @@ impl<N: Names> fmt::Display for Subscription<N> {
     ghost output = { λ t. Some (text_of (operation_layout default_style (subscription_view N.bytes t))) };
 
     fn fmt<W: fmt::Write>(&self, f: &mut fmt::Formatter<W>) -> fmt::Result
-        ensures writes { DisplaysOnOk W.write_str_gives f.old result (Some (text_of (operation_layout default_style (subscription_view N.bytes self.now)))) f.new }
+        ensures writes { DisplaysOnOk W.write_str_gives f.old result (Some (text_of (operation_layout default_style (subscription_view N.bytes self.now))))
+            f.new }
         ensures styled { DisplaysStyledOnOk W.write_str_gives f.old result None f.new }
         ensures narrow { OnOk result (IsNarrow (operation_levels default_style (subscription_view N.bytes self.now))) }
     {

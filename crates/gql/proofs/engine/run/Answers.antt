@@ -15,7 +15,9 @@ reads_all (Some xs) (Some ys) text P h e p =
     (e, subst P (sym (h ∙ ap (λ l. text ++ l) e ∙ append-nil text)) p)
 
 -- the output that was made of the text is one of all that was left
-reads_for_output : (command : Command) (style : Layout) (old new : Option (List ℕ)) (text bytes made output : List ℕ) (P : List ℕ → Type 0) → text ≡ bytes → output ≡ made → Consumes old new bytes → IsAtEnd new → IsOutputOf command style text made → P output → ReadsAll old new (λ input. (x : List ℕ) × IsOutputOf command style input x × P x)
+reads_for_output : (command : Command) (style : Layout) (old new : Option (List ℕ)) (text bytes made output : List ℕ) (P : List ℕ → Type 0) → text ≡ bytes
+    → output ≡ made → Consumes old new bytes → IsAtEnd new → IsOutputOf command style text made → P output
+    → ReadsAll old new (λ input. (x : List ℕ) × IsOutputOf command style input x × P x)
 reads_for_output command style old new text bytes made output P same_text same_output taken end is h =
     let of_bytes = subst (λ t. IsOutputOf command style t output) same_text (subst (IsOutputOf command style text) (sym same_output) is) in
     reads_all old new bytes _ taken end (output, of_bytes, h)

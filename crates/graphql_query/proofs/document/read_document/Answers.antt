@@ -9,7 +9,8 @@ returns-in_err-definitions-clause-complete g c d h =
 pub returns-in_err-definitions-clause-refused : goal.returns-in_err-definitions-clause-refused
 returns-in_err-definitions-clause-refused g c =
     exit _ c.in_err-definitions.field-0.0 _ c.from_residual.ensures.1
-    (least_stop _ (g.S.TokenSource.items c.definitions.new.source) _ c.in_err-definitions.ensures.reads c.in_err-definitions.ensures.fault c.in_err-definitions.ensures.last)
+    (least_stop _ (g.S.TokenSource.items c.definitions.new.source) _ c.in_err-definitions.ensures.reads c.in_err-definitions.ensures.fault
+    c.in_err-definitions.ensures.last)
 
 pub returns-then-is_at_end-clause-derived : goal.returns-then-is_at_end-clause-derived
 returns-then-is_at_end-clause-derived g c =

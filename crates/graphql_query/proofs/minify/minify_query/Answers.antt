@@ -17,14 +17,17 @@ returns-then-len-gt-MAX_LENGTH-clause-refused c =
 pub returns-in_err-text-clause-complete : goal.returns-in_err-text-clause-complete
 returns-in_err-text-clause-complete c text bound is =
     let same : c.deref.result.now ≡ string_bytes c.args.source = c.deref.ensures in
-    tells_refusal c.deref.result.now text c.in_err-text.field-0.0 _ c.from_residual.ensures.1 c.in_err-text.ensures.refused (subst (λ (t : List ℕ). IsMinified t text) (sym same) is)
+    tells_refusal c.deref.result.now text c.in_err-text.field-0.0 _ c.from_residual.ensures.1 c.in_err-text.ensures.refused
+    (subst (λ (t : List ℕ). IsMinified t text) (sym same) is)
 
 pub returns-in_err-text-clause-refused : goal.returns-in_err-text-clause-refused
 returns-in_err-text-clause-refused c =
     let same : c.deref.result.now ≡ string_bytes c.args.source = c.deref.ensures in
     let e = c.in_err-text.field-0.0 in
     let source : List ℕ = string_bytes c.args.source in
-    exit _ (refusal_of e) (IsMinifyRefusalOf source) c.from_residual.ensures.1 (subst (λ (t : List ℕ). IsMinifyRefusalOf t (refusal_of e)) same (refusal c.deref.result.now e (omega (arith, ap length same)) c.in_err-text.ensures.refused))
+    exit _ (refusal_of e) (IsMinifyRefusalOf source) c.from_residual.ensures.1
+    (subst (λ (t : List ℕ). IsMinifyRefusalOf t (refusal_of e)) same
+    (refusal c.deref.result.now e (omega (arith, ap length same)) c.in_err-text.ensures.refused))
 
 pub returns-clause-complete : goal.returns-clause-complete
 returns-clause-complete c text bound is =

@@ -6,10 +6,12 @@ use Rattle.graphql_common.proofs.print.spaces.write_new_line.Goals as goal
 
 pub returns-then-margin-gt-MOST : goal.returns-then-margin-gt-MOST
 returns-then-margin-gt-MOST g c =
-    and_last g.S.Sink.took g.met.S.Sink.took_more _ _ _ _ _ _ _ c.in_ok-push_str.ensures c.write_many_spaces.ensures (ap (λ r. 10 ∷ r) (sym (append-nil (spaces c.args.margin))))
+    and_last g.S.Sink.took g.met.S.Sink.took_more _ _ _ _ _ _ _ c.in_ok-push_str.ensures c.write_many_spaces.ensures
+    (ap (λ r. 10 ∷ r) (sym (append-nil (spaces c.args.margin))))
 
 pub range-requires-clause-end_boundary : goal.range-requires-clause-end_boundary
 range-requires-clause-end_boundary g c = line_boundary c.args.margin c.if-margin-gt-MOST.false
 
 pub returns : goal.returns
-returns g c = and_alone g.S.Sink.took g.met.S.Sink.took_more _ _ _ _ _ c.push_str-2.ensures (c.range.ensures.value ∙ line_margin c.args.margin c.if-margin-gt-MOST.false)
+returns g c =
+    and_alone g.S.Sink.took g.met.S.Sink.took_more _ _ _ _ _ c.push_str-2.ensures (c.range.ensures.value ∙ line_margin c.args.margin c.if-margin-gt-MOST.false)

@@ -12,7 +12,11 @@ arguments-preserved g c =
     let bytes = g.N.Names.bytes in
     let here = argument_here _ _ bytes c.deref-argument-items.result.now c.arguments.argument-index c.argument-item.result (omega arith) c.argument-item.is in
     let before = rw here at c.arguments.invariant.levels in
-    record { levels = omega (arith, before, c.levels_in_value.ensures.levels); lawful = λ h. c.arguments.invariant.lawful (rw here (c.levels_in_value.ensures.lawful, h)) }
+    record {
+      levels = omega (arith, before, c.levels_in_value.ensures.levels);
+      lawful = λ h. c.arguments.invariant.lawful
+          (rw here (c.levels_in_value.ensures.lawful, h));
+    }
 
 pub returns : goal.returns
 returns g c =
@@ -26,6 +30,8 @@ returns g c =
     let none = at_drop_all (λ ys. arguments_view bytes ys) c.deref-argument-items.result.now c.arguments.argument-index (omega arith) in
     let law = c.arguments.invariant.lawful (subst AreLawfulArguments (sym none) tt) in
     record {
-      levels = c.levels_around.ensures (most_levels style (arguments_view bytes xs)) most ∙ ap (λ n. min n (2 ^ 64 - 1)) (sym (filled_levels (λ a. (bytes a.0, value_view bytes a.1)) style xs some));
+      levels =
+          c.levels_around.ensures (most_levels style (arguments_view bytes xs)) most
+          ∙ ap (λ n. min n (2 ^ 64 - 1)) (sym (filled_levels (λ a. (bytes a.0, value_view bytes a.1)) style xs some));
       lawful = subst (λ ys. AreLawfulArguments (arguments_view bytes ys)) c.deref-argument-items.ensures.value law;
     }

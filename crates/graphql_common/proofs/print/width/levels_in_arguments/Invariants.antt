@@ -9,5 +9,6 @@ invariant-arguments g l =
     let left = most_levels l.style (arguments_view g.N.Names.bytes (drop l.argument-index l.argument-items)) in
     record {
       levels : max l.most (min left (2 ^ 64 - 1)) ≡ min (most_levels l.style (arguments_view g.N.Names.bytes l.argument-items)) (2 ^ 64 - 1);
-      lawful : AreLawfulArguments (arguments_view g.N.Names.bytes (drop l.argument-index l.argument-items)) → AreLawfulArguments (arguments_view g.N.Names.bytes l.argument-items);
+      lawful : AreLawfulArguments (arguments_view g.N.Names.bytes (drop l.argument-index l.argument-items))
+          → AreLawfulArguments (arguments_view g.N.Names.bytes l.argument-items);
     }

@@ -9,5 +9,6 @@ invariant-directives g l =
     let left = directives_levels l.style (directives_view g.N.Names.bytes (drop l.directive-index l.directive-items)) in
     record {
       levels : max l.most (min left (2 ^ 64 - 1)) ≡ min (directives_levels l.style (directives_view g.N.Names.bytes l.directive-items)) (2 ^ 64 - 1);
-      lawful : AreLawfulDirectives (directives_view g.N.Names.bytes (drop l.directive-index l.directive-items)) → AreLawfulDirectives (directives_view g.N.Names.bytes l.directive-items);
+      lawful : AreLawfulDirectives (directives_view g.N.Names.bytes (drop l.directive-index l.directive-items))
+          → AreLawfulDirectives (directives_view g.N.Names.bytes l.directive-items);
     }

@@ -38,7 +38,8 @@ returns c = record {
   );
   bad_escapes = (
     none (117 ∷ codes "12") (no_escape_named (117 ∷ codes "12") (codes "12") refl too_few),
-    none (120 ∷ []) (no_escape_other (120 ∷ []) [] 120 refl (omega arith) (omega arith) (omega arith) (omega arith) (omega arith) (omega arith) (omega arith) (omega arith) (omega arith)),
+    none (120 ∷ []) (no_escape_other (120 ∷ []) [] 120 refl (omega arith) (omega arith) (omega arith) (omega arith) (omega arith) (omega arith) (omega arith)
+        (omega arith) (omega arith)),
     none (117 ∷ codes "DFFF") (no_escape_named (117 ∷ codes "DFFF") (codes "DFFF") refl surrogate),
   );
   unindented = refl;

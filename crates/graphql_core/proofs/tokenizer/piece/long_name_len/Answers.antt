@@ -6,7 +6,14 @@ use Rattle.graphql_core.proofs.tokenizer.piece.long_name_len.Goals as goal
 
 pub returns-then-run-lt-LANES-clause-len : goal.returns-then-run-lt-LANES-clause-len
 returns-then-run-lt-LANES-clause-len c =
-    omega (arith, c.loads.invariant.0, c.loads.invariant.1, c.name_lanes-run.ensures, ends_within is_name_continue 16 c.loads.rest.now (omega arith) (omega (arith, c.name_lanes-run.ensures)))
+    omega (
+      arith,
+      c.loads.invariant.0,
+      c.loads.invariant.1,
+      c.name_lanes-run.ensures,
+      ends_within is_name_continue 16 c.loads.rest.now (omega arith)
+          (omega (arith, c.name_lanes-run.ensures)),
+    )
 
 pub loads-preserved : goal.loads-preserved
 loads-preserved c =

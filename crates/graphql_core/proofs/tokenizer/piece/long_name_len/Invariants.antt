@@ -4,7 +4,8 @@ use Rattle.graphql_core.specs.Lexical.{is_name_continue}
 use Rattle.graphql_core.proofs.tokenizer.piece.long_name_len.Given as goal
 
 abbrev pub invariant-loads : goal.invariant-loads
-invariant-loads l = (length l.rest ≤ length l.bytes) × (prefix_len is_name_continue l.bytes ≡ length l.bytes - length l.rest + prefix_len is_name_continue l.rest)
+invariant-loads l =
+    (length l.rest ≤ length l.bytes) × (prefix_len is_name_continue l.bytes ≡ length l.bytes - length l.rest + prefix_len is_name_continue l.rest)
 
 abbrev pub decreases-loads : goal.decreases-loads
 decreases-loads l = length l.rest

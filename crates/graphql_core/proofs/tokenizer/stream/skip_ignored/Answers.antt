@@ -16,7 +16,8 @@ skips-preserved c = record {
       let first = skips_first (front rest) n c.in-Some.by (sym c.in-Some.ensures.is) in
       let spaces = further_spaces w c.moved.result (passed + n) c.split_at.result.1.now k (omega arith) in
       rw (all, c.over-place.ensures, c.split_at-in-Some.ensures.back)
-      (spaces ∙ rw (c.split_at.ensures.back, c.moved.ensures) (further_skip w c.skips.place passed rest n c.in-Some.by first) ∙ c.skips.invariant.items_are w at);
+      (spaces ∙ rw (c.split_at.ensures.back, c.moved.ensures) (further_skip w c.skips.place passed rest n c.in-Some.by first)
+      ∙ c.skips.invariant.items_are w at);
   len = omega arith;
   line = search rules;
   column = search rules;

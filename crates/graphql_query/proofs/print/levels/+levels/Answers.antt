@@ -26,7 +26,11 @@ levels_in_selections-items-preserved g t c =
     let l = c.items in
     let here = selection_here bytes c.deref-item-items.result.now l.item-index c.item-item.result (omega arith) c.item-item.is in
     let left = rw here at l.invariant.levels in
-    record { levels = omega (arith, left, c.levels_in_selection.ensures.levels, c.max-most.ensures); lawful = λ h. l.invariant.lawful (rw here (c.levels_in_selection.ensures.lawful, h)) }
+    record {
+      levels = omega (arith, left, c.levels_in_selection.ensures.levels, c.max-most.ensures);
+      lawful = λ h. l.invariant.lawful
+          (rw here (c.levels_in_selection.ensures.lawful, h));
+    }
 
 pub levels_in_selections-returns : goal.levels_in_selections-returns
 levels_in_selections-returns g t c =
@@ -37,5 +41,7 @@ levels_in_selections-returns g t c =
     let end = at_drop_all (λ xs. selections_view bytes xs) c.deref-item-items.result.now l.item-index (omega arith) in
     record {
       levels = omega (arith, left);
-      lawful = subst (λ xs. AreLawfulSelections (selections_view bytes xs)) c.deref-item-items.ensures.value (l.invariant.lawful (subst AreLawfulSelections (sym end) tt));
+      lawful =
+          subst (λ xs. AreLawfulSelections (selections_view bytes xs)) c.deref-item-items.ensures.value
+          (l.invariant.lawful (subst AreLawfulSelections (sym end) tt));
     }

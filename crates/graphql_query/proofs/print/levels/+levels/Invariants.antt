@@ -9,5 +9,6 @@ invariant-levels_in_selections-items g l =
     let left = selections_levels l.style (selections_view g.N.Names.bytes (drop l.item-index l.item-items)) in
     record {
       levels : max l.most (min left (2 ^ 64 - 1)) ≡ min (selections_levels l.style (selections_view g.N.Names.bytes l.item-items)) (2 ^ 64 - 1);
-      lawful : AreLawfulSelections (selections_view g.N.Names.bytes (drop l.item-index l.item-items)) → AreLawfulSelections (selections_view g.N.Names.bytes l.item-items);
+      lawful : AreLawfulSelections (selections_view g.N.Names.bytes (drop l.item-index l.item-items))
+          → AreLawfulSelections (selections_view g.N.Names.bytes l.item-items);
     }

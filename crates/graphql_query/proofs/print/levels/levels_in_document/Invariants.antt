@@ -9,5 +9,6 @@ invariant-definitions g l =
     let left = levels l.style (definitions_view g.N.Names.bytes (drop l.definition-index l.definition-items)) in
     record {
       levels : max l.most (min left (2 ^ 64 - 1)) ≡ min (levels l.style (definitions_view g.N.Names.bytes l.definition-items)) (2 ^ 64 - 1);
-      lawful : IsLawfulDocument (definitions_view g.N.Names.bytes (drop l.definition-index l.definition-items)) → IsLawfulDocument (definitions_view g.N.Names.bytes l.definition-items);
+      lawful : IsLawfulDocument (definitions_view g.N.Names.bytes (drop l.definition-index l.definition-items))
+          → IsLawfulDocument (definitions_view g.N.Names.bytes l.definition-items);
     }

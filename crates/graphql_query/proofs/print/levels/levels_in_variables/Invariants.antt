@@ -9,5 +9,6 @@ invariant-variables g l =
     let left = variables_levels l.style (variables_view g.N.Names.bytes (drop l.variable-index l.variable-items)) in
     record {
       levels : max l.most (min left (2 ^ 64 - 1)) ≡ min (variables_levels l.style (variables_view g.N.Names.bytes l.variable-items)) (2 ^ 64 - 1);
-      lawful : AreLawfulVariables (variables_view g.N.Names.bytes (drop l.variable-index l.variable-items)) → AreLawfulVariables (variables_view g.N.Names.bytes l.variable-items);
+      lawful : AreLawfulVariables (variables_view g.N.Names.bytes (drop l.variable-index l.variable-items))
+          → AreLawfulVariables (variables_view g.N.Names.bytes l.variable-items);
     }

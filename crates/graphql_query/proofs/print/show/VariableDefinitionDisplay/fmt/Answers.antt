@@ -5,5 +5,6 @@ use Rattle.graphql_query.proofs.print.show.VariableDefinitionDisplay.fmt.Goals a
 
 pub returns-clause-narrow : goal.returns-clause-narrow
 returns-clause-narrow g c =
-    checked c.write_variable.result c.default-style.result (λ style. variable_levels style (variable_view g.N.Names.bytes c.args.self.now)) c.levels_in_variable.result c.default-style.ensures
+    checked c.write_variable.result c.default-style.result (λ style. variable_levels style (variable_view g.N.Names.bytes c.args.self.now))
+    c.levels_in_variable.result c.default-style.ensures
     c.levels_in_variable.ensures.levels c.in_ok-check_width.ensures
