@@ -4,23 +4,22 @@ use Rattle.std.proofs.lemmas.Bool.{and_from, eq-eqb}
 use Rattle.graphql_grammar.specs.Tokens.{Token, matches}
 use Rattle.graphql_grammar.specs.Trees.{One, Shape, Leaf}
 use Rattle.graphql_grammar.specs.Reading.{Takes, Improper, Fails, fails_value}
-use Rattle.graphql_core.specs.declared.common.cause.Cause.{Cause}
 use Rattle.std.specs.Result.{IsErrAnd}
-use Rattle.graphql_core.specs.declared.common.fault.Fault.{Fault}
+use Rattle.graphql_core.specs.declared.helpers.stop.Stop.{Stop}
 use Rattle.graphql_core.specs.declared.helpers.source.Lexeme.{Lexeme}
 use Rattle.graphql_core.specs.declared.tokenizer.token.Kind.{Kind}
 use Rattle.graphql_core.specs.Causes.{kind_number}
 use Rattle.graphql_core.specs.Source.{Items, after, lexeme_token}
 use Rattle.graphql_core.proofs.Matches.{takes_first}
 use Rattle.graphql_common.specs.Grammar.{core, any}
-use Rattle.graphql_common.specs.Gives.{Gives, reason_by}
+use Rattle.graphql_common.specs.Gives.{Gives}
 use Rattle.graphql_common.specs.LeafReading.{IsNext, Shows}
 use Rattle.graphql_common.specs.Leaves.{has_value}
 use Rattle.graphql_common.proofs.Reading.{takes_one, stops_one}
 use Rattle.graphql_common.proofs.LeafValues.{IsSpelledAs, lexeme_spelled}
 
--- the fault of an item that is none of the kind goes up
-pub not_shown : {A T : Type 0} (bytes : T → List ℕ) (k : Kind) (i : Items) (P : A → Shape → Type 0) (r : Result A Fault) (e : Fault) → Shows bytes k i (Err e) → IsErrAnd r (λ d. d ≡ e) → Gives core (One (any k)) i i P r
+-- where the item is none of the kind
+pub not_shown : {A T : Type 0} (bytes : T → List ℕ) (k : Kind) (i : Items) (P : A → Shape → Type 0) (r : Result A Stop) (e : Stop) → Shows bytes k i (Err e) → IsErrAnd r (λ d. d ≡ e) → Gives core (One (any k)) i i P r
 not_shown bytes k i P (Ok v) e s h = absurd h
 not_shown bytes k i P (Err d) e s h = rw h (stops_one core (any k) i i e s)
 
@@ -38,6 +37,6 @@ module _ {T : Type 0} (bytes : T → List ℕ) (k : Kind) (i : Items) (t : Lexem
   pub next_taken : (new : Items) → has_value (kind_number k) (bytes t.text) ≡ true → new ≡ after i → Takes core (One (any k)) i.tokens (Leaf (lexeme_token bytes t)) new.tokens
   next_taken new good e = takes_one core (any k) i new (lexeme_token bytes t) good (takes_first (any k) i new (lexeme_token bytes t) n.first e next_matches)
 
-  -- where it has no value, for this cause
-  pub next_refused : (c : Cause) → ((u : Token) (us : List Token) → reason_by (u ∷ us) c ≡ Improper (any k)) → has_value (kind_number k) (bytes t.text) ≡ false → Fails core (One (any k)) i.tokens (reason_by i.tokens c) i.tokens
-  next_refused c reason bad = subst (λ ts. Fails core (One (any k)) ts (reason_by ts c) ts) (sym n.first) (rw (reason (lexeme_token bytes t) (drop 1 i.tokens)) (fails_value next_matches bad))
+  -- where it has no value
+  pub next_refused : has_value (kind_number k) (bytes t.text) ≡ false → Fails core (One (any k)) i.tokens (Improper (any k)) i.tokens
+  next_refused bad = subst (λ ts. Fails core (One (any k)) ts (Improper (any k)) ts) (sym n.first) (fails_value next_matches bad)

@@ -5,36 +5,31 @@ use Rattle.std.proofs.lemmas.Bool.{and_cases, or_parts, cases_Bool, true≢false
 use Rattle.graphql_grammar.specs.Tokens.{Token, Class, same_spelling, takes_spelling, matches, all_within}
 use Rattle.graphql_grammar.specs.Trees.{Expr, One, Either, Sym, Shape, Leaf, First, Second, Node, Grammar, peek}
 use Rattle.graphql_grammar.specs.Tables.{first, decides}
-use Rattle.graphql_grammar.specs.Reading.{sees, Takes}
+use Rattle.graphql_grammar.specs.Reading.{sees, Takes, Unexpected, Fails, fails_one, fails_node}
 use Rattle.graphql_grammar.specs.Words.{TakesSome, Stops}
 use Rattle.graphql_grammar.proofs.Classes.{same_spelling-true}
-use Rattle.graphql_core.specs.declared.common.fault.Fault.{Fault}
-use Rattle.graphql_core.specs.declared.common.fault.Fault.TheVariants.{OutOfMemory, At}
+use Rattle.graphql_core.specs.declared.helpers.stop.Stop.{Stop}
+use Rattle.graphql_core.specs.declared.helpers.stop.Stop.TheVariants.{Memory, Item, Integer, Float, Escape}
 use Rattle.graphql_core.specs.declared.helpers.source.Lexeme.{Lexeme}
 use Rattle.graphql_core.specs.declared.tokenizer.token.Kind.{Kind}
 use Rattle.graphql_core.specs.declared.tokenizer.token.Kind.TheVariants.{Punctuator, Name, IntValue, FloatValue, StringValue, BlockString}
 use Rattle.graphql_core.specs.Causes.{kind_number}
-use Rattle.graphql_core.specs.Source.{Items, IsFaultOf, after, lexeme_token}
+use Rattle.graphql_core.specs.Source.{Items, after, lexeme_token}
 use Rattle.graphql_core.proofs.Matches.{takes_first}
 use Rattle.graphql_common.specs.Gives.{Gives, reason_of}
 use Rattle.graphql_common.specs.Grammar.{core, tables, any, enum_class, keyword, plain_symbol, enum_name_symbol}
 use Rattle.graphql_common.specs.LeafReading.{IsNext, Shows, word_of}
 use Rattle.graphql_common.specs.Meanings.{plain_of}
-use Rattle.graphql_common.proofs.Reading.{TakesNone, FailsUnseen, unexpected_by, unseen_one, unseen_either, takes_one, stops_one}
+use Rattle.graphql_common.proofs.Reading.{TakesNone, unseen_either, takes_one, stops_one}
 use Rattle.graphql_common.proofs.Sides.{IsSide, through, side_node, side_first, side_second}
 
 -- ---- sides
 
 -- what refuses a side refuses the whole
-pub side_refused : {A : Type 0} {g : Grammar} {a c : Expr} {f : Shape → Shape} (old new : Items) (P : A → Shape → Type 0) (e : Fault) (r : Result A Fault) → IsSide g a c f old.tokens
-    → Stops g c old.tokens new.tokens (reason_of new e) → IsErrAnd r (λ d. d ≡ e) → Gives g a old new P r
+pub side_refused : {A : Type 0} {g : Grammar} {a c : Expr} {f : Shape → Shape} (old new : Items) (P : A → Shape → Type 0) (e : Stop) (r : Result A Stop) → IsSide g a c f old.tokens
+    → Stops g c old.tokens new.tokens (reason_of e) → IsErrAnd r (λ d. d ≡ e) → Gives g a old new P r
 side_refused old new P e (Ok v) side h s = absurd s
-side_refused old new P e (Err d) side h s = rw s (side.stops new.tokens (reason_of new e) h)
-
--- where nothing begins so, the fault of the next item is the theory's
-unseen_stops : (g : Grammar) (a : Expr) (i : Items) (e : Fault) → FailsUnseen g a i.tokens → sees (first g.rows a) (peek i.tokens) ≡ false → IsFaultOf i e → Stops g a i.tokens i.tokens (reason_of i e)
-unseen_stops g a i OutOfMemory f s h = tt
-unseen_stops g a i (At cause p) f s h = rw (unexpected_by i.tokens i.last cause p h) (f s)
+side_refused old new P e (Err d) side h s = rw s (side.stops new.tokens (reason_of e) h)
 
 -- a side behind one that the class c does not begin
 past : {a b f : Expr} {inside : Shape → Shape} (c : Class) (ts : List Token) → decides core.rows (Either a b) ≡ true → all_within (c ∷ []) (first core.rows b) ≡ true → sees (c ∷ []) (peek ts) ≡ true
@@ -98,15 +93,13 @@ module _ (ts : List Token) where
       (past c ts refl refl h (past c ts refl refl h (past c ts refl refl h (past c ts refl refl h (past c ts refl refl h (past c ts refl refl h (side_second core _ _ c ts refl refl h)))))))
 
 -- a punctuator, or no token, is on no side
-pub mark_stopped : (i : Items) (t : Token) (e : Fault) → i.tokens ≡ t ∷ drop 1 i.tokens → t.kind ≡ kind_number Punctuator → IsFaultOf i e → Stops core (Sym plain_symbol) i.tokens i.tokens (reason_of i e)
+pub mark_stopped : (ts : List Token) (t : Token) → ts ≡ t ∷ drop 1 ts → t.kind ≡ kind_number Punctuator → Fails core (Sym plain_symbol) ts Unexpected ts
 unfolding tables
-mark_stopped i t e first kind h =
-    (side_node core plain_symbol i.tokens (λ x. refl)).stops i.tokens (reason_of i e) (unseen_stops core _ i e (unseen_either core _ _ i.tokens refl refl) (rw (ap peek first, kind) refl) h)
+mark_stopped ts t first kind = fails_node (unseen_either core _ _ ts refl refl (rw (ap peek first, kind) refl))
 
-pub none_stopped : (i : Items) (e : Fault) → i.tokens ≡ [] → IsFaultOf i e → Stops core (Sym plain_symbol) i.tokens i.tokens (reason_of i e)
+pub none_stopped : (ts : List Token) → ts ≡ [] → Fails core (Sym plain_symbol) ts Unexpected ts
 unfolding tables
-none_stopped i e none h =
-    (side_node core plain_symbol i.tokens (λ x. refl)).stops i.tokens (reason_of i e) (unseen_stops core _ i e (unseen_either core _ _ i.tokens refl refl) (rw (ap peek none) refl) h)
+none_stopped ts none = fails_node (unseen_either core _ _ ts refl refl (rw (ap peek none) refl))
 
 -- ---- names
 
@@ -130,10 +123,9 @@ module _ {T : Type 0} (bytes : T → List ℕ) (i : Items) where
   enum_taken new t n word e =
       (side_node core enum_name_symbol i.tokens (λ x. refl)).takes new.tokens _ (takes_one core enum_class i new _ refl (takes_first enum_class i new _ n.first e (rw (ap kind_number n.kind, word) refl)))
 
-  pub enum_stopped : (t : Lexeme T) (e : Fault) → IsNext bytes Name i t → takes_spelling enum_class (bytes t.text) ≡ false → IsFaultOf i e → Stops core (Sym enum_name_symbol) i.tokens i.tokens (reason_of i e)
-  enum_stopped t e n word h =
-      (side_node core enum_name_symbol i.tokens (λ x. refl)).stops i.tokens (reason_of i e)
-      (unseen_stops core (One enum_class) i e (unseen_one core enum_class i.tokens) (rw (ap peek n.first, ap kind_number n.kind, word) refl) h)
+  pub enum_stopped : (t : Lexeme T) → IsNext bytes Name i t → takes_spelling enum_class (bytes t.text) ≡ false
+      → Fails core (Sym enum_name_symbol) i.tokens Unexpected i.tokens
+  enum_stopped t n word = fails_node (fails_one (rw (ap peek n.first, ap kind_number n.kind, word) refl))
 
 -- what is no name is no enum value
 no_enum : (item : Option Token) → sees (any Name ∷ []) item ≡ false → sees (enum_class ∷ []) item ≡ false
@@ -143,12 +135,17 @@ no_enum (Some t) h =
     let kind : (kind_number Name == t.kind) ≡ false = elim (and_cases (kind_number Name == t.kind) true other) [ inl k ↦ k | inr k ↦ absurd (true≢false k) ] in
     rw kind refl
 
-no_enum_taken : (i : Items) (e : Fault) → TakesNone (any Name) i i e → TakesNone enum_class i i e
-no_enum_taken i OutOfMemory h = h
-no_enum_taken i (At cause p) (same, unseen, fault) = (same, no_enum (peek i.tokens) unseen, fault)
+no_enum_taken : (i : Items) (s : Stop) → TakesNone (any Name) i i s → TakesNone enum_class i i s
+no_enum_taken i Memory h = h
+no_enum_taken i Item (same, unseen) = (same, no_enum (peek i.tokens) unseen)
+no_enum_taken i Integer h = h
+no_enum_taken i Float h = h
+no_enum_taken i Escape h = h
 
-pub enum_not_shown : {A T : Type 0} (bytes : T → List ℕ) (i : Items) (P : A → Shape → Type 0) (r : Result A Fault) (e : Fault) → Shows bytes Name i (Err e) → IsErrAnd r (λ d. d ≡ e) → Gives core (Sym enum_name_symbol) i i P r
-enum_not_shown bytes i P r e s h = side_refused i i P e r (side_node core enum_name_symbol i.tokens (λ x. refl)) (stops_one core enum_class i i e (no_enum_taken i e s)) h
+pub enum_not_shown : {A T : Type 0} (bytes : T → List ℕ) (i : Items) (P : A → Shape → Type 0) (r : Result A Stop) (e : Stop)
+    → Shows bytes Name i (Err e) → IsErrAnd r (λ d. d ≡ e) → Gives core (Sym enum_name_symbol) i i P r
+enum_not_shown bytes i P r e s h =
+    side_refused i i P e r (side_node core enum_name_symbol i.tokens (λ x. refl)) (stops_one core enum_class i i e (no_enum_taken i e s)) h
 
 -- a name is taken as the value that it writes
 module _ (i new : Items) (t : Token) (front : i.tokens ≡ t ∷ drop 1 i.tokens) (kind : t.kind ≡ kind_number Name) (past_it : new ≡ after i) where

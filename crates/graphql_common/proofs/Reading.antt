@@ -2,7 +2,7 @@
 use Rattle.std.proofs.Common.{◌≡◌, true, false, List, [], ◌∷◌, ◌++◌, map, Result, Ok, Err, IsErrAnd, Option, Some, None, refl, sym, ap, ap₂, subst, ◌∙◌, append_assoc, inl, inr}
 use Rattle.std.proofs.lemmas.Bool.{and_from, cases_Bool}
 use Rattle.graphql_grammar.specs.Tokens.{Token, Class, matches}
-use Rattle.graphql_grammar.specs.Trees.{Expr, Empty, One, Then, Either, Many, Shape, Nothing, Leaf, Both, First, Second, Stop, More, Row, Grammar, optional, some_of}
+use Rattle.graphql_grammar.specs.Trees.{Expr, Empty, One, Then, Either, Many, Shape, Nothing, Leaf, Both, First, Second, More, Row, Grammar, optional, some_of}
 use Rattle.graphql_grammar.specs.Trees as trees
 use Rattle.graphql_grammar.specs.Tables.{nullable, first}
 use Rattle.graphql_grammar.specs.Reading.{sees, choose, Left, Right, Takes, takes_nothing, takes_leaf, takes_both, takes_first, takes_second, takes_stop, takes_more, Reason, Unexpected, Fails, fails_one, fails_before, fails_after, fails_first, fails_second, fails_neither, fails_turn}
@@ -10,15 +10,11 @@ use Rattle.graphql_grammar.specs.Words.{TakesSome, Stops, Turns, values}
 use Rattle.graphql_grammar.proofs.Items.{sees-parts}
 use Rattle.graphql_grammar.proofs.Same.{take-or_fail, same-fail}
 use Rattle.graphql_grammar.proofs.Turning.{exits, Stops-first, Stops-after, Turns-stop, picks-first, picks-neither}
-use Rattle.graphql_core.specs.declared.common.cause.Cause.{Cause}
-use Rattle.graphql_core.specs.declared.common.cause.Cause.TheVariants as cause
-use Rattle.graphql_core.specs.declared.common.fault.Fault.{Fault}
-use Rattle.graphql_core.specs.declared.common.fault.Fault.TheVariants.{OutOfMemory, At}
-use Rattle.graphql_core.specs.declared.position.Pos.{Pos}
-use Rattle.graphql_core.specs.Causes.{cause_text, unexpected_token, int_out_of_range, malformed_float, bad_escape}
-use Rattle.graphql_core.specs.Source.{Items, Last, FaultText, fault_by, place_of}
+use Rattle.graphql_core.specs.declared.helpers.stop.Stop.{Stop}
+use Rattle.graphql_core.specs.declared.helpers.stop.Stop.TheVariants.{Memory, Item, Integer, Float, Escape}
+use Rattle.graphql_core.specs.Source.{Items, kept}
 use Rattle.graphql_core.specs.Matching.{TakesToken, TakesOne}
-use Rattle.graphql_common.specs.Gives.{Gives, reason_by, reason_of, IsFaultLeft}
+use Rattle.graphql_common.specs.Gives.{Gives, reason_of}
 
 -- ---- single tokens
 
@@ -27,39 +23,23 @@ pub takes_one : (g : Grammar) (c : Class) (old new : Items) (t : Token) → g.go
 takes_one g c old new t good h = subst (λ (ts : List Token). Takes g (One c) ts (Leaf t) new.tokens) (sym h.tokens) (takes_leaf (and_from (matches c t) (g.good c t) h.of_class good))
 
 -- what a match leaves that takes nothing
-abbrev pub TakesNone : Class → Items → Items → Fault → Type 0
-TakesNone c old new e = TakesOne {A = Unit {0}} c old new (λ v t. Unit {0}) (Err e)
-
--- a token that may not stand there has a cause of its own
-pub unexpected_by : (ts : List Token) (l : Last) (c : Cause) (p : Pos) → record { cause = cause_text c; place = place_of p } ≡ fault_by ts l → reason_by ts c ≡ Unexpected
-unexpected_by [] l c p h = refl
-unexpected_by (t ∷ ts) l (cause.BadToken b) p h = refl
-unexpected_by (t ∷ ts) l (cause.UnexpectedToken k s) p h = refl
-unexpected_by (t ∷ ts) l cause.UnexpectedEnd p h = refl
-unexpected_by (t ∷ ts) l cause.TooDeep p h = refl
-unexpected_by (t ∷ ts) l cause.IntOutOfRange p h = let e : int_out_of_range ≡ unexpected_token t.kind t.spelling = ap (λ (f : FaultText). f.cause) h in absurd cc
-unexpected_by (t ∷ ts) l cause.MalformedFloat p h = let e : malformed_float ≡ unexpected_token t.kind t.spelling = ap (λ (f : FaultText). f.cause) h in absurd cc
-unexpected_by (t ∷ ts) l cause.BadEscape p h = let e : bad_escape ≡ unexpected_token t.kind t.spelling = ap (λ (f : FaultText). f.cause) h in absurd cc
-unexpected_by (t ∷ ts) l cause.UnknownLocation p h = refl
-unexpected_by (t ∷ ts) l (cause.DuplicateOperation s) p h = refl
-unexpected_by (t ∷ ts) l (cause.UnknownOperation s) p h = refl
-unexpected_by (t ∷ ts) l cause.EmptyExtension p h = refl
-unexpected_by (t ∷ ts) l cause.TextTooLong p h = refl
-unexpected_by (t ∷ ts) l cause.OutOfMemory p h = refl
+abbrev pub TakesNone : Class → Items → Items → Stop → Type 0
+TakesNone c old new s = TakesOne {A = Unit {0}} c old new (λ v t. Unit {0}) (Err s)
 
 -- its error is the theory's
-pub stops_one : (g : Grammar) (c : Class) (old new : Items) (e : Fault) → TakesNone c old new e → Stops g (One c) old.tokens new.tokens (reason_of new e)
-stops_one g c old new OutOfMemory h = tt
-stops_one g c old new (At cause p) (same, unseen, fault) = rw (same, unexpected_by old.tokens old.last cause p fault) (fails_one unseen)
+pub stops_one : (g : Grammar) (c : Class) (old new : Items) (s : Stop) → TakesNone c old new s → Stops g (One c) old.tokens new.tokens (reason_of s)
+stops_one g c old new Memory h = tt
+stops_one g c old new Item (same, unseen) = rw same (fails_one unseen)
+stops_one g c old new Integer h = absurd h
+stops_one g c old new Float h = absurd h
+stops_one g c old new Escape h = absurd h
 
--- and the fault of the item that stays
-pub fault_one : (c : Class) (old new : Items) (e : Fault) → TakesNone c old new e → IsFaultLeft new e
-fault_one c old new OutOfMemory h = tt
-fault_one c old new (At cause p) (same, unseen, fault) = rw (same, unexpected_by old.tokens old.last cause p fault) fault
-
-pub last_one : (c : Class) (old new : Items) (e : Fault) → TakesNone c old new e → new.last ≡ old.last
-last_one c old new OutOfMemory h = ap (λ (i : Items). i.last) h
-last_one c old new (At cause p) h = ap (λ (i : Items). i.last) h.0
+pub kept_one : (c : Class) (old new : Items) (s : Stop) → TakesNone c old new s → kept new ≡ kept old
+kept_one c old new Memory h = ap kept h
+kept_one c old new Item h = ap kept h.0
+kept_one c old new Integer h = absurd h
+kept_one c old new Float h = absurd h
+kept_one c old new Escape h = absurd h
 
 -- ---- choices where one side is left
 
@@ -127,16 +107,16 @@ stops_optional g a ts us o seen h = Stops-first g a Empty ts us o (picks-first g
 -- ---- what another reader gives
 
 -- the last step of a reader is another's
-pub gives_then : {A : Type 0} (g : Grammar) (e f : Expr) (old mid new : Items) (P Q : A → Shape → Type 0) (r : Result A Fault)
+pub gives_then : {A : Type 0} (g : Grammar) (e f : Expr) (old mid new : Items) (P Q : A → Shape → Type 0) (r : Result A Stop)
     → ((v : A) (x : Shape) → Takes g f mid.tokens x new.tokens → P v x → TakesSome g e old.tokens new.tokens (Q v))
     → ((o : Option Reason) → Stops g f mid.tokens new.tokens o → Stops g e old.tokens new.tokens o)
     → Gives g f mid new P r → Gives g e old new Q r
 gives_then g e f old mid new P Q (Ok v) takes stops (x, h, p) = takes v x h p
-gives_then g e f old mid new P Q (Err d) takes stops h = stops (reason_of new d) h
+gives_then g e f old mid new P Q (Err d) takes stops h = stops (reason_of d) h
 
 -- an error goes up
-pub gives_error : {A : Type 0} (g : Grammar) (e : Expr) (old new : Items) (P : A → Shape → Type 0) (r : Result A Fault) (d : Fault)
-    → Stops g e old.tokens new.tokens (reason_of new d) → IsErrAnd r (λ x. x ≡ d) → Gives g e old new P r
+pub gives_error : {A : Type 0} (g : Grammar) (e : Expr) (old new : Items) (P : A → Shape → Type 0) (r : Result A Stop) (d : Stop)
+    → Stops g e old.tokens new.tokens (reason_of d) → IsErrAnd r (λ x. x ≡ d) → Gives g e old new P r
 gives_error g e old new P (Ok v) d stops h = absurd h
 gives_error g e old new P (Err x) d stops h = rw h stops
 
@@ -146,7 +126,7 @@ abbrev pub one_of : {A : Type 0} → (Shape → A) → Shape → List A
 one_of f x = f x ∷ []
 
 -- what a repetition means, by what its turns mean
-pub many_means : {A B : Type 0} (g : Grammar) (a : Expr) (f : Shape → A) (m : Shape → B) (of : List A → B) → m Stop ≡ of [] → ((x y : Shape) (vs : List A) → m y ≡ of vs → m (More x y) ≡ of (f x ∷ vs))
+pub many_means : {A B : Type 0} (g : Grammar) (a : Expr) (f : Shape → A) (m : Shape → B) (of : List A → B) → m trees.Stop ≡ of [] → ((x y : Shape) (vs : List A) → m y ≡ of vs → m (More x y) ≡ of (f x ∷ vs))
     → {ts : List Token} {x : Shape} {us : List Token} → Takes g (Many a) ts x us → m x ≡ of (values (one_of f) x)
 many_means g a f m of stop more (takes_stop h) = stop
 many_means g a f m of stop more (takes_more {x = x} {y = y} h p q) = more x y (values (one_of f) y) (many_means g a f m of stop more q)
@@ -186,4 +166,4 @@ stops_until g a c f start now us items (Some why) un t s h =
     (λ unseen. let r = Turns-stop g a f start now items t unseen in fails_after r.1 (fails_one s)) h
 
 -- for errors that go up
-pub ruleset reading = (exits, stops_one, fault_one, last_one)
+pub ruleset reading = (exits, stops_one, kept_one)

@@ -9,7 +9,7 @@ use Rattle.graphql_grammar.specs.Words.{Stops}
 use Rattle.graphql_grammar.proofs.Classes.{all_within-sound}
 use Rattle.graphql_grammar.proofs.Items.{sees-within}
 use Rattle.graphql_grammar.proofs.Turning.{Stops-node, Stops-first, Stops-second, picks-first, picks-second}
-use Rattle.graphql_core.specs.declared.common.fault.Fault.{Fault}
+use Rattle.graphql_core.specs.declared.helpers.stop.Stop.{Stop}
 use Rattle.graphql_core.specs.Source.{Items}
 use Rattle.graphql_common.specs.Gives.{Gives, reason_of}
 use Rattle.graphql_common.proofs.Reading.{FailsUnseen, takes_left, stops_left, takes_right, stops_right}
@@ -19,10 +19,10 @@ pub record IsSide (g : Grammar) (e f : Expr) (inside : Shape → Shape) (ts : Li
   pub takes : (us : List Token) (x : Shape) → Takes g f ts x us → Takes g e ts (inside x) us
   pub stops : (us : List Token) (o : Option Reason) → Stops g f ts us o → Stops g e ts us o
 
-pub gives_side : {A : Type 0} (g : Grammar) (e f : Expr) (inside : Shape → Shape) (old new : Items) (P Q : A → Shape → Type 0) (r : Result A Fault) → IsSide g e f inside old.tokens
+pub gives_side : {A : Type 0} (g : Grammar) (e f : Expr) (inside : Shape → Shape) (old new : Items) (P Q : A → Shape → Type 0) (r : Result A Stop) → IsSide g e f inside old.tokens
     → ((v : A) (x : Shape) → P v x → Q v (inside x)) → Gives g f old new P r → Gives g e old new Q r
 gives_side g e f inside old new P Q (Ok v) side means (x, h, p) = (inside x, side.takes new.tokens x h, means v x p)
-gives_side g e f inside old new P Q (Err d) side means h = side.stops new.tokens (reason_of new d) h
+gives_side g e f inside old new P Q (Err d) side means h = side.stops new.tokens (reason_of d) h
 
 pub through : (g : Grammar) (e f h : Expr) (i j : Shape → Shape) (ts : List Token) → IsSide g e f i ts → IsSide g f h j ts → IsSide g e h (λ x. i (j x)) ts
 through g e f h i j ts outer inner = record { takes = λ us x t. outer.takes us (j x) (inner.takes us x t); stops = λ us o s. outer.stops us o (inner.stops us o s) }

@@ -1,7 +1,7 @@
 -- The next token as a leaf.
 use Rattle.std.specs.Prelude.{◌≡◌, ℕ, true, false, if◌then◌else◌, List, ◌∷◌, drop, codes, Result, Ok, Err}
 use Rattle.graphql_grammar.specs.Tokens.{same_spelling}
-use Rattle.graphql_core.specs.declared.common.fault.Fault.{Fault}
+use Rattle.graphql_core.specs.declared.helpers.stop.Stop.{Stop}
 use Rattle.graphql_core.specs.declared.helpers.source.Lexeme.{Lexeme}
 use Rattle.graphql_core.specs.declared.tokenizer.token.Kind.{Kind}
 use Rattle.graphql_core.specs.Source.{Items, IsLexeme, lexeme_token}
@@ -15,10 +15,10 @@ pub record IsNext {T : Type 0} (bytes : T → List ℕ) (k : Kind) (i : Items) (
   pub kind : t.kind ≡ k
   pub lexeme : IsLexeme (lexeme_token bytes t)
 
--- the next item, where it is a token of this kind; else its fault, or memory ran out
-abbrev pub Shows : {T : Type 0} → (T → List ℕ) → Kind → Items → Result (Lexeme T) Fault → Type 0
+-- the next item, where it is a token of this kind
+abbrev pub Shows : {T : Type 0} → (T → List ℕ) → Kind → Items → Result (Lexeme T) Stop → Type 0
 Shows bytes k i (Ok t) = IsNext bytes k i t
-Shows bytes k i (Err e) = TakesOne {A = Unit {0}} (any k) i i (λ v t. Unit {0}) (Err e)
+Shows bytes k i (Err s) = TakesOne {A = Unit {0}} (any k) i i (λ v t. Unit {0}) (Err s)
 
 -- the value that a name writes
 abbrev pub word_of : List ℕ → ValueTree

@@ -1,5 +1,5 @@
 -- One token against a class.
-use Rattle.std.proofs.Common.{rules, ◌≡◌, ℕ, true, false, eqb, nat_eq, ◌==◌, ◌||◌, List, [], ◌∷◌, drop, refl, sym, ap, ◌∙◌, arith}
+use Rattle.std.proofs.Common.{rules, ◌≡◌, ℕ, true, false, eqb, nat_eq, ◌==◌, List, [], ◌∷◌, drop, refl, sym, ap, ◌∙◌, arith}
 use Rattle.std.specs.Cmp.Lexicographic.{pointwise}
 use denote.Enum.Bare.{sameb, same_true}
 use Rattle.graphql_grammar.specs.Tokens.{Token, Class, same_spelling, matches}
@@ -8,7 +8,7 @@ use Rattle.graphql_grammar.specs.Reading.{sees}
 use Rattle.graphql_core.specs.contracts.tokenizer.token.Kind.{the_type}
 use Rattle.graphql_core.specs.declared.tokenizer.token.Kind.{Kind}
 use Rattle.graphql_core.specs.Causes.{kind_number}
-use Rattle.graphql_core.specs.Source.{Items, after}
+use Rattle.graphql_core.specs.Source.{Items, after, kept}
 use Rattle.graphql_core.specs.Matching.{sees_class, TakesToken}
 
 eqb-comm : (m n : ℕ) → nat_eq m n ≡ eqb n m
@@ -25,10 +25,6 @@ same_text_spelling (x ∷ xs) (y ∷ ys) = rw (eqb-comm x y, same_text_spelling 
 pub same_kind_number : (a b : Kind) → sameb the_type a b ≡ true → (kind_number b == kind_number a) ≡ true
 same_kind_number a b e = rw (same_true the_type (search rules) a b e) (grind (arith))
 
--- whether the first token is of a class
-pub sees_first : (c : Class) (i : Items) (t : Token) (rest : List Token) → i.tokens ≡ t ∷ rest → sees_class c i ≡ matches c t || false
-sees_first c i t rest e = ap (λ (ts : List Token). sees (c ∷ []) (peek ts)) e
-
 pub sees_none : (c : Class) (i : Items) → i.tokens ≡ [] → sees_class c i ≡ false
 sees_none c i e = ap (λ (ts : List Token). sees (c ∷ []) (peek ts)) e
 
@@ -36,5 +32,5 @@ pub takes_first : (c : Class) (old new : Items) (t : Token) → old.tokens ≡ t
 takes_first c old new t e a m = record {
   of_class = m;
   tokens = e ∙ ap (λ (i : Items). t ∷ i.tokens) (sym a);
-  last = ap (λ (i : Items). i.last) a;
+  kept = ap kept a;
 }

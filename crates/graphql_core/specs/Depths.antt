@@ -1,7 +1,7 @@
 -- How many brackets are open at once in a laid out text.
 use Rattle.std.specs.Prelude.{ℕ, suc, ◌-◌, max, List, [], ◌∷◌}
 use Rattle.graphql_core.specs.declared.tokenizer.token.Kind.{Kind}
-use Rattle.graphql_core.specs.declared.tokenizer.token.Kind.TheVariants.{Punctuator, Name, IntValue, FloatValue, StringValue, BlockString}
+use Rattle.graphql_core.specs.declared.tokenizer.token.Kind.TheVariants.{Punctuator}
 use Rattle.graphql_core.specs.declared.tokenizer.piece.Nesting.{Nesting}
 use Rattle.graphql_core.specs.declared.tokenizer.piece.Nesting.TheVariants.{Level, Opens, Closes}
 use Rattle.graphql_core.specs.Lexical.{nesting_of}

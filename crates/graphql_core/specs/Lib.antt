@@ -4,6 +4,7 @@ pub mod Numbers
 pub mod Quoted
 pub mod Front
 pub mod Cut
+pub mod Stops
 pub mod Stream
 pub mod Examples
 pub mod ValueExamples

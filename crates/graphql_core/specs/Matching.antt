@@ -3,9 +3,9 @@ use Rattle.std.specs.Prelude.{◌≡◌, Bool, true, false, [], ◌∷◌, Resul
 use Rattle.graphql_grammar.specs.Tokens.{Token, Class, matches}
 use Rattle.graphql_grammar.specs.Trees.{peek}
 use Rattle.graphql_grammar.specs.Reading.{sees}
-use Rattle.graphql_core.specs.declared.common.fault.Fault.{Fault}
-use Rattle.graphql_core.specs.declared.common.fault.Fault.TheVariants.{OutOfMemory, At}
-use Rattle.graphql_core.specs.Source.{Items, IsFaultOf}
+use Rattle.graphql_core.specs.declared.helpers.stop.Stop.{Stop}
+use Rattle.graphql_core.specs.declared.helpers.stop.Stop.TheVariants.{Memory, Item}
+use Rattle.graphql_core.specs.Source.{Items, kept}
 
 -- the next item is a token of the class
 abbrev pub sees_class : Class → Items → Bool
@@ -15,11 +15,12 @@ sees_class c i = sees (c ∷ []) (peek i.tokens)
 pub record TakesToken (c : Class) (old new : Items) (t : Token) : Type 0 where
   pub of_class : matches c t ≡ true
   pub tokens : old.tokens ≡ t ∷ new.tokens
-  pub last : new.last ≡ old.last
+  pub kept : kept new ≡ kept old
 
 -- A token of the class is taken, of which P holds with what is answered; or the item stays, as memory ran out, or as it is
--- none of the class, and then its fault is answered.
-abbrev pub TakesOne : {A : Type 0} → Class → Items → Items → (A → Token → Type 0) → Result A Fault → Type 0
+-- none of the class.
+abbrev pub TakesOne : {A : Type 0} → Class → Items → Items → (A → Token → Type 0) → Result A Stop → Type 0
 TakesOne c old new P (Ok v) = (t : Token) × TakesToken c old new t × P v t
-TakesOne c old new P (Err OutOfMemory) = new ≡ old
-TakesOne c old new P (Err (At cause p)) = (new ≡ old) × (sees_class c old ≡ false) × IsFaultOf old (At cause p)
+TakesOne c old new P (Err Memory) = new ≡ old
+TakesOne c old new P (Err Item) = (new ≡ old) × (sees_class c old ≡ false)
+TakesOne c old new P (Err other) = ⊥

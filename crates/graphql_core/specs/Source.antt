@@ -46,6 +46,10 @@ abbrev pub split : List Item → Items
 split [] = only_last (End (record { line = 0; column = 0 }))
 split (i ∷ is) = split_by i.content i.place.position (split is)
 
+-- what a reader leaves as it is, whatever it takes
+abbrev pub kept : Items → Last
+kept i = i.last
+
 -- past a token. The end and a bad place stay
 abbrev pub after : Items → Items
 after i = record { tokens = drop 1 i.tokens; last = i.last }

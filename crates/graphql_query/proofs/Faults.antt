@@ -13,17 +13,14 @@ use Rattle.graphql_grammar.specs.Texts.{Answers, Answer, IsWhole}
 use Rattle.graphql_grammar.specs.Faults.{IsFault, leaf_refused, IsLeast, index_of}
 use Rattle.graphql_grammar.proofs.Exact as theory
 use Rattle.graphql_grammar.proofs.Whole as whole_theory
-use Rattle.graphql_core.specs.declared.common.cause.Cause.{Cause}
-use Rattle.graphql_core.specs.declared.common.cause.Cause.TheVariants as cause
 use Rattle.graphql_core.specs.declared.tokenizer.token.Kind.TheVariants.{IntValue, FloatValue, StringValue}
-use Rattle.graphql_core.specs.Source.{Items, Last, End, Wrong, IsEnd, FaultText, fault_by, split}
+use Rattle.graphql_core.specs.Source.{Items, Last, End, Wrong, IsEnd, FaultText, fault_by, fault_at, place_next, split}
 use Rattle.graphql_core.specs.Causes.{CauseText, int_out_of_range, malformed_float, bad_escape}
 use Rattle.graphql_core.specs.Items.{Item}
 use Rattle.graphql_core.proofs.Cutting.{items_unique}
 use Rattle.graphql_core.proofs.FloatLiterals.{literal_is_float}
 use Rattle.graphql_common.specs.Grammar.{any}
 use Rattle.graphql_common.specs.Leaves.{is_good, unquoted, without_ends}
-use Rattle.graphql_common.specs.Gives.{reason_by, fault_for}
 use Rattle.graphql_common.proofs.StringValues.{has_unquoted}
 use Rattle.graphql_common.proofs.LeafValues.{in_range, whole_exponent, in_quotes}
 use Rattle.graphql_query.specs.Tree.{DocumentTree}
@@ -54,16 +51,16 @@ none_there None h = refl
 none_there (Some x) h = absurd cc
 
 -- each token of this class that is not good has no value, for this cause
-abbrev Lacks : Class → CauseText → Type 0
+abbrev pub Lacks : Class → CauseText → Type 0
 Lacks c k = (t : Token) → matches c t ≡ true → is_good c t ≡ false → HasNoValue t k
 
-no_integer : Lacks (any IntValue) int_out_of_range
+pub no_integer : Lacks (any IntValue) int_out_of_range
 no_integer t m h = out_of_range (kind_is _ t m) (λ fits. both_ways _ h ((in_range t.spelling).1 fits))
 
-no_float : Lacks (any FloatValue) malformed_float
+pub no_float : Lacks (any FloatValue) malformed_float
 no_float t m h = malformed (kind_is _ t m) (λ literal. both_ways _ h ((whole_exponent t.spelling (literal_is_float t.spelling literal)).1 literal))
 
-no_string : Lacks (any StringValue) bad_escape
+pub no_string : Lacks (any StringValue) bad_escape
 no_string t m h = escaped_badly (kind_is _ t m) (λ body is v value.
     let there : unquoted (without_ends 1 t.spelling) ≡ Some v = ap unquoted (in_quotes t.spelling body is) ∙ (has_unquoted body v).1 value in
     let none = none_there (unquoted (without_ends 1 t.spelling)) h in
@@ -94,39 +91,18 @@ RefusedLeaf t c n =
 refused_leaf : (t : texts.Text) (c : Class) (n : ℕ) → IsFault query (Sym document_symbol) t (Improper c) n → RefusedLeaf t c n
 refused_leaf t c _ (leaf_refused front us u _ p l m g) = (u, us, front, p, refl, m, g)
 
-module _ (i : Items) (n : ℕ) (f : FaultText) where
-  unexpected_here : (us : List Token) (l : Last) → IsLeast query (Sym document_symbol) (text_of i) Unexpected (suc n) → drop n i.tokens ≡ us → i.last ≡ l
-      → f ≡ fault_by us l → IsLeastFault i f
-  unexpected_here us l w d e h = (suc n, Unexpected, w, h ∙ sym (λ k. fault_by (d k) (e k)))
+-- n items of i stand before those of j
+module _ (i j : Items) (n : ℕ) (later : drop n i.tokens ≡ j.tokens) (last : i.last ≡ j.last) (f : FaultText) where
+  pub unexpected_here : IsLeast query (Sym document_symbol) (text_of i) Unexpected (suc n) → f ≡ fault_at j → IsLeastFault i f
+  unexpected_here w h = (suc n, Unexpected, w, h ∙ sym (λ k. fault_by (later k) (last k)))
 
-  no_value_here : (t : Token) (ts : List Token) (c : Class) (k : CauseText) → Lacks c k → IsLeast query (Sym document_symbol) (text_of i) (Improper c) (suc n)
-      → drop n i.tokens ≡ t ∷ ts
-      → f ≡ record { cause = k; place = t.place } → IsLeastFault i f
-  no_value_here t ts c k lacks w d h =
+  pub no_value_here : (c : Class) (k : CauseText) → Lacks c k → IsLeast query (Sym document_symbol) (text_of i) (Improper c) (suc n)
+      → f.cause ≡ k → f.place ≡ place_next j → IsLeastFault i f
+  no_value_here c k lacks w cause place =
       let (u, us, front, p, m, is, not_good) = refused_leaf (text_of i) c (suc n) w.0 in
       let here : drop n i.tokens ≡ u ∷ us = ap (drop n) p ∙ drop_at front (u ∷ us) n (omega (arith, m)) in
-      let same : t ≡ u = head_is u t us ts (sym here ∙ d) in
-      let lack = subst (λ (v : Token). HasNoValue v k) (sym same) (lacks u is not_good) in
-      (suc n, Improper c, w, (t, ts, d, subst (HasNoValue t) (sym (ap (λ (y : FaultText). y.cause) h)) lack, ap (λ (y : FaultText). y.place) h))
-
-  -- the fault of the items left is the least, where its reason is
-  pub least_by : (us : List Token) (l : Last) (c : Cause) → IsLeast query (Sym document_symbol) (text_of i) (reason_by us c) (index_of (reason_by us c) n)
-      → drop n i.tokens ≡ us → i.last ≡ l
-      → f ≡ fault_for c (reason_by us c) us l → IsLeastFault i f
-  least_by [] l c w d e h = unexpected_here [] l w d e h
-  least_by (t ∷ ts) l cause.IntOutOfRange w d e h = no_value_here t ts (any IntValue) int_out_of_range no_integer w d h
-  least_by (t ∷ ts) l cause.MalformedFloat w d e h = no_value_here t ts (any FloatValue) malformed_float no_float w d h
-  least_by (t ∷ ts) l cause.BadEscape w d e h = no_value_here t ts (any StringValue) bad_escape no_string w d h
-  least_by (t ∷ ts) l (cause.BadToken b) w d e h = unexpected_here (t ∷ ts) l w d e h
-  least_by (t ∷ ts) l (cause.UnexpectedToken k s) w d e h = unexpected_here (t ∷ ts) l w d e h
-  least_by (t ∷ ts) l cause.UnexpectedEnd w d e h = unexpected_here (t ∷ ts) l w d e h
-  least_by (t ∷ ts) l cause.TooDeep w d e h = unexpected_here (t ∷ ts) l w d e h
-  least_by (t ∷ ts) l cause.UnknownLocation w d e h = unexpected_here (t ∷ ts) l w d e h
-  least_by (t ∷ ts) l (cause.DuplicateOperation s) w d e h = unexpected_here (t ∷ ts) l w d e h
-  least_by (t ∷ ts) l (cause.UnknownOperation s) w d e h = unexpected_here (t ∷ ts) l w d e h
-  least_by (t ∷ ts) l cause.EmptyExtension w d e h = unexpected_here (t ∷ ts) l w d e h
-  least_by (t ∷ ts) l cause.TextTooLong w d e h = unexpected_here (t ∷ ts) l w d e h
-  least_by (t ∷ ts) l cause.OutOfMemory w d e h = unexpected_here (t ∷ ts) l w d e h
+      let at : place_next j ≡ u.place = ap (λ ts. (fault_by ts j.last).place) (sym later ∙ here) in
+      (suc n, Improper c, w, (u, us, here, subst (HasNoValue u) (sym cause) (lacks u is not_good), place ∙ at))
 
 -- ---- one fault an index
 

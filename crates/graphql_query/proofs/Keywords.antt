@@ -6,7 +6,7 @@ use Rattle.graphql_grammar.specs.Factored.{written}
 use Rattle.graphql_grammar.specs.Reading.{takes_both}
 use Rattle.graphql_grammar.specs.Words.{TakesSome, Stops}
 use Rattle.graphql_grammar.proofs.Turning.{Stops-before, Stops-after}
-use Rattle.graphql_core.specs.declared.common.fault.Fault.{Fault}
+use Rattle.graphql_core.specs.declared.helpers.stop.Stop.{Stop}
 use Rattle.graphql_core.specs.Source.{Items}
 use Rattle.graphql_core.specs.Matching.{TakesToken}
 use Rattle.graphql_common.specs.Gives.{Gives, reason_of}
@@ -24,11 +24,11 @@ pub keyword_taken : (kind : OperationKind) (w : List ℕ) (old mid new : Items) 
 keyword_taken kind w old mid new t p o begins at (x, takes, view) = (Both (Leaf t) x, takes_both (takes_one reading (keyword w) old mid t refl begins) takes, same_operation kind at view)
 
 -- or the keyword is missing
-pub keyword_missing : {A : Type 0} (w : List ℕ) (old new : Items) (P : A → Shape → Type 0) (r : Result A Fault) (d : Fault) → TakesNone (keyword w) old new d → IsErrAnd r (λ x. x ≡ d)
+pub keyword_missing : {A : Type 0} (w : List ℕ) (old new : Items) (P : A → Shape → Type 0) (r : Result A Stop) (d : Stop) → TakesNone (keyword w) old new d → IsErrAnd r (λ x. x ≡ d)
     → Gives reading (Then (word w) (Sym common_symbol)) old new P r
 keyword_missing w old new P r d h up = gives_error reading _ old new P r d (Stops-before reading _ _ _ _ _ (stops_one reading (keyword w) old new d h)) up
 
 -- or an error behind it goes up
-pub keyword_fails : {A : Type 0} (w : List ℕ) (old mid new : Items) (P : A → Shape → Type 0) (r : Result A Fault) (d : Fault) (t : Token) → TakesToken (keyword w) old mid t
-    → Stops reading (Sym common_symbol) mid.tokens new.tokens (reason_of new d) → IsErrAnd r (λ x. x ≡ d) → Gives reading (Then (word w) (Sym common_symbol)) old new P r
+pub keyword_fails : {A : Type 0} (w : List ℕ) (old mid new : Items) (P : A → Shape → Type 0) (r : Result A Stop) (d : Stop) (t : Token) → TakesToken (keyword w) old mid t
+    → Stops reading (Sym common_symbol) mid.tokens new.tokens (reason_of d) → IsErrAnd r (λ x. x ≡ d) → Gives reading (Then (word w) (Sym common_symbol)) old new P r
 keyword_fails w old mid new P r d t begins stops up = gives_error reading _ old new P r d (Stops-after reading _ _ _ _ _ _ _ (takes_one reading (keyword w) old mid t refl begins) stops) up

@@ -9,7 +9,7 @@ use Rattle.graphql_grammar.specs.Factored.{written}
 use Rattle.graphql_grammar.proofs.Carried.{written-leaves}
 use Rattle.graphql_grammar.proofs.Extending.{reads_on, left_alone}
 use Rattle.graphql_grammar.proofs.Taken.{takes-fits, takes-leaves}
-use Rattle.graphql_core.specs.declared.common.fault.Fault.{Fault}
+use Rattle.graphql_core.specs.declared.helpers.stop.Stop.{Stop}
 use Rattle.graphql_core.specs.Source.{Items, Last, fault_by, place_next}
 use Rattle.graphql_common.specs.Gives.{Gives, reason_of}
 use Rattle.graphql_common.specs.Grammar.{core, shared_symbols}
@@ -30,10 +30,10 @@ pub some_lifted : (e : Expr) → is_below shared_symbols e ≡ true → (ts us :
     → TakesSome reading e ts us (λ x. P (written changes x))
 some_lifted e b ts us P (x, h, p) = (x, takes_lifted e b ts us x h, subst P (sym (left_alone shared_symbols core changes alone (takes-fits core h) b)) p)
 
-pub lifted : {A : Type 0} (e : Expr) → is_below shared_symbols e ≡ true → (old new : Items) (P : A → Shape → Type 0) (r : Result A Fault)
+pub lifted : {A : Type 0} (e : Expr) → is_below shared_symbols e ≡ true → (old new : Items) (P : A → Shape → Type 0) (r : Result A Stop)
     → Gives core e old new P r → Reads e old new P r
 lifted e b old new P (Ok v) h = some_lifted e b old.tokens new.tokens (P v) h
-lifted e b old new P (Err d) h = stops_lifted e b old.tokens new.tokens (reason_of new d) h
+lifted e b old new P (Err d) h = stops_lifted e b old.tokens new.tokens (reason_of d) h
 
 -- ---- where a tree begins
 

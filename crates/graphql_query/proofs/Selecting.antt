@@ -8,10 +8,10 @@ use Rattle.graphql_grammar.specs.Reading.{sees, Takes, takes_nothing, takes_leaf
 use Rattle.graphql_grammar.specs.Words.{values}
 use Rattle.graphql_grammar.specs.Factored.{written}
 use Rattle.graphql_grammar.proofs.Items.{sees-within}
-use Rattle.graphql_core.specs.declared.common.fault.Fault.{Fault}
-use Rattle.graphql_core.specs.declared.common.fault.Fault.TheVariants.{OutOfMemory, At}
+use Rattle.graphql_core.specs.declared.helpers.stop.Stop.{Stop}
+use Rattle.graphql_core.specs.declared.helpers.stop.Stop.TheVariants.{Memory, Item, Integer, Float, Escape}
 use Rattle.graphql_core.specs.declared.tokenizer.token.Kind.TheVariants.{Name}
-use Rattle.graphql_core.specs.Source.{Items, IsFaultOf}
+use Rattle.graphql_core.specs.Source.{Items}
 use Rattle.graphql_core.specs.Matching.{TakesOne, sees_class}
 use Rattle.graphql_common.specs.Gives.{Gives}
 use Rattle.graphql_common.specs.Grammar.{tables as core_tables, any, keyword, mark, name, directive_symbol}
@@ -26,15 +26,10 @@ use Rattle.graphql_query.specs.Tree.{Arguments, SelectionTree, SetTree, field, i
 
 -- ---- single tokens
 
-pub gives_one : {A : Type 0} (g : Grammar) (c : Class) (old new : Items) (P : A → Token → Type 0) (Q : A → Shape → Type 0) (r : Result A Fault) → ((t : Token) → g.good c t ≡ true)
+pub gives_one : {A : Type 0} (g : Grammar) (c : Class) (old new : Items) (P : A → Token → Type 0) (Q : A → Shape → Type 0) (r : Result A Stop) → ((t : Token) → g.good c t ≡ true)
     → ((v : A) (t : Token) → P v t → Q v (Leaf t)) → TakesOne c old new P r → Gives g (One c) old new Q r
 gives_one g c old new P Q (Ok v) good means (t, h, p) = (Leaf t, takes_one g c old new t (good t) h, means v t p)
 gives_one g c old new P Q (Err d) good means h = stops_one g c old new d h
-
--- the fault of an item that is none of the class
-pub refused : (c : Class) (i : Items) (d : Fault) → sees_class c i ≡ false → IsFaultOf i d → TakesNone c i i d
-refused c i OutOfMemory unseen h = refl
-refused c i (At cause p) unseen h = (refl, unseen, h)
 
 -- ---- names
 
@@ -46,14 +41,17 @@ abbrev pub on : Class
 on = keyword (codes "on")
 
 -- a name, where it is seen that it is one of a spread
-pub narrowed : {A : Type 0} (old new : Items) (P : A → Token → Type 0) (r : Result A Fault) → sees_class spread_class old ≡ true → TakesOne (any Name) old new P r → TakesOne spread_class old new P r
+pub narrowed : {A : Type 0} (old new : Items) (P : A → Token → Type 0) (r : Result A Stop) → sees_class spread_class old ≡ true → TakesOne (any Name) old new P r → TakesOne spread_class old new P r
 narrowed old new P (Ok v) seen (t, h, p) = (
   t,
-  record { of_class = sym (or-false (matches spread_class t)) ∙ ap (λ ts. sees (spread_class ∷ []) (peek ts)) (sym h.tokens) ∙ seen; tokens = h.tokens; last = h.last },
+  record { of_class = sym (or-false (matches spread_class t)) ∙ ap (λ ts. sees (spread_class ∷ []) (peek ts)) (sym h.tokens) ∙ seen; tokens = h.tokens; kept = h.kept },
   p,
 )
-narrowed old new P (Err OutOfMemory) seen h = h
-narrowed old new P (Err (At cause p)) seen (same, unseen, fault) = (same, sees-within (spread_class ∷ []) (any Name ∷ []) (peek old.tokens) refl unseen, fault)
+narrowed old new P (Err Memory) seen h = h
+narrowed old new P (Err Item) seen (same, unseen) = (same, sees-within (spread_class ∷ []) (any Name ∷ []) (peek old.tokens) refl unseen)
+narrowed old new P (Err Integer) seen h = h
+narrowed old new P (Err Float) seen h = h
+narrowed old new P (Err Escape) seen h = h
 
 -- ---- what may be missing
 

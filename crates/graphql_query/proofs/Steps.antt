@@ -5,7 +5,7 @@ use Rattle.graphql_grammar.specs.Trees.{Expr, One, Then, Sym, Shape, Both, Node,
 use Rattle.graphql_grammar.specs.Reading.{Takes, takes_both, Reason}
 use Rattle.graphql_grammar.specs.Words.{Stops}
 use Rattle.graphql_grammar.proofs.Turning.{Stops-before, Stops-after}
-use Rattle.graphql_core.specs.declared.common.fault.Fault.{Fault}
+use Rattle.graphql_core.specs.declared.helpers.stop.Stop.{Stop}
 use Rattle.graphql_core.specs.Source.{Items}
 use Rattle.graphql_common.specs.Gives.{Gives, reason_of}
 use Rattle.graphql_common.proofs.Reading.{stops_one, gives_error, TakesNone}
@@ -40,10 +40,10 @@ pub before : {g : Grammar} {e a b : Expr} {inside : Shape → Shape} {ts us : Li
 before {g} {e} {a} {b} {inside} {ts} {us} l vs o h = l.stops vs o (Stops-before g a b us vs o h)
 
 -- an error goes up
-pub error_in : {A : Type 0} {g : Grammar} {e f : Expr} (old mid new : Items) (P : A → Shape → Type 0) (r : Result A Fault) (d : Fault)
-    → StopsBy g e f old.tokens mid.tokens → Stops g f mid.tokens new.tokens (reason_of new d) → IsErrAnd r (λ x. x ≡ d) → Gives g e old new P r
-error_in {g = g} {e = e} old mid new P r d by h up = gives_error g e old new P r d (by new.tokens (reason_of new d) h) up
+pub error_in : {A : Type 0} {g : Grammar} {e f : Expr} (old mid new : Items) (P : A → Shape → Type 0) (r : Result A Stop) (d : Stop)
+    → StopsBy g e f old.tokens mid.tokens → Stops g f mid.tokens new.tokens (reason_of d) → IsErrAnd r (λ x. x ≡ d) → Gives g e old new P r
+error_in {g = g} {e = e} old mid new P r d by h up = gives_error g e old new P r d (by new.tokens (reason_of d) h) up
 
-pub error_one : {A : Type 0} {g : Grammar} {e : Expr} {c : Class} (old mid new : Items) (P : A → Shape → Type 0) (r : Result A Fault) (d : Fault)
+pub error_one : {A : Type 0} {g : Grammar} {e : Expr} {c : Class} (old mid new : Items) (P : A → Shape → Type 0) (r : Result A Stop) (d : Stop)
     → StopsBy g e (One c) old.tokens mid.tokens → TakesNone c mid new d → IsErrAnd r (λ x. x ≡ d) → Gives g e old new P r
 error_one {g = g} {c = c} old mid new P r d by h up = error_in old mid new P r d by (stops_one g c mid new d h) up

@@ -2,33 +2,34 @@
 use Rattle.std.proofs.Common.{◌≡◌, ℕ, ◌-◌, List, [], ◌∷◌, ◌++◌, length, drop, length-append, ◌≤◌, refl, sym, ap, subst, ◌∙◌, arith, Result, Ok, Err, IfErr}
 use Rattle.std.specs.Result.{IsErrAnd}
 use Rattle.std.proofs.lemmas.List.{drop_at}
-use Rattle.graphql_grammar.specs.Tokens.{Token}
+use Rattle.graphql_grammar.specs.Tokens.{Token, Class}
 use Rattle.graphql_grammar.specs.Trees.{Sym, Shape, Node}
 use Rattle.graphql_grammar.specs.Factored.{written}
-use Rattle.graphql_grammar.specs.Reading.{Takes, takes_node, Reason, Unexpected, Fails, fails_node, Done, Fault as Stopped}
+use Rattle.graphql_grammar.specs.Reading.{Takes, takes_node, Reason, Unexpected, Improper, Fails, fails_node, Done, Fault as Stopped}
 use Rattle.graphql_grammar.specs.Words.{Stops}
 use Rattle.graphql_grammar.specs.Texts as texts
 use Rattle.graphql_grammar.specs.Texts.{Answers}
 use Rattle.graphql_grammar.specs.Faults.{IsLeast, index_of}
-use Rattle.graphql_core.specs.declared.common.cause.Cause.{Cause}
 use Rattle.graphql_core.specs.declared.common.fault.Fault.{Fault}
 use Rattle.graphql_core.specs.declared.common.fault.Fault.TheVariants.{OutOfMemory, At}
-use Rattle.graphql_core.specs.declared.position.Pos.{Pos}
-use Rattle.graphql_core.specs.Source.{Items, Last, End, Wrong, IsEnd, IsAtEnd, IsFaultOf, FaultText, place_of, split}
-use Rattle.graphql_core.specs.Causes.{cause_text}
-use Rattle.graphql_core.specs.Items.{Item, HasItems, start}
+use Rattle.graphql_core.specs.declared.helpers.stop.Stop.{Stop}
+use Rattle.graphql_core.specs.declared.helpers.stop.Stop.TheVariants.{Memory, Item, Integer, Float, Escape}
+use Rattle.graphql_core.specs.Source.{Items, Last, End, Wrong, IsEnd, IsAtEnd, IsFaultOf, FaultText, kept, fault_at, place_of, place_next, split}
+use Rattle.graphql_core.specs.Stops.{IsCauseHere, IsFaultFor}
+use Rattle.graphql_core.specs.Causes.{CauseText, cause_text}
+use Rattle.graphql_core.specs.Items.{HasItems, start}
+use Rattle.graphql_core.specs.Items as items_of
 use Rattle.graphql_core.specs.Cut.{items}
 use Rattle.graphql_core.proofs.Cutting.{has_items}
-use Rattle.graphql_common.specs.Gives.{reason_by, reason_of, fault_for, IsFaultLeft}
+use Rattle.graphql_common.specs.Gives.{reason_of}
 use Rattle.graphql_query.specs.Tree.{DocumentTree}
 use Rattle.graphql_query.specs.Grammar.{query, reading, changes, document_symbol, document_rule}
 use Rattle.graphql_query.specs.Meanings.{document_of}
 use Rattle.graphql_query.specs.Faults.{ending_of, text_of, IsLeastFault, IsLeastOf}
 use Rattle.graphql_query.specs.Document.{IsDocument, IsDocumentOf, IsRefusalOf, AnswersUnlessMemory, ran_out, faulty, HasOneShape, max_length}
 use Rattle.graphql_query.specs.Refusal.{Refusal, refusal_of}
-use Rattle.graphql_common.proofs.Reading.{unexpected_by}
 use Rattle.graphql_query.proofs.Readable.{exact, exact_lax, whole, least}
-use Rattle.graphql_query.proofs.Faults.{exact_reading, whole_reading, ends, least_by}
+use Rattle.graphql_query.proofs.Faults.{exact_reading, whole_reading, ends, Lacks, no_integer, no_float, no_string, unexpected_here, no_value_here}
 
 -- the answer to i is a fault at its item where j is left
 abbrev IsWrong : Reason → Items → Items → Type 0
@@ -58,15 +59,16 @@ at_rest i [] (Wrong p b) x h e other = (Done (Node document_symbol x) [], takes_
 dropped : (front ts us : List Token) → ts ≡ front ++ us → drop (length ts - length us) ts ≡ us
 dropped front ts us e = ap (drop (length ts - length us)) e ∙ drop_at front us (length ts - length us) (omega (arith, ap length e, length-append front us))
 
-fault_there : (i j : Items) (c : Cause) (p : Pos) (why : Reason) (front : List Token) → IsWrong why i j → i.tokens ≡ front ++ j.tokens → j.last ≡ i.last
-    → why ≡ reason_by j.tokens c
-    → record { cause = cause_text c; place = place_of p } ≡ fault_for c (reason_by j.tokens c) j.tokens j.last
-    → IsLeastFault i (record { cause = cause_text c; place = place_of p })
-fault_there i j c p why front a e l r h =
-    let n = length i.tokens - length j.tokens in
-    let w = least.wrong (text_of i) why n a in
-    least_by i n (record { cause = cause_text c; place = place_of p }) j.tokens j.last c
-    (subst (λ (y : Reason). IsLeast query (Sym document_symbol) (text_of i) y (index_of y n)) r w) (dropped front i.tokens j.tokens e) (sym l) h
+-- the answer to i, at its item where j is left, is its least fault
+module _ (i j : Items) (front : List Token) (parts : i.tokens ≡ front ++ j.tokens) (last : kept j ≡ kept i) (f : FaultText) where
+  left : drop (length i.tokens - length j.tokens) i.tokens ≡ j.tokens
+  left = dropped front i.tokens j.tokens parts
+
+  unexpected_left : IsWrong Unexpected i j → f ≡ fault_at j → IsLeastFault i f
+  unexpected_left a h = unexpected_here i j _ left (sym last) f (least.wrong (text_of i) Unexpected _ a) h
+
+  no_value_left : (c : Class) (k : CauseText) → Lacks c k → IsWrong (Improper c) i j → f.cause ≡ k → f.place ≡ place_next j → IsLeastFault i f
+  no_value_left c k lacks a cause place = no_value_here i j _ left (sym last) f c k lacks (least.wrong (text_of i) (Improper c) _ a) cause place
 
 -- ---- no document is refused
 
@@ -85,26 +87,46 @@ pub exit : {D E : Type 0} (r : Result D E) (e : E) (P : E → Type 0) → IsErrA
 exit (Ok v) e P h p = absurd h
 exit (Err y) e P h p = subst P (sym h) p
 
-pub memory_only : (i j : Items) (e : Fault) (d : DocumentTree) → Stops reading document_rule i.tokens j.tokens (reason_of j e) → IsDocument i d → e ≡ OutOfMemory
-memory_only i j OutOfMemory d h k = refl
-memory_only i j (At c p) d h k = absurd (none_wrong _ i j d (at_fault _ i j h) k)
+pub memory_only : (i j : Items) (s : Stop) (e : Fault) (d : DocumentTree) → Stops reading document_rule i.tokens j.tokens (reason_of s)
+    → IsFaultFor s j e → IsDocument i d → e ≡ OutOfMemory
+memory_only i j Memory e d h f k = f
+memory_only i j Item e d h f k = absurd (none_wrong Unexpected i j d (at_fault Unexpected i j h) k)
+memory_only i j Integer e d h f k = absurd (none_wrong _ i j d (at_fault _ i j h) k)
+memory_only i j Float e d h f k = absurd (none_wrong _ i j d (at_fault _ i j h) k)
+memory_only i j Escape e d h f k = absurd (none_wrong _ i j d (at_fault _ i j h) k)
 
-pub least_stop : (i j : Items) (e : Fault) → Stops reading document_rule i.tokens j.tokens (reason_of j e) → IsFaultLeft j e → j.last ≡ i.last → IsLeastOf i e
-least_stop i j OutOfMemory h s l = tt
-least_stop i j (At c p) h s l =
-    let f = exact_reading.earliest i.tokens j.tokens _ (fails_node h) in
-    fault_there i j c p _ f.front (at_fault _ i j h) f.parts l refl s
+-- a reader that stops for a token without a value
+valueless : (i j : Items) (c : Class) (k : CauseText) (e : Fault) → Lacks c k → Fails reading document_rule i.tokens (Improper c) j.tokens
+    → IsCauseHere k j e → kept j ≡ kept i → IsLeastOf i e
+valueless i j c k OutOfMemory lacks h f l = tt
+valueless i j c k (At cause p) lacks h f l =
+    let first = exact_reading.earliest i.tokens j.tokens _ (fails_node h) in
+    no_value_left i j _ first.parts l _ c k lacks (at_fault _ i j h) f.0 f.1
+
+-- or for one that may not stand there
+misplaced : (i j : Items) (e : Fault) → Fails reading document_rule i.tokens Unexpected j.tokens → IsFaultOf j e → kept j ≡ kept i → IsLeastOf i e
+misplaced i j OutOfMemory h f l = tt
+misplaced i j (At cause p) h f l =
+    let first = exact_reading.earliest i.tokens j.tokens _ (fails_node h) in
+    unexpected_left i j _ first.parts l _ (at_fault _ i j h) f
+
+pub least_stop : (i j : Items) (s : Stop) (e : Fault) → Stops reading document_rule i.tokens j.tokens (reason_of s) → IsFaultFor s j e
+    → kept j ≡ kept i → IsLeastOf i e
+least_stop i j Memory e h f l = subst (IsLeastOf i) (sym f) tt
+least_stop i j Item e h f l = misplaced i j e h f l
+least_stop i j Integer e h f l = valueless i j _ _ e no_integer h f l
+least_stop i j Float e h f l = valueless i j _ _ e no_float h f l
+least_stop i j Escape e h f l = valueless i j _ _ e no_string h f l
 
 pub none_rest : (i j : Items) (d : DocumentTree) (x : Shape) → Takes reading document_rule i.tokens x j.tokens → j.last ≡ i.last → (IsAtEnd j → ⊥) → IsDocument i d → ⊥
 none_rest i j d x h l other = none_wrong Unexpected i j d (at_rest i j.tokens j.last x h l other)
 
-pub least_left : (i j : Items) (e : Fault) (x : Shape) → Takes reading document_rule i.tokens x j.tokens → j.last ≡ i.last → (IsAtEnd j → ⊥) → IsFaultOf j e
-    → IsLeastOf i e
+pub least_left : (i j : Items) (e : Fault) (x : Shape) → Takes reading document_rule i.tokens x j.tokens → kept j ≡ kept i → (IsAtEnd j → ⊥)
+    → IsFaultOf j e → IsLeastOf i e
 least_left i j OutOfMemory x h l other s = tt
 least_left i j (At c p) x h l other s =
-    let k = exact_reading.sound i.tokens j.tokens (Node document_symbol x) (takes_node h refl) in
-    let r = unexpected_by j.tokens j.last c p s in
-    fault_there i j c p Unexpected _ (at_rest i j.tokens j.last x h l other) k.1 l (sym r) (rw r s)
+    let first = exact_reading.sound i.tokens j.tokens (Node document_symbol x) (takes_node h refl) in
+    unexpected_left i j _ first.1 l _ (at_rest i j.tokens j.last x h l other) s
 
 -- ---- what is answered
 
@@ -128,7 +150,7 @@ one_shape text items x y h = exact_lax.unambiguous (split items).tokens x y
 
 -- these are the items of the text
 abbrev pub AreItems : List ℕ → Items → Type 0
-AreItems text i = (items : List Item) → HasItems text items → i ≡ split items
+AreItems text i = (items : List items_of.Item) → HasItems text items → i ≡ split items
 
 pub text_document : (text : List ℕ) (i : Items) (d : DocumentTree) → AreItems text i → IsDocument i d → IsDocumentOf text d
 text_document text i d are h = let has = has_items text in (items start text, has, subst (λ (j : Items). IsDocument j d) (are (items start text) has) h)

@@ -3,7 +3,7 @@ use Rattle.std.specs.Prelude.{ℕ, Bool, ◌||◌, List, [], Option, Some, None,
 use Rattle.graphql_grammar.specs.Tokens.{nowhere}
 use Rattle.graphql_grammar.specs.Trees.{Expr, Shape, Both, First, Second}
 use Rattle.graphql_grammar.specs.Factored.{written}
-use Rattle.graphql_core.specs.declared.common.fault.Fault.{Fault}
+use Rattle.graphql_core.specs.declared.helpers.stop.Stop.{Stop}
 use Rattle.graphql_core.specs.Source.{Items}
 use Rattle.graphql_core.specs.Matching.{sees_class}
 use Rattle.graphql_common.specs.Gives.{Gives}
@@ -14,7 +14,7 @@ use Rattle.graphql_query.specs.Grammar.{reading, changes}
 use Rattle.graphql_query.specs.Meanings.{spread_rest_of, inline_rest_of}
 
 -- it reads by the second rules, and its answer is what the written shape means
-abbrev pub Reads : {A : Type 0} → Expr → Items → Items → (A → Shape → Type 0) → Result A Fault → Type 0
+abbrev pub Reads : {A : Type 0} → Expr → Items → Items → (A → Shape → Type 0) → Result A Stop → Type 0
 Reads e old new P r = Gives reading e old new (λ v x. P v (written changes x)) r
 
 -- what stands behind a first name as trees of the second rule have it: the alias where there is one, and the name

@@ -12,7 +12,7 @@ use crate::error::ParseError;
 use crate::read::definitions;
 use crate::tree::Document;
 use graphql_core::common::{Fault, Text};
-use graphql_core::helpers::{Cursor, TokenSource};
+use graphql_core::helpers::{Cursor, TokenSource, fault_of};
 use std::alloc::Global;
 
 /// The most bytes of a text.
@@ -32,7 +32,10 @@ pub fn read_document<S: TokenSource>(
     // A refusal is the fault of least index of the items.
     ensures refused { IfErr result (IsLeastOf (S.items source.old)) }
 {
-    let definitions = definitions(alloc, source)?;
+    let definitions = match definitions(alloc, source) {
+        Ok(definitions) => definitions,
+        Err(stop) => return Err(fault_of(alloc, source, stop)),
+    };
     if source.is_at_end() {
         Ok(Document { definitions })
     } else {

@@ -4,12 +4,13 @@ ghost use Rattle.graphql_grammar.specs.Trees.{Sym, optional};
 ghost use Rattle.graphql_common.specs.Grammar.{core, arguments_symbol, directive_symbol, directives_symbol, default_symbol};
 ghost use Rattle.graphql_common.specs.Meanings.{arguments_of, optional_arguments_of, directive_of, directives_of, default_of};
 ghost use Rattle.graphql_common.specs.ValueViews.{value_view, arguments_view, directive_view, directives_view};
-ghost use Rattle.graphql_common.specs.Gives.{Gives, StopsAt, Shortens};
+ghost use Rattle.graphql_core.specs.Source.{kept};
+ghost use Rattle.graphql_common.specs.Gives.{Gives, Shortens};
 
 use crate::read::values::{argument, constant};
 use crate::tree::{Directive, Value};
-use graphql_core::common::{Fault, Names};
-use graphql_core::helpers::{TokenSource, name, punctuator, sees_name, sees_punctuator};
+use graphql_core::common::Names;
+use graphql_core::helpers::{Stop, TokenSource, name, punctuator, sees_name, sees_punctuator};
 use std::alloc::Global;
 
 /// `Arguments = "(" Argument+ ")"`
@@ -17,20 +18,19 @@ use std::alloc::Global;
 pub fn arguments<S: TokenSource>(
     alloc: Global,
     source: &mut S,
-) -> Result<Vec<(<S::Names as Names>::Value, Value<S::Names>)>, Fault>
+) -> Result<Vec<(<S::Names as Names>::Value, Value<S::Names>)>, Stop>
     ensures reads { Gives core (Sym arguments_symbol) (S.items source.old) (S.items source.new)
         (λ v x. arguments_view S.Names.bytes v.items ≡ arguments_of x) result }
-    ensures fault { StopsAt (S.items source.new) result }
-    ensures last { (S.items source.new).last ≡ (S.items source.old).last }
+    ensures kept { kept (S.items source.new) ≡ kept (S.items source.old) }
     ensures shorter { Shortens (S.items source.old) (S.items source.new) result }
 {
-    punctuator(alloc, source, "(")?;
+    punctuator(source, "(")?;
     let mut items = Vec::new(alloc);
     items.push(argument(alloc, source)?)?;
     'more: while sees_name(source) {
         items.push(argument(alloc, source)?)?;
     }
-    punctuator(alloc, source, ")")?;
+    punctuator(source, ")")?;
     Ok(items)
 }
 
@@ -39,11 +39,10 @@ pub fn arguments<S: TokenSource>(
 pub fn optional_arguments<S: TokenSource>(
     alloc: Global,
     source: &mut S,
-) -> Result<Vec<(<S::Names as Names>::Value, Value<S::Names>)>, Fault>
+) -> Result<Vec<(<S::Names as Names>::Value, Value<S::Names>)>, Stop>
     ensures reads { Gives core (optional (Sym arguments_symbol)) (S.items source.old) (S.items source.new)
         (λ v x. arguments_view S.Names.bytes v.items ≡ optional_arguments_of x) result }
-    ensures fault { StopsAt (S.items source.new) result }
-    ensures last { (S.items source.new).last ≡ (S.items source.old).last }
+    ensures kept { kept (S.items source.new) ≡ kept (S.items source.old) }
     ensures within { OnOk result (length (S.items source.new).tokens ≤ length (S.items source.old).tokens) }
 {
     if sees_punctuator(source, "(") {
@@ -54,17 +53,13 @@ pub fn optional_arguments<S: TokenSource>(
 
 /// `Directive = "@" Name Arguments?`
 #[tactic(auto, using(crate::proofs::Reading::reading))]
-pub fn directive<S: TokenSource>(
-    alloc: Global,
-    source: &mut S,
-) -> Result<Directive<S::Names>, Fault>
+pub fn directive<S: TokenSource>(alloc: Global, source: &mut S) -> Result<Directive<S::Names>, Stop>
     ensures reads { Gives core (Sym directive_symbol) (S.items source.old) (S.items source.new)
         (λ v x. directive_view S.Names.bytes v ≡ directive_of x) result }
-    ensures fault { StopsAt (S.items source.new) result }
-    ensures last { (S.items source.new).last ≡ (S.items source.old).last }
+    ensures kept { kept (S.items source.new) ≡ kept (S.items source.old) }
     ensures shorter { Shortens (S.items source.old) (S.items source.new) result }
 {
-    let position = punctuator(alloc, source, "@")?;
+    let position = punctuator(source, "@")?;
     let (_, name) = name(alloc, source)?;
     let arguments = optional_arguments(alloc, source)?;
     Ok(Directive {
@@ -79,11 +74,10 @@ pub fn directive<S: TokenSource>(
 pub fn directives<S: TokenSource>(
     alloc: Global,
     source: &mut S,
-) -> Result<Vec<Directive<S::Names>>, Fault>
+) -> Result<Vec<Directive<S::Names>>, Stop>
     ensures reads { Gives core (Sym directives_symbol) (S.items source.old) (S.items source.new)
         (λ v x. directives_view S.Names.bytes v.items ≡ directives_of x) result }
-    ensures fault { StopsAt (S.items source.new) result }
-    ensures last { (S.items source.new).last ≡ (S.items source.old).last }
+    ensures kept { kept (S.items source.new) ≡ kept (S.items source.old) }
     ensures within { OnOk result (length (S.items source.new).tokens ≤ length (S.items source.old).tokens) }
 {
     let mut items = Vec::new(alloc);
@@ -95,16 +89,12 @@ pub fn directives<S: TokenSource>(
 
 /// `Default = "=" Const`
 #[tactic(auto, using(crate::proofs::Reading::reading))]
-pub fn default_value<S: TokenSource>(
-    alloc: Global,
-    source: &mut S,
-) -> Result<Value<S::Names>, Fault>
+pub fn default_value<S: TokenSource>(alloc: Global, source: &mut S) -> Result<Value<S::Names>, Stop>
     ensures reads { Gives core (Sym default_symbol) (S.items source.old) (S.items source.new)
         (λ v x. value_view S.Names.bytes v ≡ default_of x) result }
-    ensures fault { StopsAt (S.items source.new) result }
-    ensures last { (S.items source.new).last ≡ (S.items source.old).last }
+    ensures kept { kept (S.items source.new) ≡ kept (S.items source.old) }
     ensures shorter { Shortens (S.items source.old) (S.items source.new) result }
 {
-    punctuator(alloc, source, "=")?;
+    punctuator(source, "=")?;
     constant(alloc, source)
 }

@@ -4,7 +4,8 @@ ghost use Rattle.graphql_grammar.specs.Tokens.{takes_spelling};
 ghost use Rattle.graphql_grammar.specs.Trees.{One, Sym};
 ghost use Rattle.graphql_core.specs.declared.tokenizer.token.Kind.TheVariants.{IntValue, FloatValue, StringValue, BlockString};
 ghost use Rattle.graphql_common.specs.Grammar.{core, any, enum_class, plain_symbol, enum_name_symbol};
-ghost use Rattle.graphql_common.specs.Gives.{Gives, StopsAt, Shortens};
+ghost use Rattle.graphql_core.specs.Source.{kept};
+ghost use Rattle.graphql_common.specs.Gives.{Gives, Shortens};
 ghost use Rattle.graphql_common.specs.LeafReading.{Shows, word_of};
 ghost use Rattle.graphql_common.specs.Leaves.{int_of, string_of, block_string_of};
 ghost use Rattle.graphql_common.specs.Meanings.{spelling_at, plain_of, enum_name_of};
@@ -12,34 +13,33 @@ ghost use Rattle.graphql_common.specs.ValueViews.{value_view};
 
 use crate::tree::Value;
 use graphql_core::common::{
-    Cause, Fault, FloatLiteral, Names, Number, UnquoteError, unquote_block_string, unquote_string,
+    FloatLiteral, Names, Number, UnquoteError, unquote_block_string, unquote_string,
 };
-use graphql_core::helpers::{Lexeme, TokenSource};
+use graphql_core::helpers::{Lexeme, Stop, TokenSource};
 use graphql_core::tokenizer::Kind;
 use std::alloc::{AllocError, Global};
 
-/// The next item, where it is a token of this kind, else its fault.
-fn next_of<S: TokenSource>(alloc: Global, source: &S, kind: Kind) -> Result<Lexeme<S::Text>, Fault>
+/// The next item, where it is a token of this kind.
+fn next_of<S: TokenSource>(source: &S, kind: Kind) -> Result<Lexeme<S::Text>, Stop>
     ensures { Shows S.bytes kind (S.items source.now) result }
 {
     match source.peek() {
         Some(token) if token.kind == kind => Ok(token),
-        _ => Err(source.fault(alloc)),
+        _ => Err(Stop::Item),
     }
 }
 
 /// `Int`
 #[tactic(auto, using(crate::proofs::Reading::reading))]
-pub fn int_value<S: TokenSource>(alloc: Global, source: &mut S) -> Result<Number, Fault>
+pub fn int_value<S: TokenSource>(alloc: Global, source: &mut S) -> Result<Number, Stop>
     ensures reads { Gives core (One (any IntValue)) (S.items source.old) (S.items source.new)
         (λ v x. v ≡ int_of (spelling_at x)) result }
-    ensures fault { StopsAt (S.items source.new) result }
-    ensures last { (S.items source.new).last ≡ (S.items source.old).last }
+    ensures kept { kept (S.items source.new) ≡ kept (S.items source.old) }
     ensures shorter { Shortens (S.items source.old) (S.items source.new) result }
 {
-    let token = next_of(alloc, source, Kind::IntValue)?;
+    let token = next_of(source, Kind::IntValue)?;
     let Ok(value) = S::as_str(&token.text).parse::<i64>() else {
-        return Err(Fault::At(Cause::IntOutOfRange, token.position));
+        return Err(Stop::Integer);
     };
     source.advance();
     Ok(Number::from_i64(value))
@@ -47,17 +47,16 @@ pub fn int_value<S: TokenSource>(alloc: Global, source: &mut S) -> Result<Number
 
 /// `Float`
 #[tactic(auto, using(crate::proofs::Reading::reading))]
-pub fn float_value<S: TokenSource>(alloc: Global, source: &mut S) -> Result<FloatLiteral, Fault>
+pub fn float_value<S: TokenSource>(alloc: Global, source: &mut S) -> Result<FloatLiteral, Stop>
     ensures reads { Gives core (One (any FloatValue)) (S.items source.old) (S.items source.new)
         (λ v x. v ≡ spelling_at x) result }
-    ensures fault { StopsAt (S.items source.new) result }
-    ensures last { (S.items source.new).last ≡ (S.items source.old).last }
+    ensures kept { kept (S.items source.new) ≡ kept (S.items source.old) }
     ensures shorter { Shortens (S.items source.old) (S.items source.new) result }
 {
-    let token = next_of(alloc, source, Kind::FloatValue)?;
+    let token = next_of(source, Kind::FloatValue)?;
     let text = String::from_str(alloc, S::as_str(&token.text))?;
     let Ok(value) = FloatLiteral::new(text) else {
-        return Err(Fault::At(Cause::MalformedFloat, token.position));
+        return Err(Stop::Float);
     };
     source.advance();
     Ok(value)
@@ -65,34 +64,32 @@ pub fn float_value<S: TokenSource>(alloc: Global, source: &mut S) -> Result<Floa
 
 /// `String`
 #[tactic(auto, using(crate::proofs::Reading::reading))]
-pub fn string_value<S: TokenSource>(alloc: Global, source: &mut S) -> Result<String, Fault>
+pub fn string_value<S: TokenSource>(alloc: Global, source: &mut S) -> Result<String, Stop>
     ensures reads { Gives core (One (any StringValue)) (S.items source.old) (S.items source.new)
         (λ v x. string_bytes v ≡ string_of (spelling_at x)) result }
-    ensures fault { StopsAt (S.items source.new) result }
-    ensures last { (S.items source.new).last ≡ (S.items source.old).last }
+    ensures kept { kept (S.items source.new) ≡ kept (S.items source.old) }
     ensures shorter { Shortens (S.items source.old) (S.items source.new) result }
 {
-    let token = next_of(alloc, source, Kind::StringValue)?;
+    let token = next_of(source, Kind::StringValue)?;
     match unquote_string(alloc, S::as_str(&token.text)) {
         Ok(value) => {
             source.advance();
             Ok(value)
         }
-        Err(UnquoteError::BadEscape) => Err(Fault::At(Cause::BadEscape, token.position)),
-        Err(UnquoteError::OutOfMemory) => Err(Fault::OutOfMemory),
+        Err(UnquoteError::BadEscape) => Err(Stop::Escape),
+        Err(UnquoteError::OutOfMemory) => Err(Stop::Memory),
     }
 }
 
 /// `Block`
 #[tactic(auto, using(crate::proofs::Reading::reading))]
-pub fn block_string_value<S: TokenSource>(alloc: Global, source: &mut S) -> Result<String, Fault>
+pub fn block_string_value<S: TokenSource>(alloc: Global, source: &mut S) -> Result<String, Stop>
     ensures reads { Gives core (One (any BlockString)) (S.items source.old) (S.items source.new)
         (λ v x. string_bytes v ≡ block_string_of (spelling_at x)) result }
-    ensures fault { StopsAt (S.items source.new) result }
-    ensures last { (S.items source.new).last ≡ (S.items source.old).last }
+    ensures kept { kept (S.items source.new) ≡ kept (S.items source.old) }
     ensures shorter { Shortens (S.items source.old) (S.items source.new) result }
 {
-    let token = next_of(alloc, source, Kind::BlockString)?;
+    let token = next_of(source, Kind::BlockString)?;
     let value = unquote_block_string(alloc, S::as_str(&token.text))?;
     source.advance();
     Ok(value)
@@ -110,16 +107,15 @@ fn is_enum_word(text: &str) -> bool
 pub fn enum_value<S: TokenSource>(
     alloc: Global,
     source: &mut S,
-) -> Result<<S::Names as Names>::Value, Fault>
+) -> Result<<S::Names as Names>::Value, Stop>
     ensures reads { Gives core (Sym enum_name_symbol) (S.items source.old) (S.items source.new)
         (λ v x. S.Names.bytes v ≡ enum_name_of x) result }
-    ensures fault { StopsAt (S.items source.new) result }
-    ensures last { (S.items source.new).last ≡ (S.items source.old).last }
+    ensures kept { kept (S.items source.new) ≡ kept (S.items source.old) }
     ensures shorter { Shortens (S.items source.old) (S.items source.new) result }
 {
-    let token = next_of(alloc, source, Kind::Name)?;
+    let token = next_of(source, Kind::Name)?;
     if !is_enum_word(S::as_str(&token.text)) {
-        return Err(source.fault(alloc));
+        return Err(Stop::Item);
     }
     let name = S::make_name(alloc, token.text)?;
     source.advance();
@@ -140,15 +136,14 @@ fn word_value<S: TokenSource>(alloc: Global, text: S::Text) -> Result<Value<S::N
 
 /// `Plain = "true" | "false" | "null" | EnumName | Int | Float | String | Block`
 #[tactic(auto, using(crate::proofs::Reading::reading))]
-pub fn plain_value<S: TokenSource>(alloc: Global, source: &mut S) -> Result<Value<S::Names>, Fault>
+pub fn plain_value<S: TokenSource>(alloc: Global, source: &mut S) -> Result<Value<S::Names>, Stop>
     ensures reads { Gives core (Sym plain_symbol) (S.items source.old) (S.items source.new)
         (λ v x. value_view S.Names.bytes v ≡ plain_of x) result }
-    ensures fault { StopsAt (S.items source.new) result }
-    ensures last { (S.items source.new).last ≡ (S.items source.old).last }
+    ensures kept { kept (S.items source.new) ≡ kept (S.items source.old) }
     ensures shorter { Shortens (S.items source.old) (S.items source.new) result }
 {
     let Some(token) = source.peek() else {
-        return Err(source.fault(alloc));
+        return Err(Stop::Item);
     };
     match token.kind {
         Kind::Name => {
@@ -160,6 +155,6 @@ pub fn plain_value<S: TokenSource>(alloc: Global, source: &mut S) -> Result<Valu
         Kind::FloatValue => Ok(Value::Float(float_value(alloc, source)?)),
         Kind::StringValue => Ok(Value::String(string_value(alloc, source)?)),
         Kind::BlockString => Ok(Value::String(block_string_value(alloc, source)?)),
-        Kind::Punctuator => Err(source.fault(alloc)),
+        Kind::Punctuator => Err(Stop::Item),
     }
 }

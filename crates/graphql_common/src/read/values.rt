@@ -6,12 +6,13 @@ ghost use Rattle.graphql_common.specs.Meanings.{value_of, const_of, argument_of,
 ghost use Rattle.graphql_common.specs.Sorts.{symbol_of, pair_symbol_of, variable_rule, list_rule, object_rule, begins_variable};
 ghost use Rattle.graphql_common.specs.Sorts.{tree_of, pair_of, as_variable, as_list, as_object};
 ghost use Rattle.graphql_common.specs.ValueViews.{value_view};
-ghost use Rattle.graphql_common.specs.Gives.{Gives, StopsAt, Shortens};
+ghost use Rattle.graphql_core.specs.Source.{kept};
+ghost use Rattle.graphql_common.specs.Gives.{Gives, Shortens};
 
 use crate::read::leaf::plain_value;
 use crate::tree::Value;
-use graphql_core::common::{Fault, Names};
-use graphql_core::helpers::{TokenSource, name, punctuator, sees_name, sees_punctuator};
+use graphql_core::common::Names;
+use graphql_core::helpers::{Stop, TokenSource, name, punctuator, sees_name, sees_punctuator};
 use std::alloc::Global;
 use std::collections::BTreeMap;
 
@@ -25,22 +26,20 @@ enum Sort {
 }
 
 /// `Value = "$" Name | Plain | "[" Value* "]" | "{" Argument* "}"`
-pub fn value<S: TokenSource>(alloc: Global, source: &mut S) -> Result<Value<S::Names>, Fault>
+pub fn value<S: TokenSource>(alloc: Global, source: &mut S) -> Result<Value<S::Names>, Stop>
     ensures reads { Gives core (Sym value_symbol) (S.items source.old) (S.items source.new)
         (λ v x. value_view S.Names.bytes v ≡ value_of x) result }
-    ensures fault { StopsAt (S.items source.new) result }
-    ensures last { (S.items source.new).last ≡ (S.items source.old).last }
+    ensures kept { kept (S.items source.new) ≡ kept (S.items source.old) }
     ensures shorter { Shortens (S.items source.old) (S.items source.new) result }
 {
     value_of_sort(alloc, source, Sort::Value)
 }
 
 /// `Const = Plain | "[" Const* "]" | "{" ConstPair* "}"`
-pub fn constant<S: TokenSource>(alloc: Global, source: &mut S) -> Result<Value<S::Names>, Fault>
+pub fn constant<S: TokenSource>(alloc: Global, source: &mut S) -> Result<Value<S::Names>, Stop>
     ensures reads { Gives core (Sym const_symbol) (S.items source.old) (S.items source.new)
         (λ v x. value_view S.Names.bytes v ≡ const_of x) result }
-    ensures fault { StopsAt (S.items source.new) result }
-    ensures last { (S.items source.new).last ≡ (S.items source.old).last }
+    ensures kept { kept (S.items source.new) ≡ kept (S.items source.old) }
     ensures shorter { Shortens (S.items source.old) (S.items source.new) result }
 {
     value_of_sort(alloc, source, Sort::Constant)
@@ -50,11 +49,10 @@ pub fn constant<S: TokenSource>(alloc: Global, source: &mut S) -> Result<Value<S
 pub fn argument<S: TokenSource>(
     alloc: Global,
     source: &mut S,
-) -> Result<(<S::Names as Names>::Value, Value<S::Names>), Fault>
+) -> Result<(<S::Names as Names>::Value, Value<S::Names>), Stop>
     ensures reads { Gives core (Sym argument_symbol) (S.items source.old) (S.items source.new)
         (λ v x. (S.Names.bytes v.0, value_view S.Names.bytes v.1) ≡ argument_of x) result }
-    ensures fault { StopsAt (S.items source.new) result }
-    ensures last { (S.items source.new).last ≡ (S.items source.old).last }
+    ensures kept { kept (S.items source.new) ≡ kept (S.items source.old) }
     ensures shorter { Shortens (S.items source.old) (S.items source.new) result }
 {
     pair(alloc, source, Sort::Value)
@@ -64,11 +62,10 @@ pub fn argument<S: TokenSource>(
 pub fn const_pair<S: TokenSource>(
     alloc: Global,
     source: &mut S,
-) -> Result<(<S::Names as Names>::Value, Value<S::Names>), Fault>
+) -> Result<(<S::Names as Names>::Value, Value<S::Names>), Stop>
     ensures reads { Gives core (Sym const_pair_symbol) (S.items source.old) (S.items source.new)
         (λ v x. (S.Names.bytes v.0, value_view S.Names.bytes v.1) ≡ const_pair_of x) result }
-    ensures fault { StopsAt (S.items source.new) result }
-    ensures last { (S.items source.new).last ≡ (S.items source.old).last }
+    ensures kept { kept (S.items source.new) ≡ kept (S.items source.old) }
     ensures shorter { Shortens (S.items source.old) (S.items source.new) result }
 {
     pair(alloc, source, Sort::Constant)
@@ -86,14 +83,13 @@ fn sees_variable<S: TokenSource>(source: &S, sort: Sort) -> bool
 
 /// `"$" Name`
 #[tactic(auto, using(crate::proofs::Reading::reading))]
-fn variable<S: TokenSource>(alloc: Global, source: &mut S) -> Result<Value<S::Names>, Fault>
+fn variable<S: TokenSource>(alloc: Global, source: &mut S) -> Result<Value<S::Names>, Stop>
     ensures reads { Gives core variable_rule (S.items source.old) (S.items source.new)
         (λ v x. value_view S.Names.bytes v ≡ value_of (as_variable x)) result }
-    ensures fault { StopsAt (S.items source.new) result }
-    ensures last { (S.items source.new).last ≡ (S.items source.old).last }
+    ensures kept { kept (S.items source.new) ≡ kept (S.items source.old) }
     ensures shorter { Shortens (S.items source.old) (S.items source.new) result }
 {
-    punctuator(alloc, source, "$")?;
+    punctuator(source, "$")?;
     let (_, name) = name(alloc, source)?;
     Ok(Value::Variable(name))
 }
@@ -105,11 +101,10 @@ fn value_of_sort<S: TokenSource>(
     alloc: Global,
     source: &mut S,
     sort: Sort,
-) -> Result<Value<S::Names>, Fault>
+) -> Result<Value<S::Names>, Stop>
     ensures reads { Gives core (Sym (symbol_of sort)) (S.items source.old) (S.items source.new)
         (λ v x. value_view S.Names.bytes v ≡ tree_of sort x) result }
-    ensures fault { StopsAt (S.items source.new) result }
-    ensures last { (S.items source.new).last ≡ (S.items source.old).last }
+    ensures kept { kept (S.items source.new) ≡ kept (S.items source.old) }
     ensures shorter { Shortens (S.items source.old) (S.items source.new) result }
 {
     if sees_variable(source, sort) {
@@ -127,19 +122,18 @@ fn value_of_sort<S: TokenSource>(
 /// `"[" Value* "]"`, of constants `"[" Const* "]"`
 #[cycle(values)]
 #[tactic(auto, using(crate::proofs::Reading::reading))]
-fn list<S: TokenSource>(alloc: Global, source: &mut S, sort: Sort) -> Result<Value<S::Names>, Fault>
+fn list<S: TokenSource>(alloc: Global, source: &mut S, sort: Sort) -> Result<Value<S::Names>, Stop>
     ensures reads { Gives core (list_rule sort) (S.items source.old) (S.items source.new)
         (λ v x. value_view S.Names.bytes v ≡ tree_of sort (as_list sort x)) result }
-    ensures fault { StopsAt (S.items source.new) result }
-    ensures last { (S.items source.new).last ≡ (S.items source.old).last }
+    ensures kept { kept (S.items source.new) ≡ kept (S.items source.old) }
     ensures shorter { Shortens (S.items source.old) (S.items source.new) result }
 {
-    punctuator(alloc, source, "[")?;
+    punctuator(source, "[")?;
     let mut items = Vec::new(alloc);
     'more: while !sees_punctuator(source, "]") {
         items.push(value_of_sort(alloc, source, sort)?)?;
     }
-    punctuator(alloc, source, "]")?;
+    punctuator(source, "]")?;
     Ok(Value::List(items))
 }
 
@@ -150,20 +144,19 @@ fn object<S: TokenSource>(
     alloc: Global,
     source: &mut S,
     sort: Sort,
-) -> Result<Value<S::Names>, Fault>
+) -> Result<Value<S::Names>, Stop>
     ensures reads { Gives core (object_rule sort) (S.items source.old) (S.items source.new)
         (λ v x. value_view S.Names.bytes v ≡ tree_of sort (as_object sort x)) result }
-    ensures fault { StopsAt (S.items source.new) result }
-    ensures last { (S.items source.new).last ≡ (S.items source.old).last }
+    ensures kept { kept (S.items source.new) ≡ kept (S.items source.old) }
     ensures shorter { Shortens (S.items source.old) (S.items source.new) result }
 {
-    punctuator(alloc, source, "{")?;
+    punctuator(source, "{")?;
     let mut fields = BTreeMap::new(alloc);
     'more: while sees_name(source) {
         let (name, value) = pair(alloc, source, sort)?;
         drop(fields.insert(name, value)?);
     }
-    punctuator(alloc, source, "}")?;
+    punctuator(source, "}")?;
     Ok(Value::Object(fields))
 }
 
@@ -174,15 +167,14 @@ fn pair<S: TokenSource>(
     alloc: Global,
     source: &mut S,
     sort: Sort,
-) -> Result<(<S::Names as Names>::Value, Value<S::Names>), Fault>
+) -> Result<(<S::Names as Names>::Value, Value<S::Names>), Stop>
     ensures reads { Gives core (Sym (pair_symbol_of sort)) (S.items source.old) (S.items source.new)
         (λ v x. (S.Names.bytes v.0, value_view S.Names.bytes v.1) ≡ pair_of sort x) result }
-    ensures fault { StopsAt (S.items source.new) result }
-    ensures last { (S.items source.new).last ≡ (S.items source.old).last }
+    ensures kept { kept (S.items source.new) ≡ kept (S.items source.old) }
     ensures shorter { Shortens (S.items source.old) (S.items source.new) result }
 {
     let (_, name) = name(alloc, source)?;
-    punctuator(alloc, source, ":")?;
+    punctuator(source, ":")?;
     let value = value_of_sort(alloc, source, sort)?;
     Ok((name, value))
 }

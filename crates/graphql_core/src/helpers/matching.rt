@@ -6,8 +6,9 @@ ghost use Rattle.graphql_core.specs.Source.{place_of, lexeme_token};
 ghost use Rattle.graphql_core.specs.Matching.{sees_class, TakesOne};
 ghost use Rattle.graphql_core.specs.declared.tokenizer.token.Kind.TheVariants.{Punctuator, Name};
 
-use crate::common::{Fault, Names};
+use crate::common::Names;
 use crate::helpers::source::{Lexeme, TokenSource};
+use crate::helpers::stop::Stop;
 use crate::position::Pos;
 use crate::tokenizer::Kind;
 use std::alloc::Global;
@@ -68,12 +69,7 @@ pub fn sees_name<S: TokenSource>(source: &S) -> bool
 
 /// Takes the token of this kind and spelling, and answers its position.
 #[inline(always)]
-fn spelled<S: TokenSource>(
-    alloc: Global,
-    source: &mut S,
-    kind: Kind,
-    spelling: &str,
-) -> Result<Pos, Fault>
+fn spelled<S: TokenSource>(source: &mut S, kind: Kind, spelling: &str) -> Result<Pos, Stop>
     ensures { TakesOne (Spelled (kind_number kind) spelling.now) (S.items source.old) (S.items source.new)
         (λ p t. t.place ≡ place_of p) result }
 {
@@ -82,37 +78,33 @@ fn spelled<S: TokenSource>(
             source.advance();
             Ok(token.position)
         }
-        _ => Err(source.fault(alloc)),
+        _ => Err(Stop::Item),
     }
 }
 
 /// Takes this punctuator, and answers its position.
 #[inline(always)]
-pub fn punctuator<S: TokenSource>(
-    alloc: Global,
-    source: &mut S,
-    spelling: &str,
-) -> Result<Pos, Fault>
+pub fn punctuator<S: TokenSource>(source: &mut S, spelling: &str) -> Result<Pos, Stop>
     ensures { TakesOne (Spelled (kind_number Punctuator) spelling.now) (S.items source.old) (S.items source.new)
         (λ p t. t.place ≡ place_of p) result }
 {
-    spelled(alloc, source, Kind::Punctuator, spelling)
+    spelled(source, Kind::Punctuator, spelling)
 }
 
 /// Takes the name of this spelling, and answers its position.
 #[inline(always)]
-pub fn keyword<S: TokenSource>(alloc: Global, source: &mut S, spelling: &str) -> Result<Pos, Fault>
+pub fn keyword<S: TokenSource>(source: &mut S, spelling: &str) -> Result<Pos, Stop>
     ensures { TakesOne (Spelled (kind_number Name) spelling.now) (S.items source.old) (S.items source.new)
         (λ p t. t.place ≡ place_of p) result }
 {
-    spelled(alloc, source, Kind::Name, spelling)
+    spelled(source, Kind::Name, spelling)
 }
 
 /// Takes a name, and answers its position and what a tree keeps of it.
 pub fn name<S: TokenSource>(
     alloc: Global,
     source: &mut S,
-) -> Result<(Pos, <S::Names as Names>::Value), Fault>
+) -> Result<(Pos, <S::Names as Names>::Value), Stop>
     ensures { TakesOne (AnyOf (kind_number Name)) (S.items source.old) (S.items source.new)
         (λ v t. (t.place ≡ place_of v.0) × (t.spelling ≡ S.Names.bytes v.1)) result }
 {
@@ -122,6 +114,6 @@ pub fn name<S: TokenSource>(
             source.advance();
             Ok((token.position, name))
         }
-        _ => Err(source.fault(alloc)),
+        _ => Err(Stop::Item),
     }
 }

@@ -1,7 +1,8 @@
 //! Definitions.
 ghost use Rattle.std.specs.Prelude.{◌≡◌, map};
 ghost use Rattle.graphql_grammar.specs.Trees.{Sym, some_of};
-ghost use Rattle.graphql_common.specs.Gives.{StopsAt, Shortens};
+ghost use Rattle.graphql_core.specs.Source.{kept};
+ghost use Rattle.graphql_common.specs.Gives.{Shortens};
 ghost use Rattle.graphql_query.specs.Tree.{fragment_view, definition_view, definitions_view};
 ghost use Rattle.graphql_query.specs.Grammar.{fragment_symbol, definition_symbol};
 ghost use Rattle.graphql_query.specs.Meanings.{fragment_of, definition_of, definitions_of};
@@ -12,8 +13,7 @@ use crate::read::operation::operation_definition;
 use crate::read::selection::selection_set;
 use crate::tree::{Definition, FragmentDefinition};
 use graphql_common::read::directives::directives;
-use graphql_core::common::Fault;
-use graphql_core::helpers::{TokenSource, keyword, name, sees_keyword, sees_punctuator};
+use graphql_core::helpers::{Stop, TokenSource, keyword, name, sees_keyword, sees_punctuator};
 use std::alloc::Global;
 
 /// `Fragment = "fragment" Name Condition Directives SelectionSet`
@@ -21,14 +21,13 @@ use std::alloc::Global;
 fn fragment_definition<S: TokenSource>(
     alloc: Global,
     source: &mut S,
-) -> Result<FragmentDefinition<S::Names>, Fault>
+) -> Result<FragmentDefinition<S::Names>, Stop>
     ensures reads { Reads (Sym fragment_symbol) (S.items source.old) (S.items source.new)
         (λ v x. fragment_view S.Names.bytes v ≡ fragment_of x) result }
-    ensures fault { StopsAt (S.items source.new) result }
-    ensures last { (S.items source.new).last ≡ (S.items source.old).last }
+    ensures kept { kept (S.items source.new) ≡ kept (S.items source.old) }
     ensures shorter { Shortens (S.items source.old) (S.items source.new) result }
 {
-    let position = keyword(alloc, source, "fragment")?;
+    let position = keyword(source, "fragment")?;
     let (_, name) = name(alloc, source)?;
     let type_condition = type_condition(alloc, source)?;
     let directives = directives(alloc, source)?;
@@ -44,11 +43,10 @@ fn fragment_definition<S: TokenSource>(
 
 /// `Definition = Operation | Fragment`
 #[tactic(auto, using(graphql_common::proofs::Reading::reading))]
-fn definition<S: TokenSource>(alloc: Global, source: &mut S) -> Result<Definition<S::Names>, Fault>
+fn definition<S: TokenSource>(alloc: Global, source: &mut S) -> Result<Definition<S::Names>, Stop>
     ensures reads { Reads (Sym definition_symbol) (S.items source.old) (S.items source.new)
         (λ v x. definition_view S.Names.bytes v ≡ definition_of x) result }
-    ensures fault { StopsAt (S.items source.new) result }
-    ensures last { (S.items source.new).last ≡ (S.items source.old).last }
+    ensures kept { kept (S.items source.new) ≡ kept (S.items source.old) }
     ensures shorter { Shortens (S.items source.old) (S.items source.new) result }
 {
     if sees_keyword(source, "fragment") {
@@ -73,11 +71,10 @@ fn sees_definition<S: TokenSource>(source: &S) -> bool
 pub fn definitions<S: TokenSource>(
     alloc: Global,
     source: &mut S,
-) -> Result<Vec<Definition<S::Names>>, Fault>
+) -> Result<Vec<Definition<S::Names>>, Stop>
     ensures reads { Reads (some_of (Sym definition_symbol)) (S.items source.old) (S.items source.new)
         (λ v x. definitions_view S.Names.bytes v.items ≡ definitions_of x) result }
-    ensures fault { StopsAt (S.items source.new) result }
-    ensures last { (S.items source.new).last ≡ (S.items source.old).last }
+    ensures kept { kept (S.items source.new) ≡ kept (S.items source.old) }
     ensures shorter { Shortens (S.items source.old) (S.items source.new) result }
 {
     let mut definitions = Vec::new(alloc);

@@ -1,10 +1,11 @@
 //! Operations and their variables.
 ghost use Rattle.std.specs.Prelude.{◌≡◌, ◌≤◌, OnOk, length, codes, option_map};
 ghost use Rattle.graphql_grammar.specs.Trees.{Then, Sym, optional};
+ghost use Rattle.graphql_core.specs.Source.{kept};
 ghost use Rattle.graphql_common.specs.ValueViews.{value_view};
 ghost use Rattle.graphql_common.specs.Grammar.{default_symbol, word};
 ghost use Rattle.graphql_common.specs.Grammar as core;
-ghost use Rattle.graphql_common.specs.Gives.{StopsAt, Shortens};
+ghost use Rattle.graphql_common.specs.Gives.{Shortens};
 ghost use Rattle.graphql_query.specs.Tree.{query_kind, mutation_kind, subscription_kind, variable_view, variables_view, query_view, mutation_view, subscription_view, operation_view};
 ghost use Rattle.graphql_query.specs.Common.{common_view};
 ghost use Rattle.graphql_query.specs.Grammar.{common_symbol, variables_symbol, variable_symbol, operation_symbol};
@@ -18,9 +19,9 @@ use crate::tree::{
 use graphql_common::read::directives::{default_value, directives};
 use graphql_common::read::types::parse_type;
 use graphql_common::tree::{Directive, Value};
-use graphql_core::common::{Fault, Names};
+use graphql_core::common::Names;
 use graphql_core::helpers::{
-    TokenSource, keyword, name, punctuator, sees_keyword, sees_name, sees_punctuator,
+    Stop, TokenSource, keyword, name, punctuator, sees_keyword, sees_name, sees_punctuator,
 };
 use std::alloc::Global;
 
@@ -38,11 +39,10 @@ struct Common<N: Names> {
 fn optional_name<S: TokenSource>(
     alloc: Global,
     source: &mut S,
-) -> Result<Option<<S::Names as Names>::Value>, Fault>
+) -> Result<Option<<S::Names as Names>::Value>, Stop>
     ensures reads { Reads (optional core.name) (S.items source.old) (S.items source.new)
         (λ v x. option_map S.Names.bytes v ≡ optional_name_of x) result }
-    ensures fault { StopsAt (S.items source.new) result }
-    ensures last { (S.items source.new).last ≡ (S.items source.old).last }
+    ensures kept { kept (S.items source.new) ≡ kept (S.items source.old) }
     ensures within { OnOk result (length (S.items source.new).tokens ≤ length (S.items source.old).tokens) }
 {
     if !sees_name(source) {
@@ -57,11 +57,10 @@ fn optional_name<S: TokenSource>(
 fn optional_default<S: TokenSource>(
     alloc: Global,
     source: &mut S,
-) -> Result<Option<Value<S::Names>>, Fault>
+) -> Result<Option<Value<S::Names>>, Stop>
     ensures reads { Reads (optional (Sym default_symbol)) (S.items source.old) (S.items source.new)
         (λ v x. option_map (value_view S.Names.bytes) v ≡ optional_default_of x) result }
-    ensures fault { StopsAt (S.items source.new) result }
-    ensures last { (S.items source.new).last ≡ (S.items source.old).last }
+    ensures kept { kept (S.items source.new) ≡ kept (S.items source.old) }
     ensures within { OnOk result (length (S.items source.new).tokens ≤ length (S.items source.old).tokens) }
 {
     if !sees_punctuator(source, "=") {
@@ -75,16 +74,15 @@ fn optional_default<S: TokenSource>(
 fn variable_definition<S: TokenSource>(
     alloc: Global,
     source: &mut S,
-) -> Result<VariableDefinition<S::Names>, Fault>
+) -> Result<VariableDefinition<S::Names>, Stop>
     ensures reads { Reads (Sym variable_symbol) (S.items source.old) (S.items source.new)
         (λ v x. variable_view S.Names.bytes v ≡ variable_of x) result }
-    ensures fault { StopsAt (S.items source.new) result }
-    ensures last { (S.items source.new).last ≡ (S.items source.old).last }
+    ensures kept { kept (S.items source.new) ≡ kept (S.items source.old) }
     ensures shorter { Shortens (S.items source.old) (S.items source.new) result }
 {
-    let position = punctuator(alloc, source, "$")?;
+    let position = punctuator(source, "$")?;
     let (_, name) = name(alloc, source)?;
-    punctuator(alloc, source, ":")?;
+    punctuator(source, ":")?;
     let var_type = parse_type(alloc, source)?;
     let default_value = optional_default(alloc, source)?;
     Ok(VariableDefinition {
@@ -100,20 +98,19 @@ fn variable_definition<S: TokenSource>(
 fn variable_definitions<S: TokenSource>(
     alloc: Global,
     source: &mut S,
-) -> Result<Vec<VariableDefinition<S::Names>>, Fault>
+) -> Result<Vec<VariableDefinition<S::Names>>, Stop>
     ensures reads { Reads (Sym variables_symbol) (S.items source.old) (S.items source.new)
         (λ v x. variables_view S.Names.bytes v.items ≡ variables_of x) result }
-    ensures fault { StopsAt (S.items source.new) result }
-    ensures last { (S.items source.new).last ≡ (S.items source.old).last }
+    ensures kept { kept (S.items source.new) ≡ kept (S.items source.old) }
     ensures shorter { Shortens (S.items source.old) (S.items source.new) result }
 {
-    punctuator(alloc, source, "(")?;
+    punctuator(source, "(")?;
     let mut definitions = Vec::new(alloc);
     definitions.push(variable_definition(alloc, source)?)?;
     'more: while sees_punctuator(source, "$") {
         definitions.push(variable_definition(alloc, source)?)?;
     }
-    punctuator(alloc, source, ")")?;
+    punctuator(source, ")")?;
     Ok(definitions)
 }
 
@@ -122,11 +119,10 @@ fn variable_definitions<S: TokenSource>(
 fn optional_variables<S: TokenSource>(
     alloc: Global,
     source: &mut S,
-) -> Result<Vec<VariableDefinition<S::Names>>, Fault>
+) -> Result<Vec<VariableDefinition<S::Names>>, Stop>
     ensures reads { Reads (optional (Sym variables_symbol)) (S.items source.old) (S.items source.new)
         (λ v x. variables_view S.Names.bytes v.items ≡ optional_variables_of x) result }
-    ensures fault { StopsAt (S.items source.new) result }
-    ensures last { (S.items source.new).last ≡ (S.items source.old).last }
+    ensures kept { kept (S.items source.new) ≡ kept (S.items source.old) }
     ensures within { OnOk result (length (S.items source.new).tokens ≤ length (S.items source.old).tokens) }
 {
     if !sees_punctuator(source, "(") {
@@ -137,14 +133,10 @@ fn optional_variables<S: TokenSource>(
 
 /// `Common = Name? Variables? Directives SelectionSet`
 #[tactic(auto, using(graphql_common::proofs::Reading::reading))]
-fn operation_common<S: TokenSource>(
-    alloc: Global,
-    source: &mut S,
-) -> Result<Common<S::Names>, Fault>
+fn operation_common<S: TokenSource>(alloc: Global, source: &mut S) -> Result<Common<S::Names>, Stop>
     ensures reads { Reads (Sym common_symbol) (S.items source.old) (S.items source.new)
         (λ v x. common_view S.Names.bytes v ≡ common_of x) result }
-    ensures fault { StopsAt (S.items source.new) result }
-    ensures last { (S.items source.new).last ≡ (S.items source.old).last }
+    ensures kept { kept (S.items source.new) ≡ kept (S.items source.old) }
     ensures shorter { Shortens (S.items source.old) (S.items source.new) result }
 {
     let name = optional_name(alloc, source)?;
@@ -161,14 +153,13 @@ fn operation_common<S: TokenSource>(
 
 /// `"query" Common`
 #[tactic(auto, using(graphql_common::proofs::Reading::reading))]
-fn query<S: TokenSource>(alloc: Global, source: &mut S) -> Result<Query<S::Names>, Fault>
+fn query<S: TokenSource>(alloc: Global, source: &mut S) -> Result<Query<S::Names>, Stop>
     ensures reads { Reads (Then (word (codes "query")) (Sym common_symbol)) (S.items source.old) (S.items source.new)
         (λ v x. query_view S.Names.bytes v ≡ keyword_of query_kind x) result }
-    ensures fault { StopsAt (S.items source.new) result }
-    ensures last { (S.items source.new).last ≡ (S.items source.old).last }
+    ensures kept { kept (S.items source.new) ≡ kept (S.items source.old) }
     ensures shorter { Shortens (S.items source.old) (S.items source.new) result }
 {
-    let position = keyword(alloc, source, "query")?;
+    let position = keyword(source, "query")?;
     let common = operation_common(alloc, source)?;
     Ok(Query {
         position,
@@ -181,14 +172,13 @@ fn query<S: TokenSource>(alloc: Global, source: &mut S) -> Result<Query<S::Names
 
 /// `"mutation" Common`
 #[tactic(auto, using(graphql_common::proofs::Reading::reading))]
-fn mutation<S: TokenSource>(alloc: Global, source: &mut S) -> Result<Mutation<S::Names>, Fault>
+fn mutation<S: TokenSource>(alloc: Global, source: &mut S) -> Result<Mutation<S::Names>, Stop>
     ensures reads { Reads (Then (word (codes "mutation")) (Sym common_symbol)) (S.items source.old) (S.items source.new)
         (λ v x. mutation_view S.Names.bytes v ≡ keyword_of mutation_kind x) result }
-    ensures fault { StopsAt (S.items source.new) result }
-    ensures last { (S.items source.new).last ≡ (S.items source.old).last }
+    ensures kept { kept (S.items source.new) ≡ kept (S.items source.old) }
     ensures shorter { Shortens (S.items source.old) (S.items source.new) result }
 {
-    let position = keyword(alloc, source, "mutation")?;
+    let position = keyword(source, "mutation")?;
     let common = operation_common(alloc, source)?;
     Ok(Mutation {
         position,
@@ -204,14 +194,13 @@ fn mutation<S: TokenSource>(alloc: Global, source: &mut S) -> Result<Mutation<S:
 fn subscription<S: TokenSource>(
     alloc: Global,
     source: &mut S,
-) -> Result<Subscription<S::Names>, Fault>
+) -> Result<Subscription<S::Names>, Stop>
     ensures reads { Reads (Then (word (codes "subscription")) (Sym common_symbol)) (S.items source.old) (S.items source.new)
         (λ v x. subscription_view S.Names.bytes v ≡ keyword_of subscription_kind x) result }
-    ensures fault { StopsAt (S.items source.new) result }
-    ensures last { (S.items source.new).last ≡ (S.items source.old).last }
+    ensures kept { kept (S.items source.new) ≡ kept (S.items source.old) }
     ensures shorter { Shortens (S.items source.old) (S.items source.new) result }
 {
-    let position = keyword(alloc, source, "subscription")?;
+    let position = keyword(source, "subscription")?;
     let common = operation_common(alloc, source)?;
     Ok(Subscription {
         position,
@@ -227,11 +216,10 @@ fn subscription<S: TokenSource>(
 pub fn operation_definition<S: TokenSource>(
     alloc: Global,
     source: &mut S,
-) -> Result<OperationDefinition<S::Names>, Fault>
+) -> Result<OperationDefinition<S::Names>, Stop>
     ensures reads { Reads (Sym operation_symbol) (S.items source.old) (S.items source.new)
         (λ v x. operation_view S.Names.bytes v ≡ operation_of x) result }
-    ensures fault { StopsAt (S.items source.new) result }
-    ensures last { (S.items source.new).last ≡ (S.items source.old).last }
+    ensures kept { kept (S.items source.new) ≡ kept (S.items source.old) }
     ensures shorter { Shortens (S.items source.old) (S.items source.new) result }
 {
     if sees_keyword(source, "query") {

@@ -2,10 +2,10 @@
 ghost use Rattle.std.specs.Prelude.{◌≡◌, ◌≤◌, ◌||◌, OnOk, length, codes};
 ghost use Rattle.graphql_grammar.specs.Trees.{Then, Sym, Either, optional};
 ghost use Rattle.graphql_core.specs.declared.tokenizer.token.Kind.TheVariants.{Name};
-ghost use Rattle.graphql_core.specs.Source.{place_of};
+ghost use Rattle.graphql_core.specs.Source.{kept, place_of};
 ghost use Rattle.graphql_core.specs.Matching.{sees_class};
 ghost use Rattle.graphql_common.specs.Grammar.{punctuator, any, mark};
-ghost use Rattle.graphql_common.specs.Gives.{StopsAt, Shortens};
+ghost use Rattle.graphql_common.specs.Gives.{Shortens};
 ghost use Rattle.graphql_query.specs.Tree.{field_view, inline_view, selection_view, set_view};
 ghost use Rattle.graphql_query.specs.Grammar.{field_symbol, set_symbol, selection_symbol, spread_rest, inline_rest};
 ghost use Rattle.graphql_query.specs.Meanings.{field_of, selected_of, inline_rest_of, selection_of, set_of};
@@ -15,19 +15,17 @@ use crate::read::alias::aliased;
 use crate::read::fragment::{fragment_spread, optional_condition, sees_spread_name};
 use crate::tree::{Field, InlineFragment, Selection, SelectionSet};
 use graphql_common::read::directives::{directives, optional_arguments};
-use graphql_core::common::Fault;
-use graphql_core::helpers::{TokenSource, name, punctuator, sees_name, sees_punctuator};
+use graphql_core::helpers::{Stop, TokenSource, name, punctuator, sees_name, sees_punctuator};
 use graphql_core::position::Pos;
 use std::alloc::Global;
 
 /// `Field = Alias? Name Arguments? Directives SelectionSet?`, where `Alias = Name ":"`
 #[cycle(reading)]
 #[tactic(auto, using(graphql_common::proofs::Reading::reading))]
-fn field<S: TokenSource>(alloc: Global, source: &mut S) -> Result<Field<S::Names>, Fault>
+fn field<S: TokenSource>(alloc: Global, source: &mut S) -> Result<Field<S::Names>, Stop>
     ensures reads { Reads (Sym field_symbol) (S.items source.old) (S.items source.new)
         (λ v x. field_view S.Names.bytes v ≡ field_of x) result }
-    ensures fault { StopsAt (S.items source.new) result }
-    ensures last { (S.items source.new).last ≡ (S.items source.old).last }
+    ensures kept { kept (S.items source.new) ≡ kept (S.items source.old) }
     ensures shorter { Shortens (S.items source.old) (S.items source.new) result }
 {
     let (position, first) = name(alloc, source)?;
@@ -52,11 +50,10 @@ fn selected<S: TokenSource>(
     alloc: Global,
     source: &mut S,
     position: Pos,
-) -> Result<SelectionSet<S::Names>, Fault>
+) -> Result<SelectionSet<S::Names>, Stop>
     ensures reads { Reads (optional (Sym set_symbol)) (S.items source.old) (S.items source.new)
         (λ v x. set_view S.Names.bytes v ≡ selected_of (place_of position) x) result }
-    ensures fault { StopsAt (S.items source.new) result }
-    ensures last { (S.items source.new).last ≡ (S.items source.old).last }
+    ensures kept { kept (S.items source.new) ≡ kept (S.items source.old) }
     ensures within { OnOk result (length (S.items source.new).tokens ≤ length (S.items source.old).tokens) }
 {
     if !sees_punctuator(source, "{") {
@@ -74,11 +71,10 @@ fn selected<S: TokenSource>(
 fn inline_fragment<S: TokenSource>(
     alloc: Global,
     source: &mut S,
-) -> Result<InlineFragment<S::Names>, Fault>
+) -> Result<InlineFragment<S::Names>, Stop>
     ensures reads { Reads inline_rest (S.items source.old) (S.items source.new)
         (λ v x. inline_view S.Names.bytes v ≡ inline_rest_of x) result }
-    ensures fault { StopsAt (S.items source.new) result }
-    ensures last { (S.items source.new).last ≡ (S.items source.old).last }
+    ensures kept { kept (S.items source.new) ≡ kept (S.items source.old) }
     ensures shorter { Shortens (S.items source.old) (S.items source.new) result }
 {
     let position = source.position();
@@ -99,14 +95,13 @@ fn inline_fragment<S: TokenSource>(
 fn spread_or_inline<S: TokenSource>(
     alloc: Global,
     source: &mut S,
-) -> Result<Selection<S::Names>, Fault>
+) -> Result<Selection<S::Names>, Stop>
     ensures reads { Reads (Then (punctuator (codes "...")) (Either spread_rest inline_rest)) (S.items source.old) (S.items source.new)
         (λ v x. selection_view S.Names.bytes v ≡ behind_dots_of x) result }
-    ensures fault { StopsAt (S.items source.new) result }
-    ensures last { (S.items source.new).last ≡ (S.items source.old).last }
+    ensures kept { kept (S.items source.new) ≡ kept (S.items source.old) }
     ensures shorter { Shortens (S.items source.old) (S.items source.new) result }
 {
-    punctuator(alloc, source, "...")?;
+    punctuator(source, "...")?;
     if sees_spread_name(source) {
         return Ok(Selection::FragmentSpread(fragment_spread(alloc, source)?));
     }
@@ -116,11 +111,10 @@ fn spread_or_inline<S: TokenSource>(
 /// `Selection = Field | Spread | Inline`
 #[cycle(reading)]
 #[tactic(auto, using(graphql_common::proofs::Reading::reading))]
-fn selection<S: TokenSource>(alloc: Global, source: &mut S) -> Result<Selection<S::Names>, Fault>
+fn selection<S: TokenSource>(alloc: Global, source: &mut S) -> Result<Selection<S::Names>, Stop>
     ensures reads { Reads (Sym selection_symbol) (S.items source.old) (S.items source.new)
         (λ v x. selection_view S.Names.bytes v ≡ selection_of x) result }
-    ensures fault { StopsAt (S.items source.new) result }
-    ensures last { (S.items source.new).last ≡ (S.items source.old).last }
+    ensures kept { kept (S.items source.new) ≡ kept (S.items source.old) }
     ensures shorter { Shortens (S.items source.old) (S.items source.new) result }
 {
     if sees_punctuator(source, "...") {
@@ -142,20 +136,19 @@ fn sees_selection<S: TokenSource>(source: &S) -> bool
 pub fn selection_set<S: TokenSource>(
     alloc: Global,
     source: &mut S,
-) -> Result<SelectionSet<S::Names>, Fault>
+) -> Result<SelectionSet<S::Names>, Stop>
     ensures reads { Reads (Sym set_symbol) (S.items source.old) (S.items source.new)
         (λ v x. set_view S.Names.bytes v ≡ set_of x) result }
-    ensures fault { StopsAt (S.items source.new) result }
-    ensures last { (S.items source.new).last ≡ (S.items source.old).last }
+    ensures kept { kept (S.items source.new) ≡ kept (S.items source.old) }
     ensures shorter { Shortens (S.items source.old) (S.items source.new) result }
 {
-    let start = punctuator(alloc, source, "{")?;
+    let start = punctuator(source, "{")?;
     let mut items = Vec::new(alloc);
     items.push(selection(alloc, source)?)?;
     'more: while sees_selection(source) {
         items.push(selection(alloc, source)?)?;
     }
-    let end = punctuator(alloc, source, "}")?;
+    let end = punctuator(source, "}")?;
     Ok(SelectionSet {
         span: (start, end),
         items,

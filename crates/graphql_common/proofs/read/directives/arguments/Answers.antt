@@ -24,7 +24,7 @@ returns-in_err-argument-clause-reads g c =
     c.from_residual-in_err-argument.ensures.1
 
 pub more-init : goal.more-init
-more-init g c = record { turns = ([], Turns-start core _ (one_of argument_of) _, sym (append-nil _)); last = refl; within = omega arith }
+more-init g c = record { turns = ([], Turns-start core _ (one_of argument_of) _, sym (append-nil _)); kept = refl; within = omega arith }
 
 pub more-preserved : goal.more-preserved
 more-preserved g c =
@@ -37,7 +37,7 @@ more-preserved g c =
         Turns-more core _ (one_of argument_of) _ _ _ items x turns (begins_pair Value _ ∙ sym c.sees_name.ensures ∙ c.more-test.true) takes,
         turn_more (λ a. (bytes a.0, value_view bytes a.1)) argument_of _ _ _ _ items x c.in_ok-push-2.ensures.items view views,
       );
-      last = c.in_ok-argument-2.ensures.last ∙ c.more.invariant.last;
+      kept = c.in_ok-argument-2.ensures.kept ∙ c.more.invariant.kept;
       within = omega (arith, c.more.invariant.within, c.in_ok-argument-2.ensures.shorter);
     }
 

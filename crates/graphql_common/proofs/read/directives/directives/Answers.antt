@@ -10,7 +10,7 @@ use Rattle.graphql_common.proofs.Reading.{gives_error, one_of, turn_more, turns_
 use Rattle.graphql_common.proofs.read.directives.directives.Goals as goal
 
 pub more-init : goal.more-init
-more-init g c = record { turns = ([], Turns-start core _ (one_of directive_of) _, sym (append-nil _)); last = refl; within = omega arith }
+more-init g c = record { turns = ([], Turns-start core _ (one_of directive_of) _, sym (append-nil _)); kept = refl; within = omega arith }
 
 pub more-preserved : goal.more-preserved
 more-preserved g c =
@@ -22,7 +22,7 @@ more-preserved g c =
         Turns-more core _ (one_of directive_of) _ _ _ items x turns (begins_directive _ ∙ sym c.sees_punctuator.ensures ∙ c.more-test.true) takes,
         turn_more (directive_view g.S.Names.Names.bytes) directive_of _ _ _ _ items x c.in_ok-push.ensures.items view views,
       );
-      last = c.in_ok-directive.ensures.last ∙ c.more.invariant.last;
+      kept = c.in_ok-directive.ensures.kept ∙ c.more.invariant.kept;
       within = omega (arith, c.more.invariant.within, c.in_ok-directive.ensures.shorter);
     }
 

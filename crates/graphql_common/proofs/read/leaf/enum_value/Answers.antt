@@ -12,7 +12,7 @@ pub returns-then-not-is_enum_word-clause-reads : goal.returns-then-not-is_enum_w
 returns-then-not-is_enum_word-clause-reads g c =
     let t = c.in_ok-token.token in
     let other : takes_spelling enum_class (g.S.TokenSource.bytes t.text) ≡ false = ap (takes_spelling enum_class) (sym c.as_str.ensures) ∙ sym c.is_enum_word.ensures ∙ c.if-not-is_enum_word.true in
-    enum_stopped g.S.TokenSource.bytes _ t _ c.in_ok-token.ensures other c.fault.ensures
+    enum_stopped g.S.TokenSource.bytes _ t c.in_ok-token.ensures other
 
 pub returns-clause-reads : goal.returns-clause-reads
 returns-clause-reads g c =

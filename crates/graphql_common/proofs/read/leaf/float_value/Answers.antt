@@ -1,6 +1,5 @@
 use Rattle.std.proofs.Common.{refl, ◌∙◌}
 use Rattle.graphql_grammar.specs.Trees.{Leaf}
-use Rattle.graphql_core.specs.declared.common.cause.Cause.TheVariants.{MalformedFloat}
 use Rattle.graphql_core.specs.declared.tokenizer.token.Kind.TheVariants.{FloatValue}
 use Rattle.graphql_common.proofs.LeafValues.{literal_taken, literal_refused}
 use Rattle.graphql_common.proofs.LeafSteps.{not_shown, next_spelled, next_taken, next_refused}
@@ -14,7 +13,7 @@ returns-in_default-clause-reads g c =
     let t = c.in_ok-token.token in
     let n = c.in_ok-token.ensures in
     let spelled = next_spelled g.S.TokenSource.bytes FloatValue (g.S.TokenSource.items c.args.source.now) t n in
-    next_refused g.S.TokenSource.bytes FloatValue (g.S.TokenSource.items c.args.source.now) t n MalformedFloat (λ u us. refl)
+    next_refused g.S.TokenSource.bytes FloatValue (g.S.TokenSource.items c.args.source.now) t n
     (literal_refused _ (g.S.TokenSource.bytes t.text) (c.in_ok-text.ensures.ok ∙ c.as_str.ensures) spelled c.in_default.ensures.accepted)
 
 pub returns-clause-reads : goal.returns-clause-reads

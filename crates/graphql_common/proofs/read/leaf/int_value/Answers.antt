@@ -1,6 +1,5 @@
 use Rattle.std.proofs.Common.{refl, ◌∙◌}
 use Rattle.graphql_grammar.specs.Trees.{Leaf}
-use Rattle.graphql_core.specs.declared.common.cause.Cause.TheVariants.{IntOutOfRange}
 use Rattle.graphql_core.specs.declared.tokenizer.token.Kind.TheVariants.{IntValue}
 use Rattle.graphql_common.proofs.LeafValues.{parsed, not_parsed}
 use Rattle.graphql_common.proofs.LeafSteps.{not_shown, next_spelled, next_taken, next_refused}
@@ -14,7 +13,7 @@ returns-in_default-clause-reads g c =
     let t = c.in_ok-token.token in
     let n = c.in_ok-token.ensures in
     let spelled = next_spelled g.S.TokenSource.bytes IntValue (g.S.TokenSource.items c.args.source.now) t n in
-    next_refused g.S.TokenSource.bytes IntValue (g.S.TokenSource.items c.args.source.now) t n IntOutOfRange (λ u us. refl)
+    next_refused g.S.TokenSource.bytes IntValue (g.S.TokenSource.items c.args.source.now) t n
     (not_parsed c.as_str.result.now (g.S.TokenSource.bytes t.text) c.as_str.ensures spelled c.in_default.ensures.value.0)
 
 pub returns-clause-reads : goal.returns-clause-reads

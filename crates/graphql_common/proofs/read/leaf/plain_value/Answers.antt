@@ -9,10 +9,10 @@ use Rattle.graphql_common.proofs.read.leaf.plain_value.Goals as goal
 -- ---- no value
 
 pub returns-in_default-clause-reads : goal.returns-in_default-clause-reads
-returns-in_default-clause-reads g c = none_stopped _ _ c.in_default.ensures.next c.fault.ensures
+returns-in_default-clause-reads g c = none_stopped _ c.in_default.ensures.next
 
 pub returns-in-Punctuator-clause-reads : goal.returns-in-Punctuator-clause-reads
-returns-in-Punctuator-clause-reads g c = mark_stopped _ _ _ c.in-Some.ensures.next (ap kind_number c.in-Punctuator.is) c.fault-in-Punctuator.ensures
+returns-in-Punctuator-clause-reads g c = mark_stopped _ _ c.in-Some.ensures.next (ap kind_number c.in-Punctuator.is)
 
 -- ---- names
 

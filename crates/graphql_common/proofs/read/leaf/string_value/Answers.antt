@@ -1,6 +1,5 @@
 use Rattle.std.proofs.Common.{refl, ◌∙◌}
 use Rattle.graphql_grammar.specs.Trees.{Leaf}
-use Rattle.graphql_core.specs.declared.common.cause.Cause.TheVariants.{BadEscape}
 use Rattle.graphql_core.specs.declared.tokenizer.token.Kind.TheVariants.{StringValue}
 use Rattle.graphql_common.specs.Leaves.{without_ends}
 use Rattle.graphql_common.proofs.StringValues.{some_unquoted, none_unquoted, string_means}
@@ -31,5 +30,5 @@ returns-in-Err-BadEscape-clause-reads g c =
     let n = c.in_ok-token.ensures in
     let spelled = next_spelled g.S.TokenSource.bytes StringValue (g.S.TokenSource.items c.args.source.now) t n in
     let none = rw c.in-Err-BadEscape.field-0-is at c.in-Err-BadEscape.ensures.bad_escape in
-    next_refused g.S.TokenSource.bytes StringValue (g.S.TokenSource.items c.args.source.now) t n BadEscape (λ u us. refl)
+    next_refused g.S.TokenSource.bytes StringValue (g.S.TokenSource.items c.args.source.now) t n
     (none_unquoted _ (none (without_ends 1 (g.S.TokenSource.bytes t.text)) (c.as_str.ensures ∙ spelled) refl))

@@ -49,7 +49,7 @@ list-returns-in_err-punctuator-clause-reads g t c =
     gives_error core _ old new _ _ _ (Stops-before core _ _ _ _ _ (stops_one core _ old new _ c.in_err-punctuator.ensures)) c.from_residual.ensures.1
 
 pub list-more-init : goal.list-more-init
-list-more-init g t c = record { turns = ([], Turns-start core _ (one_of (tree_of c.args.sort)) _, sym (append-nil _)); last = refl; within = omega arith }
+list-more-init g t c = record { turns = ([], Turns-start core _ (one_of (tree_of c.args.sort)) _, sym (append-nil _)); kept = refl; within = omega arith }
 
 pub list-more-preserved : goal.list-more-preserved
 list-more-preserved g t c =
@@ -62,7 +62,7 @@ list-more-preserved g t c =
         Turns-more core _ (one_of f) _ _ _ items x turns (takes_seen core _ _ _ x (unseen_value c.args.sort _) takes) takes,
         turn_more (value_view g.S.Names.Names.bytes) f _ _ _ _ items x c.in_ok-push.ensures.items view views,
       );
-      last = c.in_ok-value_of_sort.ensures.last ∙ c.more.invariant.last;
+      kept = c.in_ok-value_of_sort.ensures.kept ∙ c.more.invariant.kept;
       within = omega (arith, c.more.invariant.within, c.in_ok-value_of_sort.ensures.shorter);
     }
 
@@ -98,7 +98,7 @@ object-returns-in_err-punctuator-clause-reads g t c =
     gives_error core _ old new _ _ _ (Stops-before core _ _ _ _ _ (stops_one core _ old new _ c.in_err-punctuator.ensures)) c.from_residual.ensures.1
 
 pub object-more-init : goal.object-more-init
-object-more-init g t c = record { turns = ([], Turns-start core _ (one_of (pair_of c.args.sort)) _, refl); last = refl; within = omega arith }
+object-more-init g t c = record { turns = ([], Turns-start core _ (one_of (pair_of c.args.sort)) _, refl); kept = refl; within = omega arith }
 
 pub object-more-preserved : goal.object-more-preserved
 object-more-preserved g t c =
@@ -113,7 +113,7 @@ object-more-preserved g t c =
         Turns-more core _ (one_of f) _ _ _ pairs x turns (begins_pair c.args.sort _ ∙ sym c.sees_name.ensures ∙ c.more-test.true) takes,
         inserted ∙ ap₂ (λ p ms. put p.0 p.1 ms) view views ∙ sym (put_more pairs (f x) _),
       );
-      last = c.in_ok-name.ensures.last ∙ c.more.invariant.last;
+      kept = c.in_ok-name.ensures.kept ∙ c.more.invariant.kept;
       within = omega (arith, c.more.invariant.within, c.in_ok-name.ensures.shorter);
     }
 

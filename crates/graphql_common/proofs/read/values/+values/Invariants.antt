@@ -6,6 +6,7 @@ use Rattle.graphql_common.specs.Meanings.{put_all}
 use Rattle.graphql_common.specs.Sorts.{symbol_of, pair_symbol_of, tree_of, pair_of}
 use Rattle.graphql_common.specs.Values.{ValueTree}
 use Rattle.graphql_common.specs.ValueViews.{value_view, members_view}
+use Rattle.graphql_core.specs.Source.{kept}
 use Rattle.graphql_common.proofs.Reading.{one_of}
 use Rattle.graphql_common.proofs.read.values.+values.Given as goal
 
@@ -26,7 +27,7 @@ abbrev pub invariant-list-more : goal.invariant-list-more
 invariant-list-more g l = record {
   turns : (items : List ValueTree) × Turns core (Sym (symbol_of l.sort)) (one_of (tree_of l.sort)) (g.S.TokenSource.items l.initial.source).tokens (g.S.TokenSource.items l.source).tokens items
       × (map (value_view g.S.Names.Names.bytes) l.items.items ≡ map (value_view g.S.Names.Names.bytes) l.initial.items.items ++ items);
-  last : (g.S.TokenSource.items l.source).last ≡ (g.S.TokenSource.items l.initial.source).last;
+  kept : kept (g.S.TokenSource.items l.source) ≡ kept (g.S.TokenSource.items l.initial.source);
   within : length (g.S.TokenSource.items l.source).tokens ≤ length (g.S.TokenSource.items l.initial.source).tokens;
 }
 
@@ -37,7 +38,7 @@ abbrev pub invariant-object-more : goal.invariant-object-more
 invariant-object-more g l = record {
   turns : (pairs : List (List ℕ × ValueTree)) × Turns core (Sym (pair_symbol_of l.sort)) (one_of (pair_of l.sort)) (g.S.TokenSource.items l.initial.source).tokens (g.S.TokenSource.items l.source).tokens pairs
       × (members_view g.S.Names.Names.bytes l.fields.entries ≡ put_all pairs (members_view g.S.Names.Names.bytes l.initial.fields.entries));
-  last : (g.S.TokenSource.items l.source).last ≡ (g.S.TokenSource.items l.initial.source).last;
+  kept : kept (g.S.TokenSource.items l.source) ≡ kept (g.S.TokenSource.items l.initial.source);
   within : length (g.S.TokenSource.items l.source).tokens ≤ length (g.S.TokenSource.items l.initial.source).tokens;
 }
 

@@ -2,7 +2,7 @@ use Rattle.std.proofs.Common.{◌≡◌, ◌≢◌, ◌∙◌, ℕ, ◌+◌, ◌
 use lib.Utf8.{encode}
 use Rattle.std.specs.Char.{IsScalar}
 use Rattle.std.specs.Str.Parse.{digits_value}
-use Rattle.graphql_core.specs.Strings.{HasValue, HasNoValue, StandsFor, NamesCharacter, BeginsNoName, empty, more, slash, backspace, unicode}
+use Rattle.graphql_core.specs.Strings.{HasValue, HasNoValue, StandsFor, BeginsNoName, empty, more, slash, backspace, unicode}
 use Rattle.graphql_core.specs.BlockStrings.{common_indent}
 use Rattle.graphql_core.proofs.Escapes.{digits_at, no_escape_named, no_escape_other, no_value}
 use Rattle.graphql_core.proofs.common.laws.worked_values.Goals as goal

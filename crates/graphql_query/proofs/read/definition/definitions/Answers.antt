@@ -14,7 +14,7 @@ returns-in_err-definition-clause-reads g c =
     gives_error reading _ (items c.args.source.now) (items c.definition.new.source) _ _ _ (Stops-before reading _ _ _ _ _ c.in_err-definition.ensures.reads) c.from_residual.ensures.1
 
 pub more-init : goal.more-init
-more-init g c = record { turns = ([], Turns-start reading _ (one_of read_definition) _, sym (append-nil _)); last = refl; within = omega arith }
+more-init g c = record { turns = ([], Turns-start reading _ (one_of read_definition) _, sym (append-nil _)); kept = refl; within = omega arith }
 
 pub more-preserved : goal.more-preserved
 more-preserved g c =
@@ -26,7 +26,7 @@ more-preserved g c =
         Turns-more reading _ (one_of read_definition) _ _ _ items x turns (begins_definition (g.S.TokenSource.items c.more.source) ∙ sym c.sees_definition.ensures ∙ c.more-test.true) takes,
         turn_more (definition_view g.S.Names.Names.bytes) read_definition _ _ _ _ items x c.in_ok-push-2.ensures.items view views,
       );
-      last = c.in_ok-definition-2.ensures.last ∙ c.more.invariant.last;
+      kept = c.in_ok-definition-2.ensures.kept ∙ c.more.invariant.kept;
       within = omega (arith, c.more.invariant.within, c.in_ok-definition-2.ensures.shorter);
     }
 

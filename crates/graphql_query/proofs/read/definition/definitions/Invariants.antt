@@ -1,6 +1,7 @@
 use Rattle.std.proofs.Common.{◌≡◌, ◌≤◌, ◌++◌, List, length}
 use Rattle.graphql_grammar.specs.Trees.{Sym}
 use Rattle.graphql_grammar.specs.Words.{Turns}
+use Rattle.graphql_core.specs.Source.{kept}
 use Rattle.graphql_common.proofs.Reading.{one_of}
 use Rattle.graphql_query.specs.Tree.{DefinitionTree, definitions_view}
 use Rattle.graphql_query.specs.Grammar.{reading, definition_symbol}
@@ -11,7 +12,7 @@ abbrev pub invariant-more : goal.invariant-more
 invariant-more g l = record {
   turns : (items : List DefinitionTree) × Turns reading (Sym definition_symbol) (one_of read_definition) (g.S.TokenSource.items l.initial.source).tokens (g.S.TokenSource.items l.source).tokens items
       × (definitions_view g.S.Names.Names.bytes l.definitions.items ≡ definitions_view g.S.Names.Names.bytes l.initial.definitions.items ++ items);
-  last : (g.S.TokenSource.items l.source).last ≡ (g.S.TokenSource.items l.initial.source).last;
+  kept : kept (g.S.TokenSource.items l.source) ≡ kept (g.S.TokenSource.items l.initial.source);
   within : length (g.S.TokenSource.items l.source).tokens ≤ length (g.S.TokenSource.items l.initial.source).tokens;
 }
 

@@ -63,7 +63,7 @@ returns-clause-reads g c =
       same_fragment at spelled applies directs selects,
     )
 
-pub returns-clause-last : goal.returns-clause-last
-returns-clause-last g c =
-    c.in_ok-selection_set.ensures.last ∙ c.in_ok-directives.ensures.last ∙ c.in_ok-type_condition.ensures.last
-    ∙ c.in_ok-name.ensures.1.last ∙ c.in_ok-position.ensures.1.last
+pub returns-clause-kept : goal.returns-clause-kept
+returns-clause-kept g c =
+    c.in_ok-selection_set.ensures.kept ∙ c.in_ok-directives.ensures.kept ∙ c.in_ok-type_condition.ensures.kept
+    ∙ c.in_ok-name.ensures.1.kept ∙ c.in_ok-position.ensures.1.kept

@@ -1,19 +1,16 @@
 use Rattle.std.proofs.Common.{◌≡◌, refl, sym, ap₂, ◌∙◌}
 use Rattle.graphql_grammar.specs.Trees.{One, Node}
 use Rattle.graphql_grammar.specs.Factored.{written}
-use Rattle.graphql_grammar.proofs.Turning.{Stops-node}
+use Rattle.graphql_grammar.specs.Reading.{fails_one, fails_node}
 use Rattle.graphql_core.specs.Source.{place_of}
-use Rattle.graphql_common.proofs.Reading.{stops_one}
 use Rattle.graphql_common.proofs.Sides.{gives_side, side_node}
 use Rattle.graphql_query.specs.Grammar.{reading, changes, spread_class, spread_name_symbol}
 use Rattle.graphql_query.specs.Meanings.{spread_name_of}
-use Rattle.graphql_query.proofs.Selecting.{gives_one, refused, narrowed}
+use Rattle.graphql_query.proofs.Selecting.{gives_one, narrowed}
 use Rattle.graphql_query.proofs.read.fragment.spread_name.Goals as goal
 
 pub returns-then-not-sees_spread_name-clause-reads : goal.returns-then-not-sees_spread_name-clause-reads
-returns-then-not-sees_spread_name-clause-reads g c =
-    let old = g.S.TokenSource.items c.args.source.now in
-    Stops-node reading spread_name_symbol _ _ _ (stops_one reading spread_class old old _ (refused spread_class old _ (sym c.sees_spread_name.ensures ∙ c.if-not-sees_spread_name.true) c.fault.ensures))
+returns-then-not-sees_spread_name-clause-reads g c = fails_node (fails_one (sym c.sees_spread_name.ensures ∙ c.if-not-sees_spread_name.true))
 
 pub returns-clause-reads : goal.returns-clause-reads
 returns-clause-reads g c =

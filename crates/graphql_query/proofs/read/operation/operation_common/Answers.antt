@@ -50,8 +50,8 @@ returns-clause-reads g c =
       same_common called varies directs selects,
     )
 
-pub returns-clause-last : goal.returns-clause-last
-returns-clause-last g c = c.in_ok-selection_set.ensures.last ∙ c.in_ok-directives.ensures.last ∙ c.in_ok-variable_definitions.ensures.last ∙ c.in_ok-name.ensures.last
+pub returns-clause-kept : goal.returns-clause-kept
+returns-clause-kept g c = c.in_ok-selection_set.ensures.kept ∙ c.in_ok-directives.ensures.kept ∙ c.in_ok-variable_definitions.ensures.kept ∙ c.in_ok-name.ensures.kept
 
 pub returns-clause-shorter : goal.returns-clause-shorter
 returns-clause-shorter g c = omega (arith, c.in_ok-selection_set.ensures.shorter, c.in_ok-directives.ensures.within, c.in_ok-variable_definitions.ensures.within, c.in_ok-name.ensures.within)

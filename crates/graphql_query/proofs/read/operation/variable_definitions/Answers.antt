@@ -23,7 +23,7 @@ returns-in_err-variable_definition-clause-reads g c =
     error_in old mid new _ _ _ (before opened) (Stops-before reading _ _ _ _ _ c.in_err-variable_definition.ensures.reads) c.from_residual-in_err-variable_definition.ensures.1
 
 pub more-init : goal.more-init
-more-init g c = record { turns = ([], Turns-start reading _ (one_of read_variable) _, sym (append-nil _)); last = refl; within = omega arith }
+more-init g c = record { turns = ([], Turns-start reading _ (one_of read_variable) _, sym (append-nil _)); kept = refl; within = omega arith }
 
 pub more-preserved : goal.more-preserved
 more-preserved g c =
@@ -35,7 +35,7 @@ more-preserved g c =
         Turns-more reading _ (one_of read_variable) _ _ _ items x turns (begins_variable _ ∙ sym c.sees_punctuator.ensures ∙ c.more-test.true) takes,
         turn_more (variable_view g.S.Names.Names.bytes) read_variable _ _ _ _ items x c.in_ok-push-2.ensures.items view views,
       );
-      last = c.in_ok-variable_definition-2.ensures.last ∙ c.more.invariant.last;
+      kept = c.in_ok-variable_definition-2.ensures.kept ∙ c.more.invariant.kept;
       within = omega (arith, c.more.invariant.within, c.in_ok-variable_definition-2.ensures.shorter);
     }
 

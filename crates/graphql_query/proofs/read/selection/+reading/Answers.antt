@@ -75,9 +75,9 @@ field-returns-clause-reads g t c =
       field_made g.S.Names.Names.bytes _ _ _ _ _ _ ∙ field_means n a x y s renames _ _ _ _ _ _ at spelled names arguments directives selected,
     )
 
-pub field-returns-clause-last : goal.field-returns-clause-last
-field-returns-clause-last g t c =
-    c.in_ok-selection_set.ensures.last ∙ c.in_ok-directives.ensures.last ∙ c.in_ok-arguments.ensures.last ∙ c.in_ok-alias.ensures.last ∙ c.in_ok-position.ensures.1.last
+pub field-returns-clause-kept : goal.field-returns-clause-kept
+field-returns-clause-kept g t c =
+    c.in_ok-selection_set.ensures.kept ∙ c.in_ok-directives.ensures.kept ∙ c.in_ok-arguments.ensures.kept ∙ c.in_ok-alias.ensures.kept ∙ c.in_ok-position.ensures.1.kept
 
 pub field-returns-clause-shorter : goal.field-returns-clause-shorter
 field-returns-clause-shorter g t c =
@@ -203,7 +203,7 @@ selection_set-returns-in_err-selection-clause-reads g t c =
     c.from_residual-in_err-selection.ensures.1
 
 pub selection_set-more-init : goal.selection_set-more-init
-selection_set-more-init g t c = record { turns = ([], Turns-start reading _ (one_of selection_at) _, sym (append-nil _)); last = refl; within = omega arith }
+selection_set-more-init g t c = record { turns = ([], Turns-start reading _ (one_of selection_at) _, sym (append-nil _)); kept = refl; within = omega arith }
 
 pub selection_set-more-preserved : goal.selection_set-more-preserved
 selection_set-more-preserved g t c =
@@ -216,7 +216,7 @@ selection_set-more-preserved g t c =
         Turns-more reading _ (one_of selection_at) _ _ _ items x turns seen takes,
         turn_more (selection_view g.S.Names.Names.bytes) selection_at _ _ _ _ items x c.in_ok-push-2.ensures.items view views,
       );
-      last = c.in_ok-selection-2.ensures.last ∙ c.more.invariant.last;
+      kept = c.in_ok-selection-2.ensures.kept ∙ c.more.invariant.kept;
       within = omega (arith, c.more.invariant.within, c.in_ok-selection-2.ensures.shorter);
     }
 
