@@ -1,11 +1,11 @@
 -- The brackets of values, types, arguments and directives are those that their layouts open at once.
-use Rattle.std.proofs.Common.{◌≡◌, ℕ, zero, suc, ◌+◌, max, Bool, true, false, List, [], ◌∷◌, ◌++◌, codes, refl, arith}
-use Rattle.graphql_core.specs.declared.tokenizer.piece.Nesting.TheVariants.{Level, Opens, Closes}
+use Rattle.std.proofs.Common.{◌≡◌, ℕ, ◌+◌, max, Bool, true, false, List, [], ◌∷◌, codes, refl, arith}
+use Rattle.graphql_core.specs.declared.tokenizer.piece.Nesting.TheVariants.{Opens, Closes}
 use Rattle.graphql_core.specs.declared.tokenizer.token.Kind.TheVariants.{Punctuator}
 use Rattle.graphql_core.specs.Style.{Layout}
-use Rattle.graphql_core.specs.Parts.{Part, mark}
+use Rattle.graphql_core.specs.Parts.{Part}
 use Rattle.graphql_core.specs.Depths.{bracket_of}
-use Rattle.graphql_core.proofs.Depths.{Rises, Sinks, rises_as, none_rise, gap_rises, level_rises, both_rise, gap_sinks, closer_sinks, both_sink, opener_rises}
+use Rattle.graphql_core.proofs.Depths.{Rises, rises_as, none_rise, gap_rises, level_rises, both_rise, closer_sinks, both_sink, opener_rises}
 use Rattle.graphql_core.proofs.Depths.{either_rises}
 use Rattle.graphql_common.specs.Values.{ValueTree, variable, int, float, string, boolean, null, enum, list, object, ValueItems, no_items, item, ValueMembers}
 use Rattle.graphql_common.specs.Values.{no_members, member, TypeTree, named, list_of, non_null, DirectiveTree}

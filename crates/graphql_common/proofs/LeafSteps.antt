@@ -1,7 +1,7 @@
 -- The next token as a leaf that has a value, or has none.
-use Rattle.std.proofs.Common.{◌≡◌, ℕ, true, false, List, ◌∷◌, Result, Ok, Err, drop, refl, sym, ap, subst}
+use Rattle.std.proofs.Common.{◌≡◌, ℕ, true, false, List, Result, Ok, Err, refl, sym, ap, subst}
 use Rattle.std.proofs.lemmas.Bool.{and_from, eq-eqb}
-use Rattle.graphql_grammar.specs.Tokens.{Token, matches}
+use Rattle.graphql_grammar.specs.Tokens.{matches}
 use Rattle.graphql_grammar.specs.Trees.{One, Shape, Leaf}
 use Rattle.graphql_grammar.specs.Reading.{Takes, Improper, Fails, fails_value}
 use Rattle.std.specs.Result.{IsErrAnd}

@@ -1,5 +1,5 @@
 -- The steps of readers, for every grammar: single tokens, choices, and loops.
-use Rattle.std.proofs.Common.{◌≡◌, true, false, List, [], ◌∷◌, ◌++◌, map, Result, Ok, Err, IsErrAnd, Option, Some, None, refl, sym, ap, ap₂, subst, ◌∙◌, append_assoc, inl, inr}
+use Rattle.std.proofs.Common.{◌≡◌, true, false, List, [], ◌∷◌, ◌++◌, map, Result, Ok, Err, IsErrAnd, Option, Some, None, refl, sym, ap, subst, ◌∙◌, append_assoc, append-nil, inl, inr}
 use Rattle.std.proofs.lemmas.Bool.{and_from, cases_Bool}
 use Rattle.graphql_grammar.specs.Tokens.{Token, Class, matches}
 use Rattle.graphql_grammar.specs.Trees.{Expr, Empty, One, Then, Either, Many, Shape, Nothing, Leaf, Both, First, Second, More, Row, Grammar, optional, some_of}
@@ -12,15 +12,19 @@ use Rattle.graphql_grammar.proofs.Same.{take-or_fail, same-fail}
 use Rattle.graphql_grammar.proofs.Turning.{exits, Stops-first, Stops-after, Turns-stop, picks-first, picks-neither}
 use Rattle.graphql_core.specs.declared.helpers.stop.Stop.{Stop}
 use Rattle.graphql_core.specs.declared.helpers.stop.Stop.TheVariants.{Memory, Item, Integer, Float, Escape}
-use Rattle.graphql_core.specs.Source.{Items, kept}
+use Rattle.graphql_core.specs.Source.{Items, kept, fault_by, place_next}
 use Rattle.graphql_core.specs.Matching.{TakesToken, TakesOne}
-use Rattle.graphql_common.specs.Gives.{Gives, reason_of}
+use Rattle.graphql_common.specs.Gives.{Gives, Adds, reason_of}
 
 -- ---- single tokens
 
 -- a token that a match takes is a leaf, where every token of its class has a value
 pub takes_one : (g : Grammar) (c : Class) (old new : Items) (t : Token) → g.good c t ≡ true → TakesToken c old new t → Takes g (One c) old.tokens (Leaf t) new.tokens
 takes_one g c old new t good h = subst (λ (ts : List Token). Takes g (One c) ts (Leaf t) new.tokens) (sym h.tokens) (takes_leaf (and_from (matches c t) (g.good c t) h.of_class good))
+
+-- it stands where the next item began
+pub placed : (c : Class) (old new : Items) (t : Token) → TakesToken c old new t → place_next old ≡ t.place
+placed c old new t h = ap (λ ts. (fault_by ts old.last).place) h.tokens
 
 -- what a match leaves that takes nothing
 abbrev pub TakesNone : Class → Items → Items → Stop → Type 0
@@ -135,22 +139,20 @@ pub map_push : {A B : Type 0} (f : A → B) (xs : List A) (x : A) → map f (xs 
 map_push f [] x = refl
 map_push f (y ∷ ys) x = ap (λ l. f y ∷ l) (map_push f ys x)
 
--- one more turn of a loop that pushes: f is what a value is seen as, and h what its shape means
-module _ {V A : Type 0} (f : V → A) (h : Shape → A) where
-  pub turn_more : (start found next : List V) (v : V) (items : List A) (x : Shape)
-      → next ≡ found ++ v ∷ [] → f v ≡ h x → map f found ≡ map f start ++ items → map f next ≡ map f start ++ (items ++ h x ∷ [])
-  turn_more start found next v items x push one so_far =
-      ap (map f) push ∙ map_push f found v ∙ ap₂ (λ (k l : List A). k ++ l) so_far (ap (λ (t : A). t ∷ []) one) ∙ append_assoc (map f start) items (h x ∷ [])
+-- what readers append: f is what an element is seen as
+module _ {V A : Type 0} (f : V → A) where
+  pub adds_none : (start : List V) → Adds f start start []
+  adds_none start = sym (append-nil (map f start))
 
-  -- all turns of a loop that began with nothing
-  pub turns_only : (start found : List V) (items : List A) → start ≡ [] → map f found ≡ map f start ++ items → map f found ≡ items
-  turns_only start found items none so_far = so_far ∙ ap (λ (l : List V). map f l ++ items) none
+  pub adds_one : (found next : List V) (v : V) (x : A) → next ≡ found ++ v ∷ [] → f v ≡ x → Adds f found next (x ∷ [])
+  adds_one found next v x push one = ap (map f) push ∙ map_push f found v ∙ ap (λ (t : A). map f found ++ t ∷ []) one
 
-  -- the first, and then those of all turns
-  pub turns_all : (empty start found : List V) (v : V) (items : List A) (x : Shape)
-      → empty ≡ [] → start ≡ empty ++ v ∷ [] → f v ≡ h x → map f found ≡ map f start ++ items → map f found ≡ h x ∷ items
-  turns_all empty start found v items x none push one so_far =
-      so_far ∙ ap (λ (l : List V). map f l ++ items) (push ∙ ap (λ (l : List V). l ++ v ∷ []) none) ∙ ap (λ (t : A). t ∷ items) one
+  pub adds_more : (start found next : List V) (xs ys : List A) → Adds f start found xs → Adds f found next ys → Adds f start next (xs ++ ys)
+  adds_more start found next xs ys so_far more = more ∙ ap (λ (l : List A). l ++ ys) so_far ∙ append_assoc (map f start) xs ys
+
+  -- to a list that was empty
+  pub fills : (start found : List V) (xs : List A) → start ≡ [] → Adds f start found xs → map f found ≡ xs
+  fills start found xs none so_far = so_far ∙ ap (λ (l : List V). map f l ++ xs) none
 
 -- an error behind the last turn of a loop over some_of
 pub stops_some : {A : Type 0} (g : Grammar) (a b : Expr) (f : Shape → List A) (ts start now us : List Token) (x : Shape) (items : List A) (o : Option Reason)

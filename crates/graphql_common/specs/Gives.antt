@@ -1,6 +1,5 @@
 -- What a reader answered, and where it left its source. The same words serve every grammar.
-use Rattle.std.specs.Prelude.{◌≡◌, ◌<◌, List, length, Result, Ok, Err, OnOk, Option, Some, None}
-use Rattle.graphql_grammar.specs.Tokens.{Token}
+use Rattle.std.specs.Prelude.{◌≡◌, ◌<◌, List, ◌++◌, map, length, Result, Ok, Err, OnOk, Option, Some, None}
 use Rattle.graphql_grammar.specs.Trees.{Expr, Shape, Grammar}
 use Rattle.graphql_grammar.specs.Reading.{Reason, Unexpected, Improper}
 use Rattle.graphql_grammar.specs.Words.{TakesSome, Stops}
@@ -22,6 +21,10 @@ reason_of Escape = Some (Improper (any StringValue))
 abbrev pub Gives : {A : Type 0} → Grammar → Expr → Items → Items → (A → Shape → Type 0) → Result A Stop → Type 0
 Gives g e old new P (Ok v) = TakesSome g e old.tokens new.tokens (P v)
 Gives g e old new P (Err s) = Stops g e old.tokens new.tokens (reason_of s)
+
+-- behind the old elements of a list stand these, seen through f
+abbrev pub Adds : {A B : Type 0} → (A → B) → List A → List A → List B → Type 0
+Adds f old new xs = map f new ≡ map f old ++ xs
 
 -- an answer leaves fewer tokens
 abbrev pub Shortens : {A : Type 0} → Items → Items → Result A Stop → Type 0

@@ -47,9 +47,12 @@ module _ {N V : Type 0} (bytes : V → List ℕ) where
   abbrev pub type_view : declared.Type N V → TypeTree
   type_view = declared.fold-Type N V TypeTree type_step
 
-  -- the arguments of a directive, each a name and a value
+  -- an argument: a name and a value
+  abbrev pub argument_view : V × Value N V → List ℕ × ValueTree
+  argument_view a = (bytes a.0, value_view a.1)
+
   abbrev pub arguments_view : List (V × Value N V) → List (List ℕ × ValueTree)
-  arguments_view = map (λ a. (bytes a.0, value_view a.1))
+  arguments_view = map argument_view
 
   abbrev pub directive_view : Directive N V → DirectiveTree
   directive_view d = record { position = place_of d.position; name = bytes d.name; arguments = arguments_view d.arguments.items }

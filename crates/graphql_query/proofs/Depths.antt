@@ -1,20 +1,20 @@
 -- The brackets of a document are those that its layout opens at once.
-use Rattle.std.proofs.Common.{ℕ, ◌+◌, max, List, [], ◌∷◌, ◌++◌, codes, Option, Some, None, refl, arith}
+use Rattle.std.proofs.Common.{ℕ, ◌+◌, max, List, [], ◌∷◌, ◌++◌, Option, Some, None, refl, arith}
 use Rattle.std.specs.Option.{option_map_or}
 use Rattle.graphql_core.specs.Style.{Layout}
 use Rattle.graphql_core.specs.Parts.{Part, ignored}
 use Rattle.graphql_core.proofs.Depths.{Rises, rises_as, none_rise, flat_rise, gap_rises, level_rises, both_rise, gap_sinks, closer_sinks, both_sink}
 use Rattle.graphql_core.proofs.Depths.{opener_rises}
-use Rattle.graphql_common.specs.Values.{ValueTree, DirectiveTree}
-use Rattle.graphql_common.specs.Printable.{most, value_brackets, type_brackets, directives_brackets}
+use Rattle.graphql_common.specs.Values.{ValueTree}
+use Rattle.graphql_common.specs.Printable.{most, value_brackets}
 use Rattle.graphql_common.proofs.Depths.{value_rises, type_rises, arguments_rise, directives_rise}
-use Rattle.graphql_query.specs.Tree.{SelectionTree, field, spread, inline, SetTree, set, SelectionTrees, none, more, VariableTree, FragmentTree, OperationTree}
+use Rattle.graphql_query.specs.Tree.{SelectionTree, field, spread, inline, SetTree, set, SelectionTrees, none, more, VariableTree}
 use Rattle.graphql_query.specs.Tree.{DefinitionTree, short, operation, fragment, DocumentTree}
 use Rattle.graphql_query.specs.Printable.{selection_brackets, selected_brackets, set_brackets, selections_brackets, variable_brackets, variables_brackets}
 use Rattle.graphql_query.specs.Printable.{definition_brackets}
 use Rattle.graphql_query.specs.Layout.{in_braces, alias_layout, condition_layout, on_layout, selection_layout, selected_layout, set_layout, selections_layout}
-use Rattle.graphql_query.specs.Layout.{operation_name_layout, default_layout, variable_layout, later_variables, variables_layout, operation_layout}
-use Rattle.graphql_query.specs.Layout.{fragment_layout, definition_layout, later_definitions, document_layout}
+use Rattle.graphql_query.specs.Layout.{operation_name_layout, default_layout, variable_layout, later_variables, variables_layout}
+use Rattle.graphql_query.specs.Layout.{definition_layout, later_definitions, document_layout}
 
 -- ---- selections
 

@@ -12,12 +12,12 @@ use Rattle.graphql_core.specs.declared.helpers.stop.Stop.{Stop}
 use Rattle.graphql_core.specs.declared.helpers.stop.Stop.TheVariants.{Memory, Item, Integer, Float, Escape}
 use Rattle.graphql_core.specs.declared.tokenizer.token.Kind.TheVariants.{Name}
 use Rattle.graphql_core.specs.Source.{Items}
-use Rattle.graphql_core.specs.Matching.{TakesOne, sees_class}
+use Rattle.graphql_core.specs.Matching.{TakesOne, TakesToken, sees_class}
 use Rattle.graphql_common.specs.Gives.{Gives}
 use Rattle.graphql_common.specs.Grammar.{tables as core_tables, any, keyword, mark, name, directive_symbol}
 use Rattle.graphql_common.specs.Meanings.{optional_arguments_of, directives_of}
 use Rattle.graphql_common.specs.Values.{DirectiveTree}
-use Rattle.graphql_common.proofs.Reading.{TakesNone, FailsUnseen, unseen_one, unseen_then, takes_one, stops_one, takes_none, one_of, many_means}
+use Rattle.graphql_common.proofs.Reading.{FailsUnseen, unseen_one, unseen_then, takes_one, stops_one, takes_none, one_of, many_means}
 use Rattle.graphql_common.proofs.Sides.{IsSide, through, side_node, side_first, side_second, side_left, side_right, unseen_symbol}
 use Rattle.graphql_query.specs.Grammar.{reading, changes, tables, spread_class, condition_symbol, set_symbol, field_symbol, selection_symbol, spread_rest, inline_rest}
 use Rattle.graphql_query.specs.Meanings.{field_of, selected_of, selection_of, selections_of}
@@ -27,8 +27,8 @@ use Rattle.graphql_query.specs.Tree.{Arguments, SelectionTree, SetTree, field, i
 -- ---- single tokens
 
 pub gives_one : {A : Type 0} (g : Grammar) (c : Class) (old new : Items) (P : A → Token → Type 0) (Q : A → Shape → Type 0) (r : Result A Stop) → ((t : Token) → g.good c t ≡ true)
-    → ((v : A) (t : Token) → P v t → Q v (Leaf t)) → TakesOne c old new P r → Gives g (One c) old new Q r
-gives_one g c old new P Q (Ok v) good means (t, h, p) = (Leaf t, takes_one g c old new t (good t) h, means v t p)
+    → ((v : A) (t : Token) → TakesToken c old new t → P v t → Q v (Leaf t)) → TakesOne c old new P r → Gives g (One c) old new Q r
+gives_one g c old new P Q (Ok v) good means (t, h, p) = (Leaf t, takes_one g c old new t (good t) h, means v t h p)
 gives_one g c old new P Q (Err d) good means h = stops_one g c old new d h
 
 -- ---- names

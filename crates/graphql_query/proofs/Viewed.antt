@@ -1,5 +1,5 @@
 -- What is seen of selections as they are made.
-use Rattle.std.proofs.Common.{◌≡◌, ℕ, List, map, option_map, Option, Vec, Global, rules}
+use Rattle.std.proofs.Common.{◌≡◌, ℕ, List, [], map, option_map, Option, Vec, Global, rules, ap, ◌∙◌}
 use Rattle.graphql_core.specs.declared.position.Pos.{Pos}
 use Rattle.graphql_core.specs.Source.{place_of}
 use Rattle.graphql_common.specs.declared.tree.Value.{Value}
@@ -14,7 +14,9 @@ use Rattle.graphql_query.specs.declared.tree.Selection.{Selection, the_lemmas}
 use Rattle.graphql_query.specs.declared.tree.Selection.TheViews.{roll-Field, roll-InlineFragment, roll-SelectionSet}
 use Rattle.graphql_query.specs.declared.tree.Selection.TheViews as made
 use Rattle.graphql_query.specs.declared.tree.Selection.TheBlock as block
-use Rattle.graphql_query.specs.Tree.{field, inline, set, trees_of, condition_view, field_view, spread_view, inline_view, selection_view, set_view}
+use Rattle.graphql_common.proofs.Reading.{fills}
+use Rattle.graphql_query.specs.Reads.{AddsSet}
+use Rattle.graphql_query.specs.Tree.{field, inline, set, SetTree, trees_of, condition_view, field_view, spread_view, inline_view, selection_view, set_view}
 
 module _ {N T : Type 0} (b : T → List ℕ) where
   pub field_made : (p : Pos) (a : Option T) (n : T) (xs : Vec (T × Value N T) Global) (ds : Vec (Directive N T) Global) (s : SelectionSet N T)
@@ -39,3 +41,9 @@ module _ {N T : Type 0} (b : T → List ℕ) where
   pub set_made : (p q : Pos) (ss : Vec (Selection N T) Global)
       → set_view b (roll-SelectionSet N T (record { span = (p, q); items = ss })) ≡ set (place_of p) (place_of q) (trees_of (map (selection_view b) ss.items))
   set_made p q ss = search (rules, the_lemmas)
+
+  -- a set of selections that were read into an empty list
+  pub set_filled : (span : Pos × Pos) (start : List (Selection N T)) (ss : Vec (Selection N T) Global) (tree : SetTree) → start ≡ []
+      → AddsSet b start ss.items span tree → set_view b (roll-SelectionSet N T (record { span = span; items = ss })) ≡ tree
+  set_filled span start ss tree none (xs, added, is) =
+      set_made span.0 span.1 ss ∙ ap (λ l. set (place_of span.0) (place_of span.1) (trees_of l)) (fills (selection_view b) start ss.items xs none added) ∙ is

@@ -9,7 +9,6 @@ use Rattle.graphql_grammar.specs.Reading.{Takes, takes_node, Reason, Unexpected,
 use Rattle.graphql_grammar.specs.Words.{Stops}
 use Rattle.graphql_grammar.specs.Texts as texts
 use Rattle.graphql_grammar.specs.Texts.{Answers}
-use Rattle.graphql_grammar.specs.Faults.{IsLeast, index_of}
 use Rattle.graphql_core.specs.declared.common.fault.Fault.{Fault}
 use Rattle.graphql_core.specs.declared.common.fault.Fault.TheVariants.{OutOfMemory, At}
 use Rattle.graphql_core.specs.declared.helpers.stop.Stop.{Stop}
@@ -23,7 +22,7 @@ use Rattle.graphql_core.specs.Cut.{items}
 use Rattle.graphql_core.proofs.Cutting.{has_items}
 use Rattle.graphql_common.specs.Gives.{reason_of}
 use Rattle.graphql_query.specs.Tree.{DocumentTree}
-use Rattle.graphql_query.specs.Grammar.{query, reading, changes, document_symbol, document_rule}
+use Rattle.graphql_query.specs.Grammar.{reading, changes, document_symbol, document_rule}
 use Rattle.graphql_query.specs.Meanings.{document_of}
 use Rattle.graphql_query.specs.Faults.{ending_of, text_of, IsLeastFault, IsLeastOf}
 use Rattle.graphql_query.specs.Document.{IsDocument, IsDocumentOf, IsRefusalOf, AnswersUnlessMemory, ran_out, faulty, HasOneShape, max_length}

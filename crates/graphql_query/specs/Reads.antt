@@ -1,21 +1,28 @@
 -- What readers of queries answer.
-use Rattle.std.specs.Prelude.{ℕ, Bool, ◌||◌, List, [], Option, Some, None, Result, codes}
+use Rattle.std.specs.Prelude.{◌≡◌, ℕ, Bool, ◌||◌, List, [], Option, Some, None, Result, codes}
 use Rattle.graphql_grammar.specs.Tokens.{nowhere}
 use Rattle.graphql_grammar.specs.Trees.{Expr, Shape, Both, First, Second}
 use Rattle.graphql_grammar.specs.Factored.{written}
 use Rattle.graphql_core.specs.declared.helpers.stop.Stop.{Stop}
-use Rattle.graphql_core.specs.Source.{Items}
+use Rattle.graphql_core.specs.declared.position.Pos.{Pos}
+use Rattle.graphql_core.specs.Source.{Items, place_of}
 use Rattle.graphql_core.specs.Matching.{sees_class}
-use Rattle.graphql_common.specs.Gives.{Gives}
+use Rattle.graphql_common.specs.Gives.{Gives, Adds}
 use Rattle.graphql_common.specs.Grammar.{mark, keyword}
 use Rattle.graphql_common.specs.Meanings.{spelling_at}
-use Rattle.graphql_query.specs.Tree.{SelectionTree, spread}
+use Rattle.graphql_query.specs.declared.tree.Selection.{Selection}
+use Rattle.graphql_query.specs.Tree.{SelectionTree, SetTree, spread, set, trees_of, selection_view}
 use Rattle.graphql_query.specs.Grammar.{reading, changes}
 use Rattle.graphql_query.specs.Meanings.{spread_rest_of, inline_rest_of}
 
 -- it reads by the second rules, and its answer is what the written shape means
 abbrev pub Reads : {A : Type 0} → Expr → Items → Items → (A → Shape → Type 0) → Result A Stop → Type 0
 Reads e old new P r = Gives reading e old new (λ v x. P v (written changes x)) r
+
+-- selections were appended, and with this span they are the set
+abbrev pub AddsSet : {N T : Type 0} → (T → List ℕ) → List (Selection N T) → List (Selection N T) → Pos × Pos → SetTree → Type 0
+AddsSet bytes old new span tree =
+    (ss : List SelectionTree) × Adds (selection_view bytes) old new ss × (set (place_of span.0) (place_of span.1) (trees_of ss) ≡ tree)
 
 -- what stands behind a first name as trees of the second rule have it: the alias where there is one, and the name
 abbrev pub renamed : List ℕ → Shape → Option (List ℕ) × List ℕ

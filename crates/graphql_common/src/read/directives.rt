@@ -1,11 +1,11 @@
 //! Arguments, directives and default values.
-ghost use Rattle.std.specs.Prelude.{◌≡◌, ◌≤◌, OnOk, length};
+ghost use Rattle.std.specs.Prelude.{◌≡◌, ◌≤◌, OnOk, [], ◌∷◌, length};
 ghost use Rattle.graphql_grammar.specs.Trees.{Sym, optional};
 ghost use Rattle.graphql_common.specs.Grammar.{core, arguments_symbol, directive_symbol, directives_symbol, default_symbol};
 ghost use Rattle.graphql_common.specs.Meanings.{arguments_of, optional_arguments_of, directive_of, directives_of, default_of};
-ghost use Rattle.graphql_common.specs.ValueViews.{value_view, arguments_view, directive_view, directives_view};
+ghost use Rattle.graphql_common.specs.ValueViews.{value_view, argument_view, directive_view};
 ghost use Rattle.graphql_core.specs.Source.{kept};
-ghost use Rattle.graphql_common.specs.Gives.{Gives, Shortens};
+ghost use Rattle.graphql_common.specs.Gives.{Gives, Adds, Shortens};
 
 use crate::read::values::{argument, constant};
 use crate::tree::{Directive, Value};
@@ -18,20 +18,20 @@ use std::alloc::Global;
 pub fn arguments<S: TokenSource>(
     alloc: Global,
     source: &mut S,
-) -> Result<Vec<(<S::Names as Names>::Value, Value<S::Names>)>, Stop>
+    items: &mut Vec<(<S::Names as Names>::Value, Value<S::Names>)>,
+) -> Result<(), Stop>
     ensures reads { Gives core (Sym arguments_symbol) (S.items source.old) (S.items source.new)
-        (λ v x. arguments_view S.Names.bytes v.items ≡ arguments_of x) result }
+        (λ v x. Adds (argument_view S.Names.bytes) items.old.items items.new.items (arguments_of x)) result }
     ensures kept { kept (S.items source.new) ≡ kept (S.items source.old) }
     ensures shorter { Shortens (S.items source.old) (S.items source.new) result }
 {
     punctuator(source, "(")?;
-    let mut items = Vec::new(alloc);
-    items.push(argument(alloc, source)?)?;
+    argument(alloc, source, items)?;
     'more: while sees_name(source) {
-        items.push(argument(alloc, source)?)?;
+        argument(alloc, source, items)?;
     }
     punctuator(source, ")")?;
-    Ok(items)
+    Ok(())
 }
 
 /// `Arguments?`: none where they are missing.
@@ -39,34 +39,41 @@ pub fn arguments<S: TokenSource>(
 pub fn optional_arguments<S: TokenSource>(
     alloc: Global,
     source: &mut S,
-) -> Result<Vec<(<S::Names as Names>::Value, Value<S::Names>)>, Stop>
+    items: &mut Vec<(<S::Names as Names>::Value, Value<S::Names>)>,
+) -> Result<(), Stop>
     ensures reads { Gives core (optional (Sym arguments_symbol)) (S.items source.old) (S.items source.new)
-        (λ v x. arguments_view S.Names.bytes v.items ≡ optional_arguments_of x) result }
+        (λ v x. Adds (argument_view S.Names.bytes) items.old.items items.new.items (optional_arguments_of x)) result }
     ensures kept { kept (S.items source.new) ≡ kept (S.items source.old) }
     ensures within { OnOk result (length (S.items source.new).tokens ≤ length (S.items source.old).tokens) }
 {
     if sees_punctuator(source, "(") {
-        return arguments(alloc, source);
+        return arguments(alloc, source, items);
     }
-    Ok(Vec::new(alloc))
+    Ok(())
 }
 
-/// `Directive = "@" Name Arguments?`
+/// `Directive = "@" Name Arguments?`, behind the directives before it.
 #[tactic(auto, using(crate::proofs::Reading::reading))]
-pub fn directive<S: TokenSource>(alloc: Global, source: &mut S) -> Result<Directive<S::Names>, Stop>
+pub fn directive<S: TokenSource>(
+    alloc: Global,
+    source: &mut S,
+    items: &mut Vec<Directive<S::Names>>,
+) -> Result<(), Stop>
     ensures reads { Gives core (Sym directive_symbol) (S.items source.old) (S.items source.new)
-        (λ v x. directive_view S.Names.bytes v ≡ directive_of x) result }
+        (λ v x. Adds (directive_view S.Names.bytes) items.old.items items.new.items (directive_of x ∷ [])) result }
     ensures kept { kept (S.items source.new) ≡ kept (S.items source.old) }
     ensures shorter { Shortens (S.items source.old) (S.items source.new) result }
 {
     let position = punctuator(source, "@")?;
-    let (_, name) = name(alloc, source)?;
-    let arguments = optional_arguments(alloc, source)?;
-    Ok(Directive {
+    let name = name(alloc, source)?;
+    let mut arguments = Vec::new(alloc);
+    optional_arguments(alloc, source, &mut arguments)?;
+    items.push(Directive {
         position,
         name,
         arguments,
-    })
+    })?;
+    Ok(())
 }
 
 /// `Directives = Directive*`
@@ -74,17 +81,17 @@ pub fn directive<S: TokenSource>(alloc: Global, source: &mut S) -> Result<Direct
 pub fn directives<S: TokenSource>(
     alloc: Global,
     source: &mut S,
-) -> Result<Vec<Directive<S::Names>>, Stop>
+    items: &mut Vec<Directive<S::Names>>,
+) -> Result<(), Stop>
     ensures reads { Gives core (Sym directives_symbol) (S.items source.old) (S.items source.new)
-        (λ v x. directives_view S.Names.bytes v.items ≡ directives_of x) result }
+        (λ v x. Adds (directive_view S.Names.bytes) items.old.items items.new.items (directives_of x)) result }
     ensures kept { kept (S.items source.new) ≡ kept (S.items source.old) }
     ensures within { OnOk result (length (S.items source.new).tokens ≤ length (S.items source.old).tokens) }
 {
-    let mut items = Vec::new(alloc);
     'more: while sees_punctuator(source, "@") {
-        items.push(directive(alloc, source)?)?;
+        directive(alloc, source, items)?;
     }
-    Ok(items)
+    Ok(())
 }
 
 /// `Default = "=" Const`

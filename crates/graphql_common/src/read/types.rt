@@ -44,6 +44,6 @@ pub fn parse_type<S: TokenSource>(alloc: Global, source: &mut S) -> Result<Type<
         punctuator(source, "]")?;
         return marked(alloc, source, Type::ListType(Box::new(alloc, items)?));
     }
-    let (_, name) = name(alloc, source)?;
+    let name = name(alloc, source)?;
     marked(alloc, source, Type::NamedType(name))
 }

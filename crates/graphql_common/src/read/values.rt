@@ -1,13 +1,14 @@
 //! Values and constants.
-ghost use Rattle.std.specs.Prelude.{◌≡◌};
+ghost use Rattle.std.specs.Prelude.{◌≡◌, [], ◌∷◌};
 ghost use Rattle.graphql_grammar.specs.Trees.{Sym};
-ghost use Rattle.graphql_common.specs.Grammar.{core, value_symbol, const_symbol, argument_symbol, const_pair_symbol};
-ghost use Rattle.graphql_common.specs.Meanings.{value_of, const_of, argument_of, const_pair_of};
+ghost use Rattle.graphql_common.specs.Grammar.{core, value_symbol, const_symbol, argument_symbol};
+ghost use Rattle.graphql_common.specs.Meanings.{value_of, const_of, argument_of};
 ghost use Rattle.graphql_common.specs.Sorts.{symbol_of, pair_symbol_of, variable_rule, list_rule, object_rule, begins_variable};
 ghost use Rattle.graphql_common.specs.Sorts.{tree_of, pair_of, as_variable, as_list, as_object};
-ghost use Rattle.graphql_common.specs.ValueViews.{value_view};
+ghost use Rattle.graphql_common.specs.Values.{put};
+ghost use Rattle.graphql_common.specs.ValueViews.{value_view, argument_view, members_view};
 ghost use Rattle.graphql_core.specs.Source.{kept};
-ghost use Rattle.graphql_common.specs.Gives.{Gives, Shortens};
+ghost use Rattle.graphql_common.specs.Gives.{Gives, Adds, Shortens};
 
 use crate::read::leaf::plain_value;
 use crate::tree::Value;
@@ -45,30 +46,23 @@ pub fn constant<S: TokenSource>(alloc: Global, source: &mut S) -> Result<Value<S
     value_of_sort(alloc, source, Sort::Constant)
 }
 
-/// `Argument = Name ":" Value`
+/// `Argument = Name ":" Value`, behind the arguments before it.
+#[tactic(auto, using(crate::proofs::Reading::reading))]
 pub fn argument<S: TokenSource>(
     alloc: Global,
     source: &mut S,
-) -> Result<(<S::Names as Names>::Value, Value<S::Names>), Stop>
+    items: &mut Vec<(<S::Names as Names>::Value, Value<S::Names>)>,
+) -> Result<(), Stop>
     ensures reads { Gives core (Sym argument_symbol) (S.items source.old) (S.items source.new)
-        (λ v x. (S.Names.bytes v.0, value_view S.Names.bytes v.1) ≡ argument_of x) result }
+        (λ v x. Adds (argument_view S.Names.bytes) items.old.items items.new.items (argument_of x ∷ [])) result }
     ensures kept { kept (S.items source.new) ≡ kept (S.items source.old) }
     ensures shorter { Shortens (S.items source.old) (S.items source.new) result }
 {
-    pair(alloc, source, Sort::Value)
-}
-
-/// `ConstPair = Name ":" Const`
-pub fn const_pair<S: TokenSource>(
-    alloc: Global,
-    source: &mut S,
-) -> Result<(<S::Names as Names>::Value, Value<S::Names>), Stop>
-    ensures reads { Gives core (Sym const_pair_symbol) (S.items source.old) (S.items source.new)
-        (λ v x. (S.Names.bytes v.0, value_view S.Names.bytes v.1) ≡ const_pair_of x) result }
-    ensures kept { kept (S.items source.new) ≡ kept (S.items source.old) }
-    ensures shorter { Shortens (S.items source.old) (S.items source.new) result }
-{
-    pair(alloc, source, Sort::Constant)
+    let name = name(alloc, source)?;
+    punctuator(source, ":")?;
+    let value = value(alloc, source)?;
+    items.push((name, value))?;
+    Ok(())
 }
 
 /// Whether a variable comes next, and may.
@@ -90,8 +84,7 @@ fn variable<S: TokenSource>(alloc: Global, source: &mut S) -> Result<Value<S::Na
     ensures shorter { Shortens (S.items source.old) (S.items source.new) result }
 {
     punctuator(source, "$")?;
-    let (_, name) = name(alloc, source)?;
-    Ok(Value::Variable(name))
+    Ok(Value::Variable(name(alloc, source)?))
 }
 
 /// `Value`, of constants `Const`.
@@ -153,28 +146,29 @@ fn object<S: TokenSource>(
     punctuator(source, "{")?;
     let mut fields = BTreeMap::new(alloc);
     'more: while sees_name(source) {
-        let (name, value) = pair(alloc, source, sort)?;
-        drop(fields.insert(name, value)?);
+        member(alloc, source, sort, &mut fields)?;
     }
     punctuator(source, "}")?;
     Ok(Value::Object(fields))
 }
 
-/// `Argument`, of constants `ConstPair`
+/// `Name ":" Value`, of constants `Name ":" Const`: a field of an object, put to those before it.
 #[cycle(values)]
 #[tactic(auto, using(crate::proofs::Reading::reading))]
-fn pair<S: TokenSource>(
+fn member<S: TokenSource>(
     alloc: Global,
     source: &mut S,
     sort: Sort,
-) -> Result<(<S::Names as Names>::Value, Value<S::Names>), Stop>
+    fields: &mut BTreeMap<<S::Names as Names>::Value, Value<S::Names>>,
+) -> Result<(), Stop>
     ensures reads { Gives core (Sym (pair_symbol_of sort)) (S.items source.old) (S.items source.new)
-        (λ v x. (S.Names.bytes v.0, value_view S.Names.bytes v.1) ≡ pair_of sort x) result }
+        (λ v x. members_view S.Names.bytes fields.new.entries ≡ put (pair_of sort x).0 (pair_of sort x).1 (members_view S.Names.bytes fields.old.entries)) result }
     ensures kept { kept (S.items source.new) ≡ kept (S.items source.old) }
     ensures shorter { Shortens (S.items source.old) (S.items source.new) result }
 {
-    let (_, name) = name(alloc, source)?;
+    let name = name(alloc, source)?;
     punctuator(source, ":")?;
     let value = value_of_sort(alloc, source, sort)?;
-    Ok((name, value))
+    drop(fields.insert(name, value)?);
+    Ok(())
 }

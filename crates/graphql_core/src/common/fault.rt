@@ -4,9 +4,9 @@ ghost use Rattle.graphql_core.specs.declared.common.fault.Fault.TheVariants.{Out
 
 use crate::common::cause::Cause;
 use crate::position::Pos;
-use std::alloc::{AllocError, AllocFailed};
+use std::alloc::AllocError;
 
-/// Why a reader stopped: memory ran out, or a cause at a position.
+/// Why a text is refused, apart from its length: memory ran out, or a cause at a position.
 #[derive(Debug, Drop)]
 pub enum Fault {
     /// Memory ran out.
@@ -19,14 +19,6 @@ impl From<AllocError> for Fault {
     ghost from_gives = { λ _ e. e ≡ OutOfMemory };
 
     fn from(_e: AllocError) -> Fault {
-        Fault::OutOfMemory
-    }
-}
-
-impl<T: Drop> From<AllocFailed<T>> for Fault {
-    ghost from_gives = { λ _ e. e ≡ OutOfMemory };
-
-    fn from(_e: AllocFailed<T>) -> Fault {
         Fault::OutOfMemory
     }
 }

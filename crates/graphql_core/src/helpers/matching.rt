@@ -100,19 +100,19 @@ pub fn keyword<S: TokenSource>(source: &mut S, spelling: &str) -> Result<Pos, St
     spelled(source, Kind::Name, spelling)
 }
 
-/// Takes a name, and answers its position and what a tree keeps of it.
+/// Takes a name, and answers what a tree keeps of it.
 pub fn name<S: TokenSource>(
     alloc: Global,
     source: &mut S,
-) -> Result<(Pos, <S::Names as Names>::Value), Stop>
+) -> Result<<S::Names as Names>::Value, Stop>
     ensures { TakesOne (AnyOf (kind_number Name)) (S.items source.old) (S.items source.new)
-        (λ v t. (t.place ≡ place_of v.0) × (t.spelling ≡ S.Names.bytes v.1)) result }
+        (λ v t. t.spelling ≡ S.Names.bytes v) result }
 {
     match source.peek() {
         Some(token) if is_name::<S>(&token) => {
             let name = S::make_name(alloc, token.text)?;
             source.advance();
-            Ok((token.position, name))
+            Ok(name)
         }
         _ => Err(Stop::Item),
     }

@@ -11,8 +11,8 @@ ghost use Rattle.graphql_query.specs.Reads.{Reads, sees_definition};
 use crate::read::fragment::type_condition;
 use crate::read::operation::operation_definition;
 use crate::read::selection::selection_set;
-use crate::tree::{Definition, FragmentDefinition};
-use graphql_common::read::directives::directives;
+use crate::tree::{Definition, FragmentDefinition, SelectionSet};
+use graphql_common::read::directives;
 use graphql_core::helpers::{Stop, TokenSource, keyword, name, sees_keyword, sees_punctuator};
 use std::alloc::Global;
 
@@ -28,16 +28,18 @@ fn fragment_definition<S: TokenSource>(
     ensures shorter { Shortens (S.items source.old) (S.items source.new) result }
 {
     let position = keyword(source, "fragment")?;
-    let (_, name) = name(alloc, source)?;
+    let name = name(alloc, source)?;
     let type_condition = type_condition(alloc, source)?;
-    let directives = directives(alloc, source)?;
-    let selection_set = selection_set(alloc, source)?;
+    let mut directives = Vec::new(alloc);
+    directives::directives(alloc, source, &mut directives)?;
+    let mut items = Vec::new(alloc);
+    let span = selection_set(alloc, source, &mut items)?;
     Ok(FragmentDefinition {
         position,
         name,
         type_condition,
         directives,
-        selection_set,
+        selection_set: SelectionSet { span, items },
     })
 }
 

@@ -1,19 +1,18 @@
 //! Names of fragments, and the types that they are on.
-ghost use Rattle.std.specs.Prelude.{◌≡◌, ◌≤◌, OnOk, length, option_map};
+ghost use Rattle.std.specs.Prelude.{◌≡◌, ◌≤◌, OnOk, [], ◌∷◌, length, option_map};
 ghost use Rattle.graphql_grammar.specs.Trees.{Sym, optional};
-ghost use Rattle.graphql_core.specs.Source.{kept, place_of};
+ghost use Rattle.graphql_core.specs.Source.{kept, place_next};
 ghost use Rattle.graphql_core.specs.Matching.{sees_class};
-ghost use Rattle.graphql_common.specs.Gives.{Shortens};
-ghost use Rattle.graphql_query.specs.Tree.{condition_view, spread_view};
+ghost use Rattle.graphql_common.specs.Gives.{Adds, Shortens};
+ghost use Rattle.graphql_query.specs.Tree.{condition_view, selection_view};
 ghost use Rattle.graphql_query.specs.Grammar.{spread_class, spread_name_symbol, spread_rest, condition_symbol};
 ghost use Rattle.graphql_query.specs.Meanings.{condition_of, optional_condition_of, spread_name_of, spread_rest_of};
 ghost use Rattle.graphql_query.specs.Reads.{Reads};
 
-use crate::tree::{FragmentSpread, TypeCondition};
-use graphql_common::read::directives::directives;
+use crate::tree::{FragmentSpread, Selection, TypeCondition};
+use graphql_common::read::directives;
 use graphql_core::common::Names;
 use graphql_core::helpers::{Stop, TokenSource, keyword, name, sees_keyword, sees_name};
-use graphql_core::position::Pos;
 use std::alloc::Global;
 
 /// `Condition = "on" Name`
@@ -28,8 +27,7 @@ pub fn type_condition<S: TokenSource>(
     ensures shorter { Shortens (S.items source.old) (S.items source.new) result }
 {
     keyword(source, "on")?;
-    let (_, name) = name(alloc, source)?;
-    Ok(TypeCondition::On(name))
+    Ok(TypeCondition::On(name(alloc, source)?))
 }
 
 /// `Condition?`
@@ -56,14 +54,14 @@ pub fn sees_spread_name<S: TokenSource>(source: &S) -> bool
     sees_name(source) && !sees_keyword(source, "on")
 }
 
-/// `SpreadName = Name other than "on"`, and its position.
+/// `SpreadName = Name other than "on"`
 #[tactic(auto, using(graphql_common::proofs::Reading::reading))]
 fn spread_name<S: TokenSource>(
     alloc: Global,
     source: &mut S,
-) -> Result<(Pos, <S::Names as Names>::Value), Stop>
+) -> Result<<S::Names as Names>::Value, Stop>
     ensures reads { Reads (Sym spread_name_symbol) (S.items source.old) (S.items source.new)
-        (λ v x. (place_of v.0, S.Names.bytes v.1) ≡ spread_name_of x) result }
+        (λ v x. (place_next (S.items source.old), S.Names.bytes v) ≡ spread_name_of x) result }
     ensures kept { kept (S.items source.new) ≡ kept (S.items source.old) }
     ensures shorter { Shortens (S.items source.old) (S.items source.new) result }
 {
@@ -73,22 +71,26 @@ fn spread_name<S: TokenSource>(
     name(alloc, source)
 }
 
-/// `SpreadName Directives`, what stands behind the dots of a spread.
+/// `SpreadName Directives`, what stands behind the dots of a spread, behind the selections before it.
 #[tactic(auto, using(graphql_common::proofs::Reading::reading))]
 pub fn fragment_spread<S: TokenSource>(
     alloc: Global,
     source: &mut S,
-) -> Result<FragmentSpread<S::Names>, Stop>
+    items: &mut Vec<Selection<S::Names>>,
+) -> Result<(), Stop>
     ensures reads { Reads spread_rest (S.items source.old) (S.items source.new)
-        (λ v x. spread_view S.Names.bytes v ≡ spread_rest_of x) result }
+        (λ v x. Adds (selection_view S.Names.bytes) items.old.items items.new.items (spread_rest_of x ∷ [])) result }
     ensures kept { kept (S.items source.new) ≡ kept (S.items source.old) }
     ensures shorter { Shortens (S.items source.old) (S.items source.new) result }
 {
-    let (position, fragment_name) = spread_name(alloc, source)?;
-    let directives = directives(alloc, source)?;
-    Ok(FragmentSpread {
+    let position = source.position();
+    let fragment_name = spread_name(alloc, source)?;
+    let mut directives = Vec::new(alloc);
+    directives::directives(alloc, source, &mut directives)?;
+    items.push(Selection::FragmentSpread(FragmentSpread {
         position,
         fragment_name,
         directives,
-    })
+    }))?;
+    Ok(())
 }

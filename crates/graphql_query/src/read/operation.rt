@@ -1,12 +1,12 @@
 //! Operations and their variables.
-ghost use Rattle.std.specs.Prelude.{◌≡◌, ◌≤◌, OnOk, length, codes, option_map};
+ghost use Rattle.std.specs.Prelude.{◌≡◌, ◌≤◌, OnOk, [], ◌∷◌, length, codes, option_map};
 ghost use Rattle.graphql_grammar.specs.Trees.{Then, Sym, optional};
 ghost use Rattle.graphql_core.specs.Source.{kept};
 ghost use Rattle.graphql_common.specs.ValueViews.{value_view};
 ghost use Rattle.graphql_common.specs.Grammar.{default_symbol, word};
 ghost use Rattle.graphql_common.specs.Grammar as core;
-ghost use Rattle.graphql_common.specs.Gives.{Shortens};
-ghost use Rattle.graphql_query.specs.Tree.{query_kind, mutation_kind, subscription_kind, variable_view, variables_view, query_view, mutation_view, subscription_view, operation_view};
+ghost use Rattle.graphql_common.specs.Gives.{Adds, Shortens};
+ghost use Rattle.graphql_query.specs.Tree.{query_kind, mutation_kind, subscription_kind, variable_view, query_view, mutation_view, subscription_view, operation_view};
 ghost use Rattle.graphql_query.specs.Common.{common_view};
 ghost use Rattle.graphql_query.specs.Grammar.{common_symbol, variables_symbol, variable_symbol, operation_symbol};
 ghost use Rattle.graphql_query.specs.Meanings.{optional_name_of, optional_default_of, variable_of, variables_of, optional_variables_of, common_of, keyword_of, operation_of};
@@ -16,7 +16,7 @@ use crate::read::selection::selection_set;
 use crate::tree::{
     Mutation, OperationDefinition, Query, SelectionSet, Subscription, VariableDefinition,
 };
-use graphql_common::read::directives::{default_value, directives};
+use graphql_common::read::directives::{self, default_value};
 use graphql_common::read::types::parse_type;
 use graphql_common::tree::{Directive, Value};
 use graphql_core::common::Names;
@@ -48,8 +48,7 @@ fn optional_name<S: TokenSource>(
     if !sees_name(source) {
         return Ok(None);
     }
-    let (_, name) = name(alloc, source)?;
-    Ok(Some(name))
+    Ok(Some(name(alloc, source)?))
 }
 
 /// `Default?`
@@ -69,28 +68,30 @@ fn optional_default<S: TokenSource>(
     Ok(Some(default_value(alloc, source)?))
 }
 
-/// `Variable = "$" Name ":" Type Default?`
+/// `Variable = "$" Name ":" Type Default?`, behind the variables before it.
 #[tactic(auto, using(graphql_common::proofs::Reading::reading))]
 fn variable_definition<S: TokenSource>(
     alloc: Global,
     source: &mut S,
-) -> Result<VariableDefinition<S::Names>, Stop>
+    definitions: &mut Vec<VariableDefinition<S::Names>>,
+) -> Result<(), Stop>
     ensures reads { Reads (Sym variable_symbol) (S.items source.old) (S.items source.new)
-        (λ v x. variable_view S.Names.bytes v ≡ variable_of x) result }
+        (λ v x. Adds (variable_view S.Names.bytes) definitions.old.items definitions.new.items (variable_of x ∷ [])) result }
     ensures kept { kept (S.items source.new) ≡ kept (S.items source.old) }
     ensures shorter { Shortens (S.items source.old) (S.items source.new) result }
 {
     let position = punctuator(source, "$")?;
-    let (_, name) = name(alloc, source)?;
+    let name = name(alloc, source)?;
     punctuator(source, ":")?;
     let var_type = parse_type(alloc, source)?;
     let default_value = optional_default(alloc, source)?;
-    Ok(VariableDefinition {
+    definitions.push(VariableDefinition {
         position,
         name,
         var_type,
         default_value,
-    })
+    })?;
+    Ok(())
 }
 
 /// `Variables = "(" Variable+ ")"`
@@ -98,20 +99,20 @@ fn variable_definition<S: TokenSource>(
 fn variable_definitions<S: TokenSource>(
     alloc: Global,
     source: &mut S,
-) -> Result<Vec<VariableDefinition<S::Names>>, Stop>
+    definitions: &mut Vec<VariableDefinition<S::Names>>,
+) -> Result<(), Stop>
     ensures reads { Reads (Sym variables_symbol) (S.items source.old) (S.items source.new)
-        (λ v x. variables_view S.Names.bytes v.items ≡ variables_of x) result }
+        (λ v x. Adds (variable_view S.Names.bytes) definitions.old.items definitions.new.items (variables_of x)) result }
     ensures kept { kept (S.items source.new) ≡ kept (S.items source.old) }
     ensures shorter { Shortens (S.items source.old) (S.items source.new) result }
 {
     punctuator(source, "(")?;
-    let mut definitions = Vec::new(alloc);
-    definitions.push(variable_definition(alloc, source)?)?;
+    variable_definition(alloc, source, definitions)?;
     'more: while sees_punctuator(source, "$") {
-        definitions.push(variable_definition(alloc, source)?)?;
+        variable_definition(alloc, source, definitions)?;
     }
     punctuator(source, ")")?;
-    Ok(definitions)
+    Ok(())
 }
 
 /// `Variables?`
@@ -119,16 +120,17 @@ fn variable_definitions<S: TokenSource>(
 fn optional_variables<S: TokenSource>(
     alloc: Global,
     source: &mut S,
-) -> Result<Vec<VariableDefinition<S::Names>>, Stop>
+    definitions: &mut Vec<VariableDefinition<S::Names>>,
+) -> Result<(), Stop>
     ensures reads { Reads (optional (Sym variables_symbol)) (S.items source.old) (S.items source.new)
-        (λ v x. variables_view S.Names.bytes v.items ≡ optional_variables_of x) result }
+        (λ v x. Adds (variable_view S.Names.bytes) definitions.old.items definitions.new.items (optional_variables_of x)) result }
     ensures kept { kept (S.items source.new) ≡ kept (S.items source.old) }
     ensures within { OnOk result (length (S.items source.new).tokens ≤ length (S.items source.old).tokens) }
 {
     if !sees_punctuator(source, "(") {
-        return Ok(Vec::new(alloc));
+        return Ok(());
     }
-    variable_definitions(alloc, source)
+    variable_definitions(alloc, source, definitions)
 }
 
 /// `Common = Name? Variables? Directives SelectionSet`
@@ -140,14 +142,17 @@ fn operation_common<S: TokenSource>(alloc: Global, source: &mut S) -> Result<Com
     ensures shorter { Shortens (S.items source.old) (S.items source.new) result }
 {
     let name = optional_name(alloc, source)?;
-    let variable_definitions = optional_variables(alloc, source)?;
-    let directives = directives(alloc, source)?;
-    let selection_set = selection_set(alloc, source)?;
+    let mut variable_definitions = Vec::new(alloc);
+    optional_variables(alloc, source, &mut variable_definitions)?;
+    let mut directives = Vec::new(alloc);
+    directives::directives(alloc, source, &mut directives)?;
+    let mut items = Vec::new(alloc);
+    let span = selection_set(alloc, source, &mut items)?;
     Ok(Common {
         name,
         variable_definitions,
         directives,
-        selection_set,
+        selection_set: SelectionSet { span, items },
     })
 }
 
@@ -231,5 +236,7 @@ pub fn operation_definition<S: TokenSource>(
     if sees_keyword(source, "subscription") {
         return Ok(OperationDefinition::Subscription(subscription(alloc, source)?));
     }
-    Ok(OperationDefinition::SelectionSet(selection_set(alloc, source)?))
+    let mut items = Vec::new(alloc);
+    let span = selection_set(alloc, source, &mut items)?;
+    Ok(OperationDefinition::SelectionSet(SelectionSet { span, items }))
 }

@@ -1,13 +1,13 @@
-use Rattle.std.proofs.Common.{refl, sym, ap, ◌∙◌, [], ◌∷◌, ◌++◌, arith, append-nil}
+use Rattle.std.proofs.Common.{refl, sym, ap, ◌∙◌, [], ◌∷◌, ◌++◌, map, arith}
 use Rattle.graphql_grammar.specs.Trees.{Leaf, Both, Node}
 use Rattle.graphql_grammar.specs.Reading.{takes_node, takes_both}
 use Rattle.graphql_grammar.proofs.Turning.{Stops-before, Stops-after, Stops-node, Stops-turn, Turns-start, Turns-more, Turns-stop}
 use Rattle.graphql_common.specs.declared.read.values.Sort.TheVariants.{Value}
 use Rattle.graphql_common.specs.Grammar.{core, arguments_symbol}
 use Rattle.graphql_common.specs.Meanings.{argument_of}
-use Rattle.graphql_common.specs.ValueViews.{value_view}
+use Rattle.graphql_common.specs.ValueViews.{argument_view}
 use Rattle.graphql_common.proofs.Choices.{begins_pair, pairs_means}
-use Rattle.graphql_common.proofs.Reading.{takes_one, stops_one, stops_some, gives_error, one_of, turn_more, turns_all}
+use Rattle.graphql_common.proofs.Reading.{takes_one, stops_one, stops_some, gives_error, one_of, adds_none, adds_more}
 use Rattle.graphql_common.proofs.read.directives.arguments.Goals as goal
 
 pub returns-in_err-punctuator-clause-reads : goal.returns-in_err-punctuator-clause-reads
@@ -24,18 +24,17 @@ returns-in_err-argument-clause-reads g c =
     c.from_residual-in_err-argument.ensures.1
 
 pub more-init : goal.more-init
-more-init g c = record { turns = ([], Turns-start core _ (one_of argument_of) _, sym (append-nil _)); kept = refl; within = omega arith }
+more-init g c = record { turns = ([], Turns-start core _ (one_of argument_of) _, adds_none (argument_view g.S.Names.Names.bytes) _); kept = refl; within = omega arith }
 
 pub more-preserved : goal.more-preserved
 more-preserved g c =
-    let bytes = g.S.Names.Names.bytes in
     let (items, turns, views) = c.more.invariant.turns in
     let (x, takes, view) = c.in_ok-argument-2.ensures.reads in
     record {
       turns = (
         items ++ one_of argument_of x,
         Turns-more core _ (one_of argument_of) _ _ _ items x turns (begins_pair Value _ ∙ sym c.sees_name.ensures ∙ c.more-test.true) takes,
-        turn_more (λ a. (bytes a.0, value_view bytes a.1)) argument_of _ _ _ _ items x c.in_ok-push-2.ensures.items view views,
+        adds_more (argument_view g.S.Names.Names.bytes) _ _ _ items _ views view,
       );
       kept = c.in_ok-argument-2.ensures.kept ∙ c.more.invariant.kept;
       within = omega (arith, c.more.invariant.within, c.in_ok-argument-2.ensures.shorter);
@@ -65,13 +64,14 @@ returns-in_err-punctuator-2-clause-reads g c =
 
 pub returns-clause-reads : goal.returns-clause-reads
 returns-clause-reads g c =
-    let bytes = g.S.Names.Names.bytes in
+    let view_one = argument_view g.S.Names.Names.bytes in
     let (o, opens, at) = c.in_ok-punctuator.ensures in
     let (first, takes, view) = c.in_ok-argument.ensures.reads in
     let (items, turns, views) = c.more.invariant.turns in
     let (e, ends, until) = c.in_ok-punctuator-2.ensures in
-    let r = Turns-stop core _ (one_of argument_of) _ _ items turns (begins_pair Value _ ∙ sym c.sees_name.ensures ∙ c.more-test.false) in (
+    let r = Turns-stop core _ (one_of argument_of) _ _ items turns (begins_pair Value _ ∙ sym c.sees_name.ensures ∙ c.more-test.false) in
+    let others = sym (pairs_means Value r.1 ∙ r.2) in (
       Node arguments_symbol (Both (Leaf o) (Both (Both first r.0) (Leaf e))),
       takes_node (takes_both (takes_one core _ _ _ o refl opens) (takes_both (takes_both takes r.1) (takes_one core _ _ _ e refl ends))) refl,
-      turns_all (λ a. (bytes a.0, value_view bytes a.1)) argument_of _ _ _ _ items first c.new-items.ensures.items c.in_ok-push.ensures.items view views ∙ ap (λ l. argument_of first ∷ l) (sym (pairs_means Value r.1 ∙ r.2)),
+      adds_more view_one _ _ _ _ items view views ∙ ap (λ l. map view_one c.args.items.now.items ++ (argument_of first ∷ l)) others,
     )

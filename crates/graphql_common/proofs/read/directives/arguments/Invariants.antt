@@ -1,10 +1,11 @@
-use Rattle.std.proofs.Common.{◌≡◌, ◌≤◌, ◌++◌, List, length, ℕ}
+use Rattle.std.proofs.Common.{◌≡◌, ◌≤◌, List, length, ℕ}
 use Rattle.graphql_grammar.specs.Trees.{Sym}
 use Rattle.graphql_grammar.specs.Words.{Turns}
 use Rattle.graphql_common.specs.Grammar.{core, argument_symbol}
 use Rattle.graphql_common.specs.Meanings.{argument_of}
 use Rattle.graphql_common.specs.Values.{ValueTree}
-use Rattle.graphql_common.specs.ValueViews.{arguments_view}
+use Rattle.graphql_common.specs.ValueViews.{argument_view}
+use Rattle.graphql_common.specs.Gives.{Adds}
 use Rattle.graphql_core.specs.Source.{kept}
 use Rattle.graphql_common.proofs.Reading.{one_of}
 use Rattle.graphql_common.proofs.read.directives.arguments.Given as goal
@@ -12,7 +13,7 @@ use Rattle.graphql_common.proofs.read.directives.arguments.Given as goal
 abbrev pub invariant-more : goal.invariant-more
 invariant-more g l = record {
   turns : (items : List (List ℕ × ValueTree)) × Turns core (Sym argument_symbol) (one_of argument_of) (g.S.TokenSource.items l.initial.source).tokens (g.S.TokenSource.items l.source).tokens items
-      × (arguments_view g.S.Names.Names.bytes l.items.items ≡ arguments_view g.S.Names.Names.bytes l.initial.items.items ++ items);
+      × Adds (argument_view g.S.Names.Names.bytes) l.initial.items.items l.items.items items;
   kept : kept (g.S.TokenSource.items l.source) ≡ kept (g.S.TokenSource.items l.initial.source);
   within : length (g.S.TokenSource.items l.source).tokens ≤ length (g.S.TokenSource.items l.initial.source).tokens;
 }

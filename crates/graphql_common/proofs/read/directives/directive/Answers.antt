@@ -3,7 +3,8 @@ use Rattle.graphql_grammar.specs.Trees.{Leaf, Both, Node}
 use Rattle.graphql_grammar.specs.Reading.{takes_node, takes_both}
 use Rattle.graphql_grammar.proofs.Turning.{Stops-before, Stops-after, Stops-node}
 use Rattle.graphql_common.specs.Grammar.{core, directive_symbol}
-use Rattle.graphql_common.proofs.Reading.{takes_one, stops_one, gives_error}
+use Rattle.graphql_common.specs.ValueViews.{argument_view, directive_view}
+use Rattle.graphql_common.proofs.Reading.{takes_one, stops_one, gives_error, adds_one, fills}
 use Rattle.graphql_common.proofs.read.directives.directive.Goals as goal
 
 pub returns-in_err-position-clause-reads : goal.returns-in_err-position-clause-reads
@@ -20,20 +21,22 @@ returns-in_err-name-clause-reads g c =
     (Stops-node core directive_symbol _ _ _ (Stops-after core _ _ _ _ _ _ _ before (Stops-before core _ _ _ _ _ (stops_one core _ (g.S.TokenSource.items c.punctuator.new.source) new _ c.in_err-name.ensures))))
     c.from_residual-in_err-name.ensures.1
 
-pub returns-in_err-arguments-clause-reads : goal.returns-in_err-arguments-clause-reads
-returns-in_err-arguments-clause-reads g c =
+pub returns-in_err-optional_arguments-clause-reads : goal.returns-in_err-optional_arguments-clause-reads
+returns-in_err-optional_arguments-clause-reads g c =
     let before = takes_one core _ _ _ _ refl c.in_ok-position.ensures.1 in
     let named = takes_one core _ _ _ _ refl c.in_ok-name.ensures.1 in
     gives_error core _ (g.S.TokenSource.items c.args.source.now) (g.S.TokenSource.items c.optional_arguments.new.source) _ _ _
-    (Stops-node core directive_symbol _ _ _ (Stops-after core _ _ _ _ _ _ _ before (Stops-after core _ _ _ _ _ _ _ named c.in_err-arguments.ensures.reads)))
-    c.from_residual-in_err-arguments.ensures.1
+    (Stops-node core directive_symbol _ _ _ (Stops-after core _ _ _ _ _ _ _ before (Stops-after core _ _ _ _ _ _ _ named c.in_err-optional_arguments.ensures.reads)))
+    c.from_residual-in_err-optional_arguments.ensures.1
 
 pub returns-clause-reads : goal.returns-clause-reads
 returns-clause-reads g c =
+    let bytes = g.S.Names.Names.bytes in
     let (a, sign, at) = c.in_ok-position.ensures in
-    let (n, named, (place, spelled)) = c.in_ok-name.ensures in
-    let (x, takes, view) = c.in_ok-arguments.ensures.reads in (
+    let (n, named, spelled) = c.in_ok-name.ensures in
+    let (x, takes, given) = c.in_ok-optional_arguments.ensures.reads in
+    let view = fills (argument_view bytes) _ _ _ c.new-arguments.ensures.items given in (
       Node directive_symbol (Both (Leaf a) (Both (Leaf n) x)),
       takes_node (takes_both (takes_one core _ _ _ a refl sign) (takes_both (takes_one core _ _ _ n refl named) takes)) refl,
-      rw (at, spelled, view) refl,
+      adds_one (directive_view bytes) _ _ _ _ c.in_ok-push.ensures.items (rw (at, spelled, view) refl),
     )

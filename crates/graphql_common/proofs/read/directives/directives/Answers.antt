@@ -1,4 +1,4 @@
-use Rattle.std.proofs.Common.{refl, sym, ◌∙◌, [], ◌++◌, arith, append-nil}
+use Rattle.std.proofs.Common.{refl, sym, ap, ◌∙◌, [], ◌++◌, map, arith}
 use Rattle.graphql_grammar.specs.Trees.{Node}
 use Rattle.graphql_grammar.specs.Reading.{takes_node}
 use Rattle.graphql_grammar.proofs.Turning.{Stops-node, Stops-turn, Turns-start, Turns-more, Turns-stop}
@@ -6,11 +6,11 @@ use Rattle.graphql_common.specs.Grammar.{core, directives_symbol}
 use Rattle.graphql_common.specs.Meanings.{directive_of}
 use Rattle.graphql_common.specs.ValueViews.{directive_view}
 use Rattle.graphql_common.proofs.Choices.{begins_directive, each_directive_means}
-use Rattle.graphql_common.proofs.Reading.{gives_error, one_of, turn_more, turns_only}
+use Rattle.graphql_common.proofs.Reading.{gives_error, one_of, adds_none, adds_more}
 use Rattle.graphql_common.proofs.read.directives.directives.Goals as goal
 
 pub more-init : goal.more-init
-more-init g c = record { turns = ([], Turns-start core _ (one_of directive_of) _, sym (append-nil _)); kept = refl; within = omega arith }
+more-init g c = record { turns = ([], Turns-start core _ (one_of directive_of) _, adds_none (directive_view g.S.Names.Names.bytes) _); kept = refl; within = omega arith }
 
 pub more-preserved : goal.more-preserved
 more-preserved g c =
@@ -20,7 +20,7 @@ more-preserved g c =
       turns = (
         items ++ one_of directive_of x,
         Turns-more core _ (one_of directive_of) _ _ _ items x turns (begins_directive _ ∙ sym c.sees_punctuator.ensures ∙ c.more-test.true) takes,
-        turn_more (directive_view g.S.Names.Names.bytes) directive_of _ _ _ _ items x c.in_ok-push.ensures.items view views,
+        adds_more (directive_view g.S.Names.Names.bytes) _ _ _ items _ views view,
       );
       kept = c.in_ok-directive.ensures.kept ∙ c.more.invariant.kept;
       within = omega (arith, c.more.invariant.within, c.in_ok-directive.ensures.shorter);
@@ -39,5 +39,5 @@ returns-clause-reads g c =
     let r = Turns-stop core _ (one_of directive_of) _ _ items turns (begins_directive _ ∙ sym c.sees_punctuator.ensures ∙ c.more-test.false) in (
       Node directives_symbol r.0,
       takes_node r.1 refl,
-      turns_only (directive_view g.S.Names.Names.bytes) directive_of _ _ items c.new-items.ensures.items views ∙ sym (each_directive_means r.1 ∙ r.2),
+      views ∙ ap (λ l. map (directive_view g.S.Names.Names.bytes) c.args.items.now.items ++ l) (sym (each_directive_means r.1 ∙ r.2)),
     )

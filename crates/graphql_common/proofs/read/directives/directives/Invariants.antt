@@ -1,10 +1,11 @@
-use Rattle.std.proofs.Common.{◌≡◌, ◌≤◌, ◌++◌, List, length}
+use Rattle.std.proofs.Common.{◌≡◌, ◌≤◌, List, length}
 use Rattle.graphql_grammar.specs.Trees.{Sym}
 use Rattle.graphql_grammar.specs.Words.{Turns}
 use Rattle.graphql_common.specs.Grammar.{core, directive_symbol}
 use Rattle.graphql_common.specs.Meanings.{directive_of}
 use Rattle.graphql_common.specs.Values.{DirectiveTree}
-use Rattle.graphql_common.specs.ValueViews.{directives_view}
+use Rattle.graphql_common.specs.ValueViews.{directive_view}
+use Rattle.graphql_common.specs.Gives.{Adds}
 use Rattle.graphql_core.specs.Source.{kept}
 use Rattle.graphql_common.proofs.Reading.{one_of}
 use Rattle.graphql_common.proofs.read.directives.directives.Given as goal
@@ -12,7 +13,7 @@ use Rattle.graphql_common.proofs.read.directives.directives.Given as goal
 abbrev pub invariant-more : goal.invariant-more
 invariant-more g l = record {
   turns : (items : List DirectiveTree) × Turns core (Sym directive_symbol) (one_of directive_of) (g.S.TokenSource.items l.initial.source).tokens (g.S.TokenSource.items l.source).tokens items
-      × (directives_view g.S.Names.Names.bytes l.items.items ≡ directives_view g.S.Names.Names.bytes l.initial.items.items ++ items);
+      × Adds (directive_view g.S.Names.Names.bytes) l.initial.items.items l.items.items items;
   kept : kept (g.S.TokenSource.items l.source) ≡ kept (g.S.TokenSource.items l.initial.source);
   within : length (g.S.TokenSource.items l.source).tokens ≤ length (g.S.TokenSource.items l.initial.source).tokens;
 }

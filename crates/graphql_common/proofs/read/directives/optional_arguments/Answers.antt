@@ -1,8 +1,9 @@
-use Rattle.std.proofs.Common.{sym, ap, ◌∙◌}
+use Rattle.std.proofs.Common.{sym, ◌∙◌}
 use Rattle.graphql_grammar.specs.Trees.{First, Second, Nothing}
 use Rattle.graphql_common.specs.Grammar.{core}
-use Rattle.graphql_common.specs.ValueViews.{arguments_view}
+use Rattle.graphql_common.specs.ValueViews.{argument_view}
 use Rattle.graphql_common.proofs.Choices.{some_arguments, no_arguments}
+use Rattle.graphql_common.proofs.Reading.{adds_none}
 use Rattle.graphql_common.proofs.Sides.{gives_side}
 use Rattle.graphql_common.proofs.read.directives.optional_arguments.Goals as goal
 
@@ -13,4 +14,5 @@ returns-then-sees_punctuator-clause-reads g c =
     gives_side core _ _ First old (g.S.TokenSource.items c.arguments.new.source) _ _ _ side (λ v x h. h) c.arguments.ensures.reads
 
 pub returns-clause-reads : goal.returns-clause-reads
-returns-clause-reads g c = (Second Nothing, no_arguments _ (sym c.sees_punctuator.ensures ∙ c.if-sees_punctuator.false), ap (arguments_view g.S.Names.Names.bytes) c.new.ensures.items)
+returns-clause-reads g c =
+    (Second Nothing, no_arguments _ (sym c.sees_punctuator.ensures ∙ c.if-sees_punctuator.false), adds_none (argument_view g.S.Names.Names.bytes) _)

@@ -1,4 +1,4 @@
-use Rattle.std.proofs.Common.{refl, ◌∙◌}
+use Rattle.std.proofs.Common.{◌∙◌}
 use Rattle.graphql_grammar.specs.Trees.{Leaf}
 use Rattle.graphql_core.specs.declared.tokenizer.token.Kind.TheVariants.{IntValue}
 use Rattle.graphql_common.proofs.LeafValues.{parsed, not_parsed}

@@ -60,7 +60,7 @@ returns-clause-reads g t c =
     let items = g.S.TokenSource.items in
     let bytes = g.S.Names.Names.bytes in
     let side = named_side (items c.args.source.now).tokens (sym c.sees_punctuator.ensures ∙ c.if-sees_punctuator.false) in
-    let (n, takes, (at, spelled)) = c.in_ok-name.ensures in
+    let (n, takes, spelled) = c.in_ok-name.ensures in
     let before = takes_one core _ _ _ n refl takes in
     gives_then core _ _ (items c.args.source.now) (items c.name.new.source) (items c.marked-2.new.source) _ _ _
     (λ v m h is. (

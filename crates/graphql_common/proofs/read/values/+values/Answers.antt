@@ -9,7 +9,7 @@ use Rattle.graphql_common.specs.Values.{list, object, put}
 use Rattle.graphql_common.specs.ValueViews.{value_view, items_of, members_view}
 use Rattle.graphql_common.proofs.Choices.{variable_side, list_side, object_side, plain_side, pair_side, plain_means, list_means, object_means, pair_means, unseen_value, ends_list, begins_pair, put_more, trees_means, pairs_means}
 use Rattle.graphql_common.proofs.Members.{view_insert}
-use Rattle.graphql_common.proofs.Reading.{takes_one, stops_one, stops_until, takes_seen, gives_error, one_of, turn_more, turns_only}
+use Rattle.graphql_common.proofs.Reading.{takes_one, stops_one, stops_until, takes_seen, gives_error, one_of, adds_one, adds_more, fills}
 use Rattle.graphql_common.proofs.Sides.{gives_side}
 use Rattle.graphql_common.proofs.Viewed.{list_made, object_made}
 use Rattle.graphql_common.proofs.read.values.+values.Goals as goal
@@ -60,7 +60,7 @@ list-more-preserved g t c =
       turns = (
         items ++ one_of f x,
         Turns-more core _ (one_of f) _ _ _ items x turns (takes_seen core _ _ _ x (unseen_value c.args.sort _) takes) takes,
-        turn_more (value_view g.S.Names.Names.bytes) f _ _ _ _ items x c.in_ok-push.ensures.items view views,
+        adds_more (value_view g.S.Names.Names.bytes) _ _ _ items _ views (adds_one (value_view g.S.Names.Names.bytes) _ _ _ _ c.in_ok-push.ensures.items view),
       );
       kept = c.in_ok-value_of_sort.ensures.kept ∙ c.more.invariant.kept;
       within = omega (arith, c.more.invariant.within, c.in_ok-value_of_sort.ensures.shorter);
@@ -86,7 +86,7 @@ list-returns-clause-reads g t c =
     let r = Turns-stop core _ (one_of f) _ _ items turns (ends_list s _ (sym c.sees_punctuator.ensures ∙ c.more-test.false)) in (
       Both (Leaf o) (Both r.0 (Leaf e)),
       takes_both (takes_one core _ _ _ o refl opens) (takes_both r.1 (takes_one core _ _ _ e refl ends)),
-      list_made _ _ bytes _ ∙ ap list (ap items_of (turns_only (value_view bytes) f _ _ items c.new-items.ensures.items views ∙ sym r.2) ∙ sym (trees_means s r.1)) ∙ sym (list_means s (Leaf o) r.0 (Leaf e)),
+      list_made _ _ bytes _ ∙ ap list (ap items_of (fills (value_view bytes) _ _ items c.new-items.ensures.items views ∙ sym r.2) ∙ sym (trees_means s r.1)) ∙ sym (list_means s (Leaf o) r.0 (Leaf e)),
     )
 
 -- ---- object
@@ -102,29 +102,27 @@ object-more-init g t c = record { turns = ([], Turns-start core _ (one_of (pair_
 
 pub object-more-preserved : goal.object-more-preserved
 object-more-preserved g t c =
-    let bytes = g.S.Names.Names.bytes in
     let f = pair_of c.args.sort in
     let (pairs, turns, views) = c.more.invariant.turns in
-    let (x, takes, view) = c.in_ok-name.ensures.reads in
-    let inserted = ap (members_view bytes) c.in_ok-insert.ensures.entries ∙ view_insert bytes g.S.Names.Value.Ord.cmp g.met.S.Names.Names.cmp_by_bytes c.more.fields.entries c.in_ok-name.name c.in_ok-name.value in
+    let (x, takes, view) = c.in_ok-member.ensures.reads in
     record {
       turns = (
         pairs ++ one_of f x,
         Turns-more core _ (one_of f) _ _ _ pairs x turns (begins_pair c.args.sort _ ∙ sym c.sees_name.ensures ∙ c.more-test.true) takes,
-        inserted ∙ ap₂ (λ p ms. put p.0 p.1 ms) view views ∙ sym (put_more pairs (f x) _),
+        view ∙ ap (put (f x).0 (f x).1) views ∙ sym (put_more pairs (f x) _),
       );
-      kept = c.in_ok-name.ensures.kept ∙ c.more.invariant.kept;
-      within = omega (arith, c.more.invariant.within, c.in_ok-name.ensures.shorter);
+      kept = c.in_ok-member.ensures.kept ∙ c.more.invariant.kept;
+      within = omega (arith, c.more.invariant.within, c.in_ok-member.ensures.shorter);
     }
 
-pub object-returns-in_err-name-clause-reads : goal.object-returns-in_err-name-clause-reads
-object-returns-in_err-name-clause-reads g t c =
+pub object-returns-in_err-member-clause-reads : goal.object-returns-in_err-member-clause-reads
+object-returns-in_err-member-clause-reads g t c =
     let before = takes_one core _ _ _ _ refl c.in_ok-punctuator.ensures.1 in
     let (pairs, turns, views) = c.more.invariant.turns in
-    gives_error core _ (g.S.TokenSource.items c.args.source.now) (g.S.TokenSource.items c.pair.new.source) _ _ _
+    gives_error core _ (g.S.TokenSource.items c.args.source.now) (g.S.TokenSource.items c.member.new.source) _ _ _
     (Stops-after core _ _ _ _ _ _ _ before
-    (Stops-before core _ _ _ _ _ (Stops-turn core _ (one_of (pair_of c.args.sort)) _ _ _ pairs _ turns (begins_pair c.args.sort _ ∙ sym c.sees_name.ensures ∙ c.more-test.true) c.in_err-name.ensures.reads)))
-    c.from_residual-in_err-name.ensures.1
+    (Stops-before core _ _ _ _ _ (Stops-turn core _ (one_of (pair_of c.args.sort)) _ _ _ pairs _ turns (begins_pair c.args.sort _ ∙ sym c.sees_name.ensures ∙ c.more-test.true) c.in_err-member.ensures.reads)))
+    c.from_residual-in_err-member.ensures.1
 
 pub object-returns-in_err-punctuator-2-clause-reads : goal.object-returns-in_err-punctuator-2-clause-reads
 object-returns-in_err-punctuator-2-clause-reads g t c =
@@ -151,17 +149,17 @@ object-returns-clause-reads g t c =
       object_made _ _ bytes _ ∙ ap object fields ∙ sym (object_means s (Leaf o) r.0 (Leaf e)),
     )
 
--- ---- pair
+-- ---- member
 
-pub pair-returns-in_err-name-clause-reads : goal.pair-returns-in_err-name-clause-reads
-pair-returns-in_err-name-clause-reads g t c =
+pub member-returns-in_err-name-clause-reads : goal.member-returns-in_err-name-clause-reads
+member-returns-in_err-name-clause-reads g t c =
     let old = g.S.TokenSource.items c.args.source.now in
     let new = g.S.TokenSource.items c.name.new.source in
     gives_error core _ old new _ _ _
     ((pair_side c.args.sort old.tokens).stops _ _ (Stops-before core _ _ _ _ _ (stops_one core _ old new _ c.in_err-name.ensures))) c.from_residual.ensures.1
 
-pub pair-returns-in_err-punctuator-clause-reads : goal.pair-returns-in_err-punctuator-clause-reads
-pair-returns-in_err-punctuator-clause-reads g t c =
+pub member-returns-in_err-punctuator-clause-reads : goal.member-returns-in_err-punctuator-clause-reads
+member-returns-in_err-punctuator-clause-reads g t c =
     let old = g.S.TokenSource.items c.args.source.now in
     let new = g.S.TokenSource.items c.punctuator.new.source in
     let named = takes_one core _ _ _ _ refl c.in_ok-name.ensures.1 in
@@ -169,8 +167,8 @@ pair-returns-in_err-punctuator-clause-reads g t c =
     ((pair_side c.args.sort old.tokens).stops _ _ (Stops-after core _ _ _ _ _ _ _ named (Stops-before core _ _ _ _ _ (stops_one core _ (g.S.TokenSource.items c.name.new.source) new _ c.in_err-punctuator.ensures))))
     c.from_residual-in_err-punctuator.ensures.1
 
-pub pair-returns-in_err-value-clause-reads : goal.pair-returns-in_err-value-clause-reads
-pair-returns-in_err-value-clause-reads g t c =
+pub member-returns-in_err-value-clause-reads : goal.member-returns-in_err-value-clause-reads
+member-returns-in_err-value-clause-reads g t c =
     let old = g.S.TokenSource.items c.args.source.now in
     let named = takes_one core _ _ _ _ refl c.in_ok-name.ensures.1 in
     let before = takes_one core _ _ _ _ refl c.in_ok-punctuator.ensures.1 in
@@ -178,13 +176,16 @@ pair-returns-in_err-value-clause-reads g t c =
     ((pair_side c.args.sort old.tokens).stops _ _ (Stops-after core _ _ _ _ _ _ _ named (Stops-after core _ _ _ _ _ _ _ before c.in_err-value.ensures.reads)))
     c.from_residual-in_err-value.ensures.1
 
-pub pair-returns-clause-reads : goal.pair-returns-clause-reads
-pair-returns-clause-reads g t c =
+pub member-returns-clause-reads : goal.member-returns-clause-reads
+member-returns-clause-reads g t c =
     let s = c.args.sort in
-    let (n, named, (at, spelled)) = c.in_ok-name.ensures in
+    let bytes = g.S.Names.Names.bytes in
+    let (n, named, spelled) = c.in_ok-name.ensures in
     let (m, marks, until) = c.in_ok-punctuator.ensures in
-    let (x, takes, view) = c.in_ok-value.ensures.reads in (
+    let (x, takes, view) = c.in_ok-value.ensures.reads in
+    let inserted = ap (members_view bytes) c.in_ok-insert.ensures.entries ∙ view_insert bytes g.S.Names.Value.Ord.cmp g.met.S.Names.Names.cmp_by_bytes _ _ _ in
+    let pair = ap₂ (λ a b. (a, b)) (sym spelled) view ∙ sym (pair_means s (pair_symbol_of s) (Leaf n) (Leaf m) x) in (
       Node (pair_symbol_of s) (Both (Leaf n) (Both (Leaf m) x)),
       (pair_side s _).takes _ _ (takes_both (takes_one core _ _ _ n refl named) (takes_both (takes_one core _ _ _ m refl marks) takes)),
-      ap₂ (λ a b. (a, b)) (sym spelled) view ∙ sym (pair_means s (pair_symbol_of s) (Leaf n) (Leaf m) x),
+      inserted ∙ ap (λ p. put p.0 p.1 (members_view bytes c.args.fields.now.entries)) pair,
     )

@@ -1,4 +1,4 @@
-use Rattle.std.proofs.Common.{ℕ, ◌+◌, ◌*◌, ◌≤◌, ◌≡◌, ◌++◌, List, length, map}
+use Rattle.std.proofs.Common.{ℕ, ◌+◌, ◌*◌, ◌≤◌, ◌≡◌, List, length}
 use Rattle.graphql_grammar.specs.Trees.{Sym}
 use Rattle.graphql_grammar.specs.Words.{Turns}
 use Rattle.graphql_common.specs.Grammar.{core}
@@ -7,10 +7,11 @@ use Rattle.graphql_common.specs.Sorts.{symbol_of, pair_symbol_of, tree_of, pair_
 use Rattle.graphql_common.specs.Values.{ValueTree}
 use Rattle.graphql_common.specs.ValueViews.{value_view, members_view}
 use Rattle.graphql_core.specs.Source.{kept}
+use Rattle.graphql_common.specs.Gives.{Adds}
 use Rattle.graphql_common.proofs.Reading.{one_of}
 use Rattle.graphql_common.proofs.read.values.+values.Given as goal
 
--- a list, an object and a pair take a token before they read a value
+-- a list, an object and a member take a token before they read a value
 abbrev pub decreases-value_of_sort : goal.decreases-value_of_sort
 decreases-value_of_sort g l = 2 * length (g.S.TokenSource.items l.source.now).tokens + 1
 
@@ -20,13 +21,13 @@ decreases-list g l = 2 * length (g.S.TokenSource.items l.source.now).tokens
 abbrev pub decreases-object : goal.decreases-object
 decreases-object g l = 2 * length (g.S.TokenSource.items l.source.now).tokens
 
-abbrev pub decreases-pair : goal.decreases-pair
-decreases-pair g l = 2 * length (g.S.TokenSource.items l.source.now).tokens
+abbrev pub decreases-member : goal.decreases-member
+decreases-member g l = 2 * length (g.S.TokenSource.items l.source.now).tokens
 
 abbrev pub invariant-list-more : goal.invariant-list-more
 invariant-list-more g l = record {
   turns : (items : List ValueTree) × Turns core (Sym (symbol_of l.sort)) (one_of (tree_of l.sort)) (g.S.TokenSource.items l.initial.source).tokens (g.S.TokenSource.items l.source).tokens items
-      × (map (value_view g.S.Names.Names.bytes) l.items.items ≡ map (value_view g.S.Names.Names.bytes) l.initial.items.items ++ items);
+      × Adds (value_view g.S.Names.Names.bytes) l.initial.items.items l.items.items items;
   kept : kept (g.S.TokenSource.items l.source) ≡ kept (g.S.TokenSource.items l.initial.source);
   within : length (g.S.TokenSource.items l.source).tokens ≤ length (g.S.TokenSource.items l.initial.source).tokens;
 }

@@ -26,7 +26,7 @@ returns-in_err-name-clause-reads g c =
 pub returns-clause-reads : goal.returns-clause-reads
 returns-clause-reads g c =
     let (d, dollar, at) = c.in_ok-punctuator.ensures in
-    let (n, named, (place, spelled)) = c.in_ok-name.ensures in (
+    let (n, named, spelled) = c.in_ok-name.ensures in (
       Both (Leaf d) (Leaf n),
       takes_both (takes_one core _ _ _ d refl dollar) (takes_one core _ _ _ n refl named),
       variable_made _ _ g.S.Names.Names.bytes _ ∙ ap variable (sym spelled),

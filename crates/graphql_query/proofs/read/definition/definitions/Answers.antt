@@ -1,8 +1,8 @@
-use Rattle.std.proofs.Common.{refl, sym, ap, ◌∙◌, [], ◌∷◌, ◌++◌, arith, append-nil}
+use Rattle.std.proofs.Common.{refl, sym, ap, ◌∙◌, [], ◌∷◌, ◌++◌, arith}
 use Rattle.graphql_grammar.specs.Trees.{Both}
 use Rattle.graphql_grammar.specs.Reading.{takes_both}
 use Rattle.graphql_grammar.proofs.Turning.{Stops-before, Stops-after, Stops-turn, Turns-start, Turns-more, Turns-stop}
-use Rattle.graphql_common.proofs.Reading.{gives_error, one_of, turn_more, turns_all}
+use Rattle.graphql_common.proofs.Reading.{gives_error, one_of, adds_none, adds_one, adds_more, fills}
 use Rattle.graphql_query.specs.Tree.{definition_view}
 use Rattle.graphql_query.specs.Grammar.{reading}
 use Rattle.graphql_query.proofs.Defining.{read_definition, begins_definition, each_definition_means}
@@ -14,7 +14,7 @@ returns-in_err-definition-clause-reads g c =
     gives_error reading _ (items c.args.source.now) (items c.definition.new.source) _ _ _ (Stops-before reading _ _ _ _ _ c.in_err-definition.ensures.reads) c.from_residual.ensures.1
 
 pub more-init : goal.more-init
-more-init g c = record { turns = ([], Turns-start reading _ (one_of read_definition) _, sym (append-nil _)); kept = refl; within = omega arith }
+more-init g c = record { turns = ([], Turns-start reading _ (one_of read_definition) _, adds_none (definition_view g.S.Names.Names.bytes) _); kept = refl; within = omega arith }
 
 pub more-preserved : goal.more-preserved
 more-preserved g c =
@@ -24,7 +24,7 @@ more-preserved g c =
       turns = (
         items ++ one_of read_definition x,
         Turns-more reading _ (one_of read_definition) _ _ _ items x turns (begins_definition (g.S.TokenSource.items c.more.source) ∙ sym c.sees_definition.ensures ∙ c.more-test.true) takes,
-        turn_more (definition_view g.S.Names.Names.bytes) read_definition _ _ _ _ items x c.in_ok-push-2.ensures.items view views,
+        adds_more (definition_view g.S.Names.Names.bytes) _ _ _ items _ views (adds_one (definition_view g.S.Names.Names.bytes) _ _ _ _ c.in_ok-push-2.ensures.items view),
       );
       kept = c.in_ok-definition-2.ensures.kept ∙ c.more.invariant.kept;
       within = omega (arith, c.more.invariant.within, c.in_ok-definition-2.ensures.shorter);
@@ -41,12 +41,13 @@ returns-in_err-definition-2-clause-reads g c =
 
 pub returns-clause-reads : goal.returns-clause-reads
 returns-clause-reads g c =
+    let view_one = definition_view g.S.Names.Names.bytes in
     let (first, takes, view) = c.in_ok-definition.ensures.reads in
     let (items, turns, views) = c.more.invariant.turns in
     let unseen = begins_definition (g.S.TokenSource.items c.more.source) ∙ sym c.sees_definition.ensures ∙ c.more-test.false in
     let r = Turns-stop reading _ (one_of read_definition) _ _ items turns unseen in (
       Both first r.0,
       takes_both takes r.1,
-      turns_all (definition_view g.S.Names.Names.bytes) read_definition _ _ _ _ items first c.new-definitions.ensures.items c.in_ok-push.ensures.items view views
+      fills view_one _ _ _ c.new-definitions.ensures.items (adds_more view_one _ _ _ _ items (adds_one view_one _ _ _ _ c.in_ok-push.ensures.items view) views)
           ∙ ap (λ l. read_definition first ∷ l) (sym (each_definition_means r.1 ∙ r.2)),
     )

@@ -1,10 +1,12 @@
 use Rattle.std.proofs.Common.{refl, ◌∙◌}
 use Rattle.graphql_grammar.specs.Trees.{Leaf, Both, Node}
 use Rattle.graphql_grammar.specs.Reading.{takes_node, takes_both}
-use Rattle.graphql_common.proofs.Reading.{takes_one}
+use Rattle.graphql_common.specs.ValueViews.{directive_view}
+use Rattle.graphql_common.proofs.Reading.{takes_one, fills}
 use Rattle.graphql_query.specs.Grammar.{reading, fragment_symbol}
 use Rattle.graphql_query.proofs.Lifted.{takes_lifted, some_lifted, stops_lifted}
 use Rattle.graphql_query.proofs.Parts.{same_fragment}
+use Rattle.graphql_query.proofs.Viewed.{set_filled}
 use Rattle.graphql_query.proofs.Steps.{starts, past, before, error_in, error_one}
 use Rattle.graphql_query.proofs.read.definition.fragment_definition.Goals as goal
 
@@ -40,8 +42,8 @@ returns-in_err-directives-clause-reads g c =
     let (o, on, applies) = c.in_ok-type_condition.ensures.reads in
     error_in old mid new _ _ _ (before (past named on)) (stops_lifted _ refl _ _ _ c.in_err-directives.ensures.reads) c.from_residual-in_err-directives.ensures.1
 
-pub returns-in_err-selection_set-clause-reads : goal.returns-in_err-selection_set-clause-reads
-returns-in_err-selection_set-clause-reads g c =
+pub returns-in_err-span-clause-reads : goal.returns-in_err-span-clause-reads
+returns-in_err-span-clause-reads g c =
     let old = g.S.TokenSource.items c.args.source.now in
     let mid = g.S.TokenSource.items c.directives.new.source in
     let new = g.S.TokenSource.items c.selection_set.new.source in
@@ -49,21 +51,21 @@ returns-in_err-selection_set-clause-reads g c =
     let named = past begun (takes_one reading _ _ _ _ refl c.in_ok-name.ensures.1) in
     let (o, on, applies) = c.in_ok-type_condition.ensures.reads in
     let (d, directed, directs) = c.in_ok-directives.ensures.reads in
-    error_in old mid new _ _ _ (past (past named on) (takes_lifted _ refl _ _ _ directed)).stops c.in_err-selection_set.ensures.reads c.from_residual-in_err-selection_set.ensures.1
+    error_in old mid new _ _ _ (past (past named on) (takes_lifted _ refl _ _ _ directed)).stops c.in_err-span.ensures.reads c.from_residual-in_err-span.ensures.1
 
 pub returns-clause-reads : goal.returns-clause-reads
 returns-clause-reads g c =
     let (w, begins, at) = c.in_ok-position.ensures in
-    let (n, named, (place, spelled)) = c.in_ok-name.ensures in
+    let (n, named, spelled) = c.in_ok-name.ensures in
     let (o, on, applies) = c.in_ok-type_condition.ensures.reads in
     let (d, directed, directs) = some_lifted _ refl _ _ _ c.in_ok-directives.ensures.reads in
-    let (s, selected, selects) = c.in_ok-selection_set.ensures.reads in (
+    let (s, selected, selects) = c.in_ok-span.ensures.reads in (
       Node fragment_symbol (Both (Leaf w) (Both (Leaf n) (Both o (Both d s)))),
       takes_node (takes_both (takes_one reading _ _ _ w refl begins) (takes_both (takes_one reading _ _ _ n refl named) (takes_both on (takes_both directed selected)))) refl,
-      same_fragment at spelled applies directs selects,
+      same_fragment at spelled applies (fills (directive_view g.S.Names.Names.bytes) _ _ _ c.new-directives.ensures.items directs) (set_filled g.S.Names.Names.bytes _ _ _ _ c.new-items.ensures.items selects),
     )
 
 pub returns-clause-kept : goal.returns-clause-kept
 returns-clause-kept g c =
-    c.in_ok-selection_set.ensures.kept ∙ c.in_ok-directives.ensures.kept ∙ c.in_ok-type_condition.ensures.kept
+    c.in_ok-span.ensures.kept ∙ c.in_ok-directives.ensures.kept ∙ c.in_ok-type_condition.ensures.kept
     ∙ c.in_ok-name.ensures.1.kept ∙ c.in_ok-position.ensures.1.kept

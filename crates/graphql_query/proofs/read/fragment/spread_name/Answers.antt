@@ -2,7 +2,8 @@ use Rattle.std.proofs.Common.{◌≡◌, refl, sym, ap₂, ◌∙◌}
 use Rattle.graphql_grammar.specs.Trees.{One, Node}
 use Rattle.graphql_grammar.specs.Factored.{written}
 use Rattle.graphql_grammar.specs.Reading.{fails_one, fails_node}
-use Rattle.graphql_core.specs.Source.{place_of}
+use Rattle.graphql_core.specs.Source.{place_next}
+use Rattle.graphql_common.proofs.Reading.{placed}
 use Rattle.graphql_common.proofs.Sides.{gives_side, side_node}
 use Rattle.graphql_query.specs.Grammar.{reading, changes, spread_class, spread_name_symbol}
 use Rattle.graphql_query.specs.Meanings.{spread_name_of}
@@ -18,5 +19,5 @@ returns-clause-reads g c =
     let bytes = g.S.Names.Names.bytes in
     let old = items c.args.source.now in
     let new = items c.name.new.source in
-    gives_side reading _ (One spread_class) (Node spread_name_symbol) old new (λ v x. (place_of v.0, bytes v.1) ≡ spread_name_of (written changes (Node spread_name_symbol x))) _ _ (side_node reading spread_name_symbol old.tokens (λ x. refl)) (λ v x h. h)
-    (gives_one reading spread_class old new _ _ c.name.result (λ t. refl) (λ v t p. ap₂ (λ a b. (a, b)) (sym p.0) (sym p.1)) (narrowed old new _ c.name.result (sym c.sees_spread_name.ensures ∙ c.if-not-sees_spread_name.false) c.name.ensures))
+    gives_side reading _ (One spread_class) (Node spread_name_symbol) old new (λ v x. (place_next old, bytes v) ≡ spread_name_of (written changes (Node spread_name_symbol x))) _ _ (side_node reading spread_name_symbol old.tokens (λ x. refl)) (λ v x h. h)
+    (gives_one reading spread_class old new _ _ c.name.result (λ t. refl) (λ v t h p. ap₂ (λ a b. (a, b)) (placed _ old new t h) (sym p)) (narrowed old new _ c.name.result (sym c.sees_spread_name.ensures ∙ c.if-not-sees_spread_name.false) c.name.ensures))

@@ -23,7 +23,7 @@ returns-in_err-name-clause-reads g c =
 pub returns-clause-reads : goal.returns-clause-reads
 returns-clause-reads g c =
     let (o, opens, at) = c.in_ok-keyword.ensures in
-    let (n, named, (place, spelled)) = c.in_ok-name.ensures in (
+    let (n, named, spelled) = c.in_ok-name.ensures in (
       Node condition_symbol (Both (Leaf o) (Leaf n)),
       takes_node (takes_both (takes_one reading _ _ _ o refl opens) (takes_one reading _ _ _ n refl named)) refl,
       sym spelled,

@@ -1,9 +1,13 @@
 use Rattle.std.proofs.Common.{refl, ◌∙◌, arith}
 use Rattle.graphql_grammar.specs.Trees.{Both, Node}
 use Rattle.graphql_grammar.specs.Reading.{takes_node, takes_both}
+use Rattle.graphql_common.specs.ValueViews.{directive_view}
+use Rattle.graphql_common.proofs.Reading.{fills}
+use Rattle.graphql_query.specs.Tree.{variable_view}
 use Rattle.graphql_query.specs.Grammar.{common_symbol}
 use Rattle.graphql_query.proofs.Lifted.{takes_lifted, some_lifted, stops_lifted}
 use Rattle.graphql_query.proofs.Parts.{same_common}
+use Rattle.graphql_query.proofs.Viewed.{set_filled}
 use Rattle.graphql_query.proofs.Steps.{starts, past, before, error_in}
 use Rattle.graphql_query.proofs.read.operation.operation_common.Goals as goal
 
@@ -12,13 +16,13 @@ returns-in_err-name-clause-reads g c =
     let old = g.S.TokenSource.items c.args.source.now in
     error_in old old (g.S.TokenSource.items c.optional_name.new.source) _ _ _ (before (starts common_symbol old.tokens)) c.in_err-name.ensures.reads c.from_residual.ensures.1
 
-pub returns-in_err-variable_definitions-clause-reads : goal.returns-in_err-variable_definitions-clause-reads
-returns-in_err-variable_definitions-clause-reads g c =
+pub returns-in_err-optional_variables-clause-reads : goal.returns-in_err-optional_variables-clause-reads
+returns-in_err-optional_variables-clause-reads g c =
     let old = g.S.TokenSource.items c.args.source.now in
     let mid = g.S.TokenSource.items c.optional_name.new.source in
     let new = g.S.TokenSource.items c.optional_variables.new.source in
     let (n, named, called) = c.in_ok-name.ensures.reads in
-    error_in old mid new _ _ _ (before (past (starts common_symbol old.tokens) named)) c.in_err-variable_definitions.ensures.reads c.from_residual-in_err-variable_definitions.ensures.1
+    error_in old mid new _ _ _ (before (past (starts common_symbol old.tokens) named)) c.in_err-optional_variables.ensures.reads c.from_residual-in_err-optional_variables.ensures.1
 
 pub returns-in_err-directives-clause-reads : goal.returns-in_err-directives-clause-reads
 returns-in_err-directives-clause-reads g c =
@@ -26,32 +30,36 @@ returns-in_err-directives-clause-reads g c =
     let mid = g.S.TokenSource.items c.optional_variables.new.source in
     let new = g.S.TokenSource.items c.directives.new.source in
     let (n, named, called) = c.in_ok-name.ensures.reads in
-    let (v, varied, varies) = c.in_ok-variable_definitions.ensures.reads in
+    let (v, varied, varies) = c.in_ok-optional_variables.ensures.reads in
     error_in old mid new _ _ _ (before (past (past (starts common_symbol old.tokens) named) varied)) (stops_lifted _ refl _ _ _ c.in_err-directives.ensures.reads) c.from_residual-in_err-directives.ensures.1
 
-pub returns-in_err-selection_set-clause-reads : goal.returns-in_err-selection_set-clause-reads
-returns-in_err-selection_set-clause-reads g c =
+pub returns-in_err-span-clause-reads : goal.returns-in_err-span-clause-reads
+returns-in_err-span-clause-reads g c =
     let old = g.S.TokenSource.items c.args.source.now in
     let mid = g.S.TokenSource.items c.directives.new.source in
     let new = g.S.TokenSource.items c.selection_set.new.source in
     let (n, named, called) = c.in_ok-name.ensures.reads in
-    let (v, varied, varies) = c.in_ok-variable_definitions.ensures.reads in
+    let (v, varied, varies) = c.in_ok-optional_variables.ensures.reads in
     let (d, directed, directs) = c.in_ok-directives.ensures.reads in
-    error_in old mid new _ _ _ (past (past (past (starts common_symbol old.tokens) named) varied) (takes_lifted _ refl _ _ _ directed)).stops c.in_err-selection_set.ensures.reads c.from_residual-in_err-selection_set.ensures.1
+    error_in old mid new _ _ _ (past (past (past (starts common_symbol old.tokens) named) varied) (takes_lifted _ refl _ _ _ directed)).stops c.in_err-span.ensures.reads c.from_residual-in_err-span.ensures.1
 
 pub returns-clause-reads : goal.returns-clause-reads
 returns-clause-reads g c =
     let (n, named, called) = c.in_ok-name.ensures.reads in
-    let (v, varied, varies) = c.in_ok-variable_definitions.ensures.reads in
+    let (v, varied, varies) = c.in_ok-optional_variables.ensures.reads in
     let (d, directed, directs) = some_lifted _ refl _ _ _ c.in_ok-directives.ensures.reads in
-    let (s, selected, selects) = c.in_ok-selection_set.ensures.reads in (
+    let (s, selected, selects) = c.in_ok-span.ensures.reads in (
       Node common_symbol (Both n (Both v (Both d s))),
       takes_node (takes_both named (takes_both varied (takes_both directed selected))) refl,
-      same_common called varies directs selects,
+      same_common called (fills (variable_view g.S.Names.Names.bytes) _ _ _ c.new-variable_definitions.ensures.items varies) (fills (directive_view g.S.Names.Names.bytes) _ _ _ c.new-directives.ensures.items directs) (set_filled g.S.Names.Names.bytes _ _ _ _ c.new-items.ensures.items selects),
     )
 
+pub returns-in_err-span-clause-kept : goal.returns-in_err-span-clause-kept
+returns-in_err-span-clause-kept g c =
+    c.in_err-span.ensures.kept ∙ c.in_ok-directives.ensures.kept ∙ c.in_ok-optional_variables.ensures.kept ∙ c.in_ok-name.ensures.kept
+
 pub returns-clause-kept : goal.returns-clause-kept
-returns-clause-kept g c = c.in_ok-selection_set.ensures.kept ∙ c.in_ok-directives.ensures.kept ∙ c.in_ok-variable_definitions.ensures.kept ∙ c.in_ok-name.ensures.kept
+returns-clause-kept g c = c.in_ok-span.ensures.kept ∙ c.in_ok-directives.ensures.kept ∙ c.in_ok-optional_variables.ensures.kept ∙ c.in_ok-name.ensures.kept
 
 pub returns-clause-shorter : goal.returns-clause-shorter
-returns-clause-shorter g c = omega (arith, c.in_ok-selection_set.ensures.shorter, c.in_ok-directives.ensures.within, c.in_ok-variable_definitions.ensures.within, c.in_ok-name.ensures.within)
+returns-clause-shorter g c = omega (arith, c.in_ok-span.ensures.shorter, c.in_ok-directives.ensures.within, c.in_ok-optional_variables.ensures.within, c.in_ok-name.ensures.within)

@@ -1,14 +1,15 @@
-use Rattle.std.proofs.Common.{sym, ap, ◌∙◌}
+use Rattle.std.proofs.Common.{sym, ◌∙◌}
 use Rattle.graphql_grammar.specs.Trees.{First, Second, Nothing}
+use Rattle.graphql_common.proofs.Reading.{adds_none}
 use Rattle.graphql_common.proofs.Sides.{gives_side}
 use Rattle.graphql_query.specs.Grammar.{reading}
-use Rattle.graphql_query.specs.Tree.{variables_view}
+use Rattle.graphql_query.specs.Tree.{variable_view}
 use Rattle.graphql_query.proofs.Variables.{some_variables, no_variables}
 use Rattle.graphql_query.proofs.read.operation.optional_variables.Goals as goal
 
 pub returns-then-not-sees_punctuator-clause-reads : goal.returns-then-not-sees_punctuator-clause-reads
 returns-then-not-sees_punctuator-clause-reads g c =
-    (Second Nothing, no_variables _ (sym c.sees_punctuator.ensures ∙ c.if-not-sees_punctuator.true), ap (variables_view g.S.Names.Names.bytes) c.new.ensures.items)
+    (Second Nothing, no_variables _ (sym c.sees_punctuator.ensures ∙ c.if-not-sees_punctuator.true), adds_none (variable_view g.S.Names.Names.bytes) _)
 
 pub returns-clause-reads : goal.returns-clause-reads
 returns-clause-reads g c =

@@ -1,8 +1,9 @@
 use Rattle.std.proofs.Common.{refl}
 use Rattle.graphql_grammar.specs.Trees.{Leaf, Both, Node}
 use Rattle.graphql_grammar.specs.Reading.{takes_node, takes_both}
-use Rattle.graphql_common.proofs.Reading.{takes_one}
+use Rattle.graphql_common.proofs.Reading.{takes_one, adds_one}
 use Rattle.graphql_query.specs.Grammar.{reading, variable_symbol}
+use Rattle.graphql_query.specs.Tree.{variable_view}
 use Rattle.graphql_query.proofs.Parts.{same_variable}
 use Rattle.graphql_query.proofs.Lifted.{takes_lifted, some_lifted, stops_lifted}
 use Rattle.graphql_query.proofs.Steps.{starts, past, before, error_in, error_one}
@@ -55,11 +56,11 @@ returns-in_err-default_value-clause-reads g c =
 pub returns-clause-reads : goal.returns-clause-reads
 returns-clause-reads g c =
     let (d, dollar, at) = c.in_ok-position.ensures in
-    let (n, named, (place, spelled)) = c.in_ok-name.ensures in
+    let (n, named, spelled) = c.in_ok-name.ensures in
     let (m, colon, until) = c.in_ok-punctuator.ensures in
     let (t, typed, seen) = some_lifted _ refl _ _ _ c.in_ok-var_type.ensures.reads in
     let (v, valued, view) = c.in_ok-default_value.ensures.reads in (
       Node variable_symbol (Both (Leaf d) (Both (Leaf n) (Both (Leaf m) (Both t v)))),
       takes_node (takes_both (takes_one reading _ _ _ d refl dollar) (takes_both (takes_one reading _ _ _ n refl named) (takes_both (takes_one reading _ _ _ m refl colon) (takes_both typed valued)))) refl,
-      same_variable at spelled seen view,
+      adds_one (variable_view g.S.Names.Names.bytes) _ _ _ _ c.in_ok-push.ensures.items (same_variable at spelled seen view),
     )

@@ -1,8 +1,8 @@
-use Rattle.std.proofs.Common.{refl, sym, ap, ◌∙◌, [], ◌∷◌, ◌++◌, arith, append-nil}
+use Rattle.std.proofs.Common.{refl, sym, ap, ◌∙◌, [], ◌∷◌, ◌++◌, map, arith}
 use Rattle.graphql_grammar.specs.Trees.{Leaf, Both, Node}
 use Rattle.graphql_grammar.specs.Reading.{takes_node, takes_both}
 use Rattle.graphql_grammar.proofs.Turning.{Stops-before, Stops-after, Stops-turn, Turns-start, Turns-more, Turns-stop}
-use Rattle.graphql_common.proofs.Reading.{takes_one, stops_one, stops_some, one_of, turn_more, turns_all}
+use Rattle.graphql_common.proofs.Reading.{takes_one, stops_one, stops_some, one_of, adds_none, adds_more}
 use Rattle.graphql_query.specs.Tree.{variable_view}
 use Rattle.graphql_query.specs.Grammar.{reading, variables_symbol}
 use Rattle.graphql_query.proofs.Steps.{starts, past, before, error_in, error_one}
@@ -23,7 +23,7 @@ returns-in_err-variable_definition-clause-reads g c =
     error_in old mid new _ _ _ (before opened) (Stops-before reading _ _ _ _ _ c.in_err-variable_definition.ensures.reads) c.from_residual-in_err-variable_definition.ensures.1
 
 pub more-init : goal.more-init
-more-init g c = record { turns = ([], Turns-start reading _ (one_of read_variable) _, sym (append-nil _)); kept = refl; within = omega arith }
+more-init g c = record { turns = ([], Turns-start reading _ (one_of read_variable) _, adds_none (variable_view g.S.Names.Names.bytes) _); kept = refl; within = omega arith }
 
 pub more-preserved : goal.more-preserved
 more-preserved g c =
@@ -33,7 +33,7 @@ more-preserved g c =
       turns = (
         items ++ one_of read_variable x,
         Turns-more reading _ (one_of read_variable) _ _ _ items x turns (begins_variable _ ∙ sym c.sees_punctuator.ensures ∙ c.more-test.true) takes,
-        turn_more (variable_view g.S.Names.Names.bytes) read_variable _ _ _ _ items x c.in_ok-push-2.ensures.items view views,
+        adds_more (variable_view g.S.Names.Names.bytes) _ _ _ items _ views view,
       );
       kept = c.in_ok-variable_definition-2.ensures.kept ∙ c.more.invariant.kept;
       within = omega (arith, c.more.invariant.within, c.in_ok-variable_definition-2.ensures.shorter);
@@ -66,6 +66,7 @@ returns-in_err-punctuator-2-clause-reads g c =
 
 pub returns-clause-reads : goal.returns-clause-reads
 returns-clause-reads g c =
+    let view_one = variable_view g.S.Names.Names.bytes in
     let (o, opens, at) = c.in_ok-punctuator.ensures in
     let (first, takes, view) = c.in_ok-variable_definition.ensures.reads in
     let (items, turns, views) = c.more.invariant.turns in
@@ -73,6 +74,6 @@ returns-clause-reads g c =
     let r = Turns-stop reading _ (one_of read_variable) _ _ items turns (begins_variable _ ∙ sym c.sees_punctuator.ensures ∙ c.more-test.false) in (
       Node variables_symbol (Both (Leaf o) (Both (Both first r.0) (Leaf e))),
       takes_node (takes_both (takes_one reading _ _ _ o refl opens) (takes_both (takes_both takes r.1) (takes_one reading _ _ _ e refl ends))) refl,
-      turns_all (variable_view g.S.Names.Names.bytes) read_variable _ _ _ _ items first c.new-definitions.ensures.items c.in_ok-push.ensures.items view views
-          ∙ ap (λ l. read_variable first ∷ l) (sym (each_variable_means r.1 ∙ r.2)),
+      adds_more view_one _ _ _ _ items view views
+          ∙ ap (λ l. map view_one c.args.definitions.now.items ++ (read_variable first ∷ l)) (sym (each_variable_means r.1 ∙ r.2)),
     )

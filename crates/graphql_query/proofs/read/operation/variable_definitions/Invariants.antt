@@ -1,9 +1,10 @@
-use Rattle.std.proofs.Common.{◌≡◌, ◌≤◌, ◌++◌, List, length}
+use Rattle.std.proofs.Common.{◌≡◌, ◌≤◌, List, length}
 use Rattle.graphql_grammar.specs.Trees.{Sym}
 use Rattle.graphql_grammar.specs.Words.{Turns}
 use Rattle.graphql_core.specs.Source.{kept}
+use Rattle.graphql_common.specs.Gives.{Adds}
 use Rattle.graphql_common.proofs.Reading.{one_of}
-use Rattle.graphql_query.specs.Tree.{VariableTree, variables_view}
+use Rattle.graphql_query.specs.Tree.{VariableTree, variable_view}
 use Rattle.graphql_query.specs.Grammar.{reading, variable_symbol}
 use Rattle.graphql_query.proofs.Variables.{read_variable}
 use Rattle.graphql_query.proofs.read.operation.variable_definitions.Given as goal
@@ -11,7 +12,7 @@ use Rattle.graphql_query.proofs.read.operation.variable_definitions.Given as goa
 abbrev pub invariant-more : goal.invariant-more
 invariant-more g l = record {
   turns : (items : List VariableTree) × Turns reading (Sym variable_symbol) (one_of read_variable) (g.S.TokenSource.items l.initial.source).tokens (g.S.TokenSource.items l.source).tokens items
-      × (variables_view g.S.Names.Names.bytes l.definitions.items ≡ variables_view g.S.Names.Names.bytes l.initial.definitions.items ++ items);
+      × Adds (variable_view g.S.Names.Names.bytes) l.initial.definitions.items l.definitions.items items;
   kept : kept (g.S.TokenSource.items l.source) ≡ kept (g.S.TokenSource.items l.initial.source);
   within : length (g.S.TokenSource.items l.source).tokens ≤ length (g.S.TokenSource.items l.initial.source).tokens;
 }

@@ -1,96 +1,109 @@
-use Rattle.std.proofs.Common.{◌≡◌, ◌<◌, [], ◌++◌, length, map, refl, sym, ap, ◌∙◌, arith, append-nil}
+use Rattle.std.proofs.Common.{◌≡◌, ◌<◌, [], ◌∷◌, ◌++◌, length, map, refl, sym, ap, ◌∙◌, arith}
 use Rattle.graphql_grammar.specs.Trees.{Sym, Leaf, Both, First, Second, Nothing, Node, optional, peek}
 use Rattle.graphql_grammar.specs.Reading.{takes_node, takes_both}
 use Rattle.graphql_grammar.specs.Factored.{written}
 use Rattle.graphql_grammar.proofs.Turning.{Stops-node, Stops-before, Stops-after, Stops-turn, Turns-start, Turns-more, Turns-stop}
-use Rattle.graphql_core.specs.Source.{place_of}
+use Rattle.graphql_common.specs.ValueViews.{argument_view, directive_view}
 use Rattle.graphql_common.specs.Grammar.{arguments_symbol, directives_symbol}
-use Rattle.graphql_common.proofs.Reading.{takes_one, stops_one, stops_some, gives_then, gives_error, one_of, turn_more, turns_all}
+use Rattle.graphql_common.proofs.Reading.{placed, takes_one, stops_one, stops_some, gives_then, gives_error, one_of, adds_none, adds_one, adds_more, fills}
 use Rattle.graphql_common.proofs.Sides.{gives_side}
 use Rattle.graphql_query.specs.Grammar.{reading, changes, set_symbol, selection_symbol, field_symbol, inline_rest}
 use Rattle.graphql_query.specs.Meanings.{selections_of}
-use Rattle.graphql_query.specs.Tree.{set, more, trees_of, selection_view}
+use Rattle.graphql_query.specs.Tree.{more, trees_of, selection_view}
 use Rattle.graphql_query.proofs.Lifted.{some_lifted, stops_lifted, begins_at}
 use Rattle.graphql_query.proofs.Selecting.{some_set, no_set, field_side, dots_side, spread_side, inline_side, begins_selection, field_means, inline_means, dots_mean, selection_at, selections_mean}
-use Rattle.graphql_query.proofs.Viewed.{field_made, inline_made, set_made, field_selected, spread_selected, inline_selected}
+use Rattle.graphql_query.proofs.Viewed.{field_made, inline_made, set_filled, field_selected, inline_selected}
 use Rattle.graphql_query.proofs.read.selection.+reading.Goals as goal
 
 -- ---- field
 
-pub field-returns-in_err-position-clause-reads : goal.field-returns-in_err-position-clause-reads
-field-returns-in_err-position-clause-reads g t c =
+pub field-returns-in_err-name-clause-reads : goal.field-returns-in_err-name-clause-reads
+field-returns-in_err-name-clause-reads g t c =
     let old = g.S.TokenSource.items c.args.source.now in
     let new = g.S.TokenSource.items c.name.new.source in
-    gives_error reading _ old new _ _ _ (Stops-node reading field_symbol _ _ _ (Stops-before reading _ _ _ _ _ (stops_one reading _ old new _ c.in_err-position.ensures))) c.from_residual.ensures.1
+    gives_error reading _ old new _ _ _ (Stops-node reading field_symbol _ _ _ (Stops-before reading _ _ _ _ _ (stops_one reading _ old new _ c.in_err-name.ensures))) c.from_residual.ensures.1
 
 pub field-returns-in_err-alias-clause-reads : goal.field-returns-in_err-alias-clause-reads
 field-returns-in_err-alias-clause-reads g t c =
     let items = g.S.TokenSource.items in
-    let named = takes_one reading _ _ _ _ refl c.in_ok-position.ensures.1 in
-    gives_error reading _ (items c.args.source.now) (items c.aliased.new.source) _ _ _
+    let named = takes_one reading _ _ _ _ refl c.in_ok-name.ensures.1 in
+    gives_error reading _ (items c.args.source.now) (items c.alias.new.source) _ _ _
     (Stops-node reading field_symbol _ _ _ (Stops-after reading _ _ _ _ _ _ _ named (Stops-before reading _ _ _ _ _ c.in_err-alias.ensures.reads)))
     c.from_residual-in_err-alias.ensures.1
 
-pub field-returns-in_err-arguments-clause-reads : goal.field-returns-in_err-arguments-clause-reads
-field-returns-in_err-arguments-clause-reads g t c =
+pub field-returns-in_err-optional_arguments-clause-reads : goal.field-returns-in_err-optional_arguments-clause-reads
+field-returns-in_err-optional_arguments-clause-reads g t c =
     let items = g.S.TokenSource.items in
-    let named = takes_one reading _ _ _ _ refl c.in_ok-position.ensures.1 in
+    let named = takes_one reading _ _ _ _ refl c.in_ok-name.ensures.1 in
     let renames = c.in_ok-alias.ensures.reads.1 in
-    let stops = stops_lifted (optional (Sym arguments_symbol)) refl _ _ _ c.in_err-arguments.ensures.reads in
+    let stops = stops_lifted (optional (Sym arguments_symbol)) refl _ _ _ c.in_err-optional_arguments.ensures.reads in
     gives_error reading _ (items c.args.source.now) (items c.optional_arguments.new.source) _ _ _
     (Stops-node reading field_symbol _ _ _ (Stops-after reading _ _ _ _ _ _ _ named (Stops-after reading _ _ _ _ _ _ _ renames (Stops-before reading _ _ _ _ _ stops))))
-    c.from_residual-in_err-arguments.ensures.1
+    c.from_residual-in_err-optional_arguments.ensures.1
 
 pub field-returns-in_err-directives-clause-reads : goal.field-returns-in_err-directives-clause-reads
 field-returns-in_err-directives-clause-reads g t c =
     let items = g.S.TokenSource.items in
-    let named = takes_one reading _ _ _ _ refl c.in_ok-position.ensures.1 in
+    let named = takes_one reading _ _ _ _ refl c.in_ok-name.ensures.1 in
     let renames = c.in_ok-alias.ensures.reads.1 in
-    let given = (some_lifted (optional (Sym arguments_symbol)) refl _ _ _ c.in_ok-arguments.ensures.reads).1 in
+    let given = (some_lifted (optional (Sym arguments_symbol)) refl _ _ _ c.in_ok-optional_arguments.ensures.reads).1 in
     let stops = stops_lifted (Sym directives_symbol) refl _ _ _ c.in_err-directives.ensures.reads in
     gives_error reading _ (items c.args.source.now) (items c.directives.new.source) _ _ _
     (Stops-node reading field_symbol _ _ _ (Stops-after reading _ _ _ _ _ _ _ named (Stops-after reading _ _ _ _ _ _ _ renames (Stops-after reading _ _ _ _ _ _ _ given (Stops-before reading _ _ _ _ _ stops)))))
     c.from_residual-in_err-directives.ensures.1
 
-pub field-returns-in_err-selection_set-clause-reads : goal.field-returns-in_err-selection_set-clause-reads
-field-returns-in_err-selection_set-clause-reads g t c =
+pub field-returns-in_err-span-clause-reads : goal.field-returns-in_err-span-clause-reads
+field-returns-in_err-span-clause-reads g t c =
     let items = g.S.TokenSource.items in
-    let named = takes_one reading _ _ _ _ refl c.in_ok-position.ensures.1 in
+    let named = takes_one reading _ _ _ _ refl c.in_ok-name.ensures.1 in
     let renames = c.in_ok-alias.ensures.reads.1 in
-    let given = (some_lifted (optional (Sym arguments_symbol)) refl _ _ _ c.in_ok-arguments.ensures.reads).1 in
+    let given = (some_lifted (optional (Sym arguments_symbol)) refl _ _ _ c.in_ok-optional_arguments.ensures.reads).1 in
     let listed = (some_lifted (Sym directives_symbol) refl _ _ _ c.in_ok-directives.ensures.reads).1 in
     gives_error reading _ (items c.args.source.now) (items c.selected.new.source) _ _ _
-    (Stops-node reading field_symbol _ _ _ (Stops-after reading _ _ _ _ _ _ _ named (Stops-after reading _ _ _ _ _ _ _ renames (Stops-after reading _ _ _ _ _ _ _ given (Stops-after reading _ _ _ _ _ _ _ listed c.in_err-selection_set.ensures.reads)))))
-    c.from_residual-in_err-selection_set.ensures.1
+    (Stops-node reading field_symbol _ _ _ (Stops-after reading _ _ _ _ _ _ _ named (Stops-after reading _ _ _ _ _ _ _ renames (Stops-after reading _ _ _ _ _ _ _ given (Stops-after reading _ _ _ _ _ _ _ listed c.in_err-span.ensures.reads)))))
+    c.from_residual-in_err-span.ensures.1
 
 pub field-returns-clause-reads : goal.field-returns-clause-reads
 field-returns-clause-reads g t c =
-    let (n, named, (at, spelled)) = c.in_ok-position.ensures in
+    let bytes = g.S.Names.Names.bytes in
+    let (n, named, spelled) = c.in_ok-name.ensures in
+    let at = sym (c.position-position.ensures ∙ placed _ _ _ n named) in
     let (a, renames, names) = c.in_ok-alias.ensures.reads in
-    let (x, given, arguments) = some_lifted (optional (Sym arguments_symbol)) refl _ _ _ c.in_ok-arguments.ensures.reads in
+    let (x, given, arguments) = some_lifted (optional (Sym arguments_symbol)) refl _ _ _ c.in_ok-optional_arguments.ensures.reads in
     let (y, listed, directives) = some_lifted (Sym directives_symbol) refl _ _ _ c.in_ok-directives.ensures.reads in
-    let (s, selects, selected) = c.in_ok-selection_set.ensures.reads in (
+    let (s, selects, selected) = c.in_ok-span.ensures.reads in
+    let gave = fills (argument_view bytes) _ _ _ c.new-arguments.ensures.items arguments in
+    let marked = fills (directive_view bytes) _ _ _ c.new-directives.ensures.items directives in
+    let chosen = set_filled bytes _ _ _ _ c.new-selections.ensures.items selected in (
       Node field_symbol (Both (Leaf n) (Both a (Both x (Both y s)))),
       takes_node (takes_both (takes_one reading _ _ _ n refl named) (takes_both renames (takes_both given (takes_both listed selects)))) refl,
-      field_made g.S.Names.Names.bytes _ _ _ _ _ _ ∙ field_means n a x y s renames _ _ _ _ _ _ at spelled names arguments directives selected,
+      adds_one (selection_view bytes) _ _ _ _ c.in_ok-push.ensures.items
+          (field_selected bytes _ ∙ field_made bytes _ _ _ _ _ _ ∙ field_means n a x y s renames _ _ _ _ _ _ at spelled names gave marked chosen),
     )
+
+pub field-returns-in_err-span-clause-kept : goal.field-returns-in_err-span-clause-kept
+field-returns-in_err-span-clause-kept g t c =
+    c.in_err-span.ensures.kept ∙ c.in_ok-directives.ensures.kept ∙ c.in_ok-optional_arguments.ensures.kept ∙ c.in_ok-alias.ensures.kept ∙ c.in_ok-name.ensures.1.kept
+
+pub field-returns-in_err-push-clause-kept : goal.field-returns-in_err-push-clause-kept
+field-returns-in_err-push-clause-kept g t c =
+    c.in_ok-span.ensures.kept ∙ c.in_ok-directives.ensures.kept ∙ c.in_ok-optional_arguments.ensures.kept ∙ c.in_ok-alias.ensures.kept ∙ c.in_ok-name.ensures.1.kept
 
 pub field-returns-clause-kept : goal.field-returns-clause-kept
 field-returns-clause-kept g t c =
-    c.in_ok-selection_set.ensures.kept ∙ c.in_ok-directives.ensures.kept ∙ c.in_ok-arguments.ensures.kept ∙ c.in_ok-alias.ensures.kept ∙ c.in_ok-position.ensures.1.kept
+    c.in_ok-span.ensures.kept ∙ c.in_ok-directives.ensures.kept ∙ c.in_ok-optional_arguments.ensures.kept ∙ c.in_ok-alias.ensures.kept ∙ c.in_ok-name.ensures.1.kept
 
 pub field-returns-clause-shorter : goal.field-returns-clause-shorter
 field-returns-clause-shorter g t c =
-    let named = ap length c.in_ok-position.ensures.1.tokens in
-    omega (arith, named, c.in_ok-alias.ensures.within, c.in_ok-arguments.ensures.within, c.in_ok-directives.ensures.within, c.in_ok-selection_set.ensures.within)
+    let named = ap length c.in_ok-name.ensures.1.tokens in
+    omega (arith, named, c.in_ok-alias.ensures.within, c.in_ok-optional_arguments.ensures.within, c.in_ok-directives.ensures.within, c.in_ok-span.ensures.within)
 
 -- ---- selected
 
 pub selected-returns-then-not-sees_punctuator-clause-reads : goal.selected-returns-then-not-sees_punctuator-clause-reads
 selected-returns-then-not-sees_punctuator-clause-reads g t c =
     let none = no_set (g.S.TokenSource.items c.args.source.now).tokens (sym c.sees_punctuator.ensures ∙ c.if-not-sees_punctuator.true) in
-    let place = place_of c.args.position in
-    (Second Nothing, none, set_made g.S.Names.Names.bytes _ _ _ ∙ ap (λ l. set place place (trees_of (map (selection_view g.S.Names.Names.bytes) l))) c.new.ensures.items)
+    (Second Nothing, none, ([], adds_none (selection_view g.S.Names.Names.bytes) _, refl))
 
 pub selected-returns-clause-reads : goal.selected-returns-clause-reads
 selected-returns-clause-reads g t c =
@@ -107,25 +120,32 @@ inline_fragment-returns-in_err-directives-clause-reads g t c =
     let stops = stops_lifted (Sym directives_symbol) refl _ _ _ c.in_err-directives.ensures.reads in
     gives_error reading _ (items c.args.source.now) (items c.directives.new.source) _ _ _ (Stops-after reading _ _ _ _ _ _ _ named (Stops-before reading _ _ _ _ _ stops)) c.from_residual-in_err-directives.ensures.1
 
-pub inline_fragment-returns-in_err-selection_set-clause-reads : goal.inline_fragment-returns-in_err-selection_set-clause-reads
-inline_fragment-returns-in_err-selection_set-clause-reads g t c =
+pub inline_fragment-returns-in_err-span-clause-reads : goal.inline_fragment-returns-in_err-span-clause-reads
+inline_fragment-returns-in_err-span-clause-reads g t c =
     let items = g.S.TokenSource.items in
     let named = c.in_ok-type_condition.ensures.reads.1 in
     let listed = (some_lifted (Sym directives_symbol) refl _ _ _ c.in_ok-directives.ensures.reads).1 in
     gives_error reading _ (items c.args.source.now) (items c.selection_set.new.source) _ _ _
-    (Stops-after reading _ _ _ _ _ _ _ named (Stops-after reading _ _ _ _ _ _ _ listed c.in_err-selection_set.ensures.reads)) c.from_residual-in_err-selection_set.ensures.1
+    (Stops-after reading _ _ _ _ _ _ _ named (Stops-after reading _ _ _ _ _ _ _ listed c.in_err-span.ensures.reads)) c.from_residual-in_err-span.ensures.1
 
 pub inline_fragment-returns-clause-reads : goal.inline_fragment-returns-clause-reads
 inline_fragment-returns-clause-reads g t c =
+    let bytes = g.S.Names.Names.bytes in
     let old = g.S.TokenSource.items c.args.source.now in
     let new = g.S.TokenSource.items c.selection_set.new.source in
     let (x, named, condition) = c.in_ok-type_condition.ensures.reads in
     let (y, listed, directives) = some_lifted (Sym directives_symbol) refl _ _ _ c.in_ok-directives.ensures.reads in
-    let (s, selects, selected) = c.in_ok-selection_set.ensures.reads in
+    let (s, selects, selected) = c.in_ok-span.ensures.reads in
     let takes = takes_both named (takes_both listed selects) in
-    let fewer : length new.tokens < length old.tokens = omega (arith, c.in_ok-type_condition.ensures.within, c.in_ok-directives.ensures.within, c.in_ok-selection_set.ensures.shorter) in
+    let fewer : length new.tokens < length old.tokens = omega (arith, c.in_ok-type_condition.ensures.within, c.in_ok-directives.ensures.within, c.in_ok-span.ensures.shorter) in
     let place = c.position-position.ensures ∙ sym (begins_at inline_rest old new (Both x (Both y s)) takes fewer) in
-    (Both x (Both y s), takes, inline_made g.S.Names.Names.bytes _ _ _ _ ∙ inline_means _ _ _ _ _ _ _ _ place condition directives selected)
+    let marked = fills (directive_view bytes) _ _ _ c.new-directives.ensures.items directives in
+    let chosen = set_filled bytes _ _ _ _ c.new-selections.ensures.items selected in (
+      Both x (Both y s),
+      takes,
+      adds_one (selection_view bytes) _ _ _ _ c.in_ok-push.ensures.items
+          (inline_selected bytes _ ∙ inline_made bytes _ _ _ _ ∙ inline_means _ _ _ _ _ _ _ _ place condition marked chosen),
+    )
 
 -- ---- spread or inline fragment
 
@@ -135,35 +155,25 @@ spread_or_inline-returns-in_err-punctuator-clause-reads g t c =
     let new = g.S.TokenSource.items c.punctuator.new.source in
     gives_error reading _ old new _ _ _ (Stops-before reading _ _ _ _ _ (stops_one reading _ old new _ c.in_err-punctuator.ensures)) c.from_residual.ensures.1
 
-pub spread_or_inline-returns-in_err-fragment_spread-clause-reads : goal.spread_or_inline-returns-in_err-fragment_spread-clause-reads
-spread_or_inline-returns-in_err-fragment_spread-clause-reads g t c =
-    let items = g.S.TokenSource.items in
-    let before = takes_one reading _ _ _ _ refl c.in_ok-punctuator.ensures.1 in
-    let side = spread_side (items c.punctuator.new.source).tokens (sym c.sees_spread_name.ensures ∙ c.if-sees_spread_name.true) in
-    gives_error reading _ (items c.args.source.now) (items c.fragment_spread.new.source) _ _ _
-    (Stops-after reading _ _ _ _ _ _ _ before (side.stops _ _ c.in_err-fragment_spread.ensures.reads)) c.from_residual-in_err-fragment_spread.ensures.1
-
 pub spread_or_inline-returns-then-sees_spread_name-clause-reads : goal.spread_or_inline-returns-then-sees_spread_name-clause-reads
 spread_or_inline-returns-then-sees_spread_name-clause-reads g t c =
-    let (d, dots, at) = c.in_ok-punctuator.ensures in
-    let side = spread_side (g.S.TokenSource.items c.punctuator.new.source).tokens (sym c.sees_spread_name.ensures ∙ c.if-sees_spread_name.true) in
-    let (x, takes, view) = c.in_ok-fragment_spread.ensures.reads in
-    (Both (Leaf d) (First x), takes_both (takes_one reading _ _ _ d refl dots) (side.takes _ _ takes), spread_selected g.S.Names.Names.bytes _ ∙ view)
-
-pub spread_or_inline-returns-in_err-inline_fragment-clause-reads : goal.spread_or_inline-returns-in_err-inline_fragment-clause-reads
-spread_or_inline-returns-in_err-inline_fragment-clause-reads g t c =
     let items = g.S.TokenSource.items in
-    let before = takes_one reading _ _ _ _ refl c.in_ok-punctuator.ensures.1 in
-    let side = inline_side (items c.punctuator.new.source).tokens (sym c.sees_spread_name.ensures ∙ c.if-sees_spread_name.false) in
-    gives_error reading _ (items c.args.source.now) (items c.inline_fragment.new.source) _ _ _
-    (Stops-after reading _ _ _ _ _ _ _ before (side.stops _ _ c.in_err-inline_fragment.ensures.reads)) c.from_residual-in_err-inline_fragment.ensures.1
+    let (d, dots, at) = c.in_ok-punctuator.ensures in
+    let before = takes_one reading _ _ _ d refl dots in
+    let side = spread_side (items c.punctuator.new.source).tokens (sym c.sees_spread_name.ensures ∙ c.if-sees_spread_name.true) in
+    gives_then reading _ _ (items c.args.source.now) (items c.punctuator.new.source) (items c.fragment_spread.new.source) _ _ _
+    (λ v x h is. (Both (Leaf d) (First x), takes_both before (side.takes _ x h), is)) (λ o h. Stops-after reading _ _ _ _ _ _ o before (side.stops _ o h))
+    c.fragment_spread.ensures.reads
 
 pub spread_or_inline-returns-clause-reads : goal.spread_or_inline-returns-clause-reads
 spread_or_inline-returns-clause-reads g t c =
+    let items = g.S.TokenSource.items in
     let (d, dots, at) = c.in_ok-punctuator.ensures in
-    let side = inline_side (g.S.TokenSource.items c.punctuator.new.source).tokens (sym c.sees_spread_name.ensures ∙ c.if-sees_spread_name.false) in
-    let (x, takes, view) = c.in_ok-inline_fragment.ensures.reads in
-    (Both (Leaf d) (Second x), takes_both (takes_one reading _ _ _ d refl dots) (side.takes _ _ takes), inline_selected g.S.Names.Names.bytes _ ∙ view)
+    let before = takes_one reading _ _ _ d refl dots in
+    let side = inline_side (items c.punctuator.new.source).tokens (sym c.sees_spread_name.ensures ∙ c.if-sees_spread_name.false) in
+    gives_then reading _ _ (items c.args.source.now) (items c.punctuator.new.source) (items c.inline_fragment.new.source) _ _ _
+    (λ v x h is. (Both (Leaf d) (Second x), takes_both before (side.takes _ x h), is)) (λ o h. Stops-after reading _ _ _ _ _ _ o before (side.stops _ o h))
+    c.inline_fragment.ensures.reads
 
 -- ---- selection
 
@@ -172,19 +182,16 @@ selection-returns-then-sees_punctuator-clause-reads g t c =
     let old = g.S.TokenSource.items c.args.source.now in
     let new = g.S.TokenSource.items c.spread_or_inline.new.source in
     let side = dots_side old.tokens (sym c.sees_punctuator.ensures ∙ c.if-sees_punctuator.true) in
-    gives_then reading _ _ old old new _ _ _ (λ v x h is. (Node selection_symbol (Second x), side.takes _ x h, is ∙ dots_mean h)) (λ o h. side.stops _ o h) c.spread_or_inline.ensures.reads
-
-pub selection-returns-in_err-field-clause-reads : goal.selection-returns-in_err-field-clause-reads
-selection-returns-in_err-field-clause-reads g t c =
-    let old = g.S.TokenSource.items c.args.source.now in
-    let side = field_side old.tokens (sym c.sees_punctuator.ensures ∙ c.if-sees_punctuator.false) in
-    gives_error reading _ old (g.S.TokenSource.items c.field.new.source) _ _ _ (side.stops _ _ c.in_err-field.ensures.reads) c.from_residual.ensures.1
+    let bytes = g.S.Names.Names.bytes in
+    gives_then reading _ _ old old new _ _ _
+    (λ v x h is. (Node selection_symbol (Second x), side.takes _ x h, is ∙ ap (λ t. map (selection_view bytes) c.args.items.now.items ++ t ∷ []) (dots_mean h)))
+    (λ o h. side.stops _ o h) c.spread_or_inline.ensures.reads
 
 pub selection-returns-clause-reads : goal.selection-returns-clause-reads
 selection-returns-clause-reads g t c =
-    let side = field_side (g.S.TokenSource.items c.args.source.now).tokens (sym c.sees_punctuator.ensures ∙ c.if-sees_punctuator.false) in
-    let (x, takes, view) = c.in_ok-field.ensures.reads in
-    (Node selection_symbol (First x), side.takes _ _ takes, field_selected g.S.Names.Names.bytes _ ∙ view)
+    let old = g.S.TokenSource.items c.args.source.now in
+    let side = field_side old.tokens (sym c.sees_punctuator.ensures ∙ c.if-sees_punctuator.false) in
+    gives_side reading _ _ (λ x. Node selection_symbol (First x)) old (g.S.TokenSource.items c.field.new.source) _ _ _ side (λ v x h. h) c.field.ensures.reads
 
 -- ---- selections in braces
 
@@ -203,7 +210,7 @@ selection_set-returns-in_err-selection-clause-reads g t c =
     c.from_residual-in_err-selection.ensures.1
 
 pub selection_set-more-init : goal.selection_set-more-init
-selection_set-more-init g t c = record { turns = ([], Turns-start reading _ (one_of selection_at) _, sym (append-nil _)); kept = refl; within = omega arith }
+selection_set-more-init g t c = record { turns = ([], Turns-start reading _ (one_of selection_at) _, adds_none (selection_view g.S.Names.Names.bytes) _); kept = refl; within = omega arith }
 
 pub selection_set-more-preserved : goal.selection_set-more-preserved
 selection_set-more-preserved g t c =
@@ -214,7 +221,7 @@ selection_set-more-preserved g t c =
       turns = (
         items ++ one_of selection_at x,
         Turns-more reading _ (one_of selection_at) _ _ _ items x turns seen takes,
-        turn_more (selection_view g.S.Names.Names.bytes) selection_at _ _ _ _ items x c.in_ok-push-2.ensures.items view views,
+        adds_more (selection_view g.S.Names.Names.bytes) _ _ _ items _ views view,
       );
       kept = c.in_ok-selection-2.ensures.kept ∙ c.more.invariant.kept;
       within = omega (arith, c.more.invariant.within, c.in_ok-selection-2.ensures.shorter);
@@ -248,16 +255,15 @@ selection_set-returns-in_err-end-clause-reads g t c =
 
 pub selection_set-returns-clause-reads : goal.selection_set-returns-clause-reads
 selection_set-returns-clause-reads g t c =
-    let bytes = g.S.Names.Names.bytes in
     let (o, opens, at) = c.in_ok-start.ensures in
     let (e, ends, until) = c.in_ok-end.ensures in
     let (items, turns, views) = c.more.invariant.turns in
     let (x, takes, view) = c.in_ok-selection.ensures.reads in
     let unseen = begins_selection (peek (g.S.TokenSource.items c.more.source).tokens) ∙ sym c.sees_selection.ensures ∙ c.more-test.false in
     let r = Turns-stop reading (Sym selection_symbol) (one_of selection_at) _ _ items turns unseen in
-    let all : trees_of (map (selection_view bytes) c.more.items.items) ≡ more (selection_at x) (selections_of (written changes r.0)) =
-    ap trees_of (turns_all (selection_view bytes) selection_at _ _ _ _ items x c.new-items.ensures.items c.in_ok-push.ensures.items view views) ∙ ap (more (selection_at x)) (sym (selections_mean r.1 ∙ ap trees_of r.2)) in (
+    let all : trees_of (selection_at x ∷ items) ≡ more (selection_at x) (selections_of (written changes r.0)) =
+    ap (more (selection_at x)) (sym (selections_mean r.1 ∙ ap trees_of r.2)) in (
       Node set_symbol (Both (Leaf o) (Both (Both x r.0) (Leaf e))),
       takes_node (takes_both (takes_one reading _ _ _ o refl opens) (takes_both (takes_both takes r.1) (takes_one reading _ _ _ e refl ends))) refl,
-      set_made bytes _ _ _ ∙ rw (at, until, all) refl,
+      (selection_at x ∷ items, adds_more (selection_view g.S.Names.Names.bytes) _ _ _ _ items view views, rw (at, until, all) refl),
     )
