@@ -1,14 +1,28 @@
 //! Cases: what is asked of a text, and what is wanted.
+use std::alloc::{AllocError, Global};
+use std::fmt;
 
 /// What is asked of a text.
 #[derive(Clone, Copy)]
 pub enum Asked {
-    /// To parse it as a query document, and to lay that out in the default style.
-    Query,
-    /// The same in the style of a line for each part.
-    Lines,
+    /// To parse it as a query document, and to lay that out in a style.
+    Layout { indent: u32, multiline: bool },
+    /// To parse it as a query document, and to show the tree.
+    Tree,
+    /// The same, and to show the parts of the tree one by one.
+    Parts,
+    /// To parse each of its lines as a query document, of which no two are equal.
+    Unlike,
     /// To minify it.
     Minify,
+    /// To cut it into its tokens.
+    Tokens,
+    /// The value of the string with this between its quotes.
+    Quoted,
+    /// The value of the block string with this between its quotes.
+    Block,
+    /// To take it as a float literal.
+    Float,
 }
 
 /// What is wanted of a text.
@@ -22,6 +36,26 @@ pub enum Answer<'a> {
     Refused,
     /// That it is refused with this message.
     Message(&'a str),
+}
+
+impl Answer<'_> {
+    /// Whether this text is wanted.
+    pub fn is_text(self, text: &str) -> bool {
+        match self {
+            Answer::Text(wanted) => text == wanted,
+            Answer::Accepted => true,
+            _ => false,
+        }
+    }
+
+    /// Whether a refusal is wanted, and with this message.
+    pub fn is_refusal<E: fmt::Display>(self, alloc: Global, error: &E) -> Result<bool, AllocError> {
+        match self {
+            Answer::Refused => Ok(true),
+            Answer::Message(message) => Ok(error.to_string(alloc)?.as_str() == message),
+            _ => Ok(false),
+        }
+    }
 }
 
 /// A text, what is asked of it, and the answer that is wanted.
@@ -39,14 +73,37 @@ fn sized<'a>(text: &'a str, length: &str) -> Option<(&'a str, &'a str)> {
     Some((sized, behind.strip_prefix('\n')?))
 }
 
-/// What a word asks.
-fn read_asked(word: &str) -> Option<Asked> {
+/// What a word asks, with so many spaces a level.
+fn read_word(word: &str, indent: u32) -> Option<Asked> {
     match word {
-        "query" => Some(Asked::Query),
-        "lines" => Some(Asked::Lines),
+        "query" => Some(Asked::Layout {
+            indent,
+            multiline: false,
+        }),
+        "lines" => Some(Asked::Layout {
+            indent,
+            multiline: true,
+        }),
+        "tree" => Some(Asked::Tree),
+        "parts" => Some(Asked::Parts),
+        "unlike" => Some(Asked::Unlike),
         "minify" => Some(Asked::Minify),
+        "tokens" => Some(Asked::Tokens),
+        "quoted" => Some(Asked::Quoted),
+        "block" => Some(Asked::Block),
+        "float" => Some(Asked::Float),
         _ => None,
     }
+}
+
+/// What a line asks, and the length that it names.
+fn read_asked(line: &str) -> Option<(Asked, &str)> {
+    let (word, numbers) = line.split_once(' ')?;
+    let (length, indent) = match numbers.split_once(' ') {
+        Some((length, indent)) => (length, indent.parse().ok()?),
+        None => (numbers, 2),
+    };
+    Some((read_word(word, indent)?, length))
 }
 
 /// The answer at the front, and what follows.
@@ -72,12 +129,12 @@ fn read_sized_answer<'a>(words: &str, behind: &'a str) -> Option<(Answer<'a>, &'
 
 /// The case at the front, and what follows.
 pub fn next_case<'a>(text: &'a str) -> Option<(Case<'a>, &'a str)> {
-    let (words, behind) = text.split_once('\n')?;
-    let (word, length) = words.split_once(' ')?;
+    let (line, behind) = text.split_once('\n')?;
+    let (asked, length) = read_asked(line)?;
     let (source, behind) = sized(behind, length)?;
     let (answer, behind) = read_answer(behind)?;
     let case = Case {
-        asked: read_asked(word)?,
+        asked,
         source,
         answer,
     };

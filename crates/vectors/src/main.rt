@@ -1,116 +1,56 @@
 //! `vectors`: replays cases of texts, and tells how many of the answers are those that a case wants.
 //!
-//! The cases stand on standard input, one after another, all lengths in bytes: a line `query`, `lines` or `minify` with a
-//! length, a text of that length and LF; then a line `ok` or `refused` with a length, and the layout, the minified text or
-//! the message of that length and LF; or a line `accepted` or `refused` alone.
+//! The cases stand on standard input, one after another, all lengths in bytes: a line with a word and a length, and a
+//! text of that length and LF; then a line `ok` or `refused` with a length, and the text that is wanted or the message,
+//! of that length, and LF; or a line `accepted` or `refused` alone. The words are
+//!
+//! - `query` and `lines`, whose text is a query document and wanted is its layout, with a line for each part under
+//!   `lines`, and with two spaces a level where no number of them follows the length;
+//! - `tree`: wanted is what `Debug` shows of the query document, in which line ends may stand for spaces;
+//! - `parts`: wanted is what `Display` shows of the query document, and then of its parts down to the first selections,
+//!   each with LF behind it;
+//! - `unlike`: each line of the text is a query document, and no two of them are equal;
+//! - `minify`: wanted is the minified text;
+//! - `tokens`: wanted is a line for each item, the last without LF: its position, its offset, the brackets that are open
+//!   before it, and the token and its kind, or `end` or the bad place and the count of cuts when it is answered twice;
+//! - `quoted` and `block`: wanted is the value of a string or a block string with the text between its quotes;
+//! - `float`: wanted is the text itself, or that it is handed back.
 #![tactic(auto)]
 
 mod cases;
+mod documents;
+mod parts;
 mod shown;
+mod tokens;
 
 use crate::cases::{Answer, Asked, Case, next_case};
-use crate::shown::shown;
-use graphql_parser::query::{Document, parse_query};
-use graphql_parser::{Style, minify_query};
+use crate::documents::{are_unlike, layout_agrees, parts_agree, tree_agrees};
+use crate::tokens::{block_agrees, float_agrees, items, quoted_agrees};
+use graphql_parser::minify_query;
 use std::alloc::{AllocError, Global};
+use std::io;
 use std::process::ExitCode;
-use std::{fmt, io};
 
 /// Whether a case has the answer that it wants.
 fn agrees(alloc: Global, case: &Case<'_>) -> Result<bool, AllocError> {
     match case.asked {
-        Asked::Query => query_agrees(alloc, case, false),
-        Asked::Lines => query_agrees(alloc, case, true),
+        Asked::Layout { indent, multiline } => layout_agrees(alloc, case, indent, multiline),
+        Asked::Tree => tree_agrees(alloc, case),
+        Asked::Parts => parts_agree(alloc, case),
+        Asked::Unlike => Ok(are_unlike(alloc, case.source)),
         Asked::Minify => minify_agrees(alloc, case),
+        Asked::Tokens => Ok(case.answer.is_text(items(alloc, case.source)?.as_str())),
+        Asked::Quoted => quoted_agrees(alloc, case),
+        Asked::Block => block_agrees(alloc, case),
+        Asked::Float => float_agrees(alloc, case),
     }
-}
-
-/// Whether a refusal is wanted, and with this message.
-fn is_refusal<E: fmt::Display>(
-    alloc: Global,
-    answer: Answer<'_>,
-    error: &E,
-) -> Result<bool, AllocError> {
-    match answer {
-        Answer::Refused => Ok(true),
-        Answer::Message(message) => Ok(error.to_string(alloc)?.as_str() == message),
-        _ => Ok(false),
-    }
-}
-
-/// Whether a text is parsed, and its document laid out, as the case wants; the layouts of an accepted one are read back.
-fn query_agrees(alloc: Global, case: &Case<'_>, multiline: bool) -> Result<bool, AllocError> {
-    let document: Document<'_, &str> = match parse_query(alloc, case.source) {
-        Ok(document) => document,
-        Err(error) => return is_refusal(alloc, case.answer, &error),
-    };
-    let as_wanted = match case.answer {
-        Answer::Text(layout) => is_laid_out(alloc, &document, multiline, layout),
-        Answer::Accepted => true,
-        _ => false,
-    };
-    Ok(as_wanted && is_read_back(alloc, &document)?)
-}
-
-/// Whether this is the document's layout, with two spaces a level.
-fn is_laid_out(
-    alloc: Global,
-    document: &Document<'_, &str>,
-    multiline: bool,
-    layout: &str,
-) -> bool {
-    let mut style = Style::default();
-    style.multiline_arguments(multiline);
-    match document.format(alloc, &style) {
-        Ok(text) => text.as_str() == layout,
-        Err(_) => false,
-    }
-}
-
-/// Whether the document's layouts, in both styles and three indentations, are read back.
-fn is_read_back(alloc: Global, document: &Document<'_, &str>) -> Result<bool, AllocError> {
-    'styles: for (indent, multiline) in [
-        (0, false),
-        (2, false),
-        (7, false),
-        (0, true),
-        (2, true),
-        (7, true),
-    ] {
-        let mut style = Style::default();
-        style.indent(indent).multiline_arguments(multiline);
-        if !is_read_back_in(alloc, document, &style)? {
-            return Ok(false);
-        }
-    }
-    Ok(true)
-}
-
-/// Whether the document's layout is read back as the same document, positions aside, which has the same layout again.
-fn is_read_back_in(
-    alloc: Global,
-    document: &Document<'_, &str>,
-    style: &Style,
-) -> Result<bool, AllocError> {
-    let Ok(layout) = document.format(alloc, style) else {
-        return Ok(false);
-    };
-    let again: Document<'_, &str> = match parse_query(alloc, &layout) {
-        Ok(again) => again,
-        Err(_) => return Ok(false),
-    };
-    let Ok(layout_again) = again.format(alloc, style) else {
-        return Ok(false);
-    };
-    let same = shown(alloc, document)?.as_str() == shown(alloc, &again)?.as_str();
-    Ok(same && layout_again.as_str() == layout.as_str())
 }
 
 /// Whether a text is minified as the case wants, and its minified text to itself.
 fn minify_agrees(alloc: Global, case: &Case<'_>) -> Result<bool, AllocError> {
     let text = match minify_query(alloc, String::from_str(alloc, case.source)?) {
         Ok(text) => text,
-        Err(error) => return is_refusal(alloc, case.answer, &error),
+        Err(error) => return case.answer.is_refusal(alloc, &error),
     };
     let Answer::Text(wanted) = case.answer else {
         return Ok(false);

@@ -1,4 +1,4 @@
-//! Trees as they are shown, without positions.
+//! Trees as they are shown.
 use graphql_parser::query::Document;
 use std::alloc::{AllocError, Global};
 
@@ -15,4 +15,11 @@ fn without_positions(alloc: Global, shown: &str) -> Result<String, AllocError> {
         text.push_str(behind)?;
     }
     Ok(text)
+}
+
+/// Whether the lines are the text, each line end of theirs in place of a space.
+pub fn is_in_lines(text: &str, lines: &str) -> bool {
+    text.len() == lines.len()
+        && text.bytes().zip(lines.bytes()).all(|(one, other)| one == other
+            || one == b' ' && other == b'\n')
 }
