@@ -1,11 +1,7 @@
-//! What no clause says, and every public call once with ample memory.
+//! What no clause says and no text shows, and every public call once with ample memory.
 
 mod built;
 mod callers;
-mod layouts;
 mod messages;
-mod positions;
-mod support;
 mod tokens;
-mod trees;
 mod values;

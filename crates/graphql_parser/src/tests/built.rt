@@ -1,347 +1,208 @@
-//! Trees that are built by hand, which texts need not have, and what is shown of them.
+//! Trees that are built by hand, which no text has, and what is shown of them.
+use crate::common::{FloatLiteral, Number, Text};
 use crate::query::{
-    Definition, Directive, Document, Field, FloatLiteral, FragmentDefinition, FragmentSpread,
-    InlineFragment, Mutation, Number, OperationDefinition, Query, Selection, SelectionSet,
-    Subscription, Type, TypeCondition, Value, VariableDefinition,
+    Definition, Document, Field, FragmentSpread, OperationDefinition, Query, Selection,
+    SelectionSet, Type, Value, VariableDefinition,
 };
+use crate::tests::callers::Owned;
 use crate::{Pos, Style};
 use std::alloc::{AllocError, Global};
+use std::borrow::CowStr;
 use std::collections::BTreeMap;
 use std::fmt;
+use std::fmt::Write;
 use std::process::Abort;
 use std::test::Fail;
 
-fn nowhere() -> Pos {
-    Pos::default()
+/// A list, of the enum value `true` and a string.
+fn list<'a, T: Text<'a>>(alloc: Global) -> Result<Value<'a, T>, AllocError> {
+    let mut items = Vec::new(alloc);
+    items.push(Value::Enum(T::make(alloc, "true")?))?;
+    items.push(Value::String(String::from_str(alloc, "a \"b\"")?))?;
+    Ok(Value::List(items))
 }
 
-fn number<'a>(value: i32) -> Value<'a, &'a str> {
-    Value::Int(Number::from(value))
+/// An object, whose field `b` is inserted twice.
+fn object<'a, T: Text<'a>>(alloc: Global) -> Result<Value<'a, T>, AllocError> {
+    let mut fields = BTreeMap::new(alloc);
+    drop(fields.insert(T::make(alloc, "b")?, Value::Null)?);
+    drop(fields.insert(T::make(alloc, "a")?, Value::Int(Number::from(-3)))?);
+    drop(fields.insert(T::make(alloc, "b")?, Value::Boolean(true))?);
+    Ok(Value::Object(fields))
 }
 
-/// `{b: 1, a: 2, b: 3}`
-fn object<'a>(alloc: Global) -> Result<Value<'a, &'a str>, AllocError> {
-    let mut members = BTreeMap::new(alloc);
-    drop(members.insert("b", number(1))?);
-    drop(members.insert("a", number(2))?);
-    drop(members.insert("b", number(3))?);
-    Ok(Value::Object(members))
-}
-
-/// `[1, {b: 1, a: 2, b: 3}]`
-fn list<'a>(alloc: Global) -> Result<Value<'a, &'a str>, AllocError> {
-    Ok(Value::List(vec![in alloc; number(1), object(alloc)?]?))
-}
-
-fn directive<'a>(
-    name: &'a str,
-    arguments: Vec<(&'a str, Value<'a, &'a str>)>,
-) -> Directive<'a, &'a str> {
-    Directive {
-        position: nowhere(),
-        name,
-        arguments,
+/// A float, or a whole number where the text is none.
+fn float<'a, T: Text<'a>>(alloc: Global, text: &str) -> Result<Value<'a, T>, AllocError> {
+    let spelled = String::from_str(alloc, text)?;
+    match FloatLiteral::new(spelled) {
+        Ok(literal) => Ok(Value::Float(literal)),
+        Err(_) => Ok(Value::Int(Number::from(0))),
     }
 }
 
-/// The directive `@d(x: 1)`, alone in a list.
-fn directives<'a>(alloc: Global) -> Result<Vec<Directive<'a, &'a str>>, AllocError> {
-    let arguments = vec![in alloc; ("x", number(1))]?;
-    Ok(vec![in alloc; directive("d", arguments)]?)
+/// A value of each variant.
+fn values<'a, T: Text<'a>>(alloc: Global) -> Result<Vec<Value<'a, T>>, AllocError> {
+    let mut values = Vec::new(alloc);
+    values.push(Value::Variable(T::make(alloc, "name")?))?;
+    values.push(Value::Int(Number::from(0)))?;
+    values.push(float(alloc, "-1.50e+3")?)?;
+    values.push(Value::String(String::new(alloc)))?;
+    values.push(Value::Boolean(true))?;
+    values.push(Value::Null)?;
+    values.push(Value::Enum(T::make(alloc, "true")?))?;
+    values.push(list(alloc)?)?;
+    values.push(object(alloc)?)?;
+    Ok(values)
 }
 
-fn non_null<'a>(
-    alloc: Global,
-    declared: Type<'a, &'a str>,
-) -> Result<Type<'a, &'a str>, AllocError> {
-    Ok(Type::NonNullType(Box::new(alloc, declared)?))
+/// A value's place in the list is where its equals are, and a clone of it is equal; the list is shown as one text.
+fn assert_values<'a, T: Text<'a>>(rt: &impl Abort, alloc: Global) -> Result<(), Fail> {
+    let values = values::<T>(alloc)?;
+    for (i, value) in values.iter().enumerate() {
+        let copy = value.clone()?;
+        for (k, other) in values.iter().enumerate() {
+            assert_eq!(rt; copy == *other, i == k, "at {i} and {k}");
+        }
+    }
+    let list: Value<'a, T> = Value::List(values);
+    assert_eq!(rt;
+        list.to_string(alloc)?.as_str(),
+        "[$name, 0, -1.50e+3, \"\", true, null, true, [true, \"a \\\"b\\\"\"], {a: -3, b: true}]"
+    );
+    Ok(())
+}
+
+#[test]
+fn values_are_cloned_compared_and_shown(rt: HostRuntime) -> Result<(), Fail> {
+    assert_values::<&str>(&rt, rt.alloc())?;
+    assert_values::<String>(&rt, rt.alloc())?;
+    assert_values::<CowStr>(&rt, rt.alloc())?;
+    assert_values::<Owned>(&rt, rt.alloc())
 }
 
 fn set<'a>(items: Vec<Selection<'a, &'a str>>) -> SelectionSet<'a, &'a str> {
     SelectionSet {
-        span: (nowhere(), nowhere()),
+        span: (Pos::default(), Pos::default()),
         items,
     }
 }
 
-/// A field with nothing but its name.
-fn plain<'a>(alloc: Global, name: &'a str) -> Field<'a, &'a str> {
+/// The field `a b` with nothing else.
+fn field<'a>(alloc: Global) -> Field<'a, &'a str> {
     Field {
-        position: nowhere(),
+        position: Pos::default(),
         alias: None,
-        name,
+        name: "a b",
         arguments: Vec::new(alloc),
         directives: Vec::new(alloc),
         selection_set: set(Vec::new(alloc)),
     }
 }
 
-/// The selection of one field with nothing but its name.
-fn only<'a>(alloc: Global, name: &'a str) -> Result<SelectionSet<'a, &'a str>, AllocError> {
-    Ok(set(vec![in alloc; Selection::Field(plain(alloc, name))]?))
-}
-
-fn short<'a>(selections: SelectionSet<'a, &'a str>) -> Definition<'a, &'a str> {
-    Definition::Operation(OperationDefinition::SelectionSet(selections))
-}
-
-fn variable<'a>(
-    name: &'a str,
-    default_value: Option<Value<'a, &'a str>>,
-) -> VariableDefinition<'a, &'a str> {
-    VariableDefinition {
-        position: nowhere(),
-        name,
-        var_type: Type::NamedType("Int"),
-        default_value,
+/// The spread `...on`.
+fn spread<'a>(alloc: Global) -> FragmentSpread<'a, &'a str> {
+    FragmentSpread {
+        position: Pos::default(),
+        fragment_name: "on",
+        directives: Vec::new(alloc),
     }
 }
 
-/// `query Q($a: Int = 3) @d(x: 1) { c }`
+/// The variable `$v: A!!`.
+fn variable<'a>(alloc: Global) -> Result<VariableDefinition<'a, &'a str>, AllocError> {
+    let once = Type::NonNullType(Box::new(alloc, Type::NamedType("A"))?);
+    Ok(VariableDefinition {
+        position: Pos::default(),
+        name: "v",
+        var_type: Type::NonNullType(Box::new(alloc, once)?),
+        default_value: None,
+    })
+}
+
+/// A query with a variable and no selections.
 fn query<'a>(alloc: Global) -> Result<Query<'a, &'a str>, AllocError> {
     Ok(Query {
-        position: nowhere(),
-        name: Some("Q"),
-        variable_definitions: vec![in alloc; variable("a", Some(number(3)))]?,
-        directives: directives(alloc)?,
-        selection_set: only(alloc, "c")?,
-    })
-}
-
-/// `mutation M { c }`
-fn mutation<'a>(alloc: Global) -> Result<Mutation<'a, &'a str>, AllocError> {
-    Ok(Mutation {
-        position: nowhere(),
-        name: Some("M"),
-        variable_definitions: Vec::new(alloc),
-        directives: Vec::new(alloc),
-        selection_set: only(alloc, "c")?,
-    })
-}
-
-/// `subscription ($a: Int, $b: Int) { c }`
-fn subscription<'a>(alloc: Global) -> Result<Subscription<'a, &'a str>, AllocError> {
-    Ok(Subscription {
-        position: nowhere(),
+        position: Pos::default(),
         name: None,
-        variable_definitions: vec![in alloc; variable("a", None), variable("b", None)]?,
+        variable_definitions: vec![in alloc; variable(alloc)?]?,
         directives: Vec::new(alloc),
-        selection_set: only(alloc, "c")?,
+        selection_set: set(Vec::new(alloc)),
     })
 }
 
-/// `fragment F on T @d(x: 1) { c }`
-fn fragment<'a>(alloc: Global) -> Result<FragmentDefinition<'a, &'a str>, AllocError> {
-    Ok(FragmentDefinition {
-        position: nowhere(),
-        name: "F",
-        type_condition: TypeCondition::On("T"),
-        directives: directives(alloc)?,
-        selection_set: only(alloc, "c")?,
-    })
-}
-
-/// `...name @d(x: 1)`
-fn spread<'a>(alloc: Global, name: &'a str) -> Result<FragmentSpread<'a, &'a str>, AllocError> {
-    Ok(FragmentSpread {
-        position: nowhere(),
-        fragment_name: name,
-        directives: directives(alloc)?,
-    })
-}
-
-/// `... on T @d(x: 1) { c }`, or without the type.
-fn inline<'a>(
-    alloc: Global,
-    type_condition: Option<TypeCondition<'a, &'a str>>,
-) -> Result<InlineFragment<'a, &'a str>, AllocError> {
-    Ok(InlineFragment {
-        position: nowhere(),
-        type_condition,
-        directives: directives(alloc)?,
-        selection_set: only(alloc, "c")?,
-    })
-}
-
-/// `{ a { b } }`
-fn nested<'a>(alloc: Global) -> Result<SelectionSet<'a, &'a str>, AllocError> {
-    let field = Field {
-        position: nowhere(),
-        alias: None,
-        name: "a",
-        arguments: Vec::new(alloc),
-        directives: Vec::new(alloc),
-        selection_set: only(alloc, "b")?,
-    };
-    Ok(set(vec![in alloc; Selection::Field(field)]?))
-}
-
-/// `b: a(x: 1) @d(x: 1) { c ...G @d(x: 1) ... @d(x: 1) { c } }`
-fn field<'a>(alloc: Global) -> Result<Field<'a, &'a str>, AllocError> {
-    let selections = vec![in alloc;
-        Selection::Field(plain(alloc, "c")),
-        Selection::FragmentSpread(spread(alloc, "G")?),
-        Selection::InlineFragment(inline(alloc, None)?),
-    ]?;
-    Ok(Field {
-        position: nowhere(),
-        alias: Some("b"),
-        name: "a",
-        arguments: vec![in alloc; ("x", number(1))]?,
-        directives: directives(alloc)?,
-        selection_set: set(selections),
-    })
-}
-
-fn assert_shown<D: fmt::Display + Drop>(
-    rt: &impl Abort,
-    alloc: Global,
-    tree: D,
-    text: &str,
-) -> Result<(), Fail> {
-    assert_eq!(rt; tree.to_string(alloc)?.as_str(), text);
-    Ok(())
-}
-
-#[test]
-fn values_are_shown(rt: HostRuntime) -> Result<(), Fail> {
-    let alloc = rt.alloc();
-    let float = FloatLiteral::new(String::from_str(alloc, "-1.50e+3")?)?;
-    for (value, text) in [
-        (Value::Variable("a"), "$a"),
-        (number(-3), "-3"),
-        (number(0), "0"),
-        (Value::Float(float), "-1.50e+3"),
-        (Value::Boolean(true), "true"),
-        (Value::Boolean(false), "false"),
-        (Value::Null, "null"),
-        (Value::Enum("true"), "true"),
-        (Value::List(Vec::new(alloc)), "[]"),
-        (Value::Object(BTreeMap::new(alloc)), "{}"),
-        (object(alloc)?, "{a: 2, b: 3}"),
-        (list(alloc)?, "[1, {a: 2, b: 3}]"),
-    ] {
-        assert_shown(&rt, alloc, value, text)?;
-    }
-    Ok(())
-}
-
-#[test]
-fn types_are_shown(rt: HostRuntime) -> Result<(), Fail> {
-    let alloc = rt.alloc();
-    let list = Type::ListType(Box::new(alloc, non_null(alloc, Type::NamedType("A"))?)?);
-    assert_shown(&rt, alloc, non_null(alloc, list)?, "[A!]!")?;
-    let twice = non_null(alloc, non_null(alloc, Type::NamedType("A"))?)?;
-    assert_shown(&rt, alloc, twice, "A!!")
-}
-
-#[test]
-fn directives_are_shown(rt: HostRuntime) -> Result<(), Fail> {
-    let alloc = rt.alloc();
-    for (arguments, text) in [
-        (Vec::new(alloc), "@a"),
-        (vec![in alloc; ("b", number(1))]?, "@a(b: 1)"),
-        (
-            vec![in alloc; ("b", number(1)), ("c", Value::Null)]?,
-            "@a(b: 1, c: null)",
-        ),
-    ] {
-        assert_shown(&rt, alloc, directive("a", arguments), text)?;
-    }
-    Ok(())
-}
-
-#[test]
-fn operations_are_shown(rt: HostRuntime) -> Result<(), Fail> {
-    let alloc = rt.alloc();
-    let queried = "query Q($a: Int = 3) @d(x: 1) {\n  c\n}\n";
-    let subscribed = "subscription($a: Int, $b: Int) {\n  c\n}\n";
-    assert_shown(&rt, alloc, query(alloc)?, queried)?;
-    assert_shown(&rt, alloc, mutation(alloc)?, "mutation M {\n  c\n}\n")?;
-    assert_shown(&rt, alloc, subscription(alloc)?, subscribed)?;
-    let defined = OperationDefinition::Query(query(alloc)?);
-    assert_shown(&rt, alloc, defined, queried)?;
-    let defined = Definition::Operation(OperationDefinition::Subscription(subscription(alloc)?));
-    assert_shown(&rt, alloc, defined, subscribed)?;
-    assert_shown(&rt, alloc, variable("a", Some(number(3))), "$a: Int = 3")
-}
-
-#[test]
-fn fragments_are_shown(rt: HostRuntime) -> Result<(), Fail> {
-    let alloc = rt.alloc();
-    let defined = "fragment F on T @d(x: 1) {\n  c\n}\n";
-    assert_shown(&rt, alloc, fragment(alloc)?, defined)?;
-    let condition = TypeCondition::<String>::On(String::from_str(alloc, "T")?);
-    assert_shown(&rt, alloc, condition, "on T")?;
-    assert_shown(&rt, alloc, spread(alloc, "G")?, "...G @d(x: 1)\n")?;
-    assert_shown(&rt, alloc, spread(alloc, "on")?, "...on @d(x: 1)\n")
-}
-
-#[test]
-fn inline_fragments_are_shown(rt: HostRuntime) -> Result<(), Fail> {
-    let alloc = rt.alloc();
-    let on_type = inline(alloc, Some(TypeCondition::On("T")))?;
-    assert_shown(&rt, alloc, on_type, "... on T @d(x: 1) {\n  c\n}\n")?;
-    assert_shown(&rt, alloc, inline(alloc, None)?, "... @d(x: 1) {\n  c\n}\n")
-}
-
-#[test]
-fn fields_are_shown(rt: HostRuntime) -> Result<(), Fail> {
-    let alloc = rt.alloc();
-    assert_shown(&rt, alloc, plain(alloc, "a b"), "a b\n")?;
-    assert_shown(
-        &rt,
-        alloc,
-        field(alloc)?,
-        "b: a(x: 1) @d(x: 1) {\n  c\n  ...G @d(x: 1)\n  ... @d(x: 1) {\n    c\n  }\n}\n",
-    )?;
-    assert_shown(&rt, alloc, only(alloc, "a")?, "{\n  a\n}\n")
-}
-
-/// Both ways of writing a document answer this text.
+/// The document of these operations has this layout, and `Display` shows it.
 fn assert_laid_out(
     rt: &impl Abort,
     alloc: Global,
     definitions: Vec<Definition<'_, &str>>,
+    style: &Style,
     text: &str,
 ) -> Result<(), Fail> {
     let document = Document { definitions };
-    assert_eq!(rt; document.format(alloc, &Style::default())?.as_str(), text);
+    assert_eq!(rt; document.format(alloc, style)?.as_str(), text);
     assert_eq!(rt; document.to_string(alloc)?.as_str(), text);
     Ok(())
 }
 
-#[test]
-fn documents_are_shown(rt: HostRuntime) -> Result<(), Fail> {
-    let alloc = rt.alloc();
-    for (definitions, text) in [
-        (Vec::new(alloc), ""),
-        (vec![in alloc; short(set(Vec::new(alloc)))]?, "{\n}\n"),
-        (
-            vec![in alloc; short(nested(alloc)?)]?,
-            "{\n  a {\n    b\n  }\n}\n",
-        ),
-        (
-            vec![in alloc;
-                short(only(alloc, "a")?),
-                Definition::Fragment(fragment(alloc)?),
-            ]?,
-            "{\n  a\n}\n\nfragment F on T @d(x: 1) {\n  c\n}\n",
-        ),
-    ] {
-        assert_laid_out(&rt, alloc, definitions, text)?;
-    }
-    Ok(())
+fn short<'a>(items: Vec<Selection<'a, &'a str>>) -> Definition<'a, &'a str> {
+    Definition::Operation(OperationDefinition::SelectionSet(set(items)))
 }
 
+/// One level is never too wide.
 #[test]
-fn one_level_is_never_too_wide(rt: HostRuntime) -> Result<(), Fail> {
+fn documents_that_no_text_has(rt: HostRuntime) -> Result<(), Fail> {
     let alloc = rt.alloc();
-    let document = Document {
-        definitions: vec![in alloc; short(set(Vec::new(alloc)))]?,
-    };
     let mut style = Style::default();
+    assert_laid_out(&rt, alloc, Vec::new(alloc), &style, "")?;
+    let selections = vec![in alloc;
+        Selection::Field(field(alloc)),
+        Selection::FragmentSpread(spread(alloc)),
+    ]?;
+    let query = Definition::Operation(OperationDefinition::Query(query(alloc)?));
+    let text = "{\n  a b\n  ...on\n}\n\nquery($v: A!!) {\n}\n";
+    assert_laid_out(
+        &rt,
+        alloc,
+        vec![in alloc; short(selections), query]?,
+        &style,
+        text,
+    )?;
     style.indent(u32::MAX);
-    assert_eq!(rt; document.format(alloc, &style)?.as_str(), "{\n}\n");
+    assert_laid_out(
+        &rt,
+        alloc,
+        vec![in alloc; short(Vec::new(alloc))]?,
+        &style,
+        "{\n}\n",
+    )
+}
+
+/// A writer with room for so many texts.
+#[derive(Drop)]
+struct Narrow {
+    room: usize,
+}
+
+impl fmt::Write for Narrow {
+    fn write_str(&mut self, _text: &str) -> fmt::Result {
+        if self.room == 0 {
+            return Err(fmt::Error);
+        }
+        self.room -= 1;
+        Ok(())
+    }
+}
+
+/// Wherever the writer fails, so does `Display`.
+#[test]
+fn failures_are_handed_on(rt: HostRuntime) -> Result<(), Fail> {
+    let value: Value<'_, &str> = Value::List(values(rt.alloc())?);
+    let mut enough = Narrow { room: 100 };
+    assert!(rt; enough.write(&value).is_ok());
+    let texts = 100_usize.abs_diff(enough.room);
+    for room in 0..texts {
+        let mut narrow = Narrow { room };
+        assert!(rt; narrow.write(&value).is_err(), "with room for {room}");
+    }
     Ok(())
 }

@@ -14,16 +14,23 @@ use crate::query::{
 };
 use crate::{Cause, FormatError, Pos, Style};
 use std::alloc::{AllocError, Global};
+use std::borrow::CowStr;
 use std::test::Fail;
+
+/// A name that owns its text.
+#[derive(Clone, Debug, Drop, Eq, Ord, PartialEq, PartialOrd)]
+pub struct Label {
+    text: String,
+}
 
 /// A text type whose names are owned and which is no text itself.
 #[derive(Drop)]
-struct Owned;
+pub struct Owned;
 
 impl Names for Owned {
-    type Value = String;
+    type Value = Label;
 
-    ghost bytes = { λ v. string_bytes v };
+    ghost bytes = { λ v. string_bytes v.text };
 
     ghost eq_by_bytes = { λ x y. refl };
 
@@ -31,14 +38,15 @@ impl Names for Owned {
 
     ghost clone_keeps = { Prim.search rules };
 
-    fn view<'v>(value: &'v String) -> &'v str {
-        value.as_str()
+    fn view<'v>(value: &'v Label) -> &'v str {
+        value.text.as_str()
     }
 }
 
 impl<'a> Text<'a> for Owned {
-    fn make(alloc: Global, text: &'a str) -> Result<String, AllocError> {
-        String::from_str(alloc, text)
+    fn make(alloc: Global, text: &'a str) -> Result<Label, AllocError> {
+        let text = String::from_str(alloc, text)?;
+        Ok(Label { text })
     }
 }
 
@@ -210,9 +218,32 @@ fn owned_names_outlive_the_text(rt: HostRuntime) -> Result<(), Fail> {
 #[test]
 fn names_are_made_and_viewed(rt: HostRuntime) -> Result<(), Fail> {
     let alloc = rt.alloc();
-    let made = <&str as Text>::make(alloc, "name")?;
-    assert_eq!(rt; <&str as Names>::view(&made), "name");
-    let made = <Owned as Text>::make(alloc, "name")?;
-    assert_eq!(rt; <Owned as Names>::view(&made), "name");
+    assert_eq!(rt;
+        <&str as Names>::view(&<&str as Text>::make(alloc, "name")?),
+        "name"
+    );
+    assert_eq!(rt;
+        <String as Names>::view(&<String as Text>::make(alloc, "name")?),
+        "name"
+    );
+    assert_eq!(rt;
+        <Owned as Names>::view(&<Owned as Text>::make(alloc, "name")?),
+        "name"
+    );
+    let borrowed = <CowStr as Text>::make(alloc, "name")?;
+    assert_eq!(rt; <CowStr as Names>::view(&borrowed), "name");
+    assert!(rt; matches!(borrowed, CowStr::Borrowed("name")));
     Ok(())
+}
+
+#[test]
+fn names_that_may_be_owned_are_borrowed(rt: HostRuntime) -> Result<(), Fail> {
+    let document: Document<'_, CowStr<'_>> = parse_query(rt.alloc(), "fragment F on T { a }")?;
+    match document.definitions.first() {
+        Some(Definition::Fragment(fragment)) => {
+            assert!(rt; matches!(fragment.name, CowStr::Borrowed("F")));
+            Ok(())
+        }
+        _ => Err(Fail::new("no fragment")),
+    }
 }

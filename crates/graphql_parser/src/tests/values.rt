@@ -1,155 +1,39 @@
-//! What values, types and directives are read as, and the values of numbers and strings.
+//! Positions, styles and numbers as values, and the values of strings.
 use crate::common::{FloatLiteral, Number, UnquoteError, unquote_block_string, unquote_string};
-use crate::query::{Query, Value, VariableDefinition};
-use crate::tests::support::{at, field_at, first_argument, first_query, only_set, parsed};
+use crate::{Pos, Style};
 use std::alloc::{AllocError, Global};
-use std::process::Abort;
+use std::cmp::Ordering;
+use std::hash::{BuildHasher, BuildHasherDefault, FoldHasher};
 use std::test::Fail;
 
-/// A query whose only argument is this value.
-fn with_argument(alloc: Global, value: &str) -> Result<String, Fail> {
-    Ok(format!(in alloc; "{{ a(v: {value}) }}")?)
-}
-
-/// The first variable of a query.
-fn first_variable<'d, 'a>(
-    query: &'d Query<'a, &'a str>,
-) -> Result<&'d VariableDefinition<'a, &'a str>, Fail> {
-    match query.variable_definitions.first() {
-        Some(variable) => Ok(variable),
-        None => Err(Fail::new("no variable")),
-    }
-}
-
-/// What is shown of a value that is read as an argument.
-fn shown_value(rt: &impl Abort, alloc: Global, value: &str) -> Result<String, Fail> {
-    let source = with_argument(alloc, value)?;
-    let document = parsed(alloc, &source)?;
-    let value = first_argument(rt, &document)?;
-    Ok(format!(in alloc; "{value:?}")?)
-}
-
 #[test]
-fn values(rt: HostRuntime) -> Result<(), Fail> {
-    for (text, shown) in [
-        ("$name", "Variable(\"name\")"),
-        ("true", "Boolean(true)"),
-        ("false", "Boolean(false)"),
-        ("null", "Null"),
-        ("NORTH", "Enum(\"NORTH\")"),
-        ("trueish", "Enum(\"trueish\")"),
-        ("_north", "Enum(\"_north\")"),
-        ("[]", "List([])"),
-        (
-            "[$a [$b], 1]",
-            "List([Variable(\"a\"), List([Variable(\"b\")]), Int(Number(1))])",
-        ),
-        ("{}", "Object({})"),
-        (
-            "{a: {b: $c} d: [NORTH]}",
-            "Object({\"a\": Object({\"b\": Variable(\"c\")}), \"d\": List([Enum(\"NORTH\")])})",
-        ),
-        (
-            "{b: $x c: $y a: $y b: $z}",
-            "Object({\"a\": Variable(\"y\"), \"b\": Variable(\"z\"), \"c\": Variable(\"y\")})",
-        ),
-    ] {
-        let found = shown_value(&rt, rt.alloc(), text)?;
-        assert_eq!(rt; found.as_str(), shown, "at {text}");
-    }
+fn positions(rt: HostRuntime) -> Result<(), Fail> {
+    let early = Pos { line: 1, column: 9 };
+    let late = Pos { line: 2, column: 1 };
+    let shown = format!(in rt.alloc(); "{early} {late:?} {}", Pos::default())?;
+    assert_eq!(rt; shown.as_str(), "1:9 Pos(2:1) 0:0");
+    assert_eq!(rt; early.cmp(&late), Ordering::Less);
+    assert_eq!(rt; early.partial_cmp(&late), Some(Ordering::Less));
+    assert!(rt; late < Pos { line: 2, column: 2 });
+    let hasher: BuildHasherDefault<FoldHasher> = BuildHasherDefault::default();
+    let same = Pos { line: 1, column: 9 };
+    assert_eq!(rt; hasher.hash_one(&early), hasher.hash_one(&same));
     Ok(())
 }
 
 #[test]
-fn arguments(rt: HostRuntime) -> Result<(), Fail> {
+fn styles_and_numbers(rt: HostRuntime) -> Result<(), Fail> {
     let alloc = rt.alloc();
-    for (text, shown) in [
-        ("{ f }", "[]"),
-        ("{ f(a: $b) }", "[(\"a\", Variable(\"b\"))]"),
-        (
-            "{ f(b: $x, a: $y, b: $z) }",
-            "[(\"b\", Variable(\"x\")), (\"a\", Variable(\"y\")), (\"b\", Variable(\"z\"))]",
-        ),
-    ] {
-        let document = parsed(alloc, text)?;
-        let field = field_at(only_set(&rt, &document)?, 0)?;
-        let found = format!(in alloc; "{:?}", field.arguments)?;
-        assert_eq!(rt; found.as_str(), shown, "at {text}");
-    }
-    Ok(())
-}
-
-#[test]
-fn directives_stand_at_their_sign(rt: HostRuntime) -> Result<(), Fail> {
-    let alloc = rt.alloc();
-    let document = parsed(alloc, "query @ a\n  @b(x: $y) { c }")?;
-    let directives = &first_query(&document)?.directives;
-    assert_eq!(rt; directives.len(), 2);
-    let expected = [
-        (at(1, 7), "a", "[]"),
-        (at(2, 3), "b", "[(\"x\", Variable(\"y\"))]"),
-    ];
-    for (directive, (position, name, shown)) in directives.iter().zip(expected) {
-        assert_eq!(rt; directive.position, position);
-        assert_eq!(rt; directive.name, name);
-        let found = format!(in alloc; "{:?}", directive.arguments)?;
-        assert_eq!(rt; found.as_str(), shown);
-    }
-    Ok(())
-}
-
-#[test]
-fn a_query_may_have_no_directives(rt: HostRuntime) -> Result<(), Fail> {
-    let document = parsed(rt.alloc(), "query { a }")?;
-    assert!(rt; first_query(&document)?.directives.is_empty());
-    Ok(())
-}
-
-#[test]
-fn default_values(rt: HostRuntime) -> Result<(), Fail> {
-    let alloc = rt.alloc();
-    for (source, shown) in [
-        ("query ($a: T = [[]]) { b }", "List([List([])])"),
-        (
-            "query ($a: T = [[] {a: {} a: null}]) { b }",
-            "List([List([]), Object({\"a\": Null})])",
-        ),
-        (
-            "query ($a: T = {a: B}) { b }",
-            "Object({\"a\": Enum(\"B\")})",
-        ),
-    ] {
-        let document = parsed(alloc, source)?;
-        let Some(value) = &first_variable(first_query(&document)?)?.default_value else {
-            return Err(Fail::new("no default value"));
-        };
-        let found = format!(in alloc; "{value:?}")?;
-        assert_eq!(rt; found.as_str(), shown, "at {source}");
-    }
-    Ok(())
-}
-
-#[test]
-fn types(rt: HostRuntime) -> Result<(), Fail> {
-    let alloc = rt.alloc();
-    for (text, shown) in [
-        ("query ($a: Int) { b }", "NamedType(\"Int\")"),
-        ("query ($a: Int!) { b }", "NonNullType(NamedType(\"Int\"))"),
-        ("query ($a: [Int]) { b }", "ListType(NamedType(\"Int\"))"),
-        (
-            "query ($a: [Int!]) { b }",
-            "ListType(NonNullType(NamedType(\"Int\")))",
-        ),
-        (
-            "query ($a: [[Int]!]!) { b }",
-            "NonNullType(ListType(NonNullType(ListType(NamedType(\"Int\")))))",
-        ),
-    ] {
-        let document = parsed(alloc, text)?;
-        let variable = first_variable(first_query(&document)?)?;
-        let found = format!(in alloc; "{:?}", variable.var_type)?;
-        assert_eq!(rt; found.as_str(), shown, "at {text}");
-    }
+    let style = Style::default();
+    assert!(rt; style.clone()? == style);
+    assert_eq!(rt; Number::from(-7).as_i64(), Some(-7));
+    assert_eq!(rt; Number::from_i64(i64::MIN).as_i64(), Some(i64::MIN));
+    assert!(rt; Number::from(1) != Number::from_i64(2));
+    let literal = FloatLiteral::new(String::from_str(alloc, "1.5E3")?)?;
+    assert_eq!(rt; literal.as_str(), "1.5E3");
+    let refused = FloatLiteral::new(String::from_str(alloc, "1e9")?).err();
+    let refused = refused.ok_or("taken")?;
+    assert_eq!(rt; refused.as_str(), "1e9");
     Ok(())
 }
 
@@ -166,87 +50,10 @@ fn unindented(alloc: Global, content: &str) -> Result<String, AllocError> {
 }
 
 #[test]
-fn escapes_are_unquoted(rt: HostRuntime) -> Result<(), Fail> {
-    for (body, value) in [
-        ("", ""),
-        (r"\/\b", "/\u{8}"),
-        (r#"\"\\\f\n\r\t"#, "\"\\\u{C}\n\r\t"),
-        (r"\u00e9", "é"),
-        (r"\u00E9", "é"),
-        ("a é\tb", "a é\tb"),
-        (r"x\u0041y\u005Cz", "xAy\\z"),
-    ] {
-        let found = unquoted(rt.alloc(), body)?;
-        assert_eq!(rt; found.as_str(), value, "at {body}");
-    }
+fn strings(rt: HostRuntime) -> Result<(), Fail> {
+    let alloc = rt.alloc();
+    assert_eq!(rt; unquoted(alloc, r"\u00e9\n")?.as_str(), "é\n");
+    assert_eq!(rt; unquoted(alloc, r"\q").err(), Some(UnquoteError::BadEscape));
+    assert_eq!(rt; unindented(alloc, "\n  x\n y")?.as_str(), " x\ny");
     Ok(())
-}
-
-#[test]
-fn bad_escapes_are_refused(rt: HostRuntime) {
-    for body in [
-        r"\u12", r"\x", r"\uDFFF", r"\u+041", r"\uD800", r"a\u00g0", r"\B", r"\n\",
-    ] {
-        let found = unquoted(rt.alloc(), body);
-        assert_eq!(rt; found.err(), Some(UnquoteError::BadEscape), "at {body}");
-    }
-}
-
-#[test]
-fn block_strings_are_unindented(rt: HostRuntime) -> Result<(), Fail> {
-    for (content, value) in [
-        (
-            "   \n\n  Hello,\n    World!\n\n  Yours,\n    GraphQL.\n\n\n",
-            "Hello,\n  World!\n\nYours,\n  GraphQL.",
-        ),
-        (
-            "Hello   \n\n  Hello,\n    World!\n",
-            "Hello   \n\nHello,\n  World!",
-        ),
-        ("   \n\t\n", ""),
-        ("", ""),
-        ("\r", "\r"),
-        ("\n  x\n   \n  y", "x\n \ny"),
-        ("\"a", "\"a"),
-        ("\r\n  x\r\n  y\r\n", "x\ny"),
-        ("\n x\n\u{3000}y", " x\n\u{3000}y"),
-        ("\n  x\n \n  y", "x\n\ny"),
-        ("a\rb", "a\rb"),
-        ("a\\\"\"\"b", "a\"\"\"b"),
-        ("  a\n  b", "  a\nb"),
-        ("\\\\\"\"\"\n\t\\\"\"\"\\\"\"\"", "\\\"\"\"\n\"\"\"\"\"\""),
-    ] {
-        let found = unindented(rt.alloc(), content)?;
-        assert_eq!(rt; found.as_str(), value, "at {content:?}");
-    }
-    Ok(())
-}
-
-#[test]
-fn float_literals_keep_their_spelling(rt: HostRuntime) -> Result<(), Fail> {
-    for text in ["-0.5", "1.5E3", "0e+0", "1e1", "10.0e-12", "1e80"] {
-        let literal = FloatLiteral::new(String::from_str(rt.alloc(), text)?)?;
-        assert_eq!(rt; literal.as_str(), text);
-        assert!(rt; literal.clone()? == literal);
-    }
-    Ok(())
-}
-
-#[test]
-fn other_spellings_are_no_float_literals(rt: HostRuntime) -> Result<(), Fail> {
-    for text in [
-        "10", "1e9", "0e0", "1e+", "", "01.5", "1.", ".5", "-", "1.5e", "1.5x",
-    ] {
-        let refused = FloatLiteral::new(String::from_str(rt.alloc(), text)?).err();
-        let refused = refused.ok_or("taken")?;
-        assert_eq!(rt; refused.as_str(), text);
-    }
-    Ok(())
-}
-
-#[test]
-fn numbers_have_their_value(rt: HostRuntime) {
-    assert_eq!(rt; Number::from(-7).as_i64(), Some(-7));
-    assert_eq!(rt; Number::from_i64(i64::MIN).as_i64(), Some(i64::MIN));
-    assert!(rt; Number::from(1) != Number::from_i64(2));
 }
