@@ -4,13 +4,24 @@ mod documents;
 mod failures;
 mod words;
 
-use crate::command::Command;
+use crate::command::{Command, read_words};
 use crate::counted::Counted;
 use crate::engine::run;
-use crate::error::RunError;
+use crate::error::{RunError, status};
 use crate::tests::devices::{Sink, Source};
 use graphql_parser::Style;
 use std::alloc::{AllocError, Global};
+use std::process::Abort;
+use std::test::Fail;
+
+/// What these words say, which are parted by commas.
+fn said(alloc: Global, words: &str) -> Result<Option<(Command, Style)>, AllocError> {
+    let mut owned = Vec::new(alloc);
+    for word in words.split(',') {
+        owned.push(String::from_str(alloc, word)?)?;
+    }
+    Ok(read_words(owned))
+}
 
 /// What a run left behind.
 #[derive(Drop)]
@@ -21,30 +32,20 @@ struct Ran {
     write_faults: u64,
 }
 
-/// Runs a command in a style from a source to a sink.
-fn run_over(
-    alloc: Global,
-    command: Command,
-    style: &Style,
-    source: Source<'_>,
-    mut sink: Sink,
-) -> Ran {
+/// Runs what words say from a source to a sink.
+fn run_over(alloc: Global, words: &str, source: Source<'_>, mut sink: Sink) -> Result<Ran, Fail> {
+    let (command, style) = said(alloc, words)?.ok_or("wrong words")?;
     let mut reader = Counted::new(source);
     let mut writer = Counted::new(&mut sink);
-    let answer = run(alloc, command, style, &mut reader, &mut writer);
+    let answer = run(alloc, command, &style, &mut reader, &mut writer);
     let read_faults = reader.faults();
     let write_faults = writer.faults();
-    Ran {
+    Ok(Ran {
         answer,
         written: sink.taken,
         read_faults,
         write_faults,
-    }
-}
-
-/// Runs `query` with no options.
-fn run_query(alloc: Global, source: Source<'_>, sink: Sink) -> Ran {
-    run_over(alloc, Command::Query, &Style::default(), source, sink)
+    })
 }
 
 /// What standard error is told of a run.
@@ -53,4 +54,22 @@ fn told(alloc: Global, answer: &Result<(), RunError>) -> Result<String, AllocErr
         Ok(()) => Ok(String::new(alloc)),
         Err(error) => format!(in alloc; "{error}"),
     }
+}
+
+/// The run wrote these bytes, told this message, and ended with this status.
+fn assert_ended(
+    rt: &impl Abort,
+    alloc: Global,
+    ran: &Ran,
+    written: &[u8],
+    message: &str,
+    code: u8,
+) -> Result<(), Fail> {
+    assert_eq!(rt; told(alloc, &ran.answer)?.as_str(), message);
+    assert_eq!(rt; ran.written.as_slice(), written, "{message}");
+    assert_eq!(rt; status(Some(&ran.answer)), code, "{message}");
+    if let Err(error) = &ran.answer {
+        assert_eq!(rt; error.ends_its_line(), message.ends_with('\n'));
+    }
+    Ok(())
 }

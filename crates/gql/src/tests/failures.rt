@@ -1,39 +1,18 @@
 //! Input that is no text, and devices that fail.
-use crate::error::{RunError, status};
+use crate::error::RunError;
 use crate::tests::devices::{Sink, Source};
-use crate::tests::{Ran, run_query, told};
-use std::alloc::{AllocError, Global};
+use crate::tests::{assert_ended, run_over};
 use std::io::ErrorKind;
-use std::process::Abort;
 use std::test::Fail;
 
 const OUTPUT: &str = "{\n  a\n}\n";
 
-/// The run ended early with this message, after it wrote these bytes.
-fn ends(
-    rt: &impl Abort,
-    alloc: Global,
-    ran: &Ran,
-    message: &str,
-    written: &[u8],
-) -> Result<(), AllocError> {
-    let told = told(alloc, &ran.answer)?;
-    assert_eq!(rt; told.as_str(), message);
-    assert_eq!(rt; ran.written.as_slice(), written);
-    assert_eq!(rt; status(Some(&ran.answer)), 2);
-    if let Err(error) = &ran.answer {
-        assert!(rt; !error.ends_its_line());
-    }
-    Ok(())
-}
-
 #[test]
 fn refuses_what_is_not_utf8(rt: HostRuntime) -> Result<(), Fail> {
     let alloc = rt.alloc();
-    let ran = run_query(alloc, Source::of(&[123, 255]), Sink::new(alloc));
+    let ran = run_over(alloc, "query", Source::of(&[123, 255]), Sink::new(alloc))?;
     assert!(rt; matches!(&ran.answer, Err(RunError::NotUtf8)));
-    ends(&rt, alloc, &ran, "gql: input is not UTF-8", b"")?;
-    Ok(())
+    assert_ended(&rt, alloc, &ran, b"", "gql: input is not UTF-8", 2)
 }
 
 #[test]
@@ -46,62 +25,44 @@ fn a_read_that_fails_ends_the_run(rt: HostRuntime) -> Result<(), Fail> {
             source.step = 1;
             source.failing = failing;
             source.kind = kind;
-            let ran = run_query(alloc, source, Sink::new(alloc));
+            let ran = run_over(alloc, "query", source, Sink::new(alloc))?;
             assert!(rt; matches!(&ran.answer, Err(RunError::Read)), "at {failing}");
             assert_eq!(rt; ran.read_faults, 1);
-            ends(&rt, alloc, &ran, "gql: read failed", b"")?;
+            assert_ended(&rt, alloc, &ran, b"", "gql: read failed", 2)?;
         }
     }
     Ok(())
 }
 
 #[test]
-fn a_slow_reader_and_a_slow_writer_give_the_whole_output(rt: HostRuntime) {
+fn a_slow_reader_and_a_slow_writer_give_the_whole_output(rt: HostRuntime) -> Result<(), Fail> {
     let alloc = rt.alloc();
     let mut source = Source::of(b"{ a }");
     source.step = 1;
     let mut sink = Sink::new(alloc);
     sink.step = 1;
-    let ran = run_query(alloc, source, sink);
-    assert!(rt; ran.answer.is_ok());
-    assert_eq!(rt; ran.written.as_slice(), OUTPUT.as_bytes());
-    assert_eq!(rt; ran.read_faults, 0);
-    assert_eq!(rt; ran.write_faults, 0);
+    let ran = run_over(alloc, "query", source, sink)?;
+    assert_eq!(rt; (ran.read_faults, ran.write_faults), (0, 0));
+    assert_ended(&rt, alloc, &ran, OUTPUT.as_bytes(), "", 0)
 }
 
+/// A write that fails leaves a part, one that takes nothing fails, and so does a flush.
 #[test]
-fn a_write_that_fails_leaves_a_part(rt: HostRuntime) -> Result<(), Fail> {
+fn a_write_that_fails_ends_the_run(rt: HostRuntime) -> Result<(), Fail> {
     let alloc = rt.alloc();
-    let mut sink = Sink::new(alloc);
-    sink.step = 1;
-    sink.failing = 4;
-    let ran = run_query(alloc, Source::of(b"{ a }"), sink);
-    assert!(rt; matches!(&ran.answer, Err(RunError::Write)));
-    assert_eq!(rt; ran.write_faults, 1);
-    ends(&rt, alloc, &ran, "gql: write failed", b"{\n ")?;
-    Ok(())
-}
-
-#[test]
-fn a_write_that_takes_nothing_fails(rt: HostRuntime) -> Result<(), Fail> {
-    let alloc = rt.alloc();
-    let mut sink = Sink::new(alloc);
-    sink.step = 0;
-    let ran = run_query(alloc, Source::of(b"{ a }"), sink);
-    assert!(rt; matches!(&ran.answer, Err(RunError::Write)));
-    assert_eq!(rt; ran.write_faults, 1);
-    ends(&rt, alloc, &ran, "gql: write failed", b"")?;
-    Ok(())
-}
-
-#[test]
-fn a_flush_that_fails_fails_the_run(rt: HostRuntime) -> Result<(), Fail> {
-    let alloc = rt.alloc();
-    let mut sink = Sink::new(alloc);
-    sink.flushes = false;
-    let ran = run_query(alloc, Source::of(b"{ a }"), sink);
-    assert!(rt; matches!(&ran.answer, Err(RunError::Write)));
-    assert_eq!(rt; ran.write_faults, 1);
-    ends(&rt, alloc, &ran, "gql: write failed", OUTPUT.as_bytes())?;
+    for (step, failing, flushes, written) in [
+        (1, 4, true, "{\n "),
+        (0, 0, true, ""),
+        (4096, 0, false, OUTPUT),
+    ] {
+        let mut sink = Sink::new(alloc);
+        sink.step = step;
+        sink.failing = failing;
+        sink.flushes = flushes;
+        let ran = run_over(alloc, "query", Source::of(b"{ a }"), sink)?;
+        assert!(rt; matches!(&ran.answer, Err(RunError::Write)), "{written}");
+        assert_eq!(rt; ran.write_faults, 1);
+        assert_ended(&rt, alloc, &ran, written.as_bytes(), "gql: write failed", 2)?;
+    }
     Ok(())
 }

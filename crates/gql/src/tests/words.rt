@@ -1,83 +1,60 @@
 //! Right and wrong words.
 use crate::command::{Command, USAGE, read_words};
 use crate::error::status;
-use graphql_parser::Style;
-use std::alloc::{AllocError, Global};
+use crate::tests::said;
 use std::test::Fail;
 
-/// What these words say.
-fn said(alloc: Global, words: &[&str]) -> Result<Option<(Command, Style)>, AllocError> {
-    let mut owned = Vec::new(alloc);
-    for word in words {
-        owned.push(String::from_str(alloc, word)?)?;
-    }
-    Ok(read_words(owned))
-}
-
 #[test]
-fn the_first_word_is_the_command(rt: HostRuntime) -> Result<(), Fail> {
-    let alloc = rt.alloc();
-    let (command, style) = said(alloc, &["query"])?.ok_or("refused")?;
-    assert_eq!(rt; command, Command::Query);
-    assert_eq!(rt; style.indentation(), 2);
-    let (command, _) = said(alloc, &["minify"])?.ok_or("refused")?;
-    assert_eq!(rt; command, Command::Minify);
-    Ok(())
-}
-
-/// Whether these words say a style with these settings.
-fn says(alloc: Global, words: &[&str], indent: u32, multiline: bool) -> Result<bool, AllocError> {
-    match said(alloc, words)? {
-        Some((_, style)) => Ok(
-            style.indentation() == indent && style.has_multiline_arguments() == multiline,
-        ),
-        None => Ok(false),
-    }
-}
-
-#[test]
-fn options_follow_in_any_order(rt: HostRuntime) -> Result<(), Fail> {
-    let alloc = rt.alloc();
-    assert!(rt; says(alloc, &["query"], 2, false)?);
-    assert!(rt; says(alloc, &["query", "--multiline"], 2, true)?);
-    assert!(rt; says(alloc, &["query", "--indent", "4"], 4, false)?);
-    assert!(rt;
-        says(
-            alloc,
-            &["query", "--indent", "0000000007", "--multiline"],
+fn right_words_say_a_command_and_a_style(rt: HostRuntime) -> Result<(), Fail> {
+    for (words, command, indent, multiline) in [
+        ("query", Command::Query, 2, false),
+        ("minify", Command::Minify, 2, false),
+        ("query,--multiline", Command::Query, 2, true),
+        ("query,--indent,4", Command::Query, 4, false),
+        (
+            "query,--indent,0000000007,--multiline",
+            Command::Query,
             7,
-            true
-        )?
-    );
-    assert!(rt;
-        says(
-            alloc,
-            &["query", "--multiline", "--indent", "4294967295"],
+            true,
+        ),
+        (
+            "query,--multiline,--indent,4294967295",
+            Command::Query,
             4294967295,
-            true
-        )?
-    );
+            true,
+        ),
+    ] {
+        let (said, style) = said(rt.alloc(), words)?.ok_or("refused")?;
+        let settings = (said, style.indentation(), style.has_multiline_arguments());
+        assert_eq!(rt; settings, (command, indent, multiline), "{words}");
+    }
     Ok(())
 }
 
 #[test]
 fn wrong_words_say_nothing(rt: HostRuntime) -> Result<(), Fail> {
     let alloc = rt.alloc();
-    assert!(rt; said(alloc, &[])?.is_none());
-    assert!(rt; said(alloc, &["minify", "--multiline"])?.is_none());
-    assert!(rt; said(alloc, &["schema"])?.is_none());
-    assert!(rt; said(alloc, &["first"])?.is_none());
-    for number in ["", "+4", "-4", "4 ", "a", "4294967296", "00000000004"] {
-        assert!(rt;
-            said(alloc, &["query", "--indent", number])?.is_none(),
-            "{number}"
-        );
+    assert!(rt; read_words(Vec::new(alloc)).is_none());
+    for words in [
+        "",
+        "minify,--multiline",
+        "schema",
+        "first",
+        "query,--indent,",
+        "query,--indent,+4",
+        "query,--indent,-4",
+        "query,--indent,4 ",
+        "query,--indent,a",
+        "query,--indent,4294967296",
+        "query,--indent,00000000004",
+        "query,--indent",
+        "query,--multiline,--multiline",
+        "query,--indent,4,--indent,4",
+        "query,query",
+        "Query",
+    ] {
+        assert!(rt; said(alloc, words)?.is_none(), "{words}");
     }
-    assert!(rt; said(alloc, &["query", "--indent"])?.is_none());
-    assert!(rt; said(alloc, &["query", "--multiline", "--multiline"])?.is_none());
-    assert!(rt; said(alloc, &["query", "--indent", "4", "--indent", "4"])?.is_none());
-    assert!(rt; said(alloc, &["query", "query"])?.is_none());
-    assert!(rt; said(alloc, &["Query"])?.is_none());
     assert_eq!(rt; status(None), 2);
     assert_eq!(rt;
         USAGE,
