@@ -1,15 +1,35 @@
--- What Display writes is not too wide.
-use Rattle.std.proofs.Common.{◌≡◌, ◌-◌, ◌^◌, ℕ, Result, Ok, Err, OnOk, min, subst, sym}
+-- What Display writes once the width was checked: it fits, and it is the text in the default style.
+use Rattle.std.proofs.Common.{◌≡◌, ◌+◌, ◌-◌, ◌*◌, ◌^◌, ◌<◌, ◌↔◌, ℕ, Result, Ok, Err, IsOk, OnOk, false, true, min, subst, sym, arith}
+use Rattle.std.proofs.lemmas.Bool.{false≢true}
 use Rattle.graphql_core.specs.Style.{Layout, default_style}
 use Rattle.graphql_common.specs.ValueLayout.{IsTooWide, IsNarrow}
+
+-- what a check says that let so many levels through
+abbrev pub LetThrough : Layout → ℕ → Type 0
+LetThrough style levels = (n : ℕ) → levels ≡ min n (2 ^ 64 - 1) → (false ≡ true) ↔ IsTooWide style n
+
+-- they take no more than `u32::MAX` spaces
+pub fits : (style : Layout) (levels n : ℕ) → levels ≡ min n (2 ^ 64 - 1) → LetThrough style levels → n * style.indent < 2 ^ 32
+fits style levels n counted through =
+    let narrow : IsTooWide style n → ⊥ = λ wide. absurd (false≢true ((through n counted).1 wide)) in
+    omega (arith, narrow)
+
+-- the same of what stands at the outside, with no margin
+pub fits_outside : (style : Layout) (levels n : ℕ) → levels ≡ min n (2 ^ 64 - 1) → LetThrough style levels → 0 + n * style.indent < 2 ^ 32
+fits_outside style levels n counted through = omega (arith, fits style levels n counted through)
 
 on_ok : {A E P : Type 0} (r : Result A E) → P → OnOk r P
 on_ok (Ok x) p = p
 on_ok (Err e) p = tt
 
--- what was written after the width was checked
-pub checked : {A E : Type 0} (r : Result A E) (style : Layout) (levels_in : Layout → ℕ) (levels : ℕ) → style ≡ default_style
-    → levels ≡ min (levels_in style) (2 ^ 64 - 1)
-    → ((n : ℕ) → levels ≡ min n (2 ^ 64 - 1) → IsTooWide style n → ⊥) → OnOk r (IsNarrow (levels_in default_style))
-checked r style levels_in levels same counted narrow =
-    on_ok r (λ wide. narrow (levels_in style) counted (subst (λ s. IsTooWide s (levels_in s)) (sym same) wide))
+-- it is not too wide in the default style
+pub narrow : {A E : Type 0} (r : Result A E) (style : Layout) (levels : ℕ) (levels_in : Layout → ℕ) → style ≡ default_style
+    → levels ≡ min (levels_in style) (2 ^ 64 - 1) → LetThrough style levels → OnOk r (IsNarrow (levels_in default_style))
+narrow r style levels levels_in same counted through =
+    on_ok r (λ wide. absurd (false≢true ((through (levels_in style) counted).1 (subst (λ s. IsTooWide s (levels_in s)) (sym same) wide))))
+
+-- what was written in that style was written in the default style
+pub written : {A E Plain : Type 0} (r : Result A E) (style : Layout) (Wrote : Layout → Type 0) → style ≡ default_style → OnOk r (Plain → Wrote style) → Plain
+    → IsOk r → Wrote default_style
+written (Ok x) style Wrote same wrote plain ok = subst Wrote same (wrote plain)
+written (Err e) style Wrote same wrote plain ok = absurd (false≢true ok)

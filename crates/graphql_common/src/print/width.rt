@@ -1,5 +1,5 @@
 //! How many levels a layout opens at once, and whether it is too wide.
-ghost use Rattle.std.specs.Prelude.{◌≡◌, ◌-◌, ◌^◌, ◌↔◌, ℕ, IsTrue, min, OnOk};
+ghost use Rattle.std.specs.Prelude.{◌≡◌, ◌-◌, ◌^◌, ◌↔◌, ℕ, IsTrue, IsErr, min};
 ghost use Rattle.graphql_common.specs.Lawful.{IsLawful, AreLawful, AreLawfulArguments, AreLawfulDirectives};
 ghost use Rattle.graphql_common.specs.Values.{int, float, list, object};
 ghost use Rattle.graphql_common.specs.ValueViews.{value_view, items_view, members_view, arguments_view, directives_view};
@@ -122,9 +122,9 @@ pub fn is_too_wide(levels: usize, style: &Style) -> bool
     levels.saturating_mul(style.indentation() as usize) > u32::MAX as usize
 }
 
-/// The fault of a formatter where so many levels are too wide.
+/// The fault of a formatter where so many levels are too wide, and only there.
 pub fn check_width(levels: usize, style: &Style) -> fmt::Result
-    ensures { (n : ℕ) → levels ≡ min n (2 ^ 64 - 1) → OnOk result (IsTooWide style.now n → ⊥) }
+    ensures { (n : ℕ) → levels ≡ min n (2 ^ 64 - 1) → IsErr result ↔ IsTooWide style.now n }
 {
     if is_too_wide(levels, style) {
         return Err(fmt::Error);
