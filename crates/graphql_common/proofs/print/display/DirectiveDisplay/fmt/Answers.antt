@@ -1,0 +1,23 @@
+use Rattle.std.specs.Fmt.{HasWritten}
+use Rattle.graphql_core.specs.Style.{Layout}
+use Rattle.graphql_core.specs.Parts.{text_of}
+use Rattle.graphql_common.specs.ValueViews.{directive_view}
+use Rattle.graphql_common.specs.ValueLayout.{directive_layout, arguments_levels}
+use Rattle.graphql_common.proofs.Narrow.{fits_outside, narrow, written}
+use Rattle.graphql_common.proofs.print.display.DirectiveDisplay.fmt.Goals as goal
+
+pub write_directive-requires : goal.write_directive-requires
+write_directive-requires g c =
+    fits_outside c.default-style.result c.levels_in_arguments.result _ c.levels_in_arguments.ensures.levels c.in_ok-check_width.ensures
+
+pub returns-clause-writes : goal.returns-clause-writes
+returns-clause-writes g c =
+    let text = λ (style : Layout). text_of (directive_layout style 0 (directive_view g.N.Names.bytes c.args.self.now)) in
+    written c.write_directive.result c.default-style.result (λ style. HasWritten g.W.Write.write_str_gives c.args.f.now (text style) c.write_directive.new.out)
+    c.default-style.ensures c.write_directive.ensures
+
+pub returns-clause-narrow : goal.returns-clause-narrow
+returns-clause-narrow g c =
+    narrow c.write_directive.result c.default-style.result c.levels_in_arguments.result
+    (λ style. arguments_levels style (directive_view g.N.Names.bytes c.args.self.now).arguments)
+    c.default-style.ensures c.levels_in_arguments.ensures.levels c.in_ok-check_width.ensures
