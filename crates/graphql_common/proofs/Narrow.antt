@@ -33,3 +33,8 @@ pub written : {A E Plain : Type 0} (r : Result A E) (style : Layout) (Wrote : La
     → IsOk r → Wrote default_style
 written (Ok x) style Wrote same wrote plain ok = subst Wrote same (wrote plain)
 written (Err e) style Wrote same wrote plain ok = absurd (false≢true ok)
+
+-- the same of what has one text in all styles
+pub written_alone : {A E Plain Wrote : Type 0} (r : Result A E) → OnOk r (Plain → Wrote) → Plain → IsOk r → Wrote
+written_alone (Ok x) wrote plain ok = wrote plain
+written_alone (Err e) wrote plain ok = absurd (false≢true ok)

@@ -69,6 +69,13 @@ plain_character c h q s = elim (cases_Bool (nat_lt c 128)) [
       plain_bytes (encode c) (past_ascii c large)
 ]
 
+-- a control character that has no short escape
+pub control_character : (c : ℕ) → c < 32 → c ≢ 13 → c ≢ 10 → c ≢ 9 → unicode_escape c ≡ flat_map quoted_byte (encode c)
+control_character c h r n t =
+    let test : nat_lt c 32 ≡ true = grind (arith, nat_tests) in
+    sym (rw (encode_ascii c (omega arith), ne_eqb c 13 r, ne_eqb c 10 n, ne_eqb c 9 t, ne_eqb c 34 (λ e. omega arith), ne_eqb c 92 (λ e. omega arith), test)
+    (append-nil (unicode_escape c)))
+
 -- the bytes that are written of the characters are those of the text
 pub quoted_characters : (text : List ℕ) → IsUtf8 text → flat_map (λ c. flat_map quoted_byte (encode c)) (chars text) ≡ flat_map quoted_byte text
 quoted_characters text u = sym (flat_over (chars text)) ∙ ap (flat_map quoted_byte) (encodes-chars text u)
