@@ -1,12 +1,12 @@
 -- Numbers among the words.
-use Rattle.std.proofs.Common.{◌≡◌, ◌≤◌, ℕ, Bool, true, false, List, [], ◌∷◌, length, Result, Ok, Err, Some, None, refl}
+use Rattle.std.proofs.Common.{◌≡◌, ℕ, Bool, true, false, List, [], ◌∷◌, Result, Err, None, refl}
 use Rattle.std.specs.List.{list_all}
 use Rattle.std.specs.Char.{is_ascii_digit}
 use Rattle.std.specs.Str.{all_ascii_digits}
 use Rattle.std.specs.Str.Parse.{ParsesUnsigned, digits_value}
 use Rattle.std.proofs.lemmas.Str.Parse.{IsNumeralModel, numerals_by_value, tells_all_ascii_digits, parse_digits}
-use Rattle.std.proofs.lemmas.Result.{OkIff-at_ok, OkIff-at_err}
-use Rattle.std.proofs.lemmas.Bool.{and_from, and_parts, ltb-true, lt-ltb, le-leb}
+use Rattle.std.proofs.lemmas.Result.{OkIff-at_err}
+use Rattle.std.proofs.lemmas.Bool.{and_from, and_parts, ltb-true}
 use Rattle.gql.specs.Words.{is_number, indented_by}
 
 own : IsNumeralModel (λ ds. all_ascii_digits ds ≡ true) (digits_value 10)
@@ -15,13 +15,6 @@ own = numerals_by_value _ tells_all_ascii_digits
 digits : (w : List ℕ) → list_all is_ascii_digit w ≡ true → all_ascii_digits w ≡ true
 digits [] h = refl
 digits (c ∷ cs) h = let parts = and_parts _ _ h in and_from _ _ parts.0 (digits cs parts.1)
-
-pub number_read : {E : Type 0} (w : List ℕ) (multiline : Bool) (r : Result ℕ E) (x : ℕ) → ParsesUnsigned 32 10 w r → r ≡ Ok x → list_all is_ascii_digit w ≡ true → length w ≤ 10
-    → indented_by w multiline ≡ Some (record { indent = x; multiline = multiline })
-number_read w multiline r x h e d short =
-    let (fits, is) = OkIff-at_ok r _ _ x (parse_digits own 32 w r h (digits w d)) e in
-    let all : is_number w ≡ true = and_from _ _ (le-leb _ _ short) (and_from _ _ d (and_from _ _ (lt-ltb _ _ fits.0) (lt-ltb _ _ fits.1))) in
-    rw (all, is) refl
 
 pub number_refused : {E : Type 0} (w : List ℕ) (multiline : Bool) (r : Result ℕ E) (e : E) → ParsesUnsigned 32 10 w r → r ≡ Err e → list_all is_ascii_digit w ≡ true → indented_by w multiline ≡ None
 number_refused w multiline r e h is d = refused (is_number w) refl

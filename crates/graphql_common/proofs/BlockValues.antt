@@ -48,9 +48,6 @@ escaped_all p q e (a ∷ b ∷ c ∷ s) h =
 
 -- ---- cut at line feeds
 
-abbrev is_feed : ℕ → Bool
-is_feed b = b == 10
-
 abbrev NoFeed : List ℕ → Type 0
 NoFeed l = list_all (λ b. not (b == 10)) l ≡ true
 

@@ -1,19 +1,19 @@
 -- Lines of block strings: indents, blank ends, escapes and what is written of them.
-use Rattle.std.proofs.Common.{◌≡◌, ◌≢◌, ◌&&◌, ℕ, zero, suc, ◌+◌, ◌-◌, ◌<◌, ◌≤◌, ◌⊎◌, min, Bool, true, false, not, ◌==◌, if◌then◌else◌, List, [], ◌∷◌, ◌++◌, length, map, get_or, take, drop, Result, Ok, Err, refl, sym, ap, ◌∙◌, inl, inr, arith, length-append, append_assoc, zero-add}
-use Rattle.std.specs.List.{slice_range, filter, prefix_len, suffix_len, reduce, fold, join_by, flat_map, enumerate_from}
+use Rattle.std.proofs.Common.{◌≡◌, ◌≢◌, ◌&&◌, ℕ, zero, suc, ◌+◌, ◌-◌, ◌<◌, ◌≤◌, ◌⊎◌, min, Bool, true, false, not, ◌==◌, if◌then◌else◌, List, [], ◌∷◌, ◌++◌, length, map, get_or, take, drop, Result, Ok, Err, refl, sym, ap, ◌∙◌, inl, inr, arith, append_assoc, zero-add}
+use Rattle.std.specs.List.{filter, prefix_len, suffix_len, reduce, fold, join_by, flat_map, enumerate_from}
 use Rattle.std.specs.Option.{unwrap_or}
 use Rattle.std.specs.Result.{is_ok, OnOk}
 use Rattle.std.specs.Str.{IsUtf8, IsCharBoundary}
 use Rattle.std.proofs.Math.Nat.{min-le_left, min-le_right, min-zero}
 use Rattle.std.proofs.lemmas.Bool.{and_parts, cases_Bool, eqb-true, false_from_ne_true, false≢true, ne_eqb}
 use Rattle.std.proofs.lemmas.Bool.Decides.{nat_tests}
-use Rattle.std.proofs.lemmas.List.{drop_min, take_all, drop_all, take-map, drop-map, append-nil, flat_map_more, take_at, take_more, get_or-take, get_or-drop, length-take, length-take-le, length-drop}
+use Rattle.std.proofs.lemmas.List.{drop_min, take_all, drop_all, take-map, drop-map, append-nil, flat_map_more, take_more, get_or-take, get_or-drop, length-take, length-take-le, length-drop}
 use Rattle.std.proofs.lemmas.List.Folds.{flat_map-map}
 use Rattle.std.proofs.lemmas.List.Sums.{prefix_len-le-length, prefix_len_passes, suffix_len-take_no, suffix_len-take_yes}
 use Rattle.std.proofs.lemmas.List.FromFn.{length-enumerate_from, get_or-enumerate_from}
 use Rattle.std.proofs.lemmas.Str.{IsCharBoundary-start, IsCharBoundary-after_ascii}
 use Rattle.graphql_core.specs.Lexical.{begins_escape, begins_quotes, ClosesBlock, closing, escape, unit}
-use Rattle.graphql_core.specs.BlockStrings.{is_white, is_blank, indent, common_indent, unindented, unescaped, value_of_lines, IsInTripleQuotes}
+use Rattle.graphql_core.specs.BlockStrings.{is_white, is_blank, indent, common_indent, unindented, unescaped, value_of_lines}
 
 -- ---- indents
 
@@ -233,13 +233,6 @@ kept_at first through ls k i l h e =
     in
     let place : i ≡ 0 + (first + k) = ap (λ (q : ℕ × List ℕ). q.0) at in
     place ∙ zero-add (first + k)
-
--- what stands in triple quotes
-pub between_triple : (text content : List ℕ) → IsInTripleQuotes text content → slice_range text 3 (length text - 3) ≡ content
-between_triple text content e =
-    let long = ap length e ∙ ap (λ n. suc (suc (suc n))) (length-append content (34 ∷ 34 ∷ 34 ∷ [])) in
-    let n : length text - 3 - 3 ≡ length content = omega arith in
-    rw n (ap (λ t. take (length content) (drop 3 t)) e ∙ take_at content (34 ∷ 34 ∷ 34 ∷ []) (length content) refl)
 
 -- ---- tokens
 

@@ -3,8 +3,16 @@ use Rattle.std.proofs.lemmas.List.{at_drop_all}
 use Rattle.graphql_query.specs.Tree.{selections_view}
 use Rattle.graphql_query.specs.Layout.{selections_levels}
 use Rattle.graphql_query.specs.Lawful.{AreLawfulSelections}
-use Rattle.graphql_query.proofs.Printing.{no_items, some_items, nothing_levels, nothing_lawful, some_levels, selection_here}
+use Rattle.graphql_query.proofs.Printing.{set_parts, no_items, some_items, nothing_levels, nothing_lawful, some_levels, selection_here}
 use Rattle.graphql_query.proofs.print.levels.+levels.Goals as goal
+
+pub levels_in_set-returns : goal.levels_in_set-returns
+levels_in_set-returns g t c =
+    let parts = set_parts g.N.Names.bytes c.args.set.now in
+    record {
+      levels = rw parts (omega (arith, c.levels_in_selections.ensures.levels, c.saturating_add.ensures));
+      lawful = rw parts c.levels_in_selections.ensures.lawful;
+    }
 
 pub levels_in_selected-returns : goal.levels_in_selected-returns
 levels_in_selected-returns g t c =
