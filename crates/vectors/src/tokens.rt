@@ -4,8 +4,8 @@ use graphql_parser::common::{FloatLiteral, unquote_block_string, unquote_string}
 use graphql_parser::tokenizer::{Bad, Token, TokenStream};
 use std::alloc::{AllocError, Global};
 
-/// How the last item of a stream is told, which has been answered: the end, or the bad place; and how often was asked
-/// when it is answered once more.
+/// What is told of the last item, which the stream has just answered: the end, or the bad place, and how often the stream
+/// was asked when it has answered it again.
 fn last_item(
     alloc: Global,
     stream: &mut TokenStream<'_>,
