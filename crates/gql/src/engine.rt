@@ -2,7 +2,7 @@
 ghost use Rattle.std.specs.Prelude.{◌≡◌, ◌≢◌, List, ℕ, Err, string_bytes, OnOk, IfOk, IfErr, IfSome};
 ghost use Rattle.std.specs.Str.{IsUtf8};
 ghost use Rattle.std.specs.Io.KnownBytes.{Keeps, Appends, Consumes, IsAtEnd};
-ghost use Rattle.graphql_query.specs.Refusal.{Refusal};
+ghost use Rattle.graphql_core.specs.Refusal.{Refusal};
 ghost use Rattle.gql.specs.Faults.{HasFault};
 ghost use Rattle.gql.specs.Output.{IsOutputOf, HasNoDocument, HasBadPlace, HasNoLayout};
 ghost use Rattle.gql.specs.Output.{ReadsAll, EndsReading, EndsEngine, WritesPart};

@@ -5,6 +5,7 @@ pub mod Quoted
 pub mod Front
 pub mod Cut
 pub mod Stops
+pub mod Refusal
 pub mod Stream
 pub mod Examples
 pub mod ValueExamples

@@ -4,6 +4,7 @@ mod cause;
 mod fault;
 mod laws;
 mod number;
+mod refused;
 mod strings;
 mod text;
 
@@ -11,5 +12,6 @@ pub use cause::{BadToken, Cause};
 pub use fault::Fault;
 pub use laws::{one_value, worked_values};
 pub use number::{FloatLiteral, Number};
+pub use refused::{MAX_LENGTH, Refused};
 pub use strings::{UnquoteError, unquote_block_string, unquote_string};
 pub use text::{Names, Text};

@@ -7,9 +7,8 @@ use Rattle.graphql_core.specs.Items.{Item, HasItems}
 use Rattle.graphql_core.specs.Source.{split, IsEnd}
 use Rattle.graphql_core.specs.Minified.{IsMinified, IsBadPlaceOf}
 use Rattle.graphql_core.proofs.Cutting.{has_items}
-use Rattle.graphql_query.specs.Document.{max_length}
 use Rattle.graphql_query.specs.Minifying.{IsMinifyRefusalOf, ran_out, bad_place, TellsUnlessMemory, IsParsed, AreAlike}
-use Rattle.graphql_query.specs.Refusal.{Refusal, refusal_of}
+use Rattle.graphql_core.specs.Refusal.{Refusal, max_length, refusal_of}
 use Rattle.graphql_query.specs.Tree.{DocumentTree, erase}
 use Rattle.graphql_query.proofs.Unplaced.{minified_document, source_document}
 

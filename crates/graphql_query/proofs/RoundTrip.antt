@@ -5,10 +5,10 @@ use Rattle.graphql_core.specs.Style.{Layout}
 use Rattle.graphql_core.specs.Items.{Item}
 use Rattle.graphql_core.specs.Source.{split}
 use Rattle.graphql_core.proofs.Cutting.{items_unique}
-use Rattle.graphql_query.specs.Document.{IsDocument, IsDocumentOf, IsReadBack, max_length}
+use Rattle.graphql_query.specs.Document.{IsDocument, IsDocumentOf, IsReadBack}
 use Rattle.graphql_query.specs.Layout.{layout}
 use Rattle.graphql_query.specs.Printable.{IsPrintable}
-use Rattle.graphql_query.specs.Refusal.{Refusal, no_memory}
+use Rattle.graphql_core.specs.Refusal.{Refusal, no_memory, max_length}
 use Rattle.graphql_query.specs.Tree.{DocumentTree, erase}
 use Rattle.graphql_query.proofs.Erased.{layout_alike}
 use Rattle.graphql_query.proofs.Whole.{one_document}

@@ -25,8 +25,8 @@ use Rattle.graphql_query.specs.Tree.{DocumentTree}
 use Rattle.graphql_query.specs.Grammar.{reading, changes, document_symbol, document_rule}
 use Rattle.graphql_query.specs.Meanings.{document_of}
 use Rattle.graphql_query.specs.Faults.{ending_of, text_of, IsLeastFault, IsLeastOf}
-use Rattle.graphql_query.specs.Document.{IsDocument, IsDocumentOf, IsRefusalOf, AnswersUnlessMemory, ran_out, faulty, HasOneShape, max_length}
-use Rattle.graphql_query.specs.Refusal.{Refusal, refusal_of}
+use Rattle.graphql_query.specs.Document.{IsDocument, IsDocumentOf, IsRefusalOf, AnswersUnlessMemory, ran_out, faulty, HasOneShape}
+use Rattle.graphql_core.specs.Refusal.{Refusal, max_length, refusal_of}
 use Rattle.graphql_query.proofs.Readable.{exact, exact_lax, whole, least}
 use Rattle.graphql_query.proofs.Faults.{exact_reading, whole_reading, ends, Lacks, no_integer, no_float, no_string, unexpected_here, no_value_here}
 

@@ -1,10 +1,10 @@
 -- What a text's document is, and what is said of a text that has none.
-use Rattle.std.specs.Prelude.{◌≡◌, ◌≤◌, ◌<◌, ◌^◌, ◌/◌, ◌-◌, ℕ, List, length, Result, Ok, Err}
+use Rattle.std.specs.Prelude.{◌≡◌, ◌≤◌, ◌<◌, ℕ, List, length, Result, Ok, Err}
 use Rattle.graphql_grammar.specs.Trees.{Shape, Sym, Derives}
 use Rattle.graphql_grammar.specs.Reading.{lax}
 use Rattle.graphql_core.specs.Items.{Item, HasItems}
 use Rattle.graphql_core.specs.Source.{Items, IsEnd, split, FaultText}
-use Rattle.graphql_query.specs.Refusal.{Refusal, at, no_memory, too_long}
+use Rattle.graphql_core.specs.Refusal.{Refusal, at, no_memory, max_length, too_long}
 use Rattle.graphql_query.specs.Tree.{DocumentTree, erase}
 use Rattle.graphql_query.specs.Grammar.{query, document_symbol}
 use Rattle.graphql_query.specs.Meanings.{document_of}
@@ -25,10 +25,6 @@ abbrev pub IsReadBack : List ℕ → DocumentTree → Type 0
 IsReadBack text d = (e : DocumentTree) × IsDocumentOf text e × (erase e ≡ erase d)
 
 -- ---- refusals
-
--- the most bytes that a text may have
-abbrev pub max_length : ℕ
-max_length = (2 ^ 64 - 1) / 16
 
 -- Why a text is refused: memory ran out, or it is too long, or it has no document, and this is its fault of least index.
 pub data IsRefusalOf (text : List ℕ) : Refusal → Type 0 where

@@ -5,8 +5,8 @@ use Rattle.graphql_grammar.specs.Tokens.{Place}
 use Rattle.graphql_core.specs.Causes.{CauseText}
 use Rattle.graphql_core.specs.Items.{Item, HasItems}
 use Rattle.graphql_core.specs.Source.{Wrong, split}
-use Rattle.graphql_query.specs.Refusal.{Refusal, no_memory, too_long}
-use Rattle.graphql_query.specs.Document.{IsDocumentOf, AnswersUnlessMemory, max_length}
+use Rattle.graphql_core.specs.Refusal.{Refusal, no_memory, max_length, too_long}
+use Rattle.graphql_query.specs.Document.{IsDocumentOf, AnswersUnlessMemory}
 use Rattle.graphql_query.specs.Tree.{DocumentTree, erase}
 
 -- Memory ran out, or the text is too long, or its items end in a bad place, with this cause there.

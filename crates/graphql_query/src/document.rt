@@ -2,21 +2,18 @@
 ghost use Rattle.std.specs.Prelude.{◌≡◌, ◌<◌, ◌≤◌, length, IfOk, IfErr, IsErrOf};
 ghost use Rattle.graphql_core.specs.declared.common.fault.Fault.TheVariants.{OutOfMemory};
 ghost use Rattle.graphql_query.specs.Tree.{DocumentTree, document_view};
-ghost use Rattle.graphql_query.specs.Refusal.{too_long};
+ghost use Rattle.graphql_core.specs.Refusal.{max_length, too_long};
 ghost use Rattle.graphql_query.specs.Document.{IsDocument, IsDocumentOf, IsRefusalOf};
-ghost use Rattle.graphql_query.specs.Document.{AnswersUnlessMemory, HasNoFault, HasOneShape, max_length};
+ghost use Rattle.graphql_query.specs.Document.{AnswersUnlessMemory, HasNoFault, HasOneShape};
 ghost use Rattle.graphql_query.specs.Faults.{IsLeastOf, HasOneFaultEach};
 ghost use Rattle.graphql_query.specs.Printable.{IsPrintable};
 
 use crate::error::ParseError;
 use crate::read::definitions;
 use crate::tree::Document;
-use graphql_core::common::{Fault, Text};
+use graphql_core::common::{Fault, MAX_LENGTH, Text};
 use graphql_core::helpers::{Cursor, TokenSource, fault_of};
 use std::alloc::Global;
-
-/// The most bytes of a text.
-pub(crate) const MAX_LENGTH: usize = usize::MAX / 16;
 
 /// The document that all items of a source are.
 pub fn read_document<S: TokenSource>(

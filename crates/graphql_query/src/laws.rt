@@ -11,7 +11,7 @@ ghost use Rattle.graphql_query.specs.Faults.{IsFirstFaultOf, IsLeastFaultOf};
 ghost use Rattle.graphql_query.specs.Lawful.{IsLawfulDocument};
 ghost use Rattle.graphql_query.specs.Layout.{document_layout, layout};
 ghost use Rattle.graphql_query.specs.Printable.{IsPrintable, definition_brackets};
-ghost use Rattle.graphql_query.specs.Refusal.{Refusal};
+ghost use Rattle.graphql_core.specs.Refusal.{Refusal};
 ghost use Rattle.graphql_query.specs.Minifying.{IsParsed, AreAlike};
 ghost use Rattle.graphql_query.specs.Examples as example;
 

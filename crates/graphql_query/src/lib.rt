@@ -7,7 +7,6 @@ mod laws;
 mod minify;
 mod print;
 mod read;
-mod refused;
 mod tree;
 
 pub use document::parse_query;

@@ -3,15 +3,15 @@ ghost use Rattle.std.specs.Prelude.{◌≡◌, ◌<◌, ◌≤◌, ℕ, List, le
 ghost use Rattle.graphql_core.specs.Items.{HasItems, Item};
 ghost use Rattle.graphql_core.specs.Source.{split};
 ghost use Rattle.graphql_core.specs.Minified.{IsMinified, HasTokens};
-ghost use Rattle.graphql_query.specs.Refusal.{too_long};
-ghost use Rattle.graphql_query.specs.Document.{IsDocumentOf, IsReadBack, max_length};
+ghost use Rattle.graphql_core.specs.Refusal.{max_length, too_long};
+ghost use Rattle.graphql_query.specs.Document.{IsDocumentOf, IsReadBack};
 ghost use Rattle.graphql_query.specs.Tree.{DocumentTree};
 ghost use Rattle.graphql_query.specs.Minifying.{IsMinifyRefusalOf, TellsUnlessMemory};
 
 mod error;
 
-use crate::document::MAX_LENGTH;
 pub use error::MinifyError;
+use graphql_core::common::MAX_LENGTH;
 use graphql_core::helpers::minified;
 use std::alloc::Global;
 

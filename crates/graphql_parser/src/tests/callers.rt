@@ -2,10 +2,10 @@
 ghost use Rattle.std.specs.Prelude.{IfOk, IfSome, Err, ◌≡◌, ◌<◌, ◌⊎◌, length, string_bytes, refl, nat_eq};
 ghost use Rattle.std.proofs.Common.{rules};
 ghost use Rattle.graphql_query.specs.Tree.{DocumentTree, document_view, erase};
-ghost use Rattle.graphql_query.specs.Document.{IsDocumentOf, IsReadBack, max_length};
+ghost use Rattle.graphql_query.specs.Document.{IsDocumentOf, IsReadBack};
 ghost use Rattle.graphql_query.specs.Layout.{layout, IsTooWide};
 ghost use Rattle.graphql_query.specs.Printable.{IsPrintable};
-ghost use Rattle.graphql_query.specs.Refusal.{Refusal, no_memory, too_long};
+ghost use Rattle.graphql_core.specs.Refusal.{Refusal, no_memory, max_length, too_long};
 
 use crate::common::{Names, Text};
 use crate::query::{

@@ -2,10 +2,9 @@
 ghost use Rattle.std.specs.Prelude.{◌≡◌, option_map};
 ghost use Rattle.graphql_core.specs.Causes.{cause_text};
 ghost use Rattle.graphql_core.specs.Source.{place_of};
-ghost use Rattle.graphql_query.specs.Refusal.{too_long, refusal_of};
+ghost use Rattle.graphql_core.specs.Refusal.{too_long, refusal_of};
 
-use crate::refused::Refused;
-use graphql_core::common::{Cause, Fault};
+use graphql_core::common::{Cause, Fault, Refused};
 use graphql_core::position::Pos;
 use std::marker::Model;
 use thiserror::Error;
@@ -18,7 +17,7 @@ pub struct MinifyError {
 }
 
 impl Model for MinifyError {
-    ghost use Rattle.graphql_query.specs.Refusal as spec;
+    ghost use Rattle.graphql_core.specs.Refusal as spec;
 
     ghost Value = { spec.Refusal };
 

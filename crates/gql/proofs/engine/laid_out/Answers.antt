@@ -1,6 +1,6 @@
 use Rattle.std.proofs.Common.{length, inl, inr}
 use Rattle.std.proofs.lemmas.Bool.{cases_lt}
-use Rattle.graphql_query.specs.Document.{max_length}
+use Rattle.graphql_core.specs.Refusal.{max_length}
 use Rattle.gql.proofs.engine.laid_out.Goals as goal
 
 -- a text within the bound that has a document is answered, unless memory runs out

@@ -1,5 +1,5 @@
 use Rattle.std.proofs.Common.{sym, subst, arith}
-use Rattle.graphql_query.specs.Refusal.{Refusal, refusal_of}
+use Rattle.graphql_core.specs.Refusal.{Refusal, refusal_of}
 use Rattle.graphql_query.specs.Document.{IsRefusalOf, past_bound}
 use Rattle.graphql_query.proofs.Printable.{printable}
 use Rattle.graphql_query.proofs.Whole.{exit, one_document, one_shape, text_document, items_document, refusal, answers_unless_memory}

@@ -2,7 +2,7 @@ use Rattle.std.proofs.Common.{◌≡◌, List, ℕ, string_bytes, length, sym, a
 use Rattle.graphql_core.specs.Minified.{IsMinified}
 use Rattle.graphql_core.proofs.Minifying.{one_minified}
 use Rattle.graphql_query.specs.Document.{IsDocumentOf, IsReadBack}
-use Rattle.graphql_query.specs.Refusal.{Refusal, refusal_of}
+use Rattle.graphql_core.specs.Refusal.{Refusal, refusal_of}
 use Rattle.graphql_query.specs.Minifying.{IsMinifyRefusalOf, past_bound}
 use Rattle.graphql_query.proofs.Whole.{exit}
 use Rattle.graphql_query.proofs.Minified.{refusal, tells_refusal}

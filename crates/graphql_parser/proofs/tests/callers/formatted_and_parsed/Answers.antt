@@ -1,5 +1,6 @@
 use Rattle.std.proofs.Common.{◌≡◌, ◌<◌, List, ℕ, length, string_bytes, inl, inr, sym, subst, ◌∙◌}
-use Rattle.graphql_query.specs.Document.{IsReadBack, max_length}
+use Rattle.graphql_core.specs.Refusal.{max_length}
+use Rattle.graphql_query.specs.Document.{IsReadBack}
 use Rattle.graphql_query.specs.Tree.{DocumentTree, document_view}
 use Rattle.graphql_query.proofs.RoundTrip.{same_document, memory_or_length}
 use Rattle.graphql_parser.proofs.tests.callers.formatted_and_parsed.Goals as goal

@@ -1,6 +1,6 @@
 use Rattle.std.proofs.Common.{◌≡◌, List, ℕ, string_bytes, inl, inr, sym, subst, ◌∙◌}
 use Rattle.graphql_query.specs.Document.{IsDocumentOf, IsReadBack}
-use Rattle.graphql_query.specs.Refusal.{too_long}
+use Rattle.graphql_core.specs.Refusal.{too_long}
 use Rattle.graphql_query.specs.Tree.{DocumentTree, document_view}
 use Rattle.graphql_query.proofs.RoundTrip.{same_document, memory_or_length}
 use Rattle.graphql_parser.proofs.tests.callers.minified_and_parsed.Goals as goal

@@ -1,10 +1,14 @@
-//! What the refusals of this crate say.
+//! What the refusal of a text says.
 ghost use Rattle.std.specs.Prelude.{◌≡◌};
-ghost use Rattle.graphql_query.specs.Refusal.{too_long, refusal_of};
+ghost use Rattle.graphql_core.specs.Refusal.{too_long, refusal_of};
 
-use graphql_core::common::{Cause, Fault};
-use graphql_core::position::Pos;
+use crate::common::cause::Cause;
+use crate::common::fault::Fault;
+use crate::position::Pos;
 use std::marker::Model;
+
+/// The most bytes of a text.
+pub const MAX_LENGTH: usize = usize::MAX / 16;
 
 /// A cause, and the position at which it stands; none where memory ran out.
 #[derive(Debug, Drop)]
@@ -17,7 +21,7 @@ impl Model for Refused {
     ghost use Rattle.std.specs.Prelude.{option_map};
     ghost use Rattle.graphql_core.specs.Causes.{cause_text};
     ghost use Rattle.graphql_core.specs.Source.{place_of};
-    ghost use Rattle.graphql_query.specs.Refusal as spec;
+    ghost use Rattle.graphql_core.specs.Refusal as spec;
 
     ghost Value = { spec.Refusal };
 

@@ -1,5 +1,5 @@
 -- Why a text is refused: a cause, and its place where it has one.
-use Rattle.std.specs.Prelude.{Option, Some, None}
+use Rattle.std.specs.Prelude.{ℕ, ◌-◌, ◌^◌, ◌/◌, Option, Some, None}
 use Rattle.graphql_grammar.specs.Tokens.{Place}
 use Rattle.graphql_core.specs.declared.common.fault.Fault.{Fault}
 use Rattle.graphql_core.specs.declared.common.fault.Fault.TheVariants.{OutOfMemory, At}
@@ -16,6 +16,11 @@ at f = record { cause = f.cause; place = Some f.place }
 abbrev pub no_memory : Refusal
 no_memory = record { cause = out_of_memory; place = None }
 
+-- the most bytes that a text may have
+abbrev pub max_length : ℕ
+max_length = (2 ^ 64 - 1) / 16
+
+-- it has more
 abbrev pub too_long : Refusal
 too_long = record { cause = text_too_long; place = Some (record { line = 1; column = 1 }) }
 
