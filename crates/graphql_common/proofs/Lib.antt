@@ -23,3 +23,9 @@ pub mod DirectivesBack
 pub mod Margins
 pub mod Narrow
 pub mod Depths
+pub mod Steps
+pub mod Readable
+pub mod Faults
+pub mod Whole
+pub mod Lifted
+pub mod RoundTrip

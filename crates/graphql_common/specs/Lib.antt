@@ -11,3 +11,6 @@ pub mod ValueLayout
 pub mod LayoutExamples
 pub mod MeaningExamples
 pub mod Lawful
+pub mod Language
+pub mod Document
+pub mod Faults

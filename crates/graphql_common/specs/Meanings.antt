@@ -1,6 +1,6 @@
 -- What the shapes of values, types and directives mean, a line for each production.
-use Rattle.std.specs.Prelude.{ℕ, true, false, List, [], ◌∷◌}
-use Rattle.graphql_grammar.specs.Tokens.{Place, nowhere}
+use Rattle.std.specs.Prelude.{ℕ, true, false, List, [], ◌∷◌, Option, Some, None}
+use Rattle.graphql_grammar.specs.Tokens.{Token, Place, nowhere}
 use Rattle.graphql_grammar.specs.Trees.{Shape, Leaf, Both, First, Second, More, Node}
 use Rattle.graphql_common.specs.Leaves.{int_of, string_of, block_string_of}
 use Rattle.graphql_common.specs.Values.{ValueTree, variable, int, float, string, boolean, null, enum, list, object, ValueItems, no_items, item, ValueMembers, no_members, put, TypeTree, named, list_of, non_null, DirectiveTree}
@@ -10,6 +10,11 @@ use Rattle.graphql_common.specs.Values.{ValueTree, variable, int, float, string,
 abbrev pub place_at : Shape → Place
 place_at (Leaf t) = t.place
 place_at _ = nowhere
+
+-- where the first of some tokens begins
+abbrev pub first_place : List Token → Place
+first_place [] = nowhere
+first_place (t ∷ ts) = t.place
 
 abbrev pub spelling_at : Shape → List ℕ
 spelling_at (Leaf t) = t.spelling
@@ -84,6 +89,10 @@ abbrev mutual
 abbrev pub default_of : Shape → ValueTree
 default_of (Node k (Both e v)) = const_of v
 default_of _ = null
+
+abbrev pub optional_default_of : Shape → Option ValueTree
+optional_default_of (First d) = Some (default_of d)
+optional_default_of _ = None
 
 -- ---- types
 

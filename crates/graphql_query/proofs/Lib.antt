@@ -3,17 +3,13 @@ pub mod Lifted
 pub mod Selecting
 pub mod Viewed
 pub mod Depths
-pub mod Steps
 pub mod Parts
 pub mod Keywords
 pub mod Defining
 pub mod Variables
-pub mod Whole
-pub mod Faults
 pub mod Printable
 pub mod Printing
 pub mod Erased
 pub mod WayBack
-pub mod RoundTrip
 pub mod Unplaced
 pub mod Minified

@@ -1,29 +1,29 @@
 -- The grammar of queries is read exactly, and goes on from that of values, types and directives.
 use Rattle.std.proofs.Common.{◌≡◌, Bool, true, refl}
 use Rattle.graphql_grammar.specs.Tokens.{Token, Class}
-use Rattle.graphql_grammar.specs.Trees.{Expr, Sym, Grammar, row_at}
+use Rattle.graphql_grammar.specs.Trees.{Expr, Grammar, row_at}
 use Rattle.graphql_grammar.specs.Tables.{is_ll1, is_tight, is_productive}
 use Rattle.graphql_grammar.specs.Reading.{lax}
-use Rattle.graphql_grammar.specs.Factored.{IsSecond, EachIsSecond, unchanged, with_rows, IsExactFor}
-use Rattle.graphql_grammar.specs.Texts.{IsWholeFor}
-use Rattle.graphql_grammar.specs.Faults.{AnswersLeast, RefusesTokens}
-use Rattle.graphql_grammar.specs.Extended.{Extends, TestsAlike, LeavesAlone}
-use Rattle.graphql_grammar.proofs.Carried.{each_is_second, exact_for, whole_for, IsSecond-unchanged, IsSecond-second, IsSecond-symbols, IsSecond-prefix}
-use Rattle.graphql_grammar.proofs.FaultedFor.{least_for}
+use Rattle.graphql_grammar.specs.Factored.{IsSecond, EachIsSecond, unchanged, with_rows}
+use Rattle.graphql_grammar.specs.Faults.{RefusesTokens}
+use Rattle.graphql_grammar.specs.Extended.{Extends, TestsAlike}
+use Rattle.graphql_grammar.proofs.Carried.{each_is_second, IsSecond-unchanged, IsSecond-second, IsSecond-symbols, IsSecond-prefix}
 use Rattle.graphql_grammar.proofs.Extending.{tests_alike, with_more, alone_before}
 use Rattle.graphql_common.specs.Grammar.{core, tables as core_tables, name, shared_symbols}
 use Rattle.graphql_common.specs.Leaves.{unquoted}
-use Rattle.graphql_query.specs.Grammar.{query, second_rows, changes, reading, tables, samples, document_symbol, spread_symbol, inline_symbol, alias_symbol, spread_rest, inline_rest, field_rest}
+use Rattle.graphql_common.proofs.Readable.{IsReadable}
+use Rattle.graphql_query.specs.Document.{queries}
+use Rattle.graphql_query.specs.Grammar.{query, second_rows, changes, reading, tables, samples, spread_symbol, inline_symbol, alias_symbol, spread_rest, inline_rest, field_rest}
 
-pub ll1 : is_ll1 second_rows ≡ true
+ll1 : is_ll1 second_rows ≡ true
 unfolding tables core_tables
 ll1 = refl
 
-pub tight : is_tight second_rows ≡ true
+tight : is_tight second_rows ≡ true
 unfolding tables core_tables
 tight = refl
 
-pub productive : is_productive reading ≡ true
+productive : is_productive reading ≡ true
 unfolding tables core_tables unquoted
 productive = refl
 
@@ -35,7 +35,7 @@ productive_lax = refl
 abbrev tested : (Class → Token → Bool) → Grammar
 tested good = record { rows = query.rows; good = good; check = λ k x. true; samples = samples }
 
-pub each : (good : Class → Token → Bool) → EachIsSecond (tested good) second_rows changes
+each : (good : Class → Token → Bool) → EachIsSecond (tested good) second_rows changes
 each good = each_is_second g second_rows changes (
   same _,
   (
@@ -106,27 +106,9 @@ each good = each_is_second g second_rows changes (
     same : (e : Expr) → IsSecond g second_rows changes e e unchanged
     same e = IsSecond-unchanged g second_rows changes e
 
-pub exact : IsExactFor query second_rows changes (Sym document_symbol)
-unfolding tables
-exact = exact_for query second_rows changes (each query.good) (each query.good) (each (λ c t. true)) ll1 productive (Sym document_symbol) refl refl
-
--- the same, whatever values the leaves have
-pub exact_lax : IsExactFor (lax query) second_rows changes (Sym document_symbol)
-unfolding tables
-exact_lax =
-    exact_for (lax query) second_rows changes (each (λ c t. true)) (each (λ c t. true)) (each (λ c t. true)) ll1 productive_lax (Sym document_symbol) refl refl
-
-pub whole : IsWholeFor query second_rows changes (Sym document_symbol)
-unfolding tables
-whole = whole_for query second_rows changes (each query.good) (each query.good) (each (λ c t. true)) ll1 productive (Sym document_symbol) refl refl
-
 -- no node is refused
 none_refused : RefusesTokens query
 none_refused k x fits refused empty = absurd cc
-
-pub least : AnswersLeast query reading (Sym document_symbol)
-unfolding tables
-least = least_for query second_rows changes (each query.good) (each (λ c t. true)) ll1 tight productive none_refused (Sym document_symbol) refl refl
 
 -- leaves are tested as those of values, types and directives are, in what is written and in what is read
 pub tested_alike : (e : Expr) → TestsAlike core query e
@@ -138,8 +120,26 @@ read_alike e = tests_alike core reading (λ c t. refl) e
 pub written_goes_on : Extends shared_symbols core query
 written_goes_on = with_more core _ core.good (λ k x. true) samples refl (λ k h. tested_alike (row_at core.rows k).rule) (λ k x h. refl)
 
-pub goes_on : Extends shared_symbols core reading
+goes_on : Extends shared_symbols core reading
 goes_on = with_more core _ core.good (λ k x. true) samples refl (λ k h. read_alike (row_at core.rows k).rule) (λ k x h. refl)
 
-pub alone : LeavesAlone shared_symbols core changes
-alone = alone_before core _ refl
+pub readable : IsReadable queries
+unfolding tables
+readable = record {
+  ll1 = ll1;
+  tight = tight;
+  productive = productive;
+  productive_lax = productive_lax;
+  decides = refl;
+  samples = refl;
+  samples_lax = refl;
+  each = each query.good;
+  each_unchecked = each query.good;
+  each_lax = each (λ c t. true);
+  goes_on = goes_on;
+  alone = alone_before core _ refl;
+  good = λ k t. refl;
+  refuses_tokens = none_refused;
+  passes = λ x. refl;
+  one_said = λ i k n f g x h w. absurd h;
+}

@@ -11,6 +11,7 @@ use Rattle.graphql_core.proofs.Cutting.{items_unique}
 use Rattle.graphql_common.specs.Leaves.{int_of, string_of, block_string_of}
 use Rattle.graphql_common.specs.Values.{ValueTree, variable, int, float, string, enum, list, object, item, no_members, TypeTree, named, list_of, no_place}
 use Rattle.graphql_common.specs.Values.{erase as erase_directive, erase_all}
+use Rattle.graphql_common.specs.Meanings.{first_place, optional_default_of}
 use Rattle.graphql_common.specs.Meanings.{place_at, spelling_at, plain_of, put_all, value_of, values_of, argument_of, pairs_of, const_of, consts_of}
 use Rattle.graphql_common.specs.Meanings.{const_pair_of, const_pairs_of, default_of, marked, type_of, arguments_of, optional_arguments_of, directive_of}
 use Rattle.graphql_common.specs.Meanings.{each_directive_of, directives_of}
@@ -19,8 +20,8 @@ use Rattle.graphql_query.specs.Document.{IsDocument, IsDocumentOf, IsReadBack}
 use Rattle.graphql_query.specs.Tree.{field, spread, inline, set, more, OperationKind, query_kind, mutation_kind, subscription_kind, short, operation, fragment}
 use Rattle.graphql_query.specs.Tree.{DocumentTree, erase_selection, erase_set, erase_selections, erase_variable, erase_operation, erase_fragment}
 use Rattle.graphql_query.specs.Tree.{erase_definition, erase}
-use Rattle.graphql_query.specs.Meanings.{first_place, alias_of, condition_of, optional_condition_of, spread_name_of, spread_rest_of, spread_of, field_of}
-use Rattle.graphql_query.specs.Meanings.{selected_of, inline_rest_of, inline_of, selection_of, set_of, selections_of, optional_default_of, variable_of}
+use Rattle.graphql_query.specs.Meanings.{alias_of, condition_of, optional_condition_of, spread_name_of, spread_rest_of, spread_of, field_of}
+use Rattle.graphql_query.specs.Meanings.{selected_of, inline_rest_of, inline_of, selection_of, set_of, selections_of, variable_of}
 use Rattle.graphql_query.specs.Meanings.{each_variable_of, variables_of, optional_variables_of, optional_name_of, common_of, keyword_of, operation_of}
 use Rattle.graphql_query.specs.Meanings.{fragment_of, definition_of, definitions_of, document_of}
 

@@ -13,7 +13,7 @@ use Rattle.graphql_core.specs.Parts.{Part, name, mark, gap}
 use Rattle.graphql_common.specs.Values.{ValueTree, DirectiveTree, no_place, erase_all}
 use Rattle.graphql_common.specs.ValueLayout.{arguments_layout, directives_layout}
 use Rattle.graphql_common.specs.Grammar.{core, arguments_symbol, directives_symbol, default_symbol, shared_symbols, name as a_name}
-use Rattle.graphql_common.specs.Meanings.{place_at, spelling_at, optional_arguments_of, directives_of}
+use Rattle.graphql_common.specs.Meanings.{place_at, first_place, optional_default_of, spelling_at, optional_arguments_of, directives_of}
 use Rattle.graphql_common.specs.Printable.{IsNameBut, IsPrintableArgument, IsPrintableDirective, IsPrintableDefault, most, arguments_brackets}
 use Rattle.graphql_common.specs.Printable.{directives_brackets, value_brackets}
 use Rattle.graphql_query.specs.Tree.{SelectionTree, field, spread, inline, SetTree, set, SelectionTrees, none, more, OperationKind, query_kind, mutation_kind}
@@ -21,8 +21,8 @@ use Rattle.graphql_query.specs.Tree.{subscription_kind, VariableTree, OperationT
 use Rattle.graphql_query.specs.Tree.{erase_set, erase_selections, erase_variable, erase_operation, erase_definition, erase}
 use Rattle.graphql_query.specs.Grammar.{query, spread_class, document_symbol, definition_symbol, operation_symbol, common_symbol, variables_symbol}
 use Rattle.graphql_query.specs.Grammar.{variable_symbol, set_symbol, selection_symbol, alias_symbol, condition_symbol}
-use Rattle.graphql_query.specs.Meanings.{first_place, spread_name_of, alias_of, condition_of, optional_condition_of, selected_of, selection_of, set_of}
-use Rattle.graphql_query.specs.Meanings.{selections_of, optional_default_of, variable_of, each_variable_of, optional_variables_of, optional_name_of, common_of}
+use Rattle.graphql_query.specs.Meanings.{spread_name_of, alias_of, condition_of, optional_condition_of, selected_of, selection_of, set_of}
+use Rattle.graphql_query.specs.Meanings.{selections_of, variable_of, each_variable_of, optional_variables_of, optional_name_of, common_of}
 use Rattle.graphql_query.specs.Meanings.{operation_of, definition_of, definitions_of, document_of}
 use Rattle.graphql_query.specs.Layout.{in_braces, alias_layout, condition_layout, on_layout, selection_layout, selected_layout, set_layout, selections_layout}
 use Rattle.graphql_query.specs.Layout.{keyword, operation_name_layout, default_layout, variable_layout, later_variables, variables_layout, definition_layout}

@@ -3,7 +3,6 @@ pub mod Grammar
 pub mod Meanings
 pub mod Common
 pub mod Reads
-pub mod Faults
 pub mod Document
 pub mod Minifying
 pub mod Printable

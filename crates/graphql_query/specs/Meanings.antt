@@ -1,15 +1,10 @@
 -- What the shapes of query documents mean, a line or two for each production.
 use Rattle.std.specs.Prelude.{ℕ, List, [], ◌∷◌, Option, Some, None}
-use Rattle.graphql_grammar.specs.Tokens.{Token, Place, nowhere}
+use Rattle.graphql_grammar.specs.Tokens.{Place, nowhere}
 use Rattle.graphql_grammar.specs.Trees.{Shape, Both, First, Second, More, Node, leaves}
-use Rattle.graphql_common.specs.Values.{ValueTree, DirectiveTree, named}
-use Rattle.graphql_common.specs.Meanings.{place_at, spelling_at, type_of, default_of, optional_arguments_of, directives_of}
+use Rattle.graphql_common.specs.Values.{DirectiveTree, named}
+use Rattle.graphql_common.specs.Meanings.{place_at, first_place, spelling_at, type_of, optional_default_of, optional_arguments_of, directives_of}
 use Rattle.graphql_query.specs.Tree.{SelectionTree, field, spread, inline, SetTree, set, no_set, SelectionTrees, none, more, OperationKind, query_kind, mutation_kind, subscription_kind, VariableTree, OperationTree, FragmentTree, DefinitionTree, short, operation, fragment, DocumentTree}
-
--- where the first of some tokens begins
-abbrev pub first_place : List Token → Place
-first_place [] = nowhere
-first_place (t ∷ ts) = t.place
 
 -- ---- selections
 
@@ -78,10 +73,6 @@ abbrev mutual
   selections_of _ = none
 
 -- ---- definitions
-
-abbrev pub optional_default_of : Shape → Option ValueTree
-optional_default_of (First d) = Some (default_of d)
-optional_default_of _ = None
 
 -- a variable stands at its `$`
 abbrev pub variable_of : Shape → VariableTree

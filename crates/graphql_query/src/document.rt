@@ -4,8 +4,7 @@ ghost use Rattle.graphql_core.specs.declared.common.fault.Fault.TheVariants.{Out
 ghost use Rattle.graphql_query.specs.Tree.{DocumentTree, document_view};
 ghost use Rattle.graphql_core.specs.Refusal.{max_length, too_long};
 ghost use Rattle.graphql_query.specs.Document.{IsDocument, IsDocumentOf, IsRefusalOf};
-ghost use Rattle.graphql_query.specs.Document.{AnswersUnlessMemory, HasNoFault, HasOneShape};
-ghost use Rattle.graphql_query.specs.Faults.{IsLeastOf, HasOneFaultEach};
+ghost use Rattle.graphql_query.specs.Document.{AnswersUnlessMemory, IsLeastOf, HasNoFault, HasOneFaultEach, HasOneShape};
 ghost use Rattle.graphql_query.specs.Printable.{IsPrintable};
 
 use crate::error::ParseError;

@@ -6,10 +6,11 @@ ghost use Rattle.graphql_common.specs.ValueViews.{value_view};
 ghost use Rattle.graphql_common.specs.Grammar.{default_symbol, word};
 ghost use Rattle.graphql_common.specs.Grammar as core;
 ghost use Rattle.graphql_common.specs.Gives.{Adds, Shortens};
+ghost use Rattle.graphql_common.specs.Meanings.{optional_default_of};
 ghost use Rattle.graphql_query.specs.Tree.{query_kind, mutation_kind, subscription_kind, variable_view, query_view, mutation_view, subscription_view, operation_view};
 ghost use Rattle.graphql_query.specs.Common.{common_view};
 ghost use Rattle.graphql_query.specs.Grammar.{common_symbol, variables_symbol, variable_symbol, operation_symbol};
-ghost use Rattle.graphql_query.specs.Meanings.{optional_name_of, optional_default_of, variable_of, variables_of, optional_variables_of, common_of, keyword_of, operation_of};
+ghost use Rattle.graphql_query.specs.Meanings.{optional_name_of, variable_of, variables_of, optional_variables_of, common_of, keyword_of, operation_of};
 ghost use Rattle.graphql_query.specs.Reads.{Reads};
 
 use crate::read::selection::selection_set;

@@ -1,21 +1,23 @@
 use Rattle.std.proofs.Common.{sym, subst, arith}
 use Rattle.graphql_core.specs.Refusal.{Refusal, refusal_of}
-use Rattle.graphql_query.specs.Document.{IsRefusalOf, past_bound}
+use Rattle.graphql_common.specs.Faults.{past_bound}
+use Rattle.graphql_common.proofs.Whole.{exit, one_document, one_shape, text_document, items_document, refusal, answers_unless_memory}
+use Rattle.graphql_common.proofs.Faults.{one_each, no_fault}
+use Rattle.graphql_query.specs.Document.{queries, IsRefusalOf}
+use Rattle.graphql_query.proofs.Readable.{readable}
 use Rattle.graphql_query.proofs.Printable.{printable}
-use Rattle.graphql_query.proofs.Whole.{exit, one_document, one_shape, text_document, items_document, refusal, answers_unless_memory}
-use Rattle.graphql_query.proofs.Faults.{one_each, no_fault}
 use Rattle.graphql_query.proofs.document.parse_query.Goals as goal
 
 -- ---- too long
 
 pub returns-then-source-gt-MAX_LENGTH-clause-one_shape : goal.returns-then-source-gt-MAX_LENGTH-clause-one_shape
-returns-then-source-gt-MAX_LENGTH-clause-one_shape g c = one_shape c.args.source.now
+returns-then-source-gt-MAX_LENGTH-clause-one_shape g c = one_shape queries readable c.args.source.now
 
 pub returns-then-source-gt-MAX_LENGTH-clause-one_fault : goal.returns-then-source-gt-MAX_LENGTH-clause-one_fault
-returns-then-source-gt-MAX_LENGTH-clause-one_fault g c = one_each c.args.source.now
+returns-then-source-gt-MAX_LENGTH-clause-one_fault g c = one_each queries readable c.args.source.now
 
 pub returns-then-source-gt-MAX_LENGTH-clause-no_fault : goal.returns-then-source-gt-MAX_LENGTH-clause-no_fault
-returns-then-source-gt-MAX_LENGTH-clause-no_fault g c d = no_fault c.args.source.now d
+returns-then-source-gt-MAX_LENGTH-clause-no_fault g c d = no_fault queries readable c.args.source.now d
 
 pub returns-then-source-gt-MAX_LENGTH-clause-refused : goal.returns-then-source-gt-MAX_LENGTH-clause-refused
 returns-then-source-gt-MAX_LENGTH-clause-refused g c =
@@ -24,40 +26,40 @@ returns-then-source-gt-MAX_LENGTH-clause-refused g c =
 -- ---- a document
 
 pub returns-clause-derived : goal.returns-clause-derived
-returns-clause-derived g c = text_document c.args.source.now _ _ c.new-cursor.ensures c.in_ok-read_document.ensures.derived
+returns-clause-derived g c = text_document queries c.args.source.now _ _ c.new-cursor.ensures c.in_ok-read_document.ensures.derived
 
 pub returns-clause-printable : goal.returns-clause-printable
-returns-clause-printable g c = printable c.args.source.now _ (text_document c.args.source.now _ _ c.new-cursor.ensures c.in_ok-read_document.ensures.derived)
+returns-clause-printable g c = printable c.args.source.now _ (text_document queries c.args.source.now _ _ c.new-cursor.ensures c.in_ok-read_document.ensures.derived)
 
 pub returns-clause-complete : goal.returns-clause-complete
 returns-clause-complete g c d bound h =
-    one_document _ _ d c.in_ok-read_document.ensures.derived (items_document c.args.source.now _ d c.new-cursor.ensures h)
+    one_document queries readable _ _ d c.in_ok-read_document.ensures.derived (items_document queries c.args.source.now _ d c.new-cursor.ensures h)
 
 pub returns-clause-one_shape : goal.returns-clause-one_shape
-returns-clause-one_shape g c = one_shape c.args.source.now
+returns-clause-one_shape g c = one_shape queries readable c.args.source.now
 
 pub returns-clause-one_fault : goal.returns-clause-one_fault
-returns-clause-one_fault g c = one_each c.args.source.now
+returns-clause-one_fault g c = one_each queries readable c.args.source.now
 
 pub returns-clause-no_fault : goal.returns-clause-no_fault
-returns-clause-no_fault g c d = no_fault c.args.source.now d
+returns-clause-no_fault g c d = no_fault queries readable c.args.source.now d
 
 -- ---- a fault
 
 pub returns-in_err-read_document-clause-complete : goal.returns-in_err-read_document-clause-complete
 returns-in_err-read_document-clause-complete g c d bound h =
-    answers_unless_memory _ d _ _ c.from_residual.ensures.1 (c.in_err-read_document.ensures.complete d (items_document c.args.source.now _ d c.new-cursor.ensures h))
+    answers_unless_memory _ d _ _ c.from_residual.ensures.1 (c.in_err-read_document.ensures.complete d (items_document queries c.args.source.now _ d c.new-cursor.ensures h))
 
 pub returns-in_err-read_document-clause-one_shape : goal.returns-in_err-read_document-clause-one_shape
-returns-in_err-read_document-clause-one_shape g c = one_shape c.args.source.now
+returns-in_err-read_document-clause-one_shape g c = one_shape queries readable c.args.source.now
 
 pub returns-in_err-read_document-clause-one_fault : goal.returns-in_err-read_document-clause-one_fault
-returns-in_err-read_document-clause-one_fault g c = one_each c.args.source.now
+returns-in_err-read_document-clause-one_fault g c = one_each queries readable c.args.source.now
 
 pub returns-in_err-read_document-clause-no_fault : goal.returns-in_err-read_document-clause-no_fault
-returns-in_err-read_document-clause-no_fault g c d = no_fault c.args.source.now d
+returns-in_err-read_document-clause-no_fault g c d = no_fault queries readable c.args.source.now d
 
 pub returns-in_err-read_document-clause-refused : goal.returns-in_err-read_document-clause-refused
 returns-in_err-read_document-clause-refused g c =
     let e = c.in_err-read_document.field-0.0 in
-    exit _ (refusal_of e) _ c.from_residual.ensures.1 (refusal c.args.source.now _ e (omega arith) c.new-cursor.ensures c.in_err-read_document.ensures.refused)
+    exit _ (refusal_of e) _ c.from_residual.ensures.1 (refusal queries c.args.source.now _ e (omega arith) c.new-cursor.ensures c.in_err-read_document.ensures.refused)

@@ -1,5 +1,8 @@
-use Rattle.graphql_query.proofs.Faults.{one_least, least_is_first}
+use Rattle.std.proofs.Common.{refl}
+use Rattle.graphql_common.proofs.Faults.{one_least, least_is_first}
+use Rattle.graphql_query.specs.Document.{queries}
+use Rattle.graphql_query.proofs.Readable.{readable}
 use Rattle.graphql_query.proofs.laws.least_faults_are_first.Goals as goal
 
 pub returns : goal.returns
-returns c = record { one = one_least; first = least_is_first }
+returns c = record { one = one_least queries readable; first = least_is_first queries readable refl }

@@ -4,7 +4,7 @@ use Rattle.graphql_core.proofs.Minifying.{one_minified}
 use Rattle.graphql_query.specs.Document.{IsDocumentOf, IsReadBack}
 use Rattle.graphql_core.specs.Refusal.{Refusal, refusal_of}
 use Rattle.graphql_query.specs.Minifying.{IsMinifyRefusalOf, past_bound}
-use Rattle.graphql_query.proofs.Whole.{exit}
+use Rattle.graphql_common.proofs.Whole.{exit}
 use Rattle.graphql_query.proofs.Minified.{refusal, tells_refusal}
 use Rattle.graphql_query.proofs.Unplaced.{minified_document, source_document}
 use Rattle.graphql_query.proofs.minify.minify_query.Goals as goal

@@ -1,8 +1,8 @@
 use Rattle.std.proofs.Common.{◌≡◌, ◌<◌, List, ℕ, length, string_bytes, inl, inr, sym, subst, ◌∙◌}
 use Rattle.graphql_core.specs.Refusal.{max_length}
-use Rattle.graphql_query.specs.Document.{IsReadBack}
+use Rattle.graphql_query.specs.Document.{queries, IsReadBack}
 use Rattle.graphql_query.specs.Tree.{DocumentTree, document_view}
-use Rattle.graphql_query.proofs.RoundTrip.{same_document, memory_or_length}
+use Rattle.graphql_common.proofs.RoundTrip.{same_document, memory_or_length}
 use Rattle.graphql_parser.proofs.tests.callers.formatted_and_parsed.Goals as goal
 
 pub returns-in-Ok-parse_query-clause-same : goal.returns-in-Ok-parse_query-clause-same
@@ -12,7 +12,7 @@ returns-in-Ok-parse_query-clause-same g c =
     let same : text ≡ string_bytes c.in-Ok.text = c.deref.ensures in
     let back = subst (λ (t : List ℕ). IsReadBack t d) (sym same) (c.in-Ok.ensures.read_back c.requires) in
     let v : DocumentTree = document_view string_bytes c.in-Ok-parse_query.document in
-    same_document text d v c.in-Ok-parse_query.ensures.complete (λ long. let h = c.in-Ok-parse_query.ensures.too_long long in absurd cc) back
+    same_document queries text d v c.in-Ok-parse_query.ensures.complete (λ long. let h = c.in-Ok-parse_query.ensures.too_long long in absurd cc) back
 
 pub returns-clause-parsed : goal.returns-clause-parsed
 returns-clause-parsed g c e h =
@@ -21,7 +21,7 @@ returns-clause-parsed g c e h =
     let same : text ≡ string_bytes c.in-Ok.text = c.deref.ensures in
     let back = subst (λ (t : List ℕ). IsReadBack t d) (sym same) (c.in-Ok.ensures.read_back c.requires) in
     let is : c.in-Err-parse_query.error ≡ e = cc in
-    elim (memory_or_length text d c.in-Err-parse_query.error c.in-Err-parse_query.ensures.complete back) [
+    elim (memory_or_length queries text d c.in-Err-parse_query.error c.in-Err-parse_query.ensures.complete back) [
       | inl memory ↦ inl (sym is ∙ memory)
       | inr long ↦ inr (subst (λ (t : List ℕ). max_length < length t) (same ∙ c.in-Ok.ensures.text) long)
     ]

@@ -1,7 +1,7 @@
 use Rattle.std.proofs.Common.{sym, ap, ◌∙◌}
 use Rattle.graphql_query.specs.Tree.{fragment}
 use Rattle.graphql_query.proofs.Defining.{operation_side, fragment_side, as_operation, as_fragment}
-use Rattle.graphql_query.proofs.Steps.{error_in}
+use Rattle.graphql_common.proofs.Steps.{error_in}
 use Rattle.graphql_query.proofs.read.definition.definition.Goals as goal
 
 pub returns-in_err-fragment_definition-clause-reads : goal.returns-in_err-fragment_definition-clause-reads

@@ -4,10 +4,10 @@ use Rattle.graphql_grammar.specs.Reading.{takes_node, takes_both}
 use Rattle.graphql_common.specs.ValueViews.{directive_view}
 use Rattle.graphql_common.proofs.Reading.{takes_one, fills}
 use Rattle.graphql_query.specs.Grammar.{reading, fragment_symbol}
-use Rattle.graphql_query.proofs.Lifted.{takes_lifted, some_lifted, stops_lifted}
+use Rattle.graphql_query.proofs.Lifted.{starts, takes_lifted, some_lifted, stops_lifted}
 use Rattle.graphql_query.proofs.Parts.{same_fragment}
 use Rattle.graphql_query.proofs.Viewed.{set_filled}
-use Rattle.graphql_query.proofs.Steps.{starts, past, before, error_in, error_one}
+use Rattle.graphql_common.proofs.Steps.{past, before, error_in, error_one}
 use Rattle.graphql_query.proofs.read.definition.fragment_definition.Goals as goal
 
 pub returns-in_err-position-clause-reads : goal.returns-in_err-position-clause-reads

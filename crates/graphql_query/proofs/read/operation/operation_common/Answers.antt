@@ -5,10 +5,10 @@ use Rattle.graphql_common.specs.ValueViews.{directive_view}
 use Rattle.graphql_common.proofs.Reading.{fills}
 use Rattle.graphql_query.specs.Tree.{variable_view}
 use Rattle.graphql_query.specs.Grammar.{common_symbol}
-use Rattle.graphql_query.proofs.Lifted.{takes_lifted, some_lifted, stops_lifted}
+use Rattle.graphql_query.proofs.Lifted.{starts, takes_lifted, some_lifted, stops_lifted}
 use Rattle.graphql_query.proofs.Parts.{same_common}
 use Rattle.graphql_query.proofs.Viewed.{set_filled}
-use Rattle.graphql_query.proofs.Steps.{starts, past, before, error_in}
+use Rattle.graphql_common.proofs.Steps.{past, before, error_in}
 use Rattle.graphql_query.proofs.read.operation.operation_common.Goals as goal
 
 pub returns-in_err-name-clause-reads : goal.returns-in_err-name-clause-reads

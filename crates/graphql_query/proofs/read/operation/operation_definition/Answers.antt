@@ -2,7 +2,7 @@ use Rattle.std.proofs.Common.{sym, ap, ◌∙◌}
 use Rattle.graphql_query.specs.Tree.{short, operation}
 use Rattle.graphql_query.proofs.Defining.{query_side, mutation_side, subscription_side, short_side, as_query, as_mutation, as_subscription, as_short}
 use Rattle.graphql_query.proofs.Viewed.{set_filled}
-use Rattle.graphql_query.proofs.Steps.{error_in}
+use Rattle.graphql_common.proofs.Steps.{error_in}
 use Rattle.graphql_query.proofs.read.operation.operation_definition.Goals as goal
 
 pub returns-in_err-query-clause-reads : goal.returns-in_err-query-clause-reads

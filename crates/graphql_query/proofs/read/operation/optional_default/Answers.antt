@@ -1,7 +1,7 @@
 use Rattle.std.proofs.Common.{refl, sym, ap, ◌∙◌, Some}
 use Rattle.graphql_grammar.specs.Trees.{First, Second, Nothing}
 use Rattle.graphql_query.proofs.Lifted.{some_lifted, stops_lifted}
-use Rattle.graphql_query.proofs.Steps.{error_in}
+use Rattle.graphql_common.proofs.Steps.{error_in}
 use Rattle.graphql_query.proofs.Variables.{some_default, no_default}
 use Rattle.graphql_query.proofs.read.operation.optional_default.Goals as goal
 

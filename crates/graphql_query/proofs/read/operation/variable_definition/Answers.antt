@@ -5,8 +5,8 @@ use Rattle.graphql_common.proofs.Reading.{takes_one, adds_one}
 use Rattle.graphql_query.specs.Grammar.{reading, variable_symbol}
 use Rattle.graphql_query.specs.Tree.{variable_view}
 use Rattle.graphql_query.proofs.Parts.{same_variable}
-use Rattle.graphql_query.proofs.Lifted.{takes_lifted, some_lifted, stops_lifted}
-use Rattle.graphql_query.proofs.Steps.{starts, past, before, error_in, error_one}
+use Rattle.graphql_query.proofs.Lifted.{starts, takes_lifted, some_lifted, stops_lifted}
+use Rattle.graphql_common.proofs.Steps.{past, before, error_in, error_one}
 use Rattle.graphql_query.proofs.read.operation.variable_definition.Goals as goal
 
 pub returns-in_err-position-clause-reads : goal.returns-in_err-position-clause-reads

@@ -5,7 +5,8 @@ use Rattle.graphql_grammar.proofs.Turning.{Stops-before, Stops-after, Stops-turn
 use Rattle.graphql_common.proofs.Reading.{takes_one, stops_one, stops_some, one_of, adds_none, adds_more}
 use Rattle.graphql_query.specs.Tree.{variable_view}
 use Rattle.graphql_query.specs.Grammar.{reading, variables_symbol}
-use Rattle.graphql_query.proofs.Steps.{starts, past, before, error_in, error_one}
+use Rattle.graphql_common.proofs.Steps.{past, before, error_in, error_one}
+use Rattle.graphql_query.proofs.Lifted.{starts}
 use Rattle.graphql_query.proofs.Variables.{read_variable, begins_variable, each_variable_means}
 use Rattle.graphql_query.proofs.read.operation.variable_definitions.Goals as goal
 

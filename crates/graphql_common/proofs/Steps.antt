@@ -1,5 +1,5 @@
 -- A rule that is read from left to right: behind what is taken, the rest is read in its place.
-use Rattle.std.proofs.Common.{◌≡◌, ℕ, List, Result, IsErrAnd, Option, refl}
+use Rattle.std.proofs.Common.{◌≡◌, ℕ, true, List, Result, IsErrAnd, Option}
 use Rattle.graphql_grammar.specs.Tokens.{Token, Class}
 use Rattle.graphql_grammar.specs.Trees.{Expr, One, Then, Sym, Shape, Both, Node, Grammar, row}
 use Rattle.graphql_grammar.specs.Reading.{Takes, takes_both, Reason}
@@ -10,7 +10,6 @@ use Rattle.graphql_core.specs.Source.{Items}
 use Rattle.graphql_common.specs.Gives.{Gives, reason_of}
 use Rattle.graphql_common.proofs.Reading.{stops_one, gives_error, TakesNone}
 use Rattle.graphql_common.proofs.Sides.{IsSide, side_node}
-use Rattle.graphql_query.specs.Grammar.{reading}
 
 -- e that began at ts has come to us, where its rest f is read, whose shapes stand inside e's
 pub record Leads (g : Grammar) (e f : Expr) (inside : Shape → Shape) (ts us : List Token) : Type 0 where
@@ -24,12 +23,13 @@ StopsBy g e f ts us = (vs : List Token) (o : Option Reason) → Stops g f us vs 
 pub leads_in : {g : Grammar} {e f : Expr} {inside : Shape → Shape} {ts : List Token} → IsSide g e f inside ts → Leads g e f inside ts ts
 leads_in s = record { takes = s.takes; stops = s.stops }
 
--- a symbol's rule
-pub starts : (k : ℕ) (ts : List Token) → Leads reading (Sym k) (row reading k).rule (Node k) ts ts
-starts k ts = leads_in (side_node reading k ts (λ x. refl))
+-- the rule of a symbol whose nodes all pass
+pub starts : (g : Grammar) (k : ℕ) (ts : List Token) → ((x : Shape) → g.check k x ≡ true) → Leads g (Sym k) (row g k).rule (Node k) ts ts
+starts g k ts passes = leads_in (side_node g k ts passes)
 
 -- its first part is taken
-pub past : {g : Grammar} {e a b : Expr} {inside : Shape → Shape} {ts us vs : List Token} {x : Shape} → Leads g e (Then a b) inside ts us → Takes g a us x vs → Leads g e b (λ y. inside (Both x y)) ts vs
+pub past : {g : Grammar} {e a b : Expr} {inside : Shape → Shape} {ts us vs : List Token} {x : Shape}
+    → Leads g e (Then a b) inside ts us → Takes g a us x vs → Leads g e b (λ y. inside (Both x y)) ts vs
 past {g} {e} {a} {b} {inside} {ts} {us} {vs} {x} l h = record {
   takes = λ ws y k. l.takes ws (Both x y) (takes_both h k);
   stops = λ ws o k. l.stops ws o (Stops-after g a b us vs ws x o h k);

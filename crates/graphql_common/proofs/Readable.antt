@@ -1,0 +1,71 @@
+-- What a language has to show once, and what the theory of grammars then says of it.
+use Rattle.std.proofs.Common.{◌≡◌, ℕ, true}
+use Rattle.graphql_grammar.specs.Tokens.{Token, AnyOf}
+use Rattle.graphql_grammar.specs.Trees.{Sym, Shape}
+use Rattle.graphql_grammar.specs.Tables.{is_ll1, is_tight, is_productive, decides, has_samples}
+use Rattle.graphql_grammar.specs.Reading.{Refused, unchecked, lax}
+use Rattle.graphql_grammar.specs.Theorems.{IsExact}
+use Rattle.graphql_grammar.specs.Factored.{EachIsSecond, with_rows, IsExactFor}
+use Rattle.graphql_grammar.specs.Texts.{IsWhole, IsWholeFor}
+use Rattle.graphql_grammar.specs.Faults.{IsFault, AnswersLeast, RefusesTokens}
+use Rattle.graphql_grammar.specs.Extended.{Extends, LeavesAlone}
+use Rattle.graphql_grammar.proofs.Carried.{exact_for, whole_for}
+use Rattle.graphql_grammar.proofs.FaultedFor.{least_for}
+use Rattle.graphql_grammar.proofs.Exact as theory
+use Rattle.graphql_grammar.proofs.Whole as whole_theory
+use Rattle.graphql_core.specs.Source.{Items, FaultText}
+use Rattle.graphql_common.specs.Leaves.{is_good}
+use Rattle.graphql_common.specs.Grammar.{core, shared_symbols}
+use Rattle.graphql_common.specs.Language.{Language, reading}
+use Rattle.graphql_common.specs.Faults.{text_of}
+
+pub record IsReadable {D : Type 0} (l : Language D) : Type 0 where
+  -- tests of the second rows, which are computed
+  pub ll1 : is_ll1 l.second_rows ≡ true
+  pub tight : is_tight l.second_rows ≡ true
+  pub productive : is_productive (reading l) ≡ true
+  pub productive_lax : is_productive (with_rows (lax l.grammar) l.second_rows l.changes) ≡ true
+  -- a whole document can be read, and stands for what is written
+  pub decides : decides l.second_rows (Sym l.document) ≡ true
+  pub samples : has_samples (reading l) (Sym l.document) ≡ true
+  pub samples_lax : has_samples (with_rows (lax l.grammar) l.second_rows l.changes) (Sym l.document) ≡ true
+  -- the second rules have the trees of the written ones, whatever is tested
+  pub each : EachIsSecond l.grammar l.second_rows l.changes
+  pub each_unchecked : EachIsSecond (unchecked l.grammar) l.second_rows l.changes
+  pub each_lax : EachIsSecond (lax l.grammar) l.second_rows l.changes
+  -- it goes on from the grammar of values, types and directives, whose trees are left alone
+  pub goes_on : Extends shared_symbols core (reading l)
+  pub alone : LeavesAlone shared_symbols core l.changes
+  -- any token of a kind has a value where it has one as a leaf of a value
+  pub good : (k : ℕ) (t : Token) → l.grammar.good (AnyOf k) t ≡ is_good (AnyOf k) t
+  -- no node without tokens is refused, and none of a whole document
+  pub refuses_tokens : RefusesTokens l.grammar
+  pub passes : (x : Shape) → l.grammar.check l.document x ≡ true
+  -- one thing is said of a node that is refused
+  pub one_said : (i : Items) (k n : ℕ) (f g : FaultText) → IsFault l.grammar (Sym l.document) (text_of i) (Refused k) n
+      → l.refuses k i n f → l.refuses k i n g → f ≡ g
+
+-- ---- what the theory says
+
+module _ {D : Type 0} (l : Language D) (r : IsReadable l) where
+  pub exact : IsExactFor l.grammar l.second_rows l.changes (Sym l.document)
+  exact = exact_for l.grammar l.second_rows l.changes r.each r.each_unchecked r.each_lax r.ll1 r.productive (Sym l.document) r.decides r.samples
+
+  -- the same, whatever values the leaves have
+  pub exact_lax : IsExactFor (lax l.grammar) l.second_rows l.changes (Sym l.document)
+  exact_lax =
+      exact_for (lax l.grammar) l.second_rows l.changes r.each_lax r.each_lax r.each_lax r.ll1 r.productive_lax (Sym l.document) r.decides r.samples_lax
+
+  pub whole : IsWholeFor l.grammar l.second_rows l.changes (Sym l.document)
+  whole = whole_for l.grammar l.second_rows l.changes r.each r.each_unchecked r.each_lax r.ll1 r.productive (Sym l.document) r.decides r.samples
+
+  pub least : AnswersLeast l.grammar (reading l) (Sym l.document)
+  least =
+      least_for l.grammar l.second_rows l.changes r.each r.each_lax r.ll1 r.tight r.productive r.refuses_tokens (Sym l.document) r.decides r.samples
+
+  -- what is read, as a grammar of its own
+  pub exact_reading : IsExact (reading l) (Sym l.document)
+  exact_reading = theory.exact (reading l) r.ll1 r.productive (Sym l.document) r.decides r.samples
+
+  pub whole_reading : IsWhole (reading l) (Sym l.document)
+  whole_reading = whole_theory.whole (reading l) (Sym l.document) exact_reading

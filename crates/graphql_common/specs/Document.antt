@@ -1,0 +1,31 @@
+-- What a text's document is, in any language, and what is answered for it.
+use Rattle.std.specs.Prelude.{◌≡◌, ℕ, List, Result, Ok, Err}
+use Rattle.graphql_grammar.specs.Trees.{Shape, Sym, Derives}
+use Rattle.graphql_grammar.specs.Reading.{lax}
+use Rattle.graphql_core.specs.Items.{Item, HasItems}
+use Rattle.graphql_core.specs.Source.{Items, IsEnd, split}
+use Rattle.graphql_core.specs.Refusal.{Refusal, no_memory}
+use Rattle.graphql_common.specs.Language.{Language}
+
+module _ {D : Type 0} (l : Language D) where
+  -- the grammar derives the tokens with a shape that means this, and behind them is the end
+  abbrev pub IsDocument : Items → D → Type 0
+  IsDocument i d = (x : Shape) × Derives l.grammar (Sym l.document) i.tokens x × IsEnd i.last × (d ≡ l.means x)
+
+  -- the items of the text are a document that means this
+  abbrev pub IsDocumentOf : List ℕ → D → Type 0
+  IsDocumentOf text d = (items : List Item) × HasItems text items × IsDocument (split items) d
+
+  -- the text has a document that is this one but for positions
+  abbrev pub IsReadBack : List ℕ → D → Type 0
+  IsReadBack text d = (e : D) × IsDocumentOf text e × (l.erase e ≡ l.erase d)
+
+  -- the list of tokens of a text has at most one shape, also where integers, floats and strings without a value are let through
+  abbrev pub HasOneShape : List ℕ → Type 0
+  HasOneShape text = (items : List Item) (x y : Shape) → HasItems text items
+      → Derives (lax l.grammar) (Sym l.document) (split items).tokens x → Derives (lax l.grammar) (Sym l.document) (split items).tokens y → x ≡ y
+
+-- the answer is seen as this document, unless memory ran out
+abbrev pub AnswersUnlessMemory : {V D : Type 0} → (V → D) → D → Result V Refusal → Type 0
+AnswersUnlessMemory view d (Ok v) = view v ≡ d
+AnswersUnlessMemory view d (Err e) = e ≡ no_memory
