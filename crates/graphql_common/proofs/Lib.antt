@@ -29,3 +29,5 @@ pub mod Faults
 pub mod Whole
 pub mod Lifted
 pub mod RoundTrip
+pub mod Bare
+pub mod Unplaced

@@ -34,31 +34,31 @@ module _
     (alike : (style : Layout) (d : D) → layout style (l.erase d) ≡ layout style d)
     (IsPrinted : D → Type 0)
     (back : (style : Layout) (d : D) → IsPrinted d → IsReadBack l (layout style d) d)
-    where
-  -- a text has one document
-  only_document : (text : List ℕ) (d e : D) → IsDocumentOf l text d → IsDocumentOf l text e → d ≡ e
-  only_document text d e (i, h, is) (j, k, other) =
-      one_document l r (split i) d e is (subst (λ (items : List Item). IsDocument l (split items) e) (items_unique text j i k h) other)
+  where
+    -- a text has one document
+    only_document : (text : List ℕ) (d e : D) → IsDocumentOf l text d → IsDocumentOf l text e → d ≡ e
+    only_document text d e (i, h, is) (j, k, other) =
+        one_document l r (split i) d e is (subst (λ (items : List Item). IsDocument l (split items) e) (items_unique text j i k h) other)
 
-  -- documents that are equal but for positions have one text in each style
-  same_text : (style : Layout) (d e : D) → l.erase d ≡ l.erase e → layout style d ≡ layout style e
-  same_text style d e same = sym (alike style d) ∙ ap (layout style) same ∙ alike style e
+    -- documents that are equal but for positions have one text in each style
+    same_text : (style : Layout) (d e : D) → l.erase d ≡ l.erase e → layout style d ≡ layout style e
+    same_text style d e same = sym (alike style d) ∙ ap (layout style) same ∙ alike style e
 
-  -- what a printed document is read as: the document but for positions, whose text in the same style is the same
-  pub printed_again : (style : Layout) (d e : D) → IsPrinted d → IsDocumentOf l (layout style d) e
-      → (l.erase e ≡ l.erase d) × (layout style e ≡ layout style d)
-  printed_again style d e is h =
-      let w = back style d is in
-      let same : l.erase e ≡ l.erase d = ap l.erase (only_document (layout style d) e w.0 h w.1) ∙ w.2 in
-      (same, same_text style e d same)
+    -- what a printed document is read as: the document but for positions, whose text in the same style is the same
+    pub printed_again : (style : Layout) (d e : D) → IsPrinted d → IsDocumentOf l (layout style d) e
+        → (l.erase e ≡ l.erase d) × (layout style e ≡ layout style d)
+    printed_again style d e is h =
+        let w = back style d is in
+        let same : l.erase e ≡ l.erase d = ap l.erase (only_document (layout style d) e w.0 h w.1) ∙ w.2 in
+        (same, same_text style e d same)
 
-  -- two texts of a document, in two styles, are read as documents that are equal but for positions
-  pub styles_agree : (style other : Layout) (d e f : D) → IsPrinted d → IsDocumentOf l (layout style d) e
-      → IsDocumentOf l (layout other d) f → l.erase e ≡ l.erase f
-  styles_agree style other d e f is h k = (printed_again style d e is h).0 ∙ sym (printed_again other d f is k).0
+    -- two texts of a document, in two styles, are read as documents that are equal but for positions
+    pub styles_agree : (style other : Layout) (d e f : D) → IsPrinted d → IsDocumentOf l (layout style d) e
+        → IsDocumentOf l (layout other d) f → l.erase e ≡ l.erase f
+    styles_agree style other d e f is h k = (printed_again style d e is h).0 ∙ sym (printed_again other d f is k).0
 
-  -- documents with one text are equal but for positions
-  pub one_text : (style : Layout) (d e : D) → IsPrinted d → IsPrinted e → layout style d ≡ layout style e → l.erase d ≡ l.erase e
-  one_text style d e is other same =
-      let w = back style e other in
-      sym (printed_again style d w.0 is (subst (λ (t : List ℕ). IsDocumentOf l t w.0) (sym same) w.1)).0 ∙ w.2
+    -- documents with one text are equal but for positions
+    pub one_text : (style : Layout) (d e : D) → IsPrinted d → IsPrinted e → layout style d ≡ layout style e → l.erase d ≡ l.erase e
+    one_text style d e is other same =
+        let w = back style e other in
+        sym (printed_again style d w.0 is (subst (λ (t : List ℕ). IsDocumentOf l t w.0) (sym same) w.1)).0 ∙ w.2

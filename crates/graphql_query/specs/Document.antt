@@ -44,6 +44,14 @@ HasOneShape = document.HasOneShape queries
 abbrev pub AnswersUnlessMemory : {V : Type 0} → (V → DocumentTree) → DocumentTree → Result V Refusal → Type 0
 AnswersUnlessMemory view = document.AnswersUnlessMemory view
 
+-- what the contract of `parse_query` says of an answer for a text within the bound
+abbrev pub IsParsed : List ℕ → Result DocumentTree Refusal → Type 0
+IsParsed = document.IsParsed queries
+
+-- both are documents that are equal but for positions, or both are refusals, unless memory ran out
+abbrev pub AreAlike : Result DocumentTree Refusal → Result DocumentTree Refusal → Type 0
+AreAlike = document.AreAlike queries
+
 -- ---- faults and refusals
 
 -- a fault of the text, and its index

@@ -6,12 +6,11 @@ ghost use Rattle.graphql_core.specs.Style.{Layout};
 ghost use Rattle.graphql_common.specs.Printable.{most};
 ghost use Rattle.graphql_query.specs.Tree.{DocumentTree, erase};
 ghost use Rattle.graphql_core.specs.Source.{FaultText};
-ghost use Rattle.graphql_query.specs.Document.{IsDocumentOf, IsFirstFaultOf, IsLeastFaultOf};
+ghost use Rattle.graphql_query.specs.Document.{IsDocumentOf, IsParsed, AreAlike, IsFirstFaultOf, IsLeastFaultOf};
 ghost use Rattle.graphql_query.specs.Lawful.{IsLawfulDocument};
 ghost use Rattle.graphql_query.specs.Layout.{document_layout, layout};
 ghost use Rattle.graphql_query.specs.Printable.{IsPrintable, definition_brackets};
 ghost use Rattle.graphql_core.specs.Refusal.{Refusal};
-ghost use Rattle.graphql_query.specs.Minifying.{IsParsed, AreAlike};
 ghost use Rattle.graphql_query.specs.Examples as example;
 
 /// The documents of some small texts, and their layouts.

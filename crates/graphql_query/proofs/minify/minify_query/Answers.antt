@@ -1,12 +1,13 @@
 use Rattle.std.proofs.Common.{◌≡◌, List, ℕ, string_bytes, length, sym, ap, subst, arith}
 use Rattle.graphql_core.specs.Minified.{IsMinified}
 use Rattle.graphql_core.proofs.Minifying.{one_minified}
-use Rattle.graphql_query.specs.Document.{IsDocumentOf, IsReadBack}
+use Rattle.graphql_query.specs.Document.{queries, IsDocumentOf, IsReadBack}
 use Rattle.graphql_core.specs.Refusal.{Refusal, refusal_of}
 use Rattle.graphql_query.specs.Minifying.{IsMinifyRefusalOf, past_bound}
+use Rattle.graphql_common.proofs.Unplaced.{minified_document, source_document}
 use Rattle.graphql_common.proofs.Whole.{exit}
 use Rattle.graphql_query.proofs.Minified.{refusal, tells_refusal}
-use Rattle.graphql_query.proofs.Unplaced.{minified_document, source_document}
+use Rattle.graphql_query.proofs.Unplaced.{unplaced_alike}
 use Rattle.graphql_query.proofs.minify.minify_query.Goals as goal
 
 pub returns-then-len-gt-MAX_LENGTH-clause-refused : goal.returns-then-len-gt-MAX_LENGTH-clause-refused
@@ -37,9 +38,9 @@ returns-clause-complete c text bound is =
 pub returns-clause-document : goal.returns-clause-document
 returns-clause-document c d h =
     let same : c.deref.result.now ≡ string_bytes c.args.source = c.deref.ensures in
-    minified_document c.deref.result.now _ c.in_ok-text.ensures.minified d (subst (λ (t : List ℕ). IsDocumentOf t d) (sym same) h)
+    minified_document queries unplaced_alike c.deref.result.now _ c.in_ok-text.ensures.minified d (subst (λ (t : List ℕ). IsDocumentOf t d) (sym same) h)
 
 pub returns-clause-no_other : goal.returns-clause-no_other
 returns-clause-no_other c d h =
     let same : c.deref.result.now ≡ string_bytes c.args.source = c.deref.ensures in
-    subst (λ (t : List ℕ). IsReadBack t d) same (source_document c.deref.result.now _ c.in_ok-text.ensures.minified d h)
+    subst (λ (t : List ℕ). IsReadBack t d) same (source_document queries unplaced_alike c.deref.result.now _ c.in_ok-text.ensures.minified d h)
