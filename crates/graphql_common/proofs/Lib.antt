@@ -22,6 +22,7 @@ pub mod ValuesBack
 pub mod DirectivesBack
 pub mod Margins
 pub mod Narrow
+pub mod Counting
 pub mod Depths
 pub mod Steps
 pub mod Readable

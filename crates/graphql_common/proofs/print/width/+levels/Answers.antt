@@ -1,8 +1,8 @@
-use Rattle.std.proofs.Common.{rules, arith, ◌≡◌, ◌-◌, ◌^◌, min, sym, subst}
-use Rattle.std.proofs.lemmas.List.{at_drop_all}
+use Rattle.std.proofs.Common.{rules, arith, ◌≡◌, ◌-◌, ◌^◌, min, refl}
 use Rattle.graphql_common.specs.ValueViews.{items_view, members_view}
 use Rattle.graphql_common.specs.ValueLayout.{items_levels, members_levels}
 use Rattle.graphql_common.specs.Lawful.{AreLawful}
+use Rattle.graphql_common.proofs.Counting.{all_counted}
 use Rattle.graphql_common.proofs.Members.{in_key_order}
 use Rattle.graphql_common.proofs.Viewed.{item_here}
 use Rattle.graphql_common.proofs.print.width.+levels.Goals as goal
@@ -22,19 +22,12 @@ levels_in_list-items-preserved g t c =
 
 pub levels_in_list-returns : goal.levels_in_list-returns
 levels_in_list-returns g t c =
-    let bytes = g.N.Names.bytes in
-    let style = c.args.style.now in
-    let xs = c.deref-item-items.result.now in
     let l = c.items in
-    let none = at_drop_all (λ ys. items_levels style (items_view bytes ys)) xs l.item-index (omega arith) in
-    let left = rw (none, c.deref-item-items.ensures.value) at l.invariant.levels in
-    let end = at_drop_all (λ ys. items_view bytes ys) xs l.item-index (omega arith) in
-    record {
-      levels = c.levels_around.ensures (items_levels style (items_view bytes c.args.items.now.items)) (omega (arith, left));
-      lawful =
-          subst (λ ys. AreLawful (items_view bytes ys)) c.deref-item-items.ensures.value
-          (l.invariant.lawful (subst AreLawful (sym end) tt));
-    }
+    let (most, lawful) =
+    all_counted (items_view g.N.Names.bytes) (items_levels c.args.style.now) AreLawful c.deref-item-items.result.now c.args.items.now.items l.item-index l.most
+    (2 ^ 64 - 1) (omega arith) c.deref-item-items.ensures.value refl tt l.invariant.levels l.invariant.lawful
+    in
+    record { levels = c.levels_around.ensures _ most; lawful = lawful }
 
 -- ---- objects
 

@@ -1,8 +1,8 @@
-use Rattle.std.proofs.Common.{◌≡◌, ◌-◌, ◌^◌, ◌∙◌, arith, sym, subst, ap, min}
-use Rattle.std.proofs.lemmas.List.{at_drop_all}
+use Rattle.std.proofs.Common.{◌-◌, ◌^◌, ◌∙◌, arith, refl, sym, ap, min}
 use Rattle.graphql_common.specs.ValueViews.{value_view, arguments_view}
 use Rattle.graphql_common.specs.ValueLayout.{most_levels}
 use Rattle.graphql_common.specs.Lawful.{AreLawfulArguments}
+use Rattle.graphql_common.proofs.Counting.{all_counted}
 use Rattle.graphql_common.proofs.Viewed.{argument_here}
 use Rattle.graphql_common.proofs.Enclosing.{some_items, filled_levels}
 use Rattle.graphql_common.proofs.print.width.levels_in_arguments.Goals as goal
@@ -24,14 +24,14 @@ returns g c =
     let style = c.args.style.now in
     let xs = c.args.arguments.now.items in
     let some = some_items _ xs c.args.arguments.now.ok.0 (sym c.is_empty.ensures ∙ c.if-is_empty.false) in
-    let left = at_drop_all (λ ys. most_levels style (arguments_view bytes ys)) c.deref-argument-items.result.now c.arguments.argument-index (omega arith) in
-    let same = ap (λ ys. most_levels style (arguments_view bytes ys)) c.deref-argument-items.ensures.value in
-    let most : c.arguments.most ≡ min (most_levels style (arguments_view bytes xs)) (2 ^ 64 - 1) = omega (arith, c.arguments.invariant.levels, left, same) in
-    let none = at_drop_all (λ ys. arguments_view bytes ys) c.deref-argument-items.result.now c.arguments.argument-index (omega arith) in
-    let law = c.arguments.invariant.lawful (subst AreLawfulArguments (sym none) tt) in
+    let l = c.arguments in
+    let (most, lawful) =
+    all_counted (arguments_view bytes) (most_levels style) AreLawfulArguments c.deref-argument-items.result.now xs l.argument-index l.most (2 ^ 64 - 1)
+    (omega arith) c.deref-argument-items.ensures.value refl tt l.invariant.levels l.invariant.lawful
+    in
     record {
       levels =
           c.levels_around.ensures (most_levels style (arguments_view bytes xs)) most
           ∙ ap (λ n. min n (2 ^ 64 - 1)) (sym (filled_levels (λ a. (bytes a.0, value_view bytes a.1)) style xs some));
-      lawful = subst (λ ys. AreLawfulArguments (arguments_view bytes ys)) c.deref-argument-items.ensures.value law;
+      lawful = lawful;
     }

@@ -1,8 +1,8 @@
-use Rattle.std.proofs.Common.{arith, sym, subst}
-use Rattle.std.proofs.lemmas.List.{at_drop_all}
+use Rattle.std.proofs.Common.{◌-◌, ◌^◌, arith, refl}
 use Rattle.graphql_common.specs.ValueViews.{directives_view}
 use Rattle.graphql_common.specs.ValueLayout.{directives_levels}
 use Rattle.graphql_common.specs.Lawful.{AreLawfulDirectives}
+use Rattle.graphql_common.proofs.Counting.{all_counted}
 use Rattle.graphql_common.proofs.Viewed.{directive_here}
 use Rattle.graphql_common.proofs.print.width.levels_in_directives.Goals as goal
 
@@ -19,15 +19,9 @@ directives-preserved g c =
 
 pub returns : goal.returns
 returns g c =
-    let bytes = g.N.Names.bytes in
-    let ds = c.deref-directive-items.result.now in
     let l = c.directives in
-    let none = at_drop_all (λ xs. directives_levels c.args.style.now (directives_view bytes xs)) ds l.directive-index (omega arith) in
-    let left = rw (none, c.deref-directive-items.ensures.value) at l.invariant.levels in
-    let end = at_drop_all (λ xs. directives_view bytes xs) ds l.directive-index (omega arith) in
-    record {
-      levels = omega (arith, left);
-      lawful =
-          subst (λ xs. AreLawfulDirectives (directives_view bytes xs)) c.deref-directive-items.ensures.value
-          (l.invariant.lawful (subst AreLawfulDirectives (sym end) tt));
-    }
+    let (most, lawful) =
+    all_counted (directives_view g.N.Names.bytes) (directives_levels c.args.style.now) AreLawfulDirectives c.deref-directive-items.result.now
+    c.args.directives.now.items l.directive-index l.most (2 ^ 64 - 1) (omega arith) c.deref-directive-items.ensures.value refl tt l.invariant.levels l.invariant.lawful
+    in
+    record { levels = most; lawful = lawful }

@@ -1,5 +1,5 @@
-use Rattle.std.proofs.Common.{arith, sym, subst, ◌∙◌}
-use Rattle.std.proofs.lemmas.List.{at_drop_all}
+use Rattle.std.proofs.Common.{◌-◌, ◌^◌, ◌∙◌, arith, refl, sym}
+use Rattle.graphql_common.proofs.Counting.{all_counted}
 use Rattle.graphql_query.specs.Tree.{selections_view}
 use Rattle.graphql_query.specs.Layout.{selections_levels}
 use Rattle.graphql_query.specs.Lawful.{AreLawfulSelections}
@@ -42,14 +42,9 @@ levels_in_selections-items-preserved g t c =
 
 pub levels_in_selections-returns : goal.levels_in_selections-returns
 levels_in_selections-returns g t c =
-    let bytes = g.N.Names.bytes in
     let l = c.items in
-    let none = at_drop_all (λ xs. selections_levels c.args.style.now (selections_view bytes xs)) c.deref-item-items.result.now l.item-index (omega arith) in
-    let left = rw (none, c.deref-item-items.ensures.value) at l.invariant.levels in
-    let end = at_drop_all (λ xs. selections_view bytes xs) c.deref-item-items.result.now l.item-index (omega arith) in
-    record {
-      levels = omega (arith, left);
-      lawful =
-          subst (λ xs. AreLawfulSelections (selections_view bytes xs)) c.deref-item-items.ensures.value
-          (l.invariant.lawful (subst AreLawfulSelections (sym end) tt));
-    }
+    let (most, lawful) =
+    all_counted (selections_view g.N.Names.bytes) (selections_levels c.args.style.now) AreLawfulSelections c.deref-item-items.result.now c.args.items.now.items
+    l.item-index l.most (2 ^ 64 - 1) (omega arith) c.deref-item-items.ensures.value refl tt l.invariant.levels l.invariant.lawful
+    in
+    record { levels = most; lawful = lawful }

@@ -1,5 +1,5 @@
-use Rattle.std.proofs.Common.{arith, sym, subst}
-use Rattle.std.proofs.lemmas.List.{at_drop_all}
+use Rattle.std.proofs.Common.{◌-◌, ◌^◌, arith, refl}
+use Rattle.graphql_common.proofs.Counting.{all_counted}
 use Rattle.graphql_query.specs.Tree.{definitions_view}
 use Rattle.graphql_query.specs.Layout.{levels}
 use Rattle.graphql_query.specs.Lawful.{IsLawfulDocument}
@@ -20,15 +20,10 @@ definitions-preserved g c =
 
 pub returns : goal.returns
 returns g c =
-    let bytes = g.N.Names.bytes in
-    let ds = c.deref-definition-items.result.now in
     let l = c.definitions in
-    let none = at_drop_all (λ xs. levels c.args.style.now (definitions_view bytes xs)) ds l.definition-index (omega arith) in
-    let left = rw (none, c.deref-definition-items.ensures.value) at l.invariant.levels in
-    let end = at_drop_all (λ xs. definitions_view bytes xs) ds l.definition-index (omega arith) in
-    record {
-      levels = omega (arith, left);
-      lawful =
-          subst (λ xs. IsLawfulDocument (definitions_view bytes xs)) c.deref-definition-items.ensures.value
-          (l.invariant.lawful (subst IsLawfulDocument (sym end) tt));
-    }
+    let (most, lawful) =
+    all_counted (definitions_view g.N.Names.bytes) (levels c.args.style.now) IsLawfulDocument c.deref-definition-items.result.now
+    c.args.document.now.definitions.items l.definition-index l.most (2 ^ 64 - 1) (omega arith) c.deref-definition-items.ensures.value refl tt l.invariant.levels
+    l.invariant.lawful
+    in
+    record { levels = most; lawful = lawful }

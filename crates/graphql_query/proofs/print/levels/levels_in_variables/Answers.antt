@@ -1,5 +1,5 @@
-use Rattle.std.proofs.Common.{arith, sym, subst}
-use Rattle.std.proofs.lemmas.List.{at_drop_all}
+use Rattle.std.proofs.Common.{◌-◌, ◌^◌, arith, refl}
+use Rattle.graphql_common.proofs.Counting.{all_counted}
 use Rattle.graphql_query.specs.Tree.{variables_view}
 use Rattle.graphql_query.specs.Layout.{variables_levels}
 use Rattle.graphql_query.specs.Lawful.{AreLawfulVariables}
@@ -19,15 +19,9 @@ variables-preserved g c =
 
 pub returns : goal.returns
 returns g c =
-    let bytes = g.N.Names.bytes in
-    let vs = c.deref-variable-items.result.now in
     let l = c.variables in
-    let none = at_drop_all (λ xs. variables_levels c.args.style.now (variables_view bytes xs)) vs l.variable-index (omega arith) in
-    let left = rw (none, c.deref-variable-items.ensures.value) at l.invariant.levels in
-    let end = at_drop_all (λ xs. variables_view bytes xs) vs l.variable-index (omega arith) in
-    record {
-      levels = omega (arith, left);
-      lawful =
-          subst (λ xs. AreLawfulVariables (variables_view bytes xs)) c.deref-variable-items.ensures.value
-          (l.invariant.lawful (subst AreLawfulVariables (sym end) tt));
-    }
+    let (most, lawful) =
+    all_counted (variables_view g.N.Names.bytes) (variables_levels c.args.style.now) AreLawfulVariables c.deref-variable-items.result.now
+    c.args.variables.now.items l.variable-index l.most (2 ^ 64 - 1) (omega arith) c.deref-variable-items.ensures.value refl tt l.invariant.levels l.invariant.lawful
+    in
+    record { levels = most; lawful = lawful }
