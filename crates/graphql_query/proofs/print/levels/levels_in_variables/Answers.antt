@@ -22,6 +22,7 @@ returns g c =
     let l = c.variables in
     let (most, lawful) =
     all_counted (variables_view g.N.Names.bytes) (variables_levels c.args.style.now) AreLawfulVariables c.deref-variable-items.result.now
-    c.args.variables.now.items l.variable-index l.most (2 ^ 64 - 1) (omega arith) c.deref-variable-items.ensures.value refl tt l.invariant.levels l.invariant.lawful
+    c.args.variables.now.items l.variable-index l.most (2 ^ 64 - 1) (omega arith) c.deref-variable-items.ensures.value refl tt l.invariant.levels
+    l.invariant.lawful
     in
     record { levels = most; lawful = lawful }
