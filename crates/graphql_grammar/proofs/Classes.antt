@@ -34,7 +34,7 @@ apart-sound c d t h p q =
       | inr s ↦ spellings_apart-sound c d t.spelling s p'.1 q'.1
     ]
 
-same_spellings-true : (xs ys : List (List ℕ)) → same_spellings xs ys ≡ true → xs ≡ ys
+pub same_spellings-true : (xs ys : List (List ℕ)) → same_spellings xs ys ≡ true → xs ≡ ys
 same_spellings-true [] [] h = refl
 same_spellings-true [] (y ∷ ys) h = absurd cc
 same_spellings-true (x ∷ xs) [] h = absurd cc

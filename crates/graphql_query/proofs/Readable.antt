@@ -1,13 +1,14 @@
 -- The grammar of queries is read exactly, and goes on from that of values, types and directives.
-use Rattle.std.proofs.Common.{◌≡◌, Bool, true, refl}
+use Rattle.std.proofs.Common.{◌≡◌, Bool, true, List, [], drop, refl}
 use Rattle.graphql_grammar.specs.Tokens.{Token, Class}
 use Rattle.graphql_grammar.specs.Trees.{Expr, Grammar, row_at}
 use Rattle.graphql_grammar.specs.Tables.{is_ll1, is_tight, is_productive}
 use Rattle.graphql_grammar.specs.Reading.{lax}
-use Rattle.graphql_grammar.specs.Factored.{IsSecond, EachIsSecond, unchanged, with_rows}
+use Rattle.graphql_grammar.specs.Factored.{Change, EachIsSecond, with_rows}
 use Rattle.graphql_grammar.specs.Faults.{RefusesTokens}
 use Rattle.graphql_grammar.specs.Extended.{Extends, TestsAlike}
-use Rattle.graphql_grammar.proofs.Carried.{each_is_second, IsSecond-unchanged, IsSecond-second, IsSecond-symbols, IsSecond-prefix}
+use Rattle.graphql_grammar.proofs.Carried.{each_is_second, IsSecond-second, IsSecond-symbols, IsSecond-prefix}
+use Rattle.graphql_grammar.proofs.Unchanged.{unchanged_then}
 use Rattle.graphql_grammar.proofs.Extending.{tests_alike, with_more, alone_before}
 use Rattle.graphql_common.specs.Grammar.{core, tables as core_tables, name, shared_symbols}
 use Rattle.graphql_common.specs.Leaves.{unquoted}
@@ -37,74 +38,22 @@ tested good = record { rows = query.rows; good = good; check = λ k x. true; sam
 
 each : (good : Class → Token → Bool) → EachIsSecond (tested good) second_rows changes
 each good = each_is_second g second_rows changes (
-  same _,
-  (
-    same _,
-    (
-      same _,
+    unchanged_then g second_rows changes 18 g.rows second_rows others refl (
+      IsSecond-second g second_rows changes _ _ _ _
+          (IsSecond-symbols g second_rows changes spread_symbol inline_symbol _ spread_rest inline_rest refl refl refl refl
+          (λ x. refl) (λ x. refl) (λ x. refl) (λ x. refl)),
       (
-        same _,
-        (
-          same _,
-          (
-            same _,
-            (
-              same _,
-              (
-                same _,
-                (
-                  same _,
-                  (
-                    same _,
-                    (
-                      same _,
-                      (
-                        same _,
-                        (
-                          same _,
-                          (
-                            same _,
-                            (
-                              same _,
-                              (
-                                same _,
-                                (
-                                  same _,
-                                  (
-                                    same _,
-                                    (
-                                      IsSecond-second g second_rows changes _ _ _ _
-                                          (IsSecond-symbols g second_rows changes spread_symbol inline_symbol _ spread_rest inline_rest refl refl refl refl
-                                          (λ x. refl) (λ x. refl) (λ x. refl) (λ x. refl)),
-                                      (
-                                        IsSecond-prefix g second_rows changes alias_symbol name _ field_rest refl refl (λ x. refl) (λ x. refl),
-                                        (same _, (same _, (same _, (same _, (same _, (same _, tt)))))),
-                                      ),
-                                    ),
-                                  ),
-                                ),
-                              ),
-                            ),
-                          ),
-                        ),
-                      ),
-                    ),
-                  ),
-                ),
-              ),
-            ),
-          ),
-        ),
+        IsSecond-prefix g second_rows changes alias_symbol name _ field_rest refl refl (λ x. refl) (λ x. refl),
+        unchanged_then g second_rows changes 6 (drop 20 g.rows) (drop 20 second_rows) [] refl tt,
       ),
-    ),
-  ),
-)
+    )
+    )
   where
     g : Grammar
     g = tested good
 
-    same : (e : Expr) → IsSecond g second_rows changes e e unchanged
-    same e = IsSecond-unchanged g second_rows changes e
+    others : List Change
+    others = drop 18 changes
 
 -- no node is refused
 none_refused : RefusesTokens query
