@@ -1,14 +1,16 @@
 -- A rule that is read from left to right: behind what is taken, the rest is read in its place.
 use Rattle.std.proofs.Common.{◌≡◌, ℕ, true, List, Result, IsErrAnd, Option}
 use Rattle.graphql_grammar.specs.Tokens.{Token, Class}
-use Rattle.graphql_grammar.specs.Trees.{Expr, One, Then, Sym, Shape, Both, Node, Grammar, row}
+use Rattle.graphql_grammar.specs.Trees.{Expr, One, Then, Sym, Shape, Leaf, Both, Node, Grammar, row}
 use Rattle.graphql_grammar.specs.Reading.{Takes, takes_both, Reason}
-use Rattle.graphql_grammar.specs.Words.{Stops}
+use Rattle.graphql_grammar.specs.Words.{TakesSome, Stops}
 use Rattle.graphql_grammar.proofs.Turning.{Stops-before, Stops-after}
 use Rattle.graphql_core.specs.declared.helpers.stop.Stop.{Stop}
 use Rattle.graphql_core.specs.Source.{Items}
+use Rattle.graphql_core.specs.Matching.{TakesToken}
 use Rattle.graphql_common.specs.Gives.{Gives, reason_of}
-use Rattle.graphql_common.proofs.Reading.{stops_one, gives_error, TakesNone}
+use Rattle.graphql_common.specs.Grammar.{keyword, word}
+use Rattle.graphql_common.proofs.Reading.{takes_one, stops_one, gives_error, TakesNone}
 use Rattle.graphql_common.proofs.Sides.{IsSide, side_node}
 
 -- e that began at ts has come to us, where its rest f is read, whose shapes stand inside e's
@@ -47,3 +49,26 @@ error_in {g = g} {e = e} old mid new P r d by h up = gives_error g e old new P r
 pub error_one : {A : Type 0} {g : Grammar} {e : Expr} {c : Class} (old mid new : Items) (P : A → Shape → Type 0) (r : Result A Stop) (d : Stop)
     → StopsBy g e (One c) old.tokens mid.tokens → TakesNone c mid new d → IsErrAnd r (λ x. x ≡ d) → Gives g e old new P r
 error_one {g = g} {c = c} old mid new P r d by h up = error_in old mid new P r d by (stops_one g c mid new d h) up
+
+-- ---- a keyword, and an expression behind it
+
+-- both are taken
+pub keyword_taken : (g : Grammar) (w : List ℕ) (e : Expr) (old mid new : Items) (t : Token) (P Q : Shape → Type 0) → g.good (keyword w) t ≡ true
+    → TakesToken (keyword w) old mid t → ((x : Shape) → P x → Q (Both (Leaf t) x)) → TakesSome g e mid.tokens new.tokens P
+    → TakesSome g (Then (word w) e) old.tokens new.tokens Q
+keyword_taken g w e old mid new t P Q good begins means (x, takes, p) =
+    (Both (Leaf t) x, takes_both (takes_one g (keyword w) old mid t good begins) takes, means x p)
+
+-- or the keyword is missing
+pub keyword_missing : {A : Type 0} (g : Grammar) (w : List ℕ) (e : Expr) (old new : Items) (P : A → Shape → Type 0) (r : Result A Stop) (d : Stop)
+    → TakesNone (keyword w) old new d → IsErrAnd r (λ x. x ≡ d) → Gives g (Then (word w) e) old new P r
+keyword_missing g w e old new P r d h up =
+    gives_error g _ old new P r d (Stops-before g (word w) e old.tokens new.tokens (reason_of d) (stops_one g (keyword w) old new d h)) up
+
+-- or an error behind it goes up
+pub keyword_fails : {A : Type 0} (g : Grammar) (w : List ℕ) (e : Expr) (old mid new : Items) (P : A → Shape → Type 0) (r : Result A Stop) (d : Stop)
+    (t : Token) → g.good (keyword w) t ≡ true
+    → TakesToken (keyword w) old mid t → Stops g e mid.tokens new.tokens (reason_of d) → IsErrAnd r (λ x. x ≡ d) → Gives g (Then (word w) e) old new P r
+keyword_fails g w e old mid new P r d t good begins stops up =
+    gives_error g _ old new P r d
+    (Stops-after g (word w) e old.tokens mid.tokens new.tokens (Leaf t) (reason_of d) (takes_one g (keyword w) old mid t good begins) stops) up
