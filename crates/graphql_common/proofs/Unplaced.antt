@@ -1,5 +1,5 @@
 -- What values, types and directives mean but for positions does not hang on places; so texts with alike tokens have one document but for positions.
-use Rattle.std.proofs.Common.{◌≡◌, ℕ, List, [], ◌∷◌, Some, Result, Ok, Err, refl, sym, ap, ap₂, ◌∙◌, subst}
+use Rattle.std.proofs.Common.{◌≡◌, ℕ, List, ◌∷◌, Some, Result, Ok, Err, refl, sym, ap, ap₂, ◌∙◌, subst}
 use Rattle.graphql_grammar.specs.Tokens.{Token, Class}
 use Rattle.graphql_grammar.specs.Trees.{Shape, Leaf, Both, First, Second, More, Node, accepts}
 use Rattle.graphql_core.specs.Items.{Item}
@@ -11,7 +11,7 @@ use Rattle.graphql_core.proofs.Cutting.{items_unique}
 use Rattle.graphql_common.specs.Leaves.{int_of, string_of, block_string_of}
 use Rattle.graphql_common.specs.Values.{ValueTree, variable, int, float, string, enum, list, object, item, no_members, TypeTree, named, list_of, no_place}
 use Rattle.graphql_common.specs.Values.{erase, erase_all}
-use Rattle.graphql_common.specs.Meanings.{place_at, spelling_at, plain_of, put_all, value_of, values_of, argument_of, pairs_of, const_of, consts_of}
+use Rattle.graphql_common.specs.Meanings.{spelling_at, plain_of, put_all, value_of, values_of, argument_of, pairs_of, const_of, consts_of}
 use Rattle.graphql_common.specs.Meanings.{const_pair_of, const_pairs_of, default_of, optional_default_of, marked, type_of, arguments_of}
 use Rattle.graphql_common.specs.Meanings.{optional_arguments_of, directive_of, each_directive_of, directives_of}
 use Rattle.graphql_common.specs.Language.{Language}

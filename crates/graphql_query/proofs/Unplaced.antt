@@ -1,10 +1,10 @@
 -- What queries mean but for positions does not hang on places.
-use Rattle.std.proofs.Common.{◌≡◌, List, [], ◌∷◌, map, Some, refl, ap}
+use Rattle.std.proofs.Common.{◌≡◌, ◌∷◌, map, Some, refl, ap}
 use Rattle.graphql_grammar.specs.Tokens.{Token, Class, Spelled, AnyOf, Except, Place}
 use Rattle.graphql_grammar.specs.Trees.{Shape, Both, First, Second, More, Node, leaves, accepts}
 use Rattle.graphql_core.specs.Minified.{unplaced}
-use Rattle.graphql_common.specs.Values.{no_place, erase_all}
-use Rattle.graphql_common.specs.Meanings.{first_place, optional_default_of, place_at, spelling_at, type_of, optional_arguments_of, directives_of}
+use Rattle.graphql_common.specs.Values.{no_place}
+use Rattle.graphql_common.specs.Meanings.{first_place, place_at}
 use Rattle.graphql_common.proofs.Bare.{bare}
 use Rattle.graphql_common.proofs.Unplaced.{IgnoresPlaces, spelling_bare, type_bare, optional_default_bare, optional_arguments_bare, directives_bare}
 use Rattle.graphql_query.specs.Grammar.{query}
