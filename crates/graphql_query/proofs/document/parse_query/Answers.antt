@@ -29,7 +29,8 @@ pub returns-clause-derived : goal.returns-clause-derived
 returns-clause-derived g c = text_document queries c.args.source.now _ _ c.new-cursor.ensures c.in_ok-read_document.ensures.derived
 
 pub returns-clause-printable : goal.returns-clause-printable
-returns-clause-printable g c = printable c.args.source.now _ (text_document queries c.args.source.now _ _ c.new-cursor.ensures c.in_ok-read_document.ensures.derived)
+returns-clause-printable g c =
+    printable c.args.source.now _ (text_document queries c.args.source.now _ _ c.new-cursor.ensures c.in_ok-read_document.ensures.derived)
 
 pub returns-clause-complete : goal.returns-clause-complete
 returns-clause-complete g c d bound h =
@@ -48,7 +49,8 @@ returns-clause-no_fault g c d = no_fault queries readable c.args.source.now d
 
 pub returns-in_err-read_document-clause-complete : goal.returns-in_err-read_document-clause-complete
 returns-in_err-read_document-clause-complete g c d bound h =
-    answers_unless_memory _ d _ _ c.from_residual.ensures.1 (c.in_err-read_document.ensures.complete d (items_document queries c.args.source.now _ d c.new-cursor.ensures h))
+    answers_unless_memory _ d _ _ c.from_residual.ensures.1
+    (c.in_err-read_document.ensures.complete d (items_document queries c.args.source.now _ d c.new-cursor.ensures h))
 
 pub returns-in_err-read_document-clause-one_shape : goal.returns-in_err-read_document-clause-one_shape
 returns-in_err-read_document-clause-one_shape g c = one_shape queries readable c.args.source.now
@@ -62,4 +64,5 @@ returns-in_err-read_document-clause-no_fault g c d = no_fault queries readable c
 pub returns-in_err-read_document-clause-refused : goal.returns-in_err-read_document-clause-refused
 returns-in_err-read_document-clause-refused g c =
     let e = c.in_err-read_document.field-0.0 in
-    exit _ (refusal_of e) _ c.from_residual.ensures.1 (refusal queries c.args.source.now _ e (omega arith) c.new-cursor.ensures c.in_err-read_document.ensures.refused)
+    exit _ (refusal_of e) _ c.from_residual.ensures.1
+    (refusal queries c.args.source.now _ e (omega arith) c.new-cursor.ensures c.in_err-read_document.ensures.refused)

@@ -10,7 +10,8 @@ returns-in-Err-clause-complete g c d h =
 
 pub returns-in-Err-clause-refused : goal.returns-in-Err-clause-refused
 returns-in-Err-clause-refused g c =
-    least_stop queries readable _ (g.S.TokenSource.items c.definitions.new.source) c.in-Err.stop _ c.in-Err.ensures.reads c.fault_of.ensures c.in-Err.ensures.kept
+    least_stop queries readable _ (g.S.TokenSource.items c.definitions.new.source) c.in-Err.stop _
+    c.in-Err.ensures.reads c.fault_of.ensures c.in-Err.ensures.kept
 
 pub returns-then-is_at_end-clause-derived : goal.returns-then-is_at_end-clause-derived
 returns-then-is_at_end-clause-derived g c =
