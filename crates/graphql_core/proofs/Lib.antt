@@ -3,6 +3,7 @@ pub mod Spelled
 pub mod Cutting
 pub mod Ending
 pub mod Matches
+pub mod Fronts
 pub mod Holding
 pub mod Strings
 pub mod Runs

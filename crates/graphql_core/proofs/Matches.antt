@@ -1,5 +1,5 @@
 -- One token against a class.
-use Rattle.std.proofs.Common.{rules, ◌≡◌, ℕ, true, false, eqb, nat_eq, ◌==◌, List, [], ◌∷◌, drop, refl, sym, ap, ◌∙◌, arith}
+use Rattle.std.proofs.Common.{Bool, ◌||◌, rules, ◌≡◌, ℕ, true, false, eqb, nat_eq, ◌==◌, List, [], ◌∷◌, drop, refl, sym, ap, ◌∙◌, arith}
 use Rattle.std.specs.Cmp.Lexicographic.{pointwise}
 use denote.Enum.Bare.{sameb, same_true}
 use Rattle.graphql_grammar.specs.Tokens.{Token, Class, same_spelling, matches}
@@ -8,7 +8,7 @@ use Rattle.graphql_grammar.specs.Reading.{sees}
 use Rattle.graphql_core.specs.contracts.tokenizer.token.Kind.{the_type}
 use Rattle.graphql_core.specs.declared.tokenizer.token.Kind.{Kind}
 use Rattle.graphql_core.specs.Causes.{kind_number}
-use Rattle.graphql_core.specs.Source.{Items, after, kept}
+use Rattle.graphql_core.specs.Source.{Items, Last, after, kept, fault_by, place_next}
 use Rattle.graphql_core.specs.Matching.{sees_class, TakesToken}
 
 eqb-comm : (m n : ℕ) → nat_eq m n ≡ eqb n m
@@ -34,3 +34,19 @@ takes_first c old new t e a m = record {
   tokens = e ∙ ap (λ (i : Items). t ∷ i.tokens) (sym a);
   kept = ap kept a;
 }
+
+or_first : (b : Bool) → b || false ≡ true → b ≡ true
+or_first true e = refl
+or_first false e = e
+
+-- an item that is seen to be of a class is a token of it
+pub first_seen : (c : Class) (i : Items) → sees_class c i ≡ true → (t : Token) × (i.tokens ≡ t ∷ drop 1 i.tokens) × (matches c t ≡ true) × (t.place ≡ place_next i)
+first_seen c i h = of_tokens i.tokens i.last h
+  where
+    of_tokens : (ts : List Token) (l : Last) → sees (c ∷ []) (peek ts) ≡ true
+        → (t : Token) × (ts ≡ t ∷ drop 1 ts) × (matches c t ≡ true) × (t.place ≡ (fault_by ts l).place)
+    of_tokens [] l e = absurd cc
+    of_tokens (t ∷ ts) l e = (t, refl, or_first (matches c t) e, refl)
+
+pub seen_matches : (c : Class) (i : Items) (t : Token) → i.tokens ≡ t ∷ drop 1 i.tokens → sees_class c i ≡ true → matches c t ≡ true
+seen_matches c i t e h = or_first (matches c t) (sym (ap (λ ts. sees (c ∷ []) (peek ts)) e) ∙ h)

@@ -15,6 +15,7 @@ pub mod Source
 pub mod Style
 pub mod Parts
 pub mod Depths
+pub mod Marks
 pub mod Matching
 pub mod Minified
 pub mod Strings

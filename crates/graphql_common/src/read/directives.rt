@@ -10,7 +10,7 @@ ghost use Rattle.graphql_common.specs.Gives.{Gives, Adds, Shortens};
 use crate::read::values::{argument, constant};
 use crate::tree::{Directive, Value};
 use graphql_core::common::Names;
-use graphql_core::helpers::{Stop, TokenSource, name, punctuator, sees_name, sees_punctuator};
+use graphql_core::helpers::{Mark, Stop, TokenSource, name, take_mark};
 use std::alloc::Global;
 
 /// `Arguments = "(" Argument+ ")"`
@@ -25,12 +25,12 @@ pub fn arguments<S: TokenSource>(
     ensures kept { kept (S.items source.new) ≡ kept (S.items source.old) }
     ensures shorter { Shortens (S.items source.old) (S.items source.new) result }
 {
-    punctuator(source, "(")?;
+    take_mark(source, Mark::OpenParen)?;
     argument(alloc, source, items)?;
-    'more: while sees_name(source) {
+    'more: while source.sees_name() {
         argument(alloc, source, items)?;
     }
-    punctuator(source, ")")?;
+    take_mark(source, Mark::CloseParen)?;
     Ok(())
 }
 
@@ -46,7 +46,7 @@ pub fn optional_arguments<S: TokenSource>(
     ensures kept { kept (S.items source.new) ≡ kept (S.items source.old) }
     ensures within { OnOk result (length (S.items source.new).tokens ≤ length (S.items source.old).tokens) }
 {
-    if sees_punctuator(source, "(") {
+    if source.sees_mark(Mark::OpenParen) {
         return arguments(alloc, source, items);
     }
     Ok(())
@@ -64,7 +64,7 @@ pub fn directive<S: TokenSource>(
     ensures kept { kept (S.items source.new) ≡ kept (S.items source.old) }
     ensures shorter { Shortens (S.items source.old) (S.items source.new) result }
 {
-    let position = punctuator(source, "@")?;
+    let position = take_mark(source, Mark::At)?;
     let name = name(alloc, source)?;
     let mut arguments = Vec::new(alloc);
     optional_arguments(alloc, source, &mut arguments)?;
@@ -88,7 +88,7 @@ pub fn directives<S: TokenSource>(
     ensures kept { kept (S.items source.new) ≡ kept (S.items source.old) }
     ensures within { OnOk result (length (S.items source.new).tokens ≤ length (S.items source.old).tokens) }
 {
-    'more: while sees_punctuator(source, "@") {
+    'more: while source.sees_mark(Mark::At) {
         directive(alloc, source, items)?;
     }
     Ok(())
@@ -102,6 +102,6 @@ pub fn default_value<S: TokenSource>(alloc: Global, source: &mut S) -> Result<Va
     ensures kept { kept (S.items source.new) ≡ kept (S.items source.old) }
     ensures shorter { Shortens (S.items source.old) (S.items source.new) result }
 {
-    punctuator(source, "=")?;
+    take_mark(source, Mark::Equals)?;
     constant(alloc, source)
 }

@@ -8,7 +8,7 @@ ghost use Rattle.graphql_core.specs.Source.{kept};
 ghost use Rattle.graphql_common.specs.Gives.{Gives, Shortens};
 
 use crate::tree::Type;
-use graphql_core::helpers::{Stop, TokenSource, name, punctuator, sees_punctuator};
+use graphql_core::helpers::{Mark, Stop, TokenSource, name, take_mark};
 use std::alloc::Global;
 
 /// `"!"?`: the type before it, without `null` or as it is.
@@ -23,8 +23,8 @@ fn marked<S: TokenSource>(
     ensures kept { kept (S.items source.new) ≡ kept (S.items source.old) }
     ensures within { OnOk result (length (S.items source.new).tokens ≤ length (S.items source.old).tokens) }
 {
-    if sees_punctuator(source, "!") {
-        punctuator(source, "!")?;
+    if source.sees_mark(Mark::Bang) {
+        take_mark(source, Mark::Bang)?;
         return Ok(Type::NonNullType(Box::new(alloc, inner)?));
     }
     Ok(inner)
@@ -38,10 +38,10 @@ pub fn parse_type<S: TokenSource>(alloc: Global, source: &mut S) -> Result<Type<
     ensures kept { kept (S.items source.new) ≡ kept (S.items source.old) }
     ensures shorter { Shortens (S.items source.old) (S.items source.new) result }
 {
-    if sees_punctuator(source, "[") {
-        punctuator(source, "[")?;
+    if source.sees_mark(Mark::OpenBracket) {
+        take_mark(source, Mark::OpenBracket)?;
         let items = parse_type(alloc, source)?;
-        punctuator(source, "]")?;
+        take_mark(source, Mark::CloseBracket)?;
         return marked(alloc, source, Type::ListType(Box::new(alloc, items)?));
     }
     let name = name(alloc, source)?;

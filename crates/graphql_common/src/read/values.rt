@@ -13,7 +13,7 @@ ghost use Rattle.graphql_common.specs.Gives.{Gives, Adds, Shortens};
 use crate::read::leaf::plain_value;
 use crate::tree::Value;
 use graphql_core::common::Names;
-use graphql_core::helpers::{Stop, TokenSource, name, punctuator, sees_name, sees_punctuator};
+use graphql_core::helpers::{Mark, Stop, TokenSource, name, take_mark};
 use std::alloc::Global;
 use std::collections::BTreeMap;
 
@@ -59,7 +59,7 @@ pub fn argument<S: TokenSource>(
     ensures shorter { Shortens (S.items source.old) (S.items source.new) result }
 {
     let name = name(alloc, source)?;
-    punctuator(source, ":")?;
+    take_mark(source, Mark::Colon)?;
     let value = value(alloc, source)?;
     items.push((name, value))?;
     Ok(())
@@ -70,7 +70,7 @@ fn sees_variable<S: TokenSource>(source: &S, sort: Sort) -> bool
     ensures { result ≡ begins_variable sort (S.items source.now) }
 {
     match sort {
-        Sort::Value => sees_punctuator(source, "$"),
+        Sort::Value => source.sees_mark(Mark::Dollar),
         Sort::Constant => false,
     }
 }
@@ -83,7 +83,7 @@ fn variable<S: TokenSource>(alloc: Global, source: &mut S) -> Result<Value<S::Na
     ensures kept { kept (S.items source.new) ≡ kept (S.items source.old) }
     ensures shorter { Shortens (S.items source.old) (S.items source.new) result }
 {
-    punctuator(source, "$")?;
+    take_mark(source, Mark::Dollar)?;
     Ok(Value::Variable(name(alloc, source)?))
 }
 
@@ -103,10 +103,10 @@ fn value_of_sort<S: TokenSource>(
     if sees_variable(source, sort) {
         return variable(alloc, source);
     }
-    if sees_punctuator(source, "[") {
+    if source.sees_mark(Mark::OpenBracket) {
         return list(alloc, source, sort);
     }
-    if sees_punctuator(source, "{") {
+    if source.sees_mark(Mark::OpenBrace) {
         return object(alloc, source, sort);
     }
     plain_value(alloc, source)
@@ -121,12 +121,12 @@ fn list<S: TokenSource>(alloc: Global, source: &mut S, sort: Sort) -> Result<Val
     ensures kept { kept (S.items source.new) ≡ kept (S.items source.old) }
     ensures shorter { Shortens (S.items source.old) (S.items source.new) result }
 {
-    punctuator(source, "[")?;
+    take_mark(source, Mark::OpenBracket)?;
     let mut items = Vec::new(alloc);
-    'more: while !sees_punctuator(source, "]") {
+    'more: while !source.sees_mark(Mark::CloseBracket) {
         items.push(value_of_sort(alloc, source, sort)?)?;
     }
-    punctuator(source, "]")?;
+    take_mark(source, Mark::CloseBracket)?;
     Ok(Value::List(items))
 }
 
@@ -143,12 +143,12 @@ fn object<S: TokenSource>(
     ensures kept { kept (S.items source.new) ≡ kept (S.items source.old) }
     ensures shorter { Shortens (S.items source.old) (S.items source.new) result }
 {
-    punctuator(source, "{")?;
+    take_mark(source, Mark::OpenBrace)?;
     let mut fields = BTreeMap::new(alloc);
-    'more: while sees_name(source) {
+    'more: while source.sees_name() {
         member(alloc, source, sort, &mut fields)?;
     }
-    punctuator(source, "}")?;
+    take_mark(source, Mark::CloseBrace)?;
     Ok(Value::Object(fields))
 }
 
@@ -167,7 +167,7 @@ fn member<S: TokenSource>(
     ensures shorter { Shortens (S.items source.old) (S.items source.new) result }
 {
     let name = name(alloc, source)?;
-    punctuator(source, ":")?;
+    take_mark(source, Mark::Colon)?;
     let value = value_of_sort(alloc, source, sort)?;
     drop(fields.insert(name, value)?);
     Ok(())

@@ -2,12 +2,15 @@
 ghost use Rattle.std.specs.Prelude.{◌≡◌, ◌≤◌, ◌/◌, List, IfOk, length};
 ghost use Rattle.graphql_core.specs.Items.{HasItems, Item};
 ghost use Rattle.graphql_core.specs.Causes.{cause_text, bad_text};
-ghost use Rattle.graphql_core.specs.Source.{Items, Wrong, IsFaultOf, split, then_items, token_of, only_last, place_of};
+ghost use Rattle.graphql_core.specs.Marks.{first_byte, front_byte};
+ghost use Rattle.graphql_core.specs.declared.position.Pos.{Pos};
+ghost use Rattle.graphql_core.specs.Source.{Items, Wrong, IsFaultOf, held, split, then_items, token_of, only_last, place_of};
 
 use crate::common::{BadToken, Cause, Fault, Names, Text};
+use crate::helpers::mark::Mark;
 use crate::helpers::source::{Lexeme, TokenSource};
 use crate::position::Pos;
-use crate::tokenizer::{Bad, Token, TokenStream};
+use crate::tokenizer::{Bad, Token, TokenStream, is_name_start};
 use std::alloc::{AllocError, Global};
 use std::marker::{Model, PhantomData};
 
@@ -17,18 +20,43 @@ pub struct Cursor<'a, T: Text<'a>> {
     stream: TokenStream<'a>,
     position: Pos,
     next: Result<Option<Token<'a>>, Bad<'a>>,
-    of: PhantomData<T>,
+    // The first byte of the next token, 0 where there is none.
+    front: u8,
+    names: PhantomData<T>,
 }
 
 impl<'a, T: Text<'a>> Model for Cursor<'a, T> {
-    ghost use Rattle.std.specs.Prelude.{All};
+    ghost use Rattle.std.specs.Prelude.{All, ◌≡◌};
+    ghost use Rattle.graphql_core.specs.Marks.{front_byte};
     ghost use Rattle.graphql_core.specs.Source.{Items, IsLexeme, split, held};
 
     ghost Value = { Items };
 
     ghost view = { λ c. held c.position c.next (split c.stream.items) };
 
-    ghost invariant = { λ c. All IsLexeme (held c.position c.next (split c.stream.items)).tokens };
+    ghost invariant = { λ c. All IsLexeme (held c.position c.next (split c.stream.items)).tokens
+        × (c.front ≡ front_byte (held c.position c.next (split c.stream.items)).tokens) };
+}
+
+/// The first byte of a text, 0 where there is none.
+#[inline(always)]
+fn first_byte(text: &str) -> u8
+    ensures { result ≡ first_byte text.now }
+{
+    match text.as_bytes().first() {
+        Some(byte) => *byte,
+        None => 0,
+    }
+}
+
+/// The first byte of the next token, 0 where there is none.
+fn front_of(next: &Result<Option<Token<'_>>, Bad<'_>>) -> u8
+    ensures { (place : Pos) (behind : Items) → result ≡ front_byte (held place next.now behind).tokens }
+{
+    match next {
+        Ok(Some(token)) => first_byte(token.value),
+        Ok(None) | Err(_) => 0,
+    }
 }
 
 impl<'a, T: Text<'a>> Cursor<'a, T> {
@@ -40,11 +68,13 @@ impl<'a, T: Text<'a>> Cursor<'a, T> {
         let mut stream = TokenStream::new(source);
         let position = stream.position();
         let next = stream.next_token();
+        let front = front_of(&next);
         Cursor {
             stream,
             position,
             next,
-            of: PhantomData,
+            front,
+            names: PhantomData,
         }
     }
 }
@@ -113,6 +143,16 @@ impl<'a, T: Text<'a>> TokenSource for Cursor<'a, T> {
     }
 
     #[inline(always)]
+    fn sees_mark(&self, mark: Mark) -> bool {
+        self.front == mark.first_byte()
+    }
+
+    #[inline(always)]
+    fn sees_name(&self) -> bool {
+        is_name_start(self.front)
+    }
+
+    #[inline(always)]
     fn position(&self) -> Pos {
         self.position
     }
@@ -127,9 +167,18 @@ impl<'a, T: Text<'a>> TokenSource for Cursor<'a, T> {
         if let Ok(Some(_)) = self.next {
             self.position = self.stream.position();
             match self.stream.next_token() {
-                Ok(Some(token)) => self.next = Ok(Some(token)),
-                Ok(None) => self.next = Ok(None),
-                Err(bad) => self.next = Err(bad),
+                Ok(Some(token)) => {
+                    self.front = first_byte(token.value);
+                    self.next = Ok(Some(token));
+                }
+                Ok(None) => {
+                    self.front = 0;
+                    self.next = Ok(None);
+                }
+                Err(bad) => {
+                    self.front = 0;
+                    self.next = Err(bad);
+                }
             }
         }
     }

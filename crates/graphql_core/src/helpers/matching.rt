@@ -2,11 +2,13 @@
 ghost use Rattle.std.specs.Prelude.{◌≡◌};
 ghost use Rattle.graphql_grammar.specs.Tokens.{Spelled, AnyOf, matches};
 ghost use Rattle.graphql_core.specs.Causes.{kind_number};
+ghost use Rattle.graphql_core.specs.Marks.{class_of};
 ghost use Rattle.graphql_core.specs.Source.{place_of, lexeme_token};
 ghost use Rattle.graphql_core.specs.Matching.{sees_class, TakesOne};
-ghost use Rattle.graphql_core.specs.declared.tokenizer.token.Kind.TheVariants.{Punctuator, Name};
+ghost use Rattle.graphql_core.specs.declared.tokenizer.token.Kind.TheVariants.{Name};
 
 use crate::common::Names;
+use crate::helpers::mark::Mark;
 use crate::helpers::source::{Lexeme, TokenSource};
 use crate::helpers::stop::Stop;
 use crate::position::Pos;
@@ -21,14 +23,6 @@ fn is_spelled<S: TokenSource>(token: &Lexeme<S::Text>, kind: Kind, spelling: &st
     token.kind == kind && S::as_str(&token.text) == spelling
 }
 
-/// Whether a token is a name.
-#[inline(always)]
-fn is_name<S: TokenSource>(token: &Lexeme<S::Text>) -> bool
-    ensures { result ≡ matches (AnyOf (kind_number Name)) (lexeme_token S.bytes token.now) }
-{
-    matches!(token.kind, Kind::Name)
-}
-
 /// Whether the next item is a token of this kind and spelling.
 #[inline(always)]
 fn sees_spelled<S: TokenSource>(source: &S, kind: Kind, spelling: &str) -> bool
@@ -40,31 +34,12 @@ fn sees_spelled<S: TokenSource>(source: &S, kind: Kind, spelling: &str) -> bool
     }
 }
 
-/// Whether the next item is this punctuator.
-#[inline(always)]
-pub fn sees_punctuator<S: TokenSource>(source: &S, spelling: &str) -> bool
-    ensures { result ≡ sees_class (Spelled (kind_number Punctuator) spelling.now) (S.items source.now) }
-{
-    sees_spelled(source, Kind::Punctuator, spelling)
-}
-
 /// Whether the next item is the name of this spelling.
 #[inline(always)]
 pub fn sees_keyword<S: TokenSource>(source: &S, spelling: &str) -> bool
     ensures { result ≡ sees_class (Spelled (kind_number Name) spelling.now) (S.items source.now) }
 {
     sees_spelled(source, Kind::Name, spelling)
-}
-
-/// Whether the next item is a name.
-#[inline(always)]
-pub fn sees_name<S: TokenSource>(source: &S) -> bool
-    ensures { result ≡ sees_class (AnyOf (kind_number Name)) (S.items source.now) }
-{
-    match source.peek() {
-        Some(token) => is_name::<S>(&token),
-        None => false,
-    }
 }
 
 /// Takes the token of this kind and spelling, and answers its position.
@@ -84,11 +59,15 @@ fn spelled<S: TokenSource>(source: &mut S, kind: Kind, spelling: &str) -> Result
 
 /// Takes this punctuator, and answers its position.
 #[inline(always)]
-pub fn punctuator<S: TokenSource>(source: &mut S, spelling: &str) -> Result<Pos, Stop>
-    ensures { TakesOne (Spelled (kind_number Punctuator) spelling.now) (S.items source.old) (S.items source.new)
-        (λ p t. t.place ≡ place_of p) result }
+pub fn take_mark<S: TokenSource>(source: &mut S, mark: Mark) -> Result<Pos, Stop>
+    ensures { TakesOne (class_of mark) (S.items source.old) (S.items source.new) (λ p t. t.place ≡ place_of p) result }
 {
-    spelled(source, Kind::Punctuator, spelling)
+    if !source.sees_mark(mark) {
+        return Err(Stop::Item);
+    }
+    let position = source.position();
+    source.advance();
+    Ok(position)
 }
 
 /// Takes the name of this spelling, and answers its position.
@@ -109,7 +88,7 @@ pub fn name<S: TokenSource>(
         (λ v t. t.spelling ≡ S.Names.bytes v) result }
 {
     match source.peek() {
-        Some(token) if is_name::<S>(&token) => {
+        Some(token) if source.sees_name() => {
             let name = S::make_name(alloc, token.text)?;
             source.advance();
             Ok(name)

@@ -1,5 +1,6 @@
 //! Where a reader takes its tokens from.
 use crate::common::{Fault, Names};
+use crate::helpers::mark::Mark;
 use crate::position::Pos;
 use crate::tokenizer::Kind;
 use std::alloc::{AllocError, Global};
@@ -18,6 +19,11 @@ pub struct Lexeme<T> {
 /// The items of a text, the next of which can be looked at.
 pub trait TokenSource {
     ghost use Rattle.std.specs.Prelude.{ℕ, List, ◌≡◌, IfOk, IfSome, IsTrue, ◌↔◌};
+    ghost use Rattle.graphql_grammar.specs.Tokens.{AnyOf};
+    ghost use Rattle.graphql_core.specs.declared.tokenizer.token.Kind.TheVariants.{Name};
+    ghost use Rattle.graphql_core.specs.Causes.{kind_number};
+    ghost use Rattle.graphql_core.specs.Marks.{class_of};
+    ghost use Rattle.graphql_core.specs.Matching.{sees_class};
     ghost use Rattle.graphql_core.specs.Source.{Items, place_of, place_next, Peeks, IsLexeme, IsAtEnd, IsFaultOf, after, lexeme_token};
 
     /// A token's spelling.
@@ -36,6 +42,14 @@ pub trait TokenSource {
     fn peek(&self) -> Option<Lexeme<Self::Text>>
         ensures next { Peeks bytes result (items self.now) }
         ensures lexeme { IfSome result (λ t. IsLexeme (lexeme_token bytes t)) };
+
+    /// Whether the next item is this punctuator.
+    fn sees_mark(&self, mark: Mark) -> bool
+        ensures { result ≡ sees_class (class_of mark) (items self.now) };
+
+    /// Whether the next item is a name.
+    fn sees_name(&self) -> bool
+        ensures { result ≡ sees_class (AnyOf (kind_number Name)) (items self.now) };
 
     /// Where the next item begins.
     fn position(&self) -> Pos

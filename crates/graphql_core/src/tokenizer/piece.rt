@@ -46,8 +46,9 @@ pub enum Piece {
     Stops,
 }
 
+/// Whether a name begins with this byte.
 #[inline(always)]
-fn is_name_start(byte: u8) -> bool
+pub fn is_name_start(byte: u8) -> bool
     ensures { result ≡ lexical.is_name_start byte }
 {
     byte.is_ascii_alphabetic() || byte == b'_'

@@ -7,7 +7,7 @@ ghost use Rattle.graphql_common.specs.Grammar as core;
 ghost use Rattle.graphql_query.specs.Reads.{Reads, renamed};
 
 use graphql_core::common::Names;
-use graphql_core::helpers::{self, Stop, TokenSource, punctuator, sees_punctuator};
+use graphql_core::helpers::{self, Mark, Stop, TokenSource, take_mark};
 use std::alloc::Global;
 use std::mem;
 
@@ -23,10 +23,10 @@ pub fn alias<S: TokenSource>(
     ensures kept { kept (S.items source.new) ≡ kept (S.items source.old) }
     ensures within { OnOk result (length (S.items source.new).tokens ≤ length (S.items source.old).tokens) }
 {
-    if !sees_punctuator(source, ":") {
+    if !source.sees_mark(Mark::Colon) {
         return Ok(None);
     }
-    punctuator(source, ":")?;
+    take_mark(source, Mark::Colon)?;
     let second = helpers::name(alloc, source)?;
     Ok(Some(mem::replace(name, second)))
 }

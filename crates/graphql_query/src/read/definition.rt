@@ -13,7 +13,7 @@ use crate::read::operation::operation_definition;
 use crate::read::selection::selection_set;
 use crate::tree::{Definition, FragmentDefinition, SelectionSet};
 use graphql_common::read::directives;
-use graphql_core::helpers::{Stop, TokenSource, keyword, name, sees_keyword, sees_punctuator};
+use graphql_core::helpers::{Mark, Stop, TokenSource, keyword, name, sees_keyword};
 use std::alloc::Global;
 
 /// `Fragment = "fragment" Name Condition Directives SelectionSet`
@@ -61,7 +61,7 @@ fn definition<S: TokenSource>(alloc: Global, source: &mut S) -> Result<Definitio
 fn sees_definition<S: TokenSource>(source: &S) -> bool
     ensures { result ≡ sees_definition (S.items source.now) }
 {
-    sees_punctuator(source, "{")
+    source.sees_mark(Mark::OpenBrace)
         || sees_keyword(source, "query")
         || sees_keyword(source, "mutation")
         || sees_keyword(source, "subscription")

@@ -12,7 +12,7 @@ ghost use Rattle.graphql_query.specs.Reads.{Reads};
 use crate::tree::{FragmentSpread, Selection, TypeCondition};
 use graphql_common::read::directives;
 use graphql_core::common::Names;
-use graphql_core::helpers::{Stop, TokenSource, keyword, name, sees_keyword, sees_name};
+use graphql_core::helpers::{Stop, TokenSource, keyword, name, sees_keyword};
 use std::alloc::Global;
 
 /// `Condition = "on" Name`
@@ -51,7 +51,7 @@ pub fn optional_condition<S: TokenSource>(
 pub fn sees_spread_name<S: TokenSource>(source: &S) -> bool
     ensures { result ≡ sees_class spread_class (S.items source.now) }
 {
-    sees_name(source) && !sees_keyword(source, "on")
+    source.sees_name() && !sees_keyword(source, "on")
 }
 
 /// `SpreadName = Name other than "on"`

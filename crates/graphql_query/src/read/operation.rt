@@ -21,9 +21,7 @@ use graphql_common::read::directives::{self, default_value};
 use graphql_common::read::types::parse_type;
 use graphql_common::tree::{Directive, Value};
 use graphql_core::common::Names;
-use graphql_core::helpers::{
-    Stop, TokenSource, keyword, name, punctuator, sees_keyword, sees_name, sees_punctuator,
-};
+use graphql_core::helpers::{Mark, Stop, TokenSource, keyword, name, sees_keyword, take_mark};
 use std::alloc::Global;
 
 /// What every operation has behind its keyword.
@@ -46,7 +44,7 @@ fn optional_name<S: TokenSource>(
     ensures kept { kept (S.items source.new) ≡ kept (S.items source.old) }
     ensures within { OnOk result (length (S.items source.new).tokens ≤ length (S.items source.old).tokens) }
 {
-    if !sees_name(source) {
+    if !source.sees_name() {
         return Ok(None);
     }
     Ok(Some(name(alloc, source)?))
@@ -63,7 +61,7 @@ fn optional_default<S: TokenSource>(
     ensures kept { kept (S.items source.new) ≡ kept (S.items source.old) }
     ensures within { OnOk result (length (S.items source.new).tokens ≤ length (S.items source.old).tokens) }
 {
-    if !sees_punctuator(source, "=") {
+    if !source.sees_mark(Mark::Equals) {
         return Ok(None);
     }
     Ok(Some(default_value(alloc, source)?))
@@ -81,9 +79,9 @@ fn variable_definition<S: TokenSource>(
     ensures kept { kept (S.items source.new) ≡ kept (S.items source.old) }
     ensures shorter { Shortens (S.items source.old) (S.items source.new) result }
 {
-    let position = punctuator(source, "$")?;
+    let position = take_mark(source, Mark::Dollar)?;
     let name = name(alloc, source)?;
-    punctuator(source, ":")?;
+    take_mark(source, Mark::Colon)?;
     let var_type = parse_type(alloc, source)?;
     let default_value = optional_default(alloc, source)?;
     definitions.push(VariableDefinition {
@@ -107,12 +105,12 @@ fn variable_definitions<S: TokenSource>(
     ensures kept { kept (S.items source.new) ≡ kept (S.items source.old) }
     ensures shorter { Shortens (S.items source.old) (S.items source.new) result }
 {
-    punctuator(source, "(")?;
+    take_mark(source, Mark::OpenParen)?;
     variable_definition(alloc, source, definitions)?;
-    'more: while sees_punctuator(source, "$") {
+    'more: while source.sees_mark(Mark::Dollar) {
         variable_definition(alloc, source, definitions)?;
     }
-    punctuator(source, ")")?;
+    take_mark(source, Mark::CloseParen)?;
     Ok(())
 }
 
@@ -128,7 +126,7 @@ fn optional_variables<S: TokenSource>(
     ensures kept { kept (S.items source.new) ≡ kept (S.items source.old) }
     ensures within { OnOk result (length (S.items source.new).tokens ≤ length (S.items source.old).tokens) }
 {
-    if !sees_punctuator(source, "(") {
+    if !source.sees_mark(Mark::OpenParen) {
         return Ok(());
     }
     variable_definitions(alloc, source, definitions)

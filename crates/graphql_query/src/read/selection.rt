@@ -15,7 +15,7 @@ use crate::read::alias::alias;
 use crate::read::fragment::{fragment_spread, optional_condition, sees_spread_name};
 use crate::tree::{Field, InlineFragment, Selection, SelectionSet};
 use graphql_common::read::directives::{self, optional_arguments};
-use graphql_core::helpers::{Stop, TokenSource, name, punctuator, sees_name, sees_punctuator};
+use graphql_core::helpers::{Mark, Stop, TokenSource, name, take_mark};
 use graphql_core::position::Pos;
 use std::alloc::Global;
 
@@ -69,7 +69,7 @@ fn selected<S: TokenSource>(
     ensures kept { kept (S.items source.new) ≡ kept (S.items source.old) }
     ensures within { OnOk result (length (S.items source.new).tokens ≤ length (S.items source.old).tokens) }
 {
-    if !sees_punctuator(source, "{") {
+    if !source.sees_mark(Mark::OpenBrace) {
         return Ok((position, position));
     }
     selection_set(alloc, source, items)
@@ -119,7 +119,7 @@ fn spread_or_inline<S: TokenSource>(
     ensures kept { kept (S.items source.new) ≡ kept (S.items source.old) }
     ensures shorter { Shortens (S.items source.old) (S.items source.new) result }
 {
-    punctuator(source, "...")?;
+    take_mark(source, Mark::Dots)?;
     if sees_spread_name(source) {
         return fragment_spread(alloc, source, items);
     }
@@ -139,7 +139,7 @@ fn selection<S: TokenSource>(
     ensures kept { kept (S.items source.new) ≡ kept (S.items source.old) }
     ensures shorter { Shortens (S.items source.old) (S.items source.new) result }
 {
-    if sees_punctuator(source, "...") {
+    if source.sees_mark(Mark::Dots) {
         return spread_or_inline(alloc, source, items);
     }
     field(alloc, source, items)
@@ -149,7 +149,7 @@ fn selection<S: TokenSource>(
 fn sees_selection<S: TokenSource>(source: &S) -> bool
     ensures { result ≡ (sees_class (any Name) (S.items source.now) || sees_class (mark (codes "...")) (S.items source.now)) }
 {
-    sees_name(source) || sees_punctuator(source, "...")
+    source.sees_name() || source.sees_mark(Mark::Dots)
 }
 
 /// `SelectionSet = "{" Selection+ "}"`: its span, and its selections behind those before them.
@@ -165,11 +165,11 @@ pub fn selection_set<S: TokenSource>(
     ensures kept { kept (S.items source.new) ≡ kept (S.items source.old) }
     ensures shorter { Shortens (S.items source.old) (S.items source.new) result }
 {
-    let start = punctuator(source, "{")?;
+    let start = take_mark(source, Mark::OpenBrace)?;
     selection(alloc, source, items)?;
     'more: while sees_selection(source) {
         selection(alloc, source, items)?;
     }
-    let end = punctuator(source, "}")?;
+    let end = take_mark(source, Mark::CloseBrace)?;
     Ok((start, end))
 }

@@ -10,15 +10,15 @@ use Rattle.graphql_common.proofs.Choices.{begins_pair, pairs_means}
 use Rattle.graphql_common.proofs.Reading.{takes_one, stops_one, stops_some, gives_error, one_of, adds_none, adds_more}
 use Rattle.graphql_common.proofs.read.directives.arguments.Goals as goal
 
-pub returns-in_err-punctuator-clause-reads : goal.returns-in_err-punctuator-clause-reads
-returns-in_err-punctuator-clause-reads g c =
+pub returns-in_err-take_mark-clause-reads : goal.returns-in_err-take_mark-clause-reads
+returns-in_err-take_mark-clause-reads g c =
     let old = g.S.TokenSource.items c.args.source.now in
-    let new = g.S.TokenSource.items c.punctuator.new.source in
-    gives_error core _ old new _ _ _ (Stops-node core arguments_symbol _ _ _ (Stops-before core _ _ _ _ _ (stops_one core _ old new _ c.in_err-punctuator.ensures))) c.from_residual.ensures.1
+    let new = g.S.TokenSource.items c.take_mark.new.source in
+    gives_error core _ old new _ _ _ (Stops-node core arguments_symbol _ _ _ (Stops-before core _ _ _ _ _ (stops_one core _ old new _ c.in_err-take_mark.ensures))) c.from_residual.ensures.1
 
 pub returns-in_err-argument-clause-reads : goal.returns-in_err-argument-clause-reads
 returns-in_err-argument-clause-reads g c =
-    let before = takes_one core _ _ _ _ refl c.in_ok-punctuator.ensures.1 in
+    let before = takes_one core _ _ _ _ refl c.in_ok-take_mark.ensures.1 in
     gives_error core _ (g.S.TokenSource.items c.args.source.now) (g.S.TokenSource.items c.argument.new.source) _ _ _
     (Stops-node core arguments_symbol _ _ _ (Stops-after core _ _ _ _ _ _ _ before (Stops-before core _ _ _ _ _ (Stops-before core _ _ _ _ _ c.in_err-argument.ensures.reads))))
     c.from_residual-in_err-argument.ensures.1
@@ -42,7 +42,7 @@ more-preserved g c =
 
 pub returns-in_err-argument-2-clause-reads : goal.returns-in_err-argument-2-clause-reads
 returns-in_err-argument-2-clause-reads g c =
-    let before = takes_one core _ _ _ _ refl c.in_ok-punctuator.ensures.1 in
+    let before = takes_one core _ _ _ _ refl c.in_ok-take_mark.ensures.1 in
     let (first, takes, view) = c.in_ok-argument.ensures.reads in
     let (items, turns, views) = c.more.invariant.turns in
     gives_error core _ (g.S.TokenSource.items c.args.source.now) (g.S.TokenSource.items c.argument-in-more.new.source) _ _ _
@@ -50,25 +50,25 @@ returns-in_err-argument-2-clause-reads g c =
     (Stops-turn core _ (one_of argument_of) _ _ _ items _ turns (begins_pair Value _ ∙ sym c.sees_name.ensures ∙ c.more-test.true) c.in_err-argument-2.ensures.reads)))))
     c.from_residual-in_err-argument-2.ensures.1
 
-pub returns-in_err-punctuator-2-clause-reads : goal.returns-in_err-punctuator-2-clause-reads
-returns-in_err-punctuator-2-clause-reads g c =
+pub returns-in_err-take_mark-2-clause-reads : goal.returns-in_err-take_mark-2-clause-reads
+returns-in_err-take_mark-2-clause-reads g c =
     let now = g.S.TokenSource.items c.more.source in
-    let new = g.S.TokenSource.items c.punctuator-2.new.source in
-    let before = takes_one core _ _ _ _ refl c.in_ok-punctuator.ensures.1 in
+    let new = g.S.TokenSource.items c.take_mark-2.new.source in
+    let before = takes_one core _ _ _ _ refl c.in_ok-take_mark.ensures.1 in
     let (first, takes, view) = c.in_ok-argument.ensures.reads in
     let (items, turns, views) = c.more.invariant.turns in
     gives_error core _ (g.S.TokenSource.items c.args.source.now) new _ _ _
     (Stops-node core arguments_symbol _ _ _ (Stops-after core _ _ _ _ _ _ _ before
-    (stops_some core _ _ (one_of argument_of) _ _ _ _ first items _ takes turns (begins_pair Value _ ∙ sym c.sees_name.ensures ∙ c.more-test.false) (stops_one core _ now new _ c.in_err-punctuator-2.ensures))))
-    c.from_residual-in_err-punctuator-2.ensures.1
+    (stops_some core _ _ (one_of argument_of) _ _ _ _ first items _ takes turns (begins_pair Value _ ∙ sym c.sees_name.ensures ∙ c.more-test.false) (stops_one core _ now new _ c.in_err-take_mark-2.ensures))))
+    c.from_residual-in_err-take_mark-2.ensures.1
 
 pub returns-clause-reads : goal.returns-clause-reads
 returns-clause-reads g c =
     let view_one = argument_view g.S.Names.Names.bytes in
-    let (o, opens, at) = c.in_ok-punctuator.ensures in
+    let (o, opens, at) = c.in_ok-take_mark.ensures in
     let (first, takes, view) = c.in_ok-argument.ensures.reads in
     let (items, turns, views) = c.more.invariant.turns in
-    let (e, ends, until) = c.in_ok-punctuator-2.ensures in
+    let (e, ends, until) = c.in_ok-take_mark-2.ensures in
     let r = Turns-stop core _ (one_of argument_of) _ _ items turns (begins_pair Value _ ∙ sym c.sees_name.ensures ∙ c.more-test.false) in
     let others = sym (pairs_means Value r.1 ∙ r.2) in (
       Node arguments_symbol (Both (Leaf o) (Both (Both first r.0) (Leaf e))),

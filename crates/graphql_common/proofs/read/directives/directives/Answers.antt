@@ -19,7 +19,7 @@ more-preserved g c =
     record {
       turns = (
         items ++ one_of directive_of x,
-        Turns-more core _ (one_of directive_of) _ _ _ items x turns (begins_directive _ ∙ sym c.sees_punctuator.ensures ∙ c.more-test.true) takes,
+        Turns-more core _ (one_of directive_of) _ _ _ items x turns (begins_directive _ ∙ sym c.sees_mark.ensures ∙ c.more-test.true) takes,
         adds_more (directive_view g.S.Names.Names.bytes) _ _ _ items _ views view,
       );
       kept = c.in_ok-directive.ensures.kept ∙ c.more.invariant.kept;
@@ -30,13 +30,13 @@ pub returns-in_err-directive-clause-reads : goal.returns-in_err-directive-clause
 returns-in_err-directive-clause-reads g c =
     let (items, turns, views) = c.more.invariant.turns in
     gives_error core _ (g.S.TokenSource.items c.args.source.now) (g.S.TokenSource.items c.directive.new.source) _ _ _
-    (Stops-node core directives_symbol _ _ _ (Stops-turn core _ (one_of directive_of) _ _ _ items _ turns (begins_directive _ ∙ sym c.sees_punctuator.ensures ∙ c.more-test.true) c.in_err-directive.ensures.reads))
+    (Stops-node core directives_symbol _ _ _ (Stops-turn core _ (one_of directive_of) _ _ _ items _ turns (begins_directive _ ∙ sym c.sees_mark.ensures ∙ c.more-test.true) c.in_err-directive.ensures.reads))
     c.from_residual.ensures.1
 
 pub returns-clause-reads : goal.returns-clause-reads
 returns-clause-reads g c =
     let (items, turns, views) = c.more.invariant.turns in
-    let r = Turns-stop core _ (one_of directive_of) _ _ items turns (begins_directive _ ∙ sym c.sees_punctuator.ensures ∙ c.more-test.false) in (
+    let r = Turns-stop core _ (one_of directive_of) _ _ items turns (begins_directive _ ∙ sym c.sees_mark.ensures ∙ c.more-test.false) in (
       Node directives_symbol r.0,
       takes_node r.1 refl,
       views ∙ ap (λ l. map (directive_view g.S.Names.Names.bytes) c.args.items.now.items ++ l) (sym (each_directive_means r.1 ∙ r.2)),

@@ -7,13 +7,13 @@ use Rattle.graphql_common.proofs.Reading.{takes_one, takes_some, takes_none}
 use Rattle.graphql_common.proofs.Viewed.{non_null_made}
 use Rattle.graphql_common.proofs.read.types.marked.Goals as goal
 
-pub returns-then-sees_punctuator-clause-reads : goal.returns-then-sees_punctuator-clause-reads
-returns-then-sees_punctuator-clause-reads g c =
-    let (t, takes, at) = c.in_ok-punctuator.ensures in (
+pub returns-then-sees_mark-clause-reads : goal.returns-then-sees_mark-clause-reads
+returns-then-sees_mark-clause-reads g c =
+    let (t, takes, at) = c.in_ok-take_mark.ensures in (
       First (Leaf t),
-      takes_some core (punctuator (codes "!")) _ _ _ (sym c.sees_punctuator.ensures ∙ c.if-sees_punctuator.true) (takes_one core _ _ _ t refl takes),
+      takes_some core (punctuator (codes "!")) _ _ _ (sym c.sees_mark.ensures ∙ c.if-sees_mark.true) (takes_one core _ _ _ t refl takes),
       non_null_made _ _ g.S.Names.Names.bytes _ ∙ ap (λ t. non_null (type_view g.S.Names.Names.bytes t)) c.in_ok-new.ensures.ok,
     )
 
 pub returns-clause-reads : goal.returns-clause-reads
-returns-clause-reads g c = (Second Nothing, takes_none core (punctuator (codes "!")) _ refl (sym c.sees_punctuator.ensures ∙ c.if-sees_punctuator.false), refl)
+returns-clause-reads g c = (Second Nothing, takes_none core (punctuator (codes "!")) _ refl (sym c.sees_mark.ensures ∙ c.if-sees_mark.false), refl)

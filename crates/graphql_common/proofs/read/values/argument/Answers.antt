@@ -14,20 +14,20 @@ returns-in_err-name-clause-reads g c =
     gives_error core _ old new _ _ _ (Stops-node core argument_symbol _ _ _ (Stops-before core _ _ _ _ _ (stops_one core _ old new _ c.in_err-name.ensures)))
     c.from_residual.ensures.1
 
-pub returns-in_err-punctuator-clause-reads : goal.returns-in_err-punctuator-clause-reads
-returns-in_err-punctuator-clause-reads g c =
+pub returns-in_err-take_mark-clause-reads : goal.returns-in_err-take_mark-clause-reads
+returns-in_err-take_mark-clause-reads g c =
     let old = g.S.TokenSource.items c.args.source.now in
-    let new = g.S.TokenSource.items c.punctuator.new.source in
+    let new = g.S.TokenSource.items c.take_mark.new.source in
     let named = takes_one core _ _ _ _ refl c.in_ok-name.ensures.1 in
     gives_error core _ old new _ _ _
     (Stops-node core argument_symbol _ _ _ (Stops-after core _ _ _ _ _ _ _ named
-    (Stops-before core _ _ _ _ _ (stops_one core _ (g.S.TokenSource.items c.name.new.source) new _ c.in_err-punctuator.ensures))))
-    c.from_residual-in_err-punctuator.ensures.1
+    (Stops-before core _ _ _ _ _ (stops_one core _ (g.S.TokenSource.items c.name.new.source) new _ c.in_err-take_mark.ensures))))
+    c.from_residual-in_err-take_mark.ensures.1
 
 pub returns-in_err-value-clause-reads : goal.returns-in_err-value-clause-reads
 returns-in_err-value-clause-reads g c =
     let named = takes_one core _ _ _ _ refl c.in_ok-name.ensures.1 in
-    let before = takes_one core _ _ _ _ refl c.in_ok-punctuator.ensures.1 in
+    let before = takes_one core _ _ _ _ refl c.in_ok-take_mark.ensures.1 in
     gives_error core _ (g.S.TokenSource.items c.args.source.now) (g.S.TokenSource.items c.value.new.source) _ _ _
     (Stops-node core argument_symbol _ _ _ (Stops-after core _ _ _ _ _ _ _ named (Stops-after core _ _ _ _ _ _ _ before c.in_err-value.ensures.reads)))
     c.from_residual-in_err-value.ensures.1
@@ -35,7 +35,7 @@ returns-in_err-value-clause-reads g c =
 pub returns-clause-reads : goal.returns-clause-reads
 returns-clause-reads g c =
     let (n, named, spelled) = c.in_ok-name.ensures in
-    let (m, marks, until) = c.in_ok-punctuator.ensures in
+    let (m, marks, until) = c.in_ok-take_mark.ensures in
     let (x, takes, view) = c.in_ok-value.ensures.reads in (
       Node argument_symbol (Both (Leaf n) (Both (Leaf m) x)),
       takes_node (takes_both (takes_one core _ _ _ n refl named) (takes_both (takes_one core _ _ _ m refl marks) takes)) refl,

@@ -8,24 +8,24 @@ use Rattle.graphql_common.proofs.Reading.{takes_one, stops_one, gives_error}
 use Rattle.graphql_common.proofs.Viewed.{variable_made}
 use Rattle.graphql_common.proofs.read.values.variable.Goals as goal
 
-pub returns-in_err-punctuator-clause-reads : goal.returns-in_err-punctuator-clause-reads
-returns-in_err-punctuator-clause-reads g c =
+pub returns-in_err-take_mark-clause-reads : goal.returns-in_err-take_mark-clause-reads
+returns-in_err-take_mark-clause-reads g c =
     let items = g.S.TokenSource.items in
     let old = items c.args.source.now in
-    let new = items c.punctuator.new.source in
-    gives_error core _ old new _ _ _ (Stops-before core _ _ _ _ _ (stops_one core _ old new _ c.in_err-punctuator.ensures)) c.from_residual.ensures.1
+    let new = items c.take_mark.new.source in
+    gives_error core _ old new _ _ _ (Stops-before core _ _ _ _ _ (stops_one core _ old new _ c.in_err-take_mark.ensures)) c.from_residual.ensures.1
 
 pub returns-in_err-name-clause-reads : goal.returns-in_err-name-clause-reads
 returns-in_err-name-clause-reads g c =
     let items = g.S.TokenSource.items in
     let new = items c.name.new.source in
-    let before = takes_one core _ _ _ _ refl c.in_ok-punctuator.ensures.1 in
+    let before = takes_one core _ _ _ _ refl c.in_ok-take_mark.ensures.1 in
     gives_error core _ (items c.args.source.now) new _ _ _
-    (Stops-after core _ _ _ _ _ _ _ before (stops_one core _ (items c.punctuator.new.source) new _ c.in_err-name.ensures)) c.from_residual-in_err-name.ensures.1
+    (Stops-after core _ _ _ _ _ _ _ before (stops_one core _ (items c.take_mark.new.source) new _ c.in_err-name.ensures)) c.from_residual-in_err-name.ensures.1
 
 pub returns-clause-reads : goal.returns-clause-reads
 returns-clause-reads g c =
-    let (d, dollar, at) = c.in_ok-punctuator.ensures in
+    let (d, dollar, at) = c.in_ok-take_mark.ensures in
     let (n, named, spelled) = c.in_ok-name.ensures in (
       Both (Leaf d) (Leaf n),
       takes_both (takes_one core _ _ _ d refl dollar) (takes_one core _ _ _ n refl named),

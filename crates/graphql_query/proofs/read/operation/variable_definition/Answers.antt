@@ -12,34 +12,34 @@ use Rattle.graphql_query.proofs.read.operation.variable_definition.Goals as goal
 pub returns-in_err-position-clause-reads : goal.returns-in_err-position-clause-reads
 returns-in_err-position-clause-reads g c =
     let old = g.S.TokenSource.items c.args.source.now in
-    let new = g.S.TokenSource.items c.punctuator.new.source in
+    let new = g.S.TokenSource.items c.take_mark.new.source in
     error_one old old new _ _ _ (before (starts variable_symbol old.tokens)) c.in_err-position.ensures c.from_residual.ensures.1
 
 pub returns-in_err-name-clause-reads : goal.returns-in_err-name-clause-reads
 returns-in_err-name-clause-reads g c =
     let old = g.S.TokenSource.items c.args.source.now in
-    let mid = g.S.TokenSource.items c.punctuator.new.source in
+    let mid = g.S.TokenSource.items c.take_mark.new.source in
     let new = g.S.TokenSource.items c.name.new.source in
     let dollar = past (starts variable_symbol old.tokens) (takes_one reading _ _ _ _ refl c.in_ok-position.ensures.1) in
     error_one old mid new _ _ _ (before dollar) c.in_err-name.ensures c.from_residual-in_err-name.ensures.1
 
-pub returns-in_err-punctuator-clause-reads : goal.returns-in_err-punctuator-clause-reads
-returns-in_err-punctuator-clause-reads g c =
+pub returns-in_err-take_mark-clause-reads : goal.returns-in_err-take_mark-clause-reads
+returns-in_err-take_mark-clause-reads g c =
     let old = g.S.TokenSource.items c.args.source.now in
     let mid = g.S.TokenSource.items c.name.new.source in
-    let new = g.S.TokenSource.items c.punctuator-2.new.source in
+    let new = g.S.TokenSource.items c.take_mark-2.new.source in
     let dollar = past (starts variable_symbol old.tokens) (takes_one reading _ _ _ _ refl c.in_ok-position.ensures.1) in
     let named = past dollar (takes_one reading _ _ _ _ refl c.in_ok-name.ensures.1) in
-    error_one old mid new _ _ _ (before named) c.in_err-punctuator.ensures c.from_residual-in_err-punctuator.ensures.1
+    error_one old mid new _ _ _ (before named) c.in_err-take_mark.ensures c.from_residual-in_err-take_mark.ensures.1
 
 pub returns-in_err-var_type-clause-reads : goal.returns-in_err-var_type-clause-reads
 returns-in_err-var_type-clause-reads g c =
     let old = g.S.TokenSource.items c.args.source.now in
-    let mid = g.S.TokenSource.items c.punctuator-2.new.source in
+    let mid = g.S.TokenSource.items c.take_mark-2.new.source in
     let new = g.S.TokenSource.items c.parse_type.new.source in
     let dollar = past (starts variable_symbol old.tokens) (takes_one reading _ _ _ _ refl c.in_ok-position.ensures.1) in
     let named = past dollar (takes_one reading _ _ _ _ refl c.in_ok-name.ensures.1) in
-    let colon = past named (takes_one reading _ _ _ _ refl c.in_ok-punctuator.ensures.1) in
+    let colon = past named (takes_one reading _ _ _ _ refl c.in_ok-take_mark.ensures.1) in
     error_in old mid new _ _ _ (before colon) (stops_lifted _ refl _ _ _ c.in_err-var_type.ensures.reads) c.from_residual-in_err-var_type.ensures.1
 
 pub returns-in_err-default_value-clause-reads : goal.returns-in_err-default_value-clause-reads
@@ -49,7 +49,7 @@ returns-in_err-default_value-clause-reads g c =
     let new = g.S.TokenSource.items c.optional_default.new.source in
     let dollar = past (starts variable_symbol old.tokens) (takes_one reading _ _ _ _ refl c.in_ok-position.ensures.1) in
     let named = past dollar (takes_one reading _ _ _ _ refl c.in_ok-name.ensures.1) in
-    let colon = past named (takes_one reading _ _ _ _ refl c.in_ok-punctuator.ensures.1) in
+    let colon = past named (takes_one reading _ _ _ _ refl c.in_ok-take_mark.ensures.1) in
     let (t, typed, seen) = c.in_ok-var_type.ensures.reads in
     error_in old mid new _ _ _ (past colon (takes_lifted _ refl _ _ _ typed)).stops c.in_err-default_value.ensures.reads c.from_residual-in_err-default_value.ensures.1
 
@@ -57,7 +57,7 @@ pub returns-clause-reads : goal.returns-clause-reads
 returns-clause-reads g c =
     let (d, dollar, at) = c.in_ok-position.ensures in
     let (n, named, spelled) = c.in_ok-name.ensures in
-    let (m, colon, until) = c.in_ok-punctuator.ensures in
+    let (m, colon, until) = c.in_ok-take_mark.ensures in
     let (t, typed, seen) = some_lifted _ refl _ _ _ c.in_ok-var_type.ensures.reads in
     let (v, valued, view) = c.in_ok-default_value.ensures.reads in (
       Node variable_symbol (Both (Leaf d) (Both (Leaf n) (Both (Leaf m) (Both t v)))),

@@ -100,15 +100,15 @@ field-returns-clause-shorter g t c =
 
 -- ---- selected
 
-pub selected-returns-then-not-sees_punctuator-clause-reads : goal.selected-returns-then-not-sees_punctuator-clause-reads
-selected-returns-then-not-sees_punctuator-clause-reads g t c =
-    let none = no_set (g.S.TokenSource.items c.args.source.now).tokens (sym c.sees_punctuator.ensures ∙ c.if-not-sees_punctuator.true) in
+pub selected-returns-then-not-sees_mark-clause-reads : goal.selected-returns-then-not-sees_mark-clause-reads
+selected-returns-then-not-sees_mark-clause-reads g t c =
+    let none = no_set (g.S.TokenSource.items c.args.source.now).tokens (sym c.sees_mark.ensures ∙ c.if-not-sees_mark.true) in
     (Second Nothing, none, ([], adds_none (selection_view g.S.Names.Names.bytes) _, refl))
 
 pub selected-returns-clause-reads : goal.selected-returns-clause-reads
 selected-returns-clause-reads g t c =
     let old = g.S.TokenSource.items c.args.source.now in
-    let side = some_set old.tokens (sym c.sees_punctuator.ensures ∙ c.if-not-sees_punctuator.false) in
+    let side = some_set old.tokens (sym c.sees_mark.ensures ∙ c.if-not-sees_mark.false) in
     gives_side reading _ _ First old (g.S.TokenSource.items c.selection_set.new.source) _ _ _ side (λ v x h. h) c.selection_set.ensures.reads
 
 -- ---- inline fragment
@@ -149,39 +149,39 @@ inline_fragment-returns-clause-reads g t c =
 
 -- ---- spread or inline fragment
 
-pub spread_or_inline-returns-in_err-punctuator-clause-reads : goal.spread_or_inline-returns-in_err-punctuator-clause-reads
-spread_or_inline-returns-in_err-punctuator-clause-reads g t c =
+pub spread_or_inline-returns-in_err-take_mark-clause-reads : goal.spread_or_inline-returns-in_err-take_mark-clause-reads
+spread_or_inline-returns-in_err-take_mark-clause-reads g t c =
     let old = g.S.TokenSource.items c.args.source.now in
-    let new = g.S.TokenSource.items c.punctuator.new.source in
-    gives_error reading _ old new _ _ _ (Stops-before reading _ _ _ _ _ (stops_one reading _ old new _ c.in_err-punctuator.ensures)) c.from_residual.ensures.1
+    let new = g.S.TokenSource.items c.take_mark.new.source in
+    gives_error reading _ old new _ _ _ (Stops-before reading _ _ _ _ _ (stops_one reading _ old new _ c.in_err-take_mark.ensures)) c.from_residual.ensures.1
 
 pub spread_or_inline-returns-then-sees_spread_name-clause-reads : goal.spread_or_inline-returns-then-sees_spread_name-clause-reads
 spread_or_inline-returns-then-sees_spread_name-clause-reads g t c =
     let items = g.S.TokenSource.items in
-    let (d, dots, at) = c.in_ok-punctuator.ensures in
+    let (d, dots, at) = c.in_ok-take_mark.ensures in
     let before = takes_one reading _ _ _ d refl dots in
-    let side = spread_side (items c.punctuator.new.source).tokens (sym c.sees_spread_name.ensures ∙ c.if-sees_spread_name.true) in
-    gives_then reading _ _ (items c.args.source.now) (items c.punctuator.new.source) (items c.fragment_spread.new.source) _ _ _
+    let side = spread_side (items c.take_mark.new.source).tokens (sym c.sees_spread_name.ensures ∙ c.if-sees_spread_name.true) in
+    gives_then reading _ _ (items c.args.source.now) (items c.take_mark.new.source) (items c.fragment_spread.new.source) _ _ _
     (λ v x h is. (Both (Leaf d) (First x), takes_both before (side.takes _ x h), is)) (λ o h. Stops-after reading _ _ _ _ _ _ o before (side.stops _ o h))
     c.fragment_spread.ensures.reads
 
 pub spread_or_inline-returns-clause-reads : goal.spread_or_inline-returns-clause-reads
 spread_or_inline-returns-clause-reads g t c =
     let items = g.S.TokenSource.items in
-    let (d, dots, at) = c.in_ok-punctuator.ensures in
+    let (d, dots, at) = c.in_ok-take_mark.ensures in
     let before = takes_one reading _ _ _ d refl dots in
-    let side = inline_side (items c.punctuator.new.source).tokens (sym c.sees_spread_name.ensures ∙ c.if-sees_spread_name.false) in
-    gives_then reading _ _ (items c.args.source.now) (items c.punctuator.new.source) (items c.inline_fragment.new.source) _ _ _
+    let side = inline_side (items c.take_mark.new.source).tokens (sym c.sees_spread_name.ensures ∙ c.if-sees_spread_name.false) in
+    gives_then reading _ _ (items c.args.source.now) (items c.take_mark.new.source) (items c.inline_fragment.new.source) _ _ _
     (λ v x h is. (Both (Leaf d) (Second x), takes_both before (side.takes _ x h), is)) (λ o h. Stops-after reading _ _ _ _ _ _ o before (side.stops _ o h))
     c.inline_fragment.ensures.reads
 
 -- ---- selection
 
-pub selection-returns-then-sees_punctuator-clause-reads : goal.selection-returns-then-sees_punctuator-clause-reads
-selection-returns-then-sees_punctuator-clause-reads g t c =
+pub selection-returns-then-sees_mark-clause-reads : goal.selection-returns-then-sees_mark-clause-reads
+selection-returns-then-sees_mark-clause-reads g t c =
     let old = g.S.TokenSource.items c.args.source.now in
     let new = g.S.TokenSource.items c.spread_or_inline.new.source in
-    let side = dots_side old.tokens (sym c.sees_punctuator.ensures ∙ c.if-sees_punctuator.true) in
+    let side = dots_side old.tokens (sym c.sees_mark.ensures ∙ c.if-sees_mark.true) in
     let bytes = g.S.Names.Names.bytes in
     gives_then reading _ _ old old new _ _ _
     (λ v x h is. (Node selection_symbol (Second x), side.takes _ x h, is ∙ ap (λ t. map (selection_view bytes) c.args.items.now.items ++ t ∷ []) (dots_mean h)))
@@ -190,7 +190,7 @@ selection-returns-then-sees_punctuator-clause-reads g t c =
 pub selection-returns-clause-reads : goal.selection-returns-clause-reads
 selection-returns-clause-reads g t c =
     let old = g.S.TokenSource.items c.args.source.now in
-    let side = field_side old.tokens (sym c.sees_punctuator.ensures ∙ c.if-sees_punctuator.false) in
+    let side = field_side old.tokens (sym c.sees_mark.ensures ∙ c.if-sees_mark.false) in
     gives_side reading _ _ (λ x. Node selection_symbol (First x)) old (g.S.TokenSource.items c.field.new.source) _ _ _ side (λ v x h. h) c.field.ensures.reads
 
 -- ---- selections in braces
@@ -198,7 +198,7 @@ selection-returns-clause-reads g t c =
 pub selection_set-returns-in_err-start-clause-reads : goal.selection_set-returns-in_err-start-clause-reads
 selection_set-returns-in_err-start-clause-reads g t c =
     let old = g.S.TokenSource.items c.args.source.now in
-    let new = g.S.TokenSource.items c.punctuator.new.source in
+    let new = g.S.TokenSource.items c.take_mark.new.source in
     gives_error reading _ old new _ _ _ (Stops-node reading set_symbol _ _ _ (Stops-before reading _ _ _ _ _ (stops_one reading _ old new _ c.in_err-start.ensures))) c.from_residual.ensures.1
 
 pub selection_set-returns-in_err-selection-clause-reads : goal.selection_set-returns-in_err-selection-clause-reads
@@ -243,7 +243,7 @@ pub selection_set-returns-in_err-end-clause-reads : goal.selection_set-returns-i
 selection_set-returns-in_err-end-clause-reads g t c =
     let sources = g.S.TokenSource.items in
     let now = sources c.more.source in
-    let new = sources c.punctuator-2.new.source in
+    let new = sources c.take_mark-2.new.source in
     let before = takes_one reading _ _ _ _ refl c.in_ok-start.ensures.1 in
     let (x, first, view) = c.in_ok-selection.ensures.reads in
     let (items, turns, views) = c.more.invariant.turns in

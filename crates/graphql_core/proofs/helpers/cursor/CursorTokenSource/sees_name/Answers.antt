@@ -1,0 +1,12 @@
+use Rattle.std.proofs.Common.{ap, ◌∙◌}
+use Rattle.graphql_grammar.specs.Tokens.{AnyOf}
+use Rattle.graphql_core.specs.declared.tokenizer.token.Kind.TheVariants.{Name}
+use Rattle.graphql_core.specs.Causes.{kind_number}
+use Rattle.graphql_core.specs.Lexical.{is_name_start}
+use Rattle.graphql_core.specs.Matching.{sees_class}
+use Rattle.graphql_core.proofs.Fronts as fronts
+use Rattle.graphql_core.proofs.helpers.cursor.CursorTokenSource.sees_name.Goals as goal
+
+pub returns : goal.returns
+returns g c =
+    c.is_name_start.ensures ∙ ap is_name_start c.self.invariant.1 ∙ fronts.sees_name _ c.self.invariant.0 ∙ ap (sees_class (AnyOf (kind_number Name))) c.self.view_is
