@@ -1,4 +1,4 @@
-//! Callers at concrete text types, one of them the tests' own.
+//! The callers that docs/CALLING.md and docs/MIGRATING.md show, at concrete text types, one of them the tests' own.
 ghost use Rattle.std.specs.Prelude.{IfOk, IfSome, Err, ◌≡◌, ◌<◌, ◌⊎◌, length, string_bytes, refl, nat_eq};
 ghost use Rattle.std.proofs.Common.{rules};
 ghost use Rattle.graphql_query.specs.Tree.{DocumentTree, document_view, erase};
@@ -7,11 +7,14 @@ ghost use Rattle.graphql_query.specs.Layout.{layout, IsTooWide};
 ghost use Rattle.graphql_query.specs.Printable.{IsPrintable};
 ghost use Rattle.graphql_core.specs.Refusal.{Refusal, no_memory, max_length, too_long};
 
-use crate::common::{Names, Text};
-use crate::query::{
-    Definition, Document, MinifyError, OperationDefinition, ParseError, Selection, minify_query,
-    parse_query,
+use crate::common::{
+    FloatLiteral, Names, Number, Text, UnquoteError, unquote_block_string, unquote_string,
 };
+use crate::query::{
+    Definition, Document, Field, MinifyError, OperationDefinition, ParseError, Selection, Value,
+    minify_query, parse_query,
+};
+use crate::tokenizer::{Kind, Token, TokenStream};
 use crate::{Cause, FormatError, Pos, Style};
 use std::alloc::{AllocError, Global};
 use std::borrow::CowStr;
@@ -83,12 +86,48 @@ fn first_name<'a, 'd, T: Text<'a>>(document: &'d Document<'a, T>) -> Option<&'d 
     }
 }
 
+/// How many fragments a document defines.
+fn count_fragments<'a, T: Text<'a>>(document: &Document<'a, T>) -> usize {
+    let mut count = 0usize;
+    for definition in document.definitions.iter() {
+        if let Definition::Fragment(_) = definition {
+            count = count.saturating_add(1);
+        }
+    }
+    count
+}
+
+/// The name of a field's first argument and its value, where that is a whole number.
+fn first_number<'a, 'd, T: Text<'a>>(field: &'d Field<'a, T>) -> Option<(&'d str, i64)> {
+    let (name, value) = field.arguments.first()?;
+    match value {
+        Value::Int(number) => Some((T::view(name), number.as_i64()?)),
+        _ => None,
+    }
+}
+
 /// A text laid out in a style, if it is a document and there is memory.
 fn laid_out(alloc: Global, source: &str, style: &Style) -> Option<String>
     ensures { IfSome result (λ text. (d : DocumentTree) × IsDocumentOf source.now d × (string_bytes text ≡ layout style.now d)) }
 {
     let document: Document<'_, &str> = parse_query(alloc, source).ok()?;
     document.format(alloc, style).ok()
+}
+
+/// A document in the default style.
+fn shown(alloc: Global, document: &Document<'_, &str>) -> Result<String, AllocError> {
+    format!(in alloc; "{document}")
+}
+
+/// A copy of a document.
+fn copied<'a>(document: &Document<'a, &'a str>) -> Result<Document<'a, &'a str>, AllocError> {
+    document.clone()
+}
+
+/// A text minified, if it can be and no allocation fails.
+fn minified(alloc: Global, source: &str) -> Option<String> {
+    let source = String::from_str(alloc, source).ok()?;
+    minify_query(alloc, source).ok()
 }
 
 /// Why a document is not read again.
@@ -147,11 +186,71 @@ fn refusal(error: &ParseError) -> (Option<Pos>, bool) {
     (error.position(), is_number)
 }
 
+/// Where an editor marks a refusal, and what it says there; nothing where an allocation failed.
+fn mark(alloc: Global, error: &ParseError) -> Result<Option<(Pos, String)>, AllocError> {
+    match error.position() {
+        Some(position) => Ok(Some((position, error.cause().to_string(alloc)?))),
+        None => Ok(None),
+    }
+}
+
 /// Four spaces a level, and a line for each part of arguments.
 fn wide() -> Style {
     let mut style = Style::default();
     style.indent(4).multiline_arguments(true);
     style
+}
+
+/// How many names stand before the end of a text or its first bad place; nothing for a text too long to be cut.
+fn count_names(source: &str) -> Option<usize> {
+    if source.len() > usize::MAX / 16 {
+        return None;
+    }
+    let mut stream = TokenStream::new(source);
+    let mut count = 0usize;
+    'tokens: for _ in 0..u64::MAX {
+        match stream.next_token() {
+            Ok(
+                Some(
+                    Token {
+                        kind: Kind::Name,
+                        ..
+                    },
+                ),
+            ) => count = count.saturating_add(1),
+            Ok(Some(_)) => {}
+            Ok(None) | Err(_) => return Some(count),
+        }
+    }
+    None
+}
+
+/// The value of what stands between a string's quotes.
+pub fn unquoted(alloc: Global, body: &str) -> Result<String, UnquoteError> {
+    let text = format!(in alloc; "\"{body}\"")?;
+    unquote_string(alloc, text.as_str())
+}
+
+/// The value of a block string's content.
+pub fn unindented(alloc: Global, content: &str) -> Result<String, AllocError> {
+    let text = format!(in alloc; "\"\"\"{content}\"\"\"")?;
+    unquote_block_string(alloc, text.as_str())
+}
+
+/// A float with this literal, and a whole number where the text is none.
+fn float_or<'a, T: Text<'a>>(text: String, number: i32) -> Value<'a, T> {
+    match FloatLiteral::new(text) {
+        Ok(literal) => Value::Float(literal),
+        Err(_) => Value::Int(Number::from(number)),
+    }
+}
+
+/// The `f64` that is closest to a float.
+fn rounded<'a, T: Text<'a>>(value: &Value<'a, T>) -> Option<f64> {
+    match value {
+        Value::Float(literal) => literal.as_str().parse::<f64>().ok(),
+        _ => None,
+    }
 }
 
 #[test]
@@ -212,6 +311,54 @@ fn owned_names_outlive_the_text(rt: HostRuntime) -> Result<(), Fail> {
         document.to_string(alloc)?.as_str(),
         "{\n  hero\n}\n\n{\n  b\n}\n"
     );
+    Ok(())
+}
+
+#[test]
+fn trees_are_looked_into(rt: HostRuntime) -> Result<(), Fail> {
+    let alloc = rt.alloc();
+    let source = "{ hero(id: 7) } fragment F on T { a } fragment G on T { a }";
+    let document: Document<'_, &str> = parse_query(alloc, source)?;
+    assert_eq!(rt; count_fragments(&document), 2);
+    let Some(Definition::Operation(OperationDefinition::SelectionSet(set))) = document
+        .definitions
+        .first()
+    else {
+        return Err(Fail::new("no operation"));
+    };
+    let Some(Selection::Field(field)) = set.items.first() else {
+        return Err(Fail::new("no field"));
+    };
+    assert_eq!(rt; first_number(field), Some(("id", 7)));
+    let text = "{\n  hero(id: 7)\n}\n\nfragment F on T {\n  a\n}\n\nfragment G on T {\n  a\n}\n";
+    assert_eq!(rt; shown(alloc, &document)?.as_str(), text);
+    assert!(rt; copied(&document)? == document);
+    Ok(())
+}
+
+#[test]
+fn refusals_are_marked(rt: HostRuntime) -> Result<(), Fail> {
+    let alloc = rt.alloc();
+    let answer: Result<Document<'_, &str>, _> = parse_query(alloc, "{ a");
+    let error = answer.err().ok_or("accepted")?;
+    let (position, message) = mark(alloc, &error)?.ok_or("no position")?;
+    assert_eq!(rt; position, Pos { line: 1, column: 4 });
+    assert_eq!(rt; message.as_str(), "Unexpected end of input");
+    Ok(())
+}
+
+#[test]
+fn tokens_and_values(rt: HostRuntime) -> Result<(), Fail> {
+    let alloc = rt.alloc();
+    assert_eq!(rt; count_names("{ a(b: 1) } ; c"), Some(2));
+    let text = minified(alloc, "{ a ( b : 1 ) }").ok_or("refused")?;
+    assert_eq!(rt; text.as_str(), "{a(b:1)}");
+    assert!(rt; minified(alloc, "{ a; }").is_none());
+    let float: Value<'_, &str> = float_or(String::from_str(alloc, "1.5")?, 0);
+    assert!(rt; rounded(&float) == Some(1.5));
+    let number: Value<'_, &str> = float_or(String::from_str(alloc, "1e9")?, 3);
+    assert!(rt; number == Value::Int(Number::from(3)));
+    assert!(rt; rounded(&number).is_none());
     Ok(())
 }
 

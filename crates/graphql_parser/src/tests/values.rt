@@ -1,7 +1,7 @@
 //! Positions, styles and numbers as values, and the values of strings.
-use crate::common::{FloatLiteral, Number, UnquoteError, unquote_block_string, unquote_string};
+use crate::common::{FloatLiteral, Number, UnquoteError};
+use crate::tests::callers::{unindented, unquoted};
 use crate::{Pos, Style};
-use std::alloc::{AllocError, Global};
 use std::cmp::Ordering;
 use std::hash::{BuildHasher, BuildHasherDefault, FoldHasher};
 use std::test::Fail;
@@ -35,18 +35,6 @@ fn styles_and_numbers(rt: HostRuntime) -> Result<(), Fail> {
     let refused = refused.ok_or("taken")?;
     assert_eq!(rt; refused.as_str(), "1e9");
     Ok(())
-}
-
-/// The value of what stands between a string's quotes.
-fn unquoted(alloc: Global, body: &str) -> Result<String, UnquoteError> {
-    let text = format!(in alloc; "\"{body}\"")?;
-    unquote_string(alloc, text.as_str())
-}
-
-/// The value of a block string's content.
-fn unindented(alloc: Global, content: &str) -> Result<String, AllocError> {
-    let text = format!(in alloc; "\"\"\"{content}\"\"\"")?;
-    unquote_block_string(alloc, text.as_str())
 }
 
 #[test]
