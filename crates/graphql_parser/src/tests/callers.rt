@@ -14,7 +14,7 @@ use crate::query::{
     Definition, Document, Field, MinifyError, OperationDefinition, ParseError, Selection, Value,
     minify_query, parse_query,
 };
-use crate::tokenizer::{Kind, Token, TokenStream};
+use crate::tokenizer::{Kind, TokenStream};
 use crate::{Cause, FormatError, Pos, Style};
 use std::alloc::{AllocError, Global};
 use std::borrow::CowStr;
@@ -210,14 +210,7 @@ fn count_names(source: &str) -> Option<usize> {
     let mut count = 0usize;
     'tokens: for _ in 0..u64::MAX {
         match stream.next_token() {
-            Ok(
-                Some(
-                    Token {
-                        kind: Kind::Name,
-                        ..
-                    },
-                ),
-            ) => count = count.saturating_add(1),
+            Ok(Some(token)) if token.kind == Kind::Name => count = count.saturating_add(1),
             Ok(Some(_)) => {}
             Ok(None) | Err(_) => return Some(count),
         }
