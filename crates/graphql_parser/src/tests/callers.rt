@@ -106,7 +106,7 @@ fn first_number<'a, 'd, T: Text<'a>>(field: &'d Field<'a, T>) -> Option<(&'d str
     }
 }
 
-/// A text laid out in a style, if it is a document and there is memory.
+/// A text laid out in a style, if it is a document and no allocation fails.
 fn laid_out(alloc: Global, source: &str, style: &Style) -> Option<String>
     ensures { IfSome result (λ text. (d : DocumentTree) × IsDocumentOf source.now d × (string_bytes text ≡ layout style.now d)) }
 {
@@ -138,7 +138,7 @@ enum Lost {
     Parse(ParseError),
 }
 
-/// A document formatted and parsed: the same but for positions, unless memory runs out, or it is too wide or its text too long.
+/// A document formatted and parsed: the same but for positions, unless an allocation fails, or it is too wide or its text too long.
 fn formatted_and_parsed<N: Names>(
     alloc: Global,
     document: &Document<'_, N>,
@@ -162,7 +162,7 @@ fn formatted_and_parsed<N: Names>(
     }
 }
 
-/// A text minified and parsed: what the text itself is parsed to but for positions, unless memory runs out, or a text is too long.
+/// A text minified and parsed: what the text itself is parsed to but for positions, unless an allocation fails, or a text is too long.
 fn minified_and_parsed(alloc: Global, source: String) -> Result<Document<'static, String>, Lost>
     ensures same { (d : DocumentTree) → IsDocumentOf (string_bytes source) d
         → IfOk result (λ e. erase (document_view string_bytes e) ≡ erase d) }
