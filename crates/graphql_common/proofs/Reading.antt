@@ -14,7 +14,7 @@ use Rattle.graphql_core.specs.declared.helpers.stop.Stop.{Stop}
 use Rattle.graphql_core.specs.declared.helpers.stop.Stop.TheVariants.{Memory, Item, Integer, Float, Escape}
 use Rattle.graphql_core.specs.Source.{Items, kept, fault_by, place_next}
 use Rattle.graphql_core.specs.Matching.{TakesToken, TakesOne}
-use Rattle.graphql_common.specs.Gives.{Gives, Adds, reason_of}
+use Rattle.graphql_common.specs.Gives.{GivesBy, Gives, Adds, reason_of}
 
 -- ---- single tokens
 
@@ -118,11 +118,15 @@ pub gives_then : {A : Type 0} (g : Grammar) (e f : Expr) (old mid new : Items) (
 gives_then g e f old mid new P Q (Ok v) takes stops (x, h, p) = takes v x h p
 gives_then g e f old mid new P Q (Err d) takes stops h = stops (reason_of d) h
 
--- an error goes up
+-- an error goes up, whatever errors there are, with the reason that each has
+pub gives_error_by : {A E : Type 0} (reason : E → Option Reason) (g : Grammar) (e : Expr) (old new : Items) (P : A → Shape → Type 0) (r : Result A E) (d : E)
+    → Stops g e old.tokens new.tokens (reason d) → IsErrAnd r (λ x. x ≡ d) → GivesBy reason g e old new P r
+gives_error_by reason g e old new P (Ok v) d stops h = absurd h
+gives_error_by reason g e old new P (Err x) d stops h = rw h stops
+
 pub gives_error : {A : Type 0} (g : Grammar) (e : Expr) (old new : Items) (P : A → Shape → Type 0) (r : Result A Stop) (d : Stop)
     → Stops g e old.tokens new.tokens (reason_of d) → IsErrAnd r (λ x. x ≡ d) → Gives g e old new P r
-gives_error g e old new P (Ok v) d stops h = absurd h
-gives_error g e old new P (Err x) d stops h = rw h stops
+gives_error = gives_error_by reason_of
 
 -- ---- one after the other
 

@@ -8,9 +8,9 @@ use Rattle.graphql_grammar.proofs.Turning.{Stops-before, Stops-after}
 use Rattle.graphql_core.specs.declared.helpers.stop.Stop.{Stop}
 use Rattle.graphql_core.specs.Source.{Items}
 use Rattle.graphql_core.specs.Matching.{TakesToken}
-use Rattle.graphql_common.specs.Gives.{Gives, reason_of}
+use Rattle.graphql_common.specs.Gives.{GivesBy, Gives, reason_of}
 use Rattle.graphql_common.specs.Grammar.{keyword, word}
-use Rattle.graphql_common.proofs.Reading.{takes_one, stops_one, gives_error, TakesNone}
+use Rattle.graphql_common.proofs.Reading.{takes_one, stops_one, gives_error_by, gives_error, TakesNone}
 use Rattle.graphql_common.proofs.Sides.{IsSide, side_node}
 
 -- e that began at ts has come to us, where its rest f is read, whose shapes stand inside e's
@@ -41,7 +41,11 @@ past {g} {e} {a} {b} {inside} {ts} {us} {vs} {x} l h = record {
 pub before : {g : Grammar} {e a b : Expr} {inside : Shape → Shape} {ts us : List Token} → Leads g e (Then a b) inside ts us → StopsBy g e a ts us
 before {g} {e} {a} {b} {inside} {ts} {us} l vs o h = l.stops vs o (Stops-before g a b us vs o h)
 
--- an error goes up
+-- an error goes up, whatever errors there are, with the reason that each has
+pub error_in_by : {A E : Type 0} (reason : E → Option Reason) {g : Grammar} {e f : Expr} (old mid new : Items) (P : A → Shape → Type 0) (r : Result A E) (d : E)
+    → StopsBy g e f old.tokens mid.tokens → Stops g f mid.tokens new.tokens (reason d) → IsErrAnd r (λ x. x ≡ d) → GivesBy reason g e old new P r
+error_in_by reason {g} {e} old mid new P r d by h up = gives_error_by reason g e old new P r d (by new.tokens (reason d) h) up
+
 pub error_in : {A : Type 0} {g : Grammar} {e f : Expr} (old mid new : Items) (P : A → Shape → Type 0) (r : Result A Stop) (d : Stop)
     → StopsBy g e f old.tokens mid.tokens → Stops g f mid.tokens new.tokens (reason_of d) → IsErrAnd r (λ x. x ≡ d) → Gives g e old new P r
 error_in {g = g} {e = e} old mid new P r d by h up = gives_error g e old new P r d (by new.tokens (reason_of d) h) up

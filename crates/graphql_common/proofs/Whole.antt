@@ -5,7 +5,7 @@ use Rattle.std.proofs.lemmas.List.{drop_at}
 use Rattle.graphql_grammar.specs.Tokens.{Token, Class, AnyOf}
 use Rattle.graphql_grammar.specs.Trees.{Sym, Shape, Node}
 use Rattle.graphql_grammar.specs.Factored.{written, change_at}
-use Rattle.graphql_grammar.specs.Reading.{Takes, takes_node, Reason, Unexpected, Improper, Fails, fails_node, Done, Fault as Stopped}
+use Rattle.graphql_grammar.specs.Reading.{Takes, takes_node, Reason, Unexpected, Improper, Refused, Fails, fails_node, Done, Fault as Stopped}
 use Rattle.graphql_grammar.specs.Words.{Stops}
 use Rattle.graphql_grammar.specs.Texts as texts
 use Rattle.graphql_grammar.specs.Texts.{Answers}
@@ -140,6 +140,17 @@ module _ {D : Type 0} (l : Language D) (r : IsReadable l) where
   least_stop i j Integer e h f last = valueless i j _ _ e no_integer h f last
   least_stop i j Float e h f last = valueless i j _ _ e no_float h f last
   least_stop i j Escape e h f last = valueless i j _ _ e no_string h f last
+
+  -- a reader that stops behind a node that is refused
+  pub none_refused : (i j : Items) (k : ℕ) (d : D) → Fails (reading l) (document_rule l) i.tokens (Refused k) j.tokens → IsDocument l i d → ⊥
+  none_refused i j k d h = none_wrong (Refused k) i j d (at_fault (Refused k) i j h)
+
+  pub least_refused : (i j : Items) (k : ℕ) (f : FaultText) → Fails (reading l) (document_rule l) i.tokens (Refused k) j.tokens
+      → (drop (length i.tokens - length j.tokens) i.tokens ≡ j.tokens → l.refuses k i (length i.tokens - length j.tokens) f) → IsLeastFault l i f
+  least_refused i j k f h said =
+      let n : ℕ = length i.tokens - length j.tokens in
+      let first = (exact_reading l r).earliest i.tokens j.tokens _ (fails_node h) in
+      (n, Refused k, (least l r).wrong (text_of i) (Refused k) n (at_fault (Refused k) i j h), said (dropped first.front i.tokens j.tokens first.parts))
 
   pub none_rest : (i j : Items) (d : D) (x : Shape) → Takes (reading l) (document_rule l) i.tokens x j.tokens → j.last ≡ i.last → (IsAtEnd j → ⊥)
       → IsDocument l i d → ⊥
