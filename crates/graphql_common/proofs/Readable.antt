@@ -1,15 +1,15 @@
 -- What a language has to show once, and what the theory of grammars then says of it.
-use Rattle.std.proofs.Common.{◌≡◌, ℕ, true}
+use Rattle.std.proofs.Common.{◌≡◌, ℕ, true, List, [], ◌∷◌, ◌++◌, length, replicate}
 use Rattle.graphql_grammar.specs.Tokens.{Token, AnyOf}
-use Rattle.graphql_grammar.specs.Trees.{Sym, Shape}
+use Rattle.graphql_grammar.specs.Trees.{Sym, Shape, Row, Grammar}
 use Rattle.graphql_grammar.specs.Tables.{is_ll1, is_tight, is_productive, decides, has_samples}
 use Rattle.graphql_grammar.specs.Reading.{Refused, unchecked, lax}
 use Rattle.graphql_grammar.specs.Theorems.{IsExact}
-use Rattle.graphql_grammar.specs.Factored.{EachIsSecond, with_rows, IsExactFor}
+use Rattle.graphql_grammar.specs.Factored.{Change, unchanged, AreSecond, EachIsSecond, with_rows, IsExactFor}
 use Rattle.graphql_grammar.specs.Texts.{IsWhole, IsWholeFor}
 use Rattle.graphql_grammar.specs.Faults.{IsFault, AnswersLeast, RefusesTokens}
 use Rattle.graphql_grammar.specs.Extended.{Extends, LeavesAlone}
-use Rattle.graphql_grammar.proofs.Carried.{exact_for, whole_for}
+use Rattle.graphql_grammar.proofs.Carried.{IsSecond-unchanged, exact_for, whole_for}
 use Rattle.graphql_grammar.proofs.FaultedFor.{least_for}
 use Rattle.graphql_grammar.proofs.Exact as theory
 use Rattle.graphql_grammar.proofs.Whole as whole_theory
@@ -44,6 +44,12 @@ pub record IsReadable {D : Type 0} (l : Language D) : Type 0 where
   -- one thing is said of a node that is refused
   pub one_said : (i : Items) (k n : ℕ) (f g : FaultText) → IsFault l.grammar (Sym l.document) (text_of i) (Refused k) n
       → l.refuses k i n f → l.refuses k i n g → f ≡ g
+
+-- rows that both rules share: those of core stand first in each
+pub shared_rows : (g : Grammar) (rs : List Row) (cs : List Change) (shared ws qs : List Row) (others : List Change) → AreSecond g rs cs ws qs others
+    → AreSecond g rs cs (shared ++ ws) (shared ++ qs) (replicate (length shared) unchanged ++ others)
+shared_rows g rs cs [] ws qs others h = h
+shared_rows g rs cs (r ∷ shared) ws qs others h = (IsSecond-unchanged g rs cs r.rule, shared_rows g rs cs shared ws qs others h)
 
 -- ---- what the theory says
 

@@ -1,16 +1,18 @@
 -- A rule that is read from left to right: behind what is taken, the rest is read in its place.
-use Rattle.std.proofs.Common.{◌≡◌, ℕ, true, List, Result, IsErrAnd, Option}
+use Rattle.std.proofs.Common.{◌≡◌, ℕ, true, false, List, [], ◌∷◌, ◌++◌, map, Result, IsErrAnd, Option, refl, sym, ap, ◌∙◌, append_assoc}
 use Rattle.graphql_grammar.specs.Tokens.{Token, Class}
-use Rattle.graphql_grammar.specs.Trees.{Expr, One, Then, Sym, Shape, Leaf, Both, Node, Grammar, row}
-use Rattle.graphql_grammar.specs.Reading.{Takes, takes_both, Reason}
-use Rattle.graphql_grammar.specs.Words.{TakesSome, Stops}
-use Rattle.graphql_grammar.proofs.Turning.{Stops-before, Stops-after}
+use Rattle.graphql_grammar.specs.Trees.{Expr, One, Then, Many, Sym, Shape, Leaf, Both, Node, Grammar, row, leaves, peek}
+use Rattle.graphql_grammar.specs.Tables.{first}
+use Rattle.graphql_grammar.specs.Reading.{sees, Takes, takes_both, Reason}
+use Rattle.graphql_grammar.specs.Words.{TakesSome, Stops, Turns, values}
+use Rattle.graphql_grammar.proofs.Taken.{takes-leaves}
+use Rattle.graphql_grammar.proofs.Turning.{Stops-before, Stops-after, Turns-start, Turns-more, Turns-stop}
 use Rattle.graphql_core.specs.declared.helpers.stop.Stop.{Stop}
-use Rattle.graphql_core.specs.Source.{Items}
+use Rattle.graphql_core.specs.Source.{Items, kept}
 use Rattle.graphql_core.specs.Matching.{TakesToken}
-use Rattle.graphql_common.specs.Gives.{GivesBy, Gives, reason_of}
+use Rattle.graphql_common.specs.Gives.{GivesBy, Gives, Adds, reason_of}
 use Rattle.graphql_common.specs.Grammar.{keyword, word}
-use Rattle.graphql_common.proofs.Reading.{takes_one, stops_one, gives_error_by, gives_error, TakesNone}
+use Rattle.graphql_common.proofs.Reading.{takes_one, stops_one, gives_error_by, gives_error, TakesNone, one_of, adds_none, adds_one, adds_more, fills}
 use Rattle.graphql_common.proofs.Sides.{IsSide, side_node}
 
 -- e that began at ts has come to us, where its rest f is read, whose shapes stand inside e's
@@ -76,3 +78,35 @@ pub keyword_fails : {A : Type 0} (g : Grammar) (w : List ℕ) (e : Expr) (old mi
 keyword_fails g w e old mid new P r d t good begins stops up =
     gives_error g _ old new P r d
     (Stops-after g (word w) e old.tokens mid.tokens new.tokens (Leaf t) (reason_of d) (takes_one g (keyword w) old mid t good begins) stops) up
+
+-- A loop that pushes what each turn of a repetition gives, seen through view: it has come from start to now.
+pub record Pushes {V A : Type 0} (g : Grammar) (a : Expr) (f : Shape → A) (view : V → A) (start now : Items) (old new : List V) : Type 0 where
+  pub means : List A
+  pub turns : Turns g a (one_of f) start.tokens now.tokens means
+  pub adds : Adds view old new means
+  pub front : List Token
+  pub parts : start.tokens ≡ front ++ now.tokens
+  pub last : kept now ≡ kept start
+
+module _ {V A : Type 0} (g : Grammar) (a : Expr) (f : Shape → A) (view : V → A) where
+  pub pushes_none : (start : Items) (old : List V) → Pushes g a f view start start old old
+  pushes_none start old =
+      record { means = []; turns = Turns-start g a (one_of f) start.tokens; adds = adds_none view old; front = []; parts = refl; last = refl }
+
+  pub pushes_more : (start now next : Items) (old found new : List V) (v : V) → Pushes g a f view start now old found → sees (first g.rows a) (peek now.tokens) ≡ true
+      → TakesSome g a now.tokens next.tokens (λ x. view v ≡ f x) → kept next ≡ kept now → new ≡ found ++ v ∷ [] → Pushes g a f view start next old new
+  pushes_more start now next old found new v p seen (x, takes, is) same push = record {
+    means = p.means ++ f x ∷ [];
+    turns = Turns-more g a (one_of f) start.tokens now.tokens next.tokens p.means x p.turns seen takes;
+    adds = adds_more view old found new p.means (f x ∷ []) p.adds (adds_one view found new v (f x) push is);
+    front = p.front ++ leaves x;
+    parts = p.parts ∙ ap (λ (ts : List Token). p.front ++ ts) (takes-leaves g takes) ∙ sym (append_assoc p.front (leaves x) next.tokens);
+    last = same ∙ p.last;
+  }
+
+  -- into a list that was empty, until no turn begins
+  pub pushes_all : (start now : Items) (old new : List V) → old ≡ [] → Pushes g a f view start now old new → sees (first g.rows a) (peek now.tokens) ≡ false
+      → TakesSome g (Many a) start.tokens now.tokens (λ x. map view new ≡ values (one_of f) x)
+  pushes_all start now old new none p unseen =
+      let r = Turns-stop g a (one_of f) start.tokens now.tokens p.means p.turns unseen in
+      (r.0, r.1, fills view old new p.means none p.adds ∙ sym r.2)

@@ -1,5 +1,5 @@
 -- The language of extensions is readable.
-use Rattle.std.proofs.Common.{◌≡◌, ◌<◌, ◌==◌, ℕ, Bool, true, false, not, cond, List, [], ◌∷◌, ◌++◌, length, drop, replicate, length-append, inl, inr, refl, sym, ap, subst, ◌∙◌, arith}
+use Rattle.std.proofs.Common.{◌≡◌, ◌<◌, ◌==◌, ℕ, Bool, true, false, not, cond, List, [], ◌∷◌, length, drop, length-append, inl, inr, refl, sym, ap, subst, ◌∙◌, arith}
 use Rattle.std.proofs.lemmas.Bool.{cases_Bool}
 use Rattle.std.proofs.lemmas.Bool.Decides.{nat_tests}
 use Rattle.std.proofs.lemmas.List.{drop_at}
@@ -8,7 +8,7 @@ use Rattle.graphql_grammar.specs.Trees.{Expr, Shape, Node, Row, Grammar, row, ro
 use Rattle.graphql_grammar.specs.Solve.{with_tables}
 use Rattle.graphql_grammar.specs.Tables.{is_ll1, is_tight, is_productive}
 use Rattle.graphql_grammar.specs.Reading.{lax}
-use Rattle.graphql_grammar.specs.Factored.{AreSecond, EachIsSecond, Change, change_at, unchanged, out_of_head, written, with_rows}
+use Rattle.graphql_grammar.specs.Factored.{EachIsSecond, change_at, unchanged, out_of_head, written, with_rows}
 use Rattle.graphql_grammar.specs.Faults.{RefusesTokens}
 use Rattle.graphql_grammar.specs.Extended.{Extends, TestsAlike}
 use Rattle.graphql_grammar.proofs.Carried.{each_is_second, IsSecond-unchanged, IsSecond-head}
@@ -18,9 +18,9 @@ use Rattle.graphql_core.specs.Source.{FaultText}
 use Rattle.graphql_common.specs.Grammar.{core, tables as core_tables, name, shared_symbols}
 use Rattle.graphql_common.specs.Leaves.{unquoted}
 use Rattle.graphql_common.specs.Language.{reading}
-use Rattle.graphql_common.proofs.Readable.{IsReadable}
+use Rattle.graphql_common.proofs.Readable.{IsReadable, shared_rows}
 use Rattle.worked_language.specs.Meanings.{adds_nothing, extension_of}
-use Rattle.worked_language.specs.Language.{worked, extensions, rules, second_rules, document_rule, extension_rule, extension_symbol, by_number, by_name, passes, tables, changes, IsEmptyBefore}
+use Rattle.worked_language.specs.Language.{worked, extensions, rules, second_rules, document_rule, extension_rule, extension_symbol, int, passes, tables, changes, IsEmptyBefore}
 
 ll1 : is_ll1 worked.second_rows ≡ true
 unfolding tables core_tables
@@ -38,12 +38,6 @@ productive_lax : is_productive (with_rows (lax extensions) worked.second_rows ch
 unfolding tables core_tables unquoted
 productive_lax = refl
 
--- rows that both rules share
-shared : (g : Grammar) (rs : List Row) (cs : List Change) (rows ws qs : List Row) (others : List Change) → AreSecond g rs cs ws qs others
-    → AreSecond g rs cs (rows ++ ws) (rows ++ qs) (replicate (length rows) unchanged ++ others)
-shared g rs cs [] ws qs others h = h
-shared g rs cs (r ∷ rows) ws qs others h = (IsSecond-unchanged g rs cs r.rule, shared g rs cs rows ws qs others h)
-
 -- the second rules have the trees of the written ones, whatever is tested
 each : (good : Class → Token → Bool) (check : ℕ → Shape → Bool)
     → EachIsSecond (record { rows = extensions.rows; good = good; check = check; samples = extensions.samples }) worked.second_rows changes
@@ -51,8 +45,8 @@ each good check =
     let g : Grammar = record { rows = extensions.rows; good = good; check = check; samples = extensions.samples } in
     let rs : List Row = worked.second_rows in
     each_is_second g rs changes
-    (shared g rs changes core.rows (with_tables rules []) (with_tables second_rules tables) (unchanged ∷ out_of_head ∷ [])
-    (IsSecond-unchanged g rs changes document_rule, (IsSecond-head g rs changes name by_number by_name, tt)))
+    (shared_rows g rs changes core.rows (with_tables rules []) (with_tables second_rules tables) (unchanged ∷ out_of_head ∷ [])
+    (IsSecond-unchanged g rs changes document_rule, (IsSecond-head g rs changes name int name, tt)))
 
 pub read_alike : (e : Expr) → TestsAlike core (reading worked) e
 read_alike e = tests_alike core (reading worked) (λ c t. refl) e
@@ -76,17 +70,17 @@ refuses_tokens k x fits refused empty = elim (cases_Bool (k == extension_symbol)
 
 -- one thing is said of an extension that is refused
 one_said : (ts rest : List Token) (f g : FaultText) → IsEmptyBefore ts rest f → IsEmptyBefore ts rest g → f ≡ g
-one_said ts rest f g (b, n, e, m, p, q) (b', n', e', m', p', q') =
+one_said ts rest f g (b, n, m, p, q) (b', n', m', p', q') =
     let as_long : length b ≡ length b' = omega (
       arith,
       ap length p,
       ap length p',
-      length-append b (n ∷ e ∷ m ∷ rest),
-      length-append b' (n' ∷ e' ∷ m' ∷ rest),
+      length-append b (n ∷ m ∷ rest),
+      length-append b' (n' ∷ m' ∷ rest),
     ) in
-    let here = drop_at b (n ∷ e ∷ m ∷ rest) (length b) (omega arith) in
-    let there = drop_at b' (n' ∷ e' ∷ m' ∷ rest) (length b) (omega (arith, as_long)) in
-    let same : n ∷ e ∷ m ∷ rest ≡ n' ∷ e' ∷ m' ∷ rest = sym here ∙ ap (drop (length b)) (sym p ∙ p') ∙ there in
+    let here = drop_at b (n ∷ m ∷ rest) (length b) (omega arith) in
+    let there = drop_at b' (n' ∷ m' ∷ rest) (length b) (omega (arith, as_long)) in
+    let same : n ∷ m ∷ rest ≡ n' ∷ m' ∷ rest = sym here ∙ ap (drop (length b)) (sym p ∙ p') ∙ there in
     let first : n ≡ n' = cc in
     q ∙ ap (λ (t : Token). record { cause = empty_extension; place = t.place }) first ∙ sym q'
 

@@ -1,5 +1,5 @@
 -- The language of extensions: how they are written and read, what is said of one that is refused, and what readers answer.
-use Rattle.std.specs.Prelude.{◌≡◌, ℕ, Bool, true, not, ◌==◌, cond, List, [], ◌∷◌, ◌++◌, codes, drop, replicate, Option, Some, Result}
+use Rattle.std.specs.Prelude.{◌≡◌, ℕ, Bool, true, not, ◌==◌, cond, List, [], ◌∷◌, ◌++◌, drop, replicate, Option, Some, Result}
 use Rattle.graphql_grammar.specs.Tokens.{Token, matches}
 use Rattle.graphql_grammar.specs.Trees.{Expr, One, Then, Either, Many, Sym, Shape, Node, Row, Grammar}
 use Rattle.graphql_grammar.specs.Solve.{solve, with_tables}
@@ -10,7 +10,7 @@ use Rattle.graphql_core.specs.Causes.{empty_extension}
 use Rattle.graphql_core.specs.Source.{Items, FaultText, place_of}
 use Rattle.graphql_common.specs.Leaves.{is_good}
 use Rattle.graphql_common.specs.Grammar as core
-use Rattle.graphql_common.specs.Grammar.{shared_symbols, punctuator, any, name}
+use Rattle.graphql_common.specs.Grammar.{shared_symbols, any, name}
 use Rattle.graphql_common.specs.Gives.{GivesBy, reason_of}
 use Rattle.graphql_common.specs.Language.{Language, reading}
 use Rattle.worked_language.specs.declared.read.Halt.{Halt}
@@ -28,15 +28,12 @@ extension_symbol = 12
 abbrev pub document_rule : Expr
 document_rule = Many (Sym extension_symbol)
 
-abbrev pub by_number : Expr
-by_number = Then (punctuator (codes ":")) (One (any IntValue))
+abbrev pub int : Expr
+int = One (any IntValue)
 
-abbrev pub by_name : Expr
-by_name = Then (punctuator (codes "=")) name
-
--- Extension = Name ":" Int | Name "=" Name
+-- Extension = Name Int | Name Name
 abbrev pub extension_rule : Expr
-extension_rule = Either (Then name by_number) (Then name by_name)
+extension_rule = Either (Then name int) (Then name name)
 
 -- an extension that adds nothing is refused
 abbrev pub passes : ℕ → Shape → Bool
@@ -48,9 +45,9 @@ rules = document_rule ∷ extension_rule ∷ []
 abbrev pub extensions : Grammar
 extensions = record { rows = core.rows ++ with_tables rules []; good = is_good; check = passes; samples = core.samples }
 
--- the second rule of an extension: a name, and behind it a colon or an equals sign
+-- the second rule of an extension: a name, and behind it an integer or a name
 abbrev pub second_rules : List Expr
-second_rules = document_rule ∷ Then name (Either by_number by_name) ∷ []
+second_rules = document_rule ∷ Then name (Either int name) ∷ []
 
 unfoldable pub tables : List Row
 tables = drop shared_symbols (solve matches core.samples 9 (core.rules ++ second_rules))
@@ -61,7 +58,7 @@ changes = replicate shared_symbols unchanged ++ unchanged ∷ out_of_head ∷ []
 -- Of these tokens an extension that adds nothing ends before these last ones: the fault stands at its first.
 abbrev pub IsEmptyBefore : List Token → List Token → FaultText → Type 0
 IsEmptyBefore ts rest f =
-    (before : List Token) × (n : Token) × (e : Token) × (m : Token) × (ts ≡ before ++ n ∷ e ∷ m ∷ rest) × (f ≡ record { cause = empty_extension; place = n.place })
+    (before : List Token) × (n : Token) × (m : Token) × (ts ≡ before ++ n ∷ m ∷ rest) × (f ≡ record { cause = empty_extension; place = n.place })
 
 abbrev pub worked : Language (List ExtensionTree)
 worked = record {

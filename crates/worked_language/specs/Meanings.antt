@@ -31,8 +31,8 @@ adds_nothing (n, named m) = same_spelling m n
 
 -- what stands behind a name
 abbrev pub addition_of : Shape → AdditionTree
-addition_of (First (Both c i)) = number (int_of (spelling_at i))
-addition_of (Second (Both e m)) = named (spelling_at m)
+addition_of (First i) = number (int_of (spelling_at i))
+addition_of (Second m) = named (spelling_at m)
 addition_of _ = named []
 
 abbrev pub extension_of : Shape → ExtensionTree

@@ -6,13 +6,14 @@ ghost use Rattle.graphql_common.specs.Gives.{Gives, Shortens};
 ghost use Rattle.graphql_common.specs.Language.{reading};
 ghost use Rattle.worked_language.specs.declared.read.Halt.TheVariants.{Stopped};
 ghost use Rattle.worked_language.specs.Meanings.{addition_view, extension_view, adds_nothing, addition_of, extension_of, extensions_of};
-ghost use Rattle.worked_language.specs.Language.{worked, extension_symbol, by_number, by_name, Reads, Says};
+ghost use Rattle.worked_language.specs.Language.{worked, extension_symbol, int, Reads, Says};
+ghost use Rattle.graphql_common.specs.Grammar as core;
 ghost use Rattle.graphql_core.specs.declared.helpers.stop.Stop.TheVariants.{Memory};
 
 use crate::tree::{Addition, Extension};
 use graphql_common::read::leaf::int_value;
 use graphql_core::common::Names;
-use graphql_core::helpers::{Stop, TokenSource, name, punctuator, sees_name, sees_punctuator};
+use graphql_core::helpers::{Stop, TokenSource, name, sees_name};
 use graphql_core::position::Pos;
 use std::alloc::{AllocFailed, Global};
 
@@ -40,20 +41,18 @@ impl<T: Drop> From<AllocFailed<T>> for Halt {
     }
 }
 
-/// `":" Int | "=" Name`
+/// `Int | Name`
 #[tactic(auto, using(graphql_common::proofs::Reading::reading))]
 fn addition<S: TokenSource>(alloc: Global, source: &mut S) -> Result<Addition<S::Names>, Stop>
-    ensures reads { Gives (reading worked) (Either by_number by_name) (S.items source.old) (S.items source.new)
+    ensures reads { Gives (reading worked) (Either int core.name) (S.items source.old) (S.items source.new)
         (λ v x. addition_view S.Names.bytes v ≡ addition_of x) result }
     ensures kept { kept (S.items source.new) ≡ kept (S.items source.old) }
     ensures shorter { Shortens (S.items source.old) (S.items source.new) result }
 {
-    if sees_punctuator(source, ":") {
-        punctuator(source, ":")?;
-        return Ok(Addition::Number(int_value(alloc, source)?));
+    if sees_name(source) {
+        return Ok(Addition::Name(name(alloc, source)?));
     }
-    punctuator(source, "=")?;
-    Ok(Addition::Name(name(alloc, source)?))
+    Ok(Addition::Number(int_value(alloc, source)?))
 }
 
 /// Whether a name is extended by itself.
@@ -66,7 +65,7 @@ fn adds_nothing<N: Names>(extension: &Extension<N>) -> bool
     }
 }
 
-/// `Extension = Name ":" Int | Name "=" Name`, not of a name by itself.
+/// `Extension = Name Int | Name Name`, not of a name by itself.
 #[tactic(auto, using(graphql_common::proofs::Reading::reading))]
 fn extension<S: TokenSource>(alloc: Global, source: &mut S) -> Result<Extension<S::Names>, Halt>
     ensures reads { Reads (Sym extension_symbol) (S.items source.old) (S.items source.new)
