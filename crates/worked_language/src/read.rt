@@ -13,7 +13,7 @@ ghost use Rattle.graphql_core.specs.declared.helpers.stop.Stop.TheVariants.{Memo
 use crate::tree::{Addition, Extension};
 use graphql_common::read::leaf::int_value;
 use graphql_core::common::Names;
-use graphql_core::helpers::{Stop, TokenSource, name, sees_name};
+use graphql_core::helpers::{Stop, TokenSource, name};
 use graphql_core::position::Pos;
 use std::alloc::{AllocFailed, Global};
 
@@ -49,7 +49,7 @@ fn addition<S: TokenSource>(alloc: Global, source: &mut S) -> Result<Addition<S:
     ensures kept { kept (S.items source.new) ≡ kept (S.items source.old) }
     ensures shorter { Shortens (S.items source.old) (S.items source.new) result }
 {
-    if sees_name(source) {
+    if source.sees_name() {
         return Ok(Addition::Name(name(alloc, source)?));
     }
     Ok(Addition::Number(int_value(alloc, source)?))
@@ -96,7 +96,7 @@ pub fn extensions<S: TokenSource>(
     ensures says { IfErr result (Says (S.items source.old) (S.items source.new)) }
 {
     let mut extensions = Vec::new(alloc);
-    'more: while sees_name(source) {
+    'more: while source.sees_name() {
         extensions.push(extension(alloc, source)?)?;
     }
     Ok(extensions)
