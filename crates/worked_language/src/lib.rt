@@ -6,4 +6,4 @@ mod read;
 mod tree;
 
 pub use document::parse;
-pub use tree::{Addition, Extension};
+pub use tree::Extension;

@@ -1,19 +1,18 @@
 //! Readers, one for each symbol of the grammar.
 ghost use Rattle.std.specs.Prelude.{◌≡◌, IfErr, map};
-ghost use Rattle.graphql_grammar.specs.Trees.{Either, Many, Sym};
+ghost use Rattle.graphql_grammar.specs.Tokens.{same_spelling};
+ghost use Rattle.graphql_grammar.specs.Trees.{Many, Sym};
 ghost use Rattle.graphql_core.specs.Source.{kept};
-ghost use Rattle.graphql_common.specs.Gives.{Gives, Shortens};
-ghost use Rattle.graphql_common.specs.Language.{reading};
+ghost use Rattle.graphql_common.specs.Gives.{Shortens};
 ghost use Rattle.worked_language.specs.declared.read.Halt.TheVariants.{Stopped};
-ghost use Rattle.worked_language.specs.Meanings.{addition_view, extension_view, adds_nothing, addition_of, extension_of, extensions_of};
-ghost use Rattle.worked_language.specs.Language.{worked, extension_symbol, int, Reads, Says};
-ghost use Rattle.graphql_common.specs.Grammar as core;
+ghost use Rattle.worked_language.specs.Meanings.{extension_view, extension_of, extensions_of};
+ghost use Rattle.worked_language.specs.Language.{extension_symbol, Reads, Says};
 ghost use Rattle.graphql_core.specs.declared.helpers.stop.Stop.TheVariants.{Memory};
 
-use crate::tree::{Addition, Extension};
+use crate::tree::Extension;
 use graphql_common::read::leaf::int_value;
 use graphql_core::common::Names;
-use graphql_core::helpers::{Stop, TokenSource, name};
+use graphql_core::helpers::{self, Stop, TokenSource, name};
 use graphql_core::position::Pos;
 use std::alloc::{AllocFailed, Global};
 
@@ -41,28 +40,11 @@ impl<T: Drop> From<AllocFailed<T>> for Halt {
     }
 }
 
-/// `Int | Name`
-#[tactic(auto, using(graphql_common::proofs::Reading::reading))]
-fn addition<S: TokenSource>(alloc: Global, source: &mut S) -> Result<Addition<S::Names>, Stop>
-    ensures reads { Gives (reading worked) (Either int core.name) (S.items source.old) (S.items source.new)
-        (λ v x. addition_view S.Names.bytes v ≡ addition_of x) result }
-    ensures kept { kept (S.items source.new) ≡ kept (S.items source.old) }
-    ensures shorter { Shortens (S.items source.old) (S.items source.new) result }
+/// Whether two names are the same.
+fn is_same<N: Names>(name: &N::Value, other: &N::Value) -> bool
+    ensures { result ≡ same_spelling (N.bytes other.now) (N.bytes name.now) }
 {
-    if source.sees_name() {
-        return Ok(Addition::Name(name(alloc, source)?));
-    }
-    Ok(Addition::Number(int_value(alloc, source)?))
-}
-
-/// Whether a name is extended by itself.
-fn adds_nothing<N: Names>(extension: &Extension<N>) -> bool
-    ensures { result ≡ adds_nothing (extension_view N.bytes extension.now) }
-{
-    match &extension.addition {
-        Addition::Number(_) => false,
-        Addition::Name(name) => N::view(&extension.name) == N::view(name),
-    }
+    N::view(name) == N::view(other)
 }
 
 /// `Extension = Name Int | Name Name`, not of a name by itself.
@@ -76,12 +58,14 @@ fn extension<S: TokenSource>(alloc: Global, source: &mut S) -> Result<Extension<
 {
     let position = source.position();
     let name = name(alloc, source)?;
-    let addition = addition(alloc, source)?;
-    let extension = Extension { name, addition };
-    if adds_nothing(&extension) {
+    if !source.sees_name() {
+        return Ok(Extension::Number(name, int_value(alloc, source)?));
+    }
+    let other = helpers::name(alloc, source)?;
+    if is_same::<S::Names>(&name, &other) {
         return Err(Halt::Empty(position));
     }
-    Ok(extension)
+    Ok(Extension::Name(name, other))
 }
 
 /// `Document = Extension*`, without the end behind it.
