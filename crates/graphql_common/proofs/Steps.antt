@@ -93,7 +93,8 @@ module _ {V A : Type 0} (g : Grammar) (a : Expr) (f : Shape → A) (view : V →
   pushes_none start old =
       record { means = []; turns = Turns-start g a (one_of f) start.tokens; adds = adds_none view old; front = []; parts = refl; last = refl }
 
-  pub pushes_more : (start now next : Items) (old found new : List V) (v : V) → Pushes g a f view start now old found → sees (first g.rows a) (peek now.tokens) ≡ true
+  pub pushes_more : (start now next : Items) (old found new : List V) (v : V) → Pushes g a f view start now old found
+      → sees (first g.rows a) (peek now.tokens) ≡ true
       → TakesSome g a now.tokens next.tokens (λ x. view v ≡ f x) → kept next ≡ kept now → new ≡ found ++ v ∷ [] → Pushes g a f view start next old new
   pushes_more start now next old found new v p seen (x, takes, is) same push = record {
     means = p.means ++ f x ∷ [];

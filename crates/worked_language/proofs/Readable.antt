@@ -1,5 +1,6 @@
 -- The language of extensions is readable.
-use Rattle.std.proofs.Common.{◌≡◌, ◌<◌, ◌==◌, ℕ, Bool, true, false, not, cond, List, [], ◌∷◌, length, drop, length-append, inl, inr, refl, sym, ap, subst, ◌∙◌, arith}
+use Rattle.std.proofs.Common.{◌≡◌, ◌<◌, ◌==◌, ℕ, Bool, true, false, not, cond, List, [], ◌∷◌, length, drop}
+use Rattle.std.proofs.Common.{length-append, inl, inr, refl, sym, ap, subst, ◌∙◌, arith}
 use Rattle.std.proofs.lemmas.Bool.{cases_Bool}
 use Rattle.std.proofs.lemmas.Bool.Decides.{nat_tests}
 use Rattle.std.proofs.lemmas.List.{drop_at}
@@ -20,7 +21,8 @@ use Rattle.graphql_common.specs.Leaves.{unquoted}
 use Rattle.graphql_common.specs.Language.{reading}
 use Rattle.graphql_common.proofs.Readable.{IsReadable, shared_rows}
 use Rattle.worked_language.specs.Meanings.{adds_nothing, extension_of}
-use Rattle.worked_language.specs.Language.{worked, extensions, rules, second_rules, document_rule, extension_rule, extension_symbol, int, passes, tables, changes, IsEmptyBefore}
+use Rattle.worked_language.specs.Language.{worked, extensions, rules, second_rules, document_rule, extension_rule}
+use Rattle.worked_language.specs.Language.{extension_symbol, int, passes, tables, changes, IsEmptyBefore}
 
 ll1 : is_ll1 worked.second_rows ≡ true
 unfolding tables core_tables
@@ -55,7 +57,8 @@ passes_below : (k : ℕ) (x : Shape) → k < shared_symbols → passes k x ≡ t
 passes_below k x h = let other : (k == extension_symbol) ≡ false = grind (arith, nat_tests) in rw other refl
 
 goes_on : Extends shared_symbols core (reading worked)
-goes_on = with_more core _ core.good (reading worked).check core.samples refl (λ k h. read_alike (row_at core.rows k).rule) (λ k x h. passes_below k ((change_at changes k).to_written (written changes x)) h)
+goes_on = with_more core _ core.good (reading worked).check core.samples refl
+    (λ k h. read_alike (row_at core.rows k).rule) (λ k x h. passes_below k ((change_at changes k).to_written (written changes x)) h)
 
 -- an extension has a name
 not_empty : (x : Shape) → Fits extensions extension_rule x → leaves x ≡ [] → ⊥

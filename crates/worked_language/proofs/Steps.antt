@@ -66,4 +66,5 @@ begins ts = refl
 
 pub all_mean : {ts us : List Token} {x : Shape} → Takes (reading worked) (Many (Sym extension_symbol)) ts x us
     → extensions_of (written changes x) ≡ values (one_of read_extension) x
-all_mean h = many_means (reading worked) _ read_extension (λ x. extensions_of (written changes x)) (λ l. l) refl (λ x y vs e. ap (λ l. read_extension x ∷ l) e) h
+all_mean h = many_means (reading worked) _ read_extension (λ x. extensions_of (written changes x)) (λ l. l) refl
+    (λ x y vs e. ap (λ l. read_extension x ∷ l) e) h

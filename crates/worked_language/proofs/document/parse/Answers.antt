@@ -18,7 +18,8 @@ returns-in_err-read_document-clause-complete g c d bound h =
 pub returns-in_err-read_document-clause-refused : goal.returns-in_err-read_document-clause-refused
 returns-in_err-read_document-clause-refused g c =
     let e = c.in_err-read_document.field-0.0 in
-    exit _ (refusal_of e) _ c.from_residual.ensures.1 (refusal worked c.args.source.now _ e (omega arith) c.new-cursor.ensures c.in_err-read_document.ensures.refused)
+    exit _ (refusal_of e) _ c.from_residual.ensures.1
+    (refusal worked c.args.source.now _ e (omega arith) c.new-cursor.ensures c.in_err-read_document.ensures.refused)
 
 pub returns-clause-derived : goal.returns-clause-derived
 returns-clause-derived g c = text_document worked c.args.source.now _ _ c.new-cursor.ensures c.in_ok-read_document.ensures.derived

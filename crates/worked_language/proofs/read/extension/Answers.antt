@@ -15,7 +15,8 @@ returns-in_err-name-clause-reads g c =
     let old = g.S.TokenSource.items c.args.source.now in
     let new = g.S.TokenSource.items c.name.new.source in
     gives_error_by halt_reason (reading worked) _ old new _ _ (Stopped c.in_err-name.field-0.0)
-    (Stops-node (reading worked) extension_symbol _ _ _ (Stops-before (reading worked) _ _ _ _ _ (stops_one (reading worked) _ old new _ c.in_err-name.ensures)))
+    (Stops-node (reading worked) extension_symbol _ _ _
+    (Stops-before (reading worked) _ _ _ _ _ (stops_one (reading worked) _ old new _ c.in_err-name.ensures)))
     c.from_residual.ensures.1
 
 pub returns-in_err-int_value-clause-reads : goal.returns-in_err-int_value-clause-reads
@@ -24,7 +25,8 @@ returns-in_err-int_value-clause-reads g c =
     let named = takes_one (reading worked) _ _ _ _ refl c.in_ok-name.ensures.1 in
     let side = int_side (items c.name.new.source).tokens (sym c.sees_name.ensures ∙ c.if-not-sees_name.true) in
     gives_error_by halt_reason (reading worked) _ (items c.args.source.now) (items c.int_value.new.source) _ _ (Stopped c.in_err-int_value.field-0.0)
-    (Stops-node (reading worked) extension_symbol _ _ _ (Stops-after (reading worked) _ _ _ _ _ _ _ named (side.stops _ _ (stops_int _ _ _ c.in_err-int_value.ensures.reads))))
+    (Stops-node (reading worked) extension_symbol _ _ _
+    (Stops-after (reading worked) _ _ _ _ _ _ _ named (side.stops _ _ (stops_int _ _ _ c.in_err-int_value.ensures.reads))))
     c.from_residual-in_err-int_value.ensures.1
 
 pub returns-then-not-sees_name-clause-reads : goal.returns-then-not-sees_name-clause-reads
@@ -32,7 +34,8 @@ returns-then-not-sees_name-clause-reads g c =
     let (n, named, spelled) = c.in_ok-name.ensures in
     let (i, taken, is) = some_int _ _ _ c.in_ok-int_value.ensures.reads in
     let side = int_side _ (sym c.sees_name.ensures ∙ c.if-not-sees_name.true) in
-    (Node extension_symbol (Both (Leaf n) (First i)), takes_node (takes_both (takes_one (reading worked) _ _ _ n refl named) (side.takes _ i taken)) refl, ap₂ by_number (sym spelled) is)
+    let both = takes_both (takes_one (reading worked) _ _ _ n refl named) (side.takes _ i taken) in
+    (Node extension_symbol (Both (Leaf n) (First i)), takes_node both refl, ap₂ by_number (sym spelled) is)
 
 pub returns-in_err-other-clause-reads : goal.returns-in_err-other-clause-reads
 returns-in_err-other-clause-reads g c =
@@ -41,7 +44,8 @@ returns-in_err-other-clause-reads g c =
     let side = name_side (items c.name.new.source).tokens (sym c.sees_name.ensures ∙ c.if-not-sees_name.false) in
     let stops = stops_one (reading worked) _ (items c.name.new.source) (items c.name-2.new.source) _ c.in_err-other.ensures in
     gives_error_by halt_reason (reading worked) _ (items c.args.source.now) (items c.name-2.new.source) _ _ (Stopped c.in_err-other.field-0.0)
-    (Stops-node (reading worked) extension_symbol _ _ _ (Stops-after (reading worked) _ _ _ _ _ _ _ named (side.stops _ _ stops))) c.from_residual-in_err-other.ensures.1
+    (Stops-node (reading worked) extension_symbol _ _ _
+    (Stops-after (reading worked) _ _ _ _ _ _ _ named (side.stops _ _ stops))) c.from_residual-in_err-other.ensures.1
 
 pub returns-then-is_same-clause-reads : goal.returns-then-is_same-clause-reads
 returns-then-is_same-clause-reads g c =

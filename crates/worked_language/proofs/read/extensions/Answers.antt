@@ -26,7 +26,8 @@ returns-in_err-extension-clause-reads g c =
     let items = g.S.TokenSource.items in
     let seen = begins _ ∙ sym c.sees_name.ensures ∙ c.more-test.true in
     gives_error_by halt_reason (reading worked) _ (items c.args.source.now) (items c.extension.new.source) _ _ _
-    (Stops-turn (reading worked) _ (one_of read_extension) _ _ _ _ _ c.more.invariant.pushes.turns seen c.in_err-extension.ensures.reads) c.from_residual.ensures.1
+    (Stops-turn (reading worked) _ (one_of read_extension) _ _ _ _ _ c.more.invariant.pushes.turns seen c.in_err-extension.ensures.reads)
+    c.from_residual.ensures.1
 
 pub returns-in_err-extension-clause-says : goal.returns-in_err-extension-clause-says
 returns-in_err-extension-clause-says g c =
