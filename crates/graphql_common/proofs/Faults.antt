@@ -152,7 +152,8 @@ module _ {D : Type 0} (l : Language D) (r : IsReadable l) where
           let same : v.token ≡ t = head_is t v.token ts v.rest (sym is ∙ v.is) in
           let begins = subst (λ (u : Token). Begins (lax l.grammar) (Sym l.document) (take place i.tokens ++ u ∷ [])) same v.begins in
           let found : IsFaultBehind l (take place i.tokens) (t ∷ ts) i.last (record { cause = f.cause; place = t.place }) = no_value lacks begins in
-          let here = subst (λ (us : List Token). IsFaultBehind l (take place i.tokens) us i.last (record { cause = f.cause; place = t.place })) (sym is) found in
+          let here = subst (λ (us : List Token). IsFaultBehind l (take place i.tokens) us i.last (record { cause = f.cause; place = t.place }))
+          (sym is) found in
           subst (IsFaultBehind l (take place i.tokens) (drop place i.tokens) i.last) (λ k. record { cause = f.cause; place = sym at k }) here
       behind_first (Refused k) w x said = absurd (none_refused (text_of i) k place x)
 

@@ -26,7 +26,8 @@ use Rattle.graphql_common.proofs.Sides.{IsSide, through, side_node, side_first, 
 -- ---- sides
 
 -- what refuses a side refuses the whole
-pub side_refused : {A : Type 0} {g : Grammar} {a c : Expr} {f : Shape → Shape} (old new : Items) (P : A → Shape → Type 0) (e : Stop) (r : Result A Stop) → IsSide g a c f old.tokens
+pub side_refused : {A : Type 0} {g : Grammar} {a c : Expr} {f : Shape → Shape} (old new : Items) (P : A → Shape → Type 0) (e : Stop) (r : Result A Stop)
+    → IsSide g a c f old.tokens
     → Stops g c old.tokens new.tokens (reason_of e) → IsErrAnd r (λ d. d ≡ e) → Gives g a old new P r
 side_refused old new P e (Ok v) side h s = absurd s
 side_refused old new P e (Err d) side h s = rw s (side.stops new.tokens (reason_of e) h)

@@ -1,5 +1,6 @@
 -- The steps of readers, for every grammar: single tokens, choices, and loops.
-use Rattle.std.proofs.Common.{◌≡◌, true, false, List, [], ◌∷◌, ◌++◌, map, Result, Ok, Err, IsErrAnd, Option, Some, None, refl, sym, ap, subst, ◌∙◌, append_assoc, append-nil, inl, inr}
+use Rattle.std.proofs.Common.{◌≡◌, true, false, List, [], ◌∷◌, ◌++◌, map, Result, Ok, Err, IsErrAnd, Option, Some, None, refl, sym, ap, subst, ◌∙◌}
+use Rattle.std.proofs.Common.{append_assoc, append-nil, inl, inr}
 use Rattle.std.proofs.lemmas.Bool.{and_from, cases_Bool}
 use Rattle.graphql_grammar.specs.Tokens.{Token, Class, matches}
 use Rattle.graphql_grammar.specs.Trees.{Expr, Empty, One, Then, Either, Many, Shape, Nothing, Leaf, Both, First, Second, More, Row, Grammar, optional, some_of}
@@ -134,7 +135,8 @@ abbrev pub one_of : {A : Type 0} → (Shape → A) → Shape → List A
 one_of f x = f x ∷ []
 
 -- what a repetition means, by what its turns mean
-pub many_means : {A B : Type 0} (g : Grammar) (a : Expr) (f : Shape → A) (m : Shape → B) (of : List A → B) → m trees.Stop ≡ of [] → ((x y : Shape) (vs : List A) → m y ≡ of vs → m (More x y) ≡ of (f x ∷ vs))
+pub many_means : {A B : Type 0} (g : Grammar) (a : Expr) (f : Shape → A) (m : Shape → B) (of : List A → B) → m trees.Stop ≡ of []
+    → ((x y : Shape) (vs : List A) → m y ≡ of vs → m (More x y) ≡ of (f x ∷ vs))
     → {ts : List Token} {x : Shape} {us : List Token} → Takes g (Many a) ts x us → m x ≡ of (values (one_of f) x)
 many_means g a f m of stop more (takes_stop h) = stop
 many_means g a f m of stop more (takes_more {x = x} {y = y} h p q) = more x y (values (one_of f) y) (many_means g a f m of stop more q)

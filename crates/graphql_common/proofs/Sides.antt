@@ -19,7 +19,8 @@ pub record IsSide (g : Grammar) (e f : Expr) (inside : Shape → Shape) (ts : Li
   pub takes : (us : List Token) (x : Shape) → Takes g f ts x us → Takes g e ts (inside x) us
   pub stops : (us : List Token) (o : Option Reason) → Stops g f ts us o → Stops g e ts us o
 
-pub gives_side : {A : Type 0} (g : Grammar) (e f : Expr) (inside : Shape → Shape) (old new : Items) (P Q : A → Shape → Type 0) (r : Result A Stop) → IsSide g e f inside old.tokens
+pub gives_side : {A : Type 0} (g : Grammar) (e f : Expr) (inside : Shape → Shape) (old new : Items) (P Q : A → Shape → Type 0) (r : Result A Stop)
+    → IsSide g e f inside old.tokens
     → ((v : A) (x : Shape) → P v x → Q v (inside x)) → Gives g f old new P r → Gives g e old new Q r
 gives_side g e f inside old new P Q (Ok v) side means (x, h, p) = (inside x, side.takes new.tokens x h, means v x p)
 gives_side g e f inside old new P Q (Err d) side means h = side.stops new.tokens (reason_of d) h

@@ -141,7 +141,8 @@ module _ {D : Type 0} (l : Language D) (p : IgnoresPlaces l) where
   source_document source text (items, has, last, is) d (others, h, doc) =
       let (mine, k, alike, end) = minified_tokens source text (items, has, last, is) items has in
       let same_items = items_unique text others mine h k in
-      let (e, doc', same) = same_document (split mine) (split items) (sym alike) last d (subst (λ (is : List Item). IsDocument l (split is) d) same_items doc) in
+      let (e, doc', same) = same_document (split mine) (split items) (sym alike) last d
+      (subst (λ (is : List Item). IsDocument l (split is) d) same_items doc) in
       (e, (items, has, doc'), same)
 
   -- a minified text is parsed as its source is, but for positions

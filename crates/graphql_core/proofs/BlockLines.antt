@@ -1,5 +1,6 @@
 -- Lines of block strings: indents, blank ends, escapes and what is written of them.
-use Rattle.std.proofs.Common.{◌≡◌, ◌≢◌, ◌&&◌, ℕ, zero, suc, ◌+◌, ◌-◌, ◌<◌, ◌≤◌, ◌⊎◌, min, Bool, true, false, not, ◌==◌, if◌then◌else◌, List, [], ◌∷◌, ◌++◌, length, map, get_or, take, drop, Result, Ok, Err, refl, sym, ap, ◌∙◌, inl, inr, arith, append_assoc, zero-add}
+use Rattle.std.proofs.Common.{◌≡◌, ◌≢◌, ◌&&◌, ℕ, zero, suc, ◌+◌, ◌-◌, ◌<◌, ◌≤◌, ◌⊎◌, min, Bool, true, false, not, ◌==◌, if◌then◌else◌, List, [], ◌∷◌, ◌++◌}
+use Rattle.std.proofs.Common.{length, map, get_or, take, drop, Result, Ok, Err, refl, sym, ap, ◌∙◌, inl, inr, arith, append_assoc, zero-add}
 use Rattle.std.specs.List.{filter, prefix_len, suffix_len, reduce, fold, join_by, flat_map, enumerate_from}
 use Rattle.std.specs.Option.{unwrap_or}
 use Rattle.std.specs.Result.{is_ok, OnOk}
@@ -7,7 +8,8 @@ use Rattle.std.specs.Str.{IsUtf8, IsCharBoundary}
 use Rattle.std.proofs.Math.Nat.{min-le_left, min-le_right, min-zero}
 use Rattle.std.proofs.lemmas.Bool.{and_parts, cases_Bool, eqb-true, false_from_ne_true, false≢true, ne_eqb}
 use Rattle.std.proofs.lemmas.Bool.Decides.{nat_tests}
-use Rattle.std.proofs.lemmas.List.{drop_min, take_all, drop_all, take-map, drop-map, append-nil, flat_map_more, take_more, get_or-take, get_or-drop, length-take, length-take-le, length-drop}
+use Rattle.std.proofs.lemmas.List.{drop_min, take_all, drop_all, take-map, drop-map, append-nil, flat_map_more, take_more, get_or-take, get_or-drop}
+use Rattle.std.proofs.lemmas.List.{length-take, length-take-le, length-drop}
 use Rattle.std.proofs.lemmas.List.Folds.{flat_map-map}
 use Rattle.std.proofs.lemmas.List.Sums.{prefix_len-le-length, prefix_len_passes, suffix_len-take_no, suffix_len-take_yes}
 use Rattle.std.proofs.lemmas.List.FromFn.{length-enumerate_from, get_or-enumerate_from}

@@ -6,7 +6,8 @@ use Rattle.graphql_grammar.specs.Tokens.{Token, AnyOf, same_spelling, matches}
 use Rattle.graphql_grammar.specs.Trees.{peek}
 use Rattle.graphql_grammar.specs.Reading.{sees}
 use Rattle.graphql_core.specs.declared.helpers.mark.Mark.{Mark}
-use Rattle.graphql_core.specs.declared.helpers.mark.Mark.TheVariants.{Bang, Dollar, Ampersand, OpenParen, CloseParen, Dots, Colon, Equals, At, OpenBracket, CloseBracket, OpenBrace, Pipe, CloseBrace}
+use Rattle.graphql_core.specs.declared.helpers.mark.Mark.TheVariants.{Bang, Dollar, Ampersand, OpenParen, CloseParen, Dots, Colon, Equals, At, OpenBracket}
+use Rattle.graphql_core.specs.declared.helpers.mark.Mark.TheVariants.{CloseBracket, OpenBrace, Pipe, CloseBrace}
 use Rattle.graphql_core.specs.declared.tokenizer.token.Kind.{Kind}
 use Rattle.graphql_core.specs.declared.tokenizer.token.Kind.TheVariants.{Punctuator, Name}
 use Rattle.graphql_core.specs.declared.tokenizer.piece.Nesting.{Nesting}
@@ -74,7 +75,8 @@ mark_seen OpenBrace st = one_seen 123 refl st
 mark_seen Pipe st = one_seen 124 refl st
 mark_seen CloseBrace st = one_seen 125 refl st
 
-name_seen : {k : Kind} {s : Nesting} {bytes rest : List ℕ} → Stands bytes (Word k s) rest → is_name_start (first_byte bytes) ≡ (kind_number Name == kind_number k) && true
+name_seen : {k : Kind} {s : Nesting} {bytes rest : List ℕ} → Stands bytes (Word k s) rest
+    → is_name_start (first_byte bytes) ≡ (kind_number Name == kind_number k) && true
 name_seen (name h all stop) = h
 name_seen (mark {b = f} h) = mark_no_name f h
 name_seen spread = refl

@@ -40,7 +40,8 @@ or_first true e = refl
 or_first false e = e
 
 -- an item that is seen to be of a class is a token of it
-pub first_seen : (c : Class) (i : Items) → sees_class c i ≡ true → (t : Token) × (i.tokens ≡ t ∷ drop 1 i.tokens) × (matches c t ≡ true) × (t.place ≡ place_next i)
+pub first_seen : (c : Class) (i : Items) → sees_class c i ≡ true
+    → (t : Token) × (i.tokens ≡ t ∷ drop 1 i.tokens) × (matches c t ≡ true) × (t.place ≡ place_next i)
 first_seen c i h = of_tokens i.tokens i.last h
   where
     of_tokens : (ts : List Token) (l : Last) → sees (c ∷ []) (peek ts) ≡ true

@@ -3,7 +3,8 @@ use Rattle.std.specs.Prelude.{ℕ, List, [], ◌∷◌, codes}
 use Rattle.graphql_grammar.specs.Tokens.{Token, Class, Spelled}
 use Rattle.graphql_core.specs.declared.tokenizer.token.Kind.TheVariants.{Punctuator}
 use Rattle.graphql_core.specs.declared.helpers.mark.Mark.{Mark}
-use Rattle.graphql_core.specs.declared.helpers.mark.Mark.TheVariants.{Bang, Dollar, Ampersand, OpenParen, CloseParen, Dots, Colon, Equals, At, OpenBracket, CloseBracket, OpenBrace, Pipe, CloseBrace}
+use Rattle.graphql_core.specs.declared.helpers.mark.Mark.TheVariants.{Bang, Dollar, Ampersand, OpenParen, CloseParen, Dots, Colon, Equals, At, OpenBracket}
+use Rattle.graphql_core.specs.declared.helpers.mark.Mark.TheVariants.{CloseBracket, OpenBrace, Pipe, CloseBrace}
 use Rattle.graphql_core.specs.Causes.{kind_number}
 
 abbrev pub spelling_of : Mark → List ℕ

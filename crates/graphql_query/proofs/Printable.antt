@@ -16,7 +16,9 @@ use Rattle.graphql_common.proofs.Printable.{Within, all_within, optional_argumen
 use Rattle.graphql_query.specs.Tree.{SelectionTree, SetTree, set, none, more, OperationKind, query_kind, mutation_kind, subscription_kind, DefinitionTree, operation, DocumentTree}
 use Rattle.graphql_query.specs.Grammar.{query, document_symbol, definition_symbol, operation_symbol, common_symbol, variables_symbol, variable_symbol}
 use Rattle.graphql_query.specs.Grammar.{set_symbol, selection_symbol, field_symbol, alias_symbol, spread_symbol, inline_symbol, condition_symbol}
-use Rattle.graphql_query.specs.Meanings.{alias_of, condition_of, optional_condition_of, spread_of, field_of, selected_of, inline_of, selection_of, set_of, selections_of, variable_of, each_variable_of, variables_of, optional_variables_of, optional_name_of, keyword_of, operation_of, definition_of, definitions_of, document_of}
+use Rattle.graphql_query.specs.Meanings.{alias_of, condition_of, optional_condition_of, spread_of, field_of, selected_of, inline_of, selection_of, set_of}
+use Rattle.graphql_query.specs.Meanings.{selections_of, variable_of, each_variable_of, variables_of, optional_variables_of, optional_name_of, keyword_of}
+use Rattle.graphql_query.specs.Meanings.{operation_of, definition_of, definitions_of, document_of}
 use Rattle.graphql_query.specs.Document.{IsDocumentOf}
 use Rattle.graphql_query.proofs.Readable.{tested_alike, written_goes_on}
 use Rattle.graphql_query.specs.Printable.{IsPrintable, IsPrintableSelection, IsPrintableSet, ArePrintableSelections, IsPrintableVariable, IsPrintableDefinition, Selects, SelectsInside, SelectInside, AllSelectInside, DefinitionSelects, selection_brackets, selected_brackets, set_brackets, selections_brackets, variable_brackets, variables_brackets, definition_brackets}

@@ -14,7 +14,8 @@ use Rattle.graphql_common.specs.Grammar.{core, tables as core_tables, name, shar
 use Rattle.graphql_common.specs.Leaves.{unquoted}
 use Rattle.graphql_common.proofs.Readable.{IsReadable}
 use Rattle.graphql_query.specs.Document.{queries}
-use Rattle.graphql_query.specs.Grammar.{query, second_rows, changes, reading, tables, samples, spread_symbol, inline_symbol, alias_symbol, spread_rest, inline_rest, field_rest}
+use Rattle.graphql_query.specs.Grammar.{query, second_rows, changes, reading, tables, samples, spread_symbol, inline_symbol, alias_symbol, spread_rest}
+use Rattle.graphql_query.specs.Grammar.{inline_rest, field_rest}
 
 ll1 : is_ll1 second_rows ≡ true
 unfolding tables core_tables

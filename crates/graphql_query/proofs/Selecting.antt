@@ -26,7 +26,8 @@ use Rattle.graphql_query.specs.Tree.{Arguments, SelectionTree, SetTree, field, i
 
 -- ---- single tokens
 
-pub gives_one : {A : Type 0} (g : Grammar) (c : Class) (old new : Items) (P : A → Token → Type 0) (Q : A → Shape → Type 0) (r : Result A Stop) → ((t : Token) → g.good c t ≡ true)
+pub gives_one : {A : Type 0} (g : Grammar) (c : Class) (old new : Items) (P : A → Token → Type 0) (Q : A → Shape → Type 0) (r : Result A Stop)
+    → ((t : Token) → g.good c t ≡ true)
     → ((v : A) (t : Token) → TakesToken c old new t → P v t → Q v (Leaf t)) → TakesOne c old new P r → Gives g (One c) old new Q r
 gives_one g c old new P Q (Ok v) good means (t, h, p) = (Leaf t, takes_one g c old new t (good t) h, means v t h p)
 gives_one g c old new P Q (Err d) good means h = stops_one g c old new d h
@@ -41,10 +42,16 @@ abbrev pub on : Class
 on = keyword (codes "on")
 
 -- a name, where it is seen that it is one of a spread
-pub narrowed : {A : Type 0} (old new : Items) (P : A → Token → Type 0) (r : Result A Stop) → sees_class spread_class old ≡ true → TakesOne (any Name) old new P r → TakesOne spread_class old new P r
+pub narrowed : {A : Type 0} (old new : Items) (P : A → Token → Type 0) (r : Result A Stop) → sees_class spread_class old ≡ true
+    → TakesOne (any Name) old new P r → TakesOne spread_class old new P r
 narrowed old new P (Ok v) seen (t, h, p) = (
   t,
-  record { of_class = sym (or-false (matches spread_class t)) ∙ ap (λ ts. sees (spread_class ∷ []) (peek ts)) (sym h.tokens) ∙ seen; tokens = h.tokens; kept = h.kept },
+  record {
+    of_class = sym (or-false (matches spread_class t)) ∙ ap (λ ts. sees (spread_class ∷ []) (peek ts)) (sym h.tokens)
+        ∙ seen;
+    tokens = h.tokens;
+    kept = h.kept;
+  },
   p,
 )
 narrowed old new P (Err Memory) seen h = h

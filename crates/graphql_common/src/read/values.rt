@@ -162,7 +162,8 @@ fn member<S: TokenSource>(
     fields: &mut BTreeMap<<S::Names as Names>::Value, Value<S::Names>>,
 ) -> Result<(), Stop>
     ensures reads { Gives core (Sym (pair_symbol_of sort)) (S.items source.old) (S.items source.new)
-        (λ v x. members_view S.Names.bytes fields.new.entries ≡ put (pair_of sort x).0 (pair_of sort x).1 (members_view S.Names.bytes fields.old.entries)) result }
+        (λ v x. members_view S.Names.bytes fields.new.entries ≡ put (pair_of sort x).0 (pair_of sort x).1
+        (members_view S.Names.bytes fields.old.entries)) result }
     ensures kept { kept (S.items source.new) ≡ kept (S.items source.old) }
     ensures shorter { Shortens (S.items source.old) (S.items source.new) result }
 {

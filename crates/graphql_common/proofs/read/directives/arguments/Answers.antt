@@ -14,7 +14,8 @@ pub returns-in_err-take_mark-clause-reads : goal.returns-in_err-take_mark-clause
 returns-in_err-take_mark-clause-reads g c =
     let old = g.S.TokenSource.items c.args.source.now in
     let new = g.S.TokenSource.items c.take_mark.new.source in
-    gives_error core _ old new _ _ _ (Stops-node core arguments_symbol _ _ _ (Stops-before core _ _ _ _ _ (stops_one core _ old new _ c.in_err-take_mark.ensures))) c.from_residual.ensures.1
+    gives_error core _ old new _ _ _
+    (Stops-node core arguments_symbol _ _ _ (Stops-before core _ _ _ _ _ (stops_one core _ old new _ c.in_err-take_mark.ensures))) c.from_residual.ensures.1
 
 pub returns-in_err-argument-clause-reads : goal.returns-in_err-argument-clause-reads
 returns-in_err-argument-clause-reads g c =
@@ -24,7 +25,8 @@ returns-in_err-argument-clause-reads g c =
     c.from_residual-in_err-argument.ensures.1
 
 pub more-init : goal.more-init
-more-init g c = record { turns = ([], Turns-start core _ (one_of argument_of) _, adds_none (argument_view g.S.Names.Names.bytes) _); kept = refl; within = omega arith }
+more-init g c = record
+    { turns = ([], Turns-start core _ (one_of argument_of) _, adds_none (argument_view g.S.Names.Names.bytes) _); kept = refl; within = omega arith }
 
 pub more-preserved : goal.more-preserved
 more-preserved g c =
@@ -59,7 +61,8 @@ returns-in_err-take_mark-2-clause-reads g c =
     let (items, turns, views) = c.more.invariant.turns in
     gives_error core _ (g.S.TokenSource.items c.args.source.now) new _ _ _
     (Stops-node core arguments_symbol _ _ _ (Stops-after core _ _ _ _ _ _ _ before
-    (stops_some core _ _ (one_of argument_of) _ _ _ _ first items _ takes turns (begins_pair Value _ ∙ sym c.sees_name.ensures ∙ c.more-test.false) (stops_one core _ now new _ c.in_err-take_mark-2.ensures))))
+    (stops_some core _ _ (one_of argument_of) _ _ _ _ first items _ takes turns (begins_pair Value _ ∙ sym c.sees_name.ensures ∙ c.more-test.false)
+    (stops_one core _ now new _ c.in_err-take_mark-2.ensures))))
     c.from_residual-in_err-take_mark-2.ensures.1
 
 pub returns-clause-reads : goal.returns-clause-reads

@@ -10,7 +10,8 @@ pub returns-in_err-take_mark-clause-reads : goal.returns-in_err-take_mark-clause
 returns-in_err-take_mark-clause-reads g c =
     let old = g.S.TokenSource.items c.args.source.now in
     let new = g.S.TokenSource.items c.take_mark.new.source in
-    gives_error core _ old new _ _ _ (Stops-node core default_symbol _ _ _ (Stops-before core _ _ _ _ _ (stops_one core _ old new _ c.in_err-take_mark.ensures))) c.from_residual.ensures.1
+    gives_error core _ old new _ _ _
+    (Stops-node core default_symbol _ _ _ (Stops-before core _ _ _ _ _ (stops_one core _ old new _ c.in_err-take_mark.ensures))) c.from_residual.ensures.1
 
 pub returns-clause-reads : goal.returns-clause-reads
 returns-clause-reads g c =

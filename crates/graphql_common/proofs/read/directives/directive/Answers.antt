@@ -18,7 +18,9 @@ returns-in_err-name-clause-reads g c =
     let new = g.S.TokenSource.items c.name.new.source in
     let before = takes_one core _ _ _ _ refl c.in_ok-position.ensures.1 in
     gives_error core _ (g.S.TokenSource.items c.args.source.now) new _ _ _
-    (Stops-node core directive_symbol _ _ _ (Stops-after core _ _ _ _ _ _ _ before (Stops-before core _ _ _ _ _ (stops_one core _ (g.S.TokenSource.items c.take_mark.new.source) new _ c.in_err-name.ensures))))
+    (Stops-node core directive_symbol _ _ _
+    (Stops-after core _ _ _ _ _ _ _ before
+    (Stops-before core _ _ _ _ _ (stops_one core _ (g.S.TokenSource.items c.take_mark.new.source) new _ c.in_err-name.ensures))))
     c.from_residual-in_err-name.ensures.1
 
 pub returns-in_err-optional_arguments-clause-reads : goal.returns-in_err-optional_arguments-clause-reads
@@ -26,7 +28,8 @@ returns-in_err-optional_arguments-clause-reads g c =
     let before = takes_one core _ _ _ _ refl c.in_ok-position.ensures.1 in
     let named = takes_one core _ _ _ _ refl c.in_ok-name.ensures.1 in
     gives_error core _ (g.S.TokenSource.items c.args.source.now) (g.S.TokenSource.items c.optional_arguments.new.source) _ _ _
-    (Stops-node core directive_symbol _ _ _ (Stops-after core _ _ _ _ _ _ _ before (Stops-after core _ _ _ _ _ _ _ named c.in_err-optional_arguments.ensures.reads)))
+    (Stops-node core directive_symbol _ _ _
+    (Stops-after core _ _ _ _ _ _ _ before (Stops-after core _ _ _ _ _ _ _ named c.in_err-optional_arguments.ensures.reads)))
     c.from_residual-in_err-optional_arguments.ensures.1
 
 pub returns-clause-reads : goal.returns-clause-reads

@@ -10,7 +10,8 @@ use Rattle.graphql_common.proofs.Reading.{gives_error, one_of, adds_none, adds_m
 use Rattle.graphql_common.proofs.read.directives.directives.Goals as goal
 
 pub more-init : goal.more-init
-more-init g c = record { turns = ([], Turns-start core _ (one_of directive_of) _, adds_none (directive_view g.S.Names.Names.bytes) _); kept = refl; within = omega arith }
+more-init g c = record
+    { turns = ([], Turns-start core _ (one_of directive_of) _, adds_none (directive_view g.S.Names.Names.bytes) _); kept = refl; within = omega arith }
 
 pub more-preserved : goal.more-preserved
 more-preserved g c =
@@ -30,7 +31,9 @@ pub returns-in_err-directive-clause-reads : goal.returns-in_err-directive-clause
 returns-in_err-directive-clause-reads g c =
     let (items, turns, views) = c.more.invariant.turns in
     gives_error core _ (g.S.TokenSource.items c.args.source.now) (g.S.TokenSource.items c.directive.new.source) _ _ _
-    (Stops-node core directives_symbol _ _ _ (Stops-turn core _ (one_of directive_of) _ _ _ items _ turns (begins_directive _ ∙ sym c.sees_mark.ensures ∙ c.more-test.true) c.in_err-directive.ensures.reads))
+    (Stops-node core directives_symbol _ _ _
+    (Stops-turn core _ (one_of directive_of) _ _ _ items _ turns
+    (begins_directive _ ∙ sym c.sees_mark.ensures ∙ c.more-test.true) c.in_err-directive.ensures.reads))
     c.from_residual.ensures.1
 
 pub returns-clause-reads : goal.returns-clause-reads

@@ -16,7 +16,8 @@ returns-in_err-items-clause-reads g t c =
     let items = g.S.TokenSource.items in
     let before = takes_one core _ _ _ _ refl c.in_ok-take_mark.ensures.1 in
     gives_error core _ (items c.args.source.now) (items c.parse_type.new.source) _ _ _
-    ((list_type_side _ (sym c.sees_mark.ensures ∙ c.if-sees_mark.true)).stops _ _ (Stops-after core _ _ _ _ _ _ _ before (Stops-before core _ _ _ _ _ c.in_err-items.ensures.reads)))
+    ((list_type_side _ (sym c.sees_mark.ensures ∙ c.if-sees_mark.true)).stops _ _
+    (Stops-after core _ _ _ _ _ _ _ before (Stops-before core _ _ _ _ _ c.in_err-items.ensures.reads)))
     c.from_residual-in_err-items.ensures.1
 
 pub returns-in_err-take_mark-2-clause-reads : goal.returns-in_err-take_mark-2-clause-reads
@@ -24,16 +25,19 @@ returns-in_err-take_mark-2-clause-reads g t c =
     let items = g.S.TokenSource.items in
     let before = takes_one core _ _ _ _ refl c.in_ok-take_mark.ensures.1 in
     let (x, takes, view) = c.in_ok-items.ensures.reads in
-    let stops = Stops-before core _ _ _ _ _ (stops_one core _ (items c.parse_type.new.source) (items c.take_mark-then-sees_mark.new.source) _ c.in_err-take_mark-2.ensures) in
+    let stops = Stops-before core _ _ _ _ _
+    (stops_one core _ (items c.parse_type.new.source) (items c.take_mark-then-sees_mark.new.source) _ c.in_err-take_mark-2.ensures) in
     gives_error core _ (items c.args.source.now) (items c.take_mark-then-sees_mark.new.source) _ _ _
-    ((list_type_side _ (sym c.sees_mark.ensures ∙ c.if-sees_mark.true)).stops _ _ (Stops-after core _ _ _ _ _ _ _ before (Stops-after core _ _ _ _ _ _ _ takes stops)))
+    ((list_type_side _ (sym c.sees_mark.ensures ∙ c.if-sees_mark.true)).stops _ _
+    (Stops-after core _ _ _ _ _ _ _ before (Stops-after core _ _ _ _ _ _ _ takes stops)))
     c.from_residual-in_err-take_mark-2.ensures.1
 
 pub returns-in_err-name-clause-reads : goal.returns-in_err-name-clause-reads
 returns-in_err-name-clause-reads g t c =
     let items = g.S.TokenSource.items in
     gives_error core _ (items c.args.source.now) (items c.name.new.source) _ _ _
-    ((named_side _ (sym c.sees_mark.ensures ∙ c.if-sees_mark.false)).stops _ _ (Stops-before core _ _ _ _ _ (stops_one core _ (items c.args.source.now) (items c.name.new.source) _ c.in_err-name.ensures)))
+    ((named_side _ (sym c.sees_mark.ensures ∙ c.if-sees_mark.false)).stops _ _
+    (Stops-before core _ _ _ _ _ (stops_one core _ (items c.args.source.now) (items c.name.new.source) _ c.in_err-name.ensures)))
     c.from_residual-in_err-name.ensures.1
 
 pub returns-then-sees_mark-clause-reads : goal.returns-then-sees_mark-clause-reads

@@ -37,7 +37,8 @@ value_of_sort-returns-then-sees_mark-2-clause-reads g t c =
 pub value_of_sort-returns-clause-reads : goal.value_of_sort-returns-clause-reads
 value_of_sort-returns-clause-reads g t c =
     let old = g.S.TokenSource.items c.args.source.now in
-    let side = plain_side c.args.sort old (sym c.sees_variable.ensures ∙ c.if-sees_variable.false) (sym c.sees_mark.ensures ∙ c.if-sees_mark.false) (sym c.sees_mark-2.ensures ∙ c.if-sees_mark-2.false) in
+    let side = plain_side c.args.sort old (sym c.sees_variable.ensures ∙ c.if-sees_variable.false) (sym c.sees_mark.ensures ∙ c.if-sees_mark.false)
+    (sym c.sees_mark-2.ensures ∙ c.if-sees_mark-2.false) in
     gives_side core _ _ (as_plain c.args.sort) old (g.S.TokenSource.items c.plain_value.new.source) _ _ _ side (λ v x h. h ∙ sym (plain_means c.args.sort x)) c.plain_value.ensures.reads
 
 -- ---- list
@@ -72,7 +73,8 @@ list-returns-in_err-value_of_sort-clause-reads g t c =
     let (items, turns, views) = c.more.invariant.turns in
     gives_error core _ (g.S.TokenSource.items c.args.source.now) (g.S.TokenSource.items c.value_of_sort.new.source) _ _ _
     (Stops-after core _ _ _ _ _ _ _ before
-    (stops_until core _ (mark (codes "]")) (one_of (tree_of c.args.sort)) _ _ _ items _ (unseen_value c.args.sort _) turns (sym c.sees_mark.ensures ∙ c.more-test.true) c.in_err-value_of_sort.ensures.reads))
+    (stops_until core _ (mark (codes "]")) (one_of (tree_of c.args.sort)) _ _ _ items _ (unseen_value c.args.sort _) turns
+    (sym c.sees_mark.ensures ∙ c.more-test.true) c.in_err-value_of_sort.ensures.reads))
     c.from_residual-in_err-value_of_sort.ensures.1
 
 pub list-returns-clause-reads : goal.list-returns-clause-reads
@@ -86,7 +88,8 @@ list-returns-clause-reads g t c =
     let r = Turns-stop core _ (one_of f) _ _ items turns (ends_list s _ (sym c.sees_mark.ensures ∙ c.more-test.false)) in (
       Both (Leaf o) (Both r.0 (Leaf e)),
       takes_both (takes_one core _ _ _ o refl opens) (takes_both r.1 (takes_one core _ _ _ e refl ends)),
-      list_made _ _ bytes _ ∙ ap list (ap items_of (fills (value_view bytes) _ _ items c.new-items.ensures.items views ∙ sym r.2) ∙ sym (trees_means s r.1)) ∙ sym (list_means s (Leaf o) r.0 (Leaf e)),
+      list_made _ _ bytes _ ∙ ap list (ap items_of (fills (value_view bytes) _ _ items c.new-items.ensures.items views ∙ sym r.2) ∙ sym (trees_means s r.1))
+          ∙ sym (list_means s (Leaf o) r.0 (Leaf e)),
     )
 
 -- ---- object
@@ -121,7 +124,9 @@ object-returns-in_err-member-clause-reads g t c =
     let (pairs, turns, views) = c.more.invariant.turns in
     gives_error core _ (g.S.TokenSource.items c.args.source.now) (g.S.TokenSource.items c.member.new.source) _ _ _
     (Stops-after core _ _ _ _ _ _ _ before
-    (Stops-before core _ _ _ _ _ (Stops-turn core _ (one_of (pair_of c.args.sort)) _ _ _ pairs _ turns (begins_pair c.args.sort _ ∙ sym c.sees_name.ensures ∙ c.more-test.true) c.in_err-member.ensures.reads)))
+    (Stops-before core _ _ _ _ _
+    (Stops-turn core _ (one_of (pair_of c.args.sort)) _ _ _ pairs _ turns
+    (begins_pair c.args.sort _ ∙ sym c.sees_name.ensures ∙ c.more-test.true) c.in_err-member.ensures.reads)))
     c.from_residual-in_err-member.ensures.1
 
 pub object-returns-in_err-take_mark-2-clause-reads : goal.object-returns-in_err-take_mark-2-clause-reads
@@ -164,7 +169,9 @@ member-returns-in_err-take_mark-clause-reads g t c =
     let new = g.S.TokenSource.items c.take_mark.new.source in
     let named = takes_one core _ _ _ _ refl c.in_ok-name.ensures.1 in
     gives_error core _ old new _ _ _
-    ((pair_side c.args.sort old.tokens).stops _ _ (Stops-after core _ _ _ _ _ _ _ named (Stops-before core _ _ _ _ _ (stops_one core _ (g.S.TokenSource.items c.name.new.source) new _ c.in_err-take_mark.ensures))))
+    ((pair_side c.args.sort old.tokens).stops _ _
+    (Stops-after core _ _ _ _ _ _ _ named
+    (Stops-before core _ _ _ _ _ (stops_one core _ (g.S.TokenSource.items c.name.new.source) new _ c.in_err-take_mark.ensures))))
     c.from_residual-in_err-take_mark.ensures.1
 
 pub member-returns-in_err-value-clause-reads : goal.member-returns-in_err-value-clause-reads

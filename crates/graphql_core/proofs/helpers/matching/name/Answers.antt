@@ -7,5 +7,6 @@ use Rattle.graphql_core.proofs.helpers.matching.name.Goals as goal
 
 pub returns-in_ok-name-in-Some : goal.returns-in_ok-name-in-Some
 returns-in_ok-name-in-Some g c =
-    let is = seen_matches (AnyOf (kind_number Name)) (g.S.TokenSource.items c.args.source.now) _ c.in-Some.ensures.next (sym c.sees_name.ensures ∙ c.if-sees_name.true) in
+    let is = seen_matches (AnyOf (kind_number Name)) (g.S.TokenSource.items c.args.source.now) _ c.in-Some.ensures.next
+    (sym c.sees_name.ensures ∙ c.if-sees_name.true) in
     (_, takes_first _ _ _ _ c.in-Some.ensures.next c.advance.ensures is, sym c.in_ok-name-in-Some.ensures)

@@ -8,7 +8,8 @@ use Rattle.graphql_query.specs.Grammar.{reading}
 use Rattle.graphql_query.proofs.read.alias.alias.Goals as goal
 
 pub returns-then-not-sees_mark-clause-reads : goal.returns-then-not-sees_mark-clause-reads
-returns-then-not-sees_mark-clause-reads g c = (Second Nothing, takes_none reading (Then (punctuator (codes ":")) name) _ refl (sym c.sees_mark.ensures ∙ c.if-not-sees_mark.true), refl)
+returns-then-not-sees_mark-clause-reads g c =
+    (Second Nothing, takes_none reading (Then (punctuator (codes ":")) name) _ refl (sym c.sees_mark.ensures ∙ c.if-not-sees_mark.true), refl)
 
 pub returns-in_err-second-clause-reads : goal.returns-in_err-second-clause-reads
 returns-in_err-second-clause-reads g c =
@@ -25,6 +26,7 @@ returns-clause-reads g c =
     let (o, opens, at) = c.in_ok-take_mark.ensures in
     let (n, named, spelled) = c.in_ok-second.ensures in (
       First (Both (Leaf o) (Leaf n)),
-      takes_some reading (Then (punctuator (codes ":")) name) _ _ _ (sym c.sees_mark.ensures ∙ c.if-not-sees_mark.false) (takes_both (takes_one reading _ _ _ o refl opens) (takes_one reading _ _ _ n refl named)),
+      takes_some reading (Then (punctuator (codes ":")) name) _ _ _ (sym c.sees_mark.ensures ∙ c.if-not-sees_mark.false)
+          (takes_both (takes_one reading _ _ _ o refl opens) (takes_one reading _ _ _ n refl named)),
       rw (c.replace.ensures.value, c.replace.ensures.after, spelled) refl,
     )

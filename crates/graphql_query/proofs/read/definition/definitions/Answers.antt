@@ -14,7 +14,8 @@ returns-in_err-definition-clause-reads g c =
     gives_error reading _ (items c.args.source.now) (items c.definition.new.source) _ _ _ (Stops-before reading _ _ _ _ _ c.in_err-definition.ensures.reads) c.from_residual.ensures.1
 
 pub more-init : goal.more-init
-more-init g c = record { turns = ([], Turns-start reading _ (one_of read_definition) _, adds_none (definition_view g.S.Names.Names.bytes) _); kept = refl; within = omega arith }
+more-init g c = record
+    { turns = ([], Turns-start reading _ (one_of read_definition) _, adds_none (definition_view g.S.Names.Names.bytes) _); kept = refl; within = omega arith }
 
 pub more-preserved : goal.more-preserved
 more-preserved g c =
@@ -24,7 +25,8 @@ more-preserved g c =
       turns = (
         items ++ one_of read_definition x,
         Turns-more reading _ (one_of read_definition) _ _ _ items x turns (begins_definition (g.S.TokenSource.items c.more.source) ∙ sym c.sees_definition.ensures ∙ c.more-test.true) takes,
-        adds_more (definition_view g.S.Names.Names.bytes) _ _ _ items _ views (adds_one (definition_view g.S.Names.Names.bytes) _ _ _ _ c.in_ok-push-2.ensures.items view),
+        adds_more (definition_view g.S.Names.Names.bytes) _ _ _ items _ views
+            (adds_one (definition_view g.S.Names.Names.bytes) _ _ _ _ c.in_ok-push-2.ensures.items view),
       );
       kept = c.in_ok-definition-2.ensures.kept ∙ c.more.invariant.kept;
       within = omega (arith, c.more.invariant.within, c.in_ok-definition-2.ensures.shorter);

@@ -51,7 +51,8 @@ returns-in_err-span-clause-reads g c =
     let named = past begun (takes_one reading _ _ _ _ refl c.in_ok-name.ensures.1) in
     let (o, on, applies) = c.in_ok-type_condition.ensures.reads in
     let (d, directed, directs) = c.in_ok-directives.ensures.reads in
-    error_in old mid new _ _ _ (past (past named on) (takes_lifted _ refl _ _ _ directed)).stops c.in_err-span.ensures.reads c.from_residual-in_err-span.ensures.1
+    error_in old mid new _ _ _
+    (past (past named on) (takes_lifted _ refl _ _ _ directed)).stops c.in_err-span.ensures.reads c.from_residual-in_err-span.ensures.1
 
 pub returns-clause-reads : goal.returns-clause-reads
 returns-clause-reads g c =
@@ -62,7 +63,8 @@ returns-clause-reads g c =
     let (s, selected, selects) = c.in_ok-span.ensures.reads in (
       Node fragment_symbol (Both (Leaf w) (Both (Leaf n) (Both o (Both d s)))),
       takes_node (takes_both (takes_one reading _ _ _ w refl begins) (takes_both (takes_one reading _ _ _ n refl named) (takes_both on (takes_both directed selected)))) refl,
-      same_fragment at spelled applies (fills (directive_view g.S.Names.Names.bytes) _ _ _ c.new-directives.ensures.items directs) (set_filled g.S.Names.Names.bytes _ _ _ _ c.new-items.ensures.items selects),
+      same_fragment at spelled applies (fills (directive_view g.S.Names.Names.bytes) _ _ _ c.new-directives.ensures.items directs)
+          (set_filled g.S.Names.Names.bytes _ _ _ _ c.new-items.ensures.items selects),
     )
 
 pub returns-clause-kept : goal.returns-clause-kept

@@ -22,7 +22,8 @@ returns-in_err-optional_variables-clause-reads g c =
     let mid = g.S.TokenSource.items c.optional_name.new.source in
     let new = g.S.TokenSource.items c.optional_variables.new.source in
     let (n, named, called) = c.in_ok-name.ensures.reads in
-    error_in old mid new _ _ _ (before (past (starts common_symbol old.tokens) named)) c.in_err-optional_variables.ensures.reads c.from_residual-in_err-optional_variables.ensures.1
+    error_in old mid new _ _ _
+    (before (past (starts common_symbol old.tokens) named)) c.in_err-optional_variables.ensures.reads c.from_residual-in_err-optional_variables.ensures.1
 
 pub returns-in_err-directives-clause-reads : goal.returns-in_err-directives-clause-reads
 returns-in_err-directives-clause-reads g c =
@@ -41,7 +42,9 @@ returns-in_err-span-clause-reads g c =
     let (n, named, called) = c.in_ok-name.ensures.reads in
     let (v, varied, varies) = c.in_ok-optional_variables.ensures.reads in
     let (d, directed, directs) = c.in_ok-directives.ensures.reads in
-    error_in old mid new _ _ _ (past (past (past (starts common_symbol old.tokens) named) varied) (takes_lifted _ refl _ _ _ directed)).stops c.in_err-span.ensures.reads c.from_residual-in_err-span.ensures.1
+    error_in old mid new _ _ _
+    (past (past (past (starts common_symbol old.tokens) named) varied)
+    (takes_lifted _ refl _ _ _ directed)).stops c.in_err-span.ensures.reads c.from_residual-in_err-span.ensures.1
 
 pub returns-clause-reads : goal.returns-clause-reads
 returns-clause-reads g c =
@@ -51,7 +54,9 @@ returns-clause-reads g c =
     let (s, selected, selects) = c.in_ok-span.ensures.reads in (
       Node common_symbol (Both n (Both v (Both d s))),
       takes_node (takes_both named (takes_both varied (takes_both directed selected))) refl,
-      same_common called (fills (variable_view g.S.Names.Names.bytes) _ _ _ c.new-variable_definitions.ensures.items varies) (fills (directive_view g.S.Names.Names.bytes) _ _ _ c.new-directives.ensures.items directs) (set_filled g.S.Names.Names.bytes _ _ _ _ c.new-items.ensures.items selects),
+      same_common called (fills (variable_view g.S.Names.Names.bytes) _ _ _ c.new-variable_definitions.ensures.items varies)
+          (fills (directive_view g.S.Names.Names.bytes) _ _ _ c.new-directives.ensures.items directs)
+          (set_filled g.S.Names.Names.bytes _ _ _ _ c.new-items.ensures.items selects),
     )
 
 pub returns-in_err-span-clause-kept : goal.returns-in_err-span-clause-kept
@@ -62,4 +67,5 @@ pub returns-clause-kept : goal.returns-clause-kept
 returns-clause-kept g c = c.in_ok-span.ensures.kept ∙ c.in_ok-directives.ensures.kept ∙ c.in_ok-optional_variables.ensures.kept ∙ c.in_ok-name.ensures.kept
 
 pub returns-clause-shorter : goal.returns-clause-shorter
-returns-clause-shorter g c = omega (arith, c.in_ok-span.ensures.shorter, c.in_ok-directives.ensures.within, c.in_ok-optional_variables.ensures.within, c.in_ok-name.ensures.within)
+returns-clause-shorter g c =
+    omega (arith, c.in_ok-span.ensures.shorter, c.in_ok-directives.ensures.within, c.in_ok-optional_variables.ensures.within, c.in_ok-name.ensures.within)

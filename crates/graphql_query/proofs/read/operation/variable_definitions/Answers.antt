@@ -13,7 +13,8 @@ use Rattle.graphql_query.proofs.read.operation.variable_definitions.Goals as goa
 pub returns-in_err-take_mark-clause-reads : goal.returns-in_err-take_mark-clause-reads
 returns-in_err-take_mark-clause-reads g c =
     let old = g.S.TokenSource.items c.args.source.now in
-    error_one old old (g.S.TokenSource.items c.take_mark.new.source) _ _ _ (before (starts variables_symbol old.tokens)) c.in_err-take_mark.ensures c.from_residual.ensures.1
+    error_one old old (g.S.TokenSource.items c.take_mark.new.source) _ _ _
+    (before (starts variables_symbol old.tokens)) c.in_err-take_mark.ensures c.from_residual.ensures.1
 
 pub returns-in_err-variable_definition-clause-reads : goal.returns-in_err-variable_definition-clause-reads
 returns-in_err-variable_definition-clause-reads g c =
@@ -24,7 +25,8 @@ returns-in_err-variable_definition-clause-reads g c =
     error_in old mid new _ _ _ (before opened) (Stops-before reading _ _ _ _ _ c.in_err-variable_definition.ensures.reads) c.from_residual-in_err-variable_definition.ensures.1
 
 pub more-init : goal.more-init
-more-init g c = record { turns = ([], Turns-start reading _ (one_of read_variable) _, adds_none (variable_view g.S.Names.Names.bytes) _); kept = refl; within = omega arith }
+more-init g c = record
+    { turns = ([], Turns-start reading _ (one_of read_variable) _, adds_none (variable_view g.S.Names.Names.bytes) _); kept = refl; within = omega arith }
 
 pub more-preserved : goal.more-preserved
 more-preserved g c =
@@ -48,7 +50,8 @@ returns-in_err-variable_definition-2-clause-reads g c =
     let opened = past (starts variables_symbol old.tokens) (takes_one reading _ _ _ _ refl c.in_ok-take_mark.ensures.1) in
     let (first, takes, view) = c.in_ok-variable_definition.ensures.reads in
     let (items, turns, views) = c.more.invariant.turns in
-    let stops = Stops-turn reading _ (one_of read_variable) _ _ _ items _ turns (begins_variable _ ∙ sym c.sees_mark.ensures ∙ c.more-test.true) c.in_err-variable_definition-2.ensures.reads in
+    let stops = Stops-turn reading _ (one_of read_variable) _ _ _ items _ turns
+    (begins_variable _ ∙ sym c.sees_mark.ensures ∙ c.more-test.true) c.in_err-variable_definition-2.ensures.reads in
     error_in old mid new _ _ _ (before opened) (Stops-after reading _ _ _ _ _ _ _ takes stops) c.from_residual-in_err-variable_definition-2.ensures.1
 
 pub returns-in_err-take_mark-2-clause-reads : goal.returns-in_err-take_mark-2-clause-reads

@@ -21,7 +21,8 @@ pub field-returns-in_err-name-clause-reads : goal.field-returns-in_err-name-clau
 field-returns-in_err-name-clause-reads g t c =
     let old = g.S.TokenSource.items c.args.source.now in
     let new = g.S.TokenSource.items c.name.new.source in
-    gives_error reading _ old new _ _ _ (Stops-node reading field_symbol _ _ _ (Stops-before reading _ _ _ _ _ (stops_one reading _ old new _ c.in_err-name.ensures))) c.from_residual.ensures.1
+    gives_error reading _ old new _ _ _
+    (Stops-node reading field_symbol _ _ _ (Stops-before reading _ _ _ _ _ (stops_one reading _ old new _ c.in_err-name.ensures))) c.from_residual.ensures.1
 
 pub field-returns-in_err-alias-clause-reads : goal.field-returns-in_err-alias-clause-reads
 field-returns-in_err-alias-clause-reads g t c =
@@ -60,7 +61,10 @@ field-returns-in_err-span-clause-reads g t c =
     let given = (some_lifted (optional (Sym arguments_symbol)) refl _ _ _ c.in_ok-optional_arguments.ensures.reads).1 in
     let listed = (some_lifted (Sym directives_symbol) refl _ _ _ c.in_ok-directives.ensures.reads).1 in
     gives_error reading _ (items c.args.source.now) (items c.selected.new.source) _ _ _
-    (Stops-node reading field_symbol _ _ _ (Stops-after reading _ _ _ _ _ _ _ named (Stops-after reading _ _ _ _ _ _ _ renames (Stops-after reading _ _ _ _ _ _ _ given (Stops-after reading _ _ _ _ _ _ _ listed c.in_err-span.ensures.reads)))))
+    (Stops-node reading field_symbol _ _ _
+    (Stops-after reading _ _ _ _ _ _ _ named
+    (Stops-after reading _ _ _ _ _ _ _ renames
+    (Stops-after reading _ _ _ _ _ _ _ given (Stops-after reading _ _ _ _ _ _ _ listed c.in_err-span.ensures.reads)))))
     c.from_residual-in_err-span.ensures.1
 
 pub field-returns-clause-reads : goal.field-returns-clause-reads
@@ -83,15 +87,18 @@ field-returns-clause-reads g t c =
 
 pub field-returns-in_err-span-clause-kept : goal.field-returns-in_err-span-clause-kept
 field-returns-in_err-span-clause-kept g t c =
-    c.in_err-span.ensures.kept ∙ c.in_ok-directives.ensures.kept ∙ c.in_ok-optional_arguments.ensures.kept ∙ c.in_ok-alias.ensures.kept ∙ c.in_ok-name.ensures.1.kept
+    c.in_err-span.ensures.kept ∙ c.in_ok-directives.ensures.kept ∙ c.in_ok-optional_arguments.ensures.kept ∙ c.in_ok-alias.ensures.kept
+    ∙ c.in_ok-name.ensures.1.kept
 
 pub field-returns-in_err-push-clause-kept : goal.field-returns-in_err-push-clause-kept
 field-returns-in_err-push-clause-kept g t c =
-    c.in_ok-span.ensures.kept ∙ c.in_ok-directives.ensures.kept ∙ c.in_ok-optional_arguments.ensures.kept ∙ c.in_ok-alias.ensures.kept ∙ c.in_ok-name.ensures.1.kept
+    c.in_ok-span.ensures.kept ∙ c.in_ok-directives.ensures.kept ∙ c.in_ok-optional_arguments.ensures.kept ∙ c.in_ok-alias.ensures.kept
+    ∙ c.in_ok-name.ensures.1.kept
 
 pub field-returns-clause-kept : goal.field-returns-clause-kept
 field-returns-clause-kept g t c =
-    c.in_ok-span.ensures.kept ∙ c.in_ok-directives.ensures.kept ∙ c.in_ok-optional_arguments.ensures.kept ∙ c.in_ok-alias.ensures.kept ∙ c.in_ok-name.ensures.1.kept
+    c.in_ok-span.ensures.kept ∙ c.in_ok-directives.ensures.kept ∙ c.in_ok-optional_arguments.ensures.kept ∙ c.in_ok-alias.ensures.kept
+    ∙ c.in_ok-name.ensures.1.kept
 
 pub field-returns-clause-shorter : goal.field-returns-clause-shorter
 field-returns-clause-shorter g t c =
@@ -137,7 +144,8 @@ inline_fragment-returns-clause-reads g t c =
     let (y, listed, directives) = some_lifted (Sym directives_symbol) refl _ _ _ c.in_ok-directives.ensures.reads in
     let (s, selects, selected) = c.in_ok-span.ensures.reads in
     let takes = takes_both named (takes_both listed selects) in
-    let fewer : length new.tokens < length old.tokens = omega (arith, c.in_ok-type_condition.ensures.within, c.in_ok-directives.ensures.within, c.in_ok-span.ensures.shorter) in
+    let fewer : length new.tokens < length old.tokens = omega
+    (arith, c.in_ok-type_condition.ensures.within, c.in_ok-directives.ensures.within, c.in_ok-span.ensures.shorter) in
     let place = c.position-position.ensures ∙ sym (begins_at inline_rest old new (Both x (Both y s)) takes fewer) in
     let marked = fills (directive_view bytes) _ _ _ c.new-directives.ensures.items directives in
     let chosen = set_filled bytes _ _ _ _ c.new-selections.ensures.items selected in (
@@ -210,7 +218,8 @@ selection_set-returns-in_err-selection-clause-reads g t c =
     c.from_residual-in_err-selection.ensures.1
 
 pub selection_set-more-init : goal.selection_set-more-init
-selection_set-more-init g t c = record { turns = ([], Turns-start reading _ (one_of selection_at) _, adds_none (selection_view g.S.Names.Names.bytes) _); kept = refl; within = omega arith }
+selection_set-more-init g t c = record
+    { turns = ([], Turns-start reading _ (one_of selection_at) _, adds_none (selection_view g.S.Names.Names.bytes) _); kept = refl; within = omega arith }
 
 pub selection_set-more-preserved : goal.selection_set-more-preserved
 selection_set-more-preserved g t c =

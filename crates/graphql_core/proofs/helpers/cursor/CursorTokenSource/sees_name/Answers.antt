@@ -9,4 +9,5 @@ use Rattle.graphql_core.proofs.helpers.cursor.CursorTokenSource.sees_name.Goals 
 
 pub returns : goal.returns
 returns g c =
-    c.is_name_start.ensures ∙ ap is_name_start c.self.invariant.1 ∙ fronts.sees_name _ c.self.invariant.0 ∙ ap (sees_class (AnyOf (kind_number Name))) c.self.view_is
+    c.is_name_start.ensures ∙ ap is_name_start c.self.invariant.1 ∙ fronts.sees_name _ c.self.invariant.0
+    ∙ ap (sees_class (AnyOf (kind_number Name))) c.self.view_is
