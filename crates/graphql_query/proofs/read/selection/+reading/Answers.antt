@@ -103,7 +103,8 @@ field-returns-clause-kept g t c =
 pub field-returns-clause-shorter : goal.field-returns-clause-shorter
 field-returns-clause-shorter g t c =
     let named = ap length c.in_ok-name.ensures.1.tokens in
-    omega (arith, named, c.in_ok-alias.ensures.within, c.in_ok-optional_arguments.ensures.within, c.in_ok-directives.ensures.within, c.in_ok-span.ensures.within)
+    omega
+    (arith, named, c.in_ok-alias.ensures.within, c.in_ok-optional_arguments.ensures.within, c.in_ok-directives.ensures.within, c.in_ok-span.ensures.within)
 
 -- ---- selected
 
