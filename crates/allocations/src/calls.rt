@@ -4,7 +4,7 @@ use graphql_parser::{Cause, FormatError, Pos, Style};
 use std::alloc::{AllocError, Global};
 use std::borrow::CowStr;
 
-/// How many answers are right, how many are want of memory in the form of their call, and how many are neither.
+/// How many answers are right, how many tell in the form of their call that an allocation failed, and how many are neither.
 #[derive(Clone, Copy, Default)]
 pub struct Tally {
     pub right: u32,
@@ -64,7 +64,7 @@ const REFUSED: [(&str, usize); 7] = [
 /// Texts, and what they are minified to.
 const MINIFIED: [(&str, &str); 2] = [("", ""), ("a-1 ... \"b\"\"c\"", "a -1 ...\"b\" \"c\"")];
 
-/// Whether a text is refused for want of memory, which has no position.
+/// Whether a text is refused because an allocation failed, which has no position.
 fn ran_out(error: &ParseError) -> bool {
     matches!(error.cause(), Cause::OutOfMemory) && error.position().is_none()
 }
@@ -124,7 +124,7 @@ fn refuse(alloc: Global, tally: &mut Tally) {
     }
 }
 
-/// Whether a text is not minified for want of memory, which has no position.
+/// Whether a text is not minified because an allocation failed, which has no position.
 fn minify_ran_out(error: &MinifyError) -> bool {
     matches!(error.cause(), Cause::OutOfMemory) && error.position().is_none()
 }

@@ -1,5 +1,5 @@
-//! `allocations`: makes the calls of the library that allocate, and tells how many answers are right, how many are want
-//! of memory, and how many are neither.
+//! `allocations`: makes the calls of the library that allocate, and tells how many answers are right, how many say
+//! that an allocation failed, and how many are neither.
 //!
 //! Standard input holds a number. So many boxes are made and dropped before the calls: where one allocation of the run
 //! is made to fail from outside, at a fixed count, the number says which allocation of the calls it is.

@@ -23,6 +23,14 @@ fn words(rt: &HostRuntime) -> Option<(String, u32)> {
     Some((file, rounds))
 }
 
+/// The lesser of the least time so far, where there is one, and another.
+fn lesser(least: Option<Duration>, elapsed: Duration) -> Option<Duration> {
+    match least {
+        Some(before) if before < elapsed => Some(before),
+        _ => Some(elapsed),
+    }
+}
+
 /// The least time that the work takes; none where it does not come to its end.
 fn least(
     rt: &HostRuntime,
@@ -39,12 +47,39 @@ fn least(
         if !done {
             return Ok(None);
         }
-        least = match least {
-            Some(before) if before < elapsed => Some(before),
-            _ => Some(elapsed),
-        };
+        least = lesser(least, elapsed);
     }
     Ok(least)
+}
+
+/// The least times to parse and to drop what was parsed, each for itself; none where the text is refused.
+fn least_parts(
+    rt: &HostRuntime,
+    rounds: u32,
+    source: &str,
+) -> io::Result<(Option<Duration>, Option<Duration>)> {
+    let mut parsing = None;
+    let mut dropping = None;
+    'rounds: for _ in 0..rounds {
+        let start = Instant::now(rt)?;
+        let parsed: Result<Document<'_, &str>, _> = parse_query(rt.alloc(), source);
+        parsing = lesser(parsing, start.elapsed(rt)?);
+        let Ok(document) = parsed else {
+            return Ok((None, None));
+        };
+        let end = Instant::now(rt)?;
+        drop(document);
+        dropping = lesser(dropping, end.elapsed(rt)?);
+    }
+    Ok((parsing, dropping))
+}
+
+/// Prints a least time in microseconds.
+fn print_time(rt: &HostRuntime, name: &str, least: Option<Duration>) -> io::Result<()> {
+    match least {
+        Some(time) => println!(rt; "{name}: {} us", time.as_micros()),
+        None => println!(rt; "{name}: not done"),
+    }
 }
 
 /// Measures every kind of work on one document, and prints its least time in microseconds.
@@ -59,15 +94,15 @@ fn measure_all(rt: &HostRuntime, rounds: u32, source: &str) -> io::Result<bool> 
     println!(rt; "{} bytes, {rounds} rounds", source.len())?;
     for (name, work) in [
         ("cut", Work::Cut),
-        ("parse (&str)", Work::ParseBorrowed),
-        ("parse (String)", Work::ParseOwned),
+        ("parse and drop (&str)", Work::ParseBorrowed),
+        ("parse and drop (String)", Work::ParseOwned),
         ("format", Work::Format),
     ] {
-        match least(rt, rounds, work, source, &document)? {
-            Some(time) => println!(rt; "{name}: {} us", time.as_micros())?,
-            None => println!(rt; "{name}: not done")?,
-        }
+        print_time(rt, name, least(rt, rounds, work, source, &document)?)?;
     }
+    let (parsing, dropping) = least_parts(rt, rounds, source)?;
+    print_time(rt, "parse alone (&str)", parsing)?;
+    print_time(rt, "drop (&str)", dropping)?;
     Ok(true)
 }
 

@@ -7,7 +7,7 @@ use Rattle.std.specs.Str.Parse.{ParsesUnsigned, digits_value}
 use Rattle.std.proofs.lemmas.Str.Parse.{IsNumeralModel, numerals_by_value, tells_all_ascii_digits, parse_digits}
 use Rattle.std.proofs.lemmas.Result.{OkIff-at_err}
 use Rattle.std.proofs.lemmas.Bool.{and_from, and_parts, ltb-true}
-use Rattle.gql.specs.Words.{is_number, indented_by}
+use Rattle.gql.specs.Words.{is_number, number_of}
 
 own : IsNumeralModel (λ ds. all_ascii_digits ds ≡ true) (digits_value 10)
 own = numerals_by_value _ tells_all_ascii_digits
@@ -16,10 +16,11 @@ digits : (w : List ℕ) → list_all is_ascii_digit w ≡ true → all_ascii_dig
 digits [] h = refl
 digits (c ∷ cs) h = let parts = and_parts _ _ h in and_from _ _ parts.0 (digits cs parts.1)
 
-pub number_refused : {E : Type 0} (w : List ℕ) (multiline : Bool) (r : Result ℕ E) (e : E) → ParsesUnsigned 32 10 w r → r ≡ Err e → list_all is_ascii_digit w ≡ true → indented_by w multiline ≡ None
-number_refused w multiline r e h is d = refused (is_number w) refl
+pub number_refused : {E : Type 0} (w : List ℕ) (r : Result ℕ E) (e : E) → ParsesUnsigned 32 10 w r → r ≡ Err e
+    → list_all is_ascii_digit w ≡ true → number_of w ≡ None
+number_refused w r e h is d = refused (is_number w) refl
   where
-    refused : (b : Bool) → is_number w ≡ b → indented_by w multiline ≡ None
+    refused : (b : Bool) → is_number w ≡ b → number_of w ≡ None
     refused false k = rw k refl
     refused true k =
         let parts = and_parts _ _ (and_parts _ _ (and_parts _ _ k).1).1 in

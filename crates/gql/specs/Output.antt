@@ -3,9 +3,9 @@ use Rattle.std.specs.Prelude.{◌≡◌, ◌≢◌, ◌<◌, ◌++◌, ◌⊎◌
 use Rattle.std.specs.Io.KnownBytes.{Appends, IsAtEnd}
 use Rattle.graphql_core.specs.Style.{Layout}
 use Rattle.graphql_core.specs.Minified.{IsMinified}
-use Rattle.graphql_query.specs.Tree.{DocumentTree}
-use Rattle.graphql_query.specs.Document.{IsDocumentOf, IsRefusalOf}
-use Rattle.graphql_query.specs.Layout.{layout, IsTooWide}
+use Rattle.graphql_query_tree.specs.Tree.{DocumentTree}
+use Rattle.graphql_query_tree.specs.Document.{IsDocumentOf, IsRefusalOf}
+use Rattle.graphql_query_tree.specs.Layout.{layout, IsTooWide}
 use Rattle.graphql_query.specs.Minifying.{IsMinifyRefusalOf}
 use Rattle.graphql_core.specs.Refusal.{Refusal, no_memory, max_length}
 use Rattle.graphql_core.specs.declared.format.error.FormatError.{FormatError}

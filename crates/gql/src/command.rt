@@ -1,8 +1,9 @@
 //! The words of a command.
-ghost use Rattle.std.specs.Prelude.{◌≡◌, [], ◌∷◌, map, string_bytes};
+ghost use Rattle.std.specs.Prelude.{◌≡◌, ◌↔◌, Some, map, string_bytes};
 ghost use Rattle.std.specs.List.{list_all};
 ghost use Rattle.std.specs.Char.{is_ascii_digit};
-ghost use Rattle.gql.specs.Words.{indented_by, is_indent, is_multiline, meaning_of, plain, style_of};
+ghost use Rattle.graphql_core.specs.Style.{Layout};
+ghost use Rattle.gql.specs.Words.{is_indent, is_multiline, number_of, style_said, SaysStyle, Means};
 
 use graphql_parser::Style;
 
@@ -18,24 +19,16 @@ pub enum Command {
     Minify,
 }
 
-/// The indentation of two spaces, in which each level stands unless the words say another.
-const DEFAULT_INDENT: u32 = 2;
-
-/// The style with these settings.
-fn style_with(indent: u32, multiline: bool) -> Style
-    ensures { result ≡ record { indent = indent; multiline = multiline } }
+/// The style with the settings that were said, and the default ones for the others.
+fn style_said(indent: Option<u32>, multiline: bool) -> Style
+    ensures { result ≡ style_said indent multiline }
 {
     let mut style = Style::default();
-    style.indent(indent);
+    if let Some(spaces) = indent {
+        style.indent(spaces);
+    }
     style.multiline_arguments(multiline);
     style
-}
-
-/// The style of a command without options.
-fn plain_style() -> Style
-    ensures { result ≡ plain }
-{
-    style_with(DEFAULT_INDENT, false)
 }
 
 /// Whether a word has digits alone.
@@ -45,15 +38,15 @@ fn has_only_digits(word: &str) -> bool
     word.bytes().all(|byte| byte.is_ascii_digit())
 }
 
-/// The style that is indented by a number of spaces, of one to ten digits; `None` for any other word.
-fn indented_by(word: &str, multiline: bool) -> Option<Style>
-    ensures { result ≡ indented_by word.now multiline }
+/// The number that a word of one to ten digits says; `None` for any other word.
+fn number_of(word: &str) -> Option<u32>
+    ensures { result ≡ number_of word.now }
 {
     if word.len() > 10 || !has_only_digits(word) {
         return None;
     }
     match word.parse::<u32>() {
-        Ok(indent) => Some(style_with(indent, multiline)),
+        Ok(number) => Some(number),
         Err(_) => None,
     }
 }
@@ -70,62 +63,38 @@ fn is_multiline(word: &str) -> bool
     word == "--multiline"
 }
 
-/// The style that one word says.
-fn style_of_one(option: &str) -> Option<Style>
-    ensures { result ≡ style_of (option.now ∷ []) }
-{
-    if is_multiline(option) {
-        return Some(style_with(DEFAULT_INDENT, true));
-    }
-    None
-}
-
-/// The style that two words say.
-fn style_of_two(option: &str, number: &str) -> Option<Style>
-    ensures { result ≡ style_of (option.now ∷ number.now ∷ []) }
-{
-    if is_indent(option) {
-        return indented_by(number, false);
-    }
-    None
-}
-
-/// The style that three words say.
-fn style_of_three(first: &str, second: &str, third: &str) -> Option<Style>
-    ensures { result ≡ style_of (first.now ∷ second.now ∷ third.now ∷ []) }
-{
-    if is_indent(first) && is_multiline(third) {
-        return indented_by(second, true);
-    }
-    if is_multiline(first) && is_indent(second) {
-        return indented_by(third, true);
-    }
-    None
-}
-
 /// The style that the options say, each at most once and in any order; `None` for other words.
 fn style_of(options: &[String]) -> Option<Style>
-    ensures { result ≡ style_of (map string_bytes options.now) }
+    ensures { (style : Layout) → result ≡ Some style ↔ SaysStyle (map string_bytes options.now) style }
 {
-    match options {
-        [] => Some(plain_style()),
-        [option] => style_of_one(option.as_str()),
-        [option, number] => style_of_two(option.as_str(), number.as_str()),
-        [first, second, third] => style_of_three(first.as_str(), second.as_str(), third.as_str()),
-        _ => None,
+    let mut indent = None;
+    let mut multiline = false;
+    let mut rest = options;
+    'options: while let Some((option, others)) = rest.split_first() {
+        if is_multiline(option.as_str()) && !multiline {
+            multiline = true;
+            rest = others;
+        } else if is_indent(option.as_str()) && indent.is_none() {
+            let (number, others) = others.split_first()?;
+            indent = Some(number_of(number.as_str())?);
+            rest = others;
+        } else {
+            return None;
+        }
     }
+    Some(style_said(indent, multiline))
 }
 
 /// The command that the words after the program's name say, and `None` for wrong words.
 pub fn read_words(words: Vec<String>) -> Option<(Command, Style)>
-    ensures { result ≡ meaning_of (map string_bytes words.items) }
+    ensures { (said : Command × Layout) → result ≡ Some said ↔ Means (map string_bytes words.items) said }
 {
     match words.as_slice() {
         [word, options @ ..] if word.as_str() == "query" => {
             let style = style_of(options)?;
             Some((Command::Query, style))
         }
-        [word] if word.as_str() == "minify" => Some((Command::Minify, plain_style())),
+        [word] if word.as_str() == "minify" => Some((Command::Minify, Style::default())),
         _ => None,
     }
 }

@@ -125,7 +125,7 @@ pub fn run<R: Read, W: Write>(
     // The first fault of a device ends the run.
     ensures reader_faults { result ≢ Err RunError.Read → reader.new.faults ≡ reader.old.faults }
     ensures writer_faults { result ≢ Err RunError.Write → writer.new.faults ≡ writer.old.faults }
-    // Only a run that fails to write may leave a part of its output behind.
+    // Only a run that fails to write may leave a part of its output after.
     ensures untouched { IfErr result (λ e. e ≢ RunError.Write → Keeps (W.contents writer.old.device) (W.contents writer.new.device)) }
     ensures write { result ≡ Err RunError.Write → HasFault writer.old.faults writer.new.faults
         × ReadsAll (R.remaining reader.old.device) (R.remaining reader.new.device) (λ input. (output : List ℕ) × IsOutputOf command style.now input output

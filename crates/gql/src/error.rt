@@ -10,25 +10,25 @@ use thiserror::Error;
 /// Why a run ends early.
 #[derive(Debug, Drop, Error)]
 pub enum RunError {
-    /// 1: a read answered an error. Nothing was written.
+    /// A read answered an error. Nothing was written.
     #[error("gql: read failed")]
     Read,
-    /// 2: the input is not UTF-8. Nothing was written.
+    /// The input is not UTF-8. Nothing was written.
     #[error("gql: input is not UTF-8")]
     NotUtf8,
-    /// 3: the input is no query document. Nothing was written.
+    /// The input is no query document. Nothing was written.
     #[error("{0}")]
     Query(ParseError),
-    /// 5: the input has a bad place, or is too long. Nothing was written.
+    /// The input has a bad place, or is too long. Nothing was written.
     #[error("{0}")]
     Minify(MinifyError),
-    /// 6: the document cannot be laid out. Nothing was written.
+    /// The document cannot be laid out. Nothing was written.
     #[error("{0}")]
     Format(FormatError),
-    /// 7: a write or the last flush failed, or a write took nothing. A beginning of the output was written.
+    /// A write or the last flush failed, or a write took nothing. A beginning of the output was written.
     #[error("gql: write failed")]
     Write,
-    /// 8: memory ran out in the engine itself. Nothing was written.
+    /// An allocation of the engine itself failed. Nothing was written.
     #[error("gql: out of memory")]
     OutOfMemory,
 }
@@ -57,7 +57,7 @@ impl From<AllocError> for RunError {
 }
 
 /// The status with which the program ends: 0 where all was written, 1 for a refused text, 2 for a
-/// device, for memory of the engine itself, and for wrong words (`None`).
+/// device, for an allocation of the engine itself that failed, and for wrong words (`None`).
 pub fn status(answer: Option<&Result<(), RunError>>) -> u8
     ensures { result ≡ status_of (option_map (λ r. r.now) answer.entry) }
 {

@@ -23,7 +23,7 @@ fn said(alloc: Global, words: &str) -> Result<Option<(Command, Style)>, AllocErr
     Ok(read_words(owned))
 }
 
-/// What a run left behind.
+/// What a run left after.
 #[derive(Drop)]
 struct Ran {
     answer: Result<(), RunError>,

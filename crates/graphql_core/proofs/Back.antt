@@ -7,16 +7,16 @@ use Rattle.graphql_grammar.specs.Trees.{accepts, leaves, Derives, Fits, fits_not
 use Rattle.graphql_grammar.specs.Trees.{fits_node}
 use Rattle.graphql_grammar.specs.Extended.{Extends, TestsAlike, is_below}
 use Rattle.graphql_grammar.proofs.Extending.{reads_on}
-use Rattle.graphql_core.specs.declared.tokenizer.token.Kind.{Kind}
-use Rattle.graphql_core.specs.declared.tokenizer.token.Kind.TheVariants.{Punctuator}
-use Rattle.graphql_core.specs.declared.tokenizer.piece.Nesting.{Nesting}
-use Rattle.graphql_core.specs.declared.tokenizer.piece.Nesting.TheVariants.{Level, Opens, Closes}
+use Rattle.graphql_lexer.specs.declared.tokenizer.token.Kind.{Kind}
+use Rattle.graphql_lexer.specs.declared.tokenizer.token.Kind.TheVariants.{Punctuator}
+use Rattle.graphql_lexer.specs.declared.tokenizer.piece.Nesting.{Nesting}
+use Rattle.graphql_lexer.specs.declared.tokenizer.piece.Nesting.TheVariants.{Level, Opens, Closes}
 use Rattle.graphql_core.specs.Causes.{kind_number}
-use Rattle.graphql_core.specs.Lexical.{is_mark, nesting_of}
-use Rattle.graphql_core.specs.Items.{Item, HasItems}
+use Rattle.graphql_lexer.specs.Lexical.{is_mark, nesting_of}
+use Rattle.graphql_lexer.specs.Items.{Item, HasItems}
 use Rattle.graphql_core.specs.Source.{split, IsEnd}
 use Rattle.graphql_core.specs.Parts.{Part, token, ignored, text_of}
-use Rattle.graphql_core.proofs.Laid.{IsWord, is_blank, Nests, Laid, done, as_word, margin, gap, word, mark, dots, anywhere, behind, Spells, spells_split}
+use Rattle.graphql_core.proofs.Laid.{IsWord, is_blank, Nests, Laid, done, as_word, margin, gap, word, mark, dots, anywhere, after, Spells, spells_split}
 use Rattle.graphql_core.proofs.Laid.{has_tokens}
 
 -- these tokens have a tree of the expression, of which R holds
@@ -49,7 +49,7 @@ pub means : {g : Grammar} {e : Expr} {p q : Bool} {d f : ℕ} {ps : List Part} {
     → Back g e p d ps q f R
 means h b = record { laid = b.laid; reads = λ ts s. let (x, fits, is, r) = b.reads ts s in (x, fits, is, h x r) }
 
--- ---- white space before an expression, and behind it
+-- ---- white space before an expression, and after it
 
 pub margin_back : {g : Grammar} {e : Expr} {p q : Bool} {d f : ℕ} {text : List ℕ} {ps : List Part} {R : Shape → Type 0} → list_all is_blank text ≡ true
     → Back g e p d ps q f R → Back g e p d (ignored text ∷ ps) q f R
@@ -68,7 +68,7 @@ spells_gap (token k s ∷ ps) text (t ∷ ts) (kind, spelling, h) = (kind, spell
 pub then_gap : {g : Grammar} {e : Expr} {p q : Bool} {d f : ℕ} {ps : List Part} {R : Shape → Type 0} (c : ℕ) (text : List ℕ)
     → list_all is_blank (c ∷ text) ≡ true
     → Back g e p d ps q f R → Back g e p d (ps ++ ignored (c ∷ text) ∷ []) false f R
-then_gap {ps = ps} c text h b = record { laid = behind b.laid (gap h done); reads = λ ts s. b.reads ts (spells_gap ps (c ∷ text) ts s) }
+then_gap {ps = ps} c text h b = record { laid = after b.laid (gap h done); reads = λ ts s. b.reads ts (spells_gap ps (c ∷ text) ts s) }
 
 -- ---- single tokens
 
@@ -124,7 +124,7 @@ nothing_back r = record { laid = done; reads = λ ts h. (Nothing, fits_nothing, 
 pub both_back : {g : Grammar} {a b : Expr} {p q r : Bool} {d e f : ℕ} {ps qs : List Part} {P Q R : Shape → Type 0}
     → Back g a p d ps q e P → Back g b q e qs r f Q → ((x y : Shape) → P x → Q y → R (Both x y)) → Back g (Then a b) p d (ps ++ qs) r f R
 both_back {ps = ps} {qs = qs} h k both = record {
-  laid = behind h.laid k.laid;
+  laid = after h.laid k.laid;
   reads = λ ts s.
       let (us, vs, parts, s1, s2) = spells_split ps qs ts s in
       let (x, fx, lx, rx) = h.reads us s1 in
@@ -157,7 +157,7 @@ stop_back r = record { laid = done; reads = λ ts h. (Stop, fits_stop, h, r) }
 pub more_back : {g : Grammar} {a : Expr} {p q r : Bool} {d e f : ℕ} {ps qs : List Part} {P Q R : Shape → Type 0}
     → Back g a p d ps q e P → Back g (Many a) q e qs r f Q → ((x y : Shape) → P x → Q y → R (More x y)) → Back g (Many a) p d (ps ++ qs) r f R
 more_back {ps = ps} {qs = qs} h k more = record {
-  laid = behind h.laid k.laid;
+  laid = after h.laid k.laid;
   reads = λ ts s.
       let (us, vs, parts, s1, s2) = spells_split ps qs ts s in
       let (x, fx, lx, rx) = h.reads us s1 in
@@ -206,7 +206,7 @@ lift_back {n} {g} {h} {e} on below alike b = record {
 
 -- ---- whole texts
 
--- the tokens of the text are one of the expression's lists, with a shape of which R holds, and behind them is the end
+-- the tokens of the text are one of the expression's lists, with a shape of which R holds, and after them is the end
 abbrev pub IsReadBack : Grammar → Expr → List ℕ → (Shape → Type 0) → Type 0
 IsReadBack g e text R = (items : List Item) × HasItems text items × (x : Shape) × Derives g e (split items).tokens x × IsEnd (split items).last × R x
 

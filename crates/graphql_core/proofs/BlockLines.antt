@@ -14,7 +14,7 @@ use Rattle.std.proofs.lemmas.List.Folds.{flat_map-map}
 use Rattle.std.proofs.lemmas.List.Sums.{prefix_len-le-length, prefix_len_passes, suffix_len-take_no, suffix_len-take_yes}
 use Rattle.std.proofs.lemmas.List.FromFn.{length-enumerate_from, get_or-enumerate_from}
 use Rattle.std.proofs.lemmas.Str.{IsCharBoundary-start, IsCharBoundary-after_ascii}
-use Rattle.graphql_core.specs.Lexical.{begins_escape, begins_quotes, ClosesBlock, closing, escape, unit}
+use Rattle.graphql_lexer.specs.Lexical.{begins_escape, begins_quotes, ClosesBlock, closing, escape, unit}
 use Rattle.graphql_core.specs.BlockStrings.{is_white, is_blank, indent, common_indent, unindented, unescaped, value_of_lines}
 
 -- ---- indents
@@ -92,20 +92,23 @@ reduce_fits (l ∷ ls) = elim (cases_Bool (is_blank l)) [
 -- ---- the last line that is not blank
 
 -- the next of the numbered lines
-pub numbered : (ls : List (List ℕ)) (k i : ℕ) (l : List ℕ) → (k < length (enumerate_from 0 ls)) × ((i, l) ≡ get_or (enumerate_from 0 ls) k (i, l)) → (k < length ls) × (i ≡ k) × (l ≡ get_or ls k l)
+pub numbered : (ls : List (List ℕ)) (k i : ℕ) (l : List ℕ) → (k < length (enumerate_from 0 ls)) × ((i, l) ≡ get_or (enumerate_from 0 ls) k (i, l))
+    → (k < length ls) × (i ≡ k) × (l ≡ get_or ls k l)
 numbered ls k i l (h, e) =
     let within : k < length ls = omega (arith, h, length-enumerate_from 0 ls) in
     let at = e ∙ get_or-enumerate_from 0 ls k (i, l) within in
     let place = ap (λ (p : ℕ × List ℕ). p.0) at in
     (within, omega arith, ap (λ (p : ℕ × List ℕ). p.1) at)
 
-pub through_text : (ls : List (List ℕ)) (k n : ℕ) (l : List ℕ) → k < length ls → l ≡ get_or ls k l → n ≡ k + 1 → is_blank l ≡ false → k + 1 ≡ n - suffix_len is_blank (take n ls)
+pub through_text : (ls : List (List ℕ)) (k n : ℕ) (l : List ℕ) → k < length ls → l ≡ get_or ls k l → n ≡ k + 1 → is_blank l ≡ false
+    → k + 1 ≡ n - suffix_len is_blank (take n ls)
 through_text ls k n l h e step blank =
     let before : n - 1 ≡ k = omega arith in
     let none = suffix_len-take_no is_blank ls n l (omega arith) (omega arith) (ap (λ j. is_blank (get_or ls j l)) before ∙ ap is_blank (sym e) ∙ blank) in
     omega (arith, none)
 
-pub through_blank : (ls : List (List ℕ)) (k n : ℕ) (l : List ℕ) → k < length ls → l ≡ get_or ls k l → n ≡ k + 1 → is_blank l ≡ true → k - suffix_len is_blank (take k ls) ≡ n - suffix_len is_blank (take n ls)
+pub through_blank : (ls : List (List ℕ)) (k n : ℕ) (l : List ℕ) → k < length ls → l ≡ get_or ls k l → n ≡ k + 1 → is_blank l ≡ true
+    → k - suffix_len is_blank (take k ls) ≡ n - suffix_len is_blank (take n ls)
 through_blank ls k n l h e step blank =
     let before : n - 1 ≡ k = omega arith in
     let one = suffix_len-take_yes is_blank ls n l (omega arith) (omega arith) (ap (λ j. is_blank (get_or ls j l)) before ∙ ap is_blank (sym e) ∙ blank) in
@@ -134,13 +137,15 @@ no_escape (a ∷ s) h = false_from_ne_true (begins_escape (a ∷ s)) (λ e.
     false≢true (sym (no_quotes s (λ rest q. h rest (cc))) ∙ more))
 
 -- what stands before the first escape stays
-plain_before : (s : List ℕ) (i : ℕ) → i ≤ length s → ((k : ℕ) → k < i → (rest : List ℕ) → drop k s ≢ 92 ∷ 34 ∷ 34 ∷ 34 ∷ rest) → unescaped s ≡ take i s ++ unescaped (drop i s)
+plain_before : (s : List ℕ) (i : ℕ) → i ≤ length s → ((k : ℕ) → k < i → (rest : List ℕ) → drop k s ≢ 92 ∷ 34 ∷ 34 ∷ 34 ∷ rest) → unescaped s ≡ take i s
+    ++ unescaped (drop i s)
 plain_before s zero h none = refl
 plain_before [] (suc i) h none = absurd (omega arith)
 plain_before (b ∷ s) (suc i) h none =
     rw (no_escape (b ∷ s) (none 0 (omega arith))) (ap (λ t. b ∷ t) (plain_before s i (omega arith) (λ k l. none (suc k) (omega arith))))
 
-pub unescaped_at : (s : List ℕ) (i j : ℕ) → i ≤ length s → ((k : ℕ) → k < i → (rest : List ℕ) → drop k s ≢ 92 ∷ 34 ∷ 34 ∷ 34 ∷ rest) → drop i s ≡ 92 ∷ 34 ∷ 34 ∷ 34 ∷ drop j s → unescaped s ≡ take i s ++ (34 ∷ 34 ∷ 34 ∷ unescaped (drop j s))
+pub unescaped_at : (s : List ℕ) (i j : ℕ) → i ≤ length s → ((k : ℕ) → k < i → (rest : List ℕ) → drop k s ≢ 92 ∷ 34 ∷ 34 ∷ 34 ∷ rest) → drop i s ≡ 92 ∷ 34
+    ∷ 34 ∷ 34 ∷ drop j s → unescaped s ≡ take i s ++ (34 ∷ 34 ∷ 34 ∷ unescaped (drop j s))
 unescaped_at s i j h none e = plain_before s i h none ∙ ap (λ t. take i s ++ unescaped t) e
 
 pub unescaped_none : (s : List ℕ) → ((k : ℕ) → k ≤ length s → (rest : List ℕ) → drop k s ≢ 92 ∷ 34 ∷ 34 ∷ 34 ∷ rest) → unescaped s ≡ s
@@ -149,7 +154,8 @@ unescaped_none s none =
     ∙ rw (drop_all (length s) s (omega arith), take_all (length s) s (omega arith)) (append-nil s)
 
 -- what `push_str` writes completes a text
-pub completed : {T E : Type 0} (r : Result T E) (s before text whole : List ℕ) → s ≡ (if is_ok r then before ++ text else before) → before ++ text ≡ whole → OnOk r (s ≡ whole)
+pub completed : {T E : Type 0} (r : Result T E) (s before text whole : List ℕ) → s ≡ (if is_ok r then before ++ text else before) → before ++ text ≡ whole
+    → OnOk r (s ≡ whole)
 completed (Ok x) s before text whole e h = e ∙ h
 completed (Err x) s before text whole e h = tt
 
@@ -169,7 +175,8 @@ join_map f sep (x ∷ xs) = ap (λ t. f x ++ t) (sym (flat_map-map (λ y. sep ++
 
 join_push : {A : Type 0} (f : A → List ℕ) (sep : List ℕ) (xs : List A) (x : A) → 0 < length xs → join_by f sep (xs ++ x ∷ []) ≡ join_by f sep xs ++ (sep ++ f x)
 join_push f sep [] x h = absurd (omega arith)
-join_push f sep (y ∷ ys) x h = ap (λ t. f y ++ t) (sym (flat_map_more (λ z. sep ++ f z) [] ys x)) ∙ sym (append_assoc (f y) (flat_map (λ z. sep ++ f z) ys) (sep ++ f x))
+join_push f sep (y ∷ ys) x h = ap (λ t. f y ++ t) (sym (flat_map_more (λ z. sep ++ f z) [] ys x))
+    ∙ sym (append_assoc (f y) (flat_map (λ z. sep ++ f z) ys) (sep ++ f x))
 
 removed : (n : ℕ) (l : List ℕ) → (n ≤ indent l) ⊎ (is_blank l ≡ true) → drop (min (indent l) n) l ≡ drop n l
 removed n l (inl h) = let e : min (indent l) n ≡ n = omega arith in ap (λ k. drop k l) e
@@ -195,7 +202,8 @@ pieces_are (l ∷ ls) =
     rw (first_piece n l) (ap (λ t. unescaped l ∷ t) (later n 0 ls (reduce_fits ls)))
 
 -- the lines between the blank ends, without their indent
-pub pieces_kept : (ls : List (List ℕ)) → join_by (piece (common_indent ls)) (10 ∷ []) (kept (prefix_len is_blank ls) (length ls - suffix_len is_blank ls) ls) ≡ value_of_lines ls
+pub pieces_kept : (ls : List (List ℕ))
+    → join_by (piece (common_indent ls)) (10 ∷ []) (kept (prefix_len is_blank ls) (length ls - suffix_len is_blank ls) ls) ≡ value_of_lines ls
 pieces_kept ls =
     let n = common_indent ls in
     let first = prefix_len is_blank ls in
@@ -203,18 +211,23 @@ pieces_kept ls =
     let numbers = enumerate_from 0 ls in
     let raw = unindented n ls in
     let same : map (piece n) (drop first (take through numbers)) ≡ map unescaped (drop first (take through raw)) =
-    sym (drop-map (piece n) first (take through numbers)) ∙ ap (drop first) (sym (take-map (piece n) through numbers) ∙ ap (take through) (pieces_are ls) ∙ take-map unescaped through raw) ∙ drop-map unescaped first (take through raw)
+    sym (drop-map (piece n) first (take through numbers))
+    ∙ ap (drop first) (sym (take-map (piece n) through numbers) ∙ ap (take through) (pieces_are ls) ∙ take-map unescaped through raw)
+    ∙ drop-map unescaped first (take through raw)
     in
-    join_map (piece n) (10 ∷ []) (kept first through ls) ∙ ap (join_by (λ (x : List ℕ). x) (10 ∷ [])) same ∙ sym (join_map unescaped (10 ∷ []) (drop first (take through raw)))
+    join_map (piece n) (10 ∷ []) (kept first through ls) ∙ ap (join_by (λ (x : List ℕ). x) (10 ∷ [])) same
+    ∙ sym (join_map unescaped (10 ∷ []) (drop first (take through raw)))
 
 one_more : (zs : List (ℕ × List ℕ)) (k : ℕ) (p : ℕ × List ℕ) → k < length zs → p ≡ get_or zs k p → take (k + 1) zs ≡ take k zs ++ p ∷ []
 one_more zs k p h e = take_more zs k p h ∙ ap (λ q. take k zs ++ q ∷ []) (sym e)
 
 -- one more line is written, the first or a later one
-pub first_written : (n : ℕ) (zs : List (ℕ × List ℕ)) (k : ℕ) (p : ℕ × List ℕ) → k < length zs → p ≡ get_or zs k p → k ≡ 0 → join_by (piece n) (10 ∷ []) (take (k + 1) zs) ≡ join_by (piece n) (10 ∷ []) (take k zs) ++ piece n p
+pub first_written : (n : ℕ) (zs : List (ℕ × List ℕ)) (k : ℕ) (p : ℕ × List ℕ) → k < length zs → p ≡ get_or zs k p → k ≡ 0
+    → join_by (piece n) (10 ∷ []) (take (k + 1) zs) ≡ join_by (piece n) (10 ∷ []) (take k zs) ++ piece n p
 first_written n zs k p h e zero_k = rw (one_more zs k p h e, zero_k) (append-nil (piece n p))
 
-pub later_written : (n : ℕ) (zs : List (ℕ × List ℕ)) (k : ℕ) (p : ℕ × List ℕ) → k < length zs → p ≡ get_or zs k p → 0 < k → join_by (piece n) (10 ∷ []) (take (k + 1) zs) ≡ (join_by (piece n) (10 ∷ []) (take k zs) ++ 10 ∷ []) ++ piece n p
+pub later_written : (n : ℕ) (zs : List (ℕ × List ℕ)) (k : ℕ) (p : ℕ × List ℕ) → k < length zs → p ≡ get_or zs k p → 0 < k
+    → join_by (piece n) (10 ∷ []) (take (k + 1) zs) ≡ (join_by (piece n) (10 ∷ []) (take k zs) ++ 10 ∷ []) ++ piece n p
 later_written n zs k p h e more =
     let some = length-take-le k zs (omega arith) in
     ap (join_by (piece n) (10 ∷ [])) (one_more zs k p h e)
@@ -222,7 +235,8 @@ later_written n zs k p h e more =
     ∙ sym (append_assoc (join_by (piece n) (10 ∷ []) (take k zs)) (10 ∷ []) (piece n p))
 
 -- the place of the next of the lines that are kept
-pub kept_at : (first through : ℕ) (ls : List (List ℕ)) (k i : ℕ) (l : List ℕ) → k < length (kept first through ls) → (i, l) ≡ get_or (kept first through ls) k (i, l) → i ≡ first + k
+pub kept_at : (first through : ℕ) (ls : List (List ℕ)) (k i : ℕ) (l : List ℕ) → k < length (kept first through ls)
+    → (i, l) ≡ get_or (kept first through ls) k (i, l) → i ≡ first + k
 kept_at first through ls k i l h e =
     let numbers = enumerate_from 0 ls in
     let dropped = length-drop first (take through numbers) in
@@ -231,14 +245,16 @@ kept_at first through ls k i l h e =
     let within : first + k < through = omega arith in
     let inside : first + k < length ls = omega arith in
     let at : (i, l) ≡ (0 + (first + k), get_or ls (first + k) l) =
-    e ∙ get_or-drop first (take through numbers) k (i, l) ∙ get_or-take through numbers (first + k) (i, l) within ∙ get_or-enumerate_from 0 ls (first + k) (i, l) inside
+    e ∙ get_or-drop first (take through numbers) k (i, l) ∙ get_or-take through numbers (first + k) (i, l) within
+    ∙ get_or-enumerate_from 0 ls (first + k) (i, l) inside
     in
     let place : i ≡ 0 + (first + k) = ap (λ (q : ℕ × List ℕ). q.0) at in
     place ∙ zero-add (first + k)
 
 -- ---- tokens
 
-closing_more : (b : ℕ) (more : List ℕ) → (content : List ℕ) × (more ≡ content ++ 34 ∷ 34 ∷ 34 ∷ []) → (content : List ℕ) × (b ∷ more ≡ content ++ 34 ∷ 34 ∷ 34 ∷ [])
+closing_more : (b : ℕ) (more : List ℕ) → (content : List ℕ) × (more ≡ content ++ 34 ∷ 34 ∷ 34 ∷ []) → (content : List ℕ)
+    × (b ∷ more ≡ content ++ 34 ∷ 34 ∷ 34 ∷ [])
 closing_more b more (content, e) = (b ∷ content, ap (λ t. b ∷ t) e)
 
 -- what closes a block string ends with its quotes

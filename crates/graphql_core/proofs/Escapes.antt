@@ -1,5 +1,6 @@
 -- Units of strings, found from the front of a text.
-use Rattle.std.proofs.Common.{◌≡◌, ◌≢◌, ℕ, suc, ◌-◌, ◌<◌, ◌^◌, ◌⊎◌, true, ◌==◌, if◌then◌else◌, List, [], ◌∷◌, ◌++◌, length, get_or, take, drop, Option, Some, None, Result, Ok, Err, refl, sym, ap, ◌∙◌, subst, inl, inr, arith, length-append}
+use Rattle.std.proofs.Common.{◌≡◌, ◌≢◌, ℕ, suc, ◌-◌, ◌<◌, ◌^◌, ◌⊎◌, true, ◌==◌, if◌then◌else◌, List, [], ◌∷◌, ◌++◌, length, get_or, take, drop, Option, Some}
+use Rattle.std.proofs.Common.{None, Result, Ok, Err, refl, sym, ap, ◌∙◌, subst, inl, inr, arith, length-append}
 use denote.Ref.{Bor}
 use Rattle.std.specs.Char.{encode_utf8, is_ascii_hexdigit, digit_value}
 use Rattle.std.specs.List.{list_all, slice_range}
@@ -14,7 +15,8 @@ use Rattle.std.proofs.lemmas.List.{take_at, drop_at, get_or_append_left, append-
 use Rattle.std.proofs.lemmas.Str.{IsCharBoundary-after_ascii, encode_ascii, char_from_byte}
 use Rattle.std.proofs.lemmas.Str.Ascii.{IsAscii-cons, IsAscii-nil}
 use Rattle.std.proofs.lemmas.Str.Parse.{without_leading_plus_none}
-use Rattle.graphql_core.specs.Strings.{NamesCharacter, StandsFor, HasValue, IsInQuotes, BeginsName, BeginsNoName, BeginsEscape, BeginsNoEscape, plain, quote, backslash, slash, backspace, form_feed, line_feed, carriage_return, tab, unicode, empty, more}
+use Rattle.graphql_core.specs.Strings.{NamesCharacter, StandsFor, HasValue, IsInQuotes, BeginsName, BeginsNoName, BeginsEscape, BeginsNoEscape, plain, quote}
+use Rattle.graphql_core.specs.Strings.{backslash, slash, backspace, form_feed, line_feed, carriage_return, tab, unicode, empty, more}
 
 -- ---- hexadecimal digits
 
@@ -51,25 +53,27 @@ four_fit ds n h =
     let same : 16 ^ length ds ≡ 65536 = ap (λ k. 16 ^ k) n in
     omega (arith, small, same)
 
-numeral : (ds : List ℕ) → length ds ≡ 4 → list_all is_ascii_hexdigit ds ≡ true → IsNumeral 16 (without_leading_plus ds) × (digits_value 16 (without_leading_plus ds) < 2 ^ 32)
+numeral : (ds : List ℕ) → length ds ≡ 4 → list_all is_ascii_hexdigit ds ≡ true → IsNumeral 16 (without_leading_plus ds)
+    × (digits_value 16 (without_leading_plus ds) < 2 ^ 32)
 numeral ds n h = rw (no_plus ds h) ((omega arith, all_digits ds h), four_fit ds n h)
 
 -- what `from_str_radix` reads of four digits
-pub some_from_parsed : {E : Type 0} (ds : List ℕ) (o : Option ℕ) (r : Result ℕ E) → length ds ≡ 4 → list_all is_ascii_hexdigit ds ≡ true → o ≡ result_ok r → ParsesUnsigned 32 16 ds r → SomeIff o (list_all is_ascii_hexdigit ds ≡ true) (digits_value 16 ds)
+pub some_from_parsed : {E : Type 0} (ds : List ℕ) (o : Option ℕ) (r : Result ℕ E) → length ds ≡ 4 → list_all is_ascii_hexdigit ds ≡ true → o ≡ result_ok r
+    → ParsesUnsigned 32 16 ds r → SomeIff o (list_all is_ascii_hexdigit ds ≡ true) (digits_value 16 ds)
 some_from_parsed ds o (Ok x) n h e p = rw e (h, p.1 ∙ ap (digits_value 16) (no_plus ds h))
 some_from_parsed ds o (Err x) n h e p = absurd (p (numeral ds n h))
 
--- a text may be cut behind a name's four digits
-pub boundary_after_name : (text digits behind : List ℕ) (c : ℕ) → IsUtf8 text → NamesCharacter digits c → text ≡ digits ++ behind → IsCharBoundary text 4
-boundary_after_name text digits behind c u n e =
-    let long = ap length e ∙ length-append digits behind in
+-- a text may be cut after a name's four digits
+pub boundary_after_name : (text digits after : List ℕ) (c : ℕ) → IsUtf8 text → NamesCharacter digits c → text ≡ digits ++ after → IsCharBoundary text 4
+boundary_after_name text digits after c u n e =
+    let long = ap length e ∙ length-append digits after in
     let four = n.four in
-    let at : get_or text 3 0 ≡ get_or digits 3 0 = ap (λ t. get_or t 3 0) e ∙ get_or_append_left digits behind 0 3 (omega arith) in
+    let at : get_or text 3 0 ≡ get_or digits 3 0 = ap (λ t. get_or t 3 0) e ∙ get_or_append_left digits after 0 3 (omega arith) in
     let small = digits_ascii digits n.hexadecimal 3 in
     IsCharBoundary-after_ascii text 3 u (omega arith) (omega (arith, small, at))
 
-pub digits_at : (text digits behind : List ℕ) → length digits ≡ 4 → text ≡ digits ++ behind → take 4 text ≡ digits
-digits_at text digits behind n e = ap (take 4) e ∙ take_at digits behind 4 n
+pub digits_at : (text digits after : List ℕ) → length digits ≡ 4 → text ≡ digits ++ after → take 4 text ≡ digits
+digits_at text digits after n e = ap (take 4) e ∙ take_at digits after 4 n
 
 -- ---- the unit at the front
 
@@ -128,7 +132,8 @@ simple_u v e = cc
 
 no_letter : (c : ℕ) → c ≢ 34 → c ≢ 92 → c ≢ 47 → c ≢ 98 → c ≢ 102 → c ≢ 110 → c ≢ 114 → c ≢ 116 → simple c ≡ None
 unfolding simple
-no_letter c h1 h2 h3 h4 h5 h6 h7 h8 = rw (ne_eqb c 34 h1, ne_eqb c 92 h2, ne_eqb c 47 h3, ne_eqb c 98 h4, ne_eqb c 102 h5, ne_eqb c 110 h6, ne_eqb c 114 h7, ne_eqb c 116 h8) refl
+no_letter c h1 h2 h3 h4 h5 h6 h7 h8 = rw
+    (ne_eqb c 34 h1, ne_eqb c 92 h2, ne_eqb c 47 h3, ne_eqb c 98 h4, ne_eqb c 102 h5, ne_eqb c 110 h6, ne_eqb c 114 h7, ne_eqb c 116 h8) refl
 
 -- letters are ASCII
 simple_small : (c v : ℕ) → simple c ≡ Some v → c < 128
@@ -140,11 +145,12 @@ ascii_front : (text rest : List ℕ) (c : ℕ) → c < 128 → text ≡ encode_u
 ascii_front text rest c h e = e ∙ ap (λ t. t ++ rest) (encode_ascii c h)
 
 -- an escape of one letter
-pub letter_escape : (text rest : List ℕ) (c v : ℕ) → c < 128 → v < 128 → StandsFor (92 ∷ c ∷ []) (v ∷ []) → text ≡ encode_utf8 c ++ rest → BeginsEscape text v rest
+pub letter_escape : (text rest : List ℕ) (c v : ℕ) → c < 128 → v < 128 → StandsFor (92 ∷ c ∷ []) (v ∷ []) → text ≡ encode_utf8 c ++ rest
+    → BeginsEscape text v rest
 letter_escape text rest c v hc hv s e = (c ∷ [], rw (encode_ascii v hv) s, ascii_front text rest c hc e)
 
-pub named_escape : (text rest behind : List ℕ) (c : ℕ) → text ≡ encode_utf8 117 ++ rest → BeginsName rest c behind → BeginsEscape text c behind
-named_escape text rest behind c e (digits, n, h) = (117 ∷ digits, unicode digits c n, ascii_front text rest 117 (omega arith) e ∙ ap (λ t. 117 ∷ t) h)
+pub named_escape : (text rest after : List ℕ) (c : ℕ) → text ≡ encode_utf8 117 ++ rest → BeginsName rest c after → BeginsEscape text c after
+named_escape text rest after c e (digits, n, h) = (117 ∷ digits, unicode digits c n, ascii_front text rest 117 (omega arith) e ∙ ap (λ t. 117 ∷ t) h)
 
 -- a text's first character, where its first byte is ASCII
 char_is : (text rest others : List ℕ) (c b : ℕ) → b < 128 → text ≡ encode_utf8 c ++ rest → text ≡ b ∷ others → c ≡ b
@@ -153,38 +159,43 @@ char_is text rest others c b h e f =
     let long : length text ≡ length (b ∷ others) = ap length f in
     char_from_byte text rest c e (omega arith) (omega arith) ∙ at
 
--- behind a character that is no letter of an escape there is none, and none behind `u` without a name
-no_escape_in : (text rest unit bytes behind : List ℕ) (c : ℕ) → text ≡ encode_utf8 c ++ rest → simple c ≡ None → (c ≡ 117 → BeginsNoName rest) → text ≡ unit ++ behind → IsPlain (92 ∷ unit) bytes ⊎ (IsSimple (92 ∷ unit) bytes ⊎ IsNamed (92 ∷ unit) bytes) → ⊥
-no_escape_in text rest unit bytes behind c e none no_name at (inl p) = let u = p.unit_is in p.other (cc)
-no_escape_in text rest unit bytes behind c e none no_name at (inr (inl p)) =
+-- after a character that is no letter of an escape there is none, and none after `u` without a name
+no_escape_in : (text rest unit bytes after : List ℕ) (c : ℕ) → text ≡ encode_utf8 c ++ rest → simple c ≡ None → (c ≡ 117 → BeginsNoName rest) → text ≡ unit
+    ++ after → IsPlain (92 ∷ unit) bytes ⊎ (IsSimple (92 ∷ unit) bytes ⊎ IsNamed (92 ∷ unit) bytes) → ⊥
+no_escape_in text rest unit bytes after c e none no_name at (inl p) = let u = p.unit_is in p.other (cc)
+no_escape_in text rest unit bytes after c e none no_name at (inr (inl p)) =
     let u = p.unit_is in
     let unit_is : unit ≡ p.letter ∷ [] = cc in
-    let same = char_is text rest behind c p.letter (simple_small p.letter p.value p.stands) e (at ∙ ap (λ k. k ++ behind) unit_is) in
+    let same = char_is text rest after c p.letter (simple_small p.letter p.value p.stands) e (at ∙ ap (λ k. k ++ after) unit_is) in
     let stands = sym (ap simple same) ∙ none in
     let taken = p.stands in
     cc
-no_escape_in text rest unit bytes behind c e none no_name at (inr (inr p)) =
+no_escape_in text rest unit bytes after c e none no_name at (inr (inr p)) =
     let u = p.unit_is in
     let unit_is : unit ≡ 117 ∷ p.digits = cc in
-    let whole : text ≡ 117 ∷ (p.digits ++ behind) = at ∙ ap (λ k. k ++ behind) unit_is in
-    let same : c ≡ 117 = char_is text rest (p.digits ++ behind) c 117 (omega arith) e whole in
+    let whole : text ≡ 117 ∷ (p.digits ++ after) = at ∙ ap (λ k. k ++ after) unit_is in
+    let same : c ≡ 117 = char_is text rest (p.digits ++ after) c 117 (omega arith) e whole in
     let front = ascii_front text rest 117 (omega arith) (e ∙ ap (λ k. encode_utf8 k ++ rest) same) in
-    let rest_is : rest ≡ p.digits ++ behind = ap (drop 1) (sym front ∙ whole) in
-    no_name same p.digits behind p.code p.names rest_is
+    let rest_is : rest ≡ p.digits ++ after = ap (drop 1) (sym front ∙ whole) in
+    no_name same p.digits after p.code p.names rest_is
 
 pub no_escape_named : (text rest : List ℕ) → text ≡ encode_utf8 117 ++ rest → BeginsNoName rest → BeginsNoEscape text
 unfolding simple
-no_escape_named text rest e no_name unit bytes behind s at = no_escape_in text rest unit bytes behind 117 e refl (λ _. no_name) at (kind_of s)
+no_escape_named text rest e no_name unit bytes after s at = no_escape_in text rest unit bytes after 117 e refl (λ _. no_name) at (kind_of s)
 
-pub no_escape_other : (text rest : List ℕ) (c : ℕ) → text ≡ encode_utf8 c ++ rest → c ≢ 34 → c ≢ 92 → c ≢ 47 → c ≢ 98 → c ≢ 102 → c ≢ 110 → c ≢ 114 → c ≢ 116 → c ≢ 117 → BeginsNoEscape text
-no_escape_other text rest c e h1 h2 h3 h4 h5 h6 h7 h8 h9 unit bytes behind s at = no_escape_in text rest unit bytes behind c e (no_letter c h1 h2 h3 h4 h5 h6 h7 h8) (λ u. absurd (h9 u)) at (kind_of s)
+pub no_escape_other : (text rest : List ℕ) (c : ℕ) → text ≡ encode_utf8 c ++ rest → c ≢ 34 → c ≢ 92 → c ≢ 47 → c ≢ 98 → c ≢ 102 → c ≢ 110 → c ≢ 114
+    → c ≢ 116 → c ≢ 117 → BeginsNoEscape text
+no_escape_other text rest c e h1 h2 h3 h4 h5 h6 h7 h8 h9 unit bytes after s at = no_escape_in text rest unit bytes after c e
+    (no_letter c h1 h2 h3 h4 h5 h6 h7 h8) (λ u. absurd (h9 u)) at (kind_of s)
 
--- behind `u` an escape is a name
-pub named_result : (text rest : List ℕ) (o : Option (ℕ × Bor (List ℕ))) → text ≡ encode_utf8 117 ++ rest → IfSome o (λ r. BeginsName rest r.0 r.1.now) → IfSome o (λ r. BeginsEscape text r.0 r.1.now)
+-- after `u` an escape is a name
+pub named_result : (text rest : List ℕ) (o : Option (ℕ × Bor (List ℕ))) → text ≡ encode_utf8 117 ++ rest → IfSome o (λ r. BeginsName rest r.0 r.1.now)
+    → IfSome o (λ r. BeginsEscape text r.0 r.1.now)
 named_result text rest None e h = tt
 named_result text rest (Some r) e h = named_escape text rest r.1.now r.0 e h
 
-pub unnamed_result : (text rest : List ℕ) (o : Option (ℕ × Bor (List ℕ))) → text ≡ encode_utf8 117 ++ rest → IfNone o (BeginsNoName rest) → IfNone o (BeginsNoEscape text)
+pub unnamed_result : (text rest : List ℕ) (o : Option (ℕ × Bor (List ℕ))) → text ≡ encode_utf8 117 ++ rest → IfNone o (BeginsNoName rest)
+    → IfNone o (BeginsNoEscape text)
 unnamed_result text rest None e h = no_escape_named text rest e h
 unnamed_result text rest (Some r) e h = tt
 
@@ -263,7 +274,8 @@ empty_value _ _ empty e = refl
 empty_value _ _ (more unit bytes body value s h) e = absurd (not_empty unit bytes (empty_front unit body e) (kind_of s))
 
 -- the value of a unit and what follows begins with what the unit stands for
-past_unit_of : {unit bytes : List ℕ} (rest text v : List ℕ) → StandsFor unit bytes → HasValue text v → text ≡ unit ++ rest → (w : List ℕ) × (v ≡ bytes ++ w) × HasValue rest w
+past_unit_of : {unit bytes : List ℕ} (rest text v : List ℕ) → StandsFor unit bytes → HasValue text v → text ≡ unit ++ rest → (w : List ℕ) × (v ≡ bytes ++ w)
+    × HasValue rest w
 unfolding Kinds
 past_unit_of {unit} {bytes} rest _ _ s empty e = absurd (not_empty unit bytes (empty_front unit rest (sym e)) (kind_of s))
 past_unit_of rest _ _ s (more u b body value t h) e =
@@ -288,7 +300,8 @@ past_plain (b ∷ p) rest v none h =
 
 pub add_plain : (p rest w : List ℕ) → ((i : ℕ) → i < length p → get_or p i 0 ≢ 92) → HasValue rest w → HasValue (p ++ rest) (p ++ w)
 add_plain [] rest w none h = h
-add_plain (b ∷ p) rest w none h = more (b ∷ []) (b ∷ []) (p ++ rest) (p ++ w) (plain b (none 0 (omega arith))) (add_plain p rest w (λ i l. none (suc i) (omega arith)) h)
+add_plain (b ∷ p) rest w none h = more (b ∷ []) (b ∷ []) (p ++ rest) (p ++ w) (plain b (none 0 (omega arith)))
+    (add_plain p rest w (λ i l. none (suc i) (omega arith)) h)
 
 pub plain_value : (p : List ℕ) → ((i : ℕ) → i < length p → get_or p i 0 ≢ 92) → HasValue p p
 plain_value p none =
@@ -297,14 +310,16 @@ plain_value p none =
 
 -- ---- a run, and then an escape
 
-pub add_escape : (p text behind w : List ℕ) (c : ℕ) → ((i : ℕ) → i < length p → get_or p i 0 ≢ 92) → BeginsEscape text c behind → HasValue behind w → HasValue (p ++ (92 ∷ text)) (p ++ (encode_utf8 c ++ w))
-add_escape p text behind w c none (unit, s, e) h =
-    add_plain p (92 ∷ text) (encode_utf8 c ++ w) none (rw e (more (92 ∷ unit) (encode_utf8 c) behind w s h))
+pub add_escape : (p text after w : List ℕ) (c : ℕ) → ((i : ℕ) → i < length p → get_or p i 0 ≢ 92) → BeginsEscape text c after → HasValue after w
+    → HasValue (p ++ (92 ∷ text)) (p ++ (encode_utf8 c ++ w))
+add_escape p text after w c none (unit, s, e) h =
+    add_plain p (92 ∷ text) (encode_utf8 c ++ w) none (rw e (more (92 ∷ unit) (encode_utf8 c) after w s h))
 
-pub past_escape : (p text behind v : List ℕ) (c : ℕ) → ((i : ℕ) → i < length p → get_or p i 0 ≢ 92) → BeginsEscape text c behind → HasValue (p ++ (92 ∷ text)) v → (w : List ℕ) × HasValue behind w
-past_escape p text behind v c none (unit, s, e) h =
+pub past_escape : (p text after v : List ℕ) (c : ℕ) → ((i : ℕ) → i < length p → get_or p i 0 ≢ 92) → BeginsEscape text c after
+    → HasValue (p ++ (92 ∷ text)) v → (w : List ℕ) × HasValue after w
+past_escape p text after v c none (unit, s, e) h =
     let (w, _, k) = past_plain p (92 ∷ text) v none h in
-    let (x, _, z) = past_unit_of behind (92 ∷ text) w s k (ap (λ t. 92 ∷ t) e) in
+    let (x, _, z) = past_unit_of after (92 ∷ text) w s k (ap (λ t. 92 ∷ t) e) in
     (x, z)
 
 escape_of : (text v all : List ℕ) → BeginsNoEscape text → HasValue all v → all ≡ 92 ∷ text → ⊥

@@ -8,15 +8,15 @@ use Rattle.graphql_grammar.specs.Reading.{sees}
 use Rattle.graphql_core.specs.declared.helpers.mark.Mark.{Mark}
 use Rattle.graphql_core.specs.declared.helpers.mark.Mark.TheVariants.{Bang, Dollar, Ampersand, OpenParen, CloseParen, Dots, Colon, Equals, At, OpenBracket}
 use Rattle.graphql_core.specs.declared.helpers.mark.Mark.TheVariants.{CloseBracket, OpenBrace, Pipe, CloseBrace}
-use Rattle.graphql_core.specs.declared.tokenizer.token.Kind.{Kind}
-use Rattle.graphql_core.specs.declared.tokenizer.token.Kind.TheVariants.{Punctuator, Name}
-use Rattle.graphql_core.specs.declared.tokenizer.piece.Nesting.{Nesting}
+use Rattle.graphql_lexer.specs.declared.tokenizer.token.Kind.{Kind}
+use Rattle.graphql_lexer.specs.declared.tokenizer.token.Kind.TheVariants.{Punctuator, Name}
+use Rattle.graphql_lexer.specs.declared.tokenizer.piece.Nesting.{Nesting}
 use Rattle.graphql_core.specs.Causes.{kind_number}
-use Rattle.graphql_core.specs.Lexical.{is_name_start, is_mark, Word, Stands, name, mark, spread, integer, float, string, block_string}
-use Rattle.graphql_core.specs.Marks.{spelling_of, class_of, first_byte, front_byte}
+use Rattle.graphql_lexer.specs.Lexical.{is_name_start, is_mark, Word, Stands, name, mark, spread, integer, float, string, block_string}
+use Rattle.graphql_core.specs.steps.Marks.{spelling_of, class_of, first_byte, front_byte}
 use Rattle.graphql_core.specs.Source.{IsLexeme}
-use Rattle.graphql_core.proofs.Runs.{differs}
-use Rattle.graphql_core.proofs.Numbers.{starts_number, NumberRun, integer_run, float_run}
+use Rattle.graphql_lexer.proofs.Runs.{differs}
+use Rattle.graphql_lexer.proofs.Numbers.{starts_number, NumberRun, integer_run, float_run}
 
 byte_back : (x y : ℕ) → (x == y) ≡ (y == x)
 byte_back x y = grind (arith)

@@ -5,21 +5,21 @@ use Rattle.std.proofs.lemmas.Bool.{cases_eq, and_parts}
 use Rattle.std.proofs.lemmas.Bool.Decides.{nat_tests}
 use Rattle.std.specs.List.{list_all}
 use Rattle.graphql_grammar.specs.Tokens.{Token}
-use Rattle.graphql_core.specs.declared.tokenizer.token.Kind.{Kind}
-use Rattle.graphql_core.specs.declared.tokenizer.token.Kind.TheVariants.{Punctuator}
-use Rattle.graphql_core.specs.declared.tokenizer.piece.Move.{Move}
-use Rattle.graphql_core.specs.declared.tokenizer.piece.Move.TheVariants.{Over, Down}
-use Rattle.graphql_core.specs.declared.tokenizer.piece.Nesting.{Nesting}
-use Rattle.graphql_core.specs.declared.tokenizer.piece.Nesting.TheVariants.{Level, Opens, Closes}
-use Rattle.graphql_core.specs.declared.tokenizer.piece.Piece.TheVariants.{AtEnd}
+use Rattle.graphql_lexer.specs.declared.tokenizer.token.Kind.{Kind}
+use Rattle.graphql_lexer.specs.declared.tokenizer.token.Kind.TheVariants.{Punctuator}
+use Rattle.graphql_lexer.specs.declared.tokenizer.piece.Move.{Move}
+use Rattle.graphql_lexer.specs.declared.tokenizer.piece.Move.TheVariants.{Over, Down}
+use Rattle.graphql_lexer.specs.declared.tokenizer.piece.Nesting.{Nesting}
+use Rattle.graphql_lexer.specs.declared.tokenizer.piece.Nesting.TheVariants.{Level, Opens, Closes}
+use Rattle.graphql_lexer.specs.declared.tokenizer.piece.Piece.TheVariants.{AtEnd}
 use Rattle.graphql_core.specs.Causes.{kind_number}
-use Rattle.graphql_core.specs.Front.{front}
-use Rattle.graphql_core.specs.Lexical.{is_mark, is_delimiter, nesting_of, EndsRun, Ignored, Word, Stands, line_feed, space, comma, mark as a_mark, spread}
-use Rattle.graphql_core.specs.Lexical.{BeginsNone, Piece, IsCutInto}
-use Rattle.graphql_core.specs.Items.{Where, Item, HasItems, start, past_ignored, past_token, is_too_deep, items_of}
+use Rattle.graphql_lexer.specs.steps.Front.{front}
+use Rattle.graphql_lexer.specs.Lexical.{is_mark, is_delimiter, nesting_of, EndsRun, Ignored, Word, Stands, line_feed, space, comma, mark as a_mark, spread}
+use Rattle.graphql_lexer.specs.Lexical.{BeginsNone, Piece, IsCutInto}
+use Rattle.graphql_lexer.specs.Items.{Where, Item, HasItems, start, past_ignored, past_token, is_too_deep, items_of}
 use Rattle.graphql_core.specs.Source.{split, IsEnd}
 use Rattle.graphql_core.specs.Parts.{Part, token, ignored, text_of}
-use Rattle.graphql_core.proofs.Spelled.{shape, stands_front}
+use Rattle.graphql_lexer.proofs.FrontIsPiece.{shape, stands_front}
 
 -- ---- parts that may stand together
 
@@ -37,7 +37,7 @@ Nests Level d e = d ≡ e
 Nests Opens d e = (d < 50) × (e ≡ d + 1)
 Nests Closes d e = d ≡ e + 1
 
--- Laid p d ps q e: behind a word (p) or not, and d brackets deep, these parts may stand. Behind them it is q, and e.
+-- Laid p d ps q e: after a word (p) or not, and d brackets deep, these parts may stand. After them it is q, and e.
 pub data Laid : Bool → ℕ → List Part → Bool → ℕ → Type 0 where
   done : {p : Bool} {d : ℕ} → Laid p d [] p d
   -- what may follow a word may follow anything
@@ -51,7 +51,7 @@ pub data Laid : Bool → ℕ → List Part → Bool → ℕ → Type 0 where
       → Laid p d (token Punctuator (b ∷ []) ∷ ps) q f
   dots : {q : Bool} {d e : ℕ} {ps : List Part} → Laid false d ps q e → Laid false d (token Punctuator (46 ∷ 46 ∷ 46 ∷ []) ∷ ps) q e
 
--- what may stand behind a word may stand anywhere
+-- what may stand after a word may stand anywhere
 pub anywhere : {d e : ℕ} {q : Bool} {ps : List Part} → Laid true d ps q e → Laid false d ps q e
 anywhere done = as_word done
 anywhere (as_word l) = as_word (anywhere l)
@@ -59,14 +59,14 @@ anywhere (margin h l) = margin h (anywhere l)
 anywhere (gap h l) = gap h l
 anywhere (mark m n l) = mark m n l
 
-pub behind : {p q r : Bool} {d e f : ℕ} {ps qs : List Part} → Laid p d ps q e → Laid q e qs r f → Laid p d (ps ++ qs) r f
-behind done k = k
-behind (as_word l) k = behind l (anywhere k)
-behind (margin h l) k = margin h (behind l k)
-behind (gap h l) k = gap h (behind l k)
-behind (word w l) k = word w (behind l k)
-behind (mark m n l) k = mark m n (behind l k)
-behind (dots l) k = dots (behind l k)
+pub after : {p q r : Bool} {d e f : ℕ} {ps qs : List Part} → Laid p d ps q e → Laid q e qs r f → Laid p d (ps ++ qs) r f
+after done k = k
+after (as_word l) k = after l (anywhere k)
+after (margin h l) k = margin h (after l k)
+after (gap h l) k = gap h (after l k)
+after (word w l) k = word w (after l k)
+after (mark m n l) k = mark m n (after l k)
+after (dots l) k = dots (after l k)
 
 -- ---- their tokens
 
@@ -145,7 +145,7 @@ blank_delimits b h = grind (arith, nat_tests)
 mark_delimits : (b : ℕ) → is_mark b ≡ true → is_delimiter b ≡ true
 mark_delimits b h = grind (arith, nat_tests)
 
--- behind a word stands a delimiter, or the end
+-- after a word stands a delimiter, or the end
 pub ends_run : {d e : ℕ} {q : Bool} {ps : List Part} → Laid true d ps q e → EndsRun (text_of ps)
 ends_run done = tt
 ends_run (as_word l) = ends_run l

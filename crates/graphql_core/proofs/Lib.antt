@@ -1,16 +1,8 @@
-pub mod Steps
-pub mod Spelled
-pub mod Cutting
-pub mod Ending
 pub mod Matches
 pub mod Fronts
-pub mod Holding
-pub mod Strings
-pub mod Runs
-pub mod Numbers
-pub mod Positions
-pub mod Nested
-pub mod Room
+pub mod CursorItems
+pub mod NestingDepth
+pub mod BracketRoom
 pub mod Escapes
 pub mod BlockLines
 pub mod FloatLiterals
@@ -18,5 +10,4 @@ pub mod Depths
 pub mod Laid
 pub mod Back
 pub mod Minifying
-pub mod Lanes
-pub mod Spaces
+pub mod Places

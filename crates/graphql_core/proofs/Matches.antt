@@ -5,11 +5,11 @@ use denote.Enum.Bare.{sameb, same_true}
 use Rattle.graphql_grammar.specs.Tokens.{Token, Class, same_spelling, matches}
 use Rattle.graphql_grammar.specs.Trees.{peek}
 use Rattle.graphql_grammar.specs.Reading.{sees}
-use Rattle.graphql_core.specs.contracts.tokenizer.token.Kind.{the_type}
-use Rattle.graphql_core.specs.declared.tokenizer.token.Kind.{Kind}
+use Rattle.graphql_lexer.specs.contracts.tokenizer.token.Kind.{the_type}
+use Rattle.graphql_lexer.specs.declared.tokenizer.token.Kind.{Kind}
 use Rattle.graphql_core.specs.Causes.{kind_number}
 use Rattle.graphql_core.specs.Source.{Items, Last, after, kept, fault_by, place_next}
-use Rattle.graphql_core.specs.Matching.{sees_class, TakesToken}
+use Rattle.graphql_core.specs.steps.Matching.{sees_class, TakesToken}
 
 eqb-comm : (m n : ℕ) → nat_eq m n ≡ eqb n m
 eqb-comm m n = grind (arith)

@@ -4,24 +4,25 @@ use Rattle.std.proofs.Common.{String, refl, sym, ap, ◌∙◌, subst, arith}
 use Rattle.std.proofs.lemmas.Bool.Decides.{nat_tests}
 use Rattle.std.specs.Global.{Global}
 use Rattle.graphql_grammar.specs.Tokens.{Token, Place, nowhere}
-use Rattle.graphql_core.specs.declared.tokenizer.token.Kind.{Kind}
-use Rattle.graphql_core.specs.declared.tokenizer.token.Kind.TheVariants.{Punctuator, Name, IntValue, FloatValue, StringValue, BlockString}
-use Rattle.graphql_core.specs.declared.tokenizer.piece.Move.TheVariants.{Over}
-use Rattle.graphql_core.specs.declared.tokenizer.piece.Nesting.{Nesting}
-use Rattle.graphql_core.specs.declared.tokenizer.piece.Nesting.TheVariants.{Level, Opens, Closes}
-use Rattle.graphql_core.specs.declared.tokenizer.piece.Piece.TheVariants.{AtEnd}
-use Rattle.graphql_core.specs.Causes.{kind_number, too_deep}
-use Rattle.graphql_core.specs.Front.{front}
-use Rattle.graphql_core.specs.Lexical.{is_name_continue, is_mark, EndsRun, Meaning, Ignored, Word, Stands, space, name, mark, spread, integer, float, string}
-use Rattle.graphql_core.specs.Lexical.{block_string, BeginsNone, Piece, IsCutInto}
-use Rattle.graphql_core.specs.Items.{Where, Item, item, Lexeme, Wrong, HasItems, start, past_ignored, past_token, openers_after, closers_after, is_too_deep}
-use Rattle.graphql_core.specs.Items.{token_then, piece_then, items_of}
+use Rattle.graphql_lexer.specs.declared.tokenizer.token.Kind.{Kind}
+use Rattle.graphql_lexer.specs.declared.tokenizer.token.Kind.TheVariants.{Punctuator, Name, IntValue, FloatValue, StringValue, BlockString}
+use Rattle.graphql_lexer.specs.declared.tokenizer.piece.Move.TheVariants.{Over}
+use Rattle.graphql_lexer.specs.declared.tokenizer.piece.Nesting.{Nesting}
+use Rattle.graphql_lexer.specs.declared.tokenizer.piece.Nesting.TheVariants.{Level, Opens, Closes}
+use Rattle.graphql_lexer.specs.declared.tokenizer.piece.Piece.TheVariants.{AtEnd}
+use Rattle.graphql_core.specs.Causes.{kind_number}
+use Rattle.graphql_lexer.specs.BadTexts.{too_deep}
+use Rattle.graphql_lexer.specs.steps.Front.{front}
+use Rattle.graphql_lexer.specs.Lexical.{is_name_continue, is_mark, EndsRun, Meaning, Ignored, Word, Stands, space, name, mark, spread, integer, float, string}
+use Rattle.graphql_lexer.specs.Lexical.{block_string, BeginsNone, Piece, IsCutInto}
+use Rattle.graphql_lexer.specs.Items.{Where, Item, item, Lexeme, Wrong, HasItems, start, past_ignored, past_token, openers_after, closers_after, is_too_deep}
+use Rattle.graphql_lexer.specs.Items.{token_then, piece_then, items_of}
 use Rattle.graphql_core.specs.Source.{Items, split, token_of, IsEnd}
-use Rattle.graphql_core.specs.Cut.{items}
+use Rattle.graphql_lexer.specs.steps.Cut.{items}
 use Rattle.graphql_core.specs.Minified.{is_past, AreLexemes, is_punctuator, is_number, is_spaced, space_if, spaced_after, spaced, unplaced, IsMinified}
 use Rattle.graphql_core.specs.Minified.{HasTokens}
-use Rattle.graphql_core.proofs.Cutting.{has_items, items_unique}
-use Rattle.graphql_core.proofs.Spelled.{shape, stands_front}
+use Rattle.graphql_lexer.proofs.OneCut.{has_items, items_unique}
+use Rattle.graphql_lexer.proofs.FrontIsPiece.{shape, stands_front}
 
 -- ---- what may follow a token
 

@@ -1,9 +1,8 @@
 -- Causes of faults, with texts as their bytes.
 use Rattle.std.specs.Prelude.{ℕ, List, string_bytes}
-use Rattle.graphql_core.specs.declared.tokenizer.token.Kind.{Kind}
-use Rattle.graphql_core.specs.declared.tokenizer.token.Kind.TheVariants.{Punctuator, Name, IntValue, FloatValue, StringValue, BlockString}
-use Rattle.graphql_core.specs.declared.tokenizer.token.Bad.{Bad}
-use Rattle.graphql_core.specs.declared.tokenizer.token.Bad.TheVariants as bad
+use Rattle.graphql_lexer.specs.declared.tokenizer.token.Kind.{Kind}
+use Rattle.graphql_lexer.specs.declared.tokenizer.token.Kind.TheVariants.{Punctuator, Name, IntValue, FloatValue, StringValue, BlockString}
+use Rattle.graphql_lexer.specs.BadTexts.{BadText, bad_character, bare_dot, bad_integer, bad_float, unterminated_string, unterminated_block_string, too_deep}
 use Rattle.graphql_core.specs.declared.common.cause.BadToken.{BadToken}
 use Rattle.graphql_core.specs.declared.common.cause.BadToken.TheVariants as token
 use Rattle.graphql_core.specs.declared.common.cause.Cause.{Cause}
@@ -19,15 +18,9 @@ kind_number StringValue = 4
 kind_number BlockString = 5
 
 pub data CauseText : Type 0 where
-  bad_character : (character : ℕ) → CauseText
-  bare_dot : CauseText
-  bad_integer : (run : List ℕ) → CauseText
-  bad_float : (run : List ℕ) → CauseText
-  unterminated_string : CauseText
-  unterminated_block_string : CauseText
+  no_token : (why : BadText) → CauseText
   unexpected_token : (kind : ℕ) (spelling : List ℕ) → CauseText
   unexpected_end : CauseText
-  too_deep : CauseText
   int_out_of_range : CauseText
   malformed_float : CauseText
   bad_escape : CauseText
@@ -38,17 +31,7 @@ pub data CauseText : Type 0 where
   text_too_long : CauseText
   out_of_memory : CauseText
 
--- why no token stands at a bad place
-abbrev pub bad_text : Bad → CauseText
-bad_text (bad.Character c) = bad_character c
-bad_text bad.BareDot = bare_dot
-bad_text (bad.Integer run) = bad_integer run.now
-bad_text (bad.Float run) = bad_float run.now
-bad_text bad.UnterminatedString = unterminated_string
-bad_text bad.UnterminatedBlockString = unterminated_block_string
-bad_text bad.TooDeep = too_deep
-
-abbrev pub token_text : BadToken → CauseText
+abbrev pub token_text : BadToken → BadText
 token_text (token.Character c) = bad_character c
 token_text token.BareDot = bare_dot
 token_text (token.Integer run) = bad_integer (string_bytes run)
@@ -57,10 +40,10 @@ token_text token.UnterminatedString = unterminated_string
 token_text token.UnterminatedBlockString = unterminated_block_string
 
 abbrev pub cause_text : Cause → CauseText
-cause_text (cause.BadToken b) = token_text b
+cause_text (cause.BadToken b) = no_token (token_text b)
 cause_text (cause.UnexpectedToken kind text) = unexpected_token (kind_number kind) (string_bytes text)
 cause_text cause.UnexpectedEnd = unexpected_end
-cause_text cause.TooDeep = too_deep
+cause_text cause.TooDeep = no_token too_deep
 cause_text cause.IntOutOfRange = int_out_of_range
 cause_text cause.MalformedFloat = malformed_float
 cause_text cause.BadEscape = bad_escape

@@ -1,10 +1,10 @@
 -- How many brackets are open at once in a laid out text.
 use Rattle.std.specs.Prelude.{ℕ, suc, ◌-◌, max, List, [], ◌∷◌}
-use Rattle.graphql_core.specs.declared.tokenizer.token.Kind.{Kind}
-use Rattle.graphql_core.specs.declared.tokenizer.token.Kind.TheVariants.{Punctuator}
-use Rattle.graphql_core.specs.declared.tokenizer.piece.Nesting.{Nesting}
-use Rattle.graphql_core.specs.declared.tokenizer.piece.Nesting.TheVariants.{Level, Opens, Closes}
-use Rattle.graphql_core.specs.Lexical.{nesting_of}
+use Rattle.graphql_lexer.specs.declared.tokenizer.token.Kind.{Kind}
+use Rattle.graphql_lexer.specs.declared.tokenizer.token.Kind.TheVariants.{Punctuator}
+use Rattle.graphql_lexer.specs.declared.tokenizer.piece.Nesting.{Nesting}
+use Rattle.graphql_lexer.specs.declared.tokenizer.piece.Nesting.TheVariants.{Level, Opens, Closes}
+use Rattle.graphql_lexer.specs.Lexical.{nesting_of}
 use Rattle.graphql_core.specs.Parts.{Part, token, ignored}
 
 -- a punctuator of one character may be a bracket
@@ -12,7 +12,7 @@ abbrev pub bracket_of : Kind → List ℕ → Nesting
 bracket_of Punctuator (b ∷ []) = nesting_of b
 bracket_of _ _ = Level
 
--- the brackets that are open behind a token
+-- the brackets that are open after a token
 abbrev pub open_after : Nesting → ℕ → ℕ
 open_after Level d = d
 open_after Opens d = suc d

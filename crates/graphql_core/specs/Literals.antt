@@ -2,7 +2,7 @@
 use Rattle.std.specs.Prelude.{◌≡◌, ℕ, true, Bool, ◌&&◌, List, ◌++◌}
 use Rattle.std.specs.List.{list_any}
 use Rattle.std.specs.Char.{is_ascii_digit}
-use Rattle.graphql_core.specs.Lexical.{is_natural, is_integer, is_fraction, is_exponent}
+use Rattle.graphql_lexer.specs.Lexical.{is_integer, is_fraction, is_exponent}
 
 -- an exponent with a digit
 abbrev pub is_whole_exponent : List ℕ → Bool
@@ -17,7 +17,3 @@ pub data EndsFloat : List ℕ → Type 0 where
 -- a float run whose exponent, if any, has a digit
 abbrev pub IsFloatLiteral : List ℕ → Type 0
 IsFloatLiteral text = (integer : List ℕ) × (ending : List ℕ) × (text ≡ integer ++ ending) × (is_integer integer ≡ true) × EndsFloat ending
-
--- the same with no sign
-abbrev pub IsUnsignedFloat : List ℕ → Type 0
-IsUnsignedFloat text = (natural : List ℕ) × (ending : List ℕ) × (text ≡ natural ++ ending) × (is_natural natural ≡ true) × EndsFloat ending

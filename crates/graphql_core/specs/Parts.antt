@@ -1,7 +1,7 @@
 -- A laid out text: its tokens, and the ignored text between them.
 use Rattle.std.specs.Prelude.{ℕ, List, [], ◌∷◌, ◌++◌}
-use Rattle.graphql_core.specs.declared.tokenizer.token.Kind.{Kind}
-use Rattle.graphql_core.specs.declared.tokenizer.token.Kind.TheVariants.{Punctuator, Name}
+use Rattle.graphql_lexer.specs.declared.tokenizer.token.Kind.{Kind}
+use Rattle.graphql_lexer.specs.declared.tokenizer.token.Kind.TheVariants.{Punctuator, Name}
 use Rattle.graphql_core.specs.Style.{spaces}
 
 pub data Part : Type 0 where

@@ -1,18 +1,19 @@
--- The items of a text as the grammar's tokens, and what stands behind the last of them.
+-- The items of a text as the grammar's tokens, and what stands after the last of them.
 use Rattle.std.specs.Prelude.{◌≡◌, ℕ, List, [], ◌∷◌, drop, Option, Some, None, Result, Ok, Err}
 use Rattle.graphql_grammar.specs.Tokens.{Token, Place}
-use Rattle.graphql_core.specs.declared.position.Pos.{Pos}
-use Rattle.graphql_core.specs.declared.tokenizer.token.Kind.{Kind}
-use Rattle.graphql_core.specs.declared.tokenizer.token.Bad.{Bad}
-use Rattle.graphql_core.specs.declared.tokenizer.token.Token.{Token as Cut}
+use Rattle.graphql_lexer.specs.declared.position.Pos.{Pos}
+use Rattle.graphql_lexer.specs.declared.tokenizer.token.Kind.{Kind}
+use Rattle.graphql_lexer.specs.declared.tokenizer.token.Bad.{Bad}
+use Rattle.graphql_lexer.specs.declared.tokenizer.token.Token.{Token as Cut}
 use Rattle.graphql_core.specs.declared.common.fault.Fault.{Fault}
 use Rattle.graphql_core.specs.declared.common.fault.Fault.TheVariants as fault
 use Rattle.graphql_core.specs.declared.helpers.source.Lexeme.{Lexeme}
-use Rattle.graphql_core.specs.declared.tokenizer.piece.Nesting.{Nesting}
-use Rattle.graphql_core.specs.Lexical.{Stands, Word}
-use Rattle.graphql_core.specs.Items.{Item, Content}
-use Rattle.graphql_core.specs.Items as items
-use Rattle.graphql_core.specs.Causes.{CauseText, kind_number, cause_text, bad_text}
+use Rattle.graphql_lexer.specs.declared.tokenizer.piece.Nesting.{Nesting}
+use Rattle.graphql_lexer.specs.Lexical.{Stands, Word}
+use Rattle.graphql_lexer.specs.Items.{Item, Content}
+use Rattle.graphql_lexer.specs.Items as items
+use Rattle.graphql_core.specs.Causes.{CauseText, no_token, kind_number, cause_text}
+use Rattle.graphql_lexer.specs.BadTexts.{bad_text}
 use Rattle.graphql_core.specs.Causes as causes
 
 -- after the last token: the end, or a bad place
@@ -39,7 +40,7 @@ only_last l = record { tokens = []; last = l }
 abbrev pub split_by : Content → Pos → Items → Items
 split_by (items.Lexeme k bytes) p more = then_items (token_of p k bytes) more
 split_by items.End p more = only_last (End (place_of p))
-split_by (items.Wrong b) p more = only_last (Wrong (place_of p) b)
+split_by (items.Wrong b) p more = only_last (Wrong (place_of p) (no_token b))
 
 -- the tokens of a list of items, and its first item that is none
 abbrev pub split : List Item → Items
@@ -75,11 +76,11 @@ IsEnd (Wrong p b) = ⊥
 abbrev pub IsAtEnd : Items → Type 0
 IsAtEnd i = (i.tokens ≡ []) × IsEnd i.last
 
--- what a source has where a call of a stream answered this, and these items stand behind it
+-- what a source has where a call of a stream answered this, and these items stand after it
 abbrev pub held : Pos → Result (Option Cut) Bad → Items → Items
-held p (Ok (Some t)) behind = then_items (token_of p t.kind t.value.now) behind
-held p (Ok None) behind = only_last (End (place_of p))
-held p (Err b) behind = only_last (Wrong (place_of p) (bad_text b))
+held p (Ok (Some t)) following = then_items (token_of p t.kind t.value.now) following
+held p (Ok None) following = only_last (End (place_of p))
+held p (Err b) following = only_last (Wrong (place_of p) (no_token (bad_text b)))
 
 -- ---- faults
 

@@ -37,18 +37,18 @@ HasNoValue body = (value : List ℕ) → HasValue body value → ⊥
 abbrev pub IsInQuotes : List ℕ → List ℕ → Type 0
 IsInQuotes text body = text ≡ 34 ∷ (body ++ 34 ∷ [])
 
--- ---- what stands behind a backslash
+-- ---- what stands after a backslash
 
 -- an escape of this character, and then this text
 abbrev pub BeginsEscape : List ℕ → ℕ → List ℕ → Type 0
-BeginsEscape text c behind = (unit : List ℕ) × StandsFor (92 ∷ unit) (encode_utf8 c) × (text ≡ unit ++ behind)
+BeginsEscape text c after = (unit : List ℕ) × StandsFor (92 ∷ unit) (encode_utf8 c) × (text ≡ unit ++ after)
 
 abbrev pub BeginsNoEscape : List ℕ → Type 0
-BeginsNoEscape text = (unit bytes behind : List ℕ) → StandsFor (92 ∷ unit) bytes → text ≢ unit ++ behind
+BeginsNoEscape text = (unit bytes after : List ℕ) → StandsFor (92 ∷ unit) bytes → text ≢ unit ++ after
 
 -- four digits that name this character, and then this text
 abbrev pub BeginsName : List ℕ → ℕ → List ℕ → Type 0
-BeginsName text c behind = (digits : List ℕ) × NamesCharacter digits c × (text ≡ digits ++ behind)
+BeginsName text c after = (digits : List ℕ) × NamesCharacter digits c × (text ≡ digits ++ after)
 
 abbrev pub BeginsNoName : List ℕ → Type 0
-BeginsNoName text = (digits behind : List ℕ) (c : ℕ) → NamesCharacter digits c → text ≢ digits ++ behind
+BeginsNoName text = (digits after : List ℕ) (c : ℕ) → NamesCharacter digits c → text ≢ digits ++ after

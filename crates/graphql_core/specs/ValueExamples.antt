@@ -68,6 +68,6 @@ IdeographicSpace =
 abbrev pub BlankBetween : Type 0
 BlankBetween = BlockValue ([] ∷ codes "  x" ∷ codes " " ∷ codes "  y" ∷ []) (codes "x" ∷ [] ∷ codes "y" ∷ [])
 
--- three quotes behind a backslash lose it
+-- three quotes after a backslash lose it
 abbrev pub EscapedQuotes : Type 0
 EscapedQuotes = BlockValue ((97 ∷ 92 ∷ 34 ∷ 34 ∷ 34 ∷ 98 ∷ []) ∷ []) ((97 ∷ 34 ∷ 34 ∷ 34 ∷ 98 ∷ []) ∷ [])

@@ -5,7 +5,7 @@ mod fault;
 mod laws;
 mod number;
 mod refused;
-mod strings;
+pub mod strings;
 mod text;
 
 pub use cause::{BadToken, Cause};

@@ -4,5 +4,5 @@
 pub mod common;
 pub mod format;
 pub mod helpers;
-pub mod position;
-pub mod tokenizer;
+
+pub use graphql_lexer::{position, tokenizer};

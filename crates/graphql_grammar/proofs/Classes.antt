@@ -1,7 +1,8 @@
 -- The tests on classes say what they are meant to say.
 use Rattle.std.proofs.Common.{◌≡◌, ℕ, Bool, true, false, not, eqb, List, [], ◌∷◌, ◌++◌, refl, sym, ap₂, ◌∙◌, inl, inr}
 use Rattle.std.proofs.lemmas.Bool.{eqb-true, eq-eqb, and_parts, and_from, or_cases, or_left, or_right}
-use Rattle.graphql_grammar.specs.Tokens.{Token, Class, Spelled, AnyOf, Except, same_spelling, kind_of, takes_spelling, matches, spellings_apart, apart, same_spellings, spellings_within, within, in_any, apart_from, all_apart, within_any, all_within}
+use Rattle.graphql_grammar.specs.Tokens.{Token, Class, Spelled, AnyOf, Except, same_spelling, kind_of, takes_spelling, matches, spellings_apart, apart}
+use Rattle.graphql_grammar.specs.Tokens.{same_spellings, spellings_within, within, in_any, apart_from, all_apart, within_any, all_within}
 
 pub same_spelling-true : (xs ys : List ℕ) → same_spelling xs ys ≡ true → xs ≡ ys
 same_spelling-true [] [] h = refl
@@ -55,7 +56,8 @@ pub within-sound : (c d : Class) (t : Token) → within c d ≡ true → matches
 within-sound c d t h p =
     let p' = and_parts (eqb (kind_of c) t.kind) (takes_spelling c t.spelling) p in
     let h' = and_parts (eqb (kind_of c) (kind_of d)) (spellings_within c d) h in
-    and_from (eqb (kind_of d) t.kind) (takes_spelling d t.spelling) (eq-eqb _ _ (sym (eqb-true _ _ h'.0) ∙ eqb-true _ _ p'.0)) (spellings_within-sound c d t.spelling h'.1 p'.1)
+    and_from (eqb (kind_of d) t.kind) (takes_spelling d t.spelling) (eq-eqb _ _ (sym (eqb-true _ _ h'.0) ∙ eqb-true _ _ p'.0))
+    (spellings_within-sound c d t.spelling h'.1 p'.1)
 
 -- lists of classes
 

@@ -1,10 +1,13 @@
 -- What is derived is read, where what follows cannot go on with it.
-use Rattle.std.proofs.Common.{◌≡◌, ℕ, zero, suc, Bool, true, false, not, ◌&&◌, ◌||◌, List, [], ◌∷◌, ◌++◌, Option, Some, refl, sym, ap, subst, append_assoc, inl, inr}
+use Rattle.std.proofs.Common.{◌≡◌, ℕ, zero, suc, Bool, true, false, not, ◌&&◌, ◌||◌, List, [], ◌∷◌, ◌++◌, Option, Some, refl, sym, ap, subst, append_assoc, inl}
+use Rattle.std.proofs.Common.{inr}
 use Rattle.std.proofs.lemmas.Bool.{and_parts, and_from, or_left, or_right, cases_Bool, not-true, both_ways}
 use Rattle.graphql_grammar.specs.Tokens.{Token, Class, matches, in_any, all_apart, all_within}
-use Rattle.graphql_grammar.specs.Trees.{Expr, Then, Many, Shape, Both, More, Row, Grammar, no_row, row_at, row, leaves, peek, Fits, fits_nothing, fits_leaf, fits_both, fits_first, fits_second, fits_stop, fits_more, fits_node}
+use Rattle.graphql_grammar.specs.Trees.{Expr, Then, Many, Shape, Both, More, Row, Grammar, no_row, row_at, row, leaves, peek, Fits, fits_nothing, fits_leaf}
+use Rattle.graphql_grammar.specs.Trees.{fits_both, fits_first, fits_second, fits_stop, fits_more, fits_node}
 use Rattle.graphql_grammar.specs.Tables.{only_if, nullable, first, cont, decides, ranked, is_row, are_rows, is_ll1}
-use Rattle.graphql_grammar.specs.Reading.{sees, choose, Left, Right, Takes, takes_nothing, takes_leaf, takes_both, takes_first, takes_second, takes_stop, takes_more, takes_node}
+use Rattle.graphql_grammar.specs.Reading.{sees, choose, Left, Right, Takes, takes_nothing, takes_leaf, takes_both, takes_first, takes_second, takes_stop}
+use Rattle.graphql_grammar.specs.Reading.{takes_more, takes_node}
 use Rattle.graphql_grammar.proofs.Classes.{all_within-sound, in_any-left, in_any-right}
 use Rattle.graphql_grammar.proofs.Items.{peek-append, append-empty, sees-parts, sees-only, sees-within, sees-apart}
 
@@ -64,13 +67,16 @@ in_only : (b : Bool) (cs : List Class) (t : Token) → b ≡ true → in_any cs 
 in_only true cs t k h = h
 in_only false cs t k h = absurd cc
 
-pub fits-first : (g : Grammar) → is_ll1 g.rows ≡ true → {e : Expr} {x : Shape} → Fits g e x → (t : Token) → peek (leaves x) ≡ Some t → in_any (first g.rows e) t ≡ true
+pub fits-first : (g : Grammar) → is_ll1 g.rows ≡ true → {e : Expr} {x : Shape} → Fits g e x → (t : Token) → peek (leaves x) ≡ Some t
+    → in_any (first g.rows e) t ≡ true
 fits-first g ok fits_nothing t h = absurd cc
-fits-first g ok (fits_leaf {c = c} {t = u} k) t h = or_left (matches c t) false (subst (λ (o : Token). matches c o ≡ true) (some_is u t h) (and_parts (matches c u) (g.good c u) k).0)
+fits-first g ok (fits_leaf {c = c} {t = u} k) t h = or_left (matches c t) false
+    (subst (λ (o : Token). matches c o ≡ true) (some_is u t h) (and_parts (matches c u) (g.good c u) k).0)
 fits-first g ok (fits_both {a = a} {b = b} {x = x} {y = y} p q) t h =
     elim (peek-append (leaves x) (leaves y) t h) [
       | inl i ↦ in_any-left (first g.rows a) (only_if (nullable g.rows a) (first g.rows b)) t (fits-first g ok p t i)
-      | inr i ↦ in_any-right (first g.rows a) (only_if (nullable g.rows a) (first g.rows b)) t (in_only (nullable g.rows a) (first g.rows b) t (fits-nullable g ok p i.0) (fits-first g ok q t i.1))
+      | inr i ↦ in_any-right (first g.rows a) (only_if (nullable g.rows a) (first g.rows b)) t
+          (in_only (nullable g.rows a) (first g.rows b) t (fits-nullable g ok p i.0) (fits-first g ok q t i.1))
     ]
 fits-first g ok (fits_first {a = a} {b = b} p) t h = in_any-left (first g.rows a) (first g.rows b) t (fits-first g ok p t h)
 fits-first g ok (fits_second {a = a} {b = b} p) t h = in_any-right (first g.rows a) (first g.rows b) t (fits-first g ok p t h)
@@ -83,7 +89,8 @@ fits-first g ok (fits_more {a = a} {x = x} {y = y} p q) t h =
 fits-first g ok (fits_node {k = k} p c) t h = all_within-sound _ _ t (IsRow-each g.rows ok k).first (fits-first g ok p t h)
 
 -- what a tree begins with is in none of the classes that are apart from its first ones
-pub apart-front : (g : Grammar) → is_ll1 g.rows ≡ true → (cs : List Class) (e : Expr) (x : Shape) (rest : List Token) → Fits g e x → all_apart cs (first g.rows e) ≡ true
+pub apart-front : (g : Grammar) → is_ll1 g.rows ≡ true → (cs : List Class) (e : Expr) (x : Shape) (rest : List Token) → Fits g e x
+    → all_apart cs (first g.rows e) ≡ true
     → (nullable g.rows e ≡ true → sees cs (peek rest) ≡ false) → sees cs (peek (leaves x ++ rest)) ≡ false
 apart-front g ok cs e x rest p a n = go (leaves x) refl
   where
@@ -91,7 +98,8 @@ apart-front g ok cs e x rest p a n = go (leaves x) refl
     go [] h = n (fits-nullable g ok p h)
     go (t ∷ ts) h = sees-apart cs (first g.rows e) (Some t) a (fits-first g ok p t (ap peek h))
 
-chosen_second : (g : Grammar) (a b : Expr) (item : Option Token) → sees (first g.rows a) item ≡ false → sees (first g.rows b) item ≡ true → choose g.rows a b item ≡ Right
+chosen_second : (g : Grammar) (a b : Expr) (item : Option Token) → sees (first g.rows a) item ≡ false → sees (first g.rows b) item ≡ true
+    → choose g.rows a b item ≡ Right
 chosen_second g a b item f s = rw (f, s) refl
 
 empty_first : (g : Grammar) (a b : Expr) (item : Option Token) → sees (first g.rows b) item ≡ false → nullable g.rows a ≡ true → choose g.rows a b item ≡ Left
@@ -101,7 +109,8 @@ empty_first g a b item s n =
       | inr f ↦ rw (f, s, n) refl
     ]
 
-empty_second : (g : Grammar) (a b : Expr) (item : Option Token) → sees (first g.rows a) item ≡ false → nullable g.rows a ≡ false → nullable g.rows b ≡ true → choose g.rows a b item ≡ Right
+empty_second : (g : Grammar) (a b : Expr) (item : Option Token) → sees (first g.rows a) item ≡ false → nullable g.rows a ≡ false → nullable g.rows b ≡ true
+    → choose g.rows a b item ≡ Right
 empty_second g a b item f n m =
     elim (cases_Bool (sees (first g.rows b) item)) [
       | inl s ↦ rw (f, s) refl
@@ -116,8 +125,10 @@ chooses-left g ok a b x rest p n = go (leaves x) refl
     go [] h = let m = fits-nullable g ok p h in empty_first g a b (peek rest) (n m) m
     go (t ∷ ts) h = rw (fits-first g ok p t (ap peek h)) refl
 
-pub chooses-right : (g : Grammar) → is_ll1 g.rows ≡ true → (a b : Expr) (y : Shape) (rest : List Token) → Fits g b y → all_apart (first g.rows a) (first g.rows b) ≡ true
-    → (nullable g.rows b ≡ true → (nullable g.rows a ≡ false) × (sees (first g.rows a) (peek rest) ≡ false)) → choose g.rows a b (peek (leaves y ++ rest)) ≡ Right
+pub chooses-right : (g : Grammar) → is_ll1 g.rows ≡ true → (a b : Expr) (y : Shape) (rest : List Token) → Fits g b y
+    → all_apart (first g.rows a) (first g.rows b) ≡ true
+    → (nullable g.rows b ≡ true → (nullable g.rows a ≡ false) × (sees (first g.rows a) (peek rest) ≡ false))
+    → choose g.rows a b (peek (leaves y ++ rest)) ≡ Right
 chooses-right g ok a b y rest p d n = go (leaves y) refl
   where
     go : (ts : List Token) → leaves y ≡ ts → choose g.rows a b (peek (ts ++ rest)) ≡ Right
@@ -128,14 +139,16 @@ not_and : (b c : Bool) → not (b && c) ≡ true → c ≡ true → b ≡ false
 not_and true c h k = absurd (both_ways (not c) (rw k refl) h)
 not_and false c h k = refl
 
-starts : (g : Grammar) → is_ll1 g.rows ≡ true → (a : Expr) (x : Shape) (rest : List Token) → Fits g a x → not (nullable g.rows a) ≡ true → sees (first g.rows a) (peek (leaves x ++ rest)) ≡ true
+starts : (g : Grammar) → is_ll1 g.rows ≡ true → (a : Expr) (x : Shape) (rest : List Token) → Fits g a x → not (nullable g.rows a) ≡ true
+    → sees (first g.rows a) (peek (leaves x ++ rest)) ≡ true
 starts g ok a x rest p n = go (leaves x) refl
   where
     go : (ts : List Token) → leaves x ≡ ts → sees (first g.rows a) (peek (ts ++ rest)) ≡ true
     go [] h = absurd (both_ways (nullable g.rows a) (not-true (nullable g.rows a) n) (fits-nullable g ok p h))
     go (t ∷ ts) h = fits-first g ok p t (ap peek h)
 
-pub complete : (g : Grammar) → is_ll1 g.rows ≡ true → {e : Expr} {x : Shape} → Fits g e x → decides g.rows e ≡ true → (rest : List Token) → sees (cont g.rows e) (peek rest) ≡ false → Takes g e (leaves x ++ rest) x rest
+pub complete : (g : Grammar) → is_ll1 g.rows ≡ true → {e : Expr} {x : Shape} → Fits g e x → decides g.rows e ≡ true → (rest : List Token)
+    → sees (cont g.rows e) (peek rest) ≡ false → Takes g e (leaves x ++ rest) x rest
 complete g ok fits_nothing d rest n = takes_nothing
 complete g ok (fits_leaf h) d rest n = takes_leaf h
 complete g ok (fits_both {a = a} {b = b} {x = x} {y = y} p q) d rest n =
@@ -143,24 +156,31 @@ complete g ok (fits_both {a = a} {b = b} {x = x} {y = y} p q) d rest n =
     let d1 = and_parts (decides g.rows a) (decides g.rows b) d0.0 in
     let n0 = sees-parts (cont g.rows b) (only_if (nullable g.rows b) (first g.rows b ++ cont g.rows a)) (peek rest) n in
     let gone : sees (cont g.rows a) (peek (leaves y ++ rest)) ≡ false =
-    apart-front g ok (cont g.rows a) b y rest q d0.1 (λ z. (sees-parts (first g.rows b) (cont g.rows a) (peek rest) (sees-only (nullable g.rows b) (first g.rows b ++ cont g.rows a) (peek rest) z n0.1)).1) in
+    apart-front g ok (cont g.rows a) b y rest q d0.1
+    (λ z. (sees-parts (first g.rows b) (cont g.rows a) (peek rest)
+    (sees-only (nullable g.rows b) (first g.rows b ++ cont g.rows a) (peek rest) z n0.1)).1) in
     subst (λ (l : List Token). Takes g (Then a b) l (Both x y) rest) (sym (append_assoc (leaves x) (leaves y) rest))
     (takes_both (complete g ok p d1.0 (leaves y ++ rest) gone) (complete g ok q d1.1 rest n0.0))
 complete g ok (fits_first {a = a} {b = b} {x = x} p) d rest n =
-    let d0 = and_parts ((decides g.rows a && decides g.rows b) && all_apart (first g.rows a) (first g.rows b)) (not (nullable g.rows a && nullable g.rows b)) d in
+    let d0 = and_parts ((decides g.rows a && decides g.rows b) && all_apart (first g.rows a) (first g.rows b))
+    (not (nullable g.rows a && nullable g.rows b)) d in
     let d1 = and_parts (decides g.rows a && decides g.rows b) (all_apart (first g.rows a) (first g.rows b)) d0.0 in
-    let n0 = sees-parts (cont g.rows a ++ cont g.rows b) (only_if (nullable g.rows a) (first g.rows b) ++ only_if (nullable g.rows b) (first g.rows a)) (peek rest) n in
+    let n0 = sees-parts (cont g.rows a ++ cont g.rows b) (only_if (nullable g.rows a) (first g.rows b) ++ only_if (nullable g.rows b) (first g.rows a))
+    (peek rest) n in
     let n1 = sees-parts (cont g.rows a) (cont g.rows b) (peek rest) n0.0 in
     let n2 = sees-parts (only_if (nullable g.rows a) (first g.rows b)) (only_if (nullable g.rows b) (first g.rows a)) (peek rest) n0.1 in
     takes_first (chooses-left g ok a b x rest p (λ z. sees-only (nullable g.rows a) (first g.rows b) (peek rest) z n2.0))
     (complete g ok p (and_parts (decides g.rows a) (decides g.rows b) d1.0).0 rest n1.0)
 complete g ok (fits_second {a = a} {b = b} {y = y} p) d rest n =
-    let d0 = and_parts ((decides g.rows a && decides g.rows b) && all_apart (first g.rows a) (first g.rows b)) (not (nullable g.rows a && nullable g.rows b)) d in
+    let d0 = and_parts ((decides g.rows a && decides g.rows b) && all_apart (first g.rows a) (first g.rows b))
+    (not (nullable g.rows a && nullable g.rows b)) d in
     let d1 = and_parts (decides g.rows a && decides g.rows b) (all_apart (first g.rows a) (first g.rows b)) d0.0 in
-    let n0 = sees-parts (cont g.rows a ++ cont g.rows b) (only_if (nullable g.rows a) (first g.rows b) ++ only_if (nullable g.rows b) (first g.rows a)) (peek rest) n in
+    let n0 = sees-parts (cont g.rows a ++ cont g.rows b) (only_if (nullable g.rows a) (first g.rows b) ++ only_if (nullable g.rows b) (first g.rows a))
+    (peek rest) n in
     let n1 = sees-parts (cont g.rows a) (cont g.rows b) (peek rest) n0.0 in
     let n2 = sees-parts (only_if (nullable g.rows a) (first g.rows b)) (only_if (nullable g.rows b) (first g.rows a)) (peek rest) n0.1 in
-    takes_second (chooses-right g ok a b y rest p d1.1 (λ z. (not_and (nullable g.rows a) (nullable g.rows b) d0.1 z, sees-only (nullable g.rows b) (first g.rows a) (peek rest) z n2.1)))
+    takes_second (chooses-right g ok a b y rest p d1.1
+    (λ z. (not_and (nullable g.rows a) (nullable g.rows b) d0.1 z, sees-only (nullable g.rows b) (first g.rows a) (peek rest) z n2.1)))
     (complete g ok p (and_parts (decides g.rows a) (decides g.rows b) d1.0).1 rest n1.1)
 complete g ok (fits_stop {a = a}) d rest n = takes_stop (sees-parts (first g.rows a) (cont g.rows a) (peek rest) n).0
 complete g ok (fits_more {a = a} {x = x} {y = y} p q) d rest n =

@@ -5,13 +5,14 @@ use Rattle.graphql_grammar.specs.Trees.{Expr, Shape, Grammar, leaves, peek, Deri
 use Rattle.graphql_grammar.specs.Tables.{cont, decides, is_ll1, has_samples, is_productive}
 use Rattle.graphql_grammar.specs.Reading.{sees, Takes, Reason, Unexpected, Fails, Outcome, Done, Fault, Reads, lax}
 use Rattle.graphql_grammar.specs.Theorems.{IsFirstFault, IsExact}
-use Rattle.graphql_grammar.proofs.Taken.{takes-fits, takes-leaves}
+use Rattle.graphql_grammar.proofs.Sound.{takes-fits, takes-leaves}
 use Rattle.graphql_grammar.proofs.Complete.{complete}
-use Rattle.graphql_grammar.proofs.Same.{same-take, take-or_fail, same-fail}
-use Rattle.graphql_grammar.proofs.Stuck.{stuck, stuck-ends, taken-ends, takes-lax, fails-lax}
-use Rattle.graphql_grammar.proofs.Ends.{answer}
+use Rattle.graphql_grammar.proofs.Deterministic.{same-take, take-or_fail, same-fail}
+use Rattle.graphql_grammar.proofs.FirstFault.{stuck, stuck-ends, taken-ends, takes-lax, fails-lax}
+use Rattle.graphql_grammar.proofs.Total.{answer}
 
-complete_at : (g : Grammar) → is_ll1 g.rows ≡ true → (e : Expr) → decides g.rows e ≡ true → (ts rest : List Token) (x : Shape) → Derives g e ts x → sees (cont g.rows e) (peek rest) ≡ false → Takes g e (ts ++ rest) x rest
+complete_at : (g : Grammar) → is_ll1 g.rows ≡ true → (e : Expr) → decides g.rows e ≡ true → (ts rest : List Token) (x : Shape) → Derives g e ts x
+    → sees (cont g.rows e) (peek rest) ≡ false → Takes g e (ts ++ rest) x rest
 complete_at g ok e d ts rest x h n = subst (λ (l : List Token). Takes g e (l ++ rest) x rest) (sym h.1) (complete g ok h.0 d rest n)
 
 one_answer : (g : Grammar) (e : Expr) (ts : List Token) (o p : Outcome) → Reads g e ts o → Reads g e ts p → o ≡ p
@@ -20,7 +21,8 @@ one_answer g e ts (Done x us) (Fault why vs) h k = absurd (take-or_fail g h k)
 one_answer g e ts (Fault why us) (Done x vs) h k = absurd (take-or_fail g k h)
 one_answer g e ts (Fault why us) (Fault other vs) h k = let i = same-fail g h k in ap₂ Fault i.0 i.1
 
-one_split : (g : Grammar) → is_ll1 g.rows ≡ true → (e : Expr) → decides g.rows e ≡ true → (ts us vs ws : List Token) (x y : Shape) → Derives g e ts x → Derives g e us y → ts ++ vs ≡ us ++ ws
+one_split : (g : Grammar) → is_ll1 g.rows ≡ true → (e : Expr) → decides g.rows e ≡ true → (ts us vs ws : List Token) (x y : Shape) → Derives g e ts x
+    → Derives g e us y → ts ++ vs ≡ us ++ ws
     → sees (cont g.rows e) (peek vs) ≡ false → sees (cont g.rows e) (peek ws) ≡ false → (x ≡ y) × (ts ≡ us) × (vs ≡ ws)
 one_split g ok e d ts us vs ws x y h k same n m =
     let i = same-take g (complete_at g ok e d ts vs x h n) (subst (λ (l : List Token). Takes g e l y ws) (sym same) (complete_at g ok e d us ws y k m)) in
@@ -37,7 +39,8 @@ first_fault g ok full e d f ts us why h =
       ends = stuck-ends g ok e d s.front us why s.again;
       value = s.value;
       refused = s.refused;
-      unexpected = λ i. stuck-ends (lax g) ok e d s.front us Unexpected (λ vs k. fails-lax g (subst (λ (w : Reason). Fails g e (s.front ++ vs) w vs) i (s.again vs k)));
+      unexpected = λ i. stuck-ends (lax g) ok e d s.front us Unexpected
+          (λ vs k. fails-lax g (subst (λ (w : Reason). Fails g e (s.front ++ vs) w vs) i (s.again vs k)));
     }
 
 pub exact : (g : Grammar) → is_ll1 g.rows ≡ true → is_productive g ≡ true → (e : Expr) → decides g.rows e ≡ true → has_samples g e ≡ true → IsExact g e

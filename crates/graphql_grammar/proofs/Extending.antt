@@ -3,9 +3,12 @@ use Rattle.std.proofs.Common.{◌≡◌, ◌<◌, ℕ, zero, suc, Bool, true, �
 use Rattle.std.proofs.lemmas.Bool.{and_parts}
 use Rattle.std.proofs.lemmas.Bool.Decides.{nat_tests}
 use Rattle.graphql_grammar.specs.Tokens.{Token, Class, matches}
-use Rattle.graphql_grammar.specs.Trees.{Expr, Empty, One, Then, Either, Many, Sym, Shape, Both, First, Second, More, Node, Row, Grammar, row_at, row, accepts, peek, Fits, fits_nothing, fits_leaf, fits_both, fits_first, fits_second, fits_stop, fits_more, fits_node}
+use Rattle.graphql_grammar.specs.Trees.{Expr, Empty, One, Then, Either, Many, Sym, Shape, Both, First, Second, More, Node, Row, Grammar, row_at, row, accepts}
+use Rattle.graphql_grammar.specs.Trees.{peek, Fits, fits_nothing, fits_leaf, fits_both, fits_first, fits_second, fits_stop, fits_more, fits_node}
 use Rattle.graphql_grammar.specs.Tables.{nullable, first}
-use Rattle.graphql_grammar.specs.Reading.{sees, choose, Takes, takes_nothing, takes_leaf, takes_both, takes_first, takes_second, takes_stop, takes_more, takes_node, Reason, Fails, fails_one, fails_value, fails_before, fails_after, fails_first, fails_second, fails_neither, fails_turn, fails_later, fails_node, fails_check}
+use Rattle.graphql_grammar.specs.Reading.{sees, choose, Takes, takes_nothing, takes_leaf, takes_both, takes_first, takes_second, takes_stop, takes_more}
+use Rattle.graphql_grammar.specs.Reading.{takes_node, Reason, Fails, fails_one, fails_value, fails_before, fails_after, fails_first, fails_second}
+use Rattle.graphql_grammar.specs.Reading.{fails_neither, fails_turn, fails_later, fails_node, fails_check}
 use Rattle.graphql_grammar.specs.Extended.{is_below, TestsAlike, Extends, ReadsOn, LeavesAlone}
 use Rattle.graphql_grammar.specs.Factored.{Change, unchanged, change_at, written}
 
@@ -104,7 +107,8 @@ module _ (n : ℕ) (g h : Grammar) (x : Extends n g h) where
 pub left_alone : (n : ℕ) (g : Grammar) (cs : List Change) → LeavesAlone n g cs → {e : Expr} {x : Shape} → Fits g e x → is_below n e ≡ true → written cs x ≡ x
 left_alone n g cs a fits_nothing b = refl
 left_alone n g cs a (fits_leaf h) b = refl
-left_alone n g cs a (fits_both {a = p} {b = q} f k) b = let s = and_parts (is_below n p) (is_below n q) b in ap₂ Both (left_alone n g cs a f s.0) (left_alone n g cs a k s.1)
+left_alone n g cs a (fits_both {a = p} {b = q} f k) b = let s = and_parts (is_below n p) (is_below n q) b in ap₂ Both (left_alone n g cs a f s.0)
+    (left_alone n g cs a k s.1)
 left_alone n g cs a (fits_first {a = p} {b = q} f) b = let s = and_parts (is_below n p) (is_below n q) b in ap First (left_alone n g cs a f s.0)
 left_alone n g cs a (fits_second {a = p} {b = q} f) b = let s = and_parts (is_below n p) (is_below n q) b in ap Second (left_alone n g cs a f s.1)
 left_alone n g cs a fits_stop b = refl
@@ -113,7 +117,7 @@ left_alone n g cs a (fits_node {k} {x = s} f c) b =
     let i = below_is k n b in
     ap (Node k) (ap (change_at cs k).to_written (left_alone n g cs a f (a.closed k i)) ∙ a.alone k i s)
 
--- ---- rows behind those of another grammar
+-- ---- rows after those of another grammar
 
 row_before : (rs more : List Row) (k : ℕ) → k < length rs → row_at (rs ++ more) k ≡ row_at rs k
 row_before [] more k h = absurd (omega arith)
@@ -155,8 +159,9 @@ change_before zero cs k h = absurd (omega arith)
 change_before (suc n) cs zero h = refl
 change_before (suc n) cs (suc k) h = change_before n cs k (omega arith)
 
--- changes of symbols behind those of g
-pub alone_before : (g : Grammar) (cs : List Change) → all_below (length g.rows) g.rows ≡ true → LeavesAlone (length g.rows) g (replicate (length g.rows) unchanged ++ cs)
+-- changes of symbols after those of g
+pub alone_before : (g : Grammar) (cs : List Change) → all_below (length g.rows) g.rows ≡ true
+    → LeavesAlone (length g.rows) g (replicate (length g.rows) unchanged ++ cs)
 alone_before g cs b = record {
   closed = λ k h. below_at (length g.rows) g.rows k b h;
   alone = λ k h x. ap (λ (c : Change). c.to_written x) (change_before (length g.rows) cs k h);

@@ -13,12 +13,12 @@ use Rattle.graphql_grammar.specs.Leads.{Leads, leads_here, leads_before, leads_a
 use Rattle.graphql_grammar.specs.Texts.{Text, Ending, End, Bad, Answer, Tree, Wrong, answer_of}
 use Rattle.graphql_grammar.specs.Faults.{StopsBefore, IsFault, bad_place, unexpected, leaf_refused, node_refused, IsLeast, index_of, AnswersLeast}
 use Rattle.graphql_grammar.specs.Faults.{RefusesTokens}
-use Rattle.graphql_grammar.proofs.Alike.{Fronts, fronts, cancel}
-use Rattle.graphql_grammar.proofs.Taken.{takes-fits, takes-leaves}
+use Rattle.graphql_grammar.proofs.OneClass.{Fronts, fronts, cancel}
+use Rattle.graphql_grammar.proofs.Sound.{takes-fits, takes-leaves}
 use Rattle.graphql_grammar.proofs.Complete.{IsRow-each, fits-first}
-use Rattle.graphql_grammar.proofs.Same.{take-or_fail, same-fail}
-use Rattle.graphql_grammar.proofs.Ends.{answer}
-use Rattle.graphql_grammar.proofs.Stuck.{samples-at, tree-of, begins-around, fits-lax, takes-lax, taken-ends}
+use Rattle.graphql_grammar.proofs.Deterministic.{take-or_fail, same-fail}
+use Rattle.graphql_grammar.proofs.Total.{answer}
+use Rattle.graphql_grammar.proofs.FirstFault.{samples-at, tree-of, begins-around, fits-lax, takes-lax, taken-ends}
 use Rattle.graphql_grammar.proofs.Exact.{first_fault}
 use Rattle.graphql_grammar.proofs.Leading.{step, run-takes, run-fails}
 use Rattle.graphql_grammar.proofs.Stopping.{stops}
@@ -177,7 +177,7 @@ module _ (g : Grammar) (ok : is_ll1 g.rows ≡ true) (full : is_productive g ≡
     where
       again : why ≡ Improper c → us ≡ u ∷ vs → length t.tokens + step why ≡ suc (length front) + length us
       again i j = omega (arith, ap step i, ap length j, ap length p, length-append front (u ∷ vs))
-  meets t why _ us _ h (node_refused before vs k x p ne l q c n) =
+  meets t why _ us _ h (node_refused before vs k x (p, ne, l, q, c, n)) =
       let r = node_fails k x vs q c n in
       elim (run-fails g ok l d t.tokens (leaves x ++ vs) p (sees_node k x vs q ne) h) [
         | inl i ↦ inl (omega (arith, i, ap length p, length-append before (leaves x ++ vs), length-append before (leaves x), positive (leaves x) ne))
@@ -215,7 +215,7 @@ module _ (g : Grammar) (ok : is_ll1 g.rows ≡ true) (full : is_productive g ≡
   meets-taken t _ us _ z h (leaf_refused front vs u c p l m n) =
       let k = run-takes g ok l d t.tokens (u ∷ vs) p (sees_leaf c u vs m) h in
       absurd (take-or_fail g k.2 (fails_value {c = c} {t = u} {ts = vs} m n))
-  meets-taken t _ us _ z h (node_refused before vs k x p ne l q c n) =
+  meets-taken t _ us _ z h (node_refused before vs k x (p, ne, l, q, c, n)) =
       let w = run-takes g ok l d t.tokens (leaves x ++ vs) p (sees_node k x vs q ne) h in
       absurd (take-or_fail g w.2 (node_fails k x vs q c n))
 
@@ -232,7 +232,7 @@ module _ (g : Grammar) (ok : is_ll1 g.rows ≡ true) (full : is_productive g ≡
   no_fault t z h k _ _ (leaf_refused front vs u c p l m n) =
       let w = run-takes g ok l d t.tokens (u ∷ vs) p (sees_leaf c u vs m) h in
       take-or_fail g w.2 (fails_value {c = c} {t = u} {ts = vs} m n)
-  no_fault t z h k _ _ (node_refused before vs j x p ne l q c n) =
+  no_fault t z h k _ _ (node_refused before vs j x (p, ne, l, q, c, n)) =
       let w = run-takes g ok l d t.tokens (leaves x ++ vs) p (sees_node j x vs q ne) h in
       take-or_fail g w.2 (node_fails j x vs q c n)
 
@@ -296,8 +296,8 @@ module _ (g : Grammar) (ok : is_ll1 g.rows ≡ true) (full : is_productive g ≡
       let p : t.tokens ≡ s.front ++ (leaves x ++ us) = s.parts ∙ ap (λ (l : List Token). s.front ++ l) (takes-leaves g v.2) in
       at-index t (Refused k) (length (s.front ++ leaves x)) (index_of (Refused k) (length t.tokens - length us))
       (omega (arith, index_is (Refused k) t.tokens us (s.front ++ leaves x) (p ∙ sym (append_assoc s.front (leaves x) us))))
-      (node_refused s.front us k x p (λ i. tokens k x fits v.3 i) (subst (λ (a : Expr). Leads (lax g) e s.front a) v.1 s.leads) fits v.3
-      (stopped k x s.rest us v.2))
+      (node_refused s.front us k x
+      (p, (λ i. tokens k x fits v.3 i), subst (λ (a : Expr). Leads (lax g) e s.front a) v.1 s.leads, fits, v.3, stopped k x s.rest us v.2))
     where
       in_node : (k : ℕ) (ts : List Token) (y : Shape) → Fits (lax g) (Sym k) y → ts ≡ leaves y → (z : Shape) × Fits (lax g) (row g k).rule z × (ts ≡ leaves z)
       in_node k ts _ (fits_node {x = z} w c) i = (z, w, i)

@@ -1,15 +1,20 @@
 -- The faults of a text by a written grammar are those by its second rules.
 use Rattle.std.proofs.Common.{◌≡◌, ℕ, true, false, List, [], ◌∷◌, ◌++◌, length, Option, refl, sym, ap, subst, ◌∙◌}
 use Rattle.graphql_grammar.specs.Tokens.{Token}
-use Rattle.graphql_grammar.specs.Trees.{Expr, Then, Many, Sym, Shape, Row, Grammar, row_at, row, leaves, peek, Fits, Begins, Ends}
+use Rattle.graphql_grammar.specs.Trees.{Expr, Then, Many, Sym, Shape, Node, Row, Grammar, row_at, row, leaves, peek, Fits, Begins, Ends}
 use Rattle.graphql_grammar.specs.Tables.{decides, is_ll1, is_tight, has_samples, is_productive}
 use Rattle.graphql_grammar.specs.Reading.{Reason, Refused, lax}
 use Rattle.graphql_grammar.specs.Factored.{Change, change_at, written, with_rows, EachIsSecond}
 use Rattle.graphql_grammar.specs.Leads.{Leads, leads_here, leads_before, leads_after, leads_first, leads_second, leads_turn, leads_later, leads_node, IsTested}
 use Rattle.graphql_grammar.specs.Texts.{Text}
-use Rattle.graphql_grammar.specs.Faults.{IsFault, bad_place, unexpected, leaf_refused, node_refused, AnswersLeast, RefusesTokens}
-use Rattle.graphql_grammar.proofs.Carried.{seconds, written-fits, written-leaves, seconds-fits, written-seconds, to-second, begins-written, ends-written}
-use Rattle.graphql_grammar.proofs.OneIndex.{least}
+use Rattle.graphql_grammar.specs.Faults.{IsFault, bad_place, unexpected, leaf_refused, node_refused, IsRefused, AnswersLeast, RefusesTokens}
+use Rattle.graphql_grammar.proofs.SecondRules.{seconds, written-fits, written-leaves, seconds-fits, written-seconds, to-second, begins-written, ends-written}
+use Rattle.graphql_grammar.proofs.OneIndex.{least, one_node}
+
+-- what stands in a node
+abbrev inside : Shape → Shape
+inside (Node k x) = x
+inside x = x
 
 module _ (g : Grammar) (rs : List Row) (cs : List Change) (each : EachIsSecond g rs cs) (each_lax : EachIsSecond (lax g) rs cs) where
   seconds-leaves : {e : Expr} {y : Shape} → Fits (lax g) e y → leaves (seconds cs y) ≡ leaves y
@@ -81,33 +86,52 @@ module _ (g : Grammar) (rs : List Row) (cs : List Change) (each : EachIsSecond g
       → IsFault h e t (Refused k) (length (before ++ ys))
   at-leaves h e t k before xs ys i x = subst (λ (l : List Token). IsFault h e t (Refused k) (length (before ++ l))) i x
 
+  from-leaves : (k : ℕ) (x : Shape) → Fits g (row g k).rule x → leaves (from-rule k x) ≡ leaves x
+  from-leaves k x f = sym (rule-leaves k (from-rule k x) (from-fits k x f)) ∙ ap leaves (from-to k x f)
+
+  node-written : (e : Expr) (ts : List Token) (k : ℕ) (x : Shape) (before us : List Token) → IsRefused (with_rows g rs cs) e ts k x before us
+      → IsRefused g e ts k (to-rule k x) before us
+  node-written e ts k x before us (p, ne, l, f, c, n) =
+      let y = to-rule k x in
+      let i = rule-leaves k x f in
+      let c2 : g.check k y ≡ false = sym (rule-check k x) ∙ c in (
+        p ∙ ap (λ (m : List Token). before ++ (m ++ us)) (sym i),
+        (λ j. ne (sym i ∙ j)),
+        leads-written (y, c2) l,
+        rule-fits k x f,
+        c2,
+        (λ u rest h b. n u rest h (begins-second (Sym k) (leaves x ++ u ∷ []) (subst (λ (m : List Token). Begins (lax g) (Sym k) (m ++ u ∷ [])) i b))),
+      )
+
+  node-second : (e : Expr) (ts : List Token) (k : ℕ) (x : Shape) (before us : List Token) → IsRefused g e ts k x before us
+      → IsRefused (with_rows g rs cs) e ts k (from-rule k x) before us
+  node-second e ts k x before us (p, ne, l, f, c, n) =
+      let i = from-leaves k x f in (
+        p ∙ ap (λ (m : List Token). before ++ (m ++ us)) (sym i),
+        (λ j. ne (sym i ∙ j)),
+        leads-second (x, c) l,
+        from-fits k x f,
+        rule-check k (from-rule k x) ∙ ap (g.check k) (from-to k x f) ∙ c,
+        (λ u rest h b. n u rest h (begins-written (lax g) rs cs each_lax (Sym k) (leaves x ++ u ∷ [])
+            (subst (λ (m : List Token). Begins (lax (with_rows g rs cs)) (Sym k) (m ++ u ∷ [])) i b))),
+      )
+
   fault-written : (e : Expr) (t : Text) (why : Reason) (n : ℕ) → IsFault (with_rows g rs cs) e t why n → IsFault g e t why n
   fault-written e t _ _ (bad_place b) = bad_place b
   fault-written e t _ _ (unexpected front us p i b n) =
       unexpected front us p i (begins-written (lax g) rs cs each_lax e front b) (ends-written (lax g) rs cs each_lax e front (peek us) n)
   fault-written e t _ _ (leaf_refused front us u c p l m n) = leaf_refused front us u c p (leads-written tt l) m n
-  fault-written e t _ _ (node_refused before us k x p ne l f c n) =
-      let y = to-rule k x in
-      let i = rule-leaves k x f in
-      let c2 : g.check k y ≡ false = sym (rule-check k x) ∙ c in
-      at-leaves g e t k before (leaves y) (leaves x) i
-      (node_refused before us k y (p ∙ ap (λ (m : List Token). before ++ (m ++ us)) (sym i)) (λ j. ne (sym i ∙ j)) (leads-written (y, c2) l) (rule-fits k x f)
-      c2
-      (λ u rest h b. n u rest h (begins-second (Sym k) (leaves x ++ u ∷ []) (subst (λ (m : List Token). Begins (lax g) (Sym k) (m ++ u ∷ [])) i b))))
+  fault-written e t _ _ (node_refused before us k x r) =
+      at-leaves g e t k before (leaves (to-rule k x)) (leaves x) (rule-leaves k x r.3)
+      (node_refused before us k (to-rule k x) (node-written e t.tokens k x before us r))
 
   fault-second : (e : Expr) (t : Text) (why : Reason) (n : ℕ) → IsFault g e t why n → IsFault (with_rows g rs cs) e t why n
   fault-second e t _ _ (bad_place b) = bad_place b
   fault-second e t _ _ (unexpected front us p i b n) = unexpected front us p i (begins-second e front b) (ends-second e front (peek us) n)
   fault-second e t _ _ (leaf_refused front us u c p l m n) = leaf_refused front us u c p (leads-second tt l) m n
-  fault-second e t _ _ (node_refused before us k x p ne l f c n) =
-      let y = from-rule k x in
-      let w = from-fits k x f in
-      let i : leaves y ≡ leaves x = sym (rule-leaves k y w) ∙ ap leaves (from-to k x f) in
-      at-leaves (with_rows g rs cs) e t k before (leaves y) (leaves x) i
-      (node_refused before us k y (p ∙ ap (λ (m : List Token). before ++ (m ++ us)) (sym i)) (λ j. ne (sym i ∙ j)) (leads-second (x, c) l) w
-      (rule-check k y ∙ ap (g.check k) (from-to k x f) ∙ c)
-      (λ u rest h b. n u rest h (begins-written (lax g) rs cs each_lax (Sym k) (leaves x ++ u ∷ [])
-      (subst (λ (m : List Token). Begins (lax (with_rows g rs cs)) (Sym k) (m ++ u ∷ [])) i b))))
+  fault-second e t _ _ (node_refused before us k x r) =
+      at-leaves (with_rows g rs cs) e t k before (leaves (from-rule k x)) (leaves x) (from-leaves k x r.3)
+      (node_refused before us k (from-rule k x) (node-second e t.tokens k x before us r))
 
   pub least_for : is_ll1 rs ≡ true → is_tight rs ≡ true → is_productive (with_rows g rs cs) ≡ true → RefusesTokens g
       → (e : Expr) → decides rs e ≡ true → has_samples (with_rows g rs cs) e ≡ true → AnswersLeast g (with_rows g rs cs) e
@@ -121,3 +145,13 @@ module _ (g : Grammar) (rs : List Row) (cs : List Change) (each : EachIsSecond g
         one = λ t why other m n x y. a.one t why other m n
             (fault-second e t why m x.0, λ w i z. x.1 w i (fault-written e t w i z)) (fault-second e t other n y.0, λ w i z. y.1 w i (fault-written e t w i z));
       }
+
+  -- of one symbol one node at most is refused that ends there
+  pub one_node_for : is_ll1 rs ≡ true → is_tight rs ≡ true → is_productive (with_rows g rs cs) ≡ true
+      → (e : Expr) → decides rs e ≡ true → has_samples (with_rows g rs cs) e ≡ true → (ts before us before2 vs : List Token) (k : ℕ) (x y : Shape)
+      → IsRefused g e ts k x before us → IsRefused g e ts k y before2 vs → length (before ++ leaves x) ≡ length (before2 ++ leaves y) → x ≡ y
+  one_node_for ok tight full e d f ts before us before2 vs k x y a b h =
+      let one = one_node (with_rows g rs cs) ok full tight e d f ts before us before2 vs k k (from-rule k x) (from-rule k y)
+      (node-second e ts k x before us a) (node-second e ts k y before2 vs b)
+      (ap (λ (m : List Token). length (before ++ m)) (from-leaves k x a.3) ∙ h ∙ ap (λ (m : List Token). length (before2 ++ m)) (sym (from-leaves k y b.3))) in
+      sym (from-to k x a.3) ∙ ap (λ (n : Shape). to-rule k (inside n)) one ∙ from-to k y b.3

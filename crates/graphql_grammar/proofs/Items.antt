@@ -7,7 +7,7 @@ use Rattle.graphql_grammar.specs.Tables.{only_if}
 use Rattle.graphql_grammar.specs.Reading.{sees}
 use Rattle.graphql_grammar.proofs.Classes.{all_apart-sound, all_within-sound, in_any-left, in_any-right}
 
--- it depends on no more of what comes behind than the next item of that
+-- it depends on no more of what comes after than the next item of that
 pub peek-seam : (xs us vs : List Token) → peek us ≡ peek vs → peek (xs ++ us) ≡ peek (xs ++ vs)
 peek-seam [] us vs h = h
 peek-seam (x ∷ xs) us vs h = refl

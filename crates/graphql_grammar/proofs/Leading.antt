@@ -11,10 +11,10 @@ use Rattle.graphql_grammar.specs.Reading.{fails_first, fails_second, fails_neith
 use Rattle.graphql_grammar.specs.Leads.{Leads, leads_here, leads_before, leads_after, leads_first, leads_second, leads_turn, leads_later, leads_node}
 use Rattle.graphql_grammar.proofs.Classes.{all_within-sound, in_any-left, in_any-right}
 use Rattle.graphql_grammar.proofs.Items.{sees-apart}
-use Rattle.graphql_grammar.proofs.Taken.{takes-leaves}
+use Rattle.graphql_grammar.proofs.Sound.{takes-leaves}
 use Rattle.graphql_grammar.proofs.Complete.{IsRow-each, fits-nullable, fits-first, complete}
-use Rattle.graphql_grammar.proofs.Same.{same-take, take-or_fail}
-use Rattle.graphql_grammar.proofs.Stuck.{takes-lax}
+use Rattle.graphql_grammar.proofs.Deterministic.{same-take, take-or_fail}
+use Rattle.graphql_grammar.proofs.FirstFault.{takes-lax}
 
 sees-left : (cs ds : List Class) (item : Option Token) → sees cs item ≡ true → sees (cs ++ ds) item ≡ true
 sees-left cs ds None h = absurd cc

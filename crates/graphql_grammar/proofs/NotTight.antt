@@ -69,5 +69,5 @@ alone u rest h b = wrong u (next u rest h) (inside b.0 u b.1 b.2.0 b.2.1)
 
 least_is_before : IsFault g (Sym 0) (record { tokens = token 0 ∷ token 2 ∷ []; ending = End }) (Refused 0) 1
 least_is_before =
-    node_refused [] (token 2 ∷ []) 0 (Both (Leaf (token 0)) (Second Nothing)) refl (λ i. absurd cc) leads_here
-    (fits_both (fits_leaf refl) (fits_second fits_nothing)) refl alone
+    node_refused [] (token 2 ∷ []) 0 (Both (Leaf (token 0)) (Second Nothing))
+    (refl, (λ i. absurd cc), leads_here, fits_both (fits_leaf refl) (fits_second fits_nothing), refl, alone)

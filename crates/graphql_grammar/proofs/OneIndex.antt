@@ -10,12 +10,12 @@ use Rattle.graphql_grammar.specs.Reading.{sees, Left, Right, Takes, takes_leaf, 
 use Rattle.graphql_grammar.specs.Reading.{takes_stop, takes_more, takes_node, lax}
 use Rattle.graphql_grammar.specs.Leads.{Leads, leads_here, leads_before, leads_after, leads_first, leads_second, leads_turn, leads_later, leads_node}
 use Rattle.graphql_grammar.specs.Texts.{Text}
-use Rattle.graphql_grammar.specs.Faults.{StopsBefore, IsFault, bad_place, unexpected, leaf_refused, node_refused, AnswersLeast, RefusesTokens}
-use Rattle.graphql_grammar.proofs.Stuck.{begins-around, begins-behind, fits-lax, takes-lax}
+use Rattle.graphql_grammar.specs.Faults.{StopsBefore, IsFault, IsRefused, bad_place, unexpected, leaf_refused, node_refused, AnswersLeast, RefusesTokens}
+use Rattle.graphql_grammar.proofs.FirstFault.{begins-around, begins-after, fits-lax, takes-lax}
 use Rattle.graphql_grammar.proofs.Items.{sees-apart}
-use Rattle.graphql_grammar.proofs.Taken.{takes-leaves}
+use Rattle.graphql_grammar.proofs.Sound.{takes-leaves}
 use Rattle.graphql_grammar.proofs.Complete.{IsRow-each, complete}
-use Rattle.graphql_grammar.proofs.Same.{same-take, take-or_fail}
+use Rattle.graphql_grammar.proofs.Deterministic.{same-take, take-or_fail}
 use Rattle.graphql_grammar.proofs.Leading.{both, either, many, goes-left, goes-right, leads-first, past, run-takes}
 use Rattle.graphql_grammar.proofs.Faulted.{sees_leaf, sees_node, positive, node_takes, node_fails, past as past_front, answers_least}
 
@@ -134,7 +134,7 @@ leads-begins g {z = z} (leads_before {a} {b} {ts = ts} {y = y} l w) f =
     begins-around (lax g) a (Then a b) (ts ++ leaves z) (λ x. Both x y) (leaves y) (λ x v. fits_both v w) (λ x. refl) (leads-begins g l f)
 leads-begins g {z = z} (leads_after {a} {b} {ts = ts} {x = x} w l) f =
     subst (Begins (lax g) (Then a b)) (sym (append_assoc (leaves x) ts (leaves z)))
-    (begins-behind (lax g) b (Then a b) (leaves x) (ts ++ leaves z) (Both x) (λ y v. fits_both w v) (λ y. refl) (leads-begins g l f))
+    (begins-after (lax g) b (Then a b) (leaves x) (ts ++ leaves z) (Both x) (λ y v. fits_both w v) (λ y. refl) (leads-begins g l f))
 leads-begins g {z = z} (leads_first {a} {b} {ts = ts} l) f =
     begins-around (lax g) a (Either a b) (ts ++ leaves z) First [] (λ x v. fits_first v) (λ x. sym (append-nil (leaves x))) (leads-begins g l f)
 leads-begins g {z = z} (leads_second {a} {b} {ts = ts} l) f =
@@ -143,7 +143,7 @@ leads-begins g {z = z} (leads_turn {a} {ts = ts} l) f =
     begins-around (lax g) a (Many a) (ts ++ leaves z) (λ x. More x Stop) [] (λ x v. fits_more v fits_stop) (λ x. refl) (leads-begins g l f)
 leads-begins g {z = z} (leads_later {a} {ts = ts} {x = x} w l) f =
     subst (Begins (lax g) (Many a)) (sym (append_assoc (leaves x) ts (leaves z)))
-    (begins-behind (lax g) (Many a) (Many a) (leaves x) (ts ++ leaves z) (More x) (λ y v. fits_more w v) (λ y. refl) (leads-begins g l f))
+    (begins-after (lax g) (Many a) (Many a) (leaves x) (ts ++ leaves z) (More x) (λ y v. fits_more w v) (λ y. refl) (leads-begins g l f))
 leads-begins g {z = z} (leads_node {k} {ts = ts} l) f =
     begins-around (lax g) (row g k).rule (Sym k) (ts ++ leaves z) (Node k) [] (λ x v. fits_node v refl) (λ x. sym (append-nil (leaves x))) (leads-begins g l f)
 
@@ -155,6 +155,9 @@ leaf_takes g (takes_leaf h) = refl
 
 class_is : (a b : Class) → One a ≡ One b → Improper b ≡ Improper a
 class_is a b h = cc
+
+symbol_is : (k j : ℕ) (x y : Shape) → Node k x ≡ Node j y → Refused k ≡ Refused j
+symbol_is k j x y h = cc
 
 no_leaf : (c : Class) (k : ℕ) → Sym k ≡ One c → ⊥
 no_leaf c k h = cc
@@ -177,8 +180,10 @@ module _ (g : Grammar) (ok : is_ll1 g.rows ≡ true) (full : is_productive g ≡
 
   node_within : (k j : ℕ) (x y : Shape) (us vs mid : List Token) → Fits g (row g k).rule x → StopsBefore (lax g) (Sym k) (leaves x) us
       → Fits g (row g j).rule y → g.check j y ≡ false → (leaves y ≡ [] → ⊥) → StopsBefore (lax g) (Sym j) (leaves y) vs
-      → leaves x ++ us ≡ mid ++ (leaves y ++ vs) → Leads (lax g) (Sym k) mid (Sym j) → Refused k ≡ Refused j
-  node_within k j x y us vs mid p n q c ne r h leads_here = refl
+      → leaves x ++ us ≡ mid ++ (leaves y ++ vs) → Leads (lax g) (Sym k) mid (Sym j) → Node k x ≡ Node j y
+  node_within k j x y us vs mid p n q c ne r h leads_here =
+      let t = subst (λ (ts : List Token). Takes g (row g k).rule ts y vs) (sym h) (node_takes g ok full tight e d f k y vs q r) in
+      ap (Node k) (same-take g (node_takes g ok full tight e d f k x us p n) t).0
   node_within k j x y us vs mid p n q c ne r h (leads_node l) =
       let t = run-takes g ok l (IsRow-each g.rows ok k).decides (leaves x ++ us) (leaves y ++ vs) h (sees_node g ok full tight e d f j y vs q ne)
       (node_takes g ok full tight e d f k x us p n) in
@@ -275,12 +280,10 @@ module _ (g : Grammar) (ok : is_ll1 g.rows ≡ true) (full : is_productive g ≡
         ]
       ]
 
-  node_node : (ts before us before2 vs : List Token) (k j : ℕ) (x y : Shape) → ts ≡ before ++ (leaves x ++ us) → (leaves x ≡ [] → ⊥)
-      → Leads (lax g) e before (Sym k) → Fits g (row g k).rule x → g.check k x ≡ false → StopsBefore (lax g) (Sym k) (leaves x) us
-      → ts ≡ before2 ++ (leaves y ++ vs) → (leaves y ≡ [] → ⊥) → Leads (lax g) e before2 (Sym j) → Fits g (row g j).rule y → g.check j y ≡ false
-      → StopsBefore (lax g) (Sym j) (leaves y) vs
-      → length (before ++ leaves x) ≡ length (before2 ++ leaves y) → Refused k ≡ Refused j
-  node_node ts before us before2 vs k j x y p ne l w c n q ne2 r w2 c2 n2 h =
+  -- no two refused nodes end at one place
+  pub one_node : (ts before us before2 vs : List Token) (k j : ℕ) (x y : Shape) → IsRefused g e ts k x before us → IsRefused g e ts j y before2 vs
+      → length (before ++ leaves x) ≡ length (before2 ++ leaves y) → Node k x ≡ Node j y
+  one_node ts before us before2 vs k j x y (p, ne, l, w, c, n) (q, ne2, r, w2, c2, n2) h =
       elim (compare g ok l r d ts (leaves x ++ us) (leaves y ++ vs) p q (sees_node g ok full tight e d f k x us w ne)
       (sees_node g ok full tight e d f j y vs w2 ne2)) [
         | inl o ↦ elim o [
@@ -329,14 +332,14 @@ module _ (g : Grammar) (ok : is_ll1 g.rows ≡ true) (full : is_productive g ≡
   one_index t _ _ _ _ (bad_place b) (bad_place b2) h = refl
   one_index t _ _ _ _ (bad_place b) (unexpected front us p i b2 n) h = refl
   one_index t _ _ _ _ (bad_place b) (leaf_refused front us u c p l m n) h = absurd (omega (arith, h, ap length p, length-append front (u ∷ us)))
-  one_index t _ _ _ _ (bad_place b) (node_refused before us k x p ne l w c n) h =
+  one_index t _ _ _ _ (bad_place b) (node_refused before us k x (p, ne, l, w, c, n)) h =
       absurd (omega (arith, h, ap length p, length-append before (leaves x ++ us), length-append before (leaves x), length-append (leaves x) us))
   one_index t _ _ _ _ (unexpected front us p i b n) (bad_place b2) h = refl
   one_index t _ _ _ _ (unexpected front us p i b n) (unexpected front2 us2 p2 i2 b2 n2) h = refl
   one_index t _ _ _ _ (unexpected front us p i b n) (leaf_refused front2 us2 u c p2 l m n2) h =
       absurd (not_unexpected t.tokens front us (front2 ++ u ∷ []) us2 p (p2 ∙ split front2 us2 u) n (leads-begins g l (leaf_fits c u m))
       (omega (arith, h, length-append front2 (u ∷ []))))
-  one_index t _ _ _ _ (unexpected front us p i b n) (node_refused before us2 k x p2 ne l w c n2) h =
+  one_index t _ _ _ _ (unexpected front us p i b n) (node_refused before us2 k x (p2, ne, l, w, c, n2)) h =
       absurd (not_unexpected t.tokens front us (before ++ leaves x) us2 p (p2 ∙ sym (append_assoc before (leaves x) us2)) n
       (leads-begins g {z = Node k x} l (fits_node (fits-lax g w) refl)) h)
   one_index t _ _ _ _ (leaf_refused front us u c p l m n) (bad_place b) h = absurd (omega (arith, h, ap length p, length-append front (u ∷ us)))
@@ -345,17 +348,17 @@ module _ (g : Grammar) (ok : is_ll1 g.rows ≡ true) (full : is_productive g ≡
       (omega (arith, h, length-append front2 (u ∷ []))))
   one_index t _ _ _ _ (leaf_refused front us u c p l m n) (leaf_refused front2 us2 v k p2 l2 m2 n2) h =
       leaf_leaf t.tokens front us front2 us2 u v c k p l m p2 l2 m2 h
-  one_index t _ _ _ _ (leaf_refused front us u c p l m n) (node_refused before vs k x q ne r w b n2) h =
+  one_index t _ _ _ _ (leaf_refused front us u c p l m n) (node_refused before vs k x (q, ne, r, w, b, n2)) h =
       absurd (leaf_node t.tokens front us before vs u c k x p l m n q ne r w n2 h)
-  one_index t _ _ _ _ (node_refused before us k x p ne l w c n) (bad_place b) h =
+  one_index t _ _ _ _ (node_refused before us k x (p, ne, l, w, c, n)) (bad_place b) h =
       absurd (omega (arith, h, ap length p, length-append before (leaves x ++ us), length-append before (leaves x), length-append (leaves x) us))
-  one_index t _ _ _ _ (node_refused before us2 k x p2 ne l w c n2) (unexpected front us p i b n) h =
+  one_index t _ _ _ _ (node_refused before us2 k x (p2, ne, l, w, c, n2)) (unexpected front us p i b n) h =
       absurd (not_unexpected t.tokens front us (before ++ leaves x) us2 p (p2 ∙ sym (append_assoc before (leaves x) us2)) n
       (leads-begins g {z = Node k x} l (fits_node (fits-lax g w) refl)) (sym h))
-  one_index t _ _ _ _ (node_refused before vs k x q ne r w b n2) (leaf_refused front us u c p l m n) h =
+  one_index t _ _ _ _ (node_refused before vs k x (q, ne, r, w, b, n2)) (leaf_refused front us u c p l m n) h =
       absurd (leaf_node t.tokens front us before vs u c k x p l m n q ne r w n2 (sym h))
-  one_index t _ _ _ _ (node_refused before us k x p ne l w c n) (node_refused before2 vs j y q ne2 r w2 c2 n2) h =
-      node_node t.tokens before us before2 vs k j x y p ne l w c n q ne2 r w2 c2 n2 h
+  one_index t _ _ _ _ (node_refused before us k x a) (node_refused before2 vs j y b) h =
+      symbol_is k j x y (one_node t.tokens before us before2 vs k j x y a b h)
 
   pub least : RefusesTokens g → AnswersLeast g g e
   least tokens = answers_least g ok full tight e d f tokens (λ t why other n x y. one_index t why other n n x y refl)

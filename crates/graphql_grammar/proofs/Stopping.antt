@@ -10,7 +10,7 @@ use Rattle.graphql_grammar.specs.Reading.{takes_more, takes_node, lax}
 use Rattle.graphql_grammar.specs.Faults.{StopsBefore}
 use Rattle.graphql_grammar.proofs.Items.{sees-apart}
 use Rattle.graphql_grammar.proofs.Complete.{IsRow-each, fits-nullable, fits-first, complete}
-use Rattle.graphql_grammar.proofs.Stuck.{samples-at, begins-around, begins-behind, fits-lax}
+use Rattle.graphql_grammar.proofs.FirstFault.{samples-at, begins-around, begins-after, fits-lax}
 use Rattle.graphql_grammar.proofs.Leading.{both, either, many, goes-left, goes-right}
 use Rattle.graphql_grammar.proofs.Tight.{real}
 
@@ -91,7 +91,7 @@ module _ (g : Grammar) (ok : is_ll1 g.rows ≡ true) (full : is_productive g ≡
       go [] i = absurd (both_ways (nullable g.rows a) (not-true (nullable g.rows a) n) (fits-nullable g ok p i))
       go (t ∷ xs) i = fits-first g ok p t (ap peek i)
 
-  -- nothing behind it
+  -- nothing after it
   short : (x y u : List Token) → y ≡ [] → x ++ u ≡ (x ++ y) ++ u
   short x y u i = ap (λ (l : List Token). l ++ u) (sym (ap (λ (l : List Token). x ++ l) i ∙ append-nil x))
 
@@ -108,7 +108,7 @@ module _ (g : Grammar) (ok : is_ll1 g.rows ≡ true) (full : is_productive g ≡
       (λ u rest h k. n u rest h (subst (Begins (lax g) (Then a b)) (short (leaves x) (leaves y) (u ∷ []) j)
       (begins-around (lax g) a (Then a b) (leaves x ++ u ∷ []) (λ z. Both z y) (leaves y) (λ z w. fits_both w (fits-lax g q)) (λ z. refl) k)))))
       (stops q i.1 f1.1 us (λ u rest h k. n u rest h (subst (Begins (lax g) (Then a b)) (sym (append_assoc (leaves x) (leaves y) (u ∷ [])))
-      (begins-behind (lax g) b (Then a b) (leaves x) (leaves y ++ u ∷ []) (Both x) (λ z w. fits_both (fits-lax g p) w) (λ z. refl) k)))))
+      (begins-after (lax g) b (Then a b) (leaves x) (leaves y ++ u ∷ []) (Both x) (λ z w. fits_both (fits-lax g p) w) (λ z. refl) k)))))
   stops (fits_first {a = a} {b = b} {x = x} p) d f us n =
       let i = either g ok a b d in
       let f1 = and_parts (has_samples g a) (has_samples g b) f in
@@ -126,7 +126,7 @@ module _ (g : Grammar) (ok : is_ll1 g.rows ≡ true) (full : is_productive g ≡
       (short (leaves x) (leaves y) (u ∷ []) j)
       (begins-around (lax g) a (Many a) (leaves x ++ u ∷ []) (λ z. More z Stop) [] (λ z w. fits_more w fits_stop) (λ z. refl) k)))))
       (stops q d f us (λ u rest h k. n u rest h (subst (Begins (lax g) (Many a)) (sym (append_assoc (leaves x) (leaves y) (u ∷ [])))
-      (begins-behind (lax g) (Many a) (Many a) (leaves x) (leaves y ++ u ∷ []) (More x) (λ z w. fits_more (fits-lax g p) w) (λ z. refl) k)))))
+      (begins-after (lax g) (Many a) (Many a) (leaves x) (leaves y ++ u ∷ []) (More x) (λ z w. fits_more (fits-lax g p) w) (λ z. refl) k)))))
   stops (fits_node {k = k} {x = x} p c) d f us n =
       takes_node (stops p (IsRow-each g.rows ok k).decides (samples-at g g.rows k full) us (λ u rest h b. n u rest h
       (begins-around (lax g) (row g k).rule (Sym k) (leaves x ++ u ∷ []) (Node k) [] (λ z w. fits_node w refl) (λ z. sym (append-nil (leaves z))) b))) c

@@ -10,8 +10,8 @@ use Rattle.graphql_grammar.specs.Tables.{only_if, nullable, first, ranked, is_ll
 use Rattle.graphql_grammar.specs.Reading.{lax}
 use Rattle.graphql_grammar.proofs.Classes.{all_within-sound}
 use Rattle.graphql_grammar.proofs.Complete.{IsRow-each, implied}
-use Rattle.graphql_grammar.proofs.Ends.{ranked-more, highest, ranked-highest}
-use Rattle.graphql_grammar.proofs.Stuck.{samples-at, tree-of, begins-around, begins-behind, fits-lax}
+use Rattle.graphql_grammar.proofs.Total.{ranked-more, highest, ranked-highest}
+use Rattle.graphql_grammar.proofs.FirstFault.{samples-at, tree-of, begins-around, begins-after, fits-lax}
 
 record IsTightRow (rs : List Row) (r : Row) : Type 0 where
   pub nullable : r.nullable ≡ true → nullable rs r.rule ≡ true
@@ -73,7 +73,7 @@ module _ (g : Grammar) (ok : is_ll1 g.rows ≡ true) (full : is_productive g ≡
           | inr i ↦
               let j = in-if (nullable g.rows a) (first g.rows b) t i in
               let u = p.empty j.0 in
-              begins-behind (lax g) b (Then a b) [] (t ∷ []) (Both u.0) (λ x w. fits_both u.1 w) (λ x. ap (λ (l : List Token). l ++ leaves x) u.2)
+              begins-after (lax g) b (Then a b) [] (t ∷ []) (Both u.0) (λ x w. fits_both u.1 w) (λ x. ap (λ (l : List Token). l ++ leaves x) u.2)
               ((second j.0).begins t j.1)
         ];
       }

@@ -5,7 +5,7 @@ use Rattle.graphql_grammar.specs.Tokens.{Class, Spelled, AnyOf, Except, same_spe
 use Rattle.graphql_grammar.specs.Trees.{Expr, Empty, One, Then, Either, Many, Sym, Row, Grammar}
 use Rattle.graphql_grammar.specs.Factored.{Change, unchanged, IsSecond, AreSecond}
 use Rattle.graphql_grammar.proofs.Classes.{same_spelling-true, same_spellings-true}
-use Rattle.graphql_grammar.proofs.Carried.{IsSecond-unchanged}
+use Rattle.graphql_grammar.proofs.SecondRules.{IsSecond-unchanged}
 
 -- ---- a test that two expressions are the same
 
@@ -56,15 +56,15 @@ same_rules (suc n) (w ∷ ws) (r ∷ rs) = same_rule w.rule r.rule && same_rules
 same_rules _ _ _ = false
 
 module _ (g : Grammar) (rs : List Row) (cs : List Change) where
-  -- n rows that are read as they are written, and others behind them
+  -- n rows that are read as they are written, and others after them
   pub unchanged_then : (n : ℕ) (ws more : List Row) (others : List Change) → same_rules n ws more ≡ true
       → AreSecond g rs cs (drop n ws) (drop n more) others
       → AreSecond g rs cs ws more (replicate n unchanged ++ others)
-  unchanged_then zero ws more others h behind = behind
-  unchanged_then (suc n) (w ∷ ws) (r ∷ more) others h behind =
+  unchanged_then zero ws more others h after = after
+  unchanged_then (suc n) (w ∷ ws) (r ∷ more) others h after =
       let p = and_parts (same_rule w.rule r.rule) (same_rules n ws more) h in (
         subst (λ (e : Expr). IsSecond g rs cs w.rule e unchanged) (same_rule-true w.rule r.rule p.0) (IsSecond-unchanged g rs cs w.rule),
-        unchanged_then n ws more others p.1 behind,
+        unchanged_then n ws more others p.1 after,
       )
-  unchanged_then (suc n) [] more others h behind = absurd cc
-  unchanged_then (suc n) (w ∷ ws) [] others h behind = absurd cc
+  unchanged_then (suc n) [] more others h after = absurd cc
+  unchanged_then (suc n) (w ∷ ws) [] others h after = absurd cc

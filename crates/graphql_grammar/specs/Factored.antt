@@ -1,7 +1,8 @@
 -- A written grammar, and a second list of rules for the same symbols, which one item of lookahead can read.
 use Rattle.std.specs.Prelude.{◌≡◌, ℕ, zero, suc, false, List, [], ◌∷◌, ◌++◌}
 use Rattle.graphql_grammar.specs.Tokens.{Token, Class}
-use Rattle.graphql_grammar.specs.Trees.{Expr, Shape, Nothing, Leaf, Both, First, Second, Stop, More, Node, Row, Grammar, row_at, leaves, peek, Fits, Derives, Begins, Ends}
+use Rattle.graphql_grammar.specs.Trees.{Expr, Shape, Nothing, Leaf, Both, First, Second, Stop, More, Node, Row, Grammar, row_at, leaves, peek, Fits, Derives}
+use Rattle.graphql_grammar.specs.Trees.{Begins, Ends}
 use Rattle.graphql_grammar.specs.Tables.{cont}
 use Rattle.graphql_grammar.specs.Reading.{sees, Takes, Reason, Unexpected, Improper, Fails, unchecked, lax}
 use Rattle.graphql_grammar.specs.Theorems.{IsValue, classes, ReadsAlike}
@@ -36,7 +37,7 @@ abbrev pub with_rows : Grammar → List Row → List Change → Grammar
 with_rows g rs cs = record { rows = rs; good = g.good; check = λ k x. g.check k ((change_at cs k).to_written (written cs x)); samples = g.samples }
 
 -- The second rule q has the trees of the written rule e, with the same tokens, of the same classes: c carries them over, and back.
--- What is tested stands behind the same tokens.
+-- What is tested stands after the same tokens.
 pub record IsSecond (g : Grammar) (rs : List Row) (cs : List Change) (e q : Expr) (c : Change) : Type 0 where
   pub fits : (x : Shape) → Fits g q x → Fits g e (c.to_written x)
   pub leaves : (x : Shape) → Fits g q x → leaves (c.to_written x) ≡ leaves x
@@ -120,7 +121,8 @@ pub record IsFirstFaultFor (g : Grammar) (e : Expr) (ts : List Token) (why : Rea
 -- The reader of the second grammar answers what the written grammar g derives.
 pub record IsExactFor (g : Grammar) (rs : List Row) (cs : List Change) (e : Expr) : Type 0 where
   pub sound : (ts us : List Token) (x : Shape) → Takes (with_rows g rs cs) e ts x us → Derives g e (leaves x) (written cs x) × (ts ≡ leaves x ++ us)
-  pub complete : (ts rest : List Token) (y : Shape) → Derives g e ts y → sees (cont rs e) (peek rest) ≡ false → (x : Shape) × Takes (with_rows g rs cs) e (ts ++ rest) x rest × (written cs x ≡ y)
+  pub complete : (ts rest : List Token) (y : Shape) → Derives g e ts y → sees (cont rs e) (peek rest) ≡ false → (x : Shape)
+      × Takes (with_rows g rs cs) e (ts ++ rest) x rest × (written cs x ≡ y)
   -- no other list, were all values good, begins with what is taken and goes on with the next item
   pub longest : (ts us : List Token) (x : Shape) → Takes (with_rows g rs cs) e ts x us
       → (y : Shape) (more : List Token) → Derives (lax g) e (leaves x ++ more) y → peek more ≡ peek us

@@ -10,6 +10,13 @@ use Rattle.graphql_grammar.specs.Texts.{Text, End, Bad, Tree, Wrong, Answers}
 abbrev pub StopsBefore : Grammar → Expr → List Token → List Token → Type 0
 StopsBefore g e ts us = (u : Token) (rest : List Token) → us ≡ u ∷ rest → Begins g e (ts ++ u ∷ []) → ⊥
 
+-- A node of this symbol is refused between these tokens, though all that stands in it passes. What stands before it is whole, and no
+-- longer list of its symbol goes on with the next item.
+abbrev pub IsRefused : Grammar → Expr → List Token → ℕ → Shape → List Token → List Token → Type 0
+IsRefused g e ts k x before us =
+    (ts ≡ before ++ (leaves x ++ us)) × (leaves x ≡ [] → ⊥) × Leads (lax g) e before (Sym k)
+    × Fits g (row g k).rule x × (g.check k x ≡ false) × StopsBefore (lax g) (Sym k) (leaves x) us
+
 -- Of a grammar g, whose plain grammar (lax g) has the same rules and tests no leaf and no node.
 pub data IsFault (g : Grammar) (e : Expr) (t : Text) : Reason → ℕ → Type 0 where
   -- the place that is no token; where reading stops there, it answers Unexpected
@@ -21,10 +28,9 @@ pub data IsFault (g : Grammar) (e : Expr) (t : Text) : Reason → ℕ → Type 0
   leaf_refused : (front us : List Token) (u : Token) (c : Class) → t.tokens ≡ front ++ u ∷ us → Leads (lax g) e front (One c)
       → matches c u ≡ true → g.good c u ≡ false
       → IsFault g e t (Improper c) (suc (length front))
-  -- The last token of a node that is refused, though all that stands in it passes. What stands before it is whole, and no longer
-  -- list of its symbol goes on with the next item.
-  node_refused : (before us : List Token) (k : ℕ) (x : Shape) → t.tokens ≡ before ++ (leaves x ++ us) → (leaves x ≡ [] → ⊥) → Leads (lax g) e before (Sym k)
-      → Fits g (row g k).rule x → g.check k x ≡ false → StopsBefore (lax g) (Sym k) (leaves x) us → IsFault g e t (Refused k) (length (before ++ leaves x))
+  -- the last token of a node that is refused
+  node_refused : (before us : List Token) (k : ℕ) (x : Shape) → IsRefused g e t.tokens k x before us
+      → IsFault g e t (Refused k) (length (before ++ leaves x))
 
 -- no fault has a smaller index
 abbrev pub IsLeast : Grammar → Expr → Text → Reason → ℕ → Type 0

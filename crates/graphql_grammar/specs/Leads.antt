@@ -1,4 +1,4 @@
--- What can come next behind some tokens.
+-- What can come next after some tokens.
 use Rattle.std.specs.Prelude.{◌≡◌, ℕ, false, List, [], ◌++◌}
 use Rattle.graphql_grammar.specs.Tokens.{Token}
 use Rattle.graphql_grammar.specs.Trees.{Expr, One, Then, Either, Many, Sym, Shape, Grammar, row, leaves, Fits}

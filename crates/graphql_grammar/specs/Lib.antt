@@ -5,7 +5,7 @@ pub mod Reading
 pub mod Theorems
 pub mod Solve
 pub mod Factored
-pub mod Words
+pub mod ReaderWords
 pub mod Texts
 pub mod Extended
 pub mod Leads

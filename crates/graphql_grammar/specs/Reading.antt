@@ -1,7 +1,8 @@
 -- Reading from left to right with one item of lookahead.
 use Rattle.std.specs.Prelude.{◌≡◌, ℕ, Bool, true, false, cond, List, [], ◌∷◌, Option, Some, None}
 use Rattle.graphql_grammar.specs.Tokens.{Token, Class, matches, in_any}
-use Rattle.graphql_grammar.specs.Trees.{Expr, Empty, One, Then, Either, Many, Sym, Shape, Nothing, Leaf, Both, First, Second, Stop, More, Node, Row, Grammar, row, accepts, peek}
+use Rattle.graphql_grammar.specs.Trees.{Expr, Empty, One, Then, Either, Many, Sym, Shape, Nothing, Leaf, Both, First, Second, Stop, More, Node, Row, Grammar}
+use Rattle.graphql_grammar.specs.Trees.{row, accepts, peek}
 use Rattle.graphql_grammar.specs.Tables.{nullable, first}
 
 -- the next item is a token of one of the classes
@@ -24,7 +25,8 @@ pub data Takes (g : Grammar) : Expr → List Token → Shape → List Token → 
   takes_first : {a b : Expr} {ts us : List Token} {x : Shape} → choose g.rows a b (peek ts) ≡ Left → Takes g a ts x us → Takes g (Either a b) ts (First x) us
   takes_second : {a b : Expr} {ts us : List Token} {y : Shape} → choose g.rows a b (peek ts) ≡ Right → Takes g b ts y us → Takes g (Either a b) ts (Second y) us
   takes_stop : {a : Expr} {ts : List Token} → sees (first g.rows a) (peek ts) ≡ false → Takes g (Many a) ts Stop ts
-  takes_more : {a : Expr} {ts us vs : List Token} {x y : Shape} → sees (first g.rows a) (peek ts) ≡ true → Takes g a ts x us → Takes g (Many a) us y vs → Takes g (Many a) ts (More x y) vs
+  takes_more : {a : Expr} {ts us vs : List Token} {x y : Shape} → sees (first g.rows a) (peek ts) ≡ true → Takes g a ts x us → Takes g (Many a) us y vs
+      → Takes g (Many a) ts (More x y) vs
   takes_node : {k : ℕ} {ts us : List Token} {x : Shape} → Takes g (row g k).rule ts x us → g.check k x ≡ true → Takes g (Sym k) ts (Node k x) us
 
 -- an item that no rule has in this place, a token whose value is not good for its class, or a tree that does not pass its symbol's check
@@ -43,7 +45,8 @@ pub data Fails (g : Grammar) : Expr → List Token → Reason → List Token →
   fails_second : {a b : Expr} {ts us : List Token} {why : Reason} → choose g.rows a b (peek ts) ≡ Right → Fails g b ts why us → Fails g (Either a b) ts why us
   fails_neither : {a b : Expr} {ts : List Token} → choose g.rows a b (peek ts) ≡ Neither → Fails g (Either a b) ts Unexpected ts
   fails_turn : {a : Expr} {ts us : List Token} {why : Reason} → sees (first g.rows a) (peek ts) ≡ true → Fails g a ts why us → Fails g (Many a) ts why us
-  fails_later : {a : Expr} {ts us vs : List Token} {x : Shape} {why : Reason} → sees (first g.rows a) (peek ts) ≡ true → Takes g a ts x us → Fails g (Many a) us why vs → Fails g (Many a) ts why vs
+  fails_later : {a : Expr} {ts us vs : List Token} {x : Shape} {why : Reason} → sees (first g.rows a) (peek ts) ≡ true → Takes g a ts x us
+      → Fails g (Many a) us why vs → Fails g (Many a) ts why vs
   fails_node : {k : ℕ} {ts us : List Token} {why : Reason} → Fails g (row g k).rule ts why us → Fails g (Sym k) ts why us
   fails_check : {k : ℕ} {ts us : List Token} {x : Shape} → Takes g (row g k).rule ts x us → g.check k x ≡ false → Fails g (Sym k) ts (Refused k) us
 

@@ -19,7 +19,14 @@ rank_of rs (Many a) = rank_of rs a
 rank_of rs (Sym k) = (row_at rs k).rank + 1
 
 abbrev pub better : List Row → Row → Row
-better rs r = record { rule = r.rule; nullable = nullable rs r.rule; first = plain [] (first rs r.rule); cont = plain [] (cont rs r.rule); rank = rank_of rs r.rule; least = r.least }
+better rs r = record {
+  rule = r.rule;
+  nullable = nullable rs r.rule;
+  first = plain [] (first rs r.rule);
+  cont = plain [] (cont rs r.rule);
+  rank = rank_of rs r.rule;
+  least = r.least;
+}
 
 abbrev pub better_rows : ℕ → List Row → List Row
 better_rows zero rs = rs
@@ -90,5 +97,12 @@ other_rows (r ∷ rs) = rs
 abbrev pub with_tables : List Expr → List Row → List Row
 with_tables [] rs = []
 with_tables (e ∷ es) rs =
-    record { rule = e; nullable = (first_row rs).nullable; first = (first_row rs).first; cont = (first_row rs).cont; rank = (first_row rs).rank; least = (first_row rs).least }
+    record {
+      rule = e;
+      nullable = (first_row rs).nullable;
+      first = (first_row rs).first;
+      cont = (first_row rs).cont;
+      rank = (first_row rs).rank;
+      least = (first_row rs).least;
+    }
     ∷ with_tables es (other_rows rs)

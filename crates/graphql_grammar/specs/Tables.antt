@@ -1,7 +1,8 @@
 -- The test of a grammar's tables.
 use Rattle.std.specs.Prelude.{ℕ, Bool, true, false, not, ◌&&◌, ◌||◌, ◌==◌, nat_lt, cond, List, [], ◌∷◌, ◌++◌}
 use Rattle.graphql_grammar.specs.Tokens.{Token, Class, all_apart, all_within}
-use Rattle.graphql_grammar.specs.Trees.{Expr, Empty, One, Then, Either, Many, Sym, Shape, Nothing, Leaf, Both, First, Second, Stop, More, Node, Row, Grammar, row_at, row, accepts}
+use Rattle.graphql_grammar.specs.Trees.{Expr, Empty, One, Then, Either, Many, Sym, Shape, Nothing, Leaf, Both, First, Second, Stop, More, Node, Row, Grammar}
+use Rattle.graphql_grammar.specs.Trees.{row_at, row, accepts}
 
 -- only where the test holds
 abbrev pub only_if : Bool → List Class → List Class

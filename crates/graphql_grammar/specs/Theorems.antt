@@ -1,7 +1,8 @@
 -- What is proved of the reader.
 use Rattle.std.specs.Prelude.{◌≡◌, ℕ, true, false, List, [], ◌∷◌, ◌++◌, length}
 use Rattle.graphql_grammar.specs.Tokens.{Token, Class, matches}
-use Rattle.graphql_grammar.specs.Trees.{Expr, One, Then, Either, Many, Sym, Shape, Leaf, Both, First, Second, More, Node, Grammar, row, leaves, peek, Fits, Derives, Begins, Ends}
+use Rattle.graphql_grammar.specs.Trees.{Expr, One, Then, Either, Many, Sym, Shape, Leaf, Both, First, Second, More, Node, Grammar, row, leaves, peek, Fits}
+use Rattle.graphql_grammar.specs.Trees.{Derives, Begins, Ends}
 use Rattle.graphql_grammar.specs.Tables.{cont}
 use Rattle.graphql_grammar.specs.Reading.{sees, Takes, Reason, Unexpected, Improper, Refused, Fails, Outcome, Reads, unchecked, lax}
 
@@ -37,7 +38,8 @@ pub record IsExact (g : Grammar) (e : Expr) : Type 0 where
   -- what is taken is derived, and stands at the front
   pub sound : (ts us : List Token) (x : Shape) → Takes g e ts x us → Derives g e (leaves x) x × (ts ≡ leaves x ++ us)
   -- no other list, were all values good, begins with it and goes on with the next item
-  pub longest : (ts us : List Token) (x : Shape) → Takes g e ts x us → (y : Shape) (more : List Token) → Derives (lax g) e (leaves x ++ more) y → peek more ≡ peek us → (y ≡ x) × (more ≡ [])
+  pub longest : (ts us : List Token) (x : Shape) → Takes g e ts x us → (y : Shape) (more : List Token) → Derives (lax g) e (leaves x ++ more) y
+      → peek more ≡ peek us → (y ≡ x) × (more ≡ [])
   -- what is derived is taken, where the next item cannot go on with it
   pub complete : (ts rest : List Token) (x : Shape) → Derives g e ts x → sees (cont g.rows e) (peek rest) ≡ false → Takes g e (ts ++ rest) x rest
   -- a list has one tree

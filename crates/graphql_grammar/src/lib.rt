@@ -11,7 +11,8 @@ ghost use Rattle.graphql_grammar.specs.Theorems.{IsExact, ReadsAlike};
 ghost use Rattle.graphql_grammar.specs.Texts.{IsWhole, IsWholeFor};
 ghost use Rattle.graphql_grammar.specs.Extended.{Extends, TestsAlike, ReadsOn, LeavesAlone, is_below};
 ghost use Rattle.graphql_grammar.specs.Faults.{AnswersLeast, RefusesTokens};
-ghost use Rattle.graphql_grammar.specs.Factored.{Change, change_at, unchanged, out_of_head, in_second, out_of_prefix, out_of_symbols, written, with_rows, IsSecond, AreSecond, EachIsSecond, IsExactFor};
+ghost use Rattle.graphql_grammar.specs.Factored.{Change, change_at, unchanged, out_of_head, in_second, out_of_prefix, out_of_symbols, written, with_rows};
+ghost use Rattle.graphql_grammar.specs.Factored.{IsSecond, AreSecond, EachIsSecond, IsExactFor};
 
 /// A grammar whose tables pass the test is read with one item of lookahead, exactly.
 pub fn reading()

@@ -9,19 +9,18 @@ pub use graphql_query::{minify_query, parse_query};
 /// Text types, numbers, values of strings, and causes of faults.
 pub mod common {
     pub use graphql_core::common::{
-        BadToken, Cause, FloatLiteral, Names, Number, Text, UnquoteError, unquote_block_string,
-        unquote_string,
+        BadToken, Cause, FloatLiteral, MAX_LENGTH, Names, Number, Text, UnquoteError,
+        unquote_block_string, unquote_string,
     };
 }
 
 /// A text cut into its tokens.
 pub mod tokenizer {
-    pub use graphql_core::tokenizer::{Bad, Kind, Token, TokenStream};
+    pub use graphql_core::tokenizer::{Bad, Kind, MAX_DEPTH, Token, TokenStream};
 }
 
 /// Query documents.
 pub mod query {
-    pub use graphql_common::{Directive, Type, Value};
     pub use graphql_core::common::{FloatLiteral, Number};
     pub use graphql_query::{
         Definition, Document, Field, FragmentDefinition, FragmentSpread, InlineFragment,
@@ -29,6 +28,7 @@ pub mod query {
         SelectionSet, Subscription, Text, TypeCondition, VariableDefinition, minify_query,
         parse_query,
     };
+    pub use graphql_values::{Directive, Type, Value};
 }
 
 #[cfg(test)]

@@ -3,10 +3,10 @@ use Rattle.std.proofs.Common.{◌≡◌, ◌≤◌, ℕ, List, length, String, R
 use Rattle.std.specs.Global.{Global}
 use Rattle.graphql_core.specs.declared.common.fault.Fault.{Fault}
 use Rattle.graphql_core.specs.declared.common.fault.Fault.TheVariants.{OutOfMemory, At}
-use Rattle.graphql_core.specs.Items.{Item, HasItems}
+use Rattle.graphql_lexer.specs.Items.{Item, HasItems}
 use Rattle.graphql_core.specs.Source.{split, IsEnd}
 use Rattle.graphql_core.specs.Minified.{IsMinified, IsBadPlaceOf}
-use Rattle.graphql_core.proofs.Cutting.{has_items}
+use Rattle.graphql_lexer.proofs.OneCut.{has_items}
 use Rattle.graphql_query.specs.Minifying.{IsMinifyRefusalOf, ran_out, bad_place, TellsUnlessMemory}
 use Rattle.graphql_core.specs.Refusal.{Refusal, max_length, refusal_of}
 

@@ -1,11 +1,2 @@
-pub mod Tree
-pub mod Grammar
-pub mod Meanings
-pub mod Common
-pub mod Reads
-pub mod Document
 pub mod Minifying
-pub mod Printable
-pub mod Layout
-pub mod Examples
-pub mod Lawful
+pub mod steps

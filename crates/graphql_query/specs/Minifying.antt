@@ -3,7 +3,7 @@ use Rattle.std.specs.Prelude.{◌≡◌, ◌≤◌, ◌<◌, ℕ, List, length, 
 use Rattle.std.specs.Global.{Global}
 use Rattle.graphql_grammar.specs.Tokens.{Place}
 use Rattle.graphql_core.specs.Causes.{CauseText}
-use Rattle.graphql_core.specs.Items.{Item, HasItems}
+use Rattle.graphql_lexer.specs.Items.{Item, HasItems}
 use Rattle.graphql_core.specs.Source.{Wrong, split}
 use Rattle.graphql_core.specs.Refusal.{Refusal, no_memory, max_length, too_long}
 

@@ -1,21 +1,20 @@
-//! Queries: their trees, their grammar and their text.
+//! Queries: their grammar is read here; trees and text are those of `graphql_query_tree`.
 #![tactic(auto)]
 
 mod document;
 mod error;
 mod laws;
 mod minify;
-mod print;
 mod read;
-mod tree;
 
 pub use document::parse_query;
 pub use error::ParseError;
 pub use graphql_core::common::{Names, Text};
-pub use laws::{
-    brackets_are_those_of_the_layout, least_faults_are_first, minified_texts_are_parsed_alike,
-    printed_documents_are_read_back, text_has_no_positions, worked_examples,
+pub use graphql_query_tree::{
+    brackets_are_those_of_the_layout, printed_documents_are_read_back, text_has_no_positions, tree,
+    worked_examples,
 };
+pub use laws::{least_faults_are_first, minified_texts_are_parsed_alike};
 pub use minify::{MinifyError, minify_query};
 
 /// A query document (October 2021, section 2.2).

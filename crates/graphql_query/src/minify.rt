@@ -1,11 +1,11 @@
 //! Texts with no more between their tokens than keeps them apart.
 ghost use Rattle.std.specs.Prelude.{◌≡◌, ◌<◌, ◌≤◌, ℕ, List, length, IfOk, IfErr, IsErrOf, string_bytes};
-ghost use Rattle.graphql_core.specs.Items.{HasItems, Item};
+ghost use Rattle.graphql_lexer.specs.Items.{HasItems, Item};
 ghost use Rattle.graphql_core.specs.Source.{split};
 ghost use Rattle.graphql_core.specs.Minified.{IsMinified, HasTokens};
 ghost use Rattle.graphql_core.specs.Refusal.{max_length, too_long};
-ghost use Rattle.graphql_query.specs.Document.{IsDocumentOf, IsReadBack};
-ghost use Rattle.graphql_query.specs.Tree.{DocumentTree};
+ghost use Rattle.graphql_query_tree.specs.Document.{IsDocumentOf, IsReadBack};
+ghost use Rattle.graphql_query_tree.specs.Tree.{DocumentTree};
 ghost use Rattle.graphql_query.specs.Minifying.{IsMinifyRefusalOf, TellsUnlessMemory};
 
 mod error;
@@ -16,10 +16,10 @@ use graphql_core::helpers::minified;
 use std::alloc::Global;
 
 /// The tokens of a text, joined, with one space between two neighbours of which none is a punctuator, and between a
-/// number and `...` behind it.
+/// number and `...` after it.
 ///
 /// The error is `TextTooLong` at 1:1 for a text of more than `usize::MAX / 16` bytes, which is tested first;
-/// `OutOfMemory` where memory runs out; else `BadToken` or `TooDeep` at the bad place in which the text's items end.
+/// `OutOfMemory` where an allocation fails; else `BadToken` or `TooDeep` at the bad place in which the text's items end.
 pub fn minify_query(alloc: Global, source: String) -> Result<String, MinifyError>
     // What is answered is the spaced tokens of the source.
     ensures minified { IfOk result (λ text. IsMinified (string_bytes source) (string_bytes text)) }
@@ -32,10 +32,10 @@ pub fn minify_query(alloc: Global, source: String) -> Result<String, MinifyError
     ensures document { IfOk result (λ text. (d : DocumentTree) → IsDocumentOf (string_bytes source) d → IsReadBack (string_bytes text) d) }
     ensures no_other { IfOk result (λ text. (d : DocumentTree) → IsDocumentOf (string_bytes text) d → IsReadBack (string_bytes source) d) }
 
-    // A text that can be minified is, unless memory runs out.
+    // A text that can be minified is, unless an allocation fails.
     ensures complete { (text : List ℕ) → length (string_bytes source) ≤ max_length → IsMinified (string_bytes source) text → TellsUnlessMemory text result }
 
-    // A refusal is the bad place of the text. A text past the bound is refused before any memory is taken.
+    // A refusal is the bad place of the text. A text past the bound is refused before any allocation.
     ensures refused { IfErr result (IsMinifyRefusalOf (string_bytes source)) }
     ensures too_long { max_length < length (string_bytes source) → IsErrOf result too_long }
 {

@@ -1,6 +1,5 @@
 //! Cases: what is asked of a text, and what is wanted.
-use std::alloc::{AllocError, Global};
-use std::fmt;
+use crate::told::Told;
 
 /// What is asked of a text.
 #[derive(Clone, Copy)]
@@ -23,6 +22,8 @@ pub enum Asked {
     Block,
     /// To take it as a float literal.
     Float,
+    /// To make as many boxes as the number that it is, one after another.
+    Boxes,
 }
 
 /// What is wanted of a text.
@@ -39,21 +40,13 @@ pub enum Answer<'a> {
 }
 
 impl Answer<'_> {
-    /// Whether this text is wanted.
-    pub fn is_text(self, text: &str) -> bool {
+    /// Whether this is what a case wants to be told.
+    pub fn is_met(self, told: &Told) -> bool {
         match self {
-            Answer::Text(wanted) => text == wanted,
-            Answer::Accepted => true,
-            _ => false,
-        }
-    }
-
-    /// Whether a refusal is wanted, and with this message.
-    pub fn is_refusal<E: fmt::Display>(self, alloc: Global, error: &E) -> Result<bool, AllocError> {
-        match self {
-            Answer::Refused => Ok(true),
-            Answer::Message(message) => Ok(error.to_string(alloc)?.as_str() == message),
-            _ => Ok(false),
+            Answer::Text(wanted) => !told.is_refusal() && told.text() == wanted,
+            Answer::Accepted => !told.is_refusal(),
+            Answer::Refused => told.is_refusal(),
+            Answer::Message(message) => told.is_refusal() && told.text() == message,
         }
     }
 }
@@ -66,11 +59,32 @@ pub struct Case<'a> {
     pub answer: Answer<'a>,
 }
 
-/// A text of so many bytes with LF behind it, and what follows.
+impl Case<'_> {
+    /// Whether this is what the case wants to be told; a tree may be wanted with line ends in place of spaces.
+    pub fn is_met(&self, told: &Told) -> bool {
+        if told.is_wrong() {
+            return false;
+        }
+        match (self.asked, self.answer) {
+            (Asked::Tree, Answer::Text(lines)) => !told.is_refusal()
+                && is_in_lines(told.text(), lines),
+            _ => self.answer.is_met(told),
+        }
+    }
+}
+
+/// Whether the lines are the text, each line end of theirs in place of a space.
+fn is_in_lines(text: &str, lines: &str) -> bool {
+    text.len() == lines.len()
+        && text.bytes().zip(lines.bytes()).all(|(one, other)| one == other
+            || one == b' ' && other == b'\n')
+}
+
+/// A text of so many bytes with LF after it, and what follows.
 fn sized<'a>(text: &'a str, length: &str) -> Option<(&'a str, &'a str)> {
     let length: usize = length.parse().ok()?;
-    let (sized, behind) = text.split_at_checked(length)?;
-    Some((sized, behind.strip_prefix('\n')?))
+    let (sized, after) = text.split_at_checked(length)?;
+    Some((sized, after.strip_prefix('\n')?))
 }
 
 /// What a word asks, with so many spaces a level.
@@ -92,6 +106,7 @@ fn read_word(word: &str, indent: u32) -> Option<Asked> {
         "quoted" => Some(Asked::Quoted),
         "block" => Some(Asked::Block),
         "float" => Some(Asked::Float),
+        "boxes" => Some(Asked::Boxes),
         _ => None,
     }
 }
@@ -108,35 +123,35 @@ fn read_asked(line: &str) -> Option<(Asked, &str)> {
 
 /// The answer at the front, and what follows.
 fn read_answer<'a>(text: &'a str) -> Option<(Answer<'a>, &'a str)> {
-    let (words, behind) = text.split_once('\n')?;
+    let (words, after) = text.split_once('\n')?;
     match words {
-        "refused" => Some((Answer::Refused, behind)),
-        "accepted" => Some((Answer::Accepted, behind)),
-        _ => read_sized_answer(words, behind),
+        "refused" => Some((Answer::Refused, after)),
+        "accepted" => Some((Answer::Accepted, after)),
+        _ => read_sized_answer(words, after),
     }
 }
 
 /// The same of an answer with a length.
-fn read_sized_answer<'a>(words: &str, behind: &'a str) -> Option<(Answer<'a>, &'a str)> {
+fn read_sized_answer<'a>(words: &str, after: &'a str) -> Option<(Answer<'a>, &'a str)> {
     let (word, length) = words.split_once(' ')?;
-    let (text, behind) = sized(behind, length)?;
+    let (text, after) = sized(after, length)?;
     match word {
-        "ok" => Some((Answer::Text(text), behind)),
-        "refused" => Some((Answer::Message(text), behind)),
+        "ok" => Some((Answer::Text(text), after)),
+        "refused" => Some((Answer::Message(text), after)),
         _ => None,
     }
 }
 
 /// The case at the front, and what follows.
 pub fn next_case<'a>(text: &'a str) -> Option<(Case<'a>, &'a str)> {
-    let (line, behind) = text.split_once('\n')?;
+    let (line, after) = text.split_once('\n')?;
     let (asked, length) = read_asked(line)?;
-    let (source, behind) = sized(behind, length)?;
-    let (answer, behind) = read_answer(behind)?;
+    let (source, after) = sized(after, length)?;
+    let (answer, after) = read_answer(after)?;
     let case = Case {
         asked,
         source,
         answer,
     };
-    Some((case, behind))
+    Some((case, after))
 }

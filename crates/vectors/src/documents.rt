@@ -1,10 +1,10 @@
-//! Texts that are query documents: their layouts, their trees, and what equals them.
-use crate::cases::{Answer, Case};
-use crate::parts::parts;
-use crate::shown::{is_in_lines, shown};
+//! Texts that are query documents: their layouts, their trees, their parts, and what equals them.
+use crate::cases::Asked;
+use crate::parts::tell_parts;
+use crate::told::Told;
 use graphql_parser::Style;
-use graphql_parser::query::{Document, Text, parse_query};
-use std::alloc::{AllocError, Global};
+use graphql_parser::query::{Document, Names, Text, parse_query};
+use std::alloc::Global;
 use std::borrow::CowStr;
 
 /// The style with so many spaces a level.
@@ -14,53 +14,60 @@ fn style_of(indent: u32, multiline: bool) -> Style {
     style
 }
 
-/// Whether a text is parsed, and its document laid out, as the case wants; a document equals its clone and is read back.
-pub fn layout_agrees(
-    alloc: Global,
-    case: &Case<'_>,
-    indent: u32,
-    multiline: bool,
-) -> Result<bool, AllocError> {
-    let document: Document<'_, &str> = match parse_query(alloc, case.source) {
-        Ok(document) => document,
-        Err(error) => return case.answer.is_refusal(alloc, &error),
-    };
-    if document.clone()? != document || !is_read_back(alloc, &document)? {
-        return Ok(false);
+/// Tells of a document what is asked; its clone is equal.
+fn tell_document<N: Names>(told: &mut Told, document: &Document<'_, N>, asked: Asked) {
+    match document.clone() {
+        Ok(copy) if copy == *document => {}
+        Ok(_) => told.find_wrong(),
+        Err(_) => told.cut_short(),
     }
-    let style = style_of(indent, multiline);
-    match document.format(alloc, &style) {
-        Ok(text) => Ok(case.answer.is_text(&text) && is_layout(alloc, case.source, &style, &text)),
-        Err(error) => case.answer.is_refusal(alloc, &error),
+    match asked {
+        Asked::Layout { indent, multiline } => tell_layout(
+            told,
+            document,
+            &style_of(indent, multiline),
+        ),
+        Asked::Parts => tell_parts(told, document),
+        _ => told.show_debug(document),
     }
 }
 
-/// Whether a text has this layout with names that are owned, and with names that may be.
-fn is_layout(alloc: Global, source: &str, style: &Style, layout: &str) -> bool {
-    is_layout_with::<String>(alloc, source, style, layout)
-        && is_layout_with::<CowStr>(alloc, source, style, layout)
+/// Tells the layout of a document.
+fn tell_layout<N: Names>(told: &mut Told, document: &Document<'_, N>, style: &Style) {
+    match document.format(told.alloc, style) {
+        Ok(text) => told.tell(text.as_str()),
+        Err(error) => told.refuse(&error),
+    }
 }
 
-/// Whether a text has this layout with names of a text type.
-fn is_layout_with<'a, T: Text<'a>>(
-    alloc: Global,
-    source: &'a str,
-    style: &Style,
-    layout: &str,
-) -> bool {
+/// What is told of a text's document with names of a text type.
+fn told_with<'a, T: Text<'a>>(alloc: Global, source: &'a str, asked: Asked) -> Told {
+    let mut told = Told::new(alloc);
     let answer: Result<Document<'a, T>, _> = parse_query(alloc, source);
     match answer {
-        Ok(document) => match document.format(alloc, style) {
-            Ok(text) => text.as_str() == layout,
-            Err(_) => false,
-        },
-        Err(_) => false,
+        Ok(document) => tell_document(&mut told, &document, asked),
+        Err(error) => told.refuse(&error),
     }
+    told
 }
 
-/// Whether the document's layouts, in both styles and three indentations, are read back.
-fn is_read_back(alloc: Global, document: &Document<'_, &str>) -> Result<bool, AllocError> {
-    'styles: for (indent, multiline) in [
+/// What is told of a text's document, the same with names of each text type.
+pub fn told_of(alloc: Global, source: &str, asked: Asked) -> Told {
+    let mut told = told_with::<&str>(alloc, source, asked);
+    told.compare(&told_with::<String>(alloc, source, asked));
+    told.compare(&told_with::<CowStr>(alloc, source, asked));
+    told
+}
+
+/// What is told of a text's layout. Of a document's layouts, in both styles and three indentations, each is read back.
+pub fn told_of_layouts(alloc: Global, source: &str, asked: Asked) -> Told {
+    let mut told = told_of(alloc, source, asked);
+    let tree = told_with::<&str>(alloc, source, Asked::Tree);
+    told.follow(&tree);
+    if tree.is_refusal() {
+        return told;
+    }
+    for (indent, multiline) in [
         (0, false),
         (2, false),
         (7, false),
@@ -68,94 +75,78 @@ fn is_read_back(alloc: Global, document: &Document<'_, &str>) -> Result<bool, Al
         (2, true),
         (7, true),
     ] {
-        if !is_read_back_in(alloc, document, &style_of(indent, multiline))? {
-            return Ok(false);
+        let layout = told_with::<&str>(alloc, source, Asked::Layout { indent, multiline });
+        read_back(
+            &mut told,
+            &tree,
+            &layout,
+            Asked::Layout { indent, multiline },
+        );
+    }
+    told
+}
+
+/// A layout is read back as the tree that it is of, positions aside, and has the same layout again.
+fn read_back(told: &mut Told, tree: &Told, layout: &Told, asked: Asked) {
+    let mut again = told_with::<&str>(told.alloc, layout.text(), asked);
+    again.compare(layout);
+    let read = told_with::<&str>(told.alloc, layout.text(), Asked::Tree);
+    told.follow(tree);
+    told.follow(&again);
+    told.follow(&read);
+    if again.text() != layout.text() || !are_like(tree.text(), read.text()) {
+        told.find_wrong();
+    }
+}
+
+/// Whether two trees are shown as the same, with each `Pos(..)` left out.
+fn are_like(one: &str, other: &str) -> bool {
+    let mut others = other.split("Pos(");
+    for part in one.split("Pos(") {
+        match others.next() {
+            Some(other) if after_position(part) == after_position(other) => {}
+            _ => return false,
         }
     }
-    Ok(true)
+    others.next().is_none()
 }
 
-/// Whether the document's layout is read back as the same document, positions aside, which has the same layout again.
-fn is_read_back_in(
-    alloc: Global,
-    document: &Document<'_, &str>,
-    style: &Style,
-) -> Result<bool, AllocError> {
-    let Ok(layout) = document.format(alloc, style) else {
-        return Ok(false);
-    };
-    let again: Document<'_, &str> = match parse_query(alloc, &layout) {
-        Ok(again) => again,
-        Err(_) => return Ok(false),
-    };
-    let Ok(layout_again) = again.format(alloc, style) else {
-        return Ok(false);
-    };
-    let same = shown(alloc, document)?.as_str() == shown(alloc, &again)?.as_str();
-    Ok(same && layout_again.as_str() == layout.as_str())
-}
-
-/// Whether the tree of a text is shown, positions included, as the case wants, with names of a text type.
-fn is_tree_with<'a, T: Text<'a>>(alloc: Global, case: &Case<'a>) -> Result<bool, AllocError> {
-    let answer: Result<Document<'a, T>, _> = parse_query(alloc, case.source);
-    match (answer, case.answer) {
-        (Ok(document), Answer::Text(lines)) => {
-            let text = format!(in alloc; "{document:?}")?;
-            Ok(is_in_lines(&text, lines))
-        }
-        _ => Ok(false),
+fn after_position(part: &str) -> &str {
+    match part.split_once(')') {
+        Some((_, after)) => after,
+        None => part,
     }
 }
 
-/// The same with names of each text type.
-pub fn tree_agrees(alloc: Global, case: &Case<'_>) -> Result<bool, AllocError> {
-    Ok(
-        is_tree_with::<&str>(alloc, case)?
-            && is_tree_with::<String>(alloc, case)?
-            && is_tree_with::<CowStr>(alloc, case)?,
-    )
+/// Whether two texts have equal documents, if they have any, with names of a text type.
+fn are_equal<'a, T: Text<'a>>(alloc: Global, one: &'a str, other: &'a str) -> Option<bool> {
+    let one: Document<'a, T> = parse_query(alloc, one).ok()?;
+    let other: Document<'a, T> = parse_query(alloc, other).ok()?;
+    Some(one == other)
 }
 
-/// Whether the parts of a document are shown as the case wants.
-pub fn parts_agree(alloc: Global, case: &Case<'_>) -> Result<bool, AllocError> {
-    let answer: Result<Document<'_, &str>, _> = parse_query(alloc, case.source);
-    match answer {
-        Ok(document) => Ok(case.answer.is_text(parts(alloc, &document)?.as_str())),
-        Err(error) => case.answer.is_refusal(alloc, &error),
+/// The same, if it is the same with names of each text type.
+fn are_equal_in_each(alloc: Global, one: &str, other: &str) -> Option<bool> {
+    let are_equal_borrowed = are_equal::<&str>(alloc, one, other)?;
+    let are_equal_owned = are_equal::<String>(alloc, one, other)?;
+    let are_equal_mixed = are_equal::<CowStr>(alloc, one, other)?;
+    if are_equal_borrowed == are_equal_owned && are_equal_owned == are_equal_mixed {
+        Some(are_equal_mixed)
+    } else {
+        None
     }
 }
 
-/// The documents of the lines of a text, if each is one.
-fn read_lines<'a, T: Text<'a>>(alloc: Global, lines: &'a str) -> Option<Vec<Document<'a, T>>> {
-    let mut documents = Vec::new(alloc);
-    'lines: for line in lines.split('\n') {
-        let document: Document<'a, T> = parse_query(alloc, line).ok()?;
-        documents.push(document).ok()?;
-    }
-    Some(documents)
-}
-
-/// Whether each line of a text is a document, equal to what is read of it once more and to no other.
-fn are_unlike_with<'a, T: Text<'a>>(alloc: Global, lines: &'a str) -> bool {
-    let Some(documents) = read_lines::<T>(alloc, lines) else {
-        return false;
-    };
-    let Some(again) = read_lines::<T>(alloc, lines) else {
-        return false;
-    };
-    'documents: for (i, document) in documents.iter().enumerate() {
-        'others: for (k, other) in again.iter().enumerate() {
-            if (*document == *other) != (i == k) {
-                return false;
+/// Whether each line of a text is a document, equal to what is read of it once more and to no other: nothing is
+/// told.
+pub fn told_of_lines(alloc: Global, lines: &str) -> Told {
+    let mut told = Told::new(alloc);
+    for (i, line) in lines.split('\n').enumerate() {
+        for (k, other) in lines.split('\n').enumerate() {
+            if are_equal_in_each(alloc, line, other) != Some(i == k) {
+                told.find_wrong();
             }
         }
     }
-    true
-}
-
-/// The same with names of each text type.
-pub fn are_unlike(alloc: Global, lines: &str) -> bool {
-    are_unlike_with::<&str>(alloc, lines)
-        && are_unlike_with::<String>(alloc, lines)
-        && are_unlike_with::<CowStr>(alloc, lines)
+    told
 }

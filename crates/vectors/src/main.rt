@@ -8,73 +8,99 @@
 //!   `lines`, and with two spaces a level where no number of them follows the length;
 //! - `tree`: wanted is what `Debug` shows of the query document, in which line ends may stand for spaces;
 //! - `parts`: wanted is what `Display` shows of the query document, and then of its parts down to the first selections,
-//!   each with LF behind it;
+//!   each with LF after it;
 //! - `unlike`: each line of the text is a query document, and no two of them are equal;
 //! - `minify`: wanted is the minified text;
 //! - `tokens`: wanted is a line for each item, the last without LF: its position, its offset, the brackets that are open
 //!   before it, and the token and its kind, or `end` or the bad place and the count of cuts when it is answered twice;
 //! - `quoted` and `block`: wanted is the value of a string or a block string with the text between its quotes;
-//! - `float`: wanted is the text itself, or that it is handed back.
+//! - `float`: wanted is the text itself, or that it is handed back;
+//! - `boxes`: a number; so many boxes are made and dropped, which is accepted. Where one allocation of the run is made to
+//!   fail from outside, at a fixed count, the number says which allocation of the cases after it that is.
 #![tactic(auto)]
 
 mod cases;
 mod documents;
 mod parts;
-mod shown;
 mod tokens;
+mod told;
 
-use crate::cases::{Answer, Asked, Case, next_case};
-use crate::documents::{are_unlike, layout_agrees, parts_agree, tree_agrees};
-use crate::tokens::{block_agrees, float_agrees, items, quoted_agrees};
-use graphql_parser::minify_query;
-use std::alloc::{AllocError, Global};
+use crate::cases::{Asked, Case, next_case};
+use crate::documents::{told_of, told_of_layouts, told_of_lines};
+use crate::tokens::{tell_block, tell_float, tell_items, tell_quoted, told_of_minifying};
+use crate::told::Told;
+use std::alloc::Global;
 use std::io;
 use std::process::ExitCode;
 
-/// Whether a case has the answer that it wants.
-fn agrees(alloc: Global, case: &Case<'_>) -> Result<bool, AllocError> {
+/// Makes as many boxes as a number says, one after another.
+fn tell_boxes(told: &mut Told, number: &str) {
+    match number.parse::<u32>() {
+        Ok(count) => {
+            for _ in 0..count {
+                drop(Box::new(told.alloc, 0u32));
+            }
+        }
+        Err(_) => told.refuse(&"no number"),
+    }
+}
+
+/// What is told of a text's tokens, or of the value of one.
+fn told_of_tokens(alloc: Global, source: &str, asked: Asked) -> Told {
+    let mut told = Told::new(alloc);
+    match asked {
+        Asked::Quoted => tell_quoted(&mut told, source),
+        Asked::Block => tell_block(&mut told, source),
+        Asked::Float => tell_float(&mut told, source),
+        Asked::Boxes => tell_boxes(&mut told, source),
+        _ => tell_items(&mut told, source),
+    }
+    told
+}
+
+/// What is told of a case's text.
+fn told_of_case(alloc: Global, case: &Case<'_>) -> Told {
     match case.asked {
-        Asked::Layout { indent, multiline } => layout_agrees(alloc, case, indent, multiline),
-        Asked::Tree => tree_agrees(alloc, case),
-        Asked::Parts => parts_agree(alloc, case),
-        Asked::Unlike => Ok(are_unlike(alloc, case.source)),
-        Asked::Minify => minify_agrees(alloc, case),
-        Asked::Tokens => Ok(case.answer.is_text(items(alloc, case.source)?.as_str())),
-        Asked::Quoted => quoted_agrees(alloc, case),
-        Asked::Block => block_agrees(alloc, case),
-        Asked::Float => float_agrees(alloc, case),
+        Asked::Layout { .. } => told_of_layouts(alloc, case.source, case.asked),
+        Asked::Tree | Asked::Parts => told_of(alloc, case.source, case.asked),
+        Asked::Unlike => told_of_lines(alloc, case.source),
+        Asked::Minify => told_of_minifying(alloc, case.source),
+        _ => told_of_tokens(alloc, case.source, case.asked),
     }
 }
 
-/// Whether a text is minified as the case wants, and its minified text to itself.
-fn minify_agrees(alloc: Global, case: &Case<'_>) -> Result<bool, AllocError> {
-    let text = match minify_query(alloc, String::from_str(alloc, case.source)?) {
-        Ok(text) => text,
-        Err(error) => return case.answer.is_refusal(alloc, &error),
-    };
-    let Answer::Text(wanted) = case.answer else {
-        return Ok(false);
-    };
-    let as_wanted = text.as_str() == wanted;
-    match minify_query(alloc, text) {
-        Ok(again) => Ok(as_wanted && again.as_str() == wanted),
-        Err(_) => Ok(false),
+/// How many cases agree, how many are cut short, since an allocation failed, and how many there are.
+#[derive(Clone, Copy, Default)]
+struct Tally {
+    agreeing: usize,
+    cut_short: usize,
+    all: usize,
+}
+
+impl Tally {
+    /// Counts a case.
+    fn add(&mut self, alloc: Global, case: &Case<'_>) {
+        let told = told_of_case(alloc, case);
+        self.all = self.all.saturating_add(1);
+        if told.is_cut_short() {
+            self.cut_short = self.cut_short.saturating_add(1);
+        } else if case.is_met(&told) {
+            self.agreeing = self.agreeing.saturating_add(1);
+        }
     }
 }
 
-/// How many cases there are, and how many agree; none where they are not written as cases, or memory runs out.
-fn count(alloc: Global, text: &str) -> Option<(usize, usize)> {
+/// Counts the cases; none where they are not written as cases.
+fn count(alloc: Global, text: &str) -> Option<Tally> {
     let mut rest = text;
-    let mut agreeing = 0usize;
-    'cases: for all in 0..text.len() {
+    let mut tally = Tally::default();
+    for _ in 0..text.len() {
         if rest.is_empty() {
-            return Some((all, agreeing));
+            return Some(tally);
         }
-        let (case, behind) = next_case(rest)?;
-        rest = behind;
-        if agrees(alloc, &case).ok()? {
-            agreeing = agreeing.saturating_add(1);
-        }
+        let (case, after) = next_case(rest)?;
+        rest = after;
+        tally.add(alloc, &case);
     }
     None
 }
@@ -84,10 +110,21 @@ fn main(rt: HostRuntime) -> ExitCode {
         let _ = eprintln!(rt; "vectors: the cases cannot be read");
         return ExitCode::from(2);
     };
-    let Some((all, agreeing)) = count(rt.alloc(), text.as_str()) else {
-        let _ = eprintln!(rt; "vectors: these are no cases, or memory ran out");
+    let Some(
+        Tally {
+            agreeing,
+            cut_short,
+            all,
+        },
+    ) = count(rt.alloc(), text.as_str())
+    else {
+        let _ = eprintln!(rt; "vectors: these are no cases");
         return ExitCode::from(2);
     };
-    let _ = println!(rt; "{agreeing} of {all} cases agree");
+    let _ = print!(rt; "{agreeing} of {all} cases agree");
+    if cut_short > 0 {
+        let _ = print!(rt; ", {cut_short} cut short by an allocation that failed");
+    }
+    let _ = println!(rt; "");
     ExitCode::from(if agreeing == all { 0 } else { 1 })
 }

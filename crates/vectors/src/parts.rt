@@ -1,147 +1,103 @@
 //! The parts of documents, each as `Display` shows it.
+use crate::told::Told;
 use graphql_parser::query::{
     Definition, Directive, Document, Names, OperationDefinition, Selection, SelectionSet,
     VariableDefinition,
 };
-use std::alloc::{AllocError, Global};
-use std::fmt;
 
-/// Appends what is shown of a part, and LF.
-fn show<D: fmt::Display>(alloc: Global, texts: &mut String, part: &D) -> Result<(), AllocError> {
-    texts.push_str(part.to_string(alloc)?.as_str())?;
-    texts.push_str("\n")
-}
-
-fn show_directives<N: Names>(
-    alloc: Global,
-    texts: &mut String,
-    directives: &[Directive<'_, N>],
-) -> Result<(), AllocError> {
-    'directives: for directive in directives {
-        show(alloc, texts, directive)?;
+fn tell_directives<N: Names>(told: &mut Told, directives: &[Directive<'_, N>]) {
+    for directive in directives {
+        told.show_line(directive);
     }
-    Ok(())
 }
 
 /// A selection, the values of a field's arguments, the condition of an inline fragment, and the directives.
-fn show_selection<N: Names>(
-    alloc: Global,
-    texts: &mut String,
-    selection: &Selection<'_, N>,
-) -> Result<(), AllocError> {
+fn tell_selection<N: Names>(told: &mut Told, selection: &Selection<'_, N>) {
     match selection {
         Selection::Field(field) => {
-            show(alloc, texts, field)?;
-            'arguments: for (_, value) in field.arguments.iter() {
-                show(alloc, texts, value)?;
+            told.show_line(field);
+            for (_, value) in field.arguments.iter() {
+                told.show_line(value);
             }
-            show_directives(alloc, texts, &field.directives)
+            tell_directives(told, &field.directives);
         }
         Selection::FragmentSpread(spread) => {
-            show(alloc, texts, spread)?;
-            show_directives(alloc, texts, &spread.directives)
+            told.show_line(spread);
+            tell_directives(told, &spread.directives);
         }
         Selection::InlineFragment(inline) => {
-            show(alloc, texts, inline)?;
+            told.show_line(inline);
             if let Some(condition) = &inline.type_condition {
-                show(alloc, texts, condition)?;
+                told.show_line(condition);
             }
-            show_directives(alloc, texts, &inline.directives)
+            tell_directives(told, &inline.directives);
         }
     }
 }
 
 /// A set, and each of its selections.
-fn show_set<N: Names>(
-    alloc: Global,
-    texts: &mut String,
-    set: &SelectionSet<'_, N>,
-) -> Result<(), AllocError> {
-    show(alloc, texts, set)?;
-    'selections: for selection in set.items.iter() {
-        show_selection(alloc, texts, selection)?;
+fn tell_set<N: Names>(told: &mut Told, set: &SelectionSet<'_, N>) {
+    told.show_line(set);
+    for selection in set.items.iter() {
+        tell_selection(told, selection);
     }
-    Ok(())
 }
 
 /// Each variable, its type, and its default value.
-fn show_variables<N: Names>(
-    alloc: Global,
-    texts: &mut String,
-    variables: &[VariableDefinition<'_, N>],
-) -> Result<(), AllocError> {
-    'variables: for variable in variables {
-        show(alloc, texts, variable)?;
-        show(alloc, texts, &variable.var_type)?;
+fn tell_variables<N: Names>(told: &mut Told, variables: &[VariableDefinition<'_, N>]) {
+    for variable in variables {
+        told.show_line(variable);
+        told.show_line(&variable.var_type);
         if let Some(value) = &variable.default_value {
-            show(alloc, texts, value)?;
+            told.show_line(value);
         }
     }
-    Ok(())
 }
 
 /// An operation as such and as what it is, and its parts.
-fn show_operation<N: Names>(
-    alloc: Global,
-    texts: &mut String,
-    operation: &OperationDefinition<'_, N>,
-) -> Result<(), AllocError> {
-    show(alloc, texts, operation)?;
-    let (variables, directives, set) = match operation {
-        OperationDefinition::SelectionSet(set) => return show_set(alloc, texts, set),
+fn tell_operation<N: Names>(told: &mut Told, operation: &OperationDefinition<'_, N>) {
+    told.show_line(operation);
+    match operation {
+        OperationDefinition::SelectionSet(set) => tell_set(told, set),
         OperationDefinition::Query(query) => {
-            show(alloc, texts, query)?;
-            (
-                &query.variable_definitions,
-                &query.directives,
-                &query.selection_set,
-            )
+            told.show_line(query);
+            tell_variables(told, &query.variable_definitions);
+            tell_directives(told, &query.directives);
+            tell_set(told, &query.selection_set);
         }
         OperationDefinition::Mutation(mutation) => {
-            show(alloc, texts, mutation)?;
-            (
-                &mutation.variable_definitions,
-                &mutation.directives,
-                &mutation.selection_set,
-            )
+            told.show_line(mutation);
+            tell_variables(told, &mutation.variable_definitions);
+            tell_directives(told, &mutation.directives);
+            tell_set(told, &mutation.selection_set);
         }
         OperationDefinition::Subscription(subscription) => {
-            show(alloc, texts, subscription)?;
-            (
-                &subscription.variable_definitions,
-                &subscription.directives,
-                &subscription.selection_set,
-            )
+            told.show_line(subscription);
+            tell_variables(told, &subscription.variable_definitions);
+            tell_directives(told, &subscription.directives);
+            tell_set(told, &subscription.selection_set);
         }
-    };
-    show_variables(alloc, texts, variables)?;
-    show_directives(alloc, texts, directives)?;
-    show_set(alloc, texts, set)
+    }
 }
 
 /// A definition as such and as what it is, and its parts.
-fn show_definition<N: Names>(
-    alloc: Global,
-    texts: &mut String,
-    definition: &Definition<'_, N>,
-) -> Result<(), AllocError> {
-    show(alloc, texts, definition)?;
+fn tell_definition<N: Names>(told: &mut Told, definition: &Definition<'_, N>) {
+    told.show_line(definition);
     match definition {
-        Definition::Operation(operation) => show_operation(alloc, texts, operation),
+        Definition::Operation(operation) => tell_operation(told, operation),
         Definition::Fragment(fragment) => {
-            show(alloc, texts, fragment)?;
-            show(alloc, texts, &fragment.type_condition)?;
-            show_directives(alloc, texts, &fragment.directives)?;
-            show_set(alloc, texts, &fragment.selection_set)
+            told.show_line(fragment);
+            told.show_line(&fragment.type_condition);
+            tell_directives(told, &fragment.directives);
+            tell_set(told, &fragment.selection_set);
         }
     }
 }
 
-/// What is shown of a document and of its parts, down to its first selections, one after another.
-pub fn parts<N: Names>(alloc: Global, document: &Document<'_, N>) -> Result<String, AllocError> {
-    let mut texts = document.to_string(alloc)?;
-    'definitions: for definition in document.definitions.iter() {
-        show_definition(alloc, &mut texts, definition)?;
+/// Tells what is shown of a document and of its parts, down to its first selections, one after another.
+pub fn tell_parts<N: Names>(told: &mut Told, document: &Document<'_, N>) {
+    told.show(document);
+    for definition in document.definitions.iter() {
+        tell_definition(told, definition);
     }
-    Ok(texts)
 }

@@ -1,69 +1,123 @@
 //! Texts cut into their tokens, and the values of tokens.
-use crate::cases::Case;
+use crate::told::Told;
 use graphql_parser::common::{FloatLiteral, unquote_block_string, unquote_string};
+use graphql_parser::minify_query;
 use graphql_parser::tokenizer::{Bad, Token, TokenStream};
-use std::alloc::{AllocError, Global};
+use std::alloc::Global;
 
-/// What is told of the last item, which the stream has just answered: the end, or the bad place, and how often the stream
-/// was asked when it has answered it again.
-fn last_item(
-    alloc: Global,
-    stream: &mut TokenStream<'_>,
-    last: Result<Option<Token<'_>>, Bad<'_>>,
-) -> Result<String, AllocError> {
-    if stream.next_token() != last {
-        return String::from_str(alloc, "another item");
+/// What is told of a minified text.
+fn told_of_minified(alloc: Global, source: &str) -> Told {
+    let mut told = Told::new(alloc);
+    let Ok(source) = String::from_str(alloc, source) else {
+        told.cut_short();
+        return told;
+    };
+    match minify_query(alloc, source) {
+        Ok(text) => told.tell(text.as_str()),
+        Err(error) => told.refuse(&error),
     }
-    let cuts = stream.cuts();
+    told
+}
+
+/// The same, and no other for the minified text itself.
+pub fn told_of_minifying(alloc: Global, source: &str) -> Told {
+    let mut told = told_of_minified(alloc, source);
+    if !told.is_refusal() {
+        let again = told_of_minified(alloc, told.text());
+        told.compare(&again);
+    }
+    told
+}
+
+/// Tells of the next item its position, its offset, and how many brackets are open before it.
+fn tell_place(told: &mut Told, stream: &TokenStream<'_>) {
+    told.show(&stream.position());
+    told.tell(" ");
+    told.show(&stream.offset());
+    told.tell(" ");
+    told.show(&stream.depth());
+    told.tell(" ");
+}
+
+/// Tells of the last item, which the stream has just answered, that it is the end, or the bad place.
+fn tell_last_item(told: &mut Told, last: &Result<Option<Token<'_>>, Bad<'_>>) {
     match last {
-        Ok(_) => format!(in alloc; "end, {cuts} cuts"),
-        Err(bad) => format!(in alloc; "{bad:?}, {cuts} cuts"),
+        Ok(_) => told.tell("end"),
+        Err(bad) => told.show_debug(bad),
     }
 }
 
-/// A line for each item of a text: its position, its offset, how many brackets are open before it, and the item.
-pub fn items(alloc: Global, source: &str) -> Result<String, AllocError> {
-    let mut lines = String::new(alloc);
+/// Tells how often the stream was asked when it has answered the last item once more.
+fn tell_cuts(told: &mut Told, stream: &TokenStream<'_>) {
+    told.tell(", ");
+    told.show(&stream.cuts());
+    told.tell(" cuts");
+}
+
+/// Tells a line for each item of a text: its position, its offset, how many brackets are open before it, and the item.
+pub fn tell_items(told: &mut Told, source: &str) {
     if source.len() > usize::MAX / 16 {
-        return Ok(lines);
+        return;
     }
     let mut stream = TokenStream::new(source);
-    'items: for _ in 0..u64::MAX {
-        let (position, offset, depth) = (stream.position(), stream.offset(), stream.depth());
-        lines.push_str(format!(in alloc; "{position} {offset} {depth} ")?.as_str())?;
+    for _ in 0..u64::MAX {
+        tell_place(told, &stream);
         match stream.next_token() {
-            Ok(Some(token)) => lines.push_str(format!(in alloc; "{token}\n")?.as_str())?,
+            Ok(Some(token)) => told.show_line(&token),
             last => {
-                lines.push_str(last_item(alloc, &mut stream, last)?.as_str())?;
-                return Ok(lines);
+                tell_last_item(told, &last);
+                if stream.next_token() != last {
+                    told.find_wrong();
+                }
+                tell_cuts(told, &stream);
+                return;
             }
         }
     }
-    Ok(lines)
 }
 
-/// Whether the value of what stands between a string's quotes is the one that the case wants.
-pub fn quoted_agrees(alloc: Global, case: &Case<'_>) -> Result<bool, AllocError> {
-    let body = case.source;
-    let text = format!(in alloc; "\"{body}\"")?;
-    match unquote_string(alloc, text.as_str()) {
-        Ok(value) => Ok(case.answer.is_text(&value)),
-        Err(error) => case.answer.is_refusal(alloc, &error),
+/// Tells the value of what stands between a string's quotes.
+pub fn tell_quoted(told: &mut Told, body: &str) {
+    let Ok(text) = format!(in told.alloc; "\"{body}\"") else {
+        told.cut_short();
+        return;
+    };
+    match unquote_string(told.alloc, text.as_str()) {
+        Ok(value) => told.tell(value.as_str()),
+        Err(error) => told.refuse(&error),
     }
 }
 
-/// Whether the value of a block string's content is the one that the case wants.
-pub fn block_agrees(alloc: Global, case: &Case<'_>) -> Result<bool, AllocError> {
-    let content = case.source;
-    let text = format!(in alloc; "\"\"\"{content}\"\"\"")?;
-    let value = unquote_block_string(alloc, text.as_str())?;
-    Ok(case.answer.is_text(&value))
+/// Tells the value of a block string's content.
+pub fn tell_block(told: &mut Told, content: &str) {
+    let Ok(text) = format!(in told.alloc; "\"\"\"{content}\"\"\"") else {
+        told.cut_short();
+        return;
+    };
+    match unquote_block_string(told.alloc, text.as_str()) {
+        Ok(value) => told.tell(value.as_str()),
+        Err(_) => told.cut_short(),
+    }
 }
 
-/// Whether a text is a float literal that equals its clone, or handed back where it is none, as the case wants.
-pub fn float_agrees(alloc: Global, case: &Case<'_>) -> Result<bool, AllocError> {
-    match FloatLiteral::new(String::from_str(alloc, case.source)?) {
-        Ok(literal) => Ok(case.answer.is_text(literal.as_str()) && literal.clone()? == literal),
-        Err(text) => case.answer.is_refusal(alloc, &text),
+/// Tells a float literal; its clone is equal.
+fn tell_literal(told: &mut Told, literal: &FloatLiteral) {
+    told.tell(literal.as_str());
+    match literal.clone() {
+        Ok(copy) if copy == *literal => {}
+        Ok(_) => told.find_wrong(),
+        Err(_) => told.cut_short(),
+    }
+}
+
+/// Tells the float literal that a text is; a text that is none is handed back.
+pub fn tell_float(told: &mut Told, text: &str) {
+    let Ok(text) = String::from_str(told.alloc, text) else {
+        told.cut_short();
+        return;
+    };
+    match FloatLiteral::new(text) {
+        Ok(literal) => tell_literal(told, &literal),
+        Err(text) => told.refuse(&text),
     }
 }

@@ -1,2 +1,1 @@
 mod Readable
-mod Steps

@@ -1,9 +1,5 @@
 -- What extensions are, and what their shapes mean.
-use Rattle.std.specs.Prelude.{ℕ, ℤ, Bool, false, List, [], ◌∷◌}
-use Rattle.graphql_grammar.specs.Tokens.{same_spelling}
-use Rattle.graphql_grammar.specs.Trees.{Shape, Both, First, Second, More, Node}
-use Rattle.graphql_common.specs.Leaves.{int_of}
-use Rattle.graphql_common.specs.Meanings.{spelling_at}
+use Rattle.graphql_values.specs.Dialect.{ℕ, ℤ, Bool, false, List, [], ◌∷◌, same_spelling, Shape, Both, First, Second, More, Node, int_of, spelling_at}
 use Rattle.worked_language.specs.declared.tree.Extension.{Extension}
 use Rattle.worked_language.specs.declared.tree.Extension.TheVariants as declared
 

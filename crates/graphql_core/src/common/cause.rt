@@ -1,5 +1,5 @@
 //! Why a text is refused.
-use crate::tokenizer::Kind;
+use graphql_lexer::tokenizer::Kind;
 use std::fmt;
 use thiserror::Error;
 
@@ -29,7 +29,7 @@ pub enum BadToken {
     /// A character that begins no token.
     #[error("unexpected character '{}'", Quoted(*.0))]
     Character(char),
-    /// A dot without two more behind it.
+    /// A dot without two more after it.
     #[error("bare dot '.' is not supported, only \"...\"")]
     BareDot,
     /// A run that begins with a minus sign or a digit, has no `.`, `e` or `E`, and is no integer.
@@ -49,10 +49,10 @@ pub enum BadToken {
 /// Why a text is refused.
 #[derive(Debug, PartialEq, Drop, Error)]
 pub enum Cause {
-    /// 1: no token stands there.
+    /// No token stands there.
     #[error("Unexpected {0}")]
     BadToken(BadToken),
-    /// 2: no text of the language goes on with this token there.
+    /// An unexpected token: no text of the language goes on with it.
     #[error("Unexpected `{text}[{kind:?}]`")]
     UnexpectedToken {
         /// The token's kind.
@@ -60,37 +60,37 @@ pub enum Cause {
         /// The token's spelling.
         text: String,
     },
-    /// 3: no text of the language ends there.
+    /// An unexpected end: no text of the language ends there.
     #[error("Unexpected end of input")]
     UnexpectedEnd,
-    /// 4: an opening bracket behind 50 that are open.
+    /// An opening bracket where `MAX_DEPTH` are already open.
     #[error("Recursion limit exceeded")]
     TooDeep,
-    /// 5: a whole number that does not fit an `i64`.
+    /// A whole number that does not fit an `i64`.
     #[error("number too large")]
     IntOutOfRange,
-    /// 6: an exponent without a digit.
+    /// An exponent without a digit.
     #[error("invalid float literal")]
     MalformedFloat,
-    /// 7: a string with an escape that means no character.
+    /// A string with an escape that means no character.
     #[error("Unexpected bad escape in string")]
     BadEscape,
-    /// 8: a name that is no directive location.
+    /// A name that is no directive location.
     #[error("invalid directive location")]
     UnknownLocation,
-    /// 9: an operation that a schema definition names twice.
+    /// An operation that a schema definition names twice.
     #[error("Unexpected duplicate `{0}` operation")]
     DuplicateOperation(String),
-    /// 10: a name in a schema definition that is no operation.
+    /// A name in a schema definition that is no operation.
     #[error("Unexpected `{0}[Name]`")]
     UnknownOperation(String),
-    /// 11: an extension that adds nothing.
+    /// An extension that adds nothing.
     #[error("Unexpected empty extension")]
     EmptyExtension,
-    /// 12: a text of more than `usize::MAX / 16` bytes.
+    /// A text of more than `MAX_LENGTH` bytes.
     #[error("text too long")]
     TextTooLong,
-    /// 13: memory ran out.
+    /// An allocation failed.
     #[error("out of memory")]
     OutOfMemory,
 }

@@ -3,15 +3,15 @@ ghost use Rattle.std.specs.Prelude.{◌≡◌};
 ghost use Rattle.graphql_core.specs.declared.common.fault.Fault.TheVariants.{OutOfMemory};
 
 use crate::common::cause::Cause;
-use crate::position::Pos;
+use graphql_lexer::position::Pos;
 use std::alloc::AllocError;
 
-/// Why a text is refused, apart from its length: memory ran out, or a cause at a position.
+/// Why a text is refused, apart from its length: an allocation failed, or a cause at a position.
 #[derive(Debug, Drop)]
 pub enum Fault {
-    /// Memory ran out.
+    /// An allocation failed.
     OutOfMemory,
-    /// What stands at this position may not stand there.
+    /// The token at this position is not allowed there.
     At(Cause, Pos),
 }
 

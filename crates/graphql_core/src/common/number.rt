@@ -1,67 +1,28 @@
 //! Numbers, as documents have them.
-ghost use Rattle.std.specs.Prelude.{◌≡◌, ℕ, List, ◌∷◌, Decides, OkIff, IfErr, Some, nat_eq, string_bytes};
+ghost use Rattle.std.specs.Prelude.{◌≡◌, ◌-◌, ℕ, List, length, get_or, Decides, OkIff, IfErr, Some, nat_eq, string_bytes};
+ghost use Rattle.std.specs.Char.{is_ascii_digit};
 ghost use Rattle.std.specs.Cmp.{partial_equiv_from_equiv};
 ghost use Rattle.std.specs.Cmp.Lexicographic.{nat_list_eq_equiv, pointwise};
-ghost use Rattle.graphql_core.specs.Literals.{IsFloatLiteral, IsUnsignedFloat, EndsFloat, is_whole_exponent};
+ghost use Rattle.graphql_core.specs.Literals.{IsFloatLiteral};
 
-use crate::tokenizer::number::{digits_len, is_digits, is_natural};
+use graphql_lexer::tokenizer::number::is_float;
 use std::alloc::AllocError;
 use std::marker::Model;
 
-/// What follows the mark of an exponent with a digit: a sign and digits, or a digit 1 to 8 and any digits.
-fn is_whole_power(bytes: &[u8]) -> bool
-    ensures { result ≡ is_whole_exponent (101 ∷ bytes.now) }
+/// Whether the last byte is a digit. A float that ends in anything else has an exponent without a digit.
+fn ends_in_digit(bytes: &[u8]) -> bool
+    ensures { result ≡ is_ascii_digit (get_or bytes.now (length bytes.now - 1) 0) }
 {
-    let Some((first, digits)) = bytes.split_first() else {
-        return false;
-    };
-    match *first {
-        b'+' | b'-' => !digits.is_empty() && is_digits(digits),
-        b'1'..=b'8' => is_digits(digits),
-        _ => false,
+    match bytes.last() {
+        Some(byte) => byte.is_ascii_digit(),
+        None => false,
     }
-}
-
-/// An exponent with a digit.
-fn is_whole_exponent(bytes: &[u8]) -> bool
-    ensures { result ≡ is_whole_exponent bytes.now }
-{
-    match bytes.split_first() {
-        Some((b'e' | b'E', power)) => is_whole_power(power),
-        _ => false,
-    }
-}
-
-/// A fraction, an exponent with a digit, or both.
-fn ends_float(bytes: &[u8]) -> bool
-    ensures { Decides result (EndsFloat bytes.now) }
-{
-    let Some((first, rest)) = bytes.split_first() else {
-        return false;
-    };
-    if *first != b'.' {
-        return is_whole_exponent(bytes);
-    }
-    let (digits, exponent) = rest.split_at(digits_len(rest));
-    !digits.is_empty() && (exponent.is_empty() || is_whole_exponent(exponent))
-}
-
-/// A natural number, and then a fraction, an exponent with a digit, or both.
-fn is_unsigned_float(bytes: &[u8]) -> bool
-    ensures { Decides result (IsUnsignedFloat bytes.now) }
-{
-    let (natural, ending) = bytes.split_at(digits_len(bytes));
-    is_natural(natural) && ends_float(ending)
 }
 
 fn is_float_literal(bytes: &[u8]) -> bool
     ensures { Decides result (IsFloatLiteral bytes.now) }
 {
-    let Some((first, rest)) = bytes.split_first() else {
-        return false;
-    };
-    let unsigned = if *first == b'-' { rest } else { bytes };
-    is_unsigned_float(unsigned)
+    is_float(bytes) && ends_in_digit(bytes)
 }
 
 /// A number with a fraction or an exponent, as it is spelled.

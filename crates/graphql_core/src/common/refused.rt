@@ -4,13 +4,13 @@ ghost use Rattle.graphql_core.specs.Refusal.{too_long, refusal_of};
 
 use crate::common::cause::Cause;
 use crate::common::fault::Fault;
-use crate::position::Pos;
+use graphql_lexer::position::Pos;
 use std::marker::Model;
 
-/// The most bytes of a text.
+/// The most bytes that a text may have: 2 ^ 60 - 1. A longer one is refused before any allocation.
 pub const MAX_LENGTH: usize = usize::MAX / 16;
 
-/// A cause, and the position at which it stands; none where memory ran out.
+/// A cause, and the position at which it stands; none where an allocation failed.
 #[derive(Debug, Drop)]
 pub struct Refused {
     pub cause: Cause,

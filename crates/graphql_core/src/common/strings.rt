@@ -4,6 +4,6 @@ mod block;
 mod error;
 mod quoted;
 
-pub use block::unquote_block_string;
+pub use block::{ESCAPED_QUOTES, QUOTES, is_blank, is_white, unquote_block_string};
 pub use error::UnquoteError;
 pub use quoted::unquote_string;

@@ -32,7 +32,7 @@ pub trait Names: Drop {
 
 /// A text type: names that are made of a text with the lifetime `'a`.
 pub trait Text<'a>: Names {
-    /// The name with this text, unless memory runs out.
+    /// The name with this text, unless an allocation fails.
     fn make(alloc: Global, text: &'a str) -> Result<<Self as Names>::Value, AllocError>
         ensures { IfOk result (λ v. Self.Names.bytes v ≡ text.now) };
 }
@@ -53,7 +53,7 @@ impl<'a> Names for &'a str {
     }
 }
 
-/// A name borrows its text, so `make` takes no memory and always succeeds.
+/// A name borrows its text, so `make` allocates nothing and always succeeds.
 impl<'a> Text<'a> for &'a str {
     fn make(_alloc: Global, text: &'a str) -> Result<&'a str, AllocError>
         ensures text { IfOk result (λ v. v.now ≡ text.now) }
@@ -79,7 +79,7 @@ impl Names for String {
     }
 }
 
-/// A name owns a copy of its text, so `make` succeeds where there is memory for it.
+/// A name owns a copy of its text, so `make` succeeds unless an allocation fails.
 impl<'a> Text<'a> for String {
     fn make(alloc: Global, text: &'a str) -> Result<String, AllocError> {
         String::from_str(alloc, text)
@@ -102,7 +102,7 @@ impl<'a> Names for CowStr<'a> {
     }
 }
 
-/// A name that is made borrows its text, so `make` takes no memory and always succeeds.
+/// A name that is made borrows its text, so `make` allocates nothing and always succeeds.
 impl<'a> Text<'a> for CowStr<'a> {
     fn make(_alloc: Global, text: &'a str) -> Result<CowStr<'a>, AllocError>
         ensures text { IfOk result (λ v. cow_str_bytes v ≡ text.now) }

@@ -5,10 +5,10 @@ use thiserror::Error;
 /// Why a document is not written.
 #[derive(Debug, PartialEq, Drop, Error)]
 pub enum FormatError {
-    /// 1: the levels that are open at once take more than `u32::MAX` spaces, whether a line stands in the last of them or not.
+    /// The levels that are open at once take more than `u32::MAX` spaces, whether a line stands in the last of them or not.
     #[error("format error: indentation too wide")]
     TooWide,
-    /// 2: memory ran out.
+    /// An allocation failed.
     #[error("format error: out of memory")]
     OutOfMemory,
 }

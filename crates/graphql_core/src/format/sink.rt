@@ -1,24 +1,28 @@
 //! What text is written to.
 ghost use Rattle.std.specs.Prelude.{◌≡◌, ℕ, List, [], ◌++◌, IsOk, OnOk, IfSome, Option, string_bytes, refl};
 ghost use Rattle.std.specs.Fmt.{HasWritten, IsPlainFormatter, WritesText};
-ghost use Rattle.graphql_core.specs.Joined.{string_nil, string_more};
+ghost use Rattle.graphql_core.specs.steps.StringSink.{string_nil, string_more};
 ghost use Rattle.std.proofs.lemmas.Grind.{put_two};
 
 use std::alloc::AllocError;
 use std::fmt;
 use std::fmt::Display;
 
-/// A place that text is appended to.
+/// A place that text is appended to: a `String`, or the formatter of a `Display`.
 pub trait Sink {
+    /// Why text is not appended: `AllocError` for a `String`, `fmt::Error` for a formatter.
     type Error: Drop;
 
     /// The second is the first after the text was appended.
     ghost took: { Self → List ℕ → Self → Type 0 };
 
+    /// Appends a text, byte for byte. It errs where an allocation fails, or where the formatter's own writer errs;
+    /// what was appended by then is not said.
     fn push_str(&mut self, text: &str) -> Result<(), Self::Error>
         ensures { OnOk result (took self.old text.now self.new) };
 
-    fn write_fmt<D: Display + Drop>(&mut self, value: D) -> Result<(), Self::Error>
+    /// Appends what `Display` writes of a value. It errs as `push_str` does, or where the value's `Display` errs.
+    fn push_display<D: Display + Drop>(&mut self, value: D) -> Result<(), Self::Error>
         ensures { OnOk result (IfSome (D.output value) (λ text. took self.old text self.new)) };
 
     ghost took_nil: { (s : Self) → took s [] s };
@@ -39,7 +43,7 @@ impl Sink for String {
         String::push_str(self, text)
     }
 
-    fn write_fmt<D: Display + Drop>(&mut self, value: D) -> Result<(), AllocError> {
+    fn push_display<D: Display + Drop>(&mut self, value: D) -> Result<(), AllocError> {
         String::write(self, value)
     }
 }
@@ -57,7 +61,7 @@ impl<W: fmt::Write> Sink for fmt::Formatter<W> {
         self.write_str(text)
     }
 
-    fn write_fmt<D: Display + Drop>(&mut self, value: D) -> Result<(), fmt::Error> {
+    fn push_display<D: Display + Drop>(&mut self, value: D) -> Result<(), fmt::Error> {
         self.write(value)
     }
 }

@@ -1,6 +1,6 @@
 //! The style of a text.
 ghost use Rattle.std.specs.Prelude.{◌≡◌, ℕ, ◌<◌, ◌^◌};
-ghost use Rattle.graphql_core.specs.Style.{default_style, with_indent, with_multiline};
+ghost use Rattle.graphql_core.specs.Style.{with_indent, with_multiline};
 
 use std::marker::Model;
 
@@ -24,17 +24,22 @@ impl Model for Style {
     ghost inverse = { λ s. record { indent = s.indent; multiline_arguments = s.multiline } };
 }
 
-impl Style {
+impl Default for Style {
+    ghost use Rattle.std.specs.Prelude.{◌≡◌};
+    ghost use Rattle.graphql_core.specs.Style.{default_style};
+
+    ghost is_default = { λ s. s ≡ default_style };
+
     /// Two spaces a level, and arguments in one line.
-    pub fn default() -> Self
-        ensures { result ≡ default_style }
-    {
+    fn default() -> Self {
         Style {
             indent: 2,
             multiline_arguments: false,
         }
     }
+}
 
+impl Style {
     /// Sets the spaces by which each level is indented, and answers the same style.
     pub fn indent(&mut self, indent: u32) -> &mut Self
         ensures same { result.ghost_name ≡ self.entry.ghost_name }

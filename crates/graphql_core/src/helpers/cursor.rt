@@ -1,16 +1,17 @@
 //! A token stream as a source.
 ghost use Rattle.std.specs.Prelude.{◌≡◌, ◌≤◌, ◌/◌, List, IfOk, length};
-ghost use Rattle.graphql_core.specs.Items.{HasItems, Item};
-ghost use Rattle.graphql_core.specs.Causes.{cause_text, bad_text};
-ghost use Rattle.graphql_core.specs.Marks.{first_byte, front_byte};
-ghost use Rattle.graphql_core.specs.declared.position.Pos.{Pos};
+ghost use Rattle.graphql_lexer.specs.Items.{HasItems, Item};
+ghost use Rattle.graphql_core.specs.Causes.{no_token, cause_text};
+ghost use Rattle.graphql_lexer.specs.BadTexts.{bad_text};
+ghost use Rattle.graphql_core.specs.steps.Marks.{first_byte, front_byte};
+ghost use Rattle.graphql_lexer.specs.declared.position.Pos.{Pos};
 ghost use Rattle.graphql_core.specs.Source.{Items, Wrong, IsFaultOf, held, split, then_items, token_of, only_last, place_of};
 
 use crate::common::{BadToken, Cause, Fault, Names, Text};
 use crate::helpers::mark::Mark;
 use crate::helpers::source::{Lexeme, TokenSource};
-use crate::position::Pos;
-use crate::tokenizer::{Bad, Token, TokenStream, is_name_start};
+use graphql_lexer::position::Pos;
+use graphql_lexer::tokenizer::{Bad, Token, TokenStream, is_name_start};
 use std::alloc::{AllocError, Global};
 use std::marker::{Model, PhantomData};
 
@@ -27,7 +28,7 @@ pub struct Cursor<'a, T: Text<'a>> {
 
 impl<'a, T: Text<'a>> Model for Cursor<'a, T> {
     ghost use Rattle.std.specs.Prelude.{All, ◌≡◌};
-    ghost use Rattle.graphql_core.specs.Marks.{front_byte};
+    ghost use Rattle.graphql_core.specs.steps.Marks.{front_byte};
     ghost use Rattle.graphql_core.specs.Source.{Items, IsLexeme, split, held};
 
     ghost Value = { Items };
@@ -51,7 +52,7 @@ fn first_byte(text: &str) -> u8
 
 /// The first byte of the next token, 0 where there is none.
 fn front_of(next: &Result<Option<Token<'_>>, Bad<'_>>) -> u8
-    ensures { (place : Pos) (behind : Items) → result ≡ front_byte (held place next.now behind).tokens }
+    ensures { (place : Pos) (after : Items) → result ≡ front_byte (held place next.now after).tokens }
 {
     match next {
         Ok(Some(token)) => first_byte(token.value),
@@ -81,7 +82,7 @@ impl<'a, T: Text<'a>> Cursor<'a, T> {
 
 /// A token where it may not stand.
 fn unexpected(alloc: Global, token: Token<'_>, position: Pos) -> Fault
-    ensures { (behind : Items) → IsFaultOf (then_items (token_of position token.entry.kind token.entry.value.now) behind) result }
+    ensures { (after : Items) → IsFaultOf (then_items (token_of position token.entry.kind token.entry.value.now) after) result }
 {
     match String::from_str(alloc, token.value) {
         Ok(text) => Fault::At(
@@ -97,7 +98,7 @@ fn unexpected(alloc: Global, token: Token<'_>, position: Pos) -> Fault
 
 /// The cause of a bad place, unless memory runs out.
 fn cause_of(alloc: Global, bad: Bad<'_>) -> Result<Cause, AllocError>
-    ensures { IfOk result (λ cause. cause_text cause ≡ bad_text bad.entry) }
+    ensures { IfOk result (λ cause. cause_text cause ≡ no_token (bad_text bad.entry)) }
 {
     let token = match bad {
         Bad::Character(character) => BadToken::Character(character),
@@ -113,7 +114,7 @@ fn cause_of(alloc: Global, bad: Bad<'_>) -> Result<Cause, AllocError>
 
 /// The fault of a bad place.
 fn bad_place(alloc: Global, bad: Bad<'_>, position: Pos) -> Fault
-    ensures { IsFaultOf (only_last (Wrong (place_of position) (bad_text bad.entry))) result }
+    ensures { IsFaultOf (only_last (Wrong (place_of position) (no_token (bad_text bad.entry)))) result }
 {
     match cause_of(alloc, bad) {
         Ok(cause) => Fault::At(cause, position),

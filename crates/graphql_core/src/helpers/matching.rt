@@ -2,17 +2,17 @@
 ghost use Rattle.std.specs.Prelude.{◌≡◌};
 ghost use Rattle.graphql_grammar.specs.Tokens.{Spelled, AnyOf, matches};
 ghost use Rattle.graphql_core.specs.Causes.{kind_number};
-ghost use Rattle.graphql_core.specs.Marks.{class_of};
+ghost use Rattle.graphql_core.specs.steps.Marks.{class_of};
 ghost use Rattle.graphql_core.specs.Source.{place_of, lexeme_token};
-ghost use Rattle.graphql_core.specs.Matching.{sees_class, TakesOne};
-ghost use Rattle.graphql_core.specs.declared.tokenizer.token.Kind.TheVariants.{Name};
+ghost use Rattle.graphql_core.specs.steps.Matching.{sees_class, TakesOne};
+ghost use Rattle.graphql_lexer.specs.declared.tokenizer.token.Kind.TheVariants.{Name};
 
 use crate::common::Names;
 use crate::helpers::mark::Mark;
 use crate::helpers::source::{Lexeme, TokenSource};
 use crate::helpers::stop::Stop;
-use crate::position::Pos;
-use crate::tokenizer::Kind;
+use graphql_lexer::position::Pos;
+use graphql_lexer::tokenizer::Kind;
 use std::alloc::Global;
 
 /// Whether a token is of this kind and has this spelling.

@@ -2,14 +2,14 @@
 ghost use Rattle.std.specs.Prelude.{◌≡◌, ◌≤◌, ◌/◌, ℕ, List, IfOk, IfErr, length, string_bytes};
 ghost use Rattle.graphql_grammar.specs.Tokens.{Token};
 ghost use Rattle.graphql_core.specs.Causes.{kind_number};
-ghost use Rattle.graphql_core.specs.Items.{HasItems, Item};
+ghost use Rattle.graphql_lexer.specs.Items.{HasItems, Item};
 ghost use Rattle.graphql_core.specs.Source.{IsEnd, split, lexeme_token};
 ghost use Rattle.graphql_core.specs.Minified.{AreLexemes, spaced, is_spaced, IsMinified, HasTokens, IsBadPlaceOf};
 
 use crate::common::Fault;
 use crate::helpers::cursor::Cursor;
 use crate::helpers::source::{Lexeme, TokenSource};
-use crate::tokenizer::Kind;
+use graphql_lexer::tokenizer::Kind;
 use std::alloc::Global;
 
 /// Whether a space stands between a token of this kind and the next token.

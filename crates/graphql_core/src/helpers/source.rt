@@ -1,14 +1,14 @@
 //! Where a reader takes its tokens from.
 use crate::common::{Fault, Names};
 use crate::helpers::mark::Mark;
-use crate::position::Pos;
-use crate::tokenizer::Kind;
+use graphql_lexer::position::Pos;
+use graphql_lexer::tokenizer::Kind;
 use std::alloc::{AllocError, Global};
 
 /// A token of a source.
 #[derive(Clone, Copy, Debug)]
 pub struct Lexeme<T> {
-    /// What sort of token it is.
+    /// Its kind.
     pub kind: Kind,
     /// Its spelling.
     pub text: T,
@@ -20,10 +20,10 @@ pub struct Lexeme<T> {
 pub trait TokenSource {
     ghost use Rattle.std.specs.Prelude.{ℕ, List, ◌≡◌, IfOk, IfSome, IsTrue, ◌↔◌};
     ghost use Rattle.graphql_grammar.specs.Tokens.{AnyOf};
-    ghost use Rattle.graphql_core.specs.declared.tokenizer.token.Kind.TheVariants.{Name};
+    ghost use Rattle.graphql_lexer.specs.declared.tokenizer.token.Kind.TheVariants.{Name};
     ghost use Rattle.graphql_core.specs.Causes.{kind_number};
-    ghost use Rattle.graphql_core.specs.Marks.{class_of};
-    ghost use Rattle.graphql_core.specs.Matching.{sees_class};
+    ghost use Rattle.graphql_core.specs.steps.Marks.{class_of};
+    ghost use Rattle.graphql_core.specs.steps.Matching.{sees_class};
     ghost use Rattle.graphql_core.specs.Source.{Items, place_of, place_next, Peeks, IsLexeme, IsAtEnd, IsFaultOf, after, lexeme_token};
 
     /// A token's spelling.
@@ -71,7 +71,7 @@ pub trait TokenSource {
     fn as_str<'v>(text: &'v Self::Text) -> &'v str
         ensures { result.now ≡ bytes text.now };
 
-    /// The name that a tree keeps of a spelling.
+    /// The name that a tree keeps of a spelling. It errs only where an allocation fails.
     fn make_name(
         alloc: Global,
         text: Self::Text,

@@ -1,7 +1,7 @@
 //! Why a reader stops.
 ghost use Rattle.std.specs.Prelude.{◌≡◌};
 ghost use Rattle.graphql_core.specs.declared.helpers.stop.Stop.TheVariants.{Memory};
-ghost use Rattle.graphql_core.specs.Stops.{IsFaultFor};
+ghost use Rattle.graphql_core.specs.steps.Stops.{IsFaultFor};
 
 use crate::common::{Cause, Fault};
 use crate::helpers::source::TokenSource;
@@ -12,7 +12,7 @@ use std::alloc::{AllocError, AllocFailed, Global};
 pub enum Stop {
     /// An allocation failed.
     Memory,
-    /// The item may not stand there.
+    /// The item is not allowed there.
     Item,
     /// The item is an integer that does not fit an `i64`.
     Integer,

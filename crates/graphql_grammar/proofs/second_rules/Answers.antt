@@ -1,5 +1,12 @@
-use Rattle.graphql_grammar.proofs.Carried.{each_is_second, IsSecond-unchanged, IsSecond-head, IsSecond-second, IsSecond-prefix, IsSecond-symbols}
+use Rattle.graphql_grammar.proofs.SecondRules.{each_is_second, IsSecond-unchanged, IsSecond-head, IsSecond-second, IsSecond-prefix, IsSecond-symbols}
 use Rattle.graphql_grammar.proofs.second_rules.Goals as goal
 
 pub returns : goal.returns
-returns c = record { each = each_is_second; same = IsSecond-unchanged; head = IsSecond-head; second = IsSecond-second; prefix = IsSecond-prefix; symbols = IsSecond-symbols }
+returns c = record {
+  each = each_is_second;
+  same = IsSecond-unchanged;
+  head = IsSecond-head;
+  second = IsSecond-second;
+  prefix = IsSecond-prefix;
+  symbols = IsSecond-symbols;
+}

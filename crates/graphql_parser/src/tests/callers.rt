@@ -1,10 +1,10 @@
 //! The callers that docs/CALLING.md and docs/MIGRATING.md show, at concrete text types, one of them the tests' own.
 ghost use Rattle.std.specs.Prelude.{IfOk, IfSome, Err, ◌≡◌, ◌<◌, ◌⊎◌, length, string_bytes, refl, nat_eq};
 ghost use Rattle.std.proofs.Common.{rules};
-ghost use Rattle.graphql_query.specs.Tree.{DocumentTree, document_view, erase};
-ghost use Rattle.graphql_query.specs.Document.{IsDocumentOf, IsReadBack};
-ghost use Rattle.graphql_query.specs.Layout.{layout, IsTooWide};
-ghost use Rattle.graphql_query.specs.Printable.{IsPrintable};
+ghost use Rattle.graphql_query_tree.specs.Tree.{DocumentTree, document_view, erase};
+ghost use Rattle.graphql_query_tree.specs.Document.{IsDocumentOf, IsReadBack};
+ghost use Rattle.graphql_query_tree.specs.Layout.{layout, IsTooWide};
+ghost use Rattle.graphql_query_tree.specs.Printable.{IsPrintable};
 ghost use Rattle.graphql_core.specs.Refusal.{Refusal, no_memory, max_length, too_long};
 
 use crate::common::{

@@ -34,7 +34,7 @@ impl MinifyError {
         }
     }
 
-    /// Where the cause stands, and `None` where memory ran out.
+    /// Where the cause stands, and `None` where an allocation failed.
     pub fn position(&self) -> Option<Pos>
         ensures { option_map place_of result ≡ self.now.place }
     {

@@ -2,28 +2,28 @@
 ghost use Rattle.std.specs.Prelude.{◌≡◌, map};
 ghost use Rattle.graphql_grammar.specs.Trees.{Sym, some_of};
 ghost use Rattle.graphql_core.specs.Source.{kept};
-ghost use Rattle.graphql_common.specs.Gives.{Shortens};
-ghost use Rattle.graphql_query.specs.Tree.{fragment_view, definition_view, definitions_view};
-ghost use Rattle.graphql_query.specs.Grammar.{fragment_symbol, definition_symbol};
-ghost use Rattle.graphql_query.specs.Meanings.{fragment_of, definition_of, definitions_of};
-ghost use Rattle.graphql_query.specs.Reads.{Reads, sees_definition};
+ghost use Rattle.graphql_values.specs.steps.Answers.{Shortens};
+ghost use Rattle.graphql_query_tree.specs.Tree.{fragment_definition_view, definition_view, definitions_view};
+ghost use Rattle.graphql_query_tree.specs.Grammar.{fragment_definition_symbol, definition_symbol};
+ghost use Rattle.graphql_query_tree.specs.Meanings.{fragment_definition_of, definition_of, definitions_of};
+ghost use Rattle.graphql_query.specs.steps.Reads.{Reads, sees_definition};
 
 use crate::read::fragment::type_condition;
 use crate::read::operation::operation_definition;
 use crate::read::selection::selection_set;
-use crate::tree::{Definition, FragmentDefinition, SelectionSet};
-use graphql_common::read::directives;
 use graphql_core::helpers::{Mark, Stop, TokenSource, keyword, name, sees_keyword};
+use graphql_query_tree::tree::{Definition, FragmentDefinition, SelectionSet};
+use graphql_values::read::directives;
 use std::alloc::Global;
 
-/// `Fragment = "fragment" Name Condition Directives SelectionSet`
-#[tactic(auto, using(graphql_common::proofs::Reading::reading))]
+/// `FragmentDefinition = "fragment" Name TypeCondition Directives SelectionSet`
+#[tactic(auto, using(graphql_values::proofs::Reading::reading))]
 fn fragment_definition<S: TokenSource>(
     alloc: Global,
     source: &mut S,
 ) -> Result<FragmentDefinition<S::Names>, Stop>
-    ensures reads { Reads (Sym fragment_symbol) (S.items source.old) (S.items source.new)
-        (λ v x. fragment_view S.Names.bytes v ≡ fragment_of x) result }
+    ensures reads { Reads (Sym fragment_definition_symbol) (S.items source.old) (S.items source.new)
+        (λ v x. fragment_definition_view S.Names.bytes v ≡ fragment_definition_of x) result }
     ensures kept { kept (S.items source.new) ≡ kept (S.items source.old) }
     ensures shorter { Shortens (S.items source.old) (S.items source.new) result }
 {
@@ -43,8 +43,8 @@ fn fragment_definition<S: TokenSource>(
     })
 }
 
-/// `Definition = Operation | Fragment`
-#[tactic(auto, using(graphql_common::proofs::Reading::reading))]
+/// `Definition = OperationDefinition | FragmentDefinition`
+#[tactic(auto, using(graphql_values::proofs::Reading::reading))]
 fn definition<S: TokenSource>(alloc: Global, source: &mut S) -> Result<Definition<S::Names>, Stop>
     ensures reads { Reads (Sym definition_symbol) (S.items source.old) (S.items source.new)
         (λ v x. definition_view S.Names.bytes v ≡ definition_of x) result }
@@ -68,8 +68,8 @@ fn sees_definition<S: TokenSource>(source: &S) -> bool
         || sees_keyword(source, "fragment")
 }
 
-/// `QueryDocument = Definition+`, without the end behind it.
-#[tactic(auto, using(graphql_common::proofs::Reading::reading))]
+/// `QueryDocument = Definition+`, without the end after it.
+#[tactic(auto, using(graphql_values::proofs::Reading::reading))]
 pub fn definitions<S: TokenSource>(
     alloc: Global,
     source: &mut S,

@@ -2,27 +2,27 @@
 ghost use Rattle.std.specs.Prelude.{◌≡◌, ◌≤◌, OnOk, [], ◌∷◌, length, option_map};
 ghost use Rattle.graphql_grammar.specs.Trees.{Sym, optional};
 ghost use Rattle.graphql_core.specs.Source.{kept, place_next};
-ghost use Rattle.graphql_core.specs.Matching.{sees_class};
-ghost use Rattle.graphql_common.specs.Gives.{Adds, Shortens};
-ghost use Rattle.graphql_query.specs.Tree.{condition_view, selection_view};
-ghost use Rattle.graphql_query.specs.Grammar.{spread_class, spread_name_symbol, spread_rest, condition_symbol};
-ghost use Rattle.graphql_query.specs.Meanings.{condition_of, optional_condition_of, spread_name_of, spread_rest_of};
-ghost use Rattle.graphql_query.specs.Reads.{Reads};
+ghost use Rattle.graphql_core.specs.steps.Matching.{sees_class};
+ghost use Rattle.graphql_values.specs.steps.Answers.{Adds, Shortens};
+ghost use Rattle.graphql_query_tree.specs.Tree.{type_condition_view, selection_view};
+ghost use Rattle.graphql_query_tree.specs.Grammar.{spread_class, spread_name_symbol, fragment_spread_rest, type_condition_symbol};
+ghost use Rattle.graphql_query_tree.specs.Meanings.{type_condition_of, optional_type_condition_of, spread_name_of, fragment_spread_rest_of};
+ghost use Rattle.graphql_query.specs.steps.Reads.{Reads};
 
-use crate::tree::{FragmentSpread, Selection, TypeCondition};
-use graphql_common::read::directives;
 use graphql_core::common::Names;
 use graphql_core::helpers::{Stop, TokenSource, keyword, name, sees_keyword};
+use graphql_query_tree::tree::{FragmentSpread, Selection, TypeCondition};
+use graphql_values::read::directives;
 use std::alloc::Global;
 
-/// `Condition = "on" Name`
-#[tactic(auto, using(graphql_common::proofs::Reading::reading))]
+/// `TypeCondition = "on" Name`
+#[tactic(auto, using(graphql_values::proofs::Reading::reading))]
 pub fn type_condition<S: TokenSource>(
     alloc: Global,
     source: &mut S,
 ) -> Result<TypeCondition<S::Names>, Stop>
-    ensures reads { Reads (Sym condition_symbol) (S.items source.old) (S.items source.new)
-        (λ v x. condition_view S.Names.bytes v ≡ condition_of x) result }
+    ensures reads { Reads (Sym type_condition_symbol) (S.items source.old) (S.items source.new)
+        (λ v x. type_condition_view S.Names.bytes v ≡ type_condition_of x) result }
     ensures kept { kept (S.items source.new) ≡ kept (S.items source.old) }
     ensures shorter { Shortens (S.items source.old) (S.items source.new) result }
 {
@@ -30,14 +30,14 @@ pub fn type_condition<S: TokenSource>(
     Ok(TypeCondition::On(name(alloc, source)?))
 }
 
-/// `Condition?`
-#[tactic(auto, using(graphql_common::proofs::Reading::reading))]
-pub fn optional_condition<S: TokenSource>(
+/// `TypeCondition?`
+#[tactic(auto, using(graphql_values::proofs::Reading::reading))]
+pub fn optional_type_condition<S: TokenSource>(
     alloc: Global,
     source: &mut S,
 ) -> Result<Option<TypeCondition<S::Names>>, Stop>
-    ensures reads { Reads (optional (Sym condition_symbol)) (S.items source.old) (S.items source.new)
-        (λ v x. option_map (condition_view S.Names.bytes) v ≡ optional_condition_of x) result }
+    ensures reads { Reads (optional (Sym type_condition_symbol)) (S.items source.old) (S.items source.new)
+        (λ v x. option_map (type_condition_view S.Names.bytes) v ≡ optional_type_condition_of x) result }
     ensures kept { kept (S.items source.new) ≡ kept (S.items source.old) }
     ensures within { OnOk result (length (S.items source.new).tokens ≤ length (S.items source.old).tokens) }
 {
@@ -55,7 +55,7 @@ pub fn sees_spread_name<S: TokenSource>(source: &S) -> bool
 }
 
 /// `SpreadName = Name other than "on"`
-#[tactic(auto, using(graphql_common::proofs::Reading::reading))]
+#[tactic(auto, using(graphql_values::proofs::Reading::reading))]
 fn spread_name<S: TokenSource>(
     alloc: Global,
     source: &mut S,
@@ -71,15 +71,15 @@ fn spread_name<S: TokenSource>(
     name(alloc, source)
 }
 
-/// `SpreadName Directives`, what stands behind the dots of a spread, behind the selections before it.
-#[tactic(auto, using(graphql_common::proofs::Reading::reading))]
+/// `SpreadName Directives`, what stands after the dots of a spread, after the selections before it.
+#[tactic(auto, using(graphql_values::proofs::Reading::reading))]
 pub fn fragment_spread<S: TokenSource>(
     alloc: Global,
     source: &mut S,
     items: &mut Vec<Selection<S::Names>>,
 ) -> Result<(), Stop>
-    ensures reads { Reads spread_rest (S.items source.old) (S.items source.new)
-        (λ v x. Adds (selection_view S.Names.bytes) items.old.items items.new.items (spread_rest_of x ∷ [])) result }
+    ensures reads { Reads fragment_spread_rest (S.items source.old) (S.items source.new)
+        (λ v x. Adds (selection_view S.Names.bytes) items.old.items items.new.items (fragment_spread_rest_of x ∷ [])) result }
     ensures kept { kept (S.items source.new) ≡ kept (S.items source.old) }
     ensures shorter { Shortens (S.items source.old) (S.items source.new) result }
 {

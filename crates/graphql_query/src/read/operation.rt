@@ -2,45 +2,51 @@
 ghost use Rattle.std.specs.Prelude.{◌≡◌, ◌≤◌, OnOk, [], ◌∷◌, length, codes, option_map};
 ghost use Rattle.graphql_grammar.specs.Trees.{Then, Sym, optional};
 ghost use Rattle.graphql_core.specs.Source.{kept};
-ghost use Rattle.graphql_common.specs.ValueViews.{value_view};
-ghost use Rattle.graphql_common.specs.Grammar.{default_symbol, word};
-ghost use Rattle.graphql_common.specs.Grammar as core;
-ghost use Rattle.graphql_common.specs.Gives.{Adds, Shortens};
-ghost use Rattle.graphql_common.specs.Meanings.{optional_default_of};
-ghost use Rattle.graphql_query.specs.Tree.{query_kind, mutation_kind, subscription_kind, variable_view, query_view, mutation_view, subscription_view};
-ghost use Rattle.graphql_query.specs.Tree.{operation_view};
-ghost use Rattle.graphql_query.specs.Common.{common_view};
-ghost use Rattle.graphql_query.specs.Grammar.{common_symbol, variables_symbol, variable_symbol, operation_symbol};
-ghost use Rattle.graphql_query.specs.Meanings.{optional_name_of, variable_of, variables_of, optional_variables_of, common_of, keyword_of, operation_of};
-ghost use Rattle.graphql_query.specs.Reads.{Reads};
+ghost use Rattle.graphql_values.specs.ValueViews.{value_view};
+ghost use Rattle.graphql_values.specs.Grammar.{default_symbol, word};
+ghost use Rattle.graphql_values.specs.Grammar as shared;
+ghost use Rattle.graphql_values.specs.steps.Answers.{Adds, Shortens};
+ghost use Rattle.graphql_values.specs.Meanings.{optional_default_of};
+ghost use Rattle.graphql_query_tree.specs.Tree.{query_kind, mutation_kind, subscription_kind, variable_definition_view, query_view, mutation_view};
+ghost use Rattle.graphql_query_tree.specs.Tree.{subscription_view};
+ghost use Rattle.graphql_query_tree.specs.Tree.{operation_view};
+ghost use Rattle.graphql_query.specs.steps.OperationBody.{operation_body_view};
+ghost use Rattle.graphql_query_tree.specs.Grammar.{operation_body_symbol, variable_definitions_symbol, variable_definition_symbol, operation_symbol};
+ghost use Rattle.graphql_query_tree.specs.Meanings.{optional_name_of, variable_definition_of, variable_definitions_of, optional_variable_definitions_of};
+ghost use Rattle.graphql_query_tree.specs.Meanings.{operation_body_of, keyword_of, operation_of};
+ghost use Rattle.graphql_query.specs.steps.Reads.{Reads};
 
 use crate::read::selection::selection_set;
-use crate::tree::{
-    Mutation, OperationDefinition, Query, SelectionSet, Subscription, VariableDefinition,
-};
-use graphql_common::read::directives::{self, default_value};
-use graphql_common::read::types::parse_type;
-use graphql_common::tree::{Directive, Value};
 use graphql_core::common::Names;
 use graphql_core::helpers::{Mark, Stop, TokenSource, keyword, name, sees_keyword, take_mark};
+use graphql_query_tree::tree::{
+    Mutation, OperationDefinition, Query, SelectionSet, Subscription, VariableDefinition,
+};
+use graphql_values::read::directives::{self, default_value};
+use graphql_values::read::types::parse_type;
+use graphql_values::tree::{Directive, Value};
 use std::alloc::Global;
 
-/// What every operation has behind its keyword.
+/// What every operation has after its keyword.
 #[derive(Drop)]
-struct Common<N: Names> {
+struct OperationBody<N: Names> {
+    /// The name; `None` where it has none.
     name: Option<N::Value>,
+    /// The variables, in the order of the text.
     variable_definitions: Vec<VariableDefinition<N>>,
+    /// The directives, in the order of the text.
     directives: Vec<Directive<N>>,
+    /// What is selected.
     selection_set: SelectionSet<N>,
 }
 
 /// `Name?`
-#[tactic(auto, using(graphql_common::proofs::Reading::reading))]
+#[tactic(auto, using(graphql_values::proofs::Reading::reading))]
 fn optional_name<S: TokenSource>(
     alloc: Global,
     source: &mut S,
 ) -> Result<Option<<S::Names as Names>::Value>, Stop>
-    ensures reads { Reads (optional core.name) (S.items source.old) (S.items source.new)
+    ensures reads { Reads (optional shared.name) (S.items source.old) (S.items source.new)
         (λ v x. option_map S.Names.bytes v ≡ optional_name_of x) result }
     ensures kept { kept (S.items source.new) ≡ kept (S.items source.old) }
     ensures within { OnOk result (length (S.items source.new).tokens ≤ length (S.items source.old).tokens) }
@@ -52,7 +58,7 @@ fn optional_name<S: TokenSource>(
 }
 
 /// `Default?`
-#[tactic(auto, using(graphql_common::proofs::Reading::reading))]
+#[tactic(auto, using(graphql_values::proofs::Reading::reading))]
 fn optional_default<S: TokenSource>(
     alloc: Global,
     source: &mut S,
@@ -68,15 +74,15 @@ fn optional_default<S: TokenSource>(
     Ok(Some(default_value(alloc, source)?))
 }
 
-/// `Variable = "$" Name ":" Type Default?`, behind the variables before it.
-#[tactic(auto, using(graphql_common::proofs::Reading::reading))]
+/// `VariableDefinition = "$" Name ":" Type Default?`, after the variables before it.
+#[tactic(auto, using(graphql_values::proofs::Reading::reading))]
 fn variable_definition<S: TokenSource>(
     alloc: Global,
     source: &mut S,
     definitions: &mut Vec<VariableDefinition<S::Names>>,
 ) -> Result<(), Stop>
-    ensures reads { Reads (Sym variable_symbol) (S.items source.old) (S.items source.new)
-        (λ v x. Adds (variable_view S.Names.bytes) definitions.old.items definitions.new.items (variable_of x ∷ [])) result }
+    ensures reads { Reads (Sym variable_definition_symbol) (S.items source.old) (S.items source.new)
+        (λ v x. Adds (variable_definition_view S.Names.bytes) definitions.old.items definitions.new.items (variable_definition_of x ∷ [])) result }
     ensures kept { kept (S.items source.new) ≡ kept (S.items source.old) }
     ensures shorter { Shortens (S.items source.old) (S.items source.new) result }
 {
@@ -94,15 +100,15 @@ fn variable_definition<S: TokenSource>(
     Ok(())
 }
 
-/// `Variables = "(" Variable+ ")"`
-#[tactic(auto, using(graphql_common::proofs::Reading::reading))]
+/// `VariableDefinitions = "(" VariableDefinition+ ")"`
+#[tactic(auto, using(graphql_values::proofs::Reading::reading))]
 fn variable_definitions<S: TokenSource>(
     alloc: Global,
     source: &mut S,
     definitions: &mut Vec<VariableDefinition<S::Names>>,
 ) -> Result<(), Stop>
-    ensures reads { Reads (Sym variables_symbol) (S.items source.old) (S.items source.new)
-        (λ v x. Adds (variable_view S.Names.bytes) definitions.old.items definitions.new.items (variables_of x)) result }
+    ensures reads { Reads (Sym variable_definitions_symbol) (S.items source.old) (S.items source.new)
+        (λ v x. Adds (variable_definition_view S.Names.bytes) definitions.old.items definitions.new.items (variable_definitions_of x)) result }
     ensures kept { kept (S.items source.new) ≡ kept (S.items source.old) }
     ensures shorter { Shortens (S.items source.old) (S.items source.new) result }
 {
@@ -115,15 +121,15 @@ fn variable_definitions<S: TokenSource>(
     Ok(())
 }
 
-/// `Variables?`
-#[tactic(auto, using(graphql_common::proofs::Reading::reading))]
-fn optional_variables<S: TokenSource>(
+/// `VariableDefinitions?`
+#[tactic(auto, using(graphql_values::proofs::Reading::reading))]
+fn optional_variable_definitions<S: TokenSource>(
     alloc: Global,
     source: &mut S,
     definitions: &mut Vec<VariableDefinition<S::Names>>,
 ) -> Result<(), Stop>
-    ensures reads { Reads (optional (Sym variables_symbol)) (S.items source.old) (S.items source.new)
-        (λ v x. Adds (variable_view S.Names.bytes) definitions.old.items definitions.new.items (optional_variables_of x)) result }
+    ensures reads { Reads (optional (Sym variable_definitions_symbol)) (S.items source.old) (S.items source.new)
+        (λ v x. Adds (variable_definition_view S.Names.bytes) definitions.old.items definitions.new.items (optional_variable_definitions_of x)) result }
     ensures kept { kept (S.items source.new) ≡ kept (S.items source.old) }
     ensures within { OnOk result (length (S.items source.new).tokens ≤ length (S.items source.old).tokens) }
 {
@@ -133,22 +139,25 @@ fn optional_variables<S: TokenSource>(
     variable_definitions(alloc, source, definitions)
 }
 
-/// `Common = Name? Variables? Directives SelectionSet`
-#[tactic(auto, using(graphql_common::proofs::Reading::reading))]
-fn operation_common<S: TokenSource>(alloc: Global, source: &mut S) -> Result<Common<S::Names>, Stop>
-    ensures reads { Reads (Sym common_symbol) (S.items source.old) (S.items source.new)
-        (λ v x. common_view S.Names.bytes v ≡ common_of x) result }
+/// `OperationBody = Name? VariableDefinitions? Directives SelectionSet`
+#[tactic(auto, using(graphql_values::proofs::Reading::reading))]
+fn operation_body<S: TokenSource>(
+    alloc: Global,
+    source: &mut S,
+) -> Result<OperationBody<S::Names>, Stop>
+    ensures reads { Reads (Sym operation_body_symbol) (S.items source.old) (S.items source.new)
+        (λ v x. operation_body_view S.Names.bytes v ≡ operation_body_of x) result }
     ensures kept { kept (S.items source.new) ≡ kept (S.items source.old) }
     ensures shorter { Shortens (S.items source.old) (S.items source.new) result }
 {
     let name = optional_name(alloc, source)?;
     let mut variable_definitions = Vec::new(alloc);
-    optional_variables(alloc, source, &mut variable_definitions)?;
+    optional_variable_definitions(alloc, source, &mut variable_definitions)?;
     let mut directives = Vec::new(alloc);
     directives::directives(alloc, source, &mut directives)?;
     let mut items = Vec::new(alloc);
     let span = selection_set(alloc, source, &mut items)?;
-    Ok(Common {
+    Ok(OperationBody {
         name,
         variable_definitions,
         directives,
@@ -156,16 +165,16 @@ fn operation_common<S: TokenSource>(alloc: Global, source: &mut S) -> Result<Com
     })
 }
 
-/// `"query" Common`
-#[tactic(auto, using(graphql_common::proofs::Reading::reading))]
+/// `"query" OperationBody`
+#[tactic(auto, using(graphql_values::proofs::Reading::reading))]
 fn query<S: TokenSource>(alloc: Global, source: &mut S) -> Result<Query<S::Names>, Stop>
-    ensures reads { Reads (Then (word (codes "query")) (Sym common_symbol)) (S.items source.old) (S.items source.new)
+    ensures reads { Reads (Then (word (codes "query")) (Sym operation_body_symbol)) (S.items source.old) (S.items source.new)
         (λ v x. query_view S.Names.bytes v ≡ keyword_of query_kind x) result }
     ensures kept { kept (S.items source.new) ≡ kept (S.items source.old) }
     ensures shorter { Shortens (S.items source.old) (S.items source.new) result }
 {
     let position = keyword(source, "query")?;
-    let common = operation_common(alloc, source)?;
+    let common = operation_body(alloc, source)?;
     Ok(Query {
         position,
         name: common.name,
@@ -175,16 +184,16 @@ fn query<S: TokenSource>(alloc: Global, source: &mut S) -> Result<Query<S::Names
     })
 }
 
-/// `"mutation" Common`
-#[tactic(auto, using(graphql_common::proofs::Reading::reading))]
+/// `"mutation" OperationBody`
+#[tactic(auto, using(graphql_values::proofs::Reading::reading))]
 fn mutation<S: TokenSource>(alloc: Global, source: &mut S) -> Result<Mutation<S::Names>, Stop>
-    ensures reads { Reads (Then (word (codes "mutation")) (Sym common_symbol)) (S.items source.old) (S.items source.new)
+    ensures reads { Reads (Then (word (codes "mutation")) (Sym operation_body_symbol)) (S.items source.old) (S.items source.new)
         (λ v x. mutation_view S.Names.bytes v ≡ keyword_of mutation_kind x) result }
     ensures kept { kept (S.items source.new) ≡ kept (S.items source.old) }
     ensures shorter { Shortens (S.items source.old) (S.items source.new) result }
 {
     let position = keyword(source, "mutation")?;
-    let common = operation_common(alloc, source)?;
+    let common = operation_body(alloc, source)?;
     Ok(Mutation {
         position,
         name: common.name,
@@ -194,19 +203,19 @@ fn mutation<S: TokenSource>(alloc: Global, source: &mut S) -> Result<Mutation<S:
     })
 }
 
-/// `"subscription" Common`
-#[tactic(auto, using(graphql_common::proofs::Reading::reading))]
+/// `"subscription" OperationBody`
+#[tactic(auto, using(graphql_values::proofs::Reading::reading))]
 fn subscription<S: TokenSource>(
     alloc: Global,
     source: &mut S,
 ) -> Result<Subscription<S::Names>, Stop>
-    ensures reads { Reads (Then (word (codes "subscription")) (Sym common_symbol)) (S.items source.old) (S.items source.new)
+    ensures reads { Reads (Then (word (codes "subscription")) (Sym operation_body_symbol)) (S.items source.old) (S.items source.new)
         (λ v x. subscription_view S.Names.bytes v ≡ keyword_of subscription_kind x) result }
     ensures kept { kept (S.items source.new) ≡ kept (S.items source.old) }
     ensures shorter { Shortens (S.items source.old) (S.items source.new) result }
 {
     let position = keyword(source, "subscription")?;
-    let common = operation_common(alloc, source)?;
+    let common = operation_body(alloc, source)?;
     Ok(Subscription {
         position,
         name: common.name,
@@ -216,8 +225,8 @@ fn subscription<S: TokenSource>(
     })
 }
 
-/// `Operation = SelectionSet | "query" Common | "mutation" Common | "subscription" Common`
-#[tactic(auto, using(graphql_common::proofs::Reading::reading))]
+/// `OperationDefinition = SelectionSet | "query" OperationBody | "mutation" OperationBody | "subscription" OperationBody`
+#[tactic(auto, using(graphql_values::proofs::Reading::reading))]
 pub fn operation_definition<S: TokenSource>(
     alloc: Global,
     source: &mut S,

@@ -1,27 +1,27 @@
 //! Selections.
 ghost use Rattle.std.specs.Prelude.{◌≡◌, ◌≤◌, ◌||◌, OnOk, [], ◌∷◌, length, codes};
 ghost use Rattle.graphql_grammar.specs.Trees.{Then, Sym, Either, optional};
-ghost use Rattle.graphql_core.specs.declared.tokenizer.token.Kind.TheVariants.{Name};
+ghost use Rattle.graphql_lexer.specs.declared.tokenizer.token.Kind.TheVariants.{Name};
 ghost use Rattle.graphql_core.specs.Source.{kept, place_of};
-ghost use Rattle.graphql_core.specs.Matching.{sees_class};
-ghost use Rattle.graphql_common.specs.Grammar.{punctuator, any, mark};
-ghost use Rattle.graphql_common.specs.Gives.{Adds, Shortens};
-ghost use Rattle.graphql_query.specs.Tree.{selection_view};
-ghost use Rattle.graphql_query.specs.Grammar.{field_symbol, set_symbol, selection_symbol, spread_rest, inline_rest};
-ghost use Rattle.graphql_query.specs.Meanings.{field_of, selected_of, inline_rest_of, selection_of, set_of};
-ghost use Rattle.graphql_query.specs.Reads.{Reads, AddsSet, behind_dots_of};
+ghost use Rattle.graphql_core.specs.steps.Matching.{sees_class};
+ghost use Rattle.graphql_values.specs.Grammar.{punctuator, any, mark};
+ghost use Rattle.graphql_values.specs.steps.Answers.{Adds, Shortens};
+ghost use Rattle.graphql_query_tree.specs.Tree.{selection_view};
+ghost use Rattle.graphql_query_tree.specs.Grammar.{field_symbol, selection_set_symbol, selection_symbol, fragment_spread_rest, inline_fragment_rest};
+ghost use Rattle.graphql_query_tree.specs.Meanings.{field_of, selected_of, inline_fragment_rest_of, selection_of, selection_set_of};
+ghost use Rattle.graphql_query.specs.steps.Reads.{Reads, AddsSet, after_dots_of};
 
 use crate::read::alias::alias;
-use crate::read::fragment::{fragment_spread, optional_condition, sees_spread_name};
-use crate::tree::{Field, InlineFragment, Selection, SelectionSet};
-use graphql_common::read::directives::{self, optional_arguments};
+use crate::read::fragment::{fragment_spread, optional_type_condition, sees_spread_name};
 use graphql_core::helpers::{Mark, Stop, TokenSource, name, take_mark};
 use graphql_core::position::Pos;
+use graphql_query_tree::tree::{Field, InlineFragment, Selection, SelectionSet};
+use graphql_values::read::directives::{self, optional_arguments};
 use std::alloc::Global;
 
-/// `Field = Alias? Name Arguments? Directives SelectionSet?`, where `Alias = Name ":"`, behind the selections before it.
+/// `Field = Alias? Name Arguments? Directives SelectionSet?`, where `Alias = Name ":"`, after the selections before it.
 #[cycle(reading)]
-#[tactic(auto, using(graphql_common::proofs::Reading::reading))]
+#[tactic(auto, using(graphql_values::proofs::Reading::reading))]
 fn field<S: TokenSource>(
     alloc: Global,
     source: &mut S,
@@ -55,16 +55,16 @@ fn field<S: TokenSource>(
     Ok(())
 }
 
-/// `SelectionSet?` of a field that stands at a position: its span, and its selections behind those before them.
+/// `SelectionSet?` of a field that stands at a position: its span, and its selections after those before them.
 #[cycle(reading)]
-#[tactic(auto, using(graphql_common::proofs::Reading::reading))]
+#[tactic(auto, using(graphql_values::proofs::Reading::reading))]
 fn selected<S: TokenSource>(
     alloc: Global,
     source: &mut S,
     position: Pos,
     items: &mut Vec<Selection<S::Names>>,
 ) -> Result<(Pos, Pos), Stop>
-    ensures reads { Reads (optional (Sym set_symbol)) (S.items source.old) (S.items source.new)
+    ensures reads { Reads (optional (Sym selection_set_symbol)) (S.items source.old) (S.items source.new)
         (λ v x. AddsSet S.Names.bytes items.old.items items.new.items v (selected_of (place_of position) x)) result }
     ensures kept { kept (S.items source.new) ≡ kept (S.items source.old) }
     ensures within { OnOk result (length (S.items source.new).tokens ≤ length (S.items source.old).tokens) }
@@ -75,21 +75,21 @@ fn selected<S: TokenSource>(
     selection_set(alloc, source, items)
 }
 
-/// `Condition? Directives SelectionSet`, what stands behind the dots of an inline fragment, behind the selections before it.
+/// `TypeCondition? Directives SelectionSet`, what stands after the dots of an inline fragment, after the selections before it.
 #[cycle(reading)]
-#[tactic(auto, using(graphql_common::proofs::Reading::reading))]
+#[tactic(auto, using(graphql_values::proofs::Reading::reading))]
 fn inline_fragment<S: TokenSource>(
     alloc: Global,
     source: &mut S,
     items: &mut Vec<Selection<S::Names>>,
 ) -> Result<(), Stop>
-    ensures reads { Reads inline_rest (S.items source.old) (S.items source.new)
-        (λ v x. Adds (selection_view S.Names.bytes) items.old.items items.new.items (inline_rest_of x ∷ [])) result }
+    ensures reads { Reads inline_fragment_rest (S.items source.old) (S.items source.new)
+        (λ v x. Adds (selection_view S.Names.bytes) items.old.items items.new.items (inline_fragment_rest_of x ∷ [])) result }
     ensures kept { kept (S.items source.new) ≡ kept (S.items source.old) }
     ensures shorter { Shortens (S.items source.old) (S.items source.new) result }
 {
     let position = source.position();
-    let type_condition = optional_condition(alloc, source)?;
+    let type_condition = optional_type_condition(alloc, source)?;
     let mut directives = Vec::new(alloc);
     directives::directives(alloc, source, &mut directives)?;
     let mut selections = Vec::new(alloc);
@@ -106,16 +106,16 @@ fn inline_fragment<S: TokenSource>(
     Ok(())
 }
 
-/// `Spread = "..." SpreadName Directives`, `Inline = "..." Condition? Directives SelectionSet`, behind the selections before it.
+/// `FragmentSpread = "..." SpreadName Directives`, `InlineFragment = "..." TypeCondition? Directives SelectionSet`, after the selections before it.
 #[cycle(reading)]
-#[tactic(auto, using(graphql_common::proofs::Reading::reading))]
+#[tactic(auto, using(graphql_values::proofs::Reading::reading))]
 fn spread_or_inline<S: TokenSource>(
     alloc: Global,
     source: &mut S,
     items: &mut Vec<Selection<S::Names>>,
 ) -> Result<(), Stop>
-    ensures reads { Reads (Then (punctuator (codes "...")) (Either spread_rest inline_rest)) (S.items source.old) (S.items source.new)
-        (λ v x. Adds (selection_view S.Names.bytes) items.old.items items.new.items (behind_dots_of x ∷ [])) result }
+    ensures reads { Reads (Then (punctuator (codes "...")) (Either fragment_spread_rest inline_fragment_rest)) (S.items source.old) (S.items source.new)
+        (λ v x. Adds (selection_view S.Names.bytes) items.old.items items.new.items (after_dots_of x ∷ [])) result }
     ensures kept { kept (S.items source.new) ≡ kept (S.items source.old) }
     ensures shorter { Shortens (S.items source.old) (S.items source.new) result }
 {
@@ -126,9 +126,9 @@ fn spread_or_inline<S: TokenSource>(
     inline_fragment(alloc, source, items)
 }
 
-/// `Selection = Field | Spread | Inline`, behind the selections before it.
+/// `Selection = Field | FragmentSpread | InlineFragment`, after the selections before it.
 #[cycle(reading)]
-#[tactic(auto, using(graphql_common::proofs::Reading::reading))]
+#[tactic(auto, using(graphql_values::proofs::Reading::reading))]
 fn selection<S: TokenSource>(
     alloc: Global,
     source: &mut S,
@@ -152,16 +152,16 @@ fn sees_selection<S: TokenSource>(source: &S) -> bool
     source.sees_name() || source.sees_mark(Mark::Dots)
 }
 
-/// `SelectionSet = "{" Selection+ "}"`: its span, and its selections behind those before them.
+/// `SelectionSet = "{" Selection+ "}"`: its span, and its selections after those before them.
 #[cycle(reading)]
-#[tactic(auto, using(graphql_common::proofs::Reading::reading))]
+#[tactic(auto, using(graphql_values::proofs::Reading::reading))]
 pub fn selection_set<S: TokenSource>(
     alloc: Global,
     source: &mut S,
     items: &mut Vec<Selection<S::Names>>,
 ) -> Result<(Pos, Pos), Stop>
-    ensures reads { Reads (Sym set_symbol) (S.items source.old) (S.items source.new)
-        (λ v x. AddsSet S.Names.bytes items.old.items items.new.items v (set_of x)) result }
+    ensures reads { Reads (Sym selection_set_symbol) (S.items source.old) (S.items source.new)
+        (λ v x. AddsSet S.Names.bytes items.old.items items.new.items v (selection_set_of x)) result }
     ensures kept { kept (S.items source.new) ≡ kept (S.items source.old) }
     ensures shorter { Shortens (S.items source.old) (S.items source.new) result }
 {

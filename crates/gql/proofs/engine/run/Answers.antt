@@ -44,11 +44,16 @@ pub returns-clause-ok : goal.returns-clause-ok
 returns-clause-ok g c =
     let read = c.in_ok-bytes.ensures in
     let same = ap (λ v. v.items) c.in-Ok.ensures.ok in
-    on_ok_weaker c.write_all.result (reads_for_output c.args.command _ _ _ _ _ _ _ (Appends _ _) same c.as_bytes.ensures.value read.bytes read.end c.in_ok-output.ensures.ok) c.write_all.ensures.ok
+    on_ok_weaker c.write_all.result
+    (reads_for_output c.args.command _ _ _ _ _ _ _
+    (Appends _ _) same c.as_bytes.ensures.value read.bytes read.end c.in_ok-output.ensures.ok) c.write_all.ensures.ok
 
 pub returns-clause-write : goal.returns-clause-write
 returns-clause-write g c = λ is.
     let read = c.in_ok-bytes.ensures in
     let same = ap (λ v. v.items) c.in-Ok.ensures.ok in
-    let failed = IfErr-at_err _ is c.write_all.ensures.err in
-    (failed.1, reads_for_output c.args.command _ _ _ _ _ _ _ (WritesPart _ _) same c.as_bytes.ensures.value read.bytes read.end c.in_ok-output.ensures.ok failed.2)
+    let failed = IfErr-at_err _ is c.write_all.ensures.err in (
+      failed.1,
+      reads_for_output c.args.command _ _ _ _ _ _ _
+          (WritesPart _ _) same c.as_bytes.ensures.value read.bytes read.end c.in_ok-output.ensures.ok failed.2,
+    )

@@ -19,5 +19,9 @@ pieces-preserved g c =
     record {
       each_one = omega (arith, c.split_at.ensures.back_len, c.in-Ok-write.ensures.bound);
       faults_stay = stays _ _ _ _ c.in-Ok-write.count-test.1 c.in-Ok-write.ensures.faults ∙ c.pieces.invariant.faults_stay;
-      written = (before.0 ++ take n c.pieces.rest.now, before.1 ∙ rw (c.split_at.ensures.back) (split _ n _), Appends-trans _ _ _ before.0 (take n c.pieces.rest.now) before.2 c.in-Ok-write.ensures.bytes);
+      written = (
+        before.0 ++ take n c.pieces.rest.now,
+        before.1 ∙ rw (c.split_at.ensures.back) (split _ n _),
+        Appends-trans _ _ _ before.0 (take n c.pieces.rest.now) before.2 c.in-Ok-write.ensures.bytes,
+      );
     }

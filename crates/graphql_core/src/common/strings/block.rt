@@ -6,20 +6,21 @@ ghost use Rattle.graphql_core.specs.BlockStrings as spec;
 
 use std::alloc::{AllocError, Global};
 
-/// An escape of three quotes.
-const ESCAPED: &str = "\\\"\"\"";
+/// What begins and ends a block string.
+pub const QUOTES: &str = "\"\"\"";
 
-/// What it stands for.
-const QUOTES: &str = "\"\"\"";
+/// The escape of three quotes in a block string.
+pub const ESCAPED_QUOTES: &str = "\\\"\"\"";
 
-fn is_white(byte: u8) -> bool
+/// Whether a byte is a space or a tab.
+pub fn is_white(byte: u8) -> bool
     ensures { result ≡ spec.is_white byte }
 {
     byte == b' ' || byte == b'\t'
 }
 
 /// Whether a line has spaces and tabs alone.
-fn is_blank(line: &str) -> bool
+pub fn is_blank(line: &str) -> bool
     ensures { result ≡ spec.is_blank line.now }
 {
     line.bytes().all(is_white)
@@ -84,10 +85,10 @@ fn push_unescaped(value: &mut String, line: &str) -> Result<(), AllocError>
     ensures { OnOk result (string_bytes value.new ≡ string_bytes value.old ++ spec.unescaped line.now) }
 {
     let mut rest = line;
-    'escapes: while let Some((plain, behind)) = rest.split_once(ESCAPED) {
+    'escapes: while let Some((plain, after)) = rest.split_once(ESCAPED_QUOTES) {
         value.push_str(plain)?;
         value.push_str(QUOTES)?;
-        rest = behind;
+        rest = after;
     }
     value.push_str(rest)
 }

@@ -5,10 +5,10 @@ use thiserror::Error;
 /// Why a string has no value.
 #[derive(Debug, PartialEq, Drop, Error)]
 pub enum UnquoteError {
-    /// 1: an escape that stands for no character.
+    /// An escape that stands for no character.
     #[error("bad escape in string")]
     BadEscape,
-    /// 2: memory ran out.
+    /// An allocation failed.
     #[error("out of memory")]
     OutOfMemory,
 }

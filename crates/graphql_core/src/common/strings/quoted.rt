@@ -31,13 +31,13 @@ fn named_character(text: &str) -> Option<(char, &str)>
     ensures names { IfSome result (λ r. BeginsName text.now r.0 r.1.now) }
     ensures none { IfNone result (BeginsNoName text.now) }
 {
-    let (digits, behind) = text.split_at_checked(4)?;
+    let (digits, after) = text.split_at_checked(4)?;
     let code = hexadecimal(digits)?;
     let character = char::from_u32(code)?;
-    Some((character, behind))
+    Some((character, after))
 }
 
-/// The character that the escape at the front stands for, and what follows it. The text begins behind its backslash.
+/// The character that the escape at the front stands for, and what follows it. The text begins after its backslash.
 fn escape(text: &str) -> Option<(char, &str)>
     ensures escapes { IfSome result (λ r. BeginsEscape text.now r.0 r.1.now) }
     ensures none { IfNone result (BeginsNoEscape text.now) }
@@ -69,10 +69,10 @@ pub fn unquote_string(alloc: Global, text: &str) -> Result<String, UnquoteError>
     let mut value = String::new(alloc);
     let mut rest = &text[1..text.len() - 1];
     'escapes: while let Some((plain, escaped)) = rest.split_once('\\') {
-        let (character, behind) = escape(escaped).ok_or(UnquoteError::BadEscape)?;
+        let (character, after) = escape(escaped).ok_or(UnquoteError::BadEscape)?;
         value.push_str(plain)?;
         value.push(character)?;
-        rest = behind;
+        rest = after;
     }
     value.push_str(rest)?;
     Ok(value)

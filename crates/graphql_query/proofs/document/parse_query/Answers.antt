@@ -1,10 +1,10 @@
 use Rattle.std.proofs.Common.{sym, subst, arith}
 use Rattle.graphql_core.specs.Refusal.{Refusal, refusal_of}
-use Rattle.graphql_common.specs.Faults.{past_bound}
-use Rattle.graphql_common.proofs.Whole.{exit, one_document, one_shape, text_document, items_document, refusal, answers_unless_memory}
-use Rattle.graphql_common.proofs.Faults.{one_each, no_fault}
-use Rattle.graphql_query.specs.Document.{queries, IsRefusalOf}
-use Rattle.graphql_query.proofs.Readable.{readable}
+use Rattle.graphql_values.specs.Faults.{past_bound}
+use Rattle.graphql_values.proofs.Whole.{exit, one_document, one_shape, text_document, items_document, refusal, answers_unless_memory}
+use Rattle.graphql_values.proofs.Faults.{one_each, no_fault}
+use Rattle.graphql_query_tree.specs.Document.{queries, IsRefusalOf}
+use Rattle.graphql_query_tree.proofs.Readable.{readable}
 use Rattle.graphql_query.proofs.Printable.{printable}
 use Rattle.graphql_query.proofs.document.parse_query.Goals as goal
 

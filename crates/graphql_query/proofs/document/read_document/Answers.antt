@@ -1,7 +1,7 @@
 use Rattle.graphql_core.specs.Source.{IsAtEnd}
-use Rattle.graphql_common.proofs.Whole.{found, memory_only, least_stop, none_rest, least_left}
-use Rattle.graphql_query.specs.Document.{queries}
-use Rattle.graphql_query.proofs.Readable.{readable}
+use Rattle.graphql_values.proofs.Whole.{found, memory_only, least_stop, none_rest, least_left}
+use Rattle.graphql_query_tree.specs.Document.{queries}
+use Rattle.graphql_query_tree.proofs.Readable.{readable}
 use Rattle.graphql_query.proofs.document.read_document.Goals as goal
 
 pub returns-in-Err-clause-complete : goal.returns-in-Err-clause-complete

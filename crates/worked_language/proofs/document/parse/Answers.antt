@@ -1,38 +1,14 @@
-use Rattle.std.proofs.Common.{sym, subst, arith}
-use Rattle.graphql_core.specs.Refusal.{Refusal, refusal_of}
-use Rattle.graphql_common.specs.Faults.{IsRefusalOf, past_bound}
-use Rattle.graphql_common.proofs.Whole.{exit, one_document, one_shape, text_document, items_document, refusal, answers_unless_memory}
+use Rattle.graphql_values.proofs.Dialect.{arith, unread, parsed, unparsed}
 use Rattle.worked_language.specs.Language.{worked}
 use Rattle.worked_language.proofs.Readable.{readable}
 use Rattle.worked_language.proofs.document.parse.Goals as goal
 
-pub returns-then-source-gt-MAX_LENGTH-clause-refused : goal.returns-then-source-gt-MAX_LENGTH-clause-refused
-returns-then-source-gt-MAX_LENGTH-clause-refused g c =
-    subst (λ (r : Refusal). IsRefusalOf worked c.args.source.now r) (sym c.text_too_long.ensures) (past_bound (omega arith))
+pub returns-then-source-gt-MAX_LENGTH : goal.returns-then-source-gt-MAX_LENGTH
+returns-then-source-gt-MAX_LENGTH g c = unread worked readable _ _ _ (omega arith) c.text_too_long.ensures
 
-pub returns-in_err-read_document-clause-complete : goal.returns-in_err-read_document-clause-complete
-returns-in_err-read_document-clause-complete g c d bound h =
-    answers_unless_memory _ d _ _ c.from_residual.ensures.1
-    (c.in_err-read_document.ensures.complete d (items_document worked c.args.source.now _ d c.new-cursor.ensures h))
+pub returns-in_err-read_document : goal.returns-in_err-read_document
+returns-in_err-read_document g c =
+    unparsed worked readable _ _ _ c.new-cursor.ensures (omega arith) _ _ c.in_err-read_document.ensures c.from_residual.ensures.1
 
-pub returns-in_err-read_document-clause-refused : goal.returns-in_err-read_document-clause-refused
-returns-in_err-read_document-clause-refused g c =
-    let e = c.in_err-read_document.field-0.0 in
-    exit _ (refusal_of e) _ c.from_residual.ensures.1
-    (refusal worked c.args.source.now _ e (omega arith) c.new-cursor.ensures c.in_err-read_document.ensures.refused)
-
-pub returns-clause-derived : goal.returns-clause-derived
-returns-clause-derived g c = text_document worked c.args.source.now _ _ c.new-cursor.ensures c.in_ok-read_document.ensures.derived
-
-pub returns-clause-complete : goal.returns-clause-complete
-returns-clause-complete g c d bound h =
-    one_document worked readable _ _ d c.in_ok-read_document.ensures.derived (items_document worked c.args.source.now _ d c.new-cursor.ensures h)
-
-pub returns-then-source-gt-MAX_LENGTH-clause-one_shape : goal.returns-then-source-gt-MAX_LENGTH-clause-one_shape
-returns-then-source-gt-MAX_LENGTH-clause-one_shape g c = one_shape worked readable c.args.source.now
-
-pub returns-in_err-read_document-clause-one_shape : goal.returns-in_err-read_document-clause-one_shape
-returns-in_err-read_document-clause-one_shape g c = one_shape worked readable c.args.source.now
-
-pub returns-clause-one_shape : goal.returns-clause-one_shape
-returns-clause-one_shape g c = one_shape worked readable c.args.source.now
+pub returns : goal.returns
+returns g c = parsed worked readable _ _ _ c.new-cursor.ensures (omega arith) _ c.in_ok-read_document.ensures

@@ -1,16 +1,12 @@
-use Rattle.std.proofs.Common.{length}
-use Rattle.graphql_grammar.specs.Trees.{Sym}
-use Rattle.graphql_common.specs.Language.{reading}
-use Rattle.graphql_common.proofs.Steps.{Pushes}
-use Rattle.worked_language.specs.Meanings.{extension_view}
+use Rattle.graphql_values.proofs.Dialect.{length, Sym, reading, written, Pushes}
+use Rattle.worked_language.specs.Meanings.{extension_view, extension_of}
 use Rattle.worked_language.specs.Language.{worked, extension_symbol}
-use Rattle.worked_language.proofs.Steps.{read_extension}
 use Rattle.worked_language.proofs.read.extensions.Given as goal
 
 abbrev pub invariant-more : goal.invariant-more
 invariant-more g l = record {
-  pushes : Pushes (reading worked) (Sym extension_symbol) read_extension (extension_view g.S.Names.Names.bytes) (g.S.TokenSource.items l.initial.source)
-      (g.S.TokenSource.items l.source) l.initial.extensions.items l.extensions.items;
+  pushes : Pushes (reading worked) (Sym extension_symbol) (λ x. extension_of (written worked.changes x)) (extension_view g.S.Names.Names.bytes)
+      (g.S.TokenSource.items l.initial.source) (g.S.TokenSource.items l.source) l.initial.extensions.items l.extensions.items;
 }
 
 abbrev pub decreases-more : goal.decreases-more

@@ -12,18 +12,18 @@ one_unit : (unit bytes : List ℕ) → StandsFor (92 ∷ unit) bytes → HasValu
 one_unit unit bytes s = more (92 ∷ unit) bytes [] [] s empty
 
 -- a backslash, and then no escape
-none : (text : List ℕ) → ((unit bytes behind : List ℕ) → StandsFor (92 ∷ unit) bytes → text ≢ unit ++ behind) → HasNoValue (92 ∷ text)
+none : (text : List ℕ) → ((unit bytes after : List ℕ) → StandsFor (92 ∷ unit) bytes → text ≢ unit ++ after) → HasNoValue (92 ∷ text)
 none text other v h = no_value [] text v (λ i small. absurd (omega (arith, small))) other h
 
 too_few : BeginsNoName (codes "12")
-too_few digits behind c n e =
-    let long : 2 ≡ length digits + length behind = cc (ap length e, length-append digits behind) in
+too_few digits after c n e =
+    let long : 2 ≡ length digits + length after = cc (ap length e, length-append digits after) in
     let four = n.four in
     omega (arith, long, four)
 
 surrogate : BeginsNoName (codes "DFFF")
-surrogate digits behind c n e =
-    let same : codes "DFFF" ≡ digits = digits_at (codes "DFFF") digits behind n.four e in
+surrogate digits after c n e =
+    let same : codes "DFFF" ≡ digits = digits_at (codes "DFFF") digits after n.four e in
     let code : digits_value 16 (codes "DFFF") ≡ c = ap (digits_value 16) same ∙ n.value in
     let exists : IsScalar 57343 = subst IsScalar (sym code) n.exists in
     cc exists

@@ -1,15 +1,18 @@
-use Rattle.std.proofs.Common.{◌∷◌, Decides, ap, ◌∙◌, subst}
-use Rattle.graphql_core.specs.Literals.{IsUnsignedFloat}
-use Rattle.graphql_core.proofs.FloatLiterals.{minus, plain}
+use Rattle.std.proofs.Common.{sym, ◌∙◌}
+use Rattle.std.proofs.lemmas.Bool.{false≢true}
+use Rattle.graphql_lexer.proofs.Numbers.{float_is, float_found}
+use Rattle.graphql_core.proofs.FloatLiterals.{float_is_literal, literal_is_float, literal_ends_in_digit}
 use Rattle.graphql_core.proofs.common.number.is_float_literal.Goals as goal
-use Rattle.graphql_core.proofs.common.number.is_float_literal.Goals.{then-first-eq45, else-first-eq45}
 
-pub returns : goal.returns
-returns c =
-    let r = c.is_unsigned_float.result in
-    let text = c.args.bytes.now in
-    let rest = c.in-Some.rest.now in
-    elim c.if-first-eq45.branch [
-      | then-first-eq45 w ↦ minus r rest text (c.in-Some.ensures.cases.0 ∙ ap (λ b. b ∷ rest) w.if-first-eq45.true) (subst (λ t. Decides r (IsUnsignedFloat t.now)) w.unsigned-is c.is_unsigned_float.ensures)
-      | else-first-eq45 w ↦ plain r c.in-Some.first.now rest text c.in-Some.ensures.cases.0 w.if-first-eq45.false (subst (λ t. Decides r (IsUnsignedFloat t.now)) w.unsigned-is c.is_unsigned_float.ensures)
-    ]
+pub returns-then-is_float : goal.returns-then-is_float
+returns-then-is_float c =
+    let float = float_is c.args.bytes.now (sym c.is_float.ensures ∙ c.if-is_float.true) in (
+      λ digit. float_is_literal float (sym c.ends_in_digit.ensures ∙ digit),
+      λ literal. c.ends_in_digit.ensures ∙ literal_ends_in_digit c.args.bytes.now literal,
+    )
+
+pub returns-else-is_float : goal.returns-else-is_float
+returns-else-is_float c = (
+  λ h. absurd (false≢true (sym c.if-is_float.false ∙ h)),
+  λ literal. c.is_float.ensures ∙ float_found (literal_is_float c.args.bytes.now literal),
+)

@@ -1,6 +1,6 @@
 use Rattle.std.proofs.Common.{sym, ◌∙◌}
 use Rattle.graphql_grammar.specs.Tokens.{AnyOf}
-use Rattle.graphql_core.specs.declared.tokenizer.token.Kind.TheVariants.{Name}
+use Rattle.graphql_lexer.specs.declared.tokenizer.token.Kind.TheVariants.{Name}
 use Rattle.graphql_core.specs.Causes.{kind_number}
 use Rattle.graphql_core.proofs.Matches.{takes_first, seen_matches}
 use Rattle.graphql_core.proofs.helpers.matching.name.Goals as goal

@@ -1,5 +1,5 @@
 use Rattle.std.proofs.Common.{sym, ◌∙◌}
-use Rattle.graphql_core.specs.Marks.{class_of}
+use Rattle.graphql_core.specs.steps.Marks.{class_of}
 use Rattle.graphql_core.proofs.Matches.{takes_first, first_seen}
 use Rattle.graphql_core.proofs.helpers.matching.take_mark.Goals as goal
 

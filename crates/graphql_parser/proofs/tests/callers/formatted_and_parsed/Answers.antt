@@ -1,8 +1,8 @@
 use Rattle.std.proofs.Common.{◌≡◌, ◌<◌, List, ℕ, length, string_bytes, inl, inr, sym, subst, ◌∙◌}
 use Rattle.graphql_core.specs.Refusal.{max_length}
-use Rattle.graphql_query.specs.Document.{queries, IsReadBack}
-use Rattle.graphql_query.specs.Tree.{DocumentTree, document_view}
-use Rattle.graphql_common.proofs.RoundTrip.{same_document, memory_or_length}
+use Rattle.graphql_query_tree.specs.Document.{queries, IsReadBack}
+use Rattle.graphql_query_tree.specs.Tree.{DocumentTree, document_view}
+use Rattle.graphql_values.proofs.RoundTrip.{same_document, memory_or_length}
 use Rattle.graphql_parser.proofs.tests.callers.formatted_and_parsed.Goals as goal
 
 pub returns-in-Ok-parse_query-clause-same : goal.returns-in-Ok-parse_query-clause-same

@@ -1,10 +1,10 @@
 use Rattle.std.proofs.Common.{refl, sym, ◌∙◌, codes}
 use Rattle.graphql_grammar.specs.Trees.{Then, Leaf, Both, First, Second, Nothing}
 use Rattle.graphql_grammar.specs.Reading.{takes_both}
-use Rattle.graphql_grammar.proofs.Turning.{Stops-after}
-use Rattle.graphql_common.specs.Grammar.{punctuator, name}
-use Rattle.graphql_common.proofs.Reading.{takes_one, stops_one, takes_some, takes_none, stops_optional, gives_error}
-use Rattle.graphql_query.specs.Grammar.{reading}
+use Rattle.graphql_grammar.proofs.ReaderSteps.{Stops-after}
+use Rattle.graphql_values.specs.Grammar.{punctuator, name}
+use Rattle.graphql_values.proofs.Reading.{takes_one, stops_one, takes_some, takes_none, stops_optional, gives_error}
+use Rattle.graphql_query_tree.specs.Grammar.{reading}
 use Rattle.graphql_query.proofs.read.alias.alias.Goals as goal
 
 pub returns-then-not-sees_mark-clause-reads : goal.returns-then-not-sees_mark-clause-reads

@@ -1,25 +1,27 @@
 use Rattle.std.proofs.Common.{sym, ap, ◌∙◌}
-use Rattle.graphql_query.specs.Tree.{fragment}
-use Rattle.graphql_query.proofs.Defining.{operation_side, fragment_side, as_operation, as_fragment}
-use Rattle.graphql_common.proofs.Steps.{error_in}
+use Rattle.graphql_query_tree.specs.Tree.{fragment}
+use Rattle.graphql_query.proofs.DefinitionAlternatives.{operation_side, fragment_definition_side, as_operation, as_fragment}
+use Rattle.graphql_values.proofs.Steps.{error_in}
 use Rattle.graphql_query.proofs.read.definition.definition.Goals as goal
 
 pub returns-in_err-fragment_definition-clause-reads : goal.returns-in_err-fragment_definition-clause-reads
 returns-in_err-fragment_definition-clause-reads g c =
     let old = g.S.TokenSource.items c.args.source.now in
-    let side = fragment_side old.tokens (sym c.sees_keyword.ensures ∙ c.if-sees_keyword.true) in
-    error_in old old (g.S.TokenSource.items c.fragment_definition.new.source) _ _ _ side.stops c.in_err-fragment_definition.ensures.reads c.from_residual.ensures.1
+    let side = fragment_definition_side old.tokens (sym c.sees_keyword.ensures ∙ c.if-sees_keyword.true) in
+    error_in old old (g.S.TokenSource.items c.fragment_definition.new.source) _ _ _ side.stops c.in_err-fragment_definition.ensures.reads
+    c.from_residual.ensures.1
 
 pub returns-then-sees_keyword-clause-reads : goal.returns-then-sees_keyword-clause-reads
 returns-then-sees_keyword-clause-reads g c =
     let (x, takes, view) = c.in_ok-fragment_definition.ensures.reads in
-    (as_fragment x, (fragment_side _ (sym c.sees_keyword.ensures ∙ c.if-sees_keyword.true)).takes _ x takes, ap fragment view)
+    (as_fragment x, (fragment_definition_side _ (sym c.sees_keyword.ensures ∙ c.if-sees_keyword.true)).takes _ x takes, ap fragment view)
 
 pub returns-in_err-operation_definition-clause-reads : goal.returns-in_err-operation_definition-clause-reads
 returns-in_err-operation_definition-clause-reads g c =
     let old = g.S.TokenSource.items c.args.source.now in
     let side = operation_side old.tokens (sym c.sees_keyword.ensures ∙ c.if-sees_keyword.false) in
-    error_in old old (g.S.TokenSource.items c.operation_definition.new.source) _ _ _ side.stops c.in_err-operation_definition.ensures.reads c.from_residual-in_err-operation_definition.ensures.1
+    error_in old old (g.S.TokenSource.items c.operation_definition.new.source) _ _ _ side.stops c.in_err-operation_definition.ensures.reads
+    c.from_residual-in_err-operation_definition.ensures.1
 
 pub returns-clause-reads : goal.returns-clause-reads
 returns-clause-reads g c =

@@ -1,17 +1,18 @@
 use Rattle.std.proofs.Common.{refl, sym, ap, ◌∙◌, [], ◌∷◌, ◌++◌, arith}
 use Rattle.graphql_grammar.specs.Trees.{Both}
 use Rattle.graphql_grammar.specs.Reading.{takes_both}
-use Rattle.graphql_grammar.proofs.Turning.{Stops-before, Stops-after, Stops-turn, Turns-start, Turns-more, Turns-stop}
-use Rattle.graphql_common.proofs.Reading.{gives_error, one_of, adds_none, adds_one, adds_more, fills}
-use Rattle.graphql_query.specs.Tree.{definition_view}
-use Rattle.graphql_query.specs.Grammar.{reading}
-use Rattle.graphql_query.proofs.Defining.{read_definition, begins_definition, each_definition_means}
+use Rattle.graphql_grammar.proofs.ReaderSteps.{Stops-before, Stops-after, Stops-turn, Turns-start, Turns-more, Turns-stop}
+use Rattle.graphql_values.proofs.Reading.{gives_error, one_of, adds_none, adds_one, adds_more, fills}
+use Rattle.graphql_query_tree.specs.Tree.{definition_view}
+use Rattle.graphql_query_tree.specs.Grammar.{reading}
+use Rattle.graphql_query.proofs.DefinitionAlternatives.{read_definition, begins_definition, each_definition_means}
 use Rattle.graphql_query.proofs.read.definition.definitions.Goals as goal
 
 pub returns-in_err-definition-clause-reads : goal.returns-in_err-definition-clause-reads
 returns-in_err-definition-clause-reads g c =
     let items = g.S.TokenSource.items in
-    gives_error reading _ (items c.args.source.now) (items c.definition.new.source) _ _ _ (Stops-before reading _ _ _ _ _ c.in_err-definition.ensures.reads) c.from_residual.ensures.1
+    gives_error reading _ (items c.args.source.now) (items c.definition.new.source) _ _ _
+    (Stops-before reading _ _ _ _ _ c.in_err-definition.ensures.reads) c.from_residual.ensures.1
 
 pub more-init : goal.more-init
 more-init g c = record
@@ -24,7 +25,8 @@ more-preserved g c =
     record {
       turns = (
         items ++ one_of read_definition x,
-        Turns-more reading _ (one_of read_definition) _ _ _ items x turns (begins_definition (g.S.TokenSource.items c.more.source) ∙ sym c.sees_definition.ensures ∙ c.more-test.true) takes,
+        Turns-more reading _ (one_of read_definition) _ _ _ items x turns
+            (begins_definition (g.S.TokenSource.items c.more.source) ∙ sym c.sees_definition.ensures ∙ c.more-test.true) takes,
         adds_more (definition_view g.S.Names.Names.bytes) _ _ _ items _ views
             (adds_one (definition_view g.S.Names.Names.bytes) _ _ _ _ c.in_ok-push-2.ensures.items view),
       );

@@ -1,14 +1,14 @@
 use Rattle.std.proofs.Common.{refl, ap₂, ◌∙◌}
 use Rattle.graphql_grammar.specs.Trees.{Sym, Both}
 use Rattle.graphql_grammar.specs.Reading.{takes_both}
-use Rattle.graphql_grammar.proofs.Turning.{Stops-after}
-use Rattle.graphql_common.specs.Grammar.{directives_symbol}
-use Rattle.graphql_common.specs.ValueViews.{directive_view}
-use Rattle.graphql_common.proofs.Reading.{gives_error, adds_one, fills}
-use Rattle.graphql_query.specs.Grammar.{reading}
-use Rattle.graphql_query.specs.Tree.{spread, selection_view}
-use Rattle.graphql_query.proofs.Lifted.{some_lifted, stops_lifted}
-use Rattle.graphql_query.proofs.Viewed.{spread_selected}
+use Rattle.graphql_grammar.proofs.ReaderSteps.{Stops-after}
+use Rattle.graphql_values.specs.Grammar.{directives_symbol}
+use Rattle.graphql_values.specs.ValueViews.{directive_view}
+use Rattle.graphql_values.proofs.Reading.{gives_error, adds_one, fills}
+use Rattle.graphql_query_tree.specs.Grammar.{reading}
+use Rattle.graphql_query_tree.specs.Tree.{spread, selection_view}
+use Rattle.graphql_query.proofs.FromShared.{some_lifted, stops_lifted}
+use Rattle.graphql_query.proofs.Views.{fragment_spread_selected}
 use Rattle.graphql_query.proofs.read.fragment.fragment_spread.Goals as goal
 
 pub returns-in_err-directives-clause-reads : goal.returns-in_err-directives-clause-reads
@@ -16,7 +16,8 @@ returns-in_err-directives-clause-reads g c =
     let items = g.S.TokenSource.items in
     let (x, takes, view) = c.in_ok-fragment_name.ensures.reads in
     gives_error reading _ (items c.args.source.now) (items c.directives.new.source) _ _ _
-    (Stops-after reading _ _ _ _ _ _ _ takes (stops_lifted (Sym directives_symbol) refl _ _ _ c.in_err-directives.ensures.reads)) c.from_residual-in_err-directives.ensures.1
+    (Stops-after reading _ _ _ _ _ _ _ takes
+    (stops_lifted (Sym directives_symbol) refl _ _ _ c.in_err-directives.ensures.reads)) c.from_residual-in_err-directives.ensures.1
 
 pub returns-clause-reads : goal.returns-clause-reads
 returns-clause-reads g c =
@@ -27,5 +28,6 @@ returns-clause-reads g c =
     let named_there = ap₂ (λ p n. (p, n)) c.position-position.ensures refl ∙ view in (
       Both x y,
       takes_both named listed,
-      adds_one (selection_view bytes) _ _ _ _ c.in_ok-push.ensures.items (spread_selected bytes _ ∙ ap₂ (λ p ds. spread p.0 p.1 ds) named_there marked),
+      adds_one (selection_view bytes) _ _ _ _ c.in_ok-push.ensures.items
+          (fragment_spread_selected bytes _ ∙ ap₂ (λ p ds. spread p.0 p.1 ds) named_there marked),
     )

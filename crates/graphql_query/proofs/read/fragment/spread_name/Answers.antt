@@ -3,11 +3,11 @@ use Rattle.graphql_grammar.specs.Trees.{One, Node}
 use Rattle.graphql_grammar.specs.Factored.{written}
 use Rattle.graphql_grammar.specs.Reading.{fails_one, fails_node}
 use Rattle.graphql_core.specs.Source.{place_next}
-use Rattle.graphql_common.proofs.Reading.{placed}
-use Rattle.graphql_common.proofs.Sides.{gives_side, side_node}
-use Rattle.graphql_query.specs.Grammar.{reading, changes, spread_class, spread_name_symbol}
-use Rattle.graphql_query.specs.Meanings.{spread_name_of}
-use Rattle.graphql_query.proofs.Selecting.{gives_one, narrowed}
+use Rattle.graphql_values.proofs.Reading.{placed}
+use Rattle.graphql_values.proofs.Alternatives.{gives_side, side_node}
+use Rattle.graphql_query_tree.specs.Grammar.{reading, changes, spread_class, spread_name_symbol}
+use Rattle.graphql_query_tree.specs.Meanings.{spread_name_of}
+use Rattle.graphql_query.proofs.SelectionAlternatives.{gives_one, narrowed}
 use Rattle.graphql_query.proofs.read.fragment.spread_name.Goals as goal
 
 pub returns-then-not-sees_spread_name-clause-reads : goal.returns-then-not-sees_spread_name-clause-reads

@@ -1,8 +1,8 @@
 use Rattle.std.proofs.Common.{refl, sym, ap, ◌∙◌, Some}
 use Rattle.graphql_grammar.specs.Trees.{First, Second, Nothing}
-use Rattle.graphql_query.proofs.Lifted.{some_lifted, stops_lifted}
-use Rattle.graphql_common.proofs.Steps.{error_in}
-use Rattle.graphql_query.proofs.Variables.{some_default, no_default}
+use Rattle.graphql_query.proofs.FromShared.{some_lifted, stops_lifted}
+use Rattle.graphql_values.proofs.Steps.{error_in}
+use Rattle.graphql_query.proofs.VariableAlternatives.{some_default, no_default}
 use Rattle.graphql_query.proofs.read.operation.optional_default.Goals as goal
 
 pub returns-then-not-sees_mark-clause-reads : goal.returns-then-not-sees_mark-clause-reads

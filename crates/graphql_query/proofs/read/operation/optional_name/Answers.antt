@@ -1,17 +1,17 @@
 use Rattle.std.proofs.Common.{refl, sym, ap, ◌∙◌, Some}
 use Rattle.graphql_grammar.specs.Trees.{Leaf, First, Second, Nothing}
-use Rattle.graphql_common.specs.Grammar as core
-use Rattle.graphql_query.specs.Grammar.{reading}
-use Rattle.graphql_common.proofs.Reading.{takes_one, takes_some, takes_none}
+use Rattle.graphql_values.specs.Grammar as shared
+use Rattle.graphql_query_tree.specs.Grammar.{reading}
+use Rattle.graphql_values.proofs.Reading.{takes_one, takes_some, takes_none}
 use Rattle.graphql_query.proofs.read.operation.optional_name.Goals as goal
 
 pub returns-then-not-sees_name-clause-reads : goal.returns-then-not-sees_name-clause-reads
-returns-then-not-sees_name-clause-reads g c = (Second Nothing, takes_none reading core.name _ refl (sym c.sees_name.ensures ∙ c.if-not-sees_name.true), refl)
+returns-then-not-sees_name-clause-reads g c = (Second Nothing, takes_none reading shared.name _ refl (sym c.sees_name.ensures ∙ c.if-not-sees_name.true), refl)
 
 pub returns-clause-reads : goal.returns-clause-reads
 returns-clause-reads g c =
     let (t, takes, spelled) = c.in_ok-name.ensures in (
       First (Leaf t),
-      takes_some reading core.name _ _ _ (sym c.sees_name.ensures ∙ c.if-not-sees_name.false) (takes_one reading _ _ _ t refl takes),
+      takes_some reading shared.name _ _ _ (sym c.sees_name.ensures ∙ c.if-not-sees_name.false) (takes_one reading _ _ _ t refl takes),
       ap Some (sym spelled),
     )

@@ -1,7 +1,7 @@
 use Rattle.std.proofs.Common.{codes}
 use Rattle.graphql_core.specs.Source.{place_of}
-use Rattle.graphql_query.specs.Common.{common_view}
-use Rattle.graphql_query.specs.Tree.{subscription_kind}
+use Rattle.graphql_query.specs.steps.OperationBody.{operation_body_view}
+use Rattle.graphql_query_tree.specs.Tree.{subscription_kind}
 use Rattle.graphql_query.proofs.Keywords.{keyword_taken, keyword_missing, keyword_fails}
 use Rattle.graphql_query.proofs.read.operation.subscription.Goals as goal
 
@@ -13,11 +13,13 @@ returns-in_err-position-clause-reads g c =
 pub returns-in_err-common-clause-reads : goal.returns-in_err-common-clause-reads
 returns-in_err-common-clause-reads g c =
     let items = g.S.TokenSource.items in
-    keyword_fails (codes "subscription") (items c.args.source.now) (items c.keyword.new.source) (items c.operation_common.new.source) _ _ _ _ c.in_ok-position.ensures.1 c.in_err-common.ensures.reads c.from_residual-in_err-common.ensures.1
+    keyword_fails (codes "subscription") (items c.args.source.now) (items c.keyword.new.source)
+    (items c.operation_body.new.source) _ _ _ _ c.in_ok-position.ensures.1 c.in_err-common.ensures.reads c.from_residual-in_err-common.ensures.1
 
 pub returns-clause-reads : goal.returns-clause-reads
 returns-clause-reads g c =
     let items = g.S.TokenSource.items in
     let (t, begins, at) = c.in_ok-position.ensures in
-    keyword_taken subscription_kind (codes "subscription") (items c.args.source.now) (items c.keyword.new.source) (items c.operation_common.new.source) t (place_of c.in_ok-position.position)
-    (common_view g.S.Names.Names.bytes c.in_ok-common.common) begins at c.in_ok-common.ensures.reads
+    keyword_taken subscription_kind (codes "subscription") (items c.args.source.now) (items c.keyword.new.source) (items c.operation_body.new.source) t
+    (place_of c.in_ok-position.position)
+    (operation_body_view g.S.Names.Names.bytes c.in_ok-common.common) begins at c.in_ok-common.ensures.reads

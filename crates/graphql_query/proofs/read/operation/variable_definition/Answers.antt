@@ -1,26 +1,26 @@
 use Rattle.std.proofs.Common.{refl}
 use Rattle.graphql_grammar.specs.Trees.{Leaf, Both, Node}
 use Rattle.graphql_grammar.specs.Reading.{takes_node, takes_both}
-use Rattle.graphql_common.proofs.Reading.{takes_one, adds_one}
-use Rattle.graphql_query.specs.Grammar.{reading, variable_symbol}
-use Rattle.graphql_query.specs.Tree.{variable_view}
-use Rattle.graphql_query.proofs.Parts.{same_variable}
-use Rattle.graphql_query.proofs.Lifted.{starts, takes_lifted, some_lifted, stops_lifted}
-use Rattle.graphql_common.proofs.Steps.{past, before, error_in, error_one}
+use Rattle.graphql_values.proofs.Reading.{takes_one, adds_one}
+use Rattle.graphql_query_tree.specs.Grammar.{reading, variable_definition_symbol}
+use Rattle.graphql_query_tree.specs.Tree.{variable_definition_view}
+use Rattle.graphql_query.proofs.EqualParts.{same_variable_definition}
+use Rattle.graphql_query.proofs.FromShared.{starts, takes_lifted, some_lifted, stops_lifted}
+use Rattle.graphql_values.proofs.Steps.{past, before, error_in, error_one}
 use Rattle.graphql_query.proofs.read.operation.variable_definition.Goals as goal
 
 pub returns-in_err-position-clause-reads : goal.returns-in_err-position-clause-reads
 returns-in_err-position-clause-reads g c =
     let old = g.S.TokenSource.items c.args.source.now in
     let new = g.S.TokenSource.items c.take_mark.new.source in
-    error_one old old new _ _ _ (before (starts variable_symbol old.tokens)) c.in_err-position.ensures c.from_residual.ensures.1
+    error_one old old new _ _ _ (before (starts variable_definition_symbol old.tokens)) c.in_err-position.ensures c.from_residual.ensures.1
 
 pub returns-in_err-name-clause-reads : goal.returns-in_err-name-clause-reads
 returns-in_err-name-clause-reads g c =
     let old = g.S.TokenSource.items c.args.source.now in
     let mid = g.S.TokenSource.items c.take_mark.new.source in
     let new = g.S.TokenSource.items c.name.new.source in
-    let dollar = past (starts variable_symbol old.tokens) (takes_one reading _ _ _ _ refl c.in_ok-position.ensures.1) in
+    let dollar = past (starts variable_definition_symbol old.tokens) (takes_one reading _ _ _ _ refl c.in_ok-position.ensures.1) in
     error_one old mid new _ _ _ (before dollar) c.in_err-name.ensures c.from_residual-in_err-name.ensures.1
 
 pub returns-in_err-take_mark-clause-reads : goal.returns-in_err-take_mark-clause-reads
@@ -28,7 +28,7 @@ returns-in_err-take_mark-clause-reads g c =
     let old = g.S.TokenSource.items c.args.source.now in
     let mid = g.S.TokenSource.items c.name.new.source in
     let new = g.S.TokenSource.items c.take_mark-2.new.source in
-    let dollar = past (starts variable_symbol old.tokens) (takes_one reading _ _ _ _ refl c.in_ok-position.ensures.1) in
+    let dollar = past (starts variable_definition_symbol old.tokens) (takes_one reading _ _ _ _ refl c.in_ok-position.ensures.1) in
     let named = past dollar (takes_one reading _ _ _ _ refl c.in_ok-name.ensures.1) in
     error_one old mid new _ _ _ (before named) c.in_err-take_mark.ensures c.from_residual-in_err-take_mark.ensures.1
 
@@ -37,7 +37,7 @@ returns-in_err-var_type-clause-reads g c =
     let old = g.S.TokenSource.items c.args.source.now in
     let mid = g.S.TokenSource.items c.take_mark-2.new.source in
     let new = g.S.TokenSource.items c.parse_type.new.source in
-    let dollar = past (starts variable_symbol old.tokens) (takes_one reading _ _ _ _ refl c.in_ok-position.ensures.1) in
+    let dollar = past (starts variable_definition_symbol old.tokens) (takes_one reading _ _ _ _ refl c.in_ok-position.ensures.1) in
     let named = past dollar (takes_one reading _ _ _ _ refl c.in_ok-name.ensures.1) in
     let colon = past named (takes_one reading _ _ _ _ refl c.in_ok-take_mark.ensures.1) in
     error_in old mid new _ _ _ (before colon) (stops_lifted _ refl _ _ _ c.in_err-var_type.ensures.reads) c.from_residual-in_err-var_type.ensures.1
@@ -47,11 +47,12 @@ returns-in_err-default_value-clause-reads g c =
     let old = g.S.TokenSource.items c.args.source.now in
     let mid = g.S.TokenSource.items c.parse_type.new.source in
     let new = g.S.TokenSource.items c.optional_default.new.source in
-    let dollar = past (starts variable_symbol old.tokens) (takes_one reading _ _ _ _ refl c.in_ok-position.ensures.1) in
+    let dollar = past (starts variable_definition_symbol old.tokens) (takes_one reading _ _ _ _ refl c.in_ok-position.ensures.1) in
     let named = past dollar (takes_one reading _ _ _ _ refl c.in_ok-name.ensures.1) in
     let colon = past named (takes_one reading _ _ _ _ refl c.in_ok-take_mark.ensures.1) in
     let (t, typed, seen) = c.in_ok-var_type.ensures.reads in
-    error_in old mid new _ _ _ (past colon (takes_lifted _ refl _ _ _ typed)).stops c.in_err-default_value.ensures.reads c.from_residual-in_err-default_value.ensures.1
+    error_in old mid new _ _ _
+    (past colon (takes_lifted _ refl _ _ _ typed)).stops c.in_err-default_value.ensures.reads c.from_residual-in_err-default_value.ensures.1
 
 pub returns-clause-reads : goal.returns-clause-reads
 returns-clause-reads g c =
@@ -60,7 +61,8 @@ returns-clause-reads g c =
     let (m, colon, until) = c.in_ok-take_mark.ensures in
     let (t, typed, seen) = some_lifted _ refl _ _ _ c.in_ok-var_type.ensures.reads in
     let (v, valued, view) = c.in_ok-default_value.ensures.reads in (
-      Node variable_symbol (Both (Leaf d) (Both (Leaf n) (Both (Leaf m) (Both t v)))),
-      takes_node (takes_both (takes_one reading _ _ _ d refl dollar) (takes_both (takes_one reading _ _ _ n refl named) (takes_both (takes_one reading _ _ _ m refl colon) (takes_both typed valued)))) refl,
-      adds_one (variable_view g.S.Names.Names.bytes) _ _ _ _ c.in_ok-push.ensures.items (same_variable at spelled seen view),
+      Node variable_definition_symbol (Both (Leaf d) (Both (Leaf n) (Both (Leaf m) (Both t v)))),
+      takes_node (takes_both (takes_one reading _ _ _ d refl dollar)
+          (takes_both (takes_one reading _ _ _ n refl named) (takes_both (takes_one reading _ _ _ m refl colon) (takes_both typed valued)))) refl,
+      adds_one (variable_definition_view g.S.Names.Names.bytes) _ _ _ _ c.in_ok-push.ensures.items (same_variable_definition at spelled seen view),
     )

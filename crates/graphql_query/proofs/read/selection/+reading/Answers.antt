@@ -2,17 +2,18 @@ use Rattle.std.proofs.Common.{◌≡◌, ◌<◌, [], ◌∷◌, ◌++◌, lengt
 use Rattle.graphql_grammar.specs.Trees.{Sym, Leaf, Both, First, Second, Nothing, Node, optional, peek}
 use Rattle.graphql_grammar.specs.Reading.{takes_node, takes_both}
 use Rattle.graphql_grammar.specs.Factored.{written}
-use Rattle.graphql_grammar.proofs.Turning.{Stops-node, Stops-before, Stops-after, Stops-turn, Turns-start, Turns-more, Turns-stop}
-use Rattle.graphql_common.specs.ValueViews.{argument_view, directive_view}
-use Rattle.graphql_common.specs.Grammar.{arguments_symbol, directives_symbol}
-use Rattle.graphql_common.proofs.Reading.{placed, takes_one, stops_one, stops_some, gives_then, gives_error, one_of, adds_none, adds_one, adds_more, fills}
-use Rattle.graphql_common.proofs.Sides.{gives_side}
-use Rattle.graphql_query.specs.Grammar.{reading, changes, set_symbol, selection_symbol, field_symbol, inline_rest}
-use Rattle.graphql_query.specs.Meanings.{selections_of}
-use Rattle.graphql_query.specs.Tree.{more, trees_of, selection_view}
-use Rattle.graphql_query.proofs.Lifted.{some_lifted, stops_lifted, begins_at}
-use Rattle.graphql_query.proofs.Selecting.{some_set, no_set, field_side, dots_side, spread_side, inline_side, begins_selection, field_means, inline_means, dots_mean, selection_at, selections_mean}
-use Rattle.graphql_query.proofs.Viewed.{field_made, inline_made, set_filled, field_selected, inline_selected}
+use Rattle.graphql_grammar.proofs.ReaderSteps.{Stops-node, Stops-before, Stops-after, Stops-turn, Turns-start, Turns-more, Turns-stop}
+use Rattle.graphql_values.specs.ValueViews.{argument_view, directive_view}
+use Rattle.graphql_values.specs.Grammar.{arguments_symbol, directives_symbol}
+use Rattle.graphql_values.proofs.Reading.{placed, takes_one, stops_one, stops_some, gives_then, gives_error, one_of, adds_none, adds_one, adds_more, fills}
+use Rattle.graphql_values.proofs.Alternatives.{gives_side}
+use Rattle.graphql_query_tree.specs.Grammar.{reading, changes, selection_set_symbol, selection_symbol, field_symbol, inline_fragment_rest}
+use Rattle.graphql_query_tree.specs.Meanings.{selections_of}
+use Rattle.graphql_query_tree.specs.Tree.{more, trees_of, selection_view}
+use Rattle.graphql_query.proofs.FromShared.{some_lifted, stops_lifted, begins_at}
+use Rattle.graphql_query.proofs.SelectionAlternatives.{some_selection_set, no_selection_set, field_side, dots_side, fragment_spread_side, inline_fragment_side}
+use Rattle.graphql_query.proofs.SelectionAlternatives.{begins_selection, field_means, inline_fragment_means, dots_mean, selection_at, selections_mean}
+use Rattle.graphql_query.proofs.Views.{field_made, inline_fragment_made, selection_set_filled, field_selected, inline_fragment_selected}
 use Rattle.graphql_query.proofs.read.selection.+reading.Goals as goal
 
 -- ---- field
@@ -39,7 +40,8 @@ field-returns-in_err-optional_arguments-clause-reads g t c =
     let renames = c.in_ok-alias.ensures.reads.1 in
     let stops = stops_lifted (optional (Sym arguments_symbol)) refl _ _ _ c.in_err-optional_arguments.ensures.reads in
     gives_error reading _ (items c.args.source.now) (items c.optional_arguments.new.source) _ _ _
-    (Stops-node reading field_symbol _ _ _ (Stops-after reading _ _ _ _ _ _ _ named (Stops-after reading _ _ _ _ _ _ _ renames (Stops-before reading _ _ _ _ _ stops))))
+    (Stops-node reading field_symbol _ _ _
+    (Stops-after reading _ _ _ _ _ _ _ named (Stops-after reading _ _ _ _ _ _ _ renames (Stops-before reading _ _ _ _ _ stops))))
     c.from_residual-in_err-optional_arguments.ensures.1
 
 pub field-returns-in_err-directives-clause-reads : goal.field-returns-in_err-directives-clause-reads
@@ -50,7 +52,9 @@ field-returns-in_err-directives-clause-reads g t c =
     let given = (some_lifted (optional (Sym arguments_symbol)) refl _ _ _ c.in_ok-optional_arguments.ensures.reads).1 in
     let stops = stops_lifted (Sym directives_symbol) refl _ _ _ c.in_err-directives.ensures.reads in
     gives_error reading _ (items c.args.source.now) (items c.directives.new.source) _ _ _
-    (Stops-node reading field_symbol _ _ _ (Stops-after reading _ _ _ _ _ _ _ named (Stops-after reading _ _ _ _ _ _ _ renames (Stops-after reading _ _ _ _ _ _ _ given (Stops-before reading _ _ _ _ _ stops)))))
+    (Stops-node reading field_symbol _ _ _
+    (Stops-after reading _ _ _ _ _ _ _ named
+    (Stops-after reading _ _ _ _ _ _ _ renames (Stops-after reading _ _ _ _ _ _ _ given (Stops-before reading _ _ _ _ _ stops)))))
     c.from_residual-in_err-directives.ensures.1
 
 pub field-returns-in_err-span-clause-reads : goal.field-returns-in_err-span-clause-reads
@@ -78,7 +82,7 @@ field-returns-clause-reads g t c =
     let (s, selects, selected) = c.in_ok-span.ensures.reads in
     let gave = fills (argument_view bytes) _ _ _ c.new-arguments.ensures.items arguments in
     let marked = fills (directive_view bytes) _ _ _ c.new-directives.ensures.items directives in
-    let chosen = set_filled bytes _ _ _ _ c.new-selections.ensures.items selected in (
+    let chosen = selection_set_filled bytes _ _ _ _ c.new-selections.ensures.items selected in (
       Node field_symbol (Both (Leaf n) (Both a (Both x (Both y s)))),
       takes_node (takes_both (takes_one reading _ _ _ n refl named) (takes_both renames (takes_both given (takes_both listed selects)))) refl,
       adds_one (selection_view bytes) _ _ _ _ c.in_ok-push.ensures.items
@@ -110,13 +114,13 @@ field-returns-clause-shorter g t c =
 
 pub selected-returns-then-not-sees_mark-clause-reads : goal.selected-returns-then-not-sees_mark-clause-reads
 selected-returns-then-not-sees_mark-clause-reads g t c =
-    let none = no_set (g.S.TokenSource.items c.args.source.now).tokens (sym c.sees_mark.ensures ∙ c.if-not-sees_mark.true) in
+    let none = no_selection_set (g.S.TokenSource.items c.args.source.now).tokens (sym c.sees_mark.ensures ∙ c.if-not-sees_mark.true) in
     (Second Nothing, none, ([], adds_none (selection_view g.S.Names.Names.bytes) _, refl))
 
 pub selected-returns-clause-reads : goal.selected-returns-clause-reads
 selected-returns-clause-reads g t c =
     let old = g.S.TokenSource.items c.args.source.now in
-    let side = some_set old.tokens (sym c.sees_mark.ensures ∙ c.if-not-sees_mark.false) in
+    let side = some_selection_set old.tokens (sym c.sees_mark.ensures ∙ c.if-not-sees_mark.false) in
     gives_side reading _ _ First old (g.S.TokenSource.items c.selection_set.new.source) _ _ _ side (λ v x h. h) c.selection_set.ensures.reads
 
 -- ---- inline fragment
@@ -126,7 +130,8 @@ inline_fragment-returns-in_err-directives-clause-reads g t c =
     let items = g.S.TokenSource.items in
     let named = c.in_ok-type_condition.ensures.reads.1 in
     let stops = stops_lifted (Sym directives_symbol) refl _ _ _ c.in_err-directives.ensures.reads in
-    gives_error reading _ (items c.args.source.now) (items c.directives.new.source) _ _ _ (Stops-after reading _ _ _ _ _ _ _ named (Stops-before reading _ _ _ _ _ stops)) c.from_residual-in_err-directives.ensures.1
+    gives_error reading _ (items c.args.source.now) (items c.directives.new.source) _ _ _
+    (Stops-after reading _ _ _ _ _ _ _ named (Stops-before reading _ _ _ _ _ stops)) c.from_residual-in_err-directives.ensures.1
 
 pub inline_fragment-returns-in_err-span-clause-reads : goal.inline_fragment-returns-in_err-span-clause-reads
 inline_fragment-returns-in_err-span-clause-reads g t c =
@@ -147,13 +152,13 @@ inline_fragment-returns-clause-reads g t c =
     let takes = takes_both named (takes_both listed selects) in
     let fewer : length new.tokens < length old.tokens = omega
     (arith, c.in_ok-type_condition.ensures.within, c.in_ok-directives.ensures.within, c.in_ok-span.ensures.shorter) in
-    let place = c.position-position.ensures ∙ sym (begins_at inline_rest old new (Both x (Both y s)) takes fewer) in
+    let place = c.position-position.ensures ∙ sym (begins_at inline_fragment_rest old new (Both x (Both y s)) takes fewer) in
     let marked = fills (directive_view bytes) _ _ _ c.new-directives.ensures.items directives in
-    let chosen = set_filled bytes _ _ _ _ c.new-selections.ensures.items selected in (
+    let chosen = selection_set_filled bytes _ _ _ _ c.new-selections.ensures.items selected in (
       Both x (Both y s),
       takes,
       adds_one (selection_view bytes) _ _ _ _ c.in_ok-push.ensures.items
-          (inline_selected bytes _ ∙ inline_made bytes _ _ _ _ ∙ inline_means _ _ _ _ _ _ _ _ place condition marked chosen),
+          (inline_fragment_selected bytes _ ∙ inline_fragment_made bytes _ _ _ _ ∙ inline_fragment_means _ _ _ _ _ _ _ _ place condition marked chosen),
     )
 
 -- ---- spread or inline fragment
@@ -169,7 +174,7 @@ spread_or_inline-returns-then-sees_spread_name-clause-reads g t c =
     let items = g.S.TokenSource.items in
     let (d, dots, at) = c.in_ok-take_mark.ensures in
     let before = takes_one reading _ _ _ d refl dots in
-    let side = spread_side (items c.take_mark.new.source).tokens (sym c.sees_spread_name.ensures ∙ c.if-sees_spread_name.true) in
+    let side = fragment_spread_side (items c.take_mark.new.source).tokens (sym c.sees_spread_name.ensures ∙ c.if-sees_spread_name.true) in
     gives_then reading _ _ (items c.args.source.now) (items c.take_mark.new.source) (items c.fragment_spread.new.source) _ _ _
     (λ v x h is. (Both (Leaf d) (First x), takes_both before (side.takes _ x h), is)) (λ o h. Stops-after reading _ _ _ _ _ _ o before (side.stops _ o h))
     c.fragment_spread.ensures.reads
@@ -179,7 +184,7 @@ spread_or_inline-returns-clause-reads g t c =
     let items = g.S.TokenSource.items in
     let (d, dots, at) = c.in_ok-take_mark.ensures in
     let before = takes_one reading _ _ _ d refl dots in
-    let side = inline_side (items c.take_mark.new.source).tokens (sym c.sees_spread_name.ensures ∙ c.if-sees_spread_name.false) in
+    let side = inline_fragment_side (items c.take_mark.new.source).tokens (sym c.sees_spread_name.ensures ∙ c.if-sees_spread_name.false) in
     gives_then reading _ _ (items c.args.source.now) (items c.take_mark.new.source) (items c.inline_fragment.new.source) _ _ _
     (λ v x h is. (Both (Leaf d) (Second x), takes_both before (side.takes _ x h), is)) (λ o h. Stops-after reading _ _ _ _ _ _ o before (side.stops _ o h))
     c.inline_fragment.ensures.reads
@@ -208,14 +213,17 @@ pub selection_set-returns-in_err-start-clause-reads : goal.selection_set-returns
 selection_set-returns-in_err-start-clause-reads g t c =
     let old = g.S.TokenSource.items c.args.source.now in
     let new = g.S.TokenSource.items c.take_mark.new.source in
-    gives_error reading _ old new _ _ _ (Stops-node reading set_symbol _ _ _ (Stops-before reading _ _ _ _ _ (stops_one reading _ old new _ c.in_err-start.ensures))) c.from_residual.ensures.1
+    gives_error reading _ old new _ _ _
+    (Stops-node reading selection_set_symbol _ _ _
+    (Stops-before reading _ _ _ _ _ (stops_one reading _ old new _ c.in_err-start.ensures))) c.from_residual.ensures.1
 
 pub selection_set-returns-in_err-selection-clause-reads : goal.selection_set-returns-in_err-selection-clause-reads
 selection_set-returns-in_err-selection-clause-reads g t c =
     let items = g.S.TokenSource.items in
     let before = takes_one reading _ _ _ _ refl c.in_ok-start.ensures.1 in
     gives_error reading _ (items c.args.source.now) (items c.selection.new.source) _ _ _
-    (Stops-node reading set_symbol _ _ _ (Stops-after reading _ _ _ _ _ _ _ before (Stops-before reading _ _ _ _ _ (Stops-before reading _ _ _ _ _ c.in_err-selection.ensures.reads))))
+    (Stops-node reading selection_set_symbol _ _ _
+    (Stops-after reading _ _ _ _ _ _ _ before (Stops-before reading _ _ _ _ _ (Stops-before reading _ _ _ _ _ c.in_err-selection.ensures.reads))))
     c.from_residual-in_err-selection.ensures.1
 
 pub selection_set-more-init : goal.selection_set-more-init
@@ -245,7 +253,7 @@ selection_set-returns-in_err-selection-2-clause-reads g t c =
     let (items, turns, views) = c.more.invariant.turns in
     let seen = begins_selection (peek (sources c.more.source).tokens) ∙ sym c.sees_selection.ensures ∙ c.more-test.true in
     gives_error reading _ (sources c.args.source.now) (sources c.selection-in-more.new.source) _ _ _
-    (Stops-node reading set_symbol _ _ _ (Stops-after reading _ _ _ _ _ _ _ before (Stops-before reading _ _ _ _ _
+    (Stops-node reading selection_set_symbol _ _ _ (Stops-after reading _ _ _ _ _ _ _ before (Stops-before reading _ _ _ _ _
     (Stops-after reading _ _ _ _ _ _ _ first (Stops-turn reading _ (one_of selection_at) _ _ _ items _ turns seen c.in_err-selection-2.ensures.reads)))))
     c.from_residual-in_err-selection-2.ensures.1
 
@@ -259,8 +267,9 @@ selection_set-returns-in_err-end-clause-reads g t c =
     let (items, turns, views) = c.more.invariant.turns in
     let unseen = begins_selection (peek now.tokens) ∙ sym c.sees_selection.ensures ∙ c.more-test.false in
     gives_error reading _ (sources c.args.source.now) new _ _ _
-    (Stops-node reading set_symbol _ _ _ (Stops-after reading _ _ _ _ _ _ _ before
-    (stops_some reading (Sym selection_symbol) _ (one_of selection_at) _ _ _ _ x items _ first turns unseen (stops_one reading _ now new _ c.in_err-end.ensures))))
+    (Stops-node reading selection_set_symbol _ _ _ (Stops-after reading _ _ _ _ _ _ _ before
+    (stops_some reading (Sym selection_symbol) _ (one_of selection_at) _ _ _ _ x items _ first turns unseen
+    (stops_one reading _ now new _ c.in_err-end.ensures))))
     c.from_residual-in_err-end.ensures.1
 
 pub selection_set-returns-clause-reads : goal.selection_set-returns-clause-reads
@@ -273,7 +282,7 @@ selection_set-returns-clause-reads g t c =
     let r = Turns-stop reading (Sym selection_symbol) (one_of selection_at) _ _ items turns unseen in
     let all : trees_of (selection_at x ∷ items) ≡ more (selection_at x) (selections_of (written changes r.0)) =
     ap (more (selection_at x)) (sym (selections_mean r.1 ∙ ap trees_of r.2)) in (
-      Node set_symbol (Both (Leaf o) (Both (Both x r.0) (Leaf e))),
+      Node selection_set_symbol (Both (Leaf o) (Both (Both x r.0) (Leaf e))),
       takes_node (takes_both (takes_one reading _ _ _ o refl opens) (takes_both (takes_both takes r.1) (takes_one reading _ _ _ e refl ends))) refl,
       (selection_at x ∷ items, adds_more (selection_view g.S.Names.Names.bytes) _ _ _ _ items view views, rw (at, until, all) refl),
     )

@@ -11,5 +11,7 @@ pub returns : goal.returns
 returns c =
     let content = c.args.content.now in
     count_from_yields_List c.take_while.result c.count.result c.count.ensures.ran
-    (YieldsList-from_take_while _ is_blank (YieldsList-at c.take_while.ensures.source (YieldsList-from_lines content c.lines.ensures.rest)) c.take_while.ensures.closure c.take_while.ensures.done (λ x b q k. search (rules, tests)))
+    (YieldsList-from_take_while _ is_blank
+    (YieldsList-at c.take_while.ensures.source
+    (YieldsList-from_lines content c.lines.ensures.rest)) c.take_while.ensures.closure c.take_while.ensures.done (λ x b q k. search (rules, tests)))
     ∙ length-prefix_len is_blank (lines content)

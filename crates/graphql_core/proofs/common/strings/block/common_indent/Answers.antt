@@ -13,7 +13,8 @@ returns c =
     let least = min_from_yields_List c.map.result c.min.result c.min.ensures.ran
     (YieldsList-from_map _ indent
     (YieldsList-at c.map.ensures.source (YieldsList-from_filter _ (λ l. not (is_blank l))
-    (YieldsList-at c.filter.ensures.source (YieldsList-from_skip 1 (YieldsList-at c.skip.ensures.source (YieldsList-from_lines c.args.content.now c.lines.ensures.rest)) c.skip.ensures.count))
+    (YieldsList-at c.filter.ensures.source
+    (YieldsList-from_skip 1 (YieldsList-at c.skip.ensures.source (YieldsList-from_lines c.args.content.now c.lines.ensures.rest)) c.skip.ensures.count))
     c.filter.ensures.closure (λ x b q k. search (rules, tests))))
     c.map.ensures.closure (λ x r q k. search (rules, tests))) in
     c.unwrap_or.ensures ∙ ap (λ o. unwrap_or o 0) (sym (option_map_id c.min.result) ∙ least)

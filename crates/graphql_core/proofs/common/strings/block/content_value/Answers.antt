@@ -20,10 +20,13 @@ lines-preserved c =
     let (within, at) = YieldsList-turn (YieldsList-at c.into_iter-index-iterator.ensures.into_iter_gives
     (YieldsList-from_skip _ (YieldsList-at c.skip-index-items.ensures.source
     (YieldsList-from_take _ (YieldsList-at c.take.ensures.source
-    (YieldsList-from_enumerate (YieldsList-at c.enumerate.ensures.source (YieldsList-from_lines c.args.content.now c.lines-2.ensures.rest)) c.enumerate.ensures.count)) c.take.ensures.count)) c.skip-index-items.ensures.count))
+    (YieldsList-from_enumerate
+    (YieldsList-at c.enumerate.ensures.source
+    (YieldsList-from_lines c.args.content.now c.lines-2.ensures.rest)) c.enumerate.ensures.count)) c.take.ensures.count)) c.skip-index-items.ensures.count))
     c.lines.yielded _ c.lines.yielded_by _ _ (c.in-Some.index, c.in-Some.line) c.in-Some.is c.next.ensures.steps in
     let step = length_push c.lines.yielded (c.in-Some.index, c.in-Some.line) in
-    let place = kept_at c.blank_lines_before-first.result c.lines_through_last-through.result (lines c.args.content.now) k c.in-Some.index c.in-Some.line.now within at in
+    let place = kept_at c.blank_lines_before-first.result c.lines_through_last-through.result
+    (lines c.args.content.now) k c.in-Some.index c.in-Some.line.now within at in
     let width = c.common_indent-width.result in
     let line = c.in-Some.line.now in
     let next : ℕ × List ℕ = (c.in-Some.index, line) in
@@ -39,11 +42,14 @@ lines-preserved c =
       within = omega arith;
       written = elim c.if-index-first.branch [
         | then-index-first+in_ok-push w ↦
-            let before : string_bytes c.if-index-first.value ≡ done ++ 10 ∷ [] = ap string_bytes w.value-is ∙ w.in_ok-push.ensures.bytes ∙ ap (λ t. string_bytes c.lines.value ++ t) (encode_ascii 10 (omega arith)) ∙ ap (λ t. t ++ 10 ∷ []) c.lines.invariant.written in
-            pushed ∙ ap (λ t. t ++ unescaped c.unindented.result.now) before ∙ ap (λ t. (done ++ 10 ∷ []) ++ t) text ∙ sym (later_written width zs k next within at (omega arith)) ∙ ap (λ n. join_by (piece width) (10 ∷ []) (take n zs)) (sym step)
+            let before : string_bytes c.if-index-first.value ≡ done ++ 10 ∷ [] = ap string_bytes w.value-is ∙ w.in_ok-push.ensures.bytes
+            ∙ ap (λ t. string_bytes c.lines.value ++ t) (encode_ascii 10 (omega arith)) ∙ ap (λ t. t ++ 10 ∷ []) c.lines.invariant.written in
+            pushed ∙ ap (λ t. t ++ unescaped c.unindented.result.now) before ∙ ap (λ t. (done ++ 10 ∷ []) ++ t) text
+            ∙ sym (later_written width zs k next within at (omega arith)) ∙ ap (λ n. join_by (piece width) (10 ∷ []) (take n zs)) (sym step)
         | else-index-first w ↦
             let before : string_bytes c.if-index-first.value ≡ done = ap string_bytes w.value-is ∙ c.lines.invariant.written in
-            pushed ∙ ap (λ t. t ++ unescaped c.unindented.result.now) before ∙ ap (λ t. done ++ t) text ∙ sym (first_written width zs k next within at (omega arith)) ∙ ap (λ n. join_by (piece width) (10 ∷ []) (take n zs)) (sym step)
+            pushed ∙ ap (λ t. t ++ unescaped c.unindented.result.now) before ∙ ap (λ t. done ++ t) text
+            ∙ sym (first_written width zs k next within at (omega arith)) ∙ ap (λ n. join_by (piece width) (10 ∷ []) (take n zs)) (sym step)
       ];
     }
 
@@ -54,7 +60,9 @@ returns c =
     let t = YieldsList-end (YieldsList-at c.into_iter-index-iterator.ensures.into_iter_gives
     (YieldsList-from_skip _ (YieldsList-at c.skip-index-items.ensures.source
     (YieldsList-from_take _ (YieldsList-at c.take.ensures.source
-    (YieldsList-from_enumerate (YieldsList-at c.enumerate.ensures.source (YieldsList-from_lines c.args.content.now c.lines-2.ensures.rest)) c.enumerate.ensures.count)) c.take.ensures.count)) c.skip-index-items.ensures.count))
+    (YieldsList-from_enumerate
+    (YieldsList-at c.enumerate.ensures.source
+    (YieldsList-from_lines c.args.content.now c.lines-2.ensures.rest)) c.enumerate.ensures.count)) c.take.ensures.count)) c.skip-index-items.ensures.count))
     c.lines.yielded _ c.lines.yielded_by _ _ c.in-None.is c.next.ensures.steps in
     let width = c.common_indent-width.result in
     let first = c.blank_lines_before-first.result in

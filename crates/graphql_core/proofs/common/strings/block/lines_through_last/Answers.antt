@@ -12,7 +12,12 @@ use Rattle.graphql_core.proofs.common.strings.block.lines_through_last.Goals as 
 
 pub lines-preserved-then-has_text : goal.lines-preserved-then-has_text
 lines-preserved-then-has_text c =
-    let t = YieldsList-turn (YieldsList-at c.into_iter-index-iterator.ensures.into_iter_gives (YieldsList-from_enumerate (YieldsList-at c.enumerate-index-items.ensures.source (YieldsList-from_lines c.args.content.now c.lines-2.ensures.rest)) c.enumerate-index-items.ensures.count)) c.lines.yielded _ c.lines.yielded_by _ _ (c.in-Some.index, c.in-Some.line) c.in-Some.is c.next.ensures.steps in
+    let t = YieldsList-turn
+    (YieldsList-at c.into_iter-index-iterator.ensures.into_iter_gives
+    (YieldsList-from_enumerate
+    (YieldsList-at c.enumerate-index-items.ensures.source
+    (YieldsList-from_lines c.args.content.now c.lines-2.ensures.rest)) c.enumerate-index-items.ensures.count)) c.lines.yielded _ c.lines.yielded_by _ _
+    (c.in-Some.index, c.in-Some.line) c.in-Some.is c.next.ensures.steps in
     let (within, place, line) = numbered (lines c.args.content.now) (length c.lines.yielded) c.in-Some.index c.in-Some.line.now t in
     let step = length_push c.lines.yielded (c.in-Some.index, c.in-Some.line) in
     let blank = not-true (is_blank c.in-Some.line.now) (sym c.has_text.ensures ∙ c.if-has_text.true) in
@@ -21,7 +26,12 @@ lines-preserved-then-has_text c =
 
 pub lines-preserved : goal.lines-preserved
 lines-preserved c =
-    let t = YieldsList-turn (YieldsList-at c.into_iter-index-iterator.ensures.into_iter_gives (YieldsList-from_enumerate (YieldsList-at c.enumerate-index-items.ensures.source (YieldsList-from_lines c.args.content.now c.lines-2.ensures.rest)) c.enumerate-index-items.ensures.count)) c.lines.yielded _ c.lines.yielded_by _ _ (c.in-Some.index, c.in-Some.line) c.in-Some.is c.next.ensures.steps in
+    let t = YieldsList-turn
+    (YieldsList-at c.into_iter-index-iterator.ensures.into_iter_gives
+    (YieldsList-from_enumerate
+    (YieldsList-at c.enumerate-index-items.ensures.source
+    (YieldsList-from_lines c.args.content.now c.lines-2.ensures.rest)) c.enumerate-index-items.ensures.count)) c.lines.yielded _ c.lines.yielded_by _ _
+    (c.in-Some.index, c.in-Some.line) c.in-Some.is c.next.ensures.steps in
     let (within, place, line) = numbered (lines c.args.content.now) (length c.lines.yielded) c.in-Some.index c.in-Some.line.now t in
     let step = length_push c.lines.yielded (c.in-Some.index, c.in-Some.line) in
     let blank = not-false (is_blank c.in-Some.line.now) (sym c.has_text.ensures ∙ c.if-has_text.false) in
@@ -31,6 +41,12 @@ lines-preserved c =
 pub returns : goal.returns
 returns c =
     let ls = lines c.args.content.now in
-    let t = YieldsList-end (YieldsList-at c.into_iter-index-iterator.ensures.into_iter_gives (YieldsList-from_enumerate (YieldsList-at c.enumerate-index-items.ensures.source (YieldsList-from_lines c.args.content.now c.lines-2.ensures.rest)) c.enumerate-index-items.ensures.count)) c.lines.yielded _ c.lines.yielded_by _ _ c.in-None.is c.next.ensures.steps in
+    let t = YieldsList-end
+    (YieldsList-at c.into_iter-index-iterator.ensures.into_iter_gives
+    (YieldsList-from_enumerate
+    (YieldsList-at c.enumerate-index-items.ensures.source
+    (YieldsList-from_lines c.args.content.now c.lines-2.ensures.rest)) c.enumerate-index-items.ensures.count)) c.lines.yielded _ c.lines.yielded_by _ _
+    c.in-None.is c.next.ensures.steps in
     let all : length c.lines.yielded ≡ length ls = t.1 ∙ length-enumerate_from 0 ls in
-    c.lines.invariant.through ∙ ap (λ k. k - suffix_len is_blank (take k ls)) all ∙ ap (λ xs. length ls - suffix_len is_blank xs) (take_all (length ls) ls (omega arith))
+    c.lines.invariant.through ∙ ap (λ k. k - suffix_len is_blank (take k ls)) all
+    ∙ ap (λ xs. length ls - suffix_len is_blank xs) (take_all (length ls) ls (omega arith))

@@ -13,10 +13,12 @@ escapes-preserved c =
       text = search rules;
       written =
           rw (c.in_ok-push_str-2.ensures.bytes, c.in_ok-push_str.ensures.bytes, before, after)
-          (append_assoc (value ++ take i rest) (34 ∷ 34 ∷ 34 ∷ []) (unescaped (drop j rest)) ∙ append_assoc value (take i rest) (34 ∷ 34 ∷ 34 ∷ unescaped (drop j rest)) ∙ ap (λ t. value ++ t) (sym split) ∙ c.escapes.invariant.written);
+          (append_assoc (value ++ take i rest) (34 ∷ 34 ∷ 34 ∷ []) (unescaped (drop j rest))
+          ∙ append_assoc value (take i rest) (34 ∷ 34 ∷ 34 ∷ unescaped (drop j rest)) ∙ ap (λ t. value ++ t) (sym split) ∙ c.escapes.invariant.written);
     }
 
 pub returns : goal.returns
 returns c =
     let none = unescaped_none c.escapes.rest.now c.in_default.ensures.cases in
-    completed c.push_str-2.result _ (string_bytes c.escapes.value) c.escapes.rest.now _ c.push_str-2.ensures.bytes (ap (λ t. string_bytes c.escapes.value ++ t) (sym none) ∙ c.escapes.invariant.written)
+    completed c.push_str-2.result _ (string_bytes c.escapes.value) c.escapes.rest.now _ c.push_str-2.ensures.bytes
+    (ap (λ t. string_bytes c.escapes.value ++ t) (sym none) ∙ c.escapes.invariant.written)

@@ -7,14 +7,17 @@ use Rattle.graphql_core.proofs.common.strings.quoted.named_character.Goals as go
 
 pub returns-in_err-digits-clause-none : goal.returns-in_err-digits-clause-none
 returns-in_err-digits-clause-none c =
-    rw c.from_residual.ensures (λ digits behind k n e. let t = c.in_err-digits.ensures.variant.1 (boundary_after_name c.args.text.now digits behind k c.utf8.text n e) in absurd cc)
+    rw c.from_residual.ensures
+    (λ digits after k n e. let t = c.in_err-digits.ensures.variant.1 (boundary_after_name c.args.text.now digits after k c.utf8.text n e) in absurd cc)
 
 pub returns-in_err-code-clause-none : goal.returns-in_err-code-clause-none
 returns-in_err-code-clause-none c =
-    rw c.from_residual-in_err-code.ensures (λ digits behind k n e. c.in_err-code.ensures (ap (list_all is_ascii_hexdigit) (c.in_ok-digits.ensures.front ∙ digits_at c.args.text.now digits behind n.four e) ∙ n.hexadecimal))
+    rw c.from_residual-in_err-code.ensures
+    (λ digits after k n e. c.in_err-code.ensures
+    (ap (list_all is_ascii_hexdigit) (c.in_ok-digits.ensures.front ∙ digits_at c.args.text.now digits after n.four e) ∙ n.hexadecimal))
 
 pub returns-in_err-character-clause-none : goal.returns-in_err-character-clause-none
 returns-in_err-character-clause-none c =
-    rw c.from_residual-in_err-character.ensures (λ digits behind k n e.
-    let code = c.in_ok-code.ensures.1 ∙ ap (digits_value 16) (c.in_ok-digits.ensures.front ∙ digits_at c.args.text.now digits behind n.four e) ∙ n.value in
+    rw c.from_residual-in_err-character.ensures (λ digits after k n e.
+    let code = c.in_ok-code.ensures.1 ∙ ap (digits_value 16) (c.in_ok-digits.ensures.front ∙ digits_at c.args.text.now digits after n.four e) ∙ n.value in
     c.in_err-character.ensures.value (subst IsScalar (sym code) n.exists))

@@ -29,13 +29,14 @@ escapes-preserved c =
     record {
       text = search rules;
       forth = λ w h.
-          let k = add_escape c.in-Some.plain.now c.in-Some.escaped.now c.in_ok-character.behind.now w c.in_ok-character.character plain begins h in
+          let k = add_escape c.in-Some.plain.now c.in-Some.escaped.now c.in_ok-character.after.now w c.in_ok-character.character plain begins h in
           let more : List ℕ = c.in-Some.plain.now ++ (encode_utf8 c.in_ok-character.character ++ w) in
           let whole = c.escapes.invariant.forth more (rw parts k) in
           rw (c.in_ok-push.ensures.bytes, c.in_ok-push_str.ensures.bytes) (simp append_assoc whole);
       back = λ v h.
           let (w, k) = c.escapes.invariant.back v h in
-          past_escape c.in-Some.plain.now c.in-Some.escaped.now c.in_ok-character.behind.now w c.in_ok-character.character plain begins (subst (λ t. HasValue t w) parts k);
+          past_escape c.in-Some.plain.now c.in-Some.escaped.now c.in_ok-character.after.now w c.in_ok-character.character plain begins
+          (subst (λ t. HasValue t w) parts k);
     }
 
 pub returns-clause-value : goal.returns-clause-value

@@ -5,7 +5,7 @@ use Rattle.std.specs.List.{slice_range}
 use Rattle.graphql_core.specs.Strings.{HasValue}
 use Rattle.graphql_core.proofs.common.strings.quoted.unquote_string.Given as goal
 
--- a value of the rest, behind what is written, is one of the whole, and the rest has one where the whole has
+-- a value of the rest, after what is written, is one of the whole, and the rest has one where the whole has
 abbrev pub invariant-escapes : goal.invariant-escapes
 invariant-escapes l = record {
   text : shadow (Utf8 l.rest);

@@ -1,8 +1,8 @@
 use Rattle.std.proofs.Common.{sym, ap, ◌∙◌}
 use Rattle.std.proofs.lemmas.List.Elements.{All-same}
 use Rattle.graphql_core.specs.Source.{Items, IsLexeme, split}
-use Rattle.graphql_core.proofs.Holding.{held_split}
-use Rattle.graphql_core.proofs.Nested.{lexemes}
+use Rattle.graphql_core.proofs.CursorItems.{held_split}
+use Rattle.graphql_core.proofs.NestingDepth.{lexemes}
 use Rattle.graphql_core.proofs.helpers.cursor.Cursor.new.Goals as goal
 
 pub invariant_of-result : goal.invariant_of-result

@@ -1,4 +1,4 @@
-use Rattle.graphql_core.proofs.Holding.{fault_of_token}
+use Rattle.graphql_core.proofs.CursorItems.{fault_of_token}
 use Rattle.graphql_core.proofs.helpers.cursor.CursorTokenSource.fault.Goals as goal
 
 pub returns-in-Ok-Some : goal.returns-in-Ok-Some

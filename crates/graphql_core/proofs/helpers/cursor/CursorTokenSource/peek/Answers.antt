@@ -1,4 +1,4 @@
-use Rattle.graphql_core.proofs.Holding.{shown_lexeme}
+use Rattle.graphql_core.proofs.CursorItems.{shown_lexeme}
 use Rattle.graphql_core.proofs.helpers.cursor.CursorTokenSource.peek.Goals as goal
 
 pub returns-in-Ok-Some-clause-lexeme : goal.returns-in-Ok-Some-clause-lexeme

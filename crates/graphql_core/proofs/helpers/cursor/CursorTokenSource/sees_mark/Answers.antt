@@ -1,6 +1,6 @@
 use Rattle.std.proofs.Common.{ap, ◌∙◌}
-use Rattle.graphql_core.specs.Matching.{sees_class}
-use Rattle.graphql_core.specs.Marks.{class_of}
+use Rattle.graphql_core.specs.steps.Matching.{sees_class}
+use Rattle.graphql_core.specs.steps.Marks.{class_of}
 use Rattle.graphql_core.proofs.Fronts as fronts
 use Rattle.graphql_core.proofs.helpers.cursor.CursorTokenSource.sees_mark.Goals as goal
 

@@ -1,9 +1,0 @@
-use Rattle.std.proofs.Common.{rules, tests, arith, not, ◌||◌}
-use Rattle.std.proofs.lemmas.Iterator.Search.{all_from_yields_List}
-use Rattle.std.proofs.lemmas.Iterator.Splits.{YieldsList-from_str_split}
-use Rattle.graphql_core.specs.BlockStrings.{is_blank}
-use Rattle.graphql_common.specs.ValueLayout as spec
-use Rattle.graphql_common.proofs.print.block.has_empty_lines_or_text.Goals as goal
-
-pub returns : goal.returns
-returns c = all_from_yields_List (λ l. not (is_blank l) || spec.is_empty l) _ _ c.all.result c.all.ensures.ran (YieldsList-from_str_split 10 c.args.text.now (omega arith) c.split.ensures.text c.split.ensures.has_more c.split.ensures.pattern) (λ x b q k. search (rules, tests))

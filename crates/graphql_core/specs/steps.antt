@@ -1,0 +1,5 @@
+pub mod Marks
+pub mod Matching
+pub mod Stops
+pub mod StringSink
+pub mod Placed

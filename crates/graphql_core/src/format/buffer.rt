@@ -1,0 +1,128 @@
+//! A text that grows at its end, in a vector whose first bytes count. What lies after them is initialized ahead, so that
+//! a short text is stored with one test.
+ghost use Rattle.std.specs.Prelude.{◌≡◌, ◌≤◌, [], ◌++◌, length, take, vec_len, string_bytes, IfOk, OnOk, OnErr, IfSome};
+ghost use Rattle.std.specs.Str.{IsUtf8};
+ghost use Rattle.graphql_core.specs.steps.StringSink.{list_nil, list_more};
+
+use crate::format::place::place_text;
+use crate::format::sink::Sink;
+use std::alloc::{AllocError, Global};
+use std::fmt::Display;
+use std::marker::Model;
+
+/// The least room of a buffer that has any.
+const LEAST_ROOM: usize = 512;
+
+static ZEROS: [u8; 1024] = [0; 1024];
+
+/// A text that grows at its end.
+#[derive(Drop)]
+pub struct Buffer {
+    bytes: Vec<u8>,
+    len: usize,
+    // What a value writes, before it is appended.
+    written: String,
+}
+
+impl Model for Buffer {
+    ghost use Rattle.std.specs.Prelude.{ℕ, List, ◌≤◌, length, take};
+    ghost use Rattle.std.specs.Str.{IsUtf8};
+
+    ghost Value = { List ℕ };
+
+    ghost view = { λ s. take s.len s.bytes.items };
+
+    ghost invariant = { λ s. (s.len ≤ length s.bytes.items) × IsUtf8 (take s.len s.bytes.items) };
+}
+
+/// Makes the bytes so many, and twice as many as they are.
+#[cold]
+#[inline(never)]
+fn make_room(bytes: &mut Vec<u8>, end: usize) -> Result<(), AllocError>
+    ensures front { take (vec_len bytes.old) bytes.new.items ≡ bytes.old.items }
+    ensures room { OnOk result (end ≤ vec_len bytes.new) }
+{
+    let wanted = end.max(bytes.len().saturating_mul(2)).max(LEAST_ROOM);
+    'blocks: while bytes.len() < wanted {
+        let step = (wanted - bytes.len()).min(ZEROS.len());
+        bytes.extend_from_slice(&ZEROS[..step])?;
+    }
+    Ok(())
+}
+
+/// Puts some bytes after the first ones, and answers how many count then.
+#[inline(always)]
+fn append_bytes(bytes: &mut Vec<u8>, len: usize, more: &[u8]) -> Result<usize, AllocError>
+    requires { len ≤ vec_len bytes.old }
+    ensures text { IfOk result (λ end. take end bytes.new.items ≡ take len bytes.old.items ++ more.now) }
+    ensures within { IfOk result (λ end. end ≤ length bytes.new.items) }
+    ensures kept { OnErr result ((take len bytes.new.items ≡ take len bytes.old.items) × (len ≤ length bytes.new.items)) }
+{
+    let end = len + more.len();
+    if end > bytes.len() {
+        make_room(bytes, end)?;
+    }
+    Ok(place_text(bytes.as_mut_slice(), len, more))
+}
+
+/// Puts a text after the first bytes, and answers how many count then.
+#[inline(always)]
+fn append(bytes: &mut Vec<u8>, len: usize, text: &str) -> Result<usize, AllocError>
+    requires { len ≤ vec_len bytes.old }
+    ensures text { IfOk result (λ end. take end bytes.new.items ≡ take len bytes.old.items ++ text.now) }
+    ensures within { IfOk result (λ end. end ≤ length bytes.new.items) }
+    ensures utf8 { IfOk result (λ end. IsUtf8 (take len bytes.old.items) → IsUtf8 (take end bytes.new.items)) }
+    ensures kept { OnErr result ((take len bytes.new.items ≡ take len bytes.old.items) × (len ≤ length bytes.new.items)) }
+{
+    let end = append_bytes(bytes, len, text.as_bytes())?;
+    Ok(end)
+}
+
+impl Buffer {
+    /// The empty text.
+    pub fn new(alloc: Global) -> Buffer
+        ensures { result ≡ [] }
+    {
+        Buffer {
+            bytes: Vec::new(alloc),
+            len: 0,
+            written: String::new(alloc),
+        }
+    }
+
+    /// The text.
+    pub fn into_string(self) -> String
+        ensures { string_bytes result ≡ self }
+    {
+        let Buffer {
+            mut bytes,
+            len,
+            written: _,
+        } = self;
+        bytes.truncate(len);
+        unsafe { String::from_utf8_unchecked(bytes) }
+    }
+}
+
+impl Sink for Buffer {
+    type Error = AllocError;
+
+    ghost took = { λ s text t. t ≡ s ++ text };
+
+    ghost took_nil = { list_nil };
+
+    ghost took_more = { list_more };
+
+    #[inline(always)]
+    fn push_str(&mut self, text: &str) -> Result<(), AllocError> {
+        self.len = append(&mut self.bytes, self.len, text)?;
+        Ok(())
+    }
+
+    fn push_display<D: Display + Drop>(&mut self, value: D) -> Result<(), AllocError> {
+        self.written.clear();
+        self.written.write(value)?;
+        self.len = append(&mut self.bytes, self.len, self.written.as_str())?;
+        Ok(())
+    }
+}

@@ -1,0 +1,61 @@
+//! Writing a text at a place in a buffer that has room. A short text is two copies of a fixed size that overlap.
+ghost use Rattle.std.specs.Prelude.{◌+◌, ◌≤◌, length, take};
+ghost use Rattle.graphql_core.specs.steps.Placed.{Placed};
+
+use std::simd::Simd;
+
+#[inline(always)]
+fn place_slice(buffer: &mut [u8], at: usize, text: &[u8]) -> usize
+    requires { at + length text.now ≤ length buffer.old }
+    ensures { Placed buffer.old buffer.new at text.now result }
+{
+    let end = at + text.len();
+    buffer[at..end].copy_from_slice(text);
+    end
+}
+
+/// The first `N` bytes are one load and one store.
+#[inline(always)]
+fn place_front<const N: usize>(buffer: &mut [u8], at: usize, text: &[u8]) -> usize
+    requires { (N ≤ length text.now) × (at + N ≤ length buffer.old) }
+    ensures { Placed buffer.old buffer.new at (take N text.now) result }
+{
+    Simd::<u8, N>::from_slice(text).copy_to_slice(&mut buffer[at..]);
+    at + N
+}
+
+/// The first and the last `N` bytes.
+#[inline(always)]
+fn place_ends<const N: usize>(buffer: &mut [u8], at: usize, text: &[u8]) -> usize
+    requires fits { at + length text.now ≤ length buffer.old }
+    requires covers { (N ≤ length text.now) × (length text.now ≤ N + N) }
+    ensures { Placed buffer.old buffer.new at text.now result }
+{
+    let last = text.len() - N;
+    place_front::<N>(buffer, at, text);
+    place_front::<N>(buffer, at + last, &text[last..])
+}
+
+/// Writes a text at a place, and answers where it ends.
+#[inline(always)]
+pub fn place_text(buffer: &mut [u8], at: usize, text: &[u8]) -> usize
+    requires { at + length text.now ≤ length buffer.old }
+    ensures { Placed buffer.old buffer.new at text.now result }
+{
+    let len = text.len();
+    if len > 32 {
+        place_slice(buffer, at, text)
+    } else if len >= 16 {
+        place_ends::<16>(buffer, at, text)
+    } else if len >= 8 {
+        place_ends::<8>(buffer, at, text)
+    } else if len >= 4 {
+        place_ends::<4>(buffer, at, text)
+    } else if len >= 2 {
+        place_ends::<2>(buffer, at, text)
+    } else if len == 1 {
+        place_front::<1>(buffer, at, text)
+    } else {
+        at
+    }
+}

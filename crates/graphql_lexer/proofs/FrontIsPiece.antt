@@ -1,0 +1,124 @@
+-- The front of a text is its first piece, and so a text has one cut into pieces.
+use Rattle.std.proofs.Common.{◌≡◌, ℕ, ◌+◌, true, false, List, [], ◌∷◌, ◌++◌, length, get_or, take, drop, le_refl, refl, sym, ap, ◌∙◌, subst, arith}
+use Rattle.std.proofs.Common.{length-append, append_assoc}
+use Rattle.std.proofs.lemmas.Bool.Decides.{nat_tests}
+use Rattle.std.proofs.lemmas.List.{take_at, drop_at, drop_all, append-nil}
+use Rattle.std.specs.List.{prefix_len, list_all}
+use Rattle.graphql_lexer.specs.declared.tokenizer.token.Kind.TheVariants.{Punctuator, Name, StringValue, BlockString}
+use Rattle.graphql_lexer.specs.declared.tokenizer.piece.Move.{Move}
+use Rattle.graphql_lexer.specs.declared.tokenizer.piece.Move.TheVariants.{Stay, Down}
+use Rattle.graphql_lexer.specs.declared.tokenizer.piece.Piece.{Piece as Ahead}
+use Rattle.graphql_lexer.specs.declared.tokenizer.piece.Piece.TheVariants.{Skips, Takes}
+use Rattle.graphql_lexer.specs.declared.tokenizer.piece.Nesting.TheVariants.{Level}
+use Rattle.graphql_lexer.specs.steps.Front.{front, front_of, token_of, comment, line_end}
+use Rattle.graphql_lexer.specs.steps.Numbers.{number}
+use Rattle.graphql_lexer.proofs.Runs.{run, run_all, not_equal, differs}
+use Rattle.graphql_lexer.proofs.Numbers.{starts_number, NumberRun, integer_run, float_run, integer_front, float_front}
+use Rattle.graphql_lexer.proofs.Strings.{string_front, block_front}
+use Rattle.graphql_lexer.specs.Lexical.{is_name_start, is_name_continue, is_in_line, is_mark, nesting_of, Meaning, Ignored, Word, Stands, tab, line_feed}
+use Rattle.graphql_lexer.specs.Lexical.{carriage_return, space, comma, byte_order_mark, comment_at_end, comment_feed, comment_return_feed, comment_return, name}
+use Rattle.graphql_lexer.specs.Lexical.{mark, spread, integer, float, string, block_string, Piece, IsCutInto}
+
+-- what the front is where a piece of this meaning has n bytes
+abbrev pub shape : Meaning → ℕ → Ahead
+shape (Ignored m) n = Skips n m
+shape (Word k t) n = Takes n k t
+
+name_first : (b : ℕ) (bs : List ℕ) → is_name_start b ≡ true → front_of b bs ≡ Takes (prefix_len is_name_continue bs + 1) Name Level
+name_first b bs h =
+    let d = λ (k : ℕ) (other : is_name_start k ≡ false). differs is_name_start b k h other in
+    rw (d 9 refl, d 10 refl, d 13 refl, d 32 refl, d 44 refl, h) refl
+
+mark_no_name : (b : ℕ) → is_mark b ≡ true → is_name_start b ≡ false
+mark_no_name b h = grind (arith, nat_tests)
+
+mark_first : (b : ℕ) (bs : List ℕ) → is_mark b ≡ true → front_of b bs ≡ Takes 1 Punctuator (nesting_of b)
+unfolding token_of
+mark_first b bs h =
+    let d = λ (k : ℕ) (other : is_mark k ≡ false). differs is_mark b k h other in
+    rw (d 9 refl, d 10 refl, d 13 refl, d 32 refl, d 44 refl, mark_no_name b h, d 35 refl, d 239 refl, h) refl
+
+number_no_name : (b : ℕ) → starts_number b ≡ true → is_name_start b ≡ false
+number_no_name b h = grind (arith, nat_tests)
+
+number_no_mark : (b : ℕ) → starts_number b ≡ true → is_mark b ≡ false
+number_no_mark b h = grind (arith, nat_tests)
+
+number_first : (b : ℕ) (bs : List ℕ) → starts_number b ≡ true → front_of b bs ≡ number (b ∷ bs)
+unfolding token_of
+number_first b bs h =
+    let d = λ (k : ℕ) (other : starts_number k ≡ false). differs starts_number b k h other in
+    rw (d 9 refl, d 10 refl, d 13 refl, d 32 refl, d 44 refl, number_no_name b h, d 35 refl, d 239 refl, number_no_mark b h, d 34 refl, d 46 refl, h) refl
+
+-- a text that begins with a number's run
+run_first : (xs rest : List ℕ) → NumberRun xs → front (xs ++ rest) ≡ number (xs ++ rest)
+unfolding front
+run_first xs rest r = rw r.is (number_first r.first (r.more ++ rest) r.starts)
+
+in_line : (line rest : List ℕ) → list_all is_in_line line ≡ true → is_in_line (get_or rest 0 0) ≡ false → comment (line ++ rest) ≡ line_end (length line) rest
+unfolding comment
+in_line line rest all stop = rw (run is_in_line line rest all stop, drop_at line rest (length line) refl) refl
+
+-- a comment whose line ends with these bytes
+ended : (line end rest : List ℕ) → list_all is_in_line line ≡ true → is_in_line (get_or (end ++ rest) 0 0) ≡ false
+    → comment (line ++ end ++ rest) ≡ line_end (length line) (end ++ rest)
+ended line end rest all stop = ap comment (append_assoc line end rest) ∙ in_line line (end ++ rest) all stop
+
+at_end : (line : List ℕ) → list_all is_in_line line ≡ true → comment (line ++ []) ≡ Skips (length line + 1) Stay
+unfolding comment
+at_end line all = rw (append-nil line, run_all is_in_line line all, drop_all (length line) line (le_refl (length line))) refl
+
+skips_same : (i j : ℕ) (m : Move) → i ≡ j → Skips i m ≡ Skips j m
+skips_same i j m e = ap (λ n. Skips n m) e
+
+pub stands_front : {bytes : List ℕ} {m : Meaning} {rest : List ℕ} → Stands bytes m rest → front (bytes ++ rest) ≡ shape m (length bytes)
+unfolding front token_of
+stands_front tab = refl
+stands_front line_feed = refl
+stands_front carriage_return = refl
+stands_front space = refl
+stands_front comma = refl
+stands_front byte_order_mark = refl
+stands_front (comment_at_end line all) = at_end line all ∙ skips_same _ _ Stay (omega arith)
+stands_front (comment_feed line {rest} all) = ended line (10 ∷ []) rest all refl
+    ∙ skips_same (length line + 2) _ Down (omega (arith, length-append line (10 ∷ [])))
+stands_front (comment_return_feed line {rest} all) = ended line (13 ∷ 10 ∷ []) rest all refl
+    ∙ skips_same (length line + 3) _ Down (omega (arith, length-append line (13 ∷ 10 ∷ [])))
+stands_front (comment_return line {rest} all stop) =
+    ended line (13 ∷ []) rest all refl ∙ rw (not_equal _ _ stop) (skips_same (length line + 2) _ Down (omega (arith, length-append line (13 ∷ []))))
+stands_front (name {b} {bs} {rest} first more stop) = name_first b (bs ++ rest) first
+    ∙ rw (run is_name_continue bs rest more stop) (ap (λ n. Takes n Name Level) (omega arith))
+stands_front (mark {b} {rest} h) = mark_first b rest h
+stands_front spread = refl
+stands_front (integer {run} {rest} h ends) = run_first run rest (integer_run run h) ∙ integer_front run rest h ends
+stands_front (float {run} {rest} h ends) = run_first run rest (float_run h) ∙ float_front run rest h ends
+stands_front (string body {rest} valid some) =
+    ap (λ l. front (34 ∷ l)) (append_assoc body (34 ∷ []) rest) ∙ string_front valid rest some
+    ∙ ap (λ n. Takes n StringValue Level) (omega (arith, length-append body (34 ∷ [])))
+stands_front (block_string {body} {rest} closes) = block_front closes rest ∙ ap (λ n. Takes n BlockString Level) (omega arith)
+
+shape_same : (m n : Meaning) (i j : ℕ) → shape m i ≡ shape n j → (m ≡ n) × (i ≡ j)
+shape_same (Ignored m) (Ignored n) i j e = (cc, cc)
+shape_same (Ignored m) (Word k t) i j e = absurd cc
+shape_same (Word k t) (Ignored n) i j e = absurd cc
+shape_same (Word k t) (Word l u) i j e = (cc, cc)
+
+-- two pieces that begin one text are one
+first_same : (a b rest more : List ℕ) (m n : Meaning) → Stands a m rest → Stands b n more → a ++ rest ≡ b ++ more → (a ≡ b) × (m ≡ n) × (rest ≡ more)
+first_same a b rest more m n s t h =
+    let same = shape_same m n (length a) (length b) (sym (stands_front s) ∙ ap front h ∙ stands_front t) in (
+      sym (take_at a rest (length b) same.1) ∙ ap (take (length b)) h ∙ take_at b more (length b) refl,
+      same.0,
+      sym (drop_at a rest (length b) same.1) ∙ ap (drop (length b)) h ∙ drop_at b more (length b) refl,
+    )
+
+-- a text has one cut into pieces
+pub one_cut : (ps qs : List Piece) (text s t : List ℕ) → IsCutInto text ps s → IsCutInto text qs t → (ps ≡ qs) × (s ≡ t)
+one_cut [] [] text s t (e, f) (g, h) = (refl, sym e ∙ g)
+one_cut [] (q ∷ qs) text s t (e, none) (rest, g, st, more) = absurd (none q.bytes q.meaning rest st (sym e ∙ g))
+one_cut (p ∷ ps) [] text s t (rest, g, st, more) (e, none) = absurd (none p.bytes p.meaning rest st (sym e ∙ g))
+one_cut (p ∷ ps) (q ∷ qs) text s t (r, e, sp, more) (r', e', sq, more') =
+    let same = first_same p.bytes q.bytes r r' p.meaning q.meaning sp sq (sym e ∙ e') in
+    let (others, stops) = one_cut ps qs r' s t (subst (λ x. IsCutInto x ps s) same.2 more) more' in
+    let one : p ≡ q = λ i. record { bytes = same.0 i; meaning = same.1 i } in
+    (rw (one, others) refl, stops)

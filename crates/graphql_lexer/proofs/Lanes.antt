@@ -1,0 +1,73 @@
+-- From the mask of one load to the bytes that pass a test, and from one load to a run.
+use Rattle.std.proofs.Common.{◌≡◌, ℕ, zero, suc, ◌+◌, ◌%◌, ◌^◌, ◌<◌, ◌≤◌, Bool, true, false, not, List, [], ◌∷◌, map, take, drop, length, get_or, replicate}
+use Rattle.std.proofs.Common.{Fits, w8, refl, sym, ap, ap₂, ◌∙◌, arith, inl, inr}
+use Rattle.std.proofs.lemmas.Bool.{cases_Bool, agree_below, agree_below_at, cases_eq, eq-eqb, ne_eqb, cond-true, cond-false}
+use Rattle.std.proofs.lemmas.Simd.{map-map, mask_l-mod, length-chunk, leading_from_mask_l, trailing_mask_l}
+use Rattle.std.proofs.lemmas.List.{length-map}
+use Rattle.std.specs.List.{prefix_len}
+use lib.Lanes.{zip2, mask_l, top}
+use Rattle.graphql_lexer.specs.steps.Ahead.{first_set}
+
+zip2-map : (h : ℕ → ℕ → ℕ) (f g : ℕ → ℕ) (xs : List ℕ) → zip2 h (map f xs) (map g xs) ≡ map (λ x. h (f x) (g x)) xs
+zip2-map h f g [] = refl
+zip2-map h f g (x ∷ xs) = ap (λ r. h (f x) (g x) ∷ r) (zip2-map h f g xs)
+
+-- an operation on two vectors that were computed lane by lane from v
+pub joined : (h : ℕ → ℕ → ℕ) (f g : ℕ → ℕ) (v : List ℕ) {a b : List ℕ} → a ≡ map f v → b ≡ map g v → zip2 h a b ≡ map (λ x. h (f x) (g x)) v
+joined h f g v p q = ap₂ (zip2 h) p q ∙ zip2-map h f g v
+
+pub splat_is : (v : List ℕ) (n y : ℕ) → length v ≡ n → replicate n y ≡ map (λ _. y) v
+splat_is [] n y e = ap (λ k. replicate k y) (sym e)
+splat_is (x ∷ xs) n y e = ap (λ k. replicate k y) (sym e) ∙ ap (λ r. y ∷ r) (splat_is xs (length xs) y refl)
+
+run_is : (p : ℕ → Bool) (v : List ℕ) (n : ℕ) → length v ≡ n → n ≤ 64 → first_set (mask_l (map p v)) n ≡ prefix_len (λ x. not (p x)) v
+run_is p v n long few =
+    elim (cases_eq (mask_l (map p v)) 0) [
+      | inl none ↦ cond-true _ _ _ (eq-eqb _ _ none) ∙ sym (leading_from_mask_l p v none ∙ long)
+      | inr some ↦ cond-false _ _ _ (ne_eqb _ _ some) ∙ trailing_mask_l p 64 v (omega arith) (omega arith)
+    ]
+
+same_prefix : (p q : ℕ → Bool) → ((b : ℕ) → b < 256 → p b ≡ not (q b)) → (n : ℕ) (d : List ℕ) → ((k : ℕ) → get_or d k 0 < 256)
+    → prefix_len (λ x. not (p x)) (take n d) ≡ prefix_len q (take n d)
+same_prefix p q agree zero d fits = refl
+same_prefix p q agree (suc n) [] fits = refl
+same_prefix p q agree (suc n) (x ∷ xs) fits =
+    let more = same_prefix p q agree n xs (λ k. fits (suc k)) in
+    let here = agree x (fits 0) in
+    elim (cases_Bool (q x)) [
+      | inl pass ↦ let e : p x ≡ false = here ∙ ap not pass in rw (e, pass) (omega (arith, more))
+      | inr stop ↦ let e : p x ≡ true = here ∙ ap not stop in rw (e, stop) refl
+    ]
+
+-- a lane stops just where q fails
+pub lanes_run : (q : ℕ → Bool) (d : List ℕ) (n r : ℕ) (z : List ℕ) → n ≤ length d → n ≤ 64 → ((k : ℕ) → Fits w8 (get_or d k 0))
+    → r ≡ first_set (mask_l (map (top 7) z) % 2 ^ 64) n → (f : ℕ → ℕ) → z ≡ map f (take n d)
+    → agree_below (λ x. top 7 (f x)) (λ x. not (q x)) 256 ≡ true → r ≡ prefix_len q (take n d)
+lanes_run q d n r z room few fits found f lanes all =
+    let v = take n d in
+    let long : length v ≡ n = length-chunk 0 n d (omega arith) in
+    let stops : ℕ → Bool = λ x. top 7 (f x) in
+    let mask = ap (λ l. mask_l l % 2 ^ 64) (ap (map (top 7)) lanes ∙ map-map (top 7) f v)
+    ∙ mask_l-mod (map stops v) 64 (omega (arith, length-map v stops, long)) in
+    found ∙ ap (λ m. first_set m n) mask ∙ run_is stops v n long few
+    ∙ same_prefix stops q (λ b lt. agree_below_at stops (λ x. not (q x)) 256 b all lt) n d (λ k. (fits k).fits)
+
+-- a run that ends within the first n bytes
+pub ends_within : (p : ℕ → Bool) (n : ℕ) (d : List ℕ) → n ≤ length d → prefix_len p (take n d) < n → prefix_len p d ≡ prefix_len p (take n d)
+ends_within p zero d room short = absurd (omega arith)
+ends_within p (suc n) [] room short = absurd (omega arith)
+ends_within p (suc n) (x ∷ xs) room short =
+    elim (cases_Bool (p x)) [
+      | inl pass ↦ rw pass (omega (arith, ends_within p n xs (omega arith) (omega (arith, rw pass at short))))
+      | inr stop ↦ rw stop refl
+    ]
+
+-- a run of which the first n bytes are
+pub goes_past : (p : ℕ → Bool) (n : ℕ) (d : List ℕ) → n ≤ length d → n ≤ prefix_len p (take n d) → prefix_len p d ≡ n + prefix_len p (drop n d)
+goes_past p zero d room e = omega arith
+goes_past p (suc n) [] room e = absurd (omega arith)
+goes_past p (suc n) (x ∷ xs) room e =
+    elim (cases_Bool (p x)) [
+      | inl pass ↦ rw pass (omega (arith, goes_past p n xs (omega arith) (omega (arith, rw pass at e))))
+      | inr stop ↦ absurd (omega (arith, rw stop at e))
+    ]

@@ -1,0 +1,11 @@
+pub mod Ending
+pub mod FrontFits
+pub mod FrontIsPiece
+pub mod Lanes
+pub mod Numbers
+pub mod OneCut
+pub mod Positions
+pub mod Runs
+pub mod Spaces
+pub mod Strings
+pub mod Tokens

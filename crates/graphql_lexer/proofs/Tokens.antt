@@ -1,0 +1,127 @@
+-- Tokens and plain ignored text at the front of a text.
+use Rattle.std.proofs.Common.{◌≡◌, ℕ, ◌+◌, ◌<◌, true, false, ◌||◌, ◌==◌, List, [], ◌∷◌, Option, Some, None, length, get_or, IsUtf8}
+use Rattle.std.proofs.Common.{refl, sym, ap, ◌∙◌, inl, inr, arith, eqb-true}
+use Rattle.std.proofs.lemmas.Bool.{cases_Bool}
+use Rattle.std.proofs.lemmas.Bool.Decides.{nat_tests}
+use Rattle.std.specs.Str.{IsCharBoundary}
+use Rattle.std.specs.List.{prefix_len}
+use Rattle.graphql_lexer.specs.declared.tokenizer.token.Kind.{Kind}
+use Rattle.graphql_lexer.specs.declared.tokenizer.token.Kind.TheVariants.{Punctuator, Name}
+use Rattle.graphql_lexer.specs.declared.tokenizer.piece.Move.TheVariants.{Over, Down}
+use Rattle.graphql_lexer.specs.declared.tokenizer.piece.Nesting.{Nesting}
+use Rattle.graphql_lexer.specs.declared.tokenizer.piece.Nesting.TheVariants.{Level}
+use Rattle.graphql_lexer.specs.declared.tokenizer.piece.Piece.{Piece}
+use Rattle.graphql_lexer.specs.declared.tokenizer.piece.Piece.TheVariants.{AtEnd, Skips, Takes, Stops}
+use Rattle.graphql_lexer.specs.Lexical.{is_name_start, is_name_continue, is_mark, nesting_of}
+use Rattle.graphql_lexer.specs.steps.Front.{front, token_of, FitsIn, IsItem}
+use Rattle.graphql_lexer.specs.steps.Ahead.{taken, FitsTaken, is_plain, plain_move, is_rare}
+use Rattle.graphql_lexer.proofs.Runs.{differs}
+use Rattle.graphql_lexer.proofs.FrontFits.{front_fits, front_within, Within}
+use Rattle.graphql_lexer.proofs.Spaces.{no_front, item_first}
+
+-- ---- tokens
+
+pub name_front : (b : ℕ) (bs : List ℕ) → is_name_start b ≡ true → front (b ∷ bs) ≡ Takes (prefix_len is_name_continue bs + 1) Name Level
+unfolding front
+name_front b bs h =
+    rw (
+      differs is_name_start b 9 h refl,
+      differs is_name_start b 10 h refl,
+      differs is_name_start b 13 h refl,
+      differs is_name_start b 32 h refl,
+      differs is_name_start b 44 h refl,
+      h,
+    ) refl
+
+pub mark_front : (b : ℕ) (bs : List ℕ) → is_mark b ≡ true → is_name_start b ≡ false → front (b ∷ bs) ≡ Takes 1 Punctuator (nesting_of b)
+unfolding front token_of
+mark_front b bs h other =
+    rw (
+      differs is_mark b 9 h refl,
+      differs is_mark b 10 h refl,
+      differs is_mark b 13 h refl,
+      differs is_mark b 32 h refl,
+      differs is_mark b 44 h refl,
+      other,
+      differs is_mark b 35 h refl,
+      differs is_mark b 239 h refl,
+      h,
+    ) refl
+
+fits_parts : (bytes : List ℕ) (x : Piece) → FitsIn bytes x → FitsTaken bytes (taken x)
+fits_parts bytes AtEnd h = tt
+fits_parts bytes Stops h = tt
+fits_parts bytes (Skips n m) h = tt
+fits_parts bytes (Takes n k t) h = h
+
+pub taken_fits : (bytes : List ℕ) (x : Option (ℕ × Kind × Nesting)) → x ≡ taken (front bytes) → IsUtf8 bytes → FitsTaken bytes x
+taken_fits bytes x e utf8 = rw e (fits_parts bytes (front bytes) (front_fits bytes (front bytes) refl utf8))
+
+back : Option (ℕ × Kind × Nesting) → Piece
+back None = Stops
+back (Some (n, k, t)) = Takes n k t
+
+pub takes_first : (x : Piece) (n : ℕ) (k : Kind) (t : Nesting) → taken x ≡ Some (n, k, t) → x ≡ Takes n k t
+unfolding back
+takes_first AtEnd n k t e = absurd cc
+takes_first Stops n k t e = absurd cc
+takes_first (Skips i m) n k t e = absurd cc
+takes_first (Takes i j s) n k t e = ap back e
+
+-- where no token stands, a text is empty or no piece begins it
+pub end_front : (bytes : List ℕ) → length bytes ≡ 0 → front bytes ≡ AtEnd
+unfolding front
+end_front [] e = refl
+end_front (b ∷ bs) e = absurd (omega arith)
+
+stops_by : (bytes : List ℕ) (x : Piece) → Within bytes x → taken x ≡ None → IsItem x → 0 < length bytes → x ≡ Stops
+stops_by bytes AtEnd h e item some = absurd (omega arith)
+stops_by bytes Stops h e item some = refl
+stops_by bytes (Skips n m) h e item some = absurd item
+stops_by bytes (Takes n k t) h e item some = absurd cc
+
+pub stops_front : (bytes : List ℕ) → taken (front bytes) ≡ None → IsItem (front bytes) → 0 < length bytes → front bytes ≡ Stops
+stops_front bytes e item some = stops_by bytes (front bytes) (front_within bytes) e item some
+
+-- ---- plain ignored text
+
+feed : (bs : List ℕ) → front (10 ∷ bs) ≡ Skips 1 Down
+unfolding front
+feed bs = refl
+
+blank : (b : ℕ) (bs : List ℕ) → (b == 9) ≡ false → (b == 10) ≡ false → (b == 13) ≡ false → (b == 32 || b == 44) ≡ true → front (b ∷ bs) ≡ Skips 1 (Over 1)
+unfolding front
+blank b bs tab lf cr h = rw (tab, lf, cr, h) refl
+
+plain_blank : (b : ℕ) → is_plain b ≡ true → (b == 10) ≡ false → (b == 32 || b == 44) ≡ true
+plain_blank b h other = grind (arith, nat_tests)
+
+pub plain_front : (bytes : List ℕ) → is_plain (get_or bytes 0 0) ≡ true → front bytes ≡ Skips 1 (plain_move (get_or bytes 0 0))
+plain_front [] h = absurd cc
+plain_front (b ∷ bs) h =
+    elim (cases_Bool (b == 10)) [
+      | inl lf ↦ rw lf (ap (λ x. front (x ∷ bs)) (eqb-true b 10 lf) ∙ feed bs)
+      | inr other ↦ rw other (blank b bs (differs is_plain b 9 h refl) other (differs is_plain b 13 h refl) (plain_blank b h other))
+    ]
+
+-- past one plain byte
+pub plain_boundary : (bytes : List ℕ) → IsUtf8 bytes → is_plain (get_or bytes 0 0) ≡ true → IsCharBoundary bytes 1
+plain_boundary bytes utf8 h = (front_fits bytes (Skips 1 (plain_move (get_or bytes 0 0))) (sym (plain_front bytes h)) utf8).0.2
+
+no_plain : (b : ℕ) → is_plain b ≡ false → ((b == 10) ≡ false) × ((b == 32 || b == 44) ≡ false)
+no_plain b h = (grind (arith, nat_tests), grind (arith, nat_tests))
+
+no_rare : (b : ℕ) → is_rare b ≡ false → ((b == 9) ≡ false) × ((b == 13) ≡ false) × ((b == 35) ≡ false) × ((b == 239) ≡ false)
+no_rare b h = (grind (arith, nat_tests), grind (arith, nat_tests), grind (arith, nat_tests), grind (arith, nat_tests))
+
+at_end : IsItem (front [])
+unfolding front
+at_end = tt
+
+-- a text that begins with no ignored byte
+pub item_front : (bytes : List ℕ) → is_plain (get_or bytes 0 0) ≡ false → is_rare (get_or bytes 0 0) ≡ false → IsItem (front bytes)
+item_front [] p r = at_end
+item_front (b ∷ bs) p r =
+    let plain = no_plain b p in
+    let rare = no_rare b r in
+    item_first (front (b ∷ bs)) (no_front b bs rare.0 plain.0 rare.1 plain.1 rare.2 (rw rare.3 refl))

@@ -1,0 +1,14 @@
+use Rattle.graphql_lexer.specs.steps.Cut.{items}
+use Rattle.graphql_lexer.specs.Items.{start}
+use Rattle.graphql_lexer.proofs.OneCut.{has_items, items_unique}
+use Rattle.graphql_lexer.proofs.Ending.{end_once}
+use Rattle.graphql_lexer.proofs.tokenizer.laws.one_list_of_items.Goals as goal
+
+pub returns-clause-some : goal.returns-clause-some
+returns-clause-some c text = (items start text, has_items text)
+
+pub returns-clause-one : goal.returns-clause-one
+returns-clause-one c = items_unique
+
+pub returns-clause-last : goal.returns-clause-last
+returns-clause-last c = end_once

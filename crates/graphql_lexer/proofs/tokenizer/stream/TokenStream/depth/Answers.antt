@@ -1,0 +1,14 @@
+use Rattle.std.proofs.Common.{◌≡◌, ℕ, ◌<◌, ◌^◌, arith, sym, ap, ◌∙◌, pos, ◌-ℤ◌, to_z, of_z, w64}
+use Rattle.std.proofs.lemmas.Int.{ints}
+use Rattle.graphql_lexer.specs.Items.{Where, depth_of}
+use Rattle.graphql_lexer.proofs.FrontFits.{next_place_items}
+use Rattle.graphql_lexer.proofs.tokenizer.stream.TokenStream.depth.Goals as goal
+
+signed : (a b : ℕ) → a < 2 ^ 62 → b < 2 ^ 62 → to_z w64 (of_z w64 (to_z w64 a -ℤ to_z w64 b)) ≡ pos a -ℤ pos b
+signed a b h k = omega (arith, ints)
+
+pub returns : goal.returns
+returns c =
+    let s = c.self.inside in
+    let w : Where = record { position = s.position; offset = s.offset; openers = s.openers; closers = s.closers } in
+    rw (← c.self.view_is) (signed s.openers s.closers (omega arith) (omega arith) ∙ ap depth_of (sym (next_place_items w s.rest.now c.self.invariant.5)))

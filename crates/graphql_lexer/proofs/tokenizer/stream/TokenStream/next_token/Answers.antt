@@ -1,0 +1,65 @@
+use Rattle.std.proofs.Common.{◌≡◌, ◌+◌, ◌-◌, ◌<◌, ◌∷◌, [], true, false, length, take, refl, sym, ◌∙◌, ap, arith, eqb-true}
+use Rattle.std.proofs.lemmas.Bool.{eqb-false}
+use Rattle.graphql_lexer.specs.steps.Front.{front}
+use Rattle.graphql_lexer.specs.declared.tokenizer.piece.Piece.TheVariants.{AtEnd, Takes, Stops}
+use Rattle.graphql_lexer.specs.Items.{Where, Item, is_too_deep, past, past_token}
+use Rattle.graphql_lexer.proofs.Positions.{token_flat}
+use Rattle.graphql_lexer.proofs.FrontFits.{items_at, last_some}
+use Rattle.graphql_lexer.proofs.Tokens.{takes_first, end_front, stops_front}
+use Rattle.graphql_lexer.proofs.tokenizer.stream.TokenStream.next_token.Goals as goal
+
+pub past-end-requires-clause-flat : goal.past-end-requires-clause-flat
+past-end-requires-clause-flat c =
+    let t = c.in-Some in
+    let rest = c.self.inside.rest.now in
+    let takes = takes_first (front rest) t.len t.kind t.nesting (sym t.ensures.is) in
+    rw c.split_at.ensures.front (token_flat rest t.len t.kind t.nesting takes)
+
+pub returns-then-is_empty-clause-item : goal.returns-then-is_empty-clause-item
+returns-then-is_empty-clause-item c =
+    let s = c.self.inside in
+    let w : Where = record { position = s.position; offset = s.offset; openers = s.openers; closers = s.closers } in
+    let end = end_front s.rest.now (eqb-true (length s.rest.now) 0 (sym c.is_empty.ensures ∙ c.if-is_empty.true)) in
+    rw (← c.self.view_is) (w, items_at w s.rest.now AtEnd end, refl)
+
+pub returns-in_default-clause-item : goal.returns-in_default-clause-item
+returns-in_default-clause-item c =
+    let s = c.self.inside in
+    let w : Where = record { position = s.position; offset = s.offset; openers = s.openers; closers = s.closers } in
+    let some : 0 < length s.rest.now = omega (arith, eqb-false (length s.rest.now) 0 (sym c.is_empty.ensures ∙ c.if-is_empty.false)) in
+    let stops = stops_front s.rest.now (sym c.in_default.ensures.is) c.self.invariant.5 some in
+    rw (← c.self.view_is, c.bad_at.ensures)
+    (w, items_at w s.rest.now Stops stops ∙ ap (λ (i : Item). i ∷ []) (last_some w s.rest.now some), refl)
+
+pub returns-then-is_too_deep-clause-item : goal.returns-then-is_too_deep-clause-item
+returns-then-is_too_deep-clause-item c =
+    let s = c.self.inside in
+    let w : Where = record { position = s.position; offset = s.offset; openers = s.openers; closers = s.closers } in
+    let t = c.in-Some in
+    let e = items_at w s.rest.now (Takes t.len t.kind t.nesting) (takes_first (front c.self.inside.rest.now) t.len t.kind t.nesting (sym t.ensures.is)) in
+    let deep : is_too_deep t.nesting w ≡ true = sym (c.is_too_deep.ensures w refl refl) ∙ c.if-is_too_deep.true in
+    rw (← c.self.view_is) (w, rw deep at e, refl)
+
+pub returns-clause-item : goal.returns-clause-item
+returns-clause-item c =
+    let s = c.self.inside in
+    let w : Where = record { position = s.position; offset = s.offset; openers = s.openers; closers = s.closers } in
+    let t = c.in-Some in
+    let e = items_at w s.rest.now (Takes t.len t.kind t.nesting) (takes_first (front c.self.inside.rest.now) t.len t.kind t.nesting (sym t.ensures.is)) in
+    let deep : is_too_deep t.nesting w ≡ false = sym (c.is_too_deep.ensures w refl refl) ∙ c.if-is_too_deep.false in
+    let value = take t.len s.rest.now in
+    let end = sym (c.past-end.ensures.is ∙ ap (λ v. past v s.position) c.split_at.ensures.front) in
+    let more = c.skip_ignored.ensures.items (past_token t.nesting value w) end in
+    let after = length c.split_at.result.1.now in
+    let rest = length c.skip_ignored.result.0.now in
+    let len = ap length c.split_at.ensures.front in
+    let offset : s.offset + length value + (after - rest) ≡ s.offset + (length s.rest.now - rest) = omega arith in
+    rw (
+      ← c.self.view_is,
+      c.split_at.ensures.front,
+      c.openers_after-self-inside.ensures,
+      c.closers_after-self-inside.ensures,
+      ← offset,
+      more,
+      c.split_at.ensures.back,
+    ) (w, rw deep at e)

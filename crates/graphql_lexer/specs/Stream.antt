@@ -1,0 +1,26 @@
+-- What the calls of a token stream answer.
+use Rattle.std.specs.Prelude.{◌≡◌, ℕ, ◌+◌, ◌-◌, ◌^◌, min, List, [], ◌∷◌, Option, Some, None, Result, Ok, Err}
+use Rattle.graphql_lexer.specs.declared.position.Pos.{Pos}
+use Rattle.graphql_lexer.specs.declared.tokenizer.token.Token.{Token}
+use Rattle.graphql_lexer.specs.declared.tokenizer.token.Bad.{Bad}
+use Rattle.graphql_lexer.specs.BadTexts.{bad_text}
+use Rattle.graphql_lexer.specs.Items.{Where, start, Item, item, Lexeme, End, Wrong}
+
+-- at this position, n bytes on, with no bracket in between
+abbrev pub further : Pos → ℕ → Where → Where
+further p n w = record { position = p; offset = w.offset + n; openers = w.openers; closers = w.closers }
+
+-- where the next item stands
+abbrev pub next_place : List Item → Where
+next_place [] = start
+next_place (i ∷ is) = i.place
+
+-- the count of calls, which stops at the largest number
+abbrev pub one_more : ℕ → ℕ
+one_more n = min (n + 1) (2 ^ 64 - 1)
+
+-- The next item is answered. A token is passed; the end and a bad place stay.
+abbrev pub NextItem : List Item → Result (Option Token) Bad → List Item → Type 0
+NextItem old (Ok (Some t)) new = (w : Where) × (old ≡ item (Lexeme t.kind t.value.now) w ∷ new)
+NextItem old (Ok None) new = (w : Where) × (old ≡ item End w ∷ []) × (new ≡ old)
+NextItem old (Err bad) new = (w : Where) × (old ≡ item (Wrong (bad_text bad)) w ∷ []) × (new ≡ old)

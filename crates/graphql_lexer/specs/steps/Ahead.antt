@@ -1,0 +1,60 @@
+-- What the quick tests of the tokenizer look for.
+use Rattle.std.specs.Prelude.{ℕ, ◌≤◌, Bool, ◌==◌, ◌&&◌, ◌||◌, List, slice_index, if◌then◌else◌, Option, Some, None}
+use Rattle.std.specs.Int.{w64, trailing_zeros}
+use Rattle.graphql_lexer.specs.steps.Front.{Cuts}
+use Rattle.graphql_lexer.specs.Lexical.{steps_over}
+use Rattle.graphql_lexer.specs.declared.tokenizer.piece.Move.{Move}
+use Rattle.graphql_lexer.specs.declared.tokenizer.piece.Move.TheVariants.{Over, Down}
+use Rattle.graphql_lexer.specs.declared.tokenizer.piece.Nesting.{Nesting}
+use Rattle.graphql_lexer.specs.declared.tokenizer.piece.Piece.{Piece}
+use Rattle.graphql_lexer.specs.declared.tokenizer.token.Kind.{Kind}
+use Rattle.graphql_lexer.specs.declared.tokenizer.piece.Piece.TheVariants.{AtEnd, Skips, Takes, Stops}
+
+abbrev pub is_space : ℕ → Bool
+is_space b = b == 32
+
+abbrev pub is_blank : ℕ → Bool
+is_blank b = b == 32 || b == 44
+
+-- U+FEFF
+abbrev pub is_order_mark : ℕ → List ℕ → Bool
+is_order_mark b bs = b == 239 && (slice_index bs 0 == 187 && slice_index bs 1 == 191)
+
+-- the place of the lowest bit that is set, or n
+abbrev pub first_set : ℕ → ℕ → ℕ
+first_set mask n = if mask == 0 then n else trailing_zeros w64 mask
+
+-- the ignored text among what may stand at the front
+abbrev pub ignored : Piece → Option (ℕ × Move)
+ignored AtEnd = None
+ignored Stops = None
+ignored (Skips n m) = Some (n, m)
+ignored (Takes n k t) = None
+
+-- ignored text is some whole characters
+abbrev pub FitsIgnored : List ℕ → Option (ℕ × Move) → Type 0
+FitsIgnored bytes None = Unit {0}
+FitsIgnored bytes (Some (n, m)) = Cuts bytes n × (steps_over m ≤ 8)
+
+-- the token among what may stand at the front
+abbrev pub taken : Piece → Option (ℕ × Kind × Nesting)
+taken AtEnd = None
+taken Stops = None
+taken (Skips n m) = None
+taken (Takes n k t) = Some (n, k, t)
+
+-- a token is some whole characters
+abbrev pub FitsTaken : List ℕ → Option (ℕ × Kind × Nesting) → Type 0
+FitsTaken bytes None = Unit {0}
+FitsTaken bytes (Some (n, k, t)) = Cuts bytes n
+
+-- the ignored bytes of which most texts have many: the space, LF and the comma
+abbrev pub is_plain : ℕ → Bool
+is_plain b = b == 32 || b == 10 || b == 44
+
+abbrev pub plain_move : ℕ → Move
+plain_move b = if b == 10 then Down else Over 1
+
+-- what else ignored text begins with
+abbrev pub is_rare : ℕ → Bool
+is_rare b = b == 9 || b == 13 || b == 35 || b == 239

@@ -1,0 +1,46 @@
+//! How many of 16 bytes, from the first, are of a class.
+ghost use Rattle.std.specs.Prelude.{◌≡◌, ◌≤◌, length, take};
+ghost use Rattle.std.specs.List.{prefix_len};
+ghost use Rattle.graphql_lexer.specs.Lexical.{is_name_continue};
+ghost use Rattle.graphql_lexer.specs.steps.Ahead.{is_space, first_set};
+
+use std::simd::prelude::*;
+
+/// The bytes of one load.
+pub const LANES: usize = 16;
+
+#[inline(always)]
+fn first_set(mask: u64) -> usize
+    ensures { result ≡ first_set mask 16 }
+{
+    if mask == 0 {
+        LANES
+    } else {
+        mask.trailing_zeros() as usize
+    }
+}
+
+/// How many of the first 16 bytes a name goes on.
+#[inline(always)]
+pub fn name_lanes(bytes: &[u8]) -> usize
+    requires { 16 ≤ length bytes.now }
+    ensures { result ≡ prefix_len is_name_continue (take 16 bytes.now) }
+{
+    let v = u8x16::from_slice(bytes);
+    let from_a = (v | u8x16::splat(0x20)) - u8x16::splat(b'a');
+    let from_0 = v - u8x16::splat(b'0');
+    let stops = from_a.simd_ge(u8x16::splat(26))
+        & from_0.simd_ge(u8x16::splat(10))
+        & v.simd_ne(u8x16::splat(b'_'));
+    first_set(stops.to_bitmask())
+}
+
+/// How many of the first 16 bytes are spaces.
+#[inline(always)]
+pub fn space_lanes(bytes: &[u8]) -> usize
+    requires { 16 ≤ length bytes.now }
+    ensures { result ≡ prefix_len is_space (take 16 bytes.now) }
+{
+    let stops = u8x16::from_slice(bytes).simd_ne(u8x16::splat(b' '));
+    first_set(stops.to_bitmask())
+}

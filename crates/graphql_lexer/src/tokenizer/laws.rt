@@ -1,0 +1,38 @@
+//! Laws of the definitions alone.
+ghost use Rattle.std.specs.Prelude.{◌≡◌, ℕ, List};
+ghost use Rattle.graphql_lexer.specs.Examples as example;
+ghost use Rattle.graphql_lexer.specs.Items.{Item, HasItems, EndsOnce};
+
+/// Each text has exactly one list of items: tokens, and then one last item.
+pub fn one_list_of_items()
+    ensures some { (text : List ℕ) → (items : List Item) × HasItems text items }
+    ensures one { (text : List ℕ) (items others : List Item) → HasItems text items → HasItems text others → items ≡ others }
+    ensures last { (text : List ℕ) (items : List Item) → HasItems text items → EndsOnce items }
+{}
+
+/// The items of some small texts.
+pub fn worked_examples()
+    ensures empty { example.Empty }
+    ensures ignored_alone { example.IgnoredAlone }
+    ensures comment_return_feed { example.CommentReturnFeed }
+    ensures comment_return { example.CommentReturn }
+    ensures byte_order_mark { example.ByteOrderMark }
+    ensures return_alone { example.ReturnAlone }
+    ensures bad_character { example.BadCharacter }
+    ensures too_deep { example.TooDeepAtLast }
+    ensures closed_first { example.ClosedFirst }
+    ensures integers { example.Integers }
+    ensures bad_integers { example.BadIntegers }
+    ensures floats { example.Floats }
+    ensures bad_floats { example.BadFloats }
+    ensures long_runs { example.LongRuns }
+    ensures bare_dot { example.BareDot }
+    ensures no_break_space { example.NoBreakSpace }
+    ensures character_in_string { example.CharacterInString }
+    ensures unterminated_string { example.UnterminatedString }
+    ensures unterminated_block { example.UnterminatedBlock }
+    ensures quote_in_block { example.QuoteInBlock }
+    ensures quote_after_block { example.QuoteAfterBlock }
+    ensures lines_in_block { example.LinesInBlock }
+    ensures punctuators { example.Punctuators }
+{}

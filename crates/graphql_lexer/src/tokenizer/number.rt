@@ -1,0 +1,161 @@
+//! Numbers: the run at the front of a text, and whether it is one.
+ghost use Rattle.std.specs.Prelude.{◌≡◌, ◌≤◌, length};
+ghost use Rattle.std.specs.Char as char;
+ghost use Rattle.std.specs.List.{prefix_len, list_all};
+ghost use Rattle.graphql_lexer.specs.Lexical as lexical;
+ghost use Rattle.graphql_lexer.specs.steps.Numbers as spec;
+
+use crate::tokenizer::piece::{Nesting, Piece, is_mark};
+use crate::tokenizer::token::Kind;
+
+#[inline(always)]
+fn is_in_run(byte: u8) -> bool
+    ensures { result ≡ lexical.is_in_run byte }
+{
+    !(byte == b' '
+        || byte == b'\n'
+        || byte == b'\r'
+        || byte == b'\t'
+        || byte == b','
+        || byte == b'#'
+        || is_mark(byte))
+}
+
+/// How many bytes the run at the front has.
+pub fn run_len(bytes: &[u8]) -> usize
+    ensures len { result ≡ prefix_len lexical.is_in_run bytes.now }
+    ensures within { result ≤ length bytes.now }
+{
+    bytes.iter().take_while(|b| is_in_run(**b)).count()
+}
+
+/// How many digits stand at the front.
+fn digits_len(bytes: &[u8]) -> usize
+    ensures len { result ≡ spec.digits_len bytes.now }
+    ensures within { result ≤ length bytes.now }
+{
+    bytes.iter().take_while(|b| b.is_ascii_digit()).count()
+}
+
+fn is_digits(bytes: &[u8]) -> bool
+    ensures { result ≡ list_all char.is_ascii_digit bytes.now }
+{
+    bytes.iter().all(|b| b.is_ascii_digit())
+}
+
+/// Whether it is one digit, or a digit 1 to 9 and any digits.
+fn is_natural(bytes: &[u8]) -> bool
+    ensures { result ≡ lexical.is_natural bytes.now }
+{
+    match bytes.split_first() {
+        None => false,
+        Some((byte, rest)) => {
+            if rest.is_empty() {
+                byte.is_ascii_digit()
+            } else {
+                *byte >= b'1' && *byte <= b'9' && is_digits(rest)
+            }
+        }
+    }
+}
+
+fn is_integer(run: &[u8]) -> bool
+    ensures { result ≡ lexical.is_integer run.now }
+{
+    match run.split_first() {
+        None => false,
+        Some((byte, rest)) => {
+            if *byte == b'-' {
+                is_natural(rest)
+            } else {
+                is_natural(run)
+            }
+        }
+    }
+}
+
+/// Whether it is `e` or `E`, and then a sign and any digits, or a digit 1 to 8 and any digits.
+fn is_exponent(bytes: &[u8]) -> bool
+    ensures { result ≡ lexical.is_exponent bytes.now }
+{
+    match bytes.split_first() {
+        None => false,
+        Some((mark, rest)) => match rest.split_first() {
+            None => false,
+            Some((first, digits)) => {
+                (*mark == b'e' || *mark == b'E')
+                    && ((*first == b'+' || *first == b'-' || (*first >= b'1' && *first <= b'8'))
+                        && is_digits(digits))
+            }
+        },
+    }
+}
+
+/// Whether it may stand after the dot of a fraction.
+#[tactic(auto, unfolding(crate::specs::steps::Numbers::is_after_dot))]
+fn is_after_dot(bytes: &[u8]) -> bool
+    ensures { result ≡ spec.is_after_dot bytes.now }
+{
+    let len = digits_len(bytes);
+    let tail = &bytes[len..];
+    len != 0 && (tail.is_empty() || is_exponent(tail))
+}
+
+/// Whether it may stand after the integer of a float.
+#[tactic(auto, unfolding(crate::specs::steps::Numbers::is_after_integer))]
+fn is_after_integer(bytes: &[u8]) -> bool
+    ensures { result ≡ spec.is_after_integer bytes.now }
+{
+    match bytes.split_first() {
+        None => false,
+        Some((byte, rest)) => {
+            if *byte == b'.' {
+                is_after_dot(rest)
+            } else {
+                is_exponent(bytes)
+            }
+        }
+    }
+}
+
+#[tactic(auto, unfolding(crate::specs::steps::Numbers::is_unsigned))]
+fn is_unsigned(bytes: &[u8]) -> bool
+    ensures { result ≡ spec.is_unsigned bytes.now }
+{
+    let len = digits_len(bytes);
+    is_natural(&bytes[..len]) && is_after_integer(&bytes[len..])
+}
+
+/// Whether it is an integer with a fraction, an exponent, or both. A sign may be all that an exponent has.
+#[tactic(auto, unfolding(crate::specs::steps::Numbers::is_float))]
+pub fn is_float(run: &[u8]) -> bool
+    ensures { result ≡ spec.is_float run.now }
+{
+    match run.split_first() {
+        None => false,
+        Some((byte, rest)) => {
+            if *byte == b'-' {
+                is_unsigned(rest)
+            } else {
+                is_unsigned(run)
+            }
+        }
+    }
+}
+
+/// The number at the front, if its run is one.
+#[tactic(auto, unfolding(crate::specs::steps::Numbers::number))]
+#[inline(never)]
+pub fn number(bytes: &[u8]) -> Piece
+    ensures { result ≡ spec.number bytes.now }
+{
+    let len = run_len(bytes);
+    let run = &bytes[..len];
+    if is_integer(run) {
+        Piece::Takes(len, Kind::IntValue, Nesting::Level)
+    } else if is_float(run) {
+        Piece::Takes(len, Kind::FloatValue, Nesting::Level)
+    } else {
+        Piece::Stops
+    }
+}

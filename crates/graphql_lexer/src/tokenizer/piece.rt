@@ -1,0 +1,420 @@
+//! What stands at the front of a text.
+ghost use Rattle.std.specs.Prelude.{◌≡◌, ◌<◌, ◌≤◌, ◌^◌, length, slice_index};
+ghost use Rattle.std.specs.List.{prefix_len};
+ghost use Rattle.std.specs.Str.{IsCharBoundary};
+ghost use Rattle.graphql_lexer.specs.steps.Front as spec;
+ghost use Rattle.graphql_lexer.specs.Lexical as lexical;
+ghost use Rattle.graphql_lexer.specs.steps.Ahead.{is_space, is_blank, is_order_mark, ignored, FitsIgnored, taken, FitsTaken, is_plain, is_rare};
+
+use crate::tokenizer::lanes::{LANES, name_lanes, space_lanes};
+use crate::tokenizer::number::number;
+use crate::tokenizer::quoted::quoted;
+use crate::tokenizer::token::Kind;
+
+/// How ignored text moves the position.
+#[derive(Clone, Copy)]
+pub enum Move {
+    /// Not at all.
+    Stay,
+    /// By some columns.
+    Over(usize),
+    /// To the first column of the next line.
+    Down,
+}
+
+/// How a token changes the number of open brackets.
+#[derive(Clone, Copy)]
+pub enum Nesting {
+    /// It is no bracket.
+    Level,
+    /// It opens one.
+    Opens,
+    /// It closes one.
+    Closes,
+}
+
+/// What stands at the front, with its length in bytes.
+#[derive(Clone, Copy)]
+pub enum Piece {
+    /// Nothing: the text is empty.
+    AtEnd,
+    /// Ignored text.
+    Skips(usize, Move),
+    /// A token.
+    Takes(usize, Kind, Nesting),
+    /// No piece.
+    Stops,
+}
+
+/// Whether a name begins with this byte.
+#[inline(always)]
+pub fn is_name_start(byte: u8) -> bool
+    ensures { result ≡ lexical.is_name_start byte }
+{
+    byte.is_ascii_alphabetic() || byte == b'_'
+}
+
+#[inline(always)]
+fn is_name_continue(byte: u8) -> bool
+    ensures { result ≡ lexical.is_name_continue byte }
+{
+    byte.is_ascii_alphanumeric() || byte == b'_'
+}
+
+#[inline(always)]
+fn is_opener(byte: u8) -> bool
+    ensures { result ≡ lexical.is_opener byte }
+{
+    byte == b'(' || byte == b'[' || byte == b'{'
+}
+
+#[inline(always)]
+fn is_closer(byte: u8) -> bool
+    ensures { result ≡ lexical.is_closer byte }
+{
+    byte == b')' || byte == b']' || byte == b'}'
+}
+
+/// Whether it is a punctuator of one character.
+#[inline(always)]
+pub fn is_mark(byte: u8) -> bool
+    ensures { result ≡ lexical.is_mark byte }
+{
+    is_opener(byte)
+        || is_closer(byte)
+        || byte == b'!'
+        || byte == b'$'
+        || byte == b'&'
+        || byte == b':'
+        || byte == b'='
+        || byte == b'@'
+        || byte == b'|'
+}
+
+#[inline(always)]
+fn nesting_of(byte: u8) -> Nesting
+    ensures { result ≡ lexical.nesting_of byte }
+{
+    if is_opener(byte) {
+        Nesting::Opens
+    } else if is_closer(byte) {
+        Nesting::Closes
+    } else {
+        Nesting::Level
+    }
+}
+
+#[inline(always)]
+fn is_in_line(byte: u8) -> bool
+    ensures { result ≡ lexical.is_in_line byte }
+{
+    byte != b'\n' && byte != b'\r'
+}
+
+/// How many bytes a name goes on, one byte after another.
+#[inline]
+fn short_name_len(bytes: &[u8]) -> usize
+    ensures len { result ≡ prefix_len lexical.is_name_continue bytes.now }
+    ensures within { result ≤ length bytes.now }
+{
+    bytes.iter().take_while(|b| is_name_continue(**b)).count()
+}
+
+/// How many bytes a name goes on, for what is long or near the end of the text.
+#[inline(never)]
+fn long_name_len(bytes: &[u8]) -> usize
+    ensures len { result ≡ prefix_len lexical.is_name_continue bytes.now }
+    ensures within { result ≤ length bytes.now }
+{
+    let mut rest = bytes;
+    'loads: while rest.len() >= LANES {
+        let run = name_lanes(rest);
+        if run < LANES {
+            return bytes.len() - rest.len() + run;
+        }
+        rest = rest.split_at(LANES).1;
+    }
+    bytes.len() - rest.len() + short_name_len(rest)
+}
+
+/// How many bytes a name goes on.
+#[inline(always)]
+fn name_len(bytes: &[u8]) -> usize
+    ensures len { result ≡ prefix_len lexical.is_name_continue bytes.now }
+    ensures within { result ≤ length bytes.now }
+{
+    if bytes.len() >= LANES {
+        let run = name_lanes(bytes);
+        if run < LANES {
+            return run;
+        }
+    }
+    long_name_len(bytes)
+}
+
+/// How many spaces stand at the front, one byte after another.
+#[inline]
+fn short_spaces_len(bytes: &[u8]) -> usize
+    ensures len { result ≡ prefix_len is_space bytes.now }
+    ensures within { result ≤ length bytes.now }
+{
+    bytes.iter().take_while(|b| **b == b' ').count()
+}
+
+/// How many spaces stand at the front, for what is long or near the end of the text.
+#[inline(never)]
+fn long_spaces_len(bytes: &[u8]) -> usize
+    ensures len { result ≡ prefix_len is_space bytes.now }
+    ensures within { result ≤ length bytes.now }
+{
+    let mut rest = bytes;
+    'loads: while rest.len() >= LANES {
+        let run = space_lanes(rest);
+        if run < LANES {
+            return bytes.len() - rest.len() + run;
+        }
+        rest = rest.split_at(LANES).1;
+    }
+    bytes.len() - rest.len() + short_spaces_len(rest)
+}
+
+/// How many spaces stand at the front.
+#[inline(always)]
+pub fn spaces_len(bytes: &[u8]) -> usize
+    ensures len { result ≡ prefix_len is_space bytes.now }
+    ensures within { result ≤ length bytes.now }
+{
+    if bytes.len() >= LANES {
+        let run = space_lanes(bytes);
+        if run < LANES {
+            return run;
+        }
+    }
+    long_spaces_len(bytes)
+}
+
+/// How many bytes a comment goes on in its line.
+#[inline]
+fn line_len(bytes: &[u8]) -> usize
+    ensures len { result ≡ prefix_len lexical.is_in_line bytes.now }
+    ensures within { result ≤ length bytes.now }
+{
+    bytes.iter().take_while(|b| is_in_line(**b)).count()
+}
+
+/// The byte at `index`, or 0 past the end.
+#[inline(always)]
+pub fn byte_at(bytes: &[u8], index: usize) -> u8
+    ensures { result ≡ slice_index bytes.now index }
+{
+    bytes.get(index).copied().unwrap_or(0)
+}
+
+/// What stands after the `#` of a comment.
+#[inline(never)]
+#[tactic(auto, unfolding(crate::specs::steps::Front::comment))]
+fn comment(bytes: &[u8]) -> Piece
+    requires { length bytes.now < 2 ^ 62 }
+    ensures { result ≡ spec.comment bytes.now }
+{
+    let len = line_len(bytes);
+    match bytes[len..].split_first() {
+        None => Piece::Skips(len + 1, Move::Stay),
+        Some((byte, rest)) => {
+            if *byte == b'\r' && byte_at(rest, 0) == b'\n' {
+                Piece::Skips(len + 3, Move::Down)
+            } else {
+                Piece::Skips(len + 2, Move::Down)
+            }
+        }
+    }
+}
+
+/// What stands after the `#` of a comment, as ignored text.
+#[inline(always)]
+#[tactic(auto, unfolding(crate::specs::steps::Front::comment))]
+fn comment_at(bytes: &[u8]) -> Option<(usize, Move)>
+    requires { length bytes.now < 2 ^ 62 }
+    ensures { result ≡ ignored (spec.comment bytes.now) }
+{
+    match comment(bytes) {
+        Piece::Skips(len, by) => Some((len, by)),
+        _ => None,
+    }
+}
+
+/// What stands at the front where that is a dot.
+#[inline]
+fn dots(bytes: &[u8]) -> Piece
+    ensures { result ≡ spec.dots bytes.now }
+{
+    if byte_at(bytes, 1) == b'.' && byte_at(bytes, 2) == b'.' {
+        Piece::Takes(3, Kind::Punctuator, Nesting::Level)
+    } else {
+        Piece::Stops
+    }
+}
+
+/// The token at the front of a text that begins with this byte, which begins no name.
+#[tactic(auto, unfolding(crate::specs::steps::Front::token_of))]
+#[inline(always)]
+fn token_of(byte: u8, bytes: &[u8]) -> Piece
+    requires some { 0 < length bytes.now }
+    requires small { length bytes.now < 2 ^ 62 }
+    ensures { result ≡ spec.token_of byte bytes.now }
+{
+    if is_mark(byte) {
+        Piece::Takes(1, Kind::Punctuator, nesting_of(byte))
+    } else if byte == b'"' {
+        quoted(bytes)
+    } else if byte == b'.' {
+        dots(bytes)
+    } else if byte == b'-' || byte.is_ascii_digit() {
+        number(bytes)
+    } else {
+        Piece::Stops
+    }
+}
+
+/// What stands at the front of these bytes.
+#[inline(never)]
+#[tactic(auto, unfolding(crate::specs::steps::Front::front))]
+fn piece_of(bytes: &[u8]) -> Piece
+    requires { length bytes.now < 2 ^ 62 }
+    ensures { result ≡ spec.front bytes.now }
+{
+    match bytes.split_first() {
+        None => Piece::AtEnd,
+        Some((byte, rest)) => {
+            if *byte == b'\t' {
+                Piece::Skips(1, Move::Over(8))
+            } else if *byte == b'\n' {
+                Piece::Skips(1, Move::Down)
+            } else if *byte == b'\r' {
+                Piece::Skips(1, Move::Stay)
+            } else if *byte == b' ' || *byte == b',' {
+                Piece::Skips(1, Move::Over(1))
+            } else if is_name_start(*byte) {
+                Piece::Takes(name_len(rest) + 1, Kind::Name, Nesting::Level)
+            } else if *byte == b'#' {
+                comment(rest)
+            } else if *byte == 0xEF && (byte_at(rest, 0) == 0xBB && byte_at(rest, 1) == 0xBF) {
+                Piece::Skips(3, Move::Stay)
+            } else {
+                token_of(*byte, bytes)
+            }
+        }
+    }
+}
+
+/// The token at the front of these bytes: its length, its kind, and how it changes the number of open brackets.
+#[inline(always)]
+fn token_bytes(bytes: &[u8]) -> Option<(usize, Kind, Nesting)>
+    requires { length bytes.now < 2 ^ 62 }
+    ensures { result ≡ taken (spec.front bytes.now) }
+{
+    if let Some((byte, rest)) = bytes.split_first() {
+        if is_name_start(*byte) {
+            return Some((name_len(rest) + 1, Kind::Name, Nesting::Level));
+        }
+        if is_mark(*byte) {
+            return Some((1, Kind::Punctuator, nesting_of(*byte)));
+        }
+    }
+    match piece_of(bytes) {
+        Piece::Takes(len, kind, nesting) => Some((len, kind, nesting)),
+        _ => None,
+    }
+}
+
+/// The token at the front of a text.
+#[inline(always)]
+#[tactic(auto, using(crate::proofs::Tokens::taken_fits))]
+pub fn token_at(text: &str) -> Option<(usize, Kind, Nesting)>
+    requires { length text.now < 2 ^ 62 }
+    ensures is { result ≡ taken (spec.front text.now) }
+    ensures fits { FitsTaken text.now result }
+{
+    token_bytes(text.as_bytes())
+}
+
+#[inline(always)]
+fn is_blank(byte: u8) -> bool
+    ensures { result ≡ is_blank byte }
+{
+    byte == b' ' || byte == b','
+}
+
+#[inline(always)]
+fn is_order_mark(byte: u8, rest: &[u8]) -> bool
+    ensures { result ≡ is_order_mark byte rest.now }
+{
+    byte == 0xEF && (byte_at(rest, 0) == 0xBB && byte_at(rest, 1) == 0xBF)
+}
+
+/// The ignored text at the front: its length in bytes, and how it moves the position.
+#[inline(always)]
+#[tactic(auto, unfolding(crate::specs::steps::Front::front))]
+fn ignored_bytes(bytes: &[u8]) -> Option<(usize, Move)>
+    requires { length bytes.now < 2 ^ 62 }
+    ensures { result ≡ ignored (spec.front bytes.now) }
+{
+    match bytes.split_first() {
+        None => None,
+        Some((byte, rest)) => {
+            if *byte == b'\t' {
+                Some((1, Move::Over(8)))
+            } else if *byte == b'\n' {
+                Some((1, Move::Down))
+            } else if *byte == b'\r' {
+                Some((1, Move::Stay))
+            } else if is_blank(*byte) {
+                Some((1, Move::Over(1)))
+            } else if *byte == b'#' {
+                comment_at(rest)
+            } else if is_order_mark(*byte, rest) {
+                Some((3, Move::Stay))
+            } else {
+                None
+            }
+        }
+    }
+}
+
+/// Whether it is a line feed, a space or a comma.
+#[inline(always)]
+pub fn is_plain(byte: u8) -> bool
+    ensures { result ≡ is_plain byte }
+{
+    byte == b' ' || byte == b'\n' || byte == b','
+}
+
+/// Whether other ignored text begins with this byte.
+#[inline(always)]
+pub fn is_rare(byte: u8) -> bool
+    ensures { result ≡ is_rare byte }
+{
+    byte == b'\t' || byte == b'\r' || byte == b'#' || byte == 0xEF
+}
+
+/// The ignored text at the front of a text.
+#[inline(always)]
+#[tactic(auto, using(crate::proofs::Spaces::ignored_fits))]
+pub fn ignored_of(text: &str) -> Option<(usize, Move)>
+    requires { length text.now < 2 ^ 62 }
+    ensures is { result ≡ ignored (spec.front text.now) }
+    ensures fits { FitsIgnored text.now result }
+{
+    ignored_bytes(text.as_bytes())
+}
+
+/// How many spaces stand at the front of a text.
+#[inline(always)]
+#[tactic(auto, using(crate::proofs::Spaces::spaces_boundary))]
+pub fn spaces_of(text: &str) -> usize
+    ensures len { result ≡ prefix_len is_space text.now }
+    ensures within { result ≤ length text.now }
+    ensures cuts { IsCharBoundary text.now result }
+{
+    spaces_len(text.as_bytes())
+}

@@ -1,0 +1,83 @@
+//! Strings and block strings.
+ghost use Rattle.std.specs.Prelude.{◌≡◌, ◌<◌, ◌≤◌, ◌^◌, false, length, IfSome};
+ghost use Rattle.graphql_lexer.specs.Lexical as lexical;
+ghost use Rattle.graphql_lexer.specs.steps.Quoted as spec;
+
+use crate::tokenizer::piece::{Nesting, Piece, byte_at};
+use crate::tokenizer::token::Kind;
+
+/// Whether three quotes stand at the front.
+#[inline]
+pub fn begins_quotes(bytes: &[u8]) -> bool
+    ensures { result ≡ lexical.begins_quotes bytes.now }
+{
+    byte_at(bytes, 0) == b'"' && (byte_at(bytes, 1) == b'"' && byte_at(bytes, 2) == b'"')
+}
+
+/// Whether an escape of three quotes stands at the front.
+#[inline]
+fn begins_escape(bytes: &[u8]) -> bool
+    ensures { result ≡ lexical.begins_escape bytes.now }
+{
+    match bytes.split_first() {
+        None => false,
+        Some((byte, rest)) => *byte == b'\\' && begins_quotes(rest),
+    }
+}
+
+/// The bytes up to and with the closing quote, after the opening quote of a string.
+fn string_len(bytes: &[u8]) -> Option<usize>
+    requires { length bytes.now < 2 ^ 62 }
+    ensures end { result ≡ spec.string_end 0 false bytes.now }
+    ensures within { IfSome result (λ n. n ≤ length bytes.now) }
+{
+    let mut is_escaped = false;
+    'characters: for (index, byte) in bytes.iter().enumerate() {
+        if *byte == b'\n' {
+            return None;
+        }
+        if !is_escaped && *byte == b'"' {
+            return Some(index + 1);
+        }
+        is_escaped = !is_escaped && *byte == b'\\';
+    }
+    None
+}
+
+/// The bytes up to and with the closing quotes, after the opening quotes of a block string.
+fn block_len(bytes: &[u8]) -> Option<usize>
+    requires { length bytes.now < 2 ^ 62 }
+    ensures end { result ≡ spec.block_end 0 0 bytes.now }
+    ensures within { IfSome result (λ n. n ≤ length bytes.now) }
+{
+    let mut len = 0;
+    'units: while len < bytes.len() {
+        let rest = &bytes[len..];
+        if begins_quotes(rest) {
+            return Some(len + 3);
+        }
+        len += if begins_escape(rest) { 4 } else { 1 };
+    }
+    None
+}
+
+/// The string at the front, after a quote, if it ends.
+#[tactic(auto, unfolding(crate::specs::steps::Quoted::quoted))]
+#[inline(never)]
+pub fn quoted(bytes: &[u8]) -> Piece
+    requires some { 0 < length bytes.now }
+    requires small { length bytes.now < 2 ^ 62 }
+    ensures { result ≡ spec.quoted bytes.now }
+{
+    if begins_quotes(bytes) {
+        match block_len(&bytes[3..]) {
+            Some(len) => Piece::Takes(len + 3, Kind::BlockString, Nesting::Level),
+            None => Piece::Stops,
+        }
+    } else {
+        match string_len(&bytes[1..]) {
+            Some(len) => Piece::Takes(len + 1, Kind::StringValue, Nesting::Level),
+            None => Piece::Stops,
+        }
+    }
+}

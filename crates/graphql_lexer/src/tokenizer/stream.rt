@@ -1,0 +1,342 @@
+//! A text as a stream of tokens.
+ghost use Rattle.std.specs.Prelude.{◌≡◌, ℕ, List, ◌+◌, ◌-◌, ◌*◌, ◌/◌, ◌<◌, ◌≤◌, ◌^◌, length, slice_index};
+ghost use Rattle.graphql_lexer.specs.Lexical.{steps_over};
+ghost use Rattle.graphql_lexer.specs.Items.{Where, Item, moved, past, past_character, HasItems, depth_of, openers_after, closers_after, is_too_deep};
+ghost use Rattle.graphql_lexer.specs.Stream.{NextItem, further, next_place, one_more};
+ghost use Rattle.graphql_lexer.specs.steps.Front.{front, IsItem, IsFlat, is_quoted};
+ghost use Rattle.graphql_lexer.specs.steps.Cut.{items};
+ghost use Rattle.graphql_lexer.specs.steps.Ahead.{is_plain, plain_move};
+ghost use Rattle.graphql_lexer.specs.declared.tokenizer.piece.Move.TheVariants.{Over};
+
+use crate::position::Pos;
+use crate::tokenizer::piece::{
+    Move, Nesting, byte_at, ignored_of, is_plain, is_rare, spaces_of, token_at,
+};
+use crate::tokenizer::stop::bad_at;
+use crate::tokenizer::token::{Bad, Kind, Token};
+use std::marker::Model;
+
+/// The most brackets that may be open at once. An opening bracket where so many are open is a bad place.
+pub const MAX_DEPTH: usize = 50;
+
+/// The position after ignored text.
+#[inline(always)]
+fn moved(by: Move, at: Pos) -> Pos
+    requires line { at.line + 1 < 2 ^ 64 }
+    requires column { at.column + steps_over by < 2 ^ 64 }
+    ensures { result ≡ moved by at }
+{
+    match by {
+        Move::Stay => at,
+        Move::Over(steps) => Pos {
+            line: at.line,
+            column: at.column + steps,
+        },
+        Move::Down => Pos {
+            line: at.line + 1,
+            column: 1,
+        },
+    }
+}
+
+/// The position after some spaces.
+#[inline(always)]
+fn over(spaces: usize, at: Pos) -> Pos
+    requires { at.column + spaces < 2 ^ 64 }
+    ensures { result ≡ moved (Over spaces) at }
+{
+    Pos {
+        line: at.line,
+        column: at.column + spaces,
+    }
+}
+
+/// The position after a character of a token.
+#[inline]
+fn past_character(character: char, at: Pos) -> Pos
+    requires line { at.line + 1 < 2 ^ 64 }
+    requires column { at.column + 1 < 2 ^ 64 }
+    ensures { result ≡ past_character character at }
+{
+    if character == '\n' {
+        Pos {
+            line: at.line + 1,
+            column: 1,
+        }
+    } else {
+        Pos {
+            line: at.line,
+            column: at.column + 1,
+        }
+    }
+}
+
+/// The position after the characters of a token.
+#[inline(never)]
+fn past_characters(value: &str, at: Pos) -> Pos
+    requires line { at.line + length value.now < 2 ^ 62 }
+    requires column { at.column + length value.now < 2 ^ 63 }
+    ensures is { result ≡ past value.now at }
+    ensures line { result.line ≤ at.line + length value.now }
+    ensures column { result.column ≤ at.column + length value.now }
+{
+    let mut place = at;
+    'characters: for character in value.chars() {
+        place = past_character(character, place);
+    }
+    place
+}
+
+/// Whether it is a string, which may have line ends and characters of several bytes.
+#[inline(always)]
+fn is_quoted(kind: Kind) -> bool
+    ensures { result ≡ is_quoted kind }
+{
+    matches!(kind, Kind::StringValue | Kind::BlockString)
+}
+
+/// The position after a token.
+#[inline(always)]
+fn past(kind: Kind, value: &str, at: Pos) -> Pos
+    requires line { at.line + length value.now < 2 ^ 62 }
+    requires column { at.column + length value.now < 2 ^ 63 }
+    requires flat { IsFlat kind value.now }
+    ensures is { result ≡ past value.now at }
+    ensures line { result.line ≤ at.line + length value.now }
+    ensures column { result.column ≤ at.column + length value.now }
+{
+    if is_quoted(kind) {
+        past_characters(value, at)
+    } else {
+        Pos {
+            line: at.line,
+            column: at.column + value.len(),
+        }
+    }
+}
+
+/// Past the ignored text at the front, whatever it is.
+#[cold]
+#[inline(never)]
+fn skip_rare(text: &str, at: Pos) -> (&str, Pos)
+    requires small { length text.now < 2 ^ 62 }
+    requires line { at.line + length text.now < 2 ^ 62 }
+    requires column { at.column + 8 * length text.now < 2 ^ 63 }
+    ensures items { (w : Where) → w.position ≡ at
+        → items (further result.1 (length text.now - length result.0.now) w) result.0.now ≡ items w text.now }
+    ensures first { IsItem (front result.0.now) }
+    ensures within { length result.0.now ≤ length text.now }
+    ensures line { result.1.line + length result.0.now ≤ at.line + length text.now }
+    ensures column { result.1.column + 8 * length result.0.now ≤ at.column + 8 * length text.now }
+{
+    let mut rest = text;
+    let mut place = at;
+    'skips: while let Some((len, by)) = ignored_of(rest) {
+        let after = rest.split_at(len).1;
+        let spaces = spaces_of(after);
+        place = over(spaces, moved(by, place));
+        rest = after.split_at(spaces).1;
+    }
+    (rest, place)
+}
+
+/// The position after a plain ignored byte.
+#[inline(always)]
+fn past_plain(byte: u8, at: Pos) -> Pos
+    requires line { at.line + 1 < 2 ^ 64 }
+    requires column { at.column + 1 < 2 ^ 64 }
+    ensures { result ≡ moved (plain_move byte) at }
+{
+    if byte == b'\n' {
+        Pos {
+            line: at.line + 1,
+            column: 1,
+        }
+    } else {
+        Pos {
+            line: at.line,
+            column: at.column + 1,
+        }
+    }
+}
+
+/// The first byte of a text, 0 where there is none.
+#[inline(always)]
+fn front_byte(text: &str) -> u8
+    ensures { result ≡ slice_index text.now 0 }
+{
+    byte_at(text.as_bytes(), 0)
+}
+
+/// Past the ignored text at the front.
+#[inline(always)]
+fn skip_ignored(text: &str, at: Pos) -> (&str, Pos)
+    requires small { length text.now < 2 ^ 62 }
+    requires line { at.line + length text.now < 2 ^ 62 }
+    requires column { at.column + 8 * length text.now < 2 ^ 63 }
+    ensures items { (w : Where) → w.position ≡ at
+        → items (further result.1 (length text.now - length result.0.now) w) result.0.now ≡ items w text.now }
+    ensures first { IsItem (front result.0.now) }
+    ensures within { length result.0.now ≤ length text.now }
+    ensures line { result.1.line + length result.0.now ≤ at.line + length text.now }
+    ensures column { result.1.column + 8 * length result.0.now ≤ at.column + 8 * length text.now }
+{
+    let mut rest = text;
+    let mut place = at;
+    'plain: while is_plain(front_byte(rest)) {
+        place = past_plain(front_byte(rest), place);
+        let after = rest.split_at(1).1;
+        let spaces = spaces_of(after);
+        place = over(spaces, place);
+        rest = after.split_at(spaces).1;
+    }
+    if is_rare(front_byte(rest)) {
+        return skip_rare(rest, place);
+    }
+    (rest, place)
+}
+
+/// Whether a token would open a bracket after 50 that are open.
+#[inline(always)]
+fn is_too_deep(nesting: Nesting, openers: usize, closers: usize) -> bool
+    requires { closers < 2 ^ 62 }
+    ensures { (w : Where) → w.openers ≡ openers → w.closers ≡ closers → result ≡ is_too_deep nesting w }
+{
+    match nesting {
+        Nesting::Opens => openers == closers + MAX_DEPTH,
+        Nesting::Level | Nesting::Closes => false,
+    }
+}
+
+/// The opening brackets up to and with a token.
+#[inline(always)]
+fn openers_after(nesting: Nesting, openers: usize) -> usize
+    requires { openers < 2 ^ 62 }
+    ensures { result ≡ openers_after nesting openers }
+{
+    match nesting {
+        Nesting::Opens => openers + 1,
+        Nesting::Level | Nesting::Closes => openers,
+    }
+}
+
+/// The closing brackets up to and with a token.
+#[inline(always)]
+fn closers_after(nesting: Nesting, closers: usize) -> usize
+    requires { closers < 2 ^ 62 }
+    ensures { result ≡ closers_after nesting closers }
+{
+    match nesting {
+        Nesting::Closes => closers + 1,
+        Nesting::Level | Nesting::Opens => closers,
+    }
+}
+
+/// The tokens of a text, one after another, and then its end or its first bad place.
+#[derive(Drop)]
+pub struct TokenStream<'a> {
+    rest: &'a str,
+    position: Pos,
+    offset: usize,
+    openers: usize,
+    closers: usize,
+    cuts: usize,
+}
+
+impl<'a> Model for TokenStream<'a> {
+    ghost use Rattle.std.specs.Prelude.{ℕ, ◌+◌, ◌*◌, ◌<◌, ◌≤◌, ◌^◌, length};
+    ghost use Rattle.graphql_lexer.specs.steps.Front.{front, IsItem};
+    ghost use Rattle.graphql_lexer.specs.steps.Cut.{items};
+    ghost use Rattle.graphql_lexer.specs.Items.{Stream};
+
+    ghost Value = { Stream };
+
+    ghost view = { λ s. record {
+      items = items (record { position = s.position; offset = s.offset; openers = s.openers; closers = s.closers }) s.rest.now;
+      cuts = s.cuts;
+    } };
+
+    ghost invariant = { λ s. (s.offset + length s.rest.now < 2 ^ 62) × (s.position.line + length s.rest.now < 2 ^ 62)
+        × (s.position.column + 8 * length s.rest.now < 2 ^ 63) × (s.openers ≤ s.offset) × (s.closers ≤ s.offset) × IsItem (front s.rest.now) };
+}
+
+impl<'a> TokenStream<'a> {
+    /// The stream of a text's items.
+    ///
+    /// The text has at most `usize::MAX / 16` bytes.
+    pub fn new(source: &'a str) -> Self
+        requires { length source.now ≤ usize.MAX / 16 }
+        ensures items { HasItems source.now result.items }
+        ensures only { (others : List Item) → HasItems source.now others → others ≡ result.items }
+        ensures cuts { result.cuts ≡ 0 }
+    {
+        let start = Pos { line: 1, column: 1 };
+        let (rest, position) = skip_ignored(source, start);
+        TokenStream {
+            rest,
+            position,
+            offset: source.len() - rest.len(),
+            openers: 0,
+            closers: 0,
+            cuts: 0,
+        }
+    }
+
+    /// The next token, `None` at the end, an error at a bad place.
+    ///
+    /// At the end and at a bad place the stream stays, and the next call answers the same.
+    #[inline(always)]
+    pub fn next_token(&mut self) -> Result<Option<Token<'a>>, Bad<'a>>
+        ensures item { NextItem self.old.items result self.new.items }
+        ensures cuts { self.new.cuts ≡ one_more self.old.cuts }
+    {
+        self.cuts = self.cuts.saturating_add(1);
+        let Some((len, kind, nesting)) = token_at(self.rest) else {
+            if self.rest.is_empty() {
+                return Ok(None);
+            }
+            return Err(bad_at(self.rest));
+        };
+        if is_too_deep(nesting, self.openers, self.closers) {
+            return Err(Bad::TooDeep);
+        }
+        let (value, after) = self.rest.split_at(len);
+        let end = past(kind, value, self.position);
+        let (rest, position) = skip_ignored(after, end);
+        self.offset += self.rest.len() - rest.len();
+        self.rest = rest;
+        self.position = position;
+        self.openers = openers_after(nesting, self.openers);
+        self.closers = closers_after(nesting, self.closers);
+        Ok(Some(Token { kind, value }))
+    }
+
+    /// The position of the next item, after ignored text.
+    #[inline(always)]
+    pub fn position(&self) -> Pos
+        ensures { result ≡ (next_place self.now.items).position }
+    {
+        self.position
+    }
+
+    /// The offset of the next item in the text, in bytes.
+    pub fn offset(&self) -> usize
+        ensures { result ≡ (next_place self.now.items).offset }
+    {
+        self.offset
+    }
+
+    /// The opening brackets before the next item, less the closing ones.
+    pub fn depth(&self) -> isize
+        ensures { result ≡ depth_of (next_place self.now.items) }
+    {
+        self.openers as isize - self.closers as isize
+    }
+
+    /// How many times `next_token` was called; the count stops at `usize::MAX`.
+    pub fn cuts(&self) -> usize
+        ensures { result ≡ self.now.cuts }
+    {
+        self.cuts
+    }
+}

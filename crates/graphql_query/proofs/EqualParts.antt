@@ -1,0 +1,33 @@
+-- Trees of the same parts are the same.
+use Rattle.std.proofs.Common.{◌≡◌, ℕ, List, Option, refl}
+use Rattle.graphql_grammar.specs.Tokens.{Place}
+use Rattle.graphql_values.specs.Values.{ValueTree, TypeTree, DirectiveTree}
+use Rattle.graphql_query_tree.specs.Tree.{SelectionSetTree, OperationKind, VariableDefinitionTree, OperationTree, FragmentDefinitionTree}
+use Rattle.graphql_query_tree.specs.Meanings.{OperationBodyTree}
+
+abbrev variable : Place → List ℕ → TypeTree → Option ValueTree → VariableDefinitionTree
+variable p n t v = record { position = p; name = n; var_type = t; default_value = v }
+
+pub same_variable_definition : {p q : Place} {n m : List ℕ} {t u : TypeTree} {v w : Option ValueTree} → q ≡ p → m ≡ n → t ≡ u → v ≡ w
+    → variable p n t v ≡ variable q m u w
+same_variable_definition a b c d = rw (a, b, c, d) refl
+
+abbrev common : Option (List ℕ) → List VariableDefinitionTree → List DirectiveTree → SelectionSetTree → OperationBodyTree
+common n vs ds s = record { name = n; variables = vs; directives = ds; selected = s }
+
+pub same_operation_body : {n m : Option (List ℕ)} {vs ws : List VariableDefinitionTree} {ds es : List DirectiveTree} {s t : SelectionSetTree} → n ≡ m
+    → vs ≡ ws → ds ≡ es → s ≡ t → common n vs ds s ≡ common m ws es t
+same_operation_body a b c d = rw (a, b, c, d) refl
+
+abbrev pub operation : OperationKind → Place → OperationBodyTree → OperationTree
+operation k p c = record { kind = k; position = p; name = c.name; variables = c.variables; directives = c.directives; selected = c.selected }
+
+pub same_operation : (k : OperationKind) {p q : Place} {c d : OperationBodyTree} → q ≡ p → c ≡ d → operation k p c ≡ operation k q d
+same_operation k a b = rw (a, b) refl
+
+abbrev fragment : Place → List ℕ → List ℕ → List DirectiveTree → SelectionSetTree → FragmentDefinitionTree
+fragment p n c ds s = record { position = p; name = n; condition = c; directives = ds; selected = s }
+
+pub same_fragment_definition : {p q : Place} {n m c d : List ℕ} {ds es : List DirectiveTree} {s t : SelectionSetTree} → q ≡ p → m ≡ n → c ≡ d → ds ≡ es
+    → s ≡ t → fragment p n c ds s ≡ fragment q m d es t
+same_fragment_definition a b c d e = rw (a, b, c, d, e) refl

@@ -1,0 +1,165 @@
+-- Which side of each choice of selections is read, and what is read there means.
+use Rattle.std.proofs.Common.{◌≡◌, ◌||◌, ℕ, true, false, List, [], ◌∷◌, Result, Ok, Err, Option, Some, None, refl, sym, ap, ◌∙◌, codes}
+use Rattle.std.proofs.Math.Bool.{or-false}
+use Rattle.graphql_grammar.specs.Tokens.{Token, Place, Class, matches}
+use Rattle.graphql_grammar.specs.Trees.{Expr, Empty, One, Then, Either, Many, Sym, Shape, Leaf, Both, First, Second, Nothing, Node, Grammar, optional, peek}
+use Rattle.graphql_grammar.specs.Tables.{first}
+use Rattle.graphql_grammar.specs.Reading.{sees, Takes, takes_nothing, takes_leaf, takes_both, takes_first, takes_second, takes_stop, takes_node, fails_one}
+use Rattle.graphql_grammar.specs.Reading.{fails_before, fails_after, fails_node}
+use Rattle.graphql_grammar.specs.ReaderWords.{values}
+use Rattle.graphql_grammar.specs.Factored.{written}
+use Rattle.graphql_grammar.proofs.Items.{sees-within}
+use Rattle.graphql_core.specs.declared.helpers.stop.Stop.{Stop}
+use Rattle.graphql_core.specs.declared.helpers.stop.Stop.TheVariants.{Memory, Item, Integer, Float, Escape}
+use Rattle.graphql_lexer.specs.declared.tokenizer.token.Kind.TheVariants.{Name}
+use Rattle.graphql_core.specs.Source.{Items}
+use Rattle.graphql_core.specs.steps.Matching.{TakesOne, TakesToken, sees_class}
+use Rattle.graphql_values.specs.steps.Answers.{Gives}
+use Rattle.graphql_values.specs.Grammar.{tables as shared_tables, any, keyword, mark, name, directive_symbol}
+use Rattle.graphql_values.specs.Meanings.{optional_arguments_of, directives_of}
+use Rattle.graphql_values.specs.Values.{DirectiveTree}
+use Rattle.graphql_values.proofs.Reading.{FailsUnseen, unseen_one, unseen_then, takes_one, stops_one, takes_none, one_of, many_means}
+use Rattle.graphql_values.proofs.Alternatives.{IsSide, through, side_node, side_first, side_second, side_left, side_right, unseen_symbol}
+use Rattle.graphql_query_tree.specs.Grammar.{reading, changes, tables, spread_class, type_condition_symbol, selection_set_symbol, field_symbol}
+use Rattle.graphql_query_tree.specs.Grammar.{selection_symbol, fragment_spread_rest, inline_fragment_rest}
+use Rattle.graphql_query_tree.specs.Meanings.{field_of, selected_of, selection_of, selections_of}
+use Rattle.graphql_query.specs.steps.Reads.{renamed, after_dots_of}
+use Rattle.graphql_query_tree.specs.Tree.{Arguments, SelectionTree, SelectionSetTree, field, inline, more, trees_of}
+
+-- ---- single tokens
+
+pub gives_one : {A : Type 0} (g : Grammar) (c : Class) (old new : Items) (P : A → Token → Type 0) (Q : A → Shape → Type 0) (r : Result A Stop)
+    → ((t : Token) → g.good c t ≡ true)
+    → ((v : A) (t : Token) → TakesToken c old new t → P v t → Q v (Leaf t)) → TakesOne c old new P r → Gives g (One c) old new Q r
+gives_one g c old new P Q (Ok v) good means (t, h, p) = (Leaf t, takes_one g c old new t (good t) h, means v t h p)
+gives_one g c old new P Q (Err d) good means h = stops_one g c old new d h
+
+-- ---- names
+
+-- a colon and another name
+abbrev pub renaming : Expr
+renaming = optional (Then (One (mark (codes ":"))) name)
+
+abbrev pub on : Class
+on = keyword (codes "on")
+
+-- a name, where it is seen that it is one of a spread
+pub narrowed : {A : Type 0} (old new : Items) (P : A → Token → Type 0) (r : Result A Stop) → sees_class spread_class old ≡ true
+    → TakesOne (any Name) old new P r → TakesOne spread_class old new P r
+narrowed old new P (Ok v) seen (t, h, p) = (
+  t,
+  record {
+    of_class = sym (or-false (matches spread_class t)) ∙ ap (λ ts. sees (spread_class ∷ []) (peek ts)) (sym h.tokens)
+        ∙ seen;
+    tokens = h.tokens;
+    kept = h.kept;
+  },
+  p,
+)
+narrowed old new P (Err Memory) seen h = h
+narrowed old new P (Err Item) seen (same, unseen) = (same, sees-within (spread_class ∷ []) (any Name ∷ []) (peek old.tokens) refl unseen)
+narrowed old new P (Err Integer) seen h = h
+narrowed old new P (Err Float) seen h = h
+narrowed old new P (Err Escape) seen h = h
+
+-- ---- what may be missing
+
+pub some_type_condition : (ts : List Token) → sees (on ∷ []) (peek ts) ≡ true
+    → IsSide reading (optional (Sym type_condition_symbol)) (Sym type_condition_symbol) First ts
+unfolding tables
+some_type_condition ts seen = side_first reading (Sym type_condition_symbol) Empty on ts refl seen
+
+pub no_type_condition : (ts : List Token) → sees (on ∷ []) (peek ts) ≡ false → Takes reading (optional (Sym type_condition_symbol)) ts (Second Nothing) ts
+unfolding tables
+no_type_condition ts unseen = takes_none reading (Sym type_condition_symbol) ts refl unseen
+
+pub some_selection_set : (ts : List Token) → sees (mark (codes "{") ∷ []) (peek ts) ≡ true
+    → IsSide reading (optional (Sym selection_set_symbol)) (Sym selection_set_symbol) First ts
+unfolding tables
+some_selection_set ts seen = side_first reading (Sym selection_set_symbol) Empty (mark (codes "{")) ts refl seen
+
+pub no_selection_set : (ts : List Token) → sees (mark (codes "{") ∷ []) (peek ts) ≡ false
+    → Takes reading (optional (Sym selection_set_symbol)) ts (Second Nothing) ts
+unfolding tables
+no_selection_set ts unseen = takes_none reading (Sym selection_set_symbol) ts refl unseen
+
+-- ---- the sides of a selection
+
+abbrev pub dots : Class
+dots = mark (codes "...")
+
+abbrev pub after_dots : Expr
+after_dots = Either fragment_spread_rest inline_fragment_rest
+
+abbrev pub dots_rule : Expr
+dots_rule = Then (One dots) after_dots
+
+pub unseen_field : (ts : List Token) → FailsUnseen reading (Sym field_symbol) ts
+unfolding tables
+unseen_field ts = unseen_symbol reading field_symbol ts refl (unseen_then reading name _ ts refl (unseen_one reading _ ts))
+
+pub field_side : (ts : List Token) → sees (dots ∷ []) (peek ts) ≡ false
+    → IsSide reading (Sym selection_symbol) (Sym field_symbol) (λ x. Node selection_symbol (First x)) ts
+unfolding tables
+field_side ts unseen = through reading _ _ _ _ _ ts (side_node reading selection_symbol ts (λ x. refl))
+    (side_left reading (Sym field_symbol) dots_rule ts refl refl (unseen_field ts) unseen)
+
+pub dots_side : (ts : List Token) → sees (dots ∷ []) (peek ts) ≡ true
+    → IsSide reading (Sym selection_symbol) dots_rule (λ x. Node selection_symbol (Second x)) ts
+unfolding tables shared_tables
+dots_side ts seen = through reading _ _ _ _ _ ts (side_node reading selection_symbol ts (λ x. refl))
+    (side_second reading (Sym field_symbol) dots_rule dots ts refl refl seen)
+
+pub fragment_spread_side : (ts : List Token) → sees (spread_class ∷ []) (peek ts) ≡ true → IsSide reading after_dots fragment_spread_rest First ts
+unfolding tables
+fragment_spread_side ts seen = side_first reading fragment_spread_rest inline_fragment_rest spread_class ts refl seen
+
+-- what may be missing does not begin with what is not seen
+unseen_inline_fragment : (ts : List Token) → FailsUnseen reading inline_fragment_rest ts
+unfolding tables shared_tables
+unseen_inline_fragment ts h =
+    let no_brace = sees-within (mark (codes "{") ∷ []) (first reading.rows inline_fragment_rest) (peek ts) refl h in
+    let no_directive = sees-within (first reading.rows (Sym directive_symbol)) (first reading.rows inline_fragment_rest) (peek ts) refl h in
+    fails_after (no_type_condition ts (sees-within (on ∷ []) (first reading.rows inline_fragment_rest) (peek ts) refl h))
+    (fails_after (takes_node (takes_stop no_directive) refl) (fails_node (fails_before (fails_one no_brace))))
+
+pub inline_fragment_side : (ts : List Token) → sees (spread_class ∷ []) (peek ts) ≡ false → IsSide reading after_dots inline_fragment_rest Second ts
+unfolding tables shared_tables
+inline_fragment_side ts unseen = side_right reading fragment_spread_rest inline_fragment_rest ts refl refl (unseen_inline_fragment ts) unseen
+
+pub begins_selection : (item : Option Token) → sees (first reading.rows (Sym selection_symbol)) item ≡ (sees (any Name ∷ []) item || sees (dots ∷ []) item)
+unfolding tables
+begins_selection None = refl
+begins_selection (Some t) = ap (λ b. b || sees (dots ∷ []) (Some t)) (sym (or-false (matches (any Name) t)))
+
+-- ---- what is read means
+
+-- a first name, and what stands after it: the field stands at the first
+pub field_means : (n : Token) (a x y s : Shape) {ts us : List Token} → Takes reading renaming ts a us
+    → (p : Place) (first : List ℕ) (named : Option (List ℕ) × List ℕ) (arguments : Arguments) (directives : List DirectiveTree) (selected : SelectionSetTree)
+    → n.place ≡ p → n.spelling ≡ first → named ≡ renamed first (written changes a) → arguments ≡ optional_arguments_of (written changes x)
+    → directives ≡ directives_of (written changes y)
+    → selected ≡ selected_of p (written changes s)
+    → field p named.0 named.1 arguments directives selected ≡ field_of (written changes (Node field_symbol (Both (Leaf n) (Both a (Both x (Both y s))))))
+field_means n _ x y s
+    (takes_first c (takes_both (takes_leaf h) (takes_leaf k))) p first named arguments directives selected at spelled names given listed selects = rw
+    (at, spelled, names, given, listed, selects) refl
+field_means n _ x y s (takes_second c takes_nothing) p first named arguments directives selected at spelled names given listed selects = rw
+    (at, spelled, names, given, listed, selects) refl
+
+pub inline_fragment_means : (p q : Place) (c d : Option (List ℕ)) (directives others : List DirectiveTree) (s u : SelectionSetTree) → p ≡ q → c ≡ d
+    → directives ≡ others → s ≡ u → inline p c directives s ≡ inline q d others u
+inline_fragment_means p q c d directives others s u at named listed selects = rw (at, named, listed, selects) refl
+
+pub dots_mean : {ts us : List Token} {x : Shape} → Takes reading dots_rule ts x us
+    → after_dots_of (written changes x) ≡ selection_of (written changes (Node selection_symbol (Second x)))
+dots_mean (takes_both (takes_leaf h) (takes_first c p)) = refl
+dots_mean (takes_both (takes_leaf h) (takes_second c p)) = refl
+
+-- of a tree that is read
+abbrev pub selection_at : Shape → SelectionTree
+selection_at x = selection_of (written changes x)
+
+pub selections_mean : {ts us : List Token} {x : Shape} → Takes reading (Many (Sym selection_symbol)) ts x us
+    → selections_of (written changes x) ≡ trees_of (values (one_of selection_at) x)
+selections_mean h = many_means reading _ selection_at (λ x. selections_of (written changes x)) trees_of refl (λ x y vs e. ap (more (selection_at x)) e) h

@@ -1,9 +1,0 @@
-use Rattle.std.proofs.Common.{append_assoc}
-use Rattle.graphql_common.proofs.Laying.{text_append, and_last}
-use Rattle.graphql_query.proofs.print.selections.write_spread.Goals as goal
-
-pub returns : goal.returns
-returns g c =
-    let more = g.met.S.Sink.took_more in
-    let named = more _ _ _ _ _ (more _ _ _ _ _ c.in_ok-write_spaces.ensures c.in_ok-push_str.ensures) c.in_ok-push_str-2.ensures in
-    and_last g.S.Sink.took more _ _ _ _ _ _ _ (more _ _ _ _ _ named c.in_ok-write_directives.ensures) c.push_str-3.ensures (rw c.view.ensures (simp (text_append, append_assoc)))

@@ -1,0 +1,2 @@
+pub mod OperationBody
+pub mod Reads

@@ -1,0 +1,42 @@
+-- What readers of queries answer.
+use Rattle.std.specs.Prelude.{◌≡◌, ℕ, Bool, ◌||◌, List, [], Option, Some, None, Result, codes}
+use Rattle.graphql_grammar.specs.Tokens.{nowhere}
+use Rattle.graphql_grammar.specs.Trees.{Expr, Shape, Both, First, Second}
+use Rattle.graphql_grammar.specs.Factored.{written}
+use Rattle.graphql_core.specs.declared.helpers.stop.Stop.{Stop}
+use Rattle.graphql_lexer.specs.declared.position.Pos.{Pos}
+use Rattle.graphql_core.specs.Source.{Items, place_of}
+use Rattle.graphql_core.specs.steps.Matching.{sees_class}
+use Rattle.graphql_values.specs.steps.Answers.{Gives, Adds}
+use Rattle.graphql_values.specs.Grammar.{mark, keyword}
+use Rattle.graphql_values.specs.Meanings.{spelling_at}
+use Rattle.graphql_query_tree.specs.declared.tree.Selection.{Selection}
+use Rattle.graphql_query_tree.specs.Tree.{SelectionTree, SelectionSetTree, spread, set, trees_of, selection_view}
+use Rattle.graphql_query_tree.specs.Grammar.{reading, changes}
+use Rattle.graphql_query_tree.specs.Meanings.{fragment_spread_rest_of, inline_fragment_rest_of}
+
+-- it reads by the second rules, and its answer is what the written shape means
+abbrev pub Reads : {A : Type 0} → Expr → Items → Items → (A → Shape → Type 0) → Result A Stop → Type 0
+Reads e old new P r = Gives reading e old new (λ v x. P v (written changes x)) r
+
+-- selections were appended, and with this span they are the set
+abbrev pub AddsSet : {N T : Type 0} → (T → List ℕ) → List (Selection N T) → List (Selection N T) → Pos × Pos → SelectionSetTree → Type 0
+AddsSet bytes old new span tree =
+    (ss : List SelectionTree) × Adds (selection_view bytes) old new ss × (set (place_of span.0) (place_of span.1) (trees_of ss) ≡ tree)
+
+-- what stands after a first name as trees of the second rule have it: the alias where there is one, and the name
+abbrev pub renamed : List ℕ → Shape → Option (List ℕ) × List ℕ
+renamed first (First (Both c n)) = (Some first, spelling_at n)
+renamed first _ = (None, first)
+
+-- and what stands in a selection that begins with dots
+abbrev pub after_dots_of : Shape → SelectionTree
+after_dots_of (Both dots (First rest)) = fragment_spread_rest_of rest
+after_dots_of (Both dots (Second rest)) = inline_fragment_rest_of rest
+after_dots_of _ = spread nowhere [] []
+
+-- a definition begins with the next item
+abbrev pub sees_definition : Items → Bool
+sees_definition i =
+    sees_class (mark (codes "{")) i || sees_class (keyword (codes "query")) i || sees_class (keyword (codes "mutation")) i
+    || sees_class (keyword (codes "subscription")) i || sees_class (keyword (codes "fragment")) i

@@ -1,0 +1,109 @@
+-- The brackets of a document are those that its layout opens at once.
+use Rattle.std.proofs.Common.{ℕ, ◌+◌, max, List, [], ◌∷◌, ◌++◌, Option, Some, None, refl, arith}
+use Rattle.std.specs.Option.{option_map_or}
+use Rattle.graphql_core.specs.Style.{Layout}
+use Rattle.graphql_core.specs.Parts.{Part, ignored}
+use Rattle.graphql_core.proofs.Depths.{Rises, rises_as, none_rise, flat_rise, gap_rises, level_rises, both_rise, gap_sinks, closer_sinks, both_sink}
+use Rattle.graphql_core.proofs.Depths.{opener_rises}
+use Rattle.graphql_values.specs.Values.{ValueTree}
+use Rattle.graphql_values.specs.Printable.{most, value_brackets}
+use Rattle.graphql_values.proofs.Depths.{value_rises, type_rises, arguments_rise, directives_rise}
+use Rattle.graphql_query_tree.specs.Tree.{SelectionTree, field, spread, inline, SelectionSetTree, set, SelectionTrees, none, more, VariableDefinitionTree}
+use Rattle.graphql_query_tree.specs.Tree.{DefinitionTree, short, operation, fragment, DocumentTree}
+use Rattle.graphql_query_tree.specs.Printable.{selection_brackets, selected_brackets, selection_set_brackets, selections_brackets, variable_definition_brackets}
+use Rattle.graphql_query_tree.specs.Printable.{variable_definitions_brackets}
+use Rattle.graphql_query_tree.specs.Printable.{definition_brackets}
+use Rattle.graphql_values.specs.Lines.{in_braces}
+use Rattle.graphql_query_tree.specs.Layout.{alias_layout, type_condition_layout, on_layout, selection_layout, selected_layout, selection_set_layout}
+use Rattle.graphql_query_tree.specs.Layout.{selections_layout}
+use Rattle.graphql_query_tree.specs.Layout.{operation_name_layout, default_layout, variable_definition_layout, later_variable_definitions}
+use Rattle.graphql_query_tree.specs.Layout.{variable_definitions_layout}
+use Rattle.graphql_query_tree.specs.Layout.{definition_layout, later_definitions, document_layout}
+
+-- ---- selections
+
+braces_rise : {n : ℕ} {lines : List Part} (margin : ℕ) → Rises n lines → Rises (n + 1) (in_braces margin lines)
+braces_rise {n} margin h =
+    rises_as {m = max n 0 + 1} {n = n + 1} (omega arith)
+    (opener_rises refl (gap_sinks _ (both_sink h (gap_sinks _ (closer_sinks refl (gap_rises _ none_rise))))))
+
+alias_rises : (alias : Option (List ℕ)) → Rises 0 (alias_layout alias)
+alias_rises None = none_rise
+alias_rises (Some a) = level_rises refl (level_rises refl (gap_rises _ none_rise))
+
+type_condition_rises : (c : List ℕ) → Rises 0 (type_condition_layout c)
+type_condition_rises c = level_rises refl (gap_rises _ (level_rises refl none_rise))
+
+on_rises : (condition : Option (List ℕ)) → Rises 0 (on_layout condition)
+on_rises None = none_rise
+on_rises (Some c) = gap_rises _ (type_condition_rises c)
+
+line_end_rises : {n : ℕ} {ps : List Part} (text : List ℕ) → Rises n ps → Rises n (ps ++ ignored text ∷ [])
+line_end_rises {n} text h = rises_as {m = max n 0} {n = n} (omega arith) (both_rise h (gap_rises text none_rise))
+
+mutual
+  pub selection_rises : (style : Layout) (margin : ℕ) (s : SelectionTree) → Rises (selection_brackets s) (selection_layout style margin s)
+  selection_rises style margin (field p alias n arguments ds s) =
+      gap_rises _ (flat_rise (alias_rises alias)
+      (level_rises refl (both_rise (arguments_rise style margin arguments) (both_rise (directives_rise style margin ds) (selected_rises style margin s)))))
+  selection_rises style margin (spread p n ds) = gap_rises _ (level_rises refl (level_rises refl (line_end_rises _ (directives_rise style margin ds))))
+  selection_rises style margin (inline p condition ds s) =
+      gap_rises _ (level_rises refl
+      (flat_rise (on_rises condition) (both_rise (directives_rise style margin ds) (gap_rises _ (selection_set_rises style margin s)))))
+
+  pub selected_rises : (style : Layout) (margin : ℕ) (s : SelectionSetTree) → Rises (selected_brackets s) (selected_layout style margin s)
+  selected_rises style margin (set o c none) = gap_rises _ none_rise
+  selected_rises style margin (set o c (more s ss)) = gap_rises _ (braces_rise margin (selections_rise style (margin + style.indent) (more s ss)))
+
+  pub selection_set_rises : (style : Layout) (margin : ℕ) (s : SelectionSetTree) → Rises (selection_set_brackets s) (selection_set_layout style margin s)
+  selection_set_rises style margin (set o c ss) = braces_rise margin (selections_rise style (margin + style.indent) ss)
+
+  selections_rise : (style : Layout) (margin : ℕ) (ss : SelectionTrees) → Rises (selections_brackets ss) (selections_layout style margin ss)
+  selections_rise style margin none = none_rise
+  selections_rise style margin (more s ss) = both_rise (selection_rises style margin s) (selections_rise style margin ss)
+
+-- ---- definitions
+
+default_rises : (style : Layout) (v : Option ValueTree) → Rises (option_map_or value_brackets v 0) (default_layout style v)
+default_rises style None = none_rise
+default_rises style (Some v) = gap_rises _ (level_rises refl (gap_rises _ (value_rises style 0 v)))
+
+variable_definition_rises : (style : Layout) (v : VariableDefinitionTree) → Rises (variable_definition_brackets v) (variable_definition_layout style v)
+variable_definition_rises style v =
+    level_rises refl (level_rises refl (level_rises refl (gap_rises _ (both_rise (type_rises v.var_type) (default_rises style v.default_value)))))
+
+later_rise : (style : Layout) (vs : List VariableDefinitionTree) → Rises (most variable_definition_brackets vs) (later_variable_definitions style vs)
+later_rise style [] = none_rise
+later_rise style (v ∷ vs) = gap_rises _ (both_rise (variable_definition_rises style v) (later_rise style vs))
+
+variable_definitions_rise : (style : Layout) (vs : List VariableDefinitionTree)
+    → Rises (variable_definitions_brackets vs) (variable_definitions_layout style vs)
+variable_definitions_rise style [] = none_rise
+variable_definitions_rise style (v ∷ vs) =
+    let m = variable_definition_brackets v in
+    let n = most variable_definition_brackets vs in
+    rises_as {m = max m (max n 0) + 1} {n = max m n + 1} (omega arith)
+    (opener_rises refl (both_sink (variable_definition_rises style v) (both_sink (later_rise style vs) (closer_sinks refl none_rise))))
+
+name_rises : (n : Option (List ℕ)) → Rises 0 (operation_name_layout n)
+name_rises None = none_rise
+name_rises (Some n) = gap_rises _ (level_rises refl none_rise)
+
+definition_rises : (style : Layout) (d : DefinitionTree) → Rises (definition_brackets d) (definition_layout style d)
+definition_rises style (short s) = selection_set_rises style 0 s
+definition_rises style (operation o) =
+    level_rises refl (flat_rise (name_rises o.name)
+    (both_rise (variable_definitions_rise style o.variables)
+    (both_rise (directives_rise style 0 o.directives) (gap_rises _ (selection_set_rises style 0 o.selected)))))
+definition_rises style (fragment f) =
+    level_rises refl (gap_rises _ (level_rises refl
+    (gap_rises _ (flat_rise (type_condition_rises f.condition)
+    (both_rise (directives_rise style 0 f.directives) (gap_rises _ (selection_set_rises style 0 f.selected)))))))
+
+later_definitions_rise : (style : Layout) (ds : DocumentTree) → Rises (most definition_brackets ds) (later_definitions style ds)
+later_definitions_rise style [] = none_rise
+later_definitions_rise style (d ∷ ds) = gap_rises _ (both_rise (definition_rises style d) (later_definitions_rise style ds))
+
+pub document_rises : (style : Layout) (d : DocumentTree) → Rises (most definition_brackets d) (document_layout style d)
+document_rises style [] = none_rise
+document_rises style (d ∷ ds) = both_rise (definition_rises style d) (later_definitions_rise style ds)

@@ -1,0 +1,184 @@
+-- What queries mean but for positions does not hang on places.
+use Rattle.std.proofs.Common.{◌≡◌, ◌∷◌, map, Some, refl, ap}
+use Rattle.graphql_grammar.specs.Tokens.{Token, Class, Spelled, AnyOf, Except, Place}
+use Rattle.graphql_grammar.specs.Trees.{Shape, Both, First, Second, More, Node, leaves, accepts}
+use Rattle.graphql_core.specs.Minified.{unplaced}
+use Rattle.graphql_values.specs.Values.{no_place}
+use Rattle.graphql_values.specs.Meanings.{first_place, place_at}
+use Rattle.graphql_values.proofs.Bare.{bare}
+use Rattle.graphql_values.proofs.Unplaced.{IgnoresPlaces, spelling_bare, type_bare, optional_default_bare, optional_arguments_bare, directives_bare}
+use Rattle.graphql_query_tree.specs.Grammar.{query}
+use Rattle.graphql_query_tree.specs.Document.{queries}
+use Rattle.graphql_query_tree.specs.Tree.{field, spread, inline, set, more, OperationKind, query_kind, mutation_kind, subscription_kind, short, operation}
+use Rattle.graphql_query_tree.specs.Tree.{fragment}
+use Rattle.graphql_query_tree.specs.Tree.{erase_selection, erase_selection_set, erase_selections, erase_variable_definition, erase_operation}
+use Rattle.graphql_query_tree.specs.Tree.{erase_fragment_definition}
+use Rattle.graphql_query_tree.specs.Tree.{erase_definition, erase}
+use Rattle.graphql_query_tree.specs.Meanings.{alias_of, type_condition_of, optional_type_condition_of, spread_name_of, fragment_spread_rest_of}
+use Rattle.graphql_query_tree.specs.Meanings.{fragment_spread_of, field_of}
+use Rattle.graphql_query_tree.specs.Meanings.{selected_of, inline_fragment_rest_of, inline_fragment_of, selection_of, selection_set_of, selections_of}
+use Rattle.graphql_query_tree.specs.Meanings.{variable_definition_of}
+use Rattle.graphql_query_tree.specs.Meanings.{each_variable_definition_of, variable_definitions_of, optional_variable_definitions_of, optional_name_of}
+use Rattle.graphql_query_tree.specs.Meanings.{operation_body_of, keyword_of, operation_of}
+use Rattle.graphql_query_tree.specs.Meanings.{fragment_definition_of, definition_of, definitions_of, document_of}
+
+-- ---- what selections mean
+
+alias_bare : (x : Shape) → alias_of (bare x) ≡ alias_of x
+alias_bare (First (Node k (Both n c))) = ap Some (spelling_bare n)
+alias_bare _ = refl
+
+type_condition_bare : (x : Shape) → type_condition_of (bare x) ≡ type_condition_of x
+type_condition_bare (Node k (Both o n)) = spelling_bare n
+type_condition_bare _ = refl
+
+optional_type_condition_bare : (x : Shape) → optional_type_condition_of (bare x) ≡ optional_type_condition_of x
+optional_type_condition_bare (First c) = ap Some (type_condition_bare c)
+optional_type_condition_bare _ = refl
+
+spread_name_bare : (x : Shape) → (spread_name_of (bare x)).1 ≡ (spread_name_of x).1
+spread_name_bare (Node k n) = spelling_bare n
+spread_name_bare _ = refl
+
+fragment_spread_rest_bare : (x : Shape) → erase_selection (fragment_spread_rest_of (bare x)) ≡ erase_selection (fragment_spread_rest_of x)
+fragment_spread_rest_bare (Both n ds) = λ i. spread no_place (spread_name_bare n i) (directives_bare ds i)
+fragment_spread_rest_bare _ = refl
+
+fragment_spread_bare : (x : Shape) → erase_selection (fragment_spread_of (bare x)) ≡ erase_selection (fragment_spread_of x)
+fragment_spread_bare (Node k (Both dots rest)) = fragment_spread_rest_bare rest
+fragment_spread_bare _ = refl
+
+mutual
+  field_bare : (x : Shape) → erase_selection (field_of (bare x)) ≡ erase_selection (field_of x)
+  field_bare (Node k (Both a (Both n (Both arguments (Both ds s))))) =
+      λ i. field no_place (alias_bare a i) (spelling_bare n i) (optional_arguments_bare arguments i) (directives_bare ds i)
+      (selected_bare (first_place (leaves (Both (bare a) (bare n)))) (first_place (leaves (Both a n))) s i)
+  field_bare _ = refl
+
+  selected_bare : (p q : Place) (s : Shape) → erase_selection_set (selected_of p (bare s)) ≡ erase_selection_set (selected_of q s)
+  selected_bare p q (First s) = selection_set_bare s
+  selected_bare p q _ = refl
+
+  inline_fragment_rest_bare : (x : Shape) → erase_selection (inline_fragment_rest_of (bare x)) ≡ erase_selection (inline_fragment_rest_of x)
+  inline_fragment_rest_bare (Both c (Both ds s)) = λ i. inline no_place (optional_type_condition_bare c i) (directives_bare ds i) (selection_set_bare s i)
+  inline_fragment_rest_bare _ = refl
+
+  inline_fragment_bare : (x : Shape) → erase_selection (inline_fragment_of (bare x)) ≡ erase_selection (inline_fragment_of x)
+  inline_fragment_bare (Node k (Both dots rest)) = inline_fragment_rest_bare rest
+  inline_fragment_bare _ = refl
+
+  selection_bare : (x : Shape) → erase_selection (selection_of (bare x)) ≡ erase_selection (selection_of x)
+  selection_bare (Node k (First f)) = field_bare f
+  selection_bare (Node k (Second (First s))) = fragment_spread_bare s
+  selection_bare (Node k (Second (Second i))) = inline_fragment_bare i
+  selection_bare _ = refl
+
+  selection_set_bare : (x : Shape) → erase_selection_set (selection_set_of (bare x)) ≡ erase_selection_set (selection_set_of x)
+  selection_set_bare (Node k (Both o (Both ss c))) = ap (set no_place no_place) (selections_bare ss)
+  selection_set_bare _ = refl
+
+  selections_bare : (x : Shape) → erase_selections (selections_of (bare x)) ≡ erase_selections (selections_of x)
+  selections_bare (Both x xs) = λ i. more (selection_bare x i) (selections_bare xs i)
+  selections_bare (More x xs) = λ i. more (selection_bare x i) (selections_bare xs i)
+  selections_bare _ = refl
+
+-- ---- what definitions mean
+
+variable_definition_bare : (x : Shape) → erase_variable_definition (variable_definition_of (bare x)) ≡ erase_variable_definition (variable_definition_of x)
+variable_definition_bare (Node k (Both d (Both n (Both c (Both t v))))) =
+    λ i. record { position = no_place; name = spelling_bare n i; var_type = type_bare t i; default_value = optional_default_bare v i }
+variable_definition_bare _ = refl
+
+each_variable_definition_bare : (x : Shape)
+    → map erase_variable_definition (each_variable_definition_of (bare x)) ≡ map erase_variable_definition (each_variable_definition_of x)
+each_variable_definition_bare (Both x xs) = λ i. variable_definition_bare x i ∷ each_variable_definition_bare xs i
+each_variable_definition_bare (More x xs) = λ i. variable_definition_bare x i ∷ each_variable_definition_bare xs i
+each_variable_definition_bare _ = refl
+
+variable_definitions_bare : (x : Shape)
+    → map erase_variable_definition (variable_definitions_of (bare x)) ≡ map erase_variable_definition (variable_definitions_of x)
+variable_definitions_bare (Node k (Both o (Both vs c))) = each_variable_definition_bare vs
+variable_definitions_bare _ = refl
+
+optional_variable_definitions_bare : (x : Shape)
+    → map erase_variable_definition (optional_variable_definitions_of (bare x)) ≡ map erase_variable_definition (optional_variable_definitions_of x)
+optional_variable_definitions_bare (First vs) = variable_definitions_bare vs
+optional_variable_definitions_bare _ = refl
+
+optional_name_bare : (x : Shape) → optional_name_of (bare x) ≡ optional_name_of x
+optional_name_bare (First n) = ap Some (spelling_bare n)
+optional_name_bare _ = refl
+
+operation_body_bare : (kind : OperationKind) (p q : Place) (c : Shape)
+    → erase_operation (record {
+      kind = kind;
+      position = p;
+      name = (operation_body_of (bare c)).name;
+      variables = (operation_body_of (bare c)).variables;
+      directives = (operation_body_of (bare c)).directives;
+      selected = (operation_body_of (bare c)).selected;
+    })
+    ≡ erase_operation (record {
+      kind = kind;
+      position = q;
+      name = (operation_body_of c).name;
+      variables = (operation_body_of c).variables;
+      directives = (operation_body_of c).directives;
+      selected = (operation_body_of c).selected;
+    })
+operation_body_bare kind p q (Node k (Both n (Both vs (Both ds s)))) =
+    λ i. record {
+      kind = kind;
+      position = no_place;
+      name = optional_name_bare n i;
+      variables = optional_variable_definitions_bare vs i;
+      directives = directives_bare ds i;
+      selected = selection_set_bare s i;
+    }
+operation_body_bare kind p q _ = refl
+
+keyword_bare : (kind : OperationKind) (x : Shape) → erase_operation (keyword_of kind (bare x)) ≡ erase_operation (keyword_of kind x)
+keyword_bare kind (Both w c) = operation_body_bare kind (place_at (bare w)) (place_at w) c
+keyword_bare kind _ = refl
+
+operation_bare : (x : Shape) → erase_definition (operation_of (bare x)) ≡ erase_definition (operation_of x)
+operation_bare (Node k (First s)) = ap short (selection_set_bare s)
+operation_bare (Node k (Second (First o))) = ap operation (keyword_bare query_kind o)
+operation_bare (Node k (Second (Second (First o)))) = ap operation (keyword_bare mutation_kind o)
+operation_bare (Node k (Second (Second (Second o)))) = ap operation (keyword_bare subscription_kind o)
+operation_bare _ = refl
+
+fragment_definition_bare : (x : Shape) → erase_fragment_definition (fragment_definition_of (bare x)) ≡ erase_fragment_definition (fragment_definition_of x)
+fragment_definition_bare (Node k (Both w (Both n (Both c (Both ds s))))) =
+    λ i. record {
+      position = no_place;
+      name = spelling_bare n i;
+      condition = type_condition_bare c i;
+      directives = directives_bare ds i;
+      selected = selection_set_bare s i;
+    }
+fragment_definition_bare _ = refl
+
+definition_bare : (x : Shape) → erase_definition (definition_of (bare x)) ≡ erase_definition (definition_of x)
+definition_bare (Node k (First o)) = operation_bare o
+definition_bare (Node k (Second f)) = ap fragment (fragment_definition_bare f)
+definition_bare _ = refl
+
+definitions_bare : (x : Shape) → erase (definitions_of (bare x)) ≡ erase (definitions_of x)
+definitions_bare (Both x xs) = λ i. definition_bare x i ∷ definitions_bare xs i
+definitions_bare (More x xs) = λ i. definition_bare x i ∷ definitions_bare xs i
+definitions_bare _ = refl
+
+document_bare : (x : Shape) → erase (document_of (bare x)) ≡ erase (document_of x)
+document_bare (Node k x) = definitions_bare x
+document_bare _ = refl
+
+-- ---- the language
+
+accepts_bare : (c : Class) (t : Token) → accepts query c (unplaced t) ≡ accepts query c t
+accepts_bare (Spelled k s) t = refl
+accepts_bare (AnyOf k) t = refl
+accepts_bare (Except k ss) t = refl
+
+pub unplaced_alike : IgnoresPlaces queries
+unplaced_alike = record { accepts = accepts_bare; checks = λ k x. refl; means = document_bare }

@@ -1,0 +1,282 @@
+-- The layouts of query documents are read back, up to positions.
+use Rattle.std.proofs.Common.{◌≡◌, ℕ, ◌+◌, ◌<◌, ◌≤◌, Bool, true, false, List, [], ◌∷◌, ◌++◌, Option, Some, None, codes, map, refl, sym, ap, ap₂, arith}
+use Rattle.std.proofs.Common.{append_assoc}
+use Rattle.std.specs.List.{AllByRecursion}
+use Rattle.std.specs.Option.{IfSome, option_map_or}
+use Rattle.graphql_grammar.specs.Tokens.{Place}
+use Rattle.graphql_grammar.specs.Trees.{Expr, Many, Sym, Shape, Both, leaves, optional}
+use Rattle.graphql_grammar.specs.Extended.{is_below}
+use Rattle.graphql_lexer.specs.declared.tokenizer.token.Kind.TheVariants.{Name}
+use Rattle.graphql_lexer.specs.Lexical.{IsName}
+use Rattle.graphql_core.specs.Style.{Layout}
+use Rattle.graphql_core.specs.Parts.{Part, name, mark, gap}
+use Rattle.graphql_values.specs.Values.{ValueTree, DirectiveTree, no_place, erase_all}
+use Rattle.graphql_values.specs.ValueLayout.{arguments_layout, directives_layout}
+use Rattle.graphql_values.specs.Grammar.{shared, arguments_symbol, directives_symbol, default_symbol, shared_symbols, name as a_name}
+use Rattle.graphql_values.specs.Meanings.{place_at, first_place, optional_default_of, spelling_at, optional_arguments_of, directives_of}
+use Rattle.graphql_values.specs.Printable.{IsNameBut, IsPrintableArgument, IsPrintableDirective, IsPrintableDefault, most, arguments_brackets}
+use Rattle.graphql_values.specs.Printable.{directives_brackets, value_brackets}
+use Rattle.graphql_query_tree.specs.Tree.{SelectionTree, field, spread, inline, SelectionSetTree, set, SelectionTrees, none, more, OperationKind, query_kind}
+use Rattle.graphql_query_tree.specs.Tree.{mutation_kind}
+use Rattle.graphql_query_tree.specs.Tree.{subscription_kind, VariableDefinitionTree, OperationTree, DefinitionTree, short, operation, fragment, DocumentTree}
+use Rattle.graphql_query_tree.specs.Tree.{erase_selection}
+use Rattle.graphql_query_tree.specs.Tree.{erase_selection_set, erase_selections, erase_variable_definition, erase_operation, erase_definition, erase}
+use Rattle.graphql_query_tree.specs.Grammar.{query, spread_class, document_symbol, definition_symbol, operation_symbol, operation_body_symbol}
+use Rattle.graphql_query_tree.specs.Grammar.{variable_definitions_symbol}
+use Rattle.graphql_query_tree.specs.Grammar.{variable_definition_symbol, selection_set_symbol, selection_symbol, alias_symbol, type_condition_symbol}
+use Rattle.graphql_query_tree.specs.Meanings.{spread_name_of, alias_of, type_condition_of, optional_type_condition_of, selected_of, selection_of}
+use Rattle.graphql_query_tree.specs.Meanings.{selection_set_of}
+use Rattle.graphql_query_tree.specs.Meanings.{selections_of, variable_definition_of, each_variable_definition_of, optional_variable_definitions_of}
+use Rattle.graphql_query_tree.specs.Meanings.{optional_name_of, operation_body_of}
+use Rattle.graphql_query_tree.specs.Meanings.{operation_of, definition_of, definitions_of, document_of}
+use Rattle.graphql_values.specs.Lines.{in_braces}
+use Rattle.graphql_query_tree.specs.Layout.{alias_layout, type_condition_layout, on_layout, selection_layout, selected_layout, selection_set_layout}
+use Rattle.graphql_query_tree.specs.Layout.{selections_layout}
+use Rattle.graphql_query_tree.specs.Layout.{keyword, operation_name_layout, default_layout, variable_definition_layout, later_variable_definitions}
+use Rattle.graphql_query_tree.specs.Layout.{variable_definitions_layout, definition_layout}
+use Rattle.graphql_query_tree.specs.Layout.{later_definitions, document_layout, layout}
+use Rattle.graphql_query_tree.specs.Printable.{IsPrintable, IsPrintableSelection, IsPrintableSet, ArePrintableSelections, IsPrintableVariable}
+use Rattle.graphql_query_tree.specs.Printable.{IsPrintableOperation}
+use Rattle.graphql_query_tree.specs.Printable.{IsPrintableDefinition, Selects, SelectsInside, SelectInside, AllSelectInside, DefinitionSelects}
+use Rattle.graphql_query_tree.specs.Printable.{selection_brackets}
+use Rattle.graphql_query_tree.specs.Printable.{selected_brackets, selection_set_brackets, selections_brackets, variable_definition_brackets}
+use Rattle.graphql_query_tree.specs.Printable.{variable_definitions_brackets, definition_brackets}
+use Rattle.graphql_query_tree.specs.Document.{IsDocumentOf}
+use Rattle.graphql_values.specs.Lawful.{IsLawful, AreLawfulArguments, AreLawfulDirectives}
+use Rattle.graphql_query_tree.specs.Lawful.{IsLawfulSelection, IsLawfulSet, AreLawfulSelections, IsLawfulVariable, IsLawfulDefinition, IsLawfulDocument}
+use Rattle.graphql_values.proofs.LeavesBack.{name_word, not_listed}
+use Rattle.graphql_values.proofs.TypesBack.{type_back}
+use Rattle.graphql_core.proofs.Back.{Back, Any, Takes, as_word_back, same_parts, means, margin_back, gap_back, then_gap, word_back, mark_back, open_back}
+use Rattle.graphql_core.proofs.Back.{close_back, dots_back, nothing_back, both_back, first_back, second_back, node_back, stop_back, more_back, three_back}
+use Rattle.graphql_core.proofs.Back.{four_back, five_back, lift_back, read_back}
+use Rattle.graphql_values.proofs.ValuesBack.{spaces_blank}
+use Rattle.graphql_query_tree.proofs.Readable.{tested_alike, written_goes_on}
+use Rattle.graphql_values.proofs.DirectivesBack.{arguments_back, directives_back, default_back}
+
+-- what is shared is read back in queries too
+shared_back : {e : Expr} {p q : Bool} {d f : ℕ} {ps : List Part} {R : Shape → Type 0} → is_below shared_symbols e ≡ true → Back shared e p d ps q f R
+    → Back query e p d ps q f R
+shared_back {e} below b = lift_back written_goes_on below (tested_alike e) b
+
+-- any name
+named_back : (n : List ℕ) (d : ℕ) → IsName n → Back query a_name false d (name n) true d (λ x. spelling_at x ≡ n)
+named_back n d is = word_back (name_word n is) (λ p. refl) (λ t e. e)
+
+-- ---- parts of selections
+
+alias_back : (a : Option (List ℕ)) (d : ℕ) → IfSome a IsName → Back query (optional (Sym alias_symbol)) false d (alias_layout a) false d (λ x. alias_of x ≡ a)
+alias_back None d is = second_back (nothing_back refl)
+alias_back (Some a) d is =
+    first_back (node_back (λ x. refl) (both_back (named_back a d is) (then_gap 32 [] refl (mark_back (codes ":") (refl, refl) (λ p. refl)))
+    (λ x c hx hc. ap Some hx)))
+
+type_condition_back : (c : List ℕ) (d : ℕ) → IsName c
+    → Back query (Sym type_condition_symbol) false d (type_condition_layout c) true d (λ x. type_condition_of x ≡ c)
+type_condition_back c d is =
+    node_back (λ x. refl) (both_back {P = Any} (word_back (name_word (codes "on") (refl, refl)) (λ p. refl) (λ t e. tt)) (gap_back refl (named_back c d is))
+    (λ o x ho hx. hx))
+
+on_back : (c : Option (List ℕ)) (d : ℕ) → IfSome c IsName
+    → Back query (optional (Sym type_condition_symbol)) false d (on_layout c) true d (λ x. optional_type_condition_of x ≡ c)
+on_back None d is = as_word_back (second_back (nothing_back refl))
+on_back (Some c) d is = first_back (gap_back refl (means (λ x h. ap Some h) (type_condition_back c d is)))
+
+fragment_spread_takes : (n : List ℕ) → IsNameBut (codes "on" ∷ []) n → Takes query spread_class Name n
+fragment_spread_takes n (is, other) p = rw (not_listed n (codes "on" ∷ []) other) refl
+
+-- ---- selections
+
+module _ (style : Layout) where
+  args : (margin : ℕ) (arguments : List (List ℕ × ValueTree)) (d : ℕ) → AllByRecursion IsPrintableArgument arguments → AreLawfulArguments arguments
+      → d + arguments_brackets arguments ≤ 50
+      → Back query (optional (Sym arguments_symbol)) true d (arguments_layout style margin arguments) true d (λ x. optional_arguments_of x ≡ arguments)
+  args margin arguments d is lawful deep = shared_back refl (arguments_back style margin arguments d is lawful deep)
+
+  dirs : (margin : ℕ) (ds : List DirectiveTree) (d : ℕ) → AllByRecursion IsPrintableDirective ds → AreLawfulDirectives ds → d + directives_brackets ds ≤ 50
+      → Back query (Sym directives_symbol) true d (directives_layout style margin ds) true d (λ x. erase_all (directives_of x) ≡ erase_all ds)
+  dirs margin ds d is lawful deep = shared_back refl (directives_back style margin ds d is lawful deep)
+
+  -- selections in braces
+  braces_back : (margin : ℕ) (o c : Place) (s : SelectionTree) (ss : SelectionTrees) (d : ℕ) → d < 50
+      → Back query (Sym selection_symbol) false (d + 1) (selection_layout style (margin + style.indent) s) false (d + 1)
+      (λ x. erase_selection (selection_of x) ≡ erase_selection s)
+      → Back query (Many (Sym selection_symbol)) false (d + 1) (selections_layout style (margin + style.indent) ss) false (d + 1)
+      (λ x. erase_selections (selections_of x) ≡ erase_selections ss)
+      → Back query (Sym selection_set_symbol) false d (in_braces margin (selections_layout style (margin + style.indent) (more s ss))) false d
+      (λ x. erase_selection_set (selection_set_of x) ≡ erase_selection_set (set o c (more s ss)))
+  braces_back margin o c s ss d room one others =
+      node_back (λ x. refl) (three_back {Q = λ x. erase_selections (selections_of x) ≡ erase_selections (more s ss)}
+      (open_back (codes "{") (refl, refl) room (λ p. refl))
+      (gap_back refl (both_back one others (λ x y hx hy. ap₂ more hx hy)))
+      (margin_back (spaces_blank margin) (then_gap 10 [] refl (close_back (codes "}") (refl, refl) (λ p. refl))))
+      (λ x y z hx hy hz. ap (set no_place no_place) hy))
+
+  mutual
+    selection_back : (margin : ℕ) (s : SelectionTree) (d : ℕ) → IsPrintableSelection s → SelectsInside s → IsLawfulSelection s → d + selection_brackets s ≤ 50
+        → Back query (Sym selection_symbol) false d (selection_layout style margin s) false d (λ x. erase_selection (selection_of x) ≡ erase_selection s)
+    selection_back margin (field p a n arguments ds s) d (alias, is, arg, dir, sel) inside (arglaw, dirlaw, law) deep =
+        margin_back (spaces_blank margin) (node_back (λ x. refl) (first_back (node_back (λ x. refl) (five_back
+        (alias_back a d alias) (named_back n d is) (args margin arguments d arg arglaw (omega arith)) (dirs margin ds d dir dirlaw (omega arith))
+        (selected_back margin s d sel inside law (omega arith))
+        (λ x y z w k hx hy hz hw hk. λ i. field no_place (hx i) (hy i) (hz i) (hw i) (hk (first_place (leaves (Both x y))) i))))))
+    selection_back margin (spread p n ds) d (is, dir) inside dirlaw deep =
+        margin_back (spaces_blank margin) (node_back (λ x. refl) (second_back (first_back (node_back (λ x. refl) (three_back
+        (dots_back (λ p. refl))
+        (node_back {R = λ x. (spread_name_of x).1 ≡ n} (λ x. refl) (word_back (name_word n is.0) (fragment_spread_takes n is) (λ t e. e)))
+        (then_gap 10 [] refl (dirs margin ds d dir dirlaw deep))
+        (λ x y z hx hy hz. λ i. spread no_place (hy i) (hz i)))))))
+    selection_back margin (inline p c ds s) d (is, dir, sel) inside (dirlaw, law) deep =
+        margin_back (spaces_blank margin) (node_back (λ x. refl) (second_back (second_back (node_back (λ x. refl) (four_back
+        (dots_back (λ p. refl)) (on_back c d is) (dirs margin ds d dir dirlaw (omega arith))
+        (gap_back refl (selection_set_back margin s d sel inside.0 inside.1 law (omega arith)))
+        (λ x y z w hx hy hz hw. λ i. inline no_place (hy i) (hz i) (hw i)))))))
+
+    selected_back : (margin : ℕ) (s : SelectionSetTree) (d : ℕ) → IsPrintableSet s → SelectInside s → IsLawfulSet s → d + selected_brackets s ≤ 50
+        → Back query (optional (Sym selection_set_symbol)) true d (selected_layout style margin s) false d
+        (λ x. (p : Place) → erase_selection_set (selected_of p x) ≡ erase_selection_set s)
+    selected_back margin (set o c none) d is inside law deep = gap_back refl (second_back (nothing_back (λ p. refl)))
+    selected_back margin (set o c (more s ss)) d (is, are) (one, others) (law, laws) deep =
+        gap_back refl (first_back (means (λ x h p. h) (braces_back margin o c s ss d (omega arith)
+        (selection_back (margin + style.indent) s (d + 1) is one law (omega arith))
+        (selections_back (margin + style.indent) ss (d + 1) are others laws (omega arith)))))
+
+    selection_set_back : (margin : ℕ) (s : SelectionSetTree) (d : ℕ) → IsPrintableSet s → Selects s → SelectInside s → IsLawfulSet s
+        → d + selection_set_brackets s ≤ 50
+        → Back query (Sym selection_set_symbol) false d (selection_set_layout style margin s) false d
+        (λ x. erase_selection_set (selection_set_of x) ≡ erase_selection_set s)
+    selection_set_back margin (set o c none) d is some inside law deep = absurd some
+    selection_set_back margin (set o c (more s ss)) d (is, are) some (one, others) (law, laws) deep =
+        braces_back margin o c s ss d (omega arith) (selection_back (margin + style.indent) s (d + 1) is one law (omega arith))
+        (selections_back (margin + style.indent) ss (d + 1) are others laws (omega arith))
+
+    selections_back : (margin : ℕ) (ss : SelectionTrees) (d : ℕ) → ArePrintableSelections ss → AllSelectInside ss → AreLawfulSelections ss
+        → d + selections_brackets ss ≤ 50
+        → Back query (Many (Sym selection_symbol)) false d (selections_layout style margin ss) false d
+        (λ x. erase_selections (selections_of x) ≡ erase_selections ss)
+    selections_back margin none d is inside law deep = stop_back refl
+    selections_back margin (more s ss) d (is, are) (one, others) (law, laws) deep =
+        more_back (selection_back margin s d is one law (omega arith)) (selections_back margin ss d are others laws (omega arith)) (λ x y hx hy. ap₂ more hx hy)
+
+  -- ---- variables
+
+  default_part : (v : Option ValueTree) (d : ℕ) → IfSome v IsPrintableDefault → IfSome v IsLawful → d + option_map_or value_brackets v 0 ≤ 50
+      → Back query (optional (Sym default_symbol)) true d (default_layout style v) true d (λ x. optional_default_of x ≡ v)
+  default_part None d is law deep = second_back (nothing_back refl)
+  default_part (Some v) d is law deep = first_back (gap_back refl (means (λ x h. ap Some h) (shared_back refl (default_back style 0 v d is law deep))))
+
+  variable_definition_back : (v : VariableDefinitionTree) (d : ℕ) → IsPrintableVariable v → IsLawfulVariable v → d + variable_definition_brackets v ≤ 50
+      → Back query (Sym variable_definition_symbol) false d (variable_definition_layout style v) true d
+      (λ x. erase_variable_definition (variable_definition_of x) ≡ erase_variable_definition v)
+  variable_definition_back v d (is, type, default) law deep =
+      node_back (λ x. refl) (five_back
+      (mark_back (codes "$") (refl, refl) (λ p. refl)) (named_back v.name d is) (mark_back (codes ":") (refl, refl) (λ p. refl))
+      (gap_back refl (shared_back refl (type_back v.var_type d type (omega arith)))) (default_part v.default_value d default law (omega arith))
+      (λ x y z w k hx hy hz hw hk. λ i. record { position = no_place; name = hy i; var_type = hw i; default_value = hk i }))
+
+  later_variable_definitions_back : (vs : List VariableDefinitionTree) (d : ℕ) → AllByRecursion IsPrintableVariable vs → AllByRecursion IsLawfulVariable vs
+      → d + most variable_definition_brackets vs ≤ 50
+      → Back query (Many (Sym variable_definition_symbol)) true d (later_variable_definitions style vs) true d
+      (λ x. map erase_variable_definition (each_variable_definition_of x) ≡ map erase_variable_definition vs)
+  later_variable_definitions_back [] d is law deep = stop_back refl
+  later_variable_definitions_back (v ∷ vs) d (is, are) (law, laws) deep =
+      gap_back refl (more_back (variable_definition_back v d is law (omega arith)) (later_variable_definitions_back vs d are laws (omega arith))
+      (λ x y hx hy. ap₂ (λ t ts. t ∷ ts) hx hy))
+
+  variable_definitions_back : (vs : List VariableDefinitionTree) (d : ℕ) → AllByRecursion IsPrintableVariable vs → AllByRecursion IsLawfulVariable vs
+      → d + variable_definitions_brackets vs ≤ 50
+      → Back query (optional (Sym variable_definitions_symbol)) true d (variable_definitions_layout style vs) true d
+      (λ x. map erase_variable_definition (optional_variable_definitions_of x) ≡ map erase_variable_definition vs)
+  variable_definitions_back [] d is law deep = second_back (nothing_back refl)
+  variable_definitions_back (v ∷ vs) d (is, are) (law, laws) deep =
+      same_parts (mark (codes "(") ++ ((variable_definition_layout style v ++ later_variable_definitions style vs) ++ mark (codes ")"))) _
+      (ap (λ (l : List Part). mark (codes "(") ++ l)
+      (sym (append_assoc (variable_definition_layout style v) (later_variable_definitions style vs) (mark (codes ")")))))
+      (first_back (node_back (λ x. refl)
+      (as_word_back (three_back {Q = λ x. map erase_variable_definition (each_variable_definition_of x) ≡ map erase_variable_definition (v ∷ vs)}
+      (open_back (codes "(") (refl, refl) (omega arith) (λ p. refl))
+      (both_back (variable_definition_back v (d + 1) is law (omega arith)) (later_variable_definitions_back vs (d + 1) are laws (omega arith))
+      (λ x y hx hy. ap₂ (λ t ts. t ∷ ts) hx hy))
+      (close_back (codes ")") (refl, refl) (λ p. refl))
+      (λ o x c ho hx hc. hx)))))
+
+  -- ---- definitions
+
+  operation_name_back : (n : Option (List ℕ)) (d : ℕ) → IfSome n IsName
+      → Back query (optional a_name) true d (operation_name_layout n) true d (λ x. optional_name_of x ≡ n)
+  operation_name_back None d is = second_back (nothing_back refl)
+  operation_name_back (Some n) d is = first_back (gap_back refl (means (λ x h. ap Some h) (named_back n d is)))
+
+  -- what stands after an operation's keyword
+  operation_body_back : (o : OperationTree) (d : ℕ) → IsPrintableOperation o → Selects o.selected → SelectInside o.selected → IsLawfulDefinition (operation o)
+      → d + definition_brackets (operation o) ≤ 50
+      → Back query (Sym operation_body_symbol) true d (operation_name_layout o.name ++ (variable_definitions_layout style o.variables
+      ++ (directives_layout style 0 o.directives ++ (gap (codes " ") ++ selection_set_layout style 0 o.selected)))) false d
+      (λ x. (k : OperationKind) (p : Place) → k ≡ o.kind
+      → erase_operation (record {
+        kind = k;
+        position = p;
+        name = (operation_body_of x).name;
+        variables = (operation_body_of x).variables;
+        directives = (operation_body_of x).directives;
+        selected = (operation_body_of x).selected;
+      }) ≡ erase_operation o)
+  operation_body_back o d (n, vs, dir, sel) some inside (varlaw, dirlaw, law) deep =
+      node_back (λ x. refl) (four_back
+      (operation_name_back o.name d n) (variable_definitions_back o.variables d vs varlaw (omega arith)) (dirs 0 o.directives d dir dirlaw (omega arith))
+      (gap_back refl (selection_set_back 0 o.selected d sel some inside law (omega arith)))
+      (λ x y z w hx hy hz hw k p e. λ i. record { kind = e i; position = no_place; name = hx i; variables = hy i; directives = hz i; selected = hw i }))
+
+  operation_back : (k : OperationKind) (o : OperationTree) (d : ℕ) → k ≡ o.kind → IsPrintableOperation o → Selects o.selected → SelectInside o.selected
+      → IsLawfulDefinition (operation o) → d + definition_brackets (operation o) ≤ 50
+      → Back query (Sym operation_symbol) false d
+      (name (keyword k) ++ (operation_name_layout o.name
+      ++ (variable_definitions_layout style o.variables
+      ++ (directives_layout style 0 o.directives ++ (gap (codes " ") ++ selection_set_layout style 0 o.selected))))) false d
+      (λ x. erase_definition (operation_of x) ≡ operation (erase_operation o))
+  operation_back query_kind o d e is some inside law deep =
+      node_back (λ x. refl) (second_back (first_back (both_back {P = Any} (word_back (name_word (codes "query") (refl, refl)) (λ p. refl) (λ t e. tt))
+      (operation_body_back o d is some inside law deep) (λ w x hw hx. ap operation (hx query_kind (place_at w) e)))))
+  operation_back mutation_kind o d e is some inside law deep =
+      node_back (λ x. refl) (second_back (second_back (first_back (both_back {P = Any} (word_back (name_word (codes "mutation") (refl, refl)) (λ p. refl)
+      (λ t e. tt)) (operation_body_back o d is some inside law deep) (λ w x hw hx. ap operation (hx mutation_kind (place_at w) e))))))
+  operation_back subscription_kind o d e is some inside law deep =
+      node_back (λ x. refl) (second_back (second_back (second_back (both_back {P = Any} (word_back (name_word (codes "subscription") (refl, refl)) (λ p. refl)
+      (λ t e. tt)) (operation_body_back o d is some inside law deep) (λ w x hw hx. ap operation (hx subscription_kind (place_at w) e))))))
+
+  definition_back : (t : DefinitionTree) (d : ℕ) → IsPrintableDefinition t → DefinitionSelects t → IsLawfulDefinition t → d + definition_brackets t ≤ 50
+      → Back query (Sym definition_symbol) false d (definition_layout style t) false d (λ x. erase_definition (definition_of x) ≡ erase_definition t)
+  definition_back (short s) d is (some, inside) law deep =
+      node_back (λ x. refl) (first_back (node_back (λ x. refl) (first_back (means (λ x h. ap short h) (selection_set_back 0 s d is some inside law deep)))))
+  definition_back (operation o) d is (some, inside) law deep = node_back (λ x. refl) (first_back (operation_back o.kind o d refl is some inside law deep))
+  definition_back (fragment f) d (n, c, dir, sel) (some, inside) (dirlaw, law) deep =
+      node_back (λ x. refl) (second_back (node_back (λ x. refl) (five_back {P = Any}
+      (word_back (name_word (codes "fragment") (refl, refl)) (λ p. refl) (λ t e. tt)) (gap_back refl (named_back f.name d n))
+      (gap_back refl (type_condition_back f.condition d c))
+      (dirs 0 f.directives d dir dirlaw (omega arith)) (gap_back refl (selection_set_back 0 f.selected d sel some inside law (omega arith)))
+      (λ x y z w k hx hy hz hw hk. λ i. fragment (record { position = no_place; name = hy i; condition = hz i; directives = hw i; selected = hk i })))))
+
+  -- ---- documents
+
+  later_back : (ts : DocumentTree) → AllByRecursion IsPrintableDefinition ts → AllByRecursion DefinitionSelects ts → IsLawfulDocument ts
+      → most definition_brackets ts ≤ 50
+      → Back query (Many (Sym definition_symbol)) false 0 (later_definitions style ts) false 0 (λ x. erase (definitions_of x) ≡ erase ts)
+  later_back [] is selects law deep = stop_back refl
+  later_back (t ∷ ts) (is, are) (selects, others) (law, laws) deep =
+      gap_back refl (more_back (definition_back t 0 is selects law (omega arith)) (later_back ts are others laws (omega arith))
+      (λ x y hx hy. ap₂ (λ u us. u ∷ us) hx hy))
+
+  document_back : (ts : DocumentTree) → IsPrintable ts → IsLawfulDocument ts
+      → Back query (Sym document_symbol) false 0 (document_layout style ts) false 0 (λ x. erase (document_of x) ≡ erase ts)
+  document_back [] is law = absurd is.definition
+  document_back (t ∷ ts) is (law, laws) =
+      let names = is.names in
+      let selects = is.selections in
+      let deep = is.depth in
+      node_back (λ x. refl) (both_back (definition_back t 0 names.0 selects.0 law (omega arith)) (later_back ts names.1 selects.1 laws (omega arith))
+      (λ x y hx hy. ap₂ (λ u us. u ∷ us) hx hy))
+
+  -- the layout of a printable document is a document, equal up to positions
+  pub way_back : (ts : DocumentTree) → IsPrintable ts → IsLawfulDocument ts → (us : DocumentTree) × IsDocumentOf (layout style ts) us × (erase us ≡ erase ts)
+  way_back ts is law =
+      let (items, has, x, derives, end, same) = read_back (document_back ts is law) in
+      (document_of x, (items, has, (x, derives, end, refl)), same)

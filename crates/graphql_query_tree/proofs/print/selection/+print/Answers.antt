@@ -1,0 +1,89 @@
+use Rattle.std.proofs.Common.{rules, arith, ◌∙◌, ◌+◌, ◌*◌, ◌++◌, ◌<◌, ◌^◌, append_assoc, ap, sym, refl, []}
+use Rattle.graphql_core.specs.Parts.{text_of}
+use Rattle.graphql_query_tree.specs.declared.tree.SelectionSet.{the_lemmas}
+use Rattle.graphql_query_tree.specs.Tree.{selection_set_view, selection_view, selections_view}
+use Rattle.graphql_query_tree.specs.Layout.{selection_layout, selections_layout, selection_set_levels}
+use Rattle.graphql_query_tree.proofs.LayoutTexts.{items_of, selection_set_parts, field_parts, inline_fragment_parts, selection_here, no_items, some_items}
+use Rattle.graphql_query_tree.proofs.LayoutTexts.{nothing_layout, some_levels, some_layout, braces_text}
+use Rattle.graphql_values.proofs.Enclosed.{narrower}
+use Rattle.graphql_values.proofs.Appending.{text_append, and_last, and_part}
+use Rattle.graphql_query_tree.proofs.print.selection.+print.Goals as goal
+
+pub write_selection_set-returns : goal.write_selection_set-returns
+write_selection_set-returns g t c =
+    let bytes = g.N.Names.bytes in
+    let more = g.met.S.Sink.took_more in
+    let written = more _ _ _ _ _ (more _ _ _ _ _ c.in_ok-push_str.ensures c.in_ok-write_selections.ensures) c.in_ok-write_spaces.ensures in
+    and_last g.S.Sink.took more _ _ _ _ _ _ _ written c.push_str-2.ensures
+    (rw (selection_set_parts bytes c.args.set.now, c.indentation.ensures)
+    (braces_text c.args.margin
+    (selections_layout c.args.style.now (c.args.margin + c.args.style.now.indent) (selections_view bytes (items_of bytes c.args.set.now)))))
+
+pub write_selections-write_selection-requires : goal.write_selections-write_selection-requires
+write_selections-write_selection-requires g t c κs within = (
+  grind (arith, the_lemmas),
+  let l = c.items in
+      let here = selection_here g.N.Names.bytes c.deref-item-items.result.now l.item-index c.item-item.result (omega arith) c.item-item.is in
+      let bound = rw here at l.invariant.bound in
+      let fits = narrower c.args.margin _ _ c.args.style.now.indent (2 ^ 32) bound in
+      search (rules, fits.0),
+)
+
+pub write_selections-items-init : goal.write_selections-items-init
+write_selections-items-init g t c = record { bound = rw c.deref-item-items.ensures.value c.requires; wrote = ([], g.met.S.Sink.took_nil _, refl) }
+
+pub write_selections-items-preserved : goal.write_selections-items-preserved
+write_selections-items-preserved g t c =
+    let bytes = g.N.Names.bytes in
+    let l = c.items in
+    let here = selection_here bytes c.deref-item-items.result.now l.item-index c.item-item.result (omega arith) c.item-item.is in
+    let bound = rw here at l.invariant.bound in
+    let fits = narrower c.args.margin _ _ c.args.style.now.indent (2 ^ 32) bound in
+    let (done, wrote, rest) = l.invariant.wrote in
+    record {
+      bound = fits.1;
+      wrote = and_part g.S.Sink.took g.met.S.Sink.took_more _ _ _ done _ _ _ wrote c.in_ok-write_selection.ensures
+          (ap (λ r. done ++ r)
+          (sym (ap (λ r. text_of (selections_layout c.args.style.now c.args.margin r)) here
+          ∙ text_append (selection_layout c.args.style.now c.args.margin (selection_view bytes c.item-item.result)) _)) ∙ rest);
+    }
+
+pub write_field-returns : goal.write_field-returns
+write_field-returns g t c =
+    let bytes = g.N.Names.bytes in
+    let more = g.met.S.Sink.took_more in
+    let named = more _ _ _ _ _ (more _ _ _ _ _ c.in_ok-write_spaces.ensures c.in_ok-write_alias.ensures) c.in_ok-push_str.ensures in
+    let written = more _ _ _ _ _ (more _ _ _ _ _ named c.in_ok-write_arguments.ensures) c.in_ok-write_directives.ensures in
+    and_last g.S.Sink.took more _ _ _ _ _ _ _ written c.write_selected.ensures
+    (rw (field_parts bytes c.args.field.now, c.view.ensures) (simp (text_append, append_assoc)))
+
+pub write_inline_fragment-returns : goal.write_inline_fragment-returns
+write_inline_fragment-returns g t c =
+    let bytes = g.N.Names.bytes in
+    let more = g.met.S.Sink.took_more in
+    let on = more _ _ _ _ _ (more _ _ _ _ _ c.in_ok-write_spaces.ensures c.in_ok-push_str.ensures) c.in_ok-write_on.ensures in
+    let written = more _ _ _ _ _ (more _ _ _ _ _ on c.in_ok-write_directives.ensures) c.in_ok-push_str-2.ensures in
+    and_last g.S.Sink.took more _ _ _ _ _ _ _ written c.write_selection_set.ensures
+    (rw (inline_fragment_parts bytes c.args.fragment.now) (simp (text_append, append_assoc)))
+
+pub write_selected-write_selection_set-requires : goal.write_selected-write_selection_set-requires
+write_selected-write_selection_set-requires g t c κs within =
+    let bytes = g.N.Names.bytes in
+    let s = c.args.set.now in
+    let same = some_levels bytes s c.args.style.now (some_items bytes s (sym c.is_empty.ensures ∙ c.if-is_empty.false)) in
+    let fits : c.args.margin + selection_set_levels c.args.style.now (selection_set_view bytes s) * c.args.style.now.indent < 2 ^ 32 = rw (← same) c.requires in
+    search (rules, the_lemmas, fits)
+
+pub write_selected-returns : goal.write_selected-returns
+write_selected-returns g t c =
+    let bytes = g.N.Names.bytes in
+    let s = c.args.set.now in
+    let some = some_layout bytes s c.args.style.now c.args.margin (some_items bytes s (sym c.is_empty.ensures ∙ c.if-is_empty.false)) in
+    and_last g.S.Sink.took g.met.S.Sink.took_more _ _ _ _ _ _ _ c.in_ok-push_str.ensures c.write_selection_set.ensures (sym (ap text_of some))
+
+pub write_selected-returns-then-is_empty : goal.write_selected-returns-then-is_empty
+write_selected-returns-then-is_empty g t c =
+    let bytes = g.N.Names.bytes in
+    let s = c.args.set.now in
+    rw (nothing_layout bytes s c.args.style.now c.args.margin (no_items bytes s (sym c.is_empty.ensures ∙ c.if-is_empty.true)))
+    c.push_str.ensures

@@ -1,0 +1,15 @@
+use Rattle.std.proofs.Common.{◌≡◌, ◌++◌, ◌+◌, ◌*◌, ◌<◌, ◌^◌, List, ℕ, drop}
+use Rattle.graphql_core.specs.Parts.{text_of}
+use Rattle.graphql_query_tree.specs.Tree.{selections_view}
+use Rattle.graphql_query_tree.specs.Layout.{selections_layout, selections_levels}
+use Rattle.graphql_query_tree.proofs.print.selection.+print.Given as goal
+
+abbrev pub invariant-write_selections-items : goal.invariant-write_selections-items
+invariant-write_selections-items g l =
+    let left = selections_view g.N.Names.bytes (drop l.item-index l.item-items) in
+    let whole = selections_view g.N.Names.bytes l.item-items in
+    record {
+      bound : l.margin + selections_levels l.style left * l.style.indent < 2 ^ 32;
+      wrote : (done : List ℕ) × g.S.Sink.took l.initial.out done l.out
+          × (done ++ text_of (selections_layout l.style l.margin left) ≡ text_of (selections_layout l.style l.margin whole));
+    }

@@ -1,0 +1,16 @@
+use Rattle.std.proofs.Common.{◌≡◌, rules, refl, sym, subst, string_bytes}
+use Rattle.graphql_query_tree.specs.Document.{IsReadBack}
+use Rattle.graphql_query_tree.specs.Layout.{layout}
+use Rattle.graphql_query_tree.specs.Tree.{document_view}
+use Rattle.graphql_query_tree.proofs.WayBack.{way_back}
+use Rattle.graphql_query_tree.proofs.tree.Document.format.Goals as goal
+
+pub returns-clause-read_back : goal.returns-clause-read_back
+returns-clause-read_back g c printable =
+    let d = document_view g.N.Names.bytes c.args.self.now in
+    let printed : string_bytes c.into_string.result ≡ layout c.args.style.now d = search rules in
+    subst (λ text. IsReadBack text d) (sym printed) (way_back c.args.style.now d printable c.levels_in_document.ensures.lawful)
+
+pub returns-then-is_too_wide-clause-too_wide : goal.returns-then-is_too_wide-clause-too_wide
+returns-then-is_too_wide-clause-too_wide g c =
+    (λ _. (c.is_too_wide.ensures _ c.levels_in_document.ensures.levels).0 c.if-is_too_wide.true, λ _. refl)

@@ -1,0 +1,84 @@
+-- The language of queries: what a text's document is, and what is said of a text that has none.
+use Rattle.std.specs.Prelude.{ℕ, List, Result}
+use Rattle.graphql_core.specs.declared.common.fault.Fault.{Fault}
+use Rattle.graphql_core.specs.Refusal.{Refusal}
+use Rattle.graphql_core.specs.Source.{Items, FaultText}
+use Rattle.graphql_values.specs.Language.{Language}
+use Rattle.graphql_values.specs.Document as document
+use Rattle.graphql_values.specs.Faults as fault
+use Rattle.graphql_query_tree.specs.Tree.{DocumentTree, erase}
+use Rattle.graphql_query_tree.specs.Grammar.{query, document_symbol, second_rows, changes}
+use Rattle.graphql_query_tree.specs.Meanings.{document_of}
+
+-- no node of a query document is refused
+abbrev pub queries : Language DocumentTree
+queries = record {
+  grammar = query;
+  document = document_symbol;
+  means = document_of;
+  erase = erase;
+  lacks = λ c. fault.HasNoValue;
+  refuses = λ k i n f. ⊥;
+  second_rows = second_rows;
+  changes = changes;
+}
+
+-- ---- documents
+
+-- the grammar derives the tokens with a shape that means this, and after them is the end
+abbrev pub IsDocument : Items → DocumentTree → Type 0
+IsDocument = document.IsDocument queries
+
+-- the items of the text are a document that means this
+abbrev pub IsDocumentOf : List ℕ → DocumentTree → Type 0
+IsDocumentOf = document.IsDocumentOf queries
+
+-- the text has a document that is this one but for positions
+abbrev pub IsReadBack : List ℕ → DocumentTree → Type 0
+IsReadBack = document.IsReadBack queries
+
+-- the list of tokens of a text has at most one shape, also where integers, floats and strings without a value are let through
+abbrev pub HasOneShape : List ℕ → Type 0
+HasOneShape = document.HasOneShape queries
+
+-- the answer is seen as this document, unless memory ran out
+abbrev pub AnswersUnlessMemory : {V : Type 0} → (V → DocumentTree) → DocumentTree → Result V Refusal → Type 0
+AnswersUnlessMemory view = document.AnswersUnlessMemory view
+
+-- what the contract of `parse_query` says of an answer for a text within the bound
+abbrev pub IsParsed : List ℕ → Result DocumentTree Refusal → Type 0
+IsParsed = document.IsParsed queries
+
+-- both are documents that are equal but for positions, or both are refusals, unless memory ran out
+abbrev pub AreAlike : Result DocumentTree Refusal → Result DocumentTree Refusal → Type 0
+AreAlike = document.AreAlike queries
+
+-- ---- faults and refusals
+
+-- a fault of the text, and its index
+abbrev pub IsFaultOf : List ℕ → FaultText → ℕ → Type 0
+IsFaultOf = fault.IsFaultOf queries
+
+-- no two faults of a text have one index; so at most one has the least
+abbrev pub HasOneFaultEach : List ℕ → Type 0
+HasOneFaultEach = fault.HasOneFaultEach queries
+
+-- a text that is a document has no fault
+abbrev pub HasNoFault : List ℕ → DocumentTree → Type 0
+HasNoFault = fault.HasNoFault queries
+
+-- memory ran out, or it is the fault of least index of the items
+abbrev pub IsLeastOf : Items → Fault → Type 0
+IsLeastOf = fault.IsLeastOf queries
+
+-- the fault of least index of the text
+abbrev pub IsLeastFaultOf : List ℕ → FaultText → Type 0
+IsLeastFaultOf = fault.IsLeastFaultOf queries
+
+-- some document begins with the items before this fault, and none goes on with its item
+abbrev pub IsFirstFaultOf : List ℕ → FaultText → Type 0
+IsFirstFaultOf = fault.IsFirstFaultOf queries
+
+-- why a text is refused: memory ran out, or it is too long, or it has no document, and this is its fault of least index
+abbrev pub IsRefusalOf : List ℕ → Refusal → Type 0
+IsRefusalOf = fault.IsRefusalOf queries

@@ -1,0 +1,42 @@
+-- What holds of the values of every document that a program can make.
+use Rattle.std.specs.Prelude.{List}
+use Rattle.std.specs.List.{AllByRecursion}
+use Rattle.std.specs.Option.{IfSome}
+use Rattle.graphql_query_tree.specs.Tree.{SelectionTree, field, spread, inline, SelectionSetTree, set, SelectionTrees, none, more, VariableDefinitionTree}
+use Rattle.graphql_query_tree.specs.Tree.{FragmentDefinitionTree, DefinitionTree}
+use Rattle.graphql_query_tree.specs.Tree.{short, operation, fragment, DocumentTree}
+use Rattle.graphql_values.specs.Values.{DirectiveTree}
+use Rattle.graphql_values.specs.Lawful.{IsLawful, AreLawfulArguments, AreLawfulDirectives}
+
+abbrev mutual
+  pub IsLawfulSelection : SelectionTree → Type 0
+  IsLawfulSelection (field p a n arguments ds s) = AreLawfulArguments arguments × AreLawfulDirectives ds × IsLawfulSet s
+  IsLawfulSelection (spread p n ds) = AreLawfulDirectives ds
+  IsLawfulSelection (inline p c ds s) = AreLawfulDirectives ds × IsLawfulSet s
+
+  pub IsLawfulSet : SelectionSetTree → Type 0
+  IsLawfulSet (set o c ss) = AreLawfulSelections ss
+
+  pub AreLawfulSelections : SelectionTrees → Type 0
+  AreLawfulSelections none = Unit {0}
+  AreLawfulSelections (more s ss) = IsLawfulSelection s × AreLawfulSelections ss
+
+abbrev pub IsLawfulVariable : VariableDefinitionTree → Type 0
+IsLawfulVariable v = IfSome v.default_value IsLawful
+
+abbrev pub AreLawfulVariables : List VariableDefinitionTree → Type 0
+AreLawfulVariables = AllByRecursion IsLawfulVariable
+
+abbrev pub AreLawfulParts : List VariableDefinitionTree → List DirectiveTree → SelectionSetTree → Type 0
+AreLawfulParts vs ds s = AreLawfulVariables vs × AreLawfulDirectives ds × IsLawfulSet s
+
+abbrev pub IsLawfulFragment : FragmentDefinitionTree → Type 0
+IsLawfulFragment f = AreLawfulDirectives f.directives × IsLawfulSet f.selected
+
+abbrev pub IsLawfulDefinition : DefinitionTree → Type 0
+IsLawfulDefinition (short s) = IsLawfulSet s
+IsLawfulDefinition (operation o) = AreLawfulParts o.variables o.directives o.selected
+IsLawfulDefinition (fragment f) = IsLawfulFragment f
+
+abbrev pub IsLawfulDocument : DocumentTree → Type 0
+IsLawfulDocument = AllByRecursion IsLawfulDefinition

@@ -1,0 +1,166 @@
+-- The text of a document in a style. A line begins with a margin of so many spaces.
+use Rattle.std.specs.Prelude.{ℕ, ◌+◌, max, List, [], ◌∷◌, ◌++◌, Option, Some, None, codes}
+use Rattle.graphql_core.specs.Style.{Layout, spaces}
+use Rattle.graphql_core.specs.Parts.{Part, text_of, name, mark, gap}
+use Rattle.graphql_values.specs.Values.{ValueTree, DirectiveTree}
+use Rattle.graphql_values.specs.ValueLayout.{type_layout, arguments_layout, directives_layout, value_levels, arguments_levels, directives_levels}
+use Rattle.graphql_values.specs.ValueLayout as values
+use Rattle.graphql_values.specs.Lines as lines
+use Rattle.graphql_values.specs.Lines.{in_braces}
+use Rattle.graphql_query_tree.specs.Tree.{SelectionTree, field, spread, inline, SelectionSetTree, set, SelectionTrees, none, more, OperationKind, query_kind}
+use Rattle.graphql_query_tree.specs.Tree.{mutation_kind, subscription_kind, VariableDefinitionTree, OperationTree, FragmentDefinitionTree, DefinitionTree}
+use Rattle.graphql_query_tree.specs.Tree.{short, operation, fragment, DocumentTree}
+
+-- ---- selections
+
+-- an alias before a name
+abbrev pub alias_layout : Option (List ℕ) → List Part
+alias_layout None = []
+alias_layout (Some a) = name a ++ (mark (codes ":") ++ gap (codes " "))
+
+-- the type that a fragment is on
+abbrev pub type_condition_layout : List ℕ → List Part
+type_condition_layout c = name (codes "on") ++ (gap (codes " ") ++ name c)
+
+-- the same of an inline fragment, which may have none
+abbrev pub on_layout : Option (List ℕ) → List Part
+on_layout None = []
+on_layout (Some c) = gap (codes " ") ++ type_condition_layout c
+
+abbrev mutual
+  -- each selection stands in lines of its own
+  pub selection_layout : Layout → ℕ → SelectionTree → List Part
+  selection_layout style margin (field p alias n arguments ds s) =
+      gap (spaces margin) ++
+      (alias_layout alias ++ (name n ++ (arguments_layout style margin arguments ++ (directives_layout style margin ds ++ selected_layout style margin s))))
+  selection_layout style margin (spread p n ds) =
+      gap (spaces margin) ++ (mark (codes "...") ++ (name n ++ (directives_layout style margin ds ++ gap (codes "\n"))))
+  selection_layout style margin (inline p condition ds s) =
+      gap (spaces margin) ++
+      (mark (codes "...") ++ (on_layout condition ++ (directives_layout style margin ds ++ (gap (codes " ") ++ selection_set_layout style margin s))))
+
+  -- what is selected of a field, which has no braces where that is nothing
+  pub selected_layout : Layout → ℕ → SelectionSetTree → List Part
+  selected_layout style margin (set o c none) = gap (codes "\n")
+  selected_layout style margin (set o c (more s ss)) = gap (codes " ") ++ in_braces margin (selections_layout style (margin + style.indent) (more s ss))
+
+  -- a selection set: its selections in braces, one level deeper
+  pub selection_set_layout : Layout → ℕ → SelectionSetTree → List Part
+  selection_set_layout style margin (set o c ss) = in_braces margin (selections_layout style (margin + style.indent) ss)
+
+  pub selections_layout : Layout → ℕ → SelectionTrees → List Part
+  selections_layout style margin none = []
+  selections_layout style margin (more s ss) = selection_layout style margin s ++ selections_layout style margin ss
+
+-- ---- definitions, which have no margin
+
+abbrev pub keyword : OperationKind → List ℕ
+keyword query_kind = codes "query"
+keyword mutation_kind = codes "mutation"
+keyword subscription_kind = codes "subscription"
+
+abbrev pub operation_name_layout : Option (List ℕ) → List Part
+operation_name_layout None = []
+operation_name_layout (Some n) = gap (codes " ") ++ name n
+
+abbrev pub default_layout : Layout → Option ValueTree → List Part
+default_layout style = lines.default_layout style 0
+
+abbrev pub variable_definition_layout : Layout → VariableDefinitionTree → List Part
+variable_definition_layout style v = mark (codes "$")
+    ++ (name v.name ++ (mark (codes ":") ++ (gap (codes " ") ++ (type_layout v.var_type ++ default_layout style v.default_value))))
+
+abbrev pub later_variable_definitions : Layout → List VariableDefinitionTree → List Part
+later_variable_definitions style [] = []
+later_variable_definitions style (v ∷ vs) = gap (codes ", ") ++ (variable_definition_layout style v ++ later_variable_definitions style vs)
+
+-- in parentheses, joined by a comma and a space
+abbrev pub variable_definitions_layout : Layout → List VariableDefinitionTree → List Part
+variable_definitions_layout style [] = []
+variable_definitions_layout style (v ∷ vs) = mark (codes "(")
+    ++ (variable_definition_layout style v ++ (later_variable_definitions style vs ++ mark (codes ")")))
+
+-- an operation by its keyword and its parts
+abbrev pub operation_of : Layout → List ℕ → Option (List ℕ) → List VariableDefinitionTree → List DirectiveTree → SelectionSetTree → List Part
+operation_of style word n vs ds s = name word
+    ++ (operation_name_layout n
+    ++ (variable_definitions_layout style vs ++ (directives_layout style 0 ds ++ (gap (codes " ") ++ selection_set_layout style 0 s))))
+
+abbrev pub operation_layout : Layout → OperationTree → List Part
+operation_layout style o = operation_of style (keyword o.kind) o.name o.variables o.directives o.selected
+
+abbrev pub fragment_definition_layout : Layout → FragmentDefinitionTree → List Part
+fragment_definition_layout style f =
+    name (codes "fragment") ++ (gap (codes " ") ++ (name f.name ++ (gap (codes " ") ++ (type_condition_layout f.condition
+    ++ (directives_layout style 0 f.directives ++ (gap (codes " ") ++ selection_set_layout style 0 f.selected))))))
+
+abbrev pub definition_layout : Layout → DefinitionTree → List Part
+definition_layout style (short s) = selection_set_layout style 0 s
+definition_layout style (operation o) = operation_layout style o
+definition_layout style (fragment f) = fragment_definition_layout style f
+
+-- each with an empty line before it
+abbrev pub later_definitions : Layout → DocumentTree → List Part
+later_definitions style = lines.later (definition_layout style)
+
+-- the definitions, with an empty line between two
+abbrev pub document_layout : Layout → DocumentTree → List Part
+document_layout style = lines.separated (definition_layout style)
+
+-- the text of a document
+abbrev pub layout : Layout → DocumentTree → List ℕ
+layout style d = text_of (document_layout style d)
+
+-- ---- levels that are open at once
+
+abbrev mutual
+  pub selection_levels : Layout → SelectionTree → ℕ
+  selection_levels style (field p alias n arguments ds s) = max (arguments_levels style arguments) (max (directives_levels style ds) (selected_levels style s))
+  selection_levels style (spread p n ds) = directives_levels style ds
+  selection_levels style (inline p condition ds s) = max (directives_levels style ds) (selection_set_levels style s)
+
+  -- a field without selections opens none
+  pub selected_levels : Layout → SelectionSetTree → ℕ
+  selected_levels style (set o c none) = 0
+  selected_levels style (set o c (more s ss)) = selections_levels style (more s ss) + 1
+
+  -- braces open one
+  pub selection_set_levels : Layout → SelectionSetTree → ℕ
+  selection_set_levels style (set o c ss) = selections_levels style ss + 1
+
+  pub selections_levels : Layout → SelectionTrees → ℕ
+  selections_levels style none = 0
+  selections_levels style (more s ss) = max (selection_levels style s) (selections_levels style ss)
+
+abbrev pub default_levels : Layout → Option ValueTree → ℕ
+default_levels style None = 0
+default_levels style (Some v) = value_levels style v
+
+abbrev pub variable_definition_levels : Layout → VariableDefinitionTree → ℕ
+variable_definition_levels style v = default_levels style v.default_value
+
+abbrev pub variable_definitions_levels : Layout → List VariableDefinitionTree → ℕ
+variable_definitions_levels style [] = 0
+variable_definitions_levels style (v ∷ vs) = max (variable_definition_levels style v) (variable_definitions_levels style vs)
+
+abbrev pub operation_levels_of : Layout → List VariableDefinitionTree → List DirectiveTree → SelectionSetTree → ℕ
+operation_levels_of style vs ds s = max (variable_definitions_levels style vs) (max (directives_levels style ds) (selection_set_levels style s))
+
+abbrev pub operation_levels : Layout → OperationTree → ℕ
+operation_levels style o = operation_levels_of style o.variables o.directives o.selected
+
+abbrev pub fragment_definition_levels : Layout → FragmentDefinitionTree → ℕ
+fragment_definition_levels style f = max (directives_levels style f.directives) (selection_set_levels style f.selected)
+
+abbrev pub definition_levels : Layout → DefinitionTree → ℕ
+definition_levels style (short s) = selection_set_levels style s
+definition_levels style (operation o) = operation_levels style o
+definition_levels style (fragment f) = fragment_definition_levels style f
+
+abbrev pub levels : Layout → DocumentTree → ℕ
+levels style [] = 0
+levels style (d ∷ ds) = max (definition_levels style d) (levels style ds)
+
+-- the levels that are open at once take more than `u32::MAX` spaces, whether a line stands in the last of them or not
+abbrev pub IsTooWide : Layout → DocumentTree → Type 0
+IsTooWide style d = values.IsTooWide style (levels style d)

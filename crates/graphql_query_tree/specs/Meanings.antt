@@ -1,0 +1,154 @@
+-- What the shapes of query documents mean, a line or two for each production.
+use Rattle.std.specs.Prelude.{ℕ, List, [], ◌∷◌, Option, Some, None}
+use Rattle.graphql_grammar.specs.Tokens.{Place, nowhere}
+use Rattle.graphql_grammar.specs.Trees.{Shape, Both, First, Second, More, Node, leaves}
+use Rattle.graphql_values.specs.Values.{DirectiveTree, named}
+use Rattle.graphql_values.specs.Meanings.{place_at, first_place, spelling_at, type_of, optional_default_of, optional_arguments_of, directives_of}
+use Rattle.graphql_query_tree.specs.Tree.{SelectionTree, field, spread, inline, SelectionSetTree, set, no_selection_set, SelectionTrees, none, more}
+use Rattle.graphql_query_tree.specs.Tree.{OperationKind, query_kind, mutation_kind, subscription_kind, VariableDefinitionTree, OperationTree}
+use Rattle.graphql_query_tree.specs.Tree.{FragmentDefinitionTree, DefinitionTree, short, operation, fragment, DocumentTree}
+
+-- ---- selections
+
+abbrev pub alias_of : Shape → Option (List ℕ)
+alias_of (First (Node k (Both n c))) = Some (spelling_at n)
+alias_of _ = None
+
+-- on the type of this name
+abbrev pub type_condition_of : Shape → List ℕ
+type_condition_of (Node k (Both o n)) = spelling_at n
+type_condition_of _ = []
+
+abbrev pub optional_type_condition_of : Shape → Option (List ℕ)
+optional_type_condition_of (First c) = Some (type_condition_of c)
+optional_type_condition_of _ = None
+
+-- the position and the text of a spread's name
+abbrev pub spread_name_of : Shape → Place × List ℕ
+spread_name_of (Node k n) = (place_at n, spelling_at n)
+spread_name_of _ = (nowhere, [])
+
+-- what stands after the dots of a spread; the spread stands at its name
+abbrev pub fragment_spread_rest_of : Shape → SelectionTree
+fragment_spread_rest_of (Both n ds) = spread (spread_name_of n).0 (spread_name_of n).1 (directives_of ds)
+fragment_spread_rest_of _ = spread nowhere [] []
+
+abbrev pub fragment_spread_of : Shape → SelectionTree
+fragment_spread_of (Node k (Both dots rest)) = fragment_spread_rest_of rest
+fragment_spread_of _ = spread nowhere [] []
+
+abbrev mutual
+  -- a field stands at its first token
+  pub field_of : Shape → SelectionTree
+  field_of (Node k (Both a (Both n (Both arguments (Both ds s))))) =
+      field (first_place (leaves (Both a n))) (alias_of a) (spelling_at n) (optional_arguments_of arguments) (directives_of ds)
+      (selected_of (first_place (leaves (Both a n))) s)
+  field_of _ = spread nowhere [] []
+
+  -- without braces a field has its position twice, and no selections
+  pub selected_of : Place → Shape → SelectionSetTree
+  selected_of p (First s) = selection_set_of s
+  selected_of p _ = no_selection_set p
+
+  -- what stands after the dots of an inline fragment; the fragment stands at its first token
+  pub inline_fragment_rest_of : Shape → SelectionTree
+  inline_fragment_rest_of (Both c (Both ds s)) = inline (first_place (leaves (Both c (Both ds s)))) (optional_type_condition_of c) (directives_of ds)
+      (selection_set_of s)
+  inline_fragment_rest_of _ = spread nowhere [] []
+
+  pub inline_fragment_of : Shape → SelectionTree
+  inline_fragment_of (Node k (Both dots rest)) = inline_fragment_rest_of rest
+  inline_fragment_of _ = spread nowhere [] []
+
+  pub selection_of : Shape → SelectionTree
+  selection_of (Node k (First f)) = field_of f
+  selection_of (Node k (Second (First s))) = fragment_spread_of s
+  selection_of (Node k (Second (Second i))) = inline_fragment_of i
+  selection_of _ = spread nowhere [] []
+
+  -- a selection set spans its braces
+  pub selection_set_of : Shape → SelectionSetTree
+  selection_set_of (Node k (Both o (Both ss c))) = set (place_at o) (place_at c) (selections_of ss)
+  selection_set_of _ = no_selection_set nowhere
+
+  pub selections_of : Shape → SelectionTrees
+  selections_of (Both x xs) = more (selection_of x) (selections_of xs)
+  selections_of (More x xs) = more (selection_of x) (selections_of xs)
+  selections_of _ = none
+
+-- ---- definitions
+
+-- a variable stands at its `$`
+abbrev pub variable_definition_of : Shape → VariableDefinitionTree
+variable_definition_of (Node k (Both d (Both n (Both c (Both t v))))) =
+    record { position = place_at d; name = spelling_at n; var_type = type_of t; default_value = optional_default_of v }
+variable_definition_of _ = record { position = nowhere; name = []; var_type = named []; default_value = None }
+
+abbrev pub each_variable_definition_of : Shape → List VariableDefinitionTree
+each_variable_definition_of (Both x xs) = variable_definition_of x ∷ each_variable_definition_of xs
+each_variable_definition_of (More x xs) = variable_definition_of x ∷ each_variable_definition_of xs
+each_variable_definition_of _ = []
+
+abbrev pub variable_definitions_of : Shape → List VariableDefinitionTree
+variable_definitions_of (Node k (Both o (Both vs c))) = each_variable_definition_of vs
+variable_definitions_of _ = []
+
+abbrev pub optional_variable_definitions_of : Shape → List VariableDefinitionTree
+optional_variable_definitions_of (First vs) = variable_definitions_of vs
+optional_variable_definitions_of _ = []
+
+abbrev pub optional_name_of : Shape → Option (List ℕ)
+optional_name_of (First n) = Some (spelling_at n)
+optional_name_of _ = None
+
+-- what every operation has after its keyword
+pub record OperationBodyTree : Type 0 where
+  pub name : Option (List ℕ)
+  pub variables : List VariableDefinitionTree
+  pub directives : List DirectiveTree
+  pub selected : SelectionSetTree
+
+abbrev pub operation_body_of : Shape → OperationBodyTree
+operation_body_of (Node k (Both n (Both vs (Both ds s)))) =
+    record { name = optional_name_of n; variables = optional_variable_definitions_of vs; directives = directives_of ds; selected = selection_set_of s }
+operation_body_of _ = record { name = None; variables = []; directives = []; selected = no_selection_set nowhere }
+
+-- an operation of this kind stands at its keyword
+abbrev pub keyword_of : OperationKind → Shape → OperationTree
+keyword_of kind (Both w c) =
+    record {
+      kind = kind;
+      position = place_at w;
+      name = (operation_body_of c).name;
+      variables = (operation_body_of c).variables;
+      directives = (operation_body_of c).directives;
+      selected = (operation_body_of c).selected;
+    }
+keyword_of kind _ = record { kind = kind; position = nowhere; name = None; variables = []; directives = []; selected = no_selection_set nowhere }
+
+abbrev pub operation_of : Shape → DefinitionTree
+operation_of (Node k (First s)) = short (selection_set_of s)
+operation_of (Node k (Second (First o))) = operation (keyword_of query_kind o)
+operation_of (Node k (Second (Second (First o)))) = operation (keyword_of mutation_kind o)
+operation_of (Node k (Second (Second (Second o)))) = operation (keyword_of subscription_kind o)
+operation_of _ = short (no_selection_set nowhere)
+
+-- a fragment stands at its keyword
+abbrev pub fragment_definition_of : Shape → FragmentDefinitionTree
+fragment_definition_of (Node k (Both w (Both n (Both c (Both ds s))))) =
+    record { position = place_at w; name = spelling_at n; condition = type_condition_of c; directives = directives_of ds; selected = selection_set_of s }
+fragment_definition_of _ = record { position = nowhere; name = []; condition = []; directives = []; selected = no_selection_set nowhere }
+
+abbrev pub definition_of : Shape → DefinitionTree
+definition_of (Node k (First o)) = operation_of o
+definition_of (Node k (Second f)) = fragment (fragment_definition_of f)
+definition_of _ = short (no_selection_set nowhere)
+
+abbrev pub definitions_of : Shape → DocumentTree
+definitions_of (Both x xs) = definition_of x ∷ definitions_of xs
+definitions_of (More x xs) = definition_of x ∷ definitions_of xs
+definitions_of _ = []
+
+abbrev pub document_of : Shape → DocumentTree
+document_of (Node k x) = definitions_of x
+document_of _ = []

@@ -1,0 +1,113 @@
+-- Documents whose layouts are documents again.
+use Rattle.std.specs.Prelude.{ℕ, ◌+◌, ◌≤◌, max, List, [], ◌∷◌, codes}
+use Rattle.std.specs.List.{AllByRecursion}
+use Rattle.std.specs.Option.{IfSome, option_map_or}
+use Rattle.graphql_lexer.specs.Lexical.{IsName}
+use Rattle.graphql_values.specs.Printable.{IsNameBut, IsPrintableArgument, IsPrintableDirective, IsPrintableType, IsPrintableDefault, most, in_parentheses}
+use Rattle.graphql_values.specs.Printable.{value_brackets, type_brackets, arguments_brackets, directives_brackets}
+use Rattle.graphql_query_tree.specs.Tree.{SelectionTree, field, spread, inline, SelectionSetTree, set, SelectionTrees, none, more, VariableDefinitionTree}
+use Rattle.graphql_query_tree.specs.Tree.{OperationTree, FragmentDefinitionTree, DefinitionTree, short, operation, fragment, DocumentTree}
+
+-- ---- names, types and values
+
+abbrev mutual
+  pub IsPrintableSelection : SelectionTree → Type 0
+  IsPrintableSelection (field p alias n arguments ds s) = IfSome alias IsName × IsName n × AllByRecursion IsPrintableArgument arguments
+      × AllByRecursion IsPrintableDirective ds × IsPrintableSet s
+  IsPrintableSelection (spread p n ds) = IsNameBut (codes "on" ∷ []) n × AllByRecursion IsPrintableDirective ds
+  IsPrintableSelection (inline p condition ds s) = IfSome condition IsName × AllByRecursion IsPrintableDirective ds × IsPrintableSet s
+
+  pub IsPrintableSet : SelectionSetTree → Type 0
+  IsPrintableSet (set o c ss) = ArePrintableSelections ss
+
+  pub ArePrintableSelections : SelectionTrees → Type 0
+  ArePrintableSelections none = Unit {0}
+  ArePrintableSelections (more s ss) = IsPrintableSelection s × ArePrintableSelections ss
+
+abbrev pub IsPrintableVariable : VariableDefinitionTree → Type 0
+IsPrintableVariable v = IsName v.name × IsPrintableType v.var_type × IfSome v.default_value IsPrintableDefault
+
+abbrev pub IsPrintableOperation : OperationTree → Type 0
+IsPrintableOperation o = IfSome o.name IsName × AllByRecursion IsPrintableVariable o.variables × AllByRecursion IsPrintableDirective o.directives
+    × IsPrintableSet o.selected
+
+abbrev pub IsPrintableFragment : FragmentDefinitionTree → Type 0
+IsPrintableFragment f = IsName f.name × IsName f.condition × AllByRecursion IsPrintableDirective f.directives × IsPrintableSet f.selected
+
+abbrev pub IsPrintableDefinition : DefinitionTree → Type 0
+IsPrintableDefinition (short s) = IsPrintableSet s
+IsPrintableDefinition (operation o) = IsPrintableOperation o
+IsPrintableDefinition (fragment f) = IsPrintableFragment f
+
+-- ---- selections
+
+abbrev pub Selects : SelectionSetTree → Type 0
+Selects (set o c none) = ⊥
+Selects (set o c (more s ss)) = Unit {0}
+
+abbrev mutual
+  -- the sets inside select something, but for fields' own
+  pub SelectsInside : SelectionTree → Type 0
+  SelectsInside (field p alias n arguments ds s) = SelectInside s
+  SelectsInside (spread p n ds) = Unit {0}
+  SelectsInside (inline p condition ds s) = Selects s × SelectInside s
+
+  pub SelectInside : SelectionSetTree → Type 0
+  SelectInside (set o c ss) = AllSelectInside ss
+
+  pub AllSelectInside : SelectionTrees → Type 0
+  AllSelectInside none = Unit {0}
+  AllSelectInside (more s ss) = SelectsInside s × AllSelectInside ss
+
+abbrev pub selection_set_of_definition : DefinitionTree → SelectionSetTree
+selection_set_of_definition (short s) = s
+selection_set_of_definition (operation o) = o.selected
+selection_set_of_definition (fragment f) = f.selected
+
+abbrev pub DefinitionSelects : DefinitionTree → Type 0
+DefinitionSelects d = Selects (selection_set_of_definition d) × SelectInside (selection_set_of_definition d)
+
+-- ---- brackets that are open at once
+
+abbrev mutual
+  pub selection_brackets : SelectionTree → ℕ
+  selection_brackets (field p alias n arguments ds s) = max (arguments_brackets arguments) (max (directives_brackets ds) (selected_brackets s))
+  selection_brackets (spread p n ds) = directives_brackets ds
+  selection_brackets (inline p condition ds s) = max (directives_brackets ds) (selection_set_brackets s)
+
+  -- a field without selections has no braces
+  pub selected_brackets : SelectionSetTree → ℕ
+  selected_brackets (set o c none) = 0
+  selected_brackets (set o c (more s ss)) = selections_brackets (more s ss) + 1
+
+  pub selection_set_brackets : SelectionSetTree → ℕ
+  selection_set_brackets (set o c ss) = selections_brackets ss + 1
+
+  pub selections_brackets : SelectionTrees → ℕ
+  selections_brackets none = 0
+  selections_brackets (more s ss) = max (selection_brackets s) (selections_brackets ss)
+
+abbrev pub variable_definition_brackets : VariableDefinitionTree → ℕ
+variable_definition_brackets v = max (type_brackets v.var_type) (option_map_or value_brackets v.default_value 0)
+
+abbrev pub variable_definitions_brackets : List VariableDefinitionTree → ℕ
+variable_definitions_brackets = in_parentheses variable_definition_brackets
+
+abbrev pub definition_brackets : DefinitionTree → ℕ
+definition_brackets (short s) = selection_set_brackets s
+definition_brackets (operation o) = max (variable_definitions_brackets o.variables) (max (directives_brackets o.directives) (selection_set_brackets o.selected))
+definition_brackets (fragment f) = max (directives_brackets f.directives) (selection_set_brackets f.selected)
+
+-- ---- documents
+
+abbrev pub HasDefinition : DocumentTree → Type 0
+HasDefinition [] = ⊥
+HasDefinition (d ∷ ds) = Unit {0}
+
+-- a document whose layout is a document again
+pub record IsPrintable (d : DocumentTree) : Type 0 where
+  pub definition : HasDefinition d
+  -- names, types and values
+  pub names : AllByRecursion IsPrintableDefinition d
+  pub selections : AllByRecursion DefinitionSelects d
+  pub depth : most definition_brackets d ≤ 50

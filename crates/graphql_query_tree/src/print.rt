@@ -1,0 +1,41 @@
+//! The text of queries.
+mod definition;
+mod display;
+mod levels;
+mod operation;
+mod selection;
+
+ghost use Rattle.std.specs.Prelude.{◌≡◌, ◌↔◌, IfOk, IsErrOf, string_bytes};
+ghost use Rattle.graphql_query_tree.specs.Document.{IsReadBack};
+ghost use Rattle.graphql_query_tree.specs.Printable.{IsPrintable};
+ghost use Rattle.graphql_query_tree.specs.Tree.{document_view};
+ghost use Rattle.graphql_query_tree.specs.Layout.{layout, IsTooWide};
+
+use crate::tree::Document;
+use definition::write_document;
+use graphql_core::common::Names;
+use graphql_core::format::{Buffer, FormatError, Style};
+use graphql_values::print::is_too_wide;
+use levels::levels_in_document;
+use std::alloc::Global;
+
+impl<N: Names> Document<N> {
+    /// The text of the document in a style.
+    ///
+    /// `TooWide` where the levels that are open at once take more than `u32::MAX` spaces, which is decided before any
+    /// allocation; `OutOfMemory` where an allocation fails.
+    pub fn format(&self, alloc: Global, style: &Style) -> Result<String, FormatError>
+        ensures text { IfOk result (λ text. string_bytes text ≡ layout style.now (document_view N.bytes self.now)) }
+        // What can be printed is read back, but for positions.
+        ensures read_back { IfOk result (λ text. IsPrintable (document_view N.bytes self.now)
+            → IsReadBack (string_bytes text) (document_view N.bytes self.now)) }
+        ensures too_wide { IsErrOf result FormatError.TooWide ↔ IsTooWide style.now (document_view N.bytes self.now) }
+    {
+        if is_too_wide(levels_in_document(self, style), style) {
+            return Err(FormatError::TooWide);
+        }
+        let mut text = Buffer::new(alloc);
+        write_document(&mut text, self, style)?;
+        Ok(text.into_string())
+    }
+}

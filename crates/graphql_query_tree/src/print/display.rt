@@ -1,0 +1,240 @@
+//! Display of the trees: the text in the default style, unless that is too wide.
+ghost use Rattle.std.specs.Prelude.{Some, None, OnOk};
+ghost use Rattle.std.specs.Fmt.{DisplaysOnOk, DisplaysStyledOnOk};
+ghost use Rattle.graphql_core.specs.Style.{default_style};
+ghost use Rattle.graphql_core.specs.Parts.{text_of};
+ghost use Rattle.graphql_values.specs.ValueLayout.{IsNarrow};
+ghost use Rattle.graphql_query_tree.specs.Tree.{fragment_spread_view, field_view, inline_fragment_view, selection_set_view, type_condition_view};
+ghost use Rattle.graphql_query_tree.specs.Tree.{variable_definition_view};
+ghost use Rattle.graphql_query_tree.specs.Tree.{query_view, mutation_view, subscription_view, fragment_definition_view, operation_view, definition_view};
+ghost use Rattle.graphql_query_tree.specs.Tree.{document_view};
+ghost use Rattle.graphql_query_tree.specs.Layout.{selection_layout, selection_set_layout, type_condition_layout, variable_definition_layout, operation_layout};
+ghost use Rattle.graphql_query_tree.specs.Layout.{fragment_definition_layout, definition_layout, layout};
+ghost use Rattle.graphql_query_tree.specs.Layout.{selection_levels, selection_set_levels, variable_definition_levels, operation_levels};
+ghost use Rattle.graphql_query_tree.specs.Layout.{fragment_definition_levels, definition_levels, levels};
+
+use crate::print::definition::{
+    write_definition, write_document, write_fragment_definition, write_operation_definition,
+};
+use crate::print::levels::{
+    levels_in_definition, levels_in_document, levels_in_field, levels_in_fragment_definition,
+    levels_in_fragment_spread, levels_in_inline_fragment, levels_in_operation,
+    levels_in_operation_definition, levels_in_selection_set, levels_in_variable_definition,
+};
+use crate::print::operation::{
+    write_mutation, write_query, write_subscription, write_variable_definition,
+};
+use crate::print::selection::{
+    write_field, write_fragment_spread, write_inline_fragment, write_selection_set,
+    write_type_condition,
+};
+use crate::tree::{
+    Definition, Document, Field, FragmentDefinition, FragmentSpread, InlineFragment, Mutation,
+    OperationDefinition, Query, SelectionSet, Subscription, TypeCondition, VariableDefinition,
+};
+use graphql_core::common::Names;
+use graphql_core::format::Style;
+use graphql_values::print::check_width;
+use std::fmt;
+
+impl<N: Names> fmt::Display for Document<N> {
+    ghost output = { λ t. Some (layout default_style (document_view N.bytes t)) };
+
+    fn fmt<W: fmt::Write>(&self, f: &mut fmt::Formatter<W>) -> fmt::Result
+        ensures writes { DisplaysOnOk W.write_str_gives f.old result (Some (layout default_style (document_view N.bytes self.now))) f.new }
+        ensures styled { DisplaysStyledOnOk W.write_str_gives f.old result None f.new }
+        ensures narrow { OnOk result (IsNarrow (levels default_style (document_view N.bytes self.now))) }
+    {
+        let style = Style::default();
+        check_width(levels_in_document(self, &style), &style)?;
+        write_document(f, self, &style)
+    }
+}
+
+impl<N: Names> fmt::Display for Definition<N> {
+    ghost output = { λ t. Some (text_of (definition_layout default_style (definition_view N.bytes t))) };
+
+    fn fmt<W: fmt::Write>(&self, f: &mut fmt::Formatter<W>) -> fmt::Result
+        ensures writes { DisplaysOnOk W.write_str_gives f.old result (Some (text_of (definition_layout default_style (definition_view N.bytes self.now))))
+            f.new }
+        ensures styled { DisplaysStyledOnOk W.write_str_gives f.old result None f.new }
+        ensures narrow { OnOk result (IsNarrow (definition_levels default_style (definition_view N.bytes self.now))) }
+    {
+        let style = Style::default();
+        check_width(levels_in_definition(self, &style), &style)?;
+        write_definition(f, self, &style)
+    }
+}
+
+impl<N: Names> fmt::Display for OperationDefinition<N> {
+    ghost output = { λ t. Some (text_of (definition_layout default_style (operation_view N.bytes t))) };
+
+    fn fmt<W: fmt::Write>(&self, f: &mut fmt::Formatter<W>) -> fmt::Result
+        ensures writes { DisplaysOnOk W.write_str_gives f.old result (Some (text_of (definition_layout default_style (operation_view N.bytes self.now))))
+            f.new }
+        ensures styled { DisplaysStyledOnOk W.write_str_gives f.old result None f.new }
+        ensures narrow { OnOk result (IsNarrow (definition_levels default_style (operation_view N.bytes self.now))) }
+    {
+        let style = Style::default();
+        check_width(levels_in_operation_definition(self, &style), &style)?;
+        write_operation_definition(f, self, &style)
+    }
+}
+
+impl<N: Names> fmt::Display for FragmentDefinition<N> {
+    ghost output = { λ t. Some (text_of (fragment_definition_layout default_style (fragment_definition_view N.bytes t))) };
+
+    fn fmt<W: fmt::Write>(&self, f: &mut fmt::Formatter<W>) -> fmt::Result
+        ensures writes { DisplaysOnOk W.write_str_gives f.old result
+            (Some (text_of (fragment_definition_layout default_style (fragment_definition_view N.bytes self.now)))) f.new }
+        ensures styled { DisplaysStyledOnOk W.write_str_gives f.old result None f.new }
+        ensures narrow { OnOk result (IsNarrow (fragment_definition_levels default_style (fragment_definition_view N.bytes self.now))) }
+    {
+        let style = Style::default();
+        check_width(levels_in_fragment_definition(self, &style), &style)?;
+        write_fragment_definition(f, self, &style)
+    }
+}
+
+impl<N: Names> fmt::Display for Query<N> {
+    ghost output = { λ t. Some (text_of (operation_layout default_style (query_view N.bytes t))) };
+
+    fn fmt<W: fmt::Write>(&self, f: &mut fmt::Formatter<W>) -> fmt::Result
+        ensures writes { DisplaysOnOk W.write_str_gives f.old result (Some (text_of (operation_layout default_style (query_view N.bytes self.now)))) f.new }
+        ensures styled { DisplaysStyledOnOk W.write_str_gives f.old result None f.new }
+        ensures narrow { OnOk result (IsNarrow (operation_levels default_style (query_view N.bytes self.now))) }
+    {
+        let style = Style::default();
+        let levels = levels_in_operation(
+            &self.variable_definitions,
+            &self.directives,
+            &self.selection_set,
+            &style,
+        );
+        check_width(levels, &style)?;
+        write_query(f, self, &style)
+    }
+}
+
+impl<N: Names> fmt::Display for Mutation<N> {
+    ghost output = { λ t. Some (text_of (operation_layout default_style (mutation_view N.bytes t))) };
+
+    fn fmt<W: fmt::Write>(&self, f: &mut fmt::Formatter<W>) -> fmt::Result
+        ensures writes { DisplaysOnOk W.write_str_gives f.old result (Some (text_of (operation_layout default_style (mutation_view N.bytes self.now)))) f.new }
+        ensures styled { DisplaysStyledOnOk W.write_str_gives f.old result None f.new }
+        ensures narrow { OnOk result (IsNarrow (operation_levels default_style (mutation_view N.bytes self.now))) }
+    {
+        let style = Style::default();
+        let levels = levels_in_operation(
+            &self.variable_definitions,
+            &self.directives,
+            &self.selection_set,
+            &style,
+        );
+        check_width(levels, &style)?;
+        write_mutation(f, self, &style)
+    }
+}
+
+impl<N: Names> fmt::Display for Subscription<N> {
+    ghost output = { λ t. Some (text_of (operation_layout default_style (subscription_view N.bytes t))) };
+
+    fn fmt<W: fmt::Write>(&self, f: &mut fmt::Formatter<W>) -> fmt::Result
+        ensures writes { DisplaysOnOk W.write_str_gives f.old result (Some (text_of (operation_layout default_style (subscription_view N.bytes self.now))))
+            f.new }
+        ensures styled { DisplaysStyledOnOk W.write_str_gives f.old result None f.new }
+        ensures narrow { OnOk result (IsNarrow (operation_levels default_style (subscription_view N.bytes self.now))) }
+    {
+        let style = Style::default();
+        let levels = levels_in_operation(
+            &self.variable_definitions,
+            &self.directives,
+            &self.selection_set,
+            &style,
+        );
+        check_width(levels, &style)?;
+        write_subscription(f, self, &style)
+    }
+}
+
+impl<N: Names> fmt::Display for VariableDefinition<N> {
+    ghost output = { λ t. Some (text_of (variable_definition_layout default_style (variable_definition_view N.bytes t))) };
+
+    fn fmt<W: fmt::Write>(&self, f: &mut fmt::Formatter<W>) -> fmt::Result
+        ensures writes { DisplaysOnOk W.write_str_gives f.old result
+            (Some (text_of (variable_definition_layout default_style (variable_definition_view N.bytes self.now)))) f.new }
+        ensures styled { DisplaysStyledOnOk W.write_str_gives f.old result None f.new }
+        ensures narrow { OnOk result (IsNarrow (variable_definition_levels default_style (variable_definition_view N.bytes self.now))) }
+    {
+        let style = Style::default();
+        check_width(levels_in_variable_definition(self, &style), &style)?;
+        write_variable_definition(f, self, &style)
+    }
+}
+
+impl<N: Names> fmt::Display for SelectionSet<N> {
+    ghost output = { λ t. Some (text_of (selection_set_layout default_style 0 (selection_set_view N.bytes t))) };
+
+    fn fmt<W: fmt::Write>(&self, f: &mut fmt::Formatter<W>) -> fmt::Result
+        ensures writes { DisplaysOnOk W.write_str_gives f.old result
+            (Some (text_of (selection_set_layout default_style 0 (selection_set_view N.bytes self.now)))) f.new }
+        ensures styled { DisplaysStyledOnOk W.write_str_gives f.old result None f.new }
+        ensures narrow { OnOk result (IsNarrow (selection_set_levels default_style (selection_set_view N.bytes self.now))) }
+    {
+        let style = Style::default();
+        check_width(levels_in_selection_set(self, &style), &style)?;
+        write_selection_set(f, self, &style, 0)
+    }
+}
+
+impl<N: Names> fmt::Display for Field<N> {
+    ghost output = { λ t. Some (text_of (selection_layout default_style 0 (field_view N.bytes t))) };
+
+    fn fmt<W: fmt::Write>(&self, f: &mut fmt::Formatter<W>) -> fmt::Result
+        ensures writes { DisplaysOnOk W.write_str_gives f.old result (Some (text_of (selection_layout default_style 0 (field_view N.bytes self.now)))) f.new }
+        ensures styled { DisplaysStyledOnOk W.write_str_gives f.old result None f.new }
+        ensures narrow { OnOk result (IsNarrow (selection_levels default_style (field_view N.bytes self.now))) }
+    {
+        let style = Style::default();
+        check_width(levels_in_field(self, &style), &style)?;
+        write_field(f, self, &style, 0)
+    }
+}
+
+impl<N: Names> fmt::Display for FragmentSpread<N> {
+    ghost output = { λ t. Some (text_of (selection_layout default_style 0 (fragment_spread_view N.bytes t))) };
+
+    fn fmt<W: fmt::Write>(&self, f: &mut fmt::Formatter<W>) -> fmt::Result
+        ensures writes { DisplaysOnOk W.write_str_gives f.old result
+            (Some (text_of (selection_layout default_style 0 (fragment_spread_view N.bytes self.now)))) f.new }
+        ensures styled { DisplaysStyledOnOk W.write_str_gives f.old result None f.new }
+        ensures narrow { OnOk result (IsNarrow (selection_levels default_style (fragment_spread_view N.bytes self.now))) }
+    {
+        let style = Style::default();
+        check_width(levels_in_fragment_spread(self, &style), &style)?;
+        write_fragment_spread(f, self, &style, 0)
+    }
+}
+
+impl<N: Names> fmt::Display for InlineFragment<N> {
+    ghost output = { λ t. Some (text_of (selection_layout default_style 0 (inline_fragment_view N.bytes t))) };
+
+    fn fmt<W: fmt::Write>(&self, f: &mut fmt::Formatter<W>) -> fmt::Result
+        ensures writes { DisplaysOnOk W.write_str_gives f.old result
+            (Some (text_of (selection_layout default_style 0 (inline_fragment_view N.bytes self.now)))) f.new }
+        ensures styled { DisplaysStyledOnOk W.write_str_gives f.old result None f.new }
+        ensures narrow { OnOk result (IsNarrow (selection_levels default_style (inline_fragment_view N.bytes self.now))) }
+    {
+        let style = Style::default();
+        check_width(levels_in_inline_fragment(self, &style), &style)?;
+        write_inline_fragment(f, self, &style, 0)
+    }
+}
+
+impl<N: Names> fmt::Display for TypeCondition<N> {
+    ghost output = { λ t. Some (text_of (type_condition_layout (type_condition_view N.bytes t))) };
+
+    fn fmt<W: fmt::Write>(&self, f: &mut fmt::Formatter<W>) -> fmt::Result {
+        write_type_condition(f, self)
+    }
+}

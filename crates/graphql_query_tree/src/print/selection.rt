@@ -1,0 +1,179 @@
+//! Writers of selections. A line begins with a margin of so many spaces.
+ghost use Rattle.std.specs.Prelude.{◌≡◌, ◌+◌, ◌*◌, ◌^◌, ◌<◌, OnOk, option_map};
+ghost use Rattle.graphql_core.specs.Parts.{text_of};
+ghost use Rattle.graphql_query_tree.specs.Tree.{type_condition_view, fragment_spread_view, field_view, inline_fragment_view, selection_view, selections_view};
+ghost use Rattle.graphql_query_tree.specs.Tree.{selection_set_view};
+ghost use Rattle.graphql_query_tree.specs.Layout.{alias_layout, type_condition_layout, on_layout, selection_layout, selected_layout, selections_layout};
+ghost use Rattle.graphql_query_tree.specs.Layout.{selection_set_layout};
+ghost use Rattle.graphql_query_tree.specs.Layout.{selection_levels, selected_levels, selections_levels, selection_set_levels};
+
+use crate::tree::{Field, FragmentSpread, InlineFragment, Selection, SelectionSet, TypeCondition};
+use graphql_core::common::Names;
+use graphql_core::format::{Sink, Style};
+use graphql_values::print::{write_arguments, write_directives, write_spaces};
+
+/// Appends the alias before a name, where there is one.
+fn write_alias<S: Sink, N: Names>(out: &mut S, alias: &Option<N::Value>) -> Result<(), S::Error>
+    ensures { OnOk result (S.took out.old (text_of (alias_layout (option_map N.bytes alias.now))) out.new) }
+{
+    let Some(name) = alias else {
+        return Ok(());
+    };
+    out.push_str(N::view(name))?;
+    out.push_str(": ")
+}
+
+/// Appends the type that a fragment is on.
+pub fn write_type_condition<S: Sink, N: Names>(
+    out: &mut S,
+    condition: &TypeCondition<N>,
+) -> Result<(), S::Error>
+    ensures { OnOk result (S.took out.old (text_of (type_condition_layout (type_condition_view N.bytes condition.now))) out.new) }
+{
+    match condition {
+        TypeCondition::On(name) => {
+            out.push_str("on ")?;
+            out.push_str(N::view(name))
+        }
+    }
+}
+
+/// Appends the type that an inline fragment is on, where there is one.
+fn write_on<S: Sink, N: Names>(
+    out: &mut S,
+    condition: &Option<TypeCondition<N>>,
+) -> Result<(), S::Error>
+    ensures { OnOk result (S.took out.old (text_of (on_layout (option_map (type_condition_view N.bytes) condition.now))) out.new) }
+{
+    let Some(condition) = condition else {
+        return Ok(());
+    };
+    out.push_str(" ")?;
+    write_type_condition(out, condition)
+}
+
+/// Appends the spread of a fragment, in a line.
+pub fn write_fragment_spread<S: Sink, N: Names>(
+    out: &mut S,
+    spread: &FragmentSpread<N>,
+    style: &Style,
+    margin: usize,
+) -> Result<(), S::Error>
+    requires { margin + selection_levels style.now (fragment_spread_view N.bytes spread.now) * style.now.indent < 2 ^ 32 }
+    ensures { OnOk result (S.took out.old (text_of (selection_layout style.now margin (fragment_spread_view N.bytes spread.now))) out.new) }
+{
+    write_spaces(out, margin)?;
+    out.push_str("...")?;
+    out.push_str(N::view(&spread.fragment_name))?;
+    write_directives(out, &spread.directives, style, margin)?;
+    out.push_str("\n")
+}
+
+/// Appends a selection set in braces, of which the closing one stands at the margin.
+#[cycle(print)]
+pub fn write_selection_set<S: Sink, N: Names>(
+    out: &mut S,
+    set: &SelectionSet<N>,
+    style: &Style,
+    margin: usize,
+) -> Result<(), S::Error>
+    requires { margin + selection_set_levels style.now (selection_set_view N.bytes set.now) * style.now.indent < 2 ^ 32 }
+    ensures { OnOk result (S.took out.old (text_of (selection_set_layout style.now margin (selection_set_view N.bytes set.now))) out.new) }
+{
+    out.push_str("{\n")?;
+    let inside = margin + style.indentation() as usize;
+    write_selections(out, &set.items, style, inside)?;
+    write_spaces(out, margin)?;
+    out.push_str("}\n")
+}
+
+/// Appends selections, each in lines of its own.
+#[cycle(print)]
+fn write_selections<S: Sink, N: Names>(
+    out: &mut S,
+    items: &Vec<Selection<N>>,
+    style: &Style,
+    margin: usize,
+) -> Result<(), S::Error>
+    requires { margin + selections_levels style.now (selections_view N.bytes items.now.items) * style.now.indent < 2 ^ 32 }
+    ensures { OnOk result (S.took out.old (text_of (selections_layout style.now margin (selections_view N.bytes items.now.items))) out.new) }
+{
+    'items: for item in items {
+        write_selection(out, item, style, margin)?;
+    }
+    Ok(())
+}
+
+/// Appends a selection, in lines of its own.
+#[cycle(print)]
+fn write_selection<S: Sink, N: Names>(
+    out: &mut S,
+    selection: &Selection<N>,
+    style: &Style,
+    margin: usize,
+) -> Result<(), S::Error>
+    requires { margin + selection_levels style.now (selection_view N.bytes selection.now) * style.now.indent < 2 ^ 32 }
+    ensures { OnOk result (S.took out.old (text_of (selection_layout style.now margin (selection_view N.bytes selection.now))) out.new) }
+{
+    match selection {
+        Selection::Field(field) => write_field(out, field, style, margin),
+        Selection::FragmentSpread(spread) => write_fragment_spread(out, spread, style, margin),
+        Selection::InlineFragment(fragment) => write_inline_fragment(out, fragment, style, margin),
+    }
+}
+
+/// Appends a field, and what is selected of it.
+#[cycle(print)]
+pub fn write_field<S: Sink, N: Names>(
+    out: &mut S,
+    field: &Field<N>,
+    style: &Style,
+    margin: usize,
+) -> Result<(), S::Error>
+    requires { margin + selection_levels style.now (field_view N.bytes field.now) * style.now.indent < 2 ^ 32 }
+    ensures { OnOk result (S.took out.old (text_of (selection_layout style.now margin (field_view N.bytes field.now))) out.new) }
+{
+    write_spaces(out, margin)?;
+    write_alias::<S, N>(out, &field.alias)?;
+    out.push_str(N::view(&field.name))?;
+    write_arguments(out, &field.arguments, style, margin)?;
+    write_directives(out, &field.directives, style, margin)?;
+    write_selected(out, &field.selection_set, style, margin)
+}
+
+/// Appends what is selected of a field, which has no braces where that is nothing.
+#[cycle(print)]
+fn write_selected<S: Sink, N: Names>(
+    out: &mut S,
+    set: &SelectionSet<N>,
+    style: &Style,
+    margin: usize,
+) -> Result<(), S::Error>
+    requires { margin + selected_levels style.now (selection_set_view N.bytes set.now) * style.now.indent < 2 ^ 32 }
+    ensures { OnOk result (S.took out.old (text_of (selected_layout style.now margin (selection_set_view N.bytes set.now))) out.new) }
+{
+    if set.items.is_empty() {
+        return out.push_str("\n");
+    }
+    out.push_str(" ")?;
+    write_selection_set(out, set, style, margin)
+}
+
+/// Appends an inline fragment.
+#[cycle(print)]
+pub fn write_inline_fragment<S: Sink, N: Names>(
+    out: &mut S,
+    fragment: &InlineFragment<N>,
+    style: &Style,
+    margin: usize,
+) -> Result<(), S::Error>
+    requires { margin + selection_levels style.now (inline_fragment_view N.bytes fragment.now) * style.now.indent < 2 ^ 32 }
+    ensures { OnOk result (S.took out.old (text_of (selection_layout style.now margin (inline_fragment_view N.bytes fragment.now))) out.new) }
+{
+    write_spaces(out, margin)?;
+    out.push_str("...")?;
+    write_on(out, &fragment.type_condition)?;
+    write_directives(out, &fragment.directives, style, margin)?;
+    out.push_str(" ")?;
+    write_selection_set(out, &fragment.selection_set, style, margin)
+}

@@ -1,0 +1,5 @@
+pub mod Readable
+pub mod Computed
+pub mod Answering
+pub mod Refused
+pub mod NoPositions

@@ -1,0 +1,87 @@
+-- Layouts of schemas say nothing of positions.
+use Rattle.std.proofs.Common.{◌≡◌, ◌++◌, ap, ap₂, refl, codes, ℕ, List, [], ◌∷◌, map}
+use Rattle.std.specs.List.{flat_map}
+use Rattle.graphql_core.specs.Style.{Layout}
+use Rattle.graphql_core.specs.Parts.{Part, text_of, mark, gap, name}
+use Rattle.graphql_values.specs.Values.{DirectiveTree, erase_all}
+use Rattle.graphql_values.specs.Lines.{in_braces}
+use Rattle.graphql_values.proofs.NoPositions.{directives_alike, separated_alike}
+use Rattle.graphql_schema_tree.specs.Tree.{InputValueTree, FieldTree, EnumValueTree, PartsTree, scalar, object, interface, union, enum, input, BodyTree}
+use Rattle.graphql_schema_tree.specs.Tree.{DefinitionTree, schema, type_definition, extension, directive, DocumentTree, erase_input_value, erase_field}
+use Rattle.graphql_schema_tree.specs.Tree.{erase_enum_value, erase_parts, erase_body, erase_definition, erase}
+use Rattle.graphql_schema_tree.specs.Layout.{block_layout, description_layout, input_value_layout, later_arguments, arguments_layout, input_field_layout}
+use Rattle.graphql_schema_tree.specs.Layout.{field_layout, enum_value_layout, keyword, parts_layout, body_layout, definition_layout, layout}
+
+-- ---- parts in braces
+
+module _ {A : Type 0} (erased : A → A) (lines : A → List Part) (same : (x : A) → lines (erased x) ≡ lines x) where
+  lines_alike : (xs : List A) → flat_map lines (map erased xs) ≡ flat_map lines xs
+  lines_alike [] = refl
+  lines_alike (x ∷ xs) = ap₂ (λ a b. a ++ b) (same x) (lines_alike xs)
+
+  block_alike : (margin : ℕ) (xs : List A) → block_layout margin lines (map erased xs) ≡ block_layout margin lines xs
+  block_alike margin [] = refl
+  block_alike margin (x ∷ xs) = ap (λ r. gap (codes " ") ++ in_braces margin r) (lines_alike (x ∷ xs))
+
+-- ---- parts of definitions
+
+input_value_alike : (style : Layout) (margin : ℕ) (v : InputValueTree)
+    → input_value_layout style margin (erase_input_value v) ≡ input_value_layout style margin v
+input_value_alike style margin v = rw (directives_alike style margin v.directives) refl
+
+later_alike : (style : Layout) (margin : ℕ) (vs : List InputValueTree)
+    → later_arguments style margin (map erase_input_value vs) ≡ later_arguments style margin vs
+later_alike style margin [] = refl
+later_alike style margin (v ∷ vs) = ap₂ (λ a b. gap (codes ", ") ++ (a ++ b)) (input_value_alike style margin v) (later_alike style margin vs)
+
+arguments_alike : (style : Layout) (margin : ℕ) (vs : List InputValueTree)
+    → arguments_layout style margin (map erase_input_value vs) ≡ arguments_layout style margin vs
+arguments_alike style margin [] = refl
+arguments_alike style margin (v ∷ vs) =
+    ap₂ (λ a b. mark (codes "(") ++ (a ++ (b ++ mark (codes ")")))) (input_value_alike style margin v) (later_alike style margin vs)
+
+input_field_alike : (style : Layout) (margin : ℕ) (v : InputValueTree)
+    → input_field_layout style margin (erase_input_value v) ≡ input_field_layout style margin v
+input_field_alike style margin v = rw (directives_alike style margin v.directives) refl
+
+field_alike : (style : Layout) (margin : ℕ) (f : FieldTree) → field_layout style margin (erase_field f) ≡ field_layout style margin f
+field_alike style margin f = rw (arguments_alike style margin f.arguments, directives_alike style margin f.directives) refl
+
+enum_value_alike : (style : Layout) (margin : ℕ) (v : EnumValueTree) → enum_value_layout style margin (erase_enum_value v) ≡ enum_value_layout style margin v
+enum_value_alike style margin v = rw (directives_alike style margin v.directives) refl
+
+-- ---- definitions
+
+parts_alike : (style : Layout) (ds : List DirectiveTree) (p : PartsTree) → parts_layout style (erase_all ds) (erase_parts p) ≡ parts_layout style ds p
+parts_alike style ds scalar = rw (directives_alike style 0 ds) refl
+parts_alike style ds (object is fs) =
+    rw (directives_alike style 0 ds, block_alike erase_field (field_layout style style.indent) (field_alike style style.indent) 0 fs) refl
+parts_alike style ds (interface is fs) =
+    rw (directives_alike style 0 ds, block_alike erase_field (field_layout style style.indent) (field_alike style style.indent) 0 fs) refl
+parts_alike style ds (union ts) = rw (directives_alike style 0 ds) refl
+parts_alike style ds (enum vs) =
+    rw (directives_alike style 0 ds, block_alike erase_enum_value (enum_value_layout style style.indent) (enum_value_alike style style.indent) 0 vs) refl
+parts_alike style ds (input fs) =
+    rw (directives_alike style 0 ds, block_alike erase_input_value (input_field_layout style style.indent) (input_field_alike style style.indent) 0 fs) refl
+
+keyword_alike : (p : PartsTree) → keyword (erase_parts p) ≡ keyword p
+keyword_alike scalar = refl
+keyword_alike (object is fs) = refl
+keyword_alike (interface is fs) = refl
+keyword_alike (union ts) = refl
+keyword_alike (enum vs) = refl
+keyword_alike (input fs) = refl
+
+body_alike : (style : Layout) (b : BodyTree) → body_layout style (erase_body b) ≡ body_layout style b
+body_alike style b = ap₂ (λ w r. name w ++ (gap (codes " ") ++ (name b.name ++ r))) (keyword_alike b.parts) (parts_alike style b.directives b.parts)
+
+definition_alike : (style : Layout) (d : DefinitionTree) → definition_layout style (erase_definition d) ≡ definition_layout style d
+definition_alike style (schema s) = rw (directives_alike style 0 s.directives) refl
+definition_alike style (type_definition d b) = ap (λ r. description_layout style 0 d ++ r) (body_alike style b)
+definition_alike style (extension b) = ap (λ r. name (codes "extend") ++ (gap (codes " ") ++ r)) (body_alike style b)
+definition_alike style (directive d) = rw (arguments_alike style 0 d.arguments) refl
+
+-- ---- documents
+
+pub layout_alike : (style : Layout) (d : DocumentTree) → layout style (erase d) ≡ layout style d
+layout_alike style d = ap text_of (separated_alike erase_definition (definition_layout style) (definition_alike style) d)

@@ -1,0 +1,166 @@
+-- The language of schemas is readable.
+use Rattle.std.proofs.Common.{◌≡◌, ◌<◌, ◌==◌, ◌&&◌, ℕ, zero, suc, Bool, true, false, List, [], ◌∷◌, length, drop, Option, Some}
+use Rattle.std.proofs.Common.{inl, inr, refl, sym, ap, subst, ◌∙◌, arith}
+use Rattle.std.proofs.lemmas.Bool.{cases_Bool, and_parts, both_ways}
+use Rattle.std.proofs.lemmas.Bool.Decides.{nat_tests}
+use Rattle.graphql_grammar.specs.Tokens.{Token, Class, Spelled, AnyOf, Except}
+use Rattle.graphql_grammar.specs.Trees.{Expr, Empty, One, Then, Either, Many, Sym, Shape, Row, Grammar, row, row_at, optional, leaves}
+use Rattle.graphql_grammar.specs.Trees.{Fits, fits_both, fits_leaf}
+use Rattle.graphql_grammar.specs.Solve.{with_tables}
+use Rattle.graphql_grammar.specs.Tables.{is_ll1, is_tight, is_productive}
+use Rattle.graphql_grammar.specs.Reading.{lax}
+use Rattle.graphql_grammar.specs.Factored.{EachIsSecond, change_at, written, with_rows}
+use Rattle.graphql_grammar.specs.Faults.{RefusesTokens}
+use Rattle.graphql_grammar.specs.Extended.{Extends, TestsAlike}
+use Rattle.graphql_grammar.proofs.SecondRules.{each_is_second, IsSecond-head}
+use Rattle.graphql_grammar.proofs.Unchanged.{unchanged_then}
+use Rattle.graphql_grammar.proofs.FaultedFor.{one_node_for}
+use Rattle.graphql_grammar.proofs.Extending.{with_more, alone_before}
+use Rattle.graphql_core.specs.Causes.{CauseText}
+use Rattle.graphql_core.specs.Source.{Items, FaultText}
+use Rattle.graphql_values.specs.Grammar.{shared, tables as core_tables, shared_symbols}
+use Rattle.graphql_values.specs.Leaves.{unquoted, is_good as leaves_good}
+use Rattle.graphql_values.specs.Language.{reading}
+use Rattle.graphql_values.proofs.Readable.{IsReadable, shared_rows, one_cause}
+use Rattle.graphql_schema_tree.specs.Grammar.{schema, is_good, rules, second_rules, second_rows, tables, changes, passes}
+use Rattle.graphql_schema_tree.specs.Grammar.{document_symbol, schema_symbol, extension_symbol, description_symbol, type_body_symbol}
+use Rattle.graphql_schema_tree.specs.Grammar.{directive_definition_symbol}
+use Rattle.graphql_schema_tree.specs.Language.{schemas, Lacks, said_of, Says}
+
+ll1 : is_ll1 second_rows ≡ true
+unfolding tables core_tables
+ll1 = refl
+
+tight : is_tight second_rows ≡ true
+unfolding tables core_tables
+tight = refl
+
+productive : is_productive (reading schemas) ≡ true
+unfolding tables core_tables unquoted
+productive = refl
+
+productive_lax : is_productive (with_rows (lax schema) second_rows changes) ≡ true
+unfolding tables core_tables unquoted
+productive_lax = refl
+
+-- ---- the second rules have the trees of the written ones, whatever is tested
+
+each : (good : Class → Token → Bool) (check : ℕ → Shape → Bool)
+    → EachIsSecond (record { rows = schema.rows; good = good; check = check; samples = schema.samples }) second_rows changes
+each good check =
+    let g : Grammar = record { rows = schema.rows; good = good; check = check; samples = schema.samples } in
+    let ws : List Row = with_tables rules [] in
+    let qs : List Row = with_tables second_rules tables in
+    each_is_second g second_rows changes (shared_rows g second_rows changes shared.rows ws qs (drop shared_symbols changes)
+    (unchanged_then g second_rows changes 5 ws qs (drop 16 changes) refl (
+      IsSecond-head g second_rows changes (optional (Sym description_symbol)) (Sym type_body_symbol) (Sym directive_definition_symbol),
+      unchanged_then g second_rows changes 20 (drop 6 ws) (drop 6 qs) [] refl tt,
+    )))
+
+-- ---- it goes on from the grammar of values, types and directives
+
+-- an expression names no location
+abbrev shares : Expr → Bool
+shares Empty = true
+shares (One (Except k [])) = false
+shares (One c) = true
+shares (Then a b) = shares a && shares b
+shares (Either a b) = shares a && shares b
+shares (Many a) = shares a
+shares (Sym k) = true
+
+abbrev all_share : List Row → Bool
+all_share [] = true
+all_share (r ∷ rs) = shares r.rule && all_share rs
+
+shares_at : (rs : List Row) (k : ℕ) → all_share rs ≡ true → k < length rs → shares (row_at rs k).rule ≡ true
+shares_at [] k s h = absurd (omega arith)
+shares_at (r ∷ rs) zero s h = (and_parts (shares r.rule) (all_share rs) s).0
+shares_at (r ∷ rs) (suc k) s h = shares_at rs k (and_parts (shares r.rule) (all_share rs) s).1 (omega arith)
+
+class_alike : (c : Class) (t : Token) → shares (One c) ≡ true → is_good c t ≡ leaves_good c t
+class_alike (Spelled k s) t h = refl
+class_alike (AnyOf k) t h = refl
+class_alike (Except k (s ∷ ss)) t h = refl
+class_alike (Except k []) t h = absurd cc
+
+pub read_alike : (e : Expr) → shares e ≡ true → TestsAlike shared (reading schemas) e
+read_alike Empty h = tt
+read_alike (One c) h = λ t. class_alike c t h
+read_alike (Then a b) h = let s = and_parts (shares a) (shares b) h in (read_alike a s.0, read_alike b s.1)
+read_alike (Either a b) h = let s = and_parts (shares a) (shares b) h in (read_alike a s.0, read_alike b s.1)
+read_alike (Many a) h = read_alike a h
+read_alike (Sym k) h = tt
+
+passes_below : (k : ℕ) (x : Shape) → k < shared_symbols → passes k x ≡ true
+passes_below k x h =
+    let none : (k == schema_symbol) ≡ false = grind (arith, nat_tests) in
+    let neither : (k == extension_symbol) ≡ false = grind (arith, nat_tests) in
+    rw (none, neither) refl
+
+goes_on : Extends shared_symbols shared (reading schemas)
+goes_on = with_more shared _ is_good (reading schemas).check schema.samples refl
+    (λ k h. read_alike (row_at shared.rows k).rule (shares_at shared.rows k refl h))
+    (λ k x h. passes_below k ((change_at changes k).to_written (written changes x)) h)
+
+-- ---- what is refused
+
+-- what begins with a token has one
+has_token : (c : Class) (e : Expr) (x : Shape) → Fits schema (Then (One c) e) x → leaves x ≡ [] → ⊥
+has_token c e _ (fits_both (fits_leaf a) h) empty = absurd cc
+
+refuses_tokens : RefusesTokens schema
+refuses_tokens k x fits refused empty = elim (cases_Bool (k == schema_symbol)) [
+  | inl e ↦
+      let is : k ≡ schema_symbol = grind (arith, nat_tests) in
+      has_token _ _ x (subst (λ (j : ℕ). Fits schema (row schema j).rule x) is fits) empty
+  | inr e ↦ elim (cases_Bool (k == extension_symbol)) [
+    | inl e' ↦
+        let is : k ≡ extension_symbol = grind (arith, nat_tests) in
+        has_token _ _ x (subst (λ (j : ℕ). Fits schema (row schema j).rule x) is fits) empty
+    | inr e' ↦
+        let passed : passes k x ≡ true = rw (e, e') refl in
+        absurd (both_ways (passes k x) refused passed)
+  ]
+]
+
+-- a leaf is refused for one cause
+one_lack : (leaf : Class) (t : Token) (c d : CauseText) → Lacks leaf t c → Lacks leaf t d → c ≡ d
+one_lack (Spelled k s) t c d h w = one_cause t c d h w
+one_lack (AnyOf k) t c d h w = one_cause t c d h w
+one_lack (Except k (s ∷ ss)) t c d h w = one_cause t c d h w
+one_lack (Except k []) t c d h w = h.1 ∙ sym w.1
+
+same_fault : (o : Option FaultText) (f g : FaultText) → o ≡ Some f → o ≡ Some g → f ≡ g
+same_fault o f g p q = cc
+
+-- one thing is said of a node that is refused, for one node at most is refused that ends there
+one_said : (i : Items) (k n : ℕ) (f g : FaultText) → Says k i n f → Says k i n g → f ≡ g
+unfolding tables
+one_said i k n f g (before, us, x, refused, at, said) (before', us', y, refused', at', said') =
+    let same = one_node_for schema second_rows changes (each _ _) (each _ _) ll1 tight productive (Sym document_symbol) refl refl
+    i.tokens before us before' us' k x y refused refused' (sym at ∙ at') in
+    same_fault (said_of k x) f g said (ap (said_of k) same ∙ said')
+
+pub readable : IsReadable schemas
+unfolding tables
+readable = record {
+  ll1 = ll1;
+  tight = tight;
+  productive = productive;
+  productive_lax = productive_lax;
+  decides = refl;
+  samples = refl;
+  samples_lax = refl;
+  each = each _ _;
+  each_unchecked = each _ _;
+  each_lax = each _ _;
+  goes_on = goes_on;
+  alone = alone_before shared _ refl;
+  good = λ k t. refl;
+  lacks = λ k t c h. h;
+  one_cause = one_lack;
+  refuses_tokens = refuses_tokens;
+  passes = λ x. refl;
+  one_said = λ i k n f g x h w. one_said i k n f g h w;
+}

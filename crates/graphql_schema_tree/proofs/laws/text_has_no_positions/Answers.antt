@@ -1,0 +1,5 @@
+use Rattle.graphql_schema_tree.proofs.NoPositions.{layout_alike}
+use Rattle.graphql_schema_tree.proofs.laws.text_has_no_positions.Goals as goal
+
+pub returns : goal.returns
+returns c = layout_alike

@@ -1,0 +1,314 @@
+-- The grammar of schema documents, as it is written, and the rules by which it is read.
+use Rattle.std.specs.Prelude.{ℕ, zero, suc, ◌+◌, Bool, true, false, not, ◌&&◌, ◌==◌, if◌then◌else◌, codes}
+use Rattle.std.specs.Prelude.{List, [], ◌∷◌, ◌++◌, drop, replicate, Option, Some, None, is_some}
+use Rattle.graphql_grammar.specs.Tokens.{Token, Class, Except, matches}
+use Rattle.graphql_grammar.specs.Trees.{Expr, One, Then, Either, Many, Sym, Shape, Nothing, Leaf, Both, First, Second, Stop, More, Node}
+use Rattle.graphql_grammar.specs.Trees.{Row, Grammar, optional, some_of}
+use Rattle.graphql_grammar.specs.Tables.{is_row}
+use Rattle.graphql_grammar.specs.Solve.{solve, with_tables}
+use Rattle.graphql_grammar.specs.Factored.{Change, unchanged, out_of_head}
+use Rattle.graphql_core.specs.Causes.{kind_number}
+use Rattle.graphql_lexer.specs.declared.tokenizer.token.Kind.TheVariants.{Punctuator, Name, StringValue, BlockString}
+use Rattle.graphql_values.specs.Leaves as leaves
+use Rattle.graphql_values.specs.Grammar as shared
+use Rattle.graphql_values.specs.Grammar.{type_symbol, directives_symbol, directive_symbol, default_symbol, shared_symbols}
+use Rattle.graphql_values.specs.Grammar.{punctuator, word, name, any, sample}
+use Rattle.graphql_schema_tree.specs.Locations.{is_location}
+use Rattle.graphql_schema_tree.specs.Tree.{adds}
+use Rattle.graphql_schema_tree.specs.Meanings.{extension_of}
+use Rattle.graphql_schema_tree.specs.Roots.{root_fault_of}
+
+-- ---- the symbols, after those of values, types and directives
+
+abbrev pub document_symbol : ℕ
+document_symbol = shared_symbols
+
+abbrev pub item_symbol : ℕ
+item_symbol = 12
+
+abbrev pub schema_symbol : ℕ
+schema_symbol = 13
+
+abbrev pub root_type_symbol : ℕ
+root_type_symbol = 14
+
+abbrev pub extension_symbol : ℕ
+extension_symbol = 15
+
+abbrev pub described_symbol : ℕ
+described_symbol = 16
+
+abbrev pub description_symbol : ℕ
+description_symbol = 17
+
+abbrev pub type_body_symbol : ℕ
+type_body_symbol = 18
+
+abbrev pub scalar_symbol : ℕ
+scalar_symbol = 19
+
+abbrev pub object_symbol : ℕ
+object_symbol = 20
+
+abbrev pub interface_symbol : ℕ
+interface_symbol = 21
+
+abbrev pub implements_symbol : ℕ
+implements_symbol = 22
+
+abbrev pub fields_symbol : ℕ
+fields_symbol = 23
+
+abbrev pub field_symbol : ℕ
+field_symbol = 24
+
+abbrev pub argument_definitions_symbol : ℕ
+argument_definitions_symbol = 25
+
+abbrev pub input_value_symbol : ℕ
+input_value_symbol = 26
+
+abbrev pub union_symbol : ℕ
+union_symbol = 27
+
+abbrev pub members_symbol : ℕ
+members_symbol = 28
+
+abbrev pub enum_symbol : ℕ
+enum_symbol = 29
+
+abbrev pub enum_values_symbol : ℕ
+enum_values_symbol = 30
+
+abbrev pub enum_value_symbol : ℕ
+enum_value_symbol = 31
+
+abbrev pub input_symbol : ℕ
+input_symbol = 32
+
+abbrev pub input_fields_symbol : ℕ
+input_fields_symbol = 33
+
+abbrev pub directive_definition_symbol : ℕ
+directive_definition_symbol = 34
+
+abbrev pub locations_symbol : ℕ
+locations_symbol = 35
+
+abbrev pub location_symbol : ℕ
+location_symbol = 36
+
+-- ---- single tokens
+
+-- a name in the place of a location: any name is of the class, and its value is good where it names one
+abbrev pub location_class : Class
+location_class = Except (kind_number Name) []
+
+-- a token has a value as the leaf of this class
+abbrev pub is_good : Class → Token → Bool
+is_good (Except k []) t = is_location t.spelling
+is_good c t = leaves.is_good c t
+
+-- ---- the productions
+
+-- SchemaDocument = SchemaItem+
+abbrev pub document_rule : Expr
+document_rule = some_of (Sym item_symbol)
+
+-- SchemaItem = Schema | Extension | Described
+abbrev pub item_rule : Expr
+item_rule = Either (Sym schema_symbol) (Either (Sym extension_symbol) (Sym described_symbol))
+
+-- Schema = "schema" Directives "{" RootType* "}"
+abbrev pub schema_rule : Expr
+schema_rule =
+    Then (word (codes "schema")) (Then (Sym directives_symbol) (Then (punctuator (codes "{")) (Then (Many (Sym root_type_symbol)) (punctuator (codes "}")))))
+
+-- RootType = Name ":" Name
+abbrev pub root_type_rule : Expr
+root_type_rule = Then name (Then (punctuator (codes ":")) name)
+
+-- Extension = "extend" TypeBody
+abbrev pub extension_rule : Expr
+extension_rule = Then (word (codes "extend")) (Sym type_body_symbol)
+
+-- Described = Description? TypeBody | Description? DirectiveDef
+abbrev pub described_rule : Expr
+described_rule =
+    Either (Then (optional (Sym description_symbol)) (Sym type_body_symbol))
+    (Then (optional (Sym description_symbol)) (Sym directive_definition_symbol))
+
+-- Description = String | Block
+abbrev pub description_rule : Expr
+description_rule = Either (One (any StringValue)) (One (any BlockString))
+
+-- TypeBody = Scalar | Object | Interface | Union | Enum | Input
+abbrev pub type_body_rule : Expr
+type_body_rule =
+    Either (Sym scalar_symbol) (Either (Sym object_symbol) (Either (Sym interface_symbol)
+    (Either (Sym union_symbol) (Either (Sym enum_symbol) (Sym input_symbol)))))
+
+-- Scalar = "scalar" Name Directives
+abbrev pub scalar_rule : Expr
+scalar_rule = Then (word (codes "scalar")) (Then name (Sym directives_symbol))
+
+-- Object = "type" Name Implements? Directives Fields?
+abbrev pub object_rule : Expr
+object_rule = Then (word (codes "type")) (Then name (Then (optional (Sym implements_symbol)) (Then (Sym directives_symbol) (optional (Sym fields_symbol)))))
+
+-- Interface = "interface" Name Implements? Directives Fields?
+abbrev pub interface_rule : Expr
+interface_rule =
+    Then (word (codes "interface")) (Then name (Then (optional (Sym implements_symbol)) (Then (Sym directives_symbol) (optional (Sym fields_symbol)))))
+
+-- an expression, once or more, with a mark between two, and perhaps one before the first
+abbrev pub joined_by : List ℕ → Expr → Expr
+joined_by s e = Then (optional (punctuator s)) (Then e (Many (Then (punctuator s) e)))
+
+-- Implements = "implements" "&"? Name ("&" Name)*
+abbrev pub implements_rule : Expr
+implements_rule = Then (word (codes "implements")) (joined_by (codes "&") name)
+
+-- Fields = "{" FieldDef+ "}"
+abbrev pub fields_rule : Expr
+fields_rule = Then (punctuator (codes "{")) (Then (some_of (Sym field_symbol)) (punctuator (codes "}")))
+
+-- FieldDef = Description? Name ArgumentDefs? ":" Type Directives
+abbrev pub field_rule : Expr
+field_rule =
+    Then (optional (Sym description_symbol)) (Then name (Then (optional (Sym argument_definitions_symbol))
+    (Then (punctuator (codes ":")) (Then (Sym type_symbol) (Sym directives_symbol)))))
+
+-- ArgumentDefs = "(" InputValue+ ")"
+abbrev pub argument_definitions_rule : Expr
+argument_definitions_rule = Then (punctuator (codes "(")) (Then (some_of (Sym input_value_symbol)) (punctuator (codes ")")))
+
+-- InputValue = Description? Name ":" Type Default? Directives
+abbrev pub input_value_rule : Expr
+input_value_rule =
+    Then (optional (Sym description_symbol)) (Then name (Then (punctuator (codes ":")) (Then (Sym type_symbol)
+    (Then (optional (Sym default_symbol)) (Sym directives_symbol)))))
+
+-- Union = "union" Name Directives Members?
+abbrev pub union_rule : Expr
+union_rule = Then (word (codes "union")) (Then name (Then (Sym directives_symbol) (optional (Sym members_symbol))))
+
+-- Members = "=" "|"? Name ("|" Name)*
+abbrev pub members_rule : Expr
+members_rule = Then (punctuator (codes "=")) (joined_by (codes "|") name)
+
+-- Enum = "enum" Name Directives EnumValues?
+abbrev pub enum_rule : Expr
+enum_rule = Then (word (codes "enum")) (Then name (Then (Sym directives_symbol) (optional (Sym enum_values_symbol))))
+
+-- EnumValues = "{" EnumValue+ "}"
+abbrev pub enum_values_rule : Expr
+enum_values_rule = Then (punctuator (codes "{")) (Then (some_of (Sym enum_value_symbol)) (punctuator (codes "}")))
+
+-- EnumValue = Description? Name Directives
+abbrev pub enum_value_rule : Expr
+enum_value_rule = Then (optional (Sym description_symbol)) (Then name (Sym directives_symbol))
+
+-- Input = "input" Name Directives InputFields?
+abbrev pub input_rule : Expr
+input_rule = Then (word (codes "input")) (Then name (Then (Sym directives_symbol) (optional (Sym input_fields_symbol))))
+
+-- InputFields = "{" InputValue+ "}"
+abbrev pub input_fields_rule : Expr
+input_fields_rule = Then (punctuator (codes "{")) (Then (some_of (Sym input_value_symbol)) (punctuator (codes "}")))
+
+-- DirectiveDef = "directive" "@" Name ArgumentDefs? "repeatable"? "on" Locations
+abbrev pub directive_definition_rule : Expr
+directive_definition_rule =
+    Then (word (codes "directive")) (Then (punctuator (codes "@")) (Then name (Then (optional (Sym argument_definitions_symbol))
+    (Then (optional (word (codes "repeatable"))) (Then (word (codes "on")) (Sym locations_symbol))))))
+
+-- Locations = "|"? Location ("|" Location)*
+abbrev pub locations_rule : Expr
+locations_rule = joined_by (codes "|") (Sym location_symbol)
+
+-- Location = Name
+abbrev pub location_rule : Expr
+location_rule = One location_class
+
+abbrev pub rules : List Expr
+rules =
+    document_rule ∷ item_rule ∷ schema_rule ∷ root_type_rule ∷ extension_rule ∷ described_rule ∷ description_rule ∷ type_body_rule
+    ∷ scalar_rule ∷ object_rule ∷ interface_rule ∷ implements_rule ∷ fields_rule ∷ field_rule ∷ argument_definitions_rule ∷ input_value_rule
+    ∷ union_rule ∷ members_rule ∷ enum_rule ∷ enum_values_rule ∷ enum_value_rule ∷ input_rule ∷ input_fields_rule
+    ∷ directive_definition_rule ∷ locations_rule ∷ location_rule ∷ []
+
+-- ---- what is asked of trees besides
+
+-- which trees of a symbol pass
+abbrev pub passes : ℕ → Shape → Bool
+passes k x =
+    if k == schema_symbol then not (is_some (root_fault_of x))
+    else if k == extension_symbol then adds (extension_of (Node k x))
+    else true
+
+-- ---- the grammar
+
+abbrev pub samples : List Token
+samples =
+    shared.samples
+    ++ sample Name (codes "schema") ∷ sample Name (codes "extend") ∷ sample Name (codes "scalar") ∷ sample Name (codes "type")
+    ∷ sample Name (codes "interface") ∷ sample Name (codes "implements") ∷ sample Name (codes "union") ∷ sample Name (codes "enum")
+    ∷ sample Name (codes "input") ∷ sample Name (codes "directive") ∷ sample Name (codes "repeatable") ∷ sample Name (codes "on")
+    ∷ sample Name (codes "FIELD") ∷ sample Punctuator (codes "&") ∷ sample Punctuator (codes "|") ∷ []
+
+-- the written grammar
+abbrev pub schema : Grammar
+schema = record { rows = shared.rows ++ with_tables rules []; good = is_good; check = passes; samples = samples }
+
+-- ---- second rules, which one item of lookahead can read
+
+-- a description or none, and then a type or a directive's definition
+abbrev pub described_second : Expr
+described_second = Then (optional (Sym description_symbol)) (Either (Sym type_body_symbol) (Sym directive_definition_symbol))
+
+abbrev pub second_rules : List Expr
+second_rules =
+    document_rule ∷ item_rule ∷ schema_rule ∷ root_type_rule ∷ extension_rule ∷ described_second ∷ description_rule ∷ type_body_rule
+    ∷ scalar_rule ∷ object_rule ∷ interface_rule ∷ implements_rule ∷ fields_rule ∷ field_rule ∷ argument_definitions_rule ∷ input_value_rule
+    ∷ union_rule ∷ members_rule ∷ enum_rule ∷ enum_values_rule ∷ enum_value_rule ∷ input_rule ∷ input_fields_rule
+    ∷ directive_definition_rule ∷ locations_rule ∷ location_rule ∷ []
+
+-- `extend scalar a @a`, a tree of an extension that passes
+abbrev pub least_extension : Shape
+least_extension =
+    Both (Leaf (sample Name (codes "extend")))
+    (Node type_body_symbol (First (Node scalar_symbol (Both (Leaf (sample Name (codes "scalar"))) (Both (Leaf (sample Name (codes "a")))
+    (Node directives_symbol (More (Node directive_symbol (Both (Leaf (sample Punctuator (codes "@")))
+    (Both (Leaf (sample Name (codes "a"))) (Second Nothing)))) Stop)))))))
+
+-- the row of the n-th symbol with another tree
+abbrev pub with_least : ℕ → Shape → List Row → List Row
+with_least n x [] = []
+with_least zero x (r ∷ rs) = record { rule = r.rule; nullable = r.nullable; first = r.first; cont = r.cont; rank = r.rank; least = x } ∷ rs
+with_least (suc n) x (r ∷ rs) = r ∷ with_least n x rs
+
+-- tests of leaves for the search of trees
+abbrev pub takes : Class → Token → Bool
+takes c t = matches c t && is_good c t
+
+unfoldable pub tables : List Row
+tables = with_least 4 least_extension (drop shared_symbols (solve takes samples 12 (shared.rules ++ second_rules)))
+
+abbrev pub second_rows : List Row
+second_rows = shared.rows ++ with_tables second_rules tables
+
+-- how trees of the second rules are trees of the written ones
+abbrev pub changes : List Change
+changes = replicate shared_symbols unchanged ++ (replicate 5 unchanged ++ out_of_head ∷ replicate 20 unchanged)
+
+-- ---- why there are second rules
+
+-- the written rules, with tables of their own
+abbrev pub written_rows : List Row
+written_rows = solve takes samples 12 (shared.rules ++ rules)
+
+-- the symbols from the n-th on whose rules one item of lookahead cannot read
+abbrev pub unread : List Row → ℕ → List Row → List ℕ
+unread all n [] = []
+unread all n (r ∷ rs) = if is_row all r then unread all (n + 1) rs else n ∷ unread all (n + 1) rs

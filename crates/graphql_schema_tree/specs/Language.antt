@@ -1,0 +1,74 @@
+-- The language of schemas: what a text's document is, and what is said of a text that has none.
+use Rattle.std.specs.Prelude.{◌≡◌, ℕ, ◌==◌, if◌then◌else◌, List, [], ◌++◌, length, Option, Some, None, option_map, Result}
+use Rattle.graphql_grammar.specs.Tokens.{Token, Class, Except}
+use Rattle.graphql_grammar.specs.Trees.{Shape, Node, Sym, leaves}
+use Rattle.graphql_grammar.specs.Faults.{IsRefused}
+use Rattle.graphql_core.specs.Causes.{CauseText, unknown_location, empty_extension}
+use Rattle.graphql_core.specs.Refusal.{Refusal}
+use Rattle.graphql_core.specs.Source.{Items, FaultText}
+use Rattle.graphql_values.specs.Language.{Language}
+use Rattle.graphql_values.specs.Document as document
+use Rattle.graphql_values.specs.Faults as fault
+use Rattle.graphql_values.specs.Faults.{HasNoValue}
+use Rattle.graphql_schema_tree.specs.Locations.{location_of}
+use Rattle.graphql_schema_tree.specs.Tree.{DocumentTree, erase}
+use Rattle.graphql_schema_tree.specs.Meanings.{schema_of, extension_of, document_of}
+use Rattle.graphql_schema_tree.specs.Roots.{RootFault, root_fault_of, root_cause}
+use Rattle.graphql_schema_tree.specs.Grammar.{schema, document_symbol, schema_symbol, second_rows, changes}
+
+-- a name that is no location, or a token without a value
+abbrev pub Lacks : Class → Token → CauseText → Type 0
+Lacks (Except k []) t c = (location_of t.spelling ≡ None) × (c ≡ unknown_location)
+Lacks leaf t c = HasNoValue t c
+
+-- What is said of a node that is refused: of a schema the first bad name, at its keyword; and of an extension that it adds
+-- nothing, at the keyword of its type.
+abbrev pub said_of : ℕ → Shape → Option FaultText
+said_of k x =
+    if k == schema_symbol then option_map at_keyword (root_fault_of x)
+    else Some (record { cause = empty_extension; place = (extension_of (Node k x)).position })
+  where
+    at_keyword : RootFault → FaultText
+    at_keyword f = record { cause = root_cause f; place = (schema_of (Node k x)).position }
+
+-- of the node of this symbol whose last token is the item with this index
+abbrev pub Says : ℕ → Items → ℕ → FaultText → Type 0
+Says k i n f =
+    (before us : List Token) × (x : Shape) × IsRefused schema (Sym document_symbol) i.tokens k x before us
+    × (n ≡ length (before ++ leaves x)) × (said_of k x ≡ Some f)
+
+abbrev pub schemas : Language DocumentTree
+schemas = record {
+  grammar = schema;
+  document = document_symbol;
+  means = document_of;
+  erase = erase;
+  lacks = Lacks;
+  refuses = Says;
+  second_rows = second_rows;
+  changes = changes;
+}
+
+-- ---- documents
+
+-- the items of the text are a document that means this
+abbrev pub IsDocumentOf : List ℕ → DocumentTree → Type 0
+IsDocumentOf = document.IsDocumentOf schemas
+
+-- the list of tokens of a text has at most one shape, also where leaves and nodes that are refused are let through
+abbrev pub HasOneShape : List ℕ → Type 0
+HasOneShape = document.HasOneShape schemas
+
+-- ---- faults and refusals
+
+-- a fault of the text, and its index
+abbrev pub IsFaultOf : List ℕ → FaultText → ℕ → Type 0
+IsFaultOf = fault.IsFaultOf schemas
+
+-- the fault of least index of the text
+abbrev pub IsLeastFaultOf : List ℕ → FaultText → Type 0
+IsLeastFaultOf = fault.IsLeastFaultOf schemas
+
+-- why a text is refused: memory ran out, or it is too long, or it has no document, and this is its fault of least index
+abbrev pub IsRefusalOf : List ℕ → Refusal → Type 0
+IsRefusalOf = fault.IsRefusalOf schemas

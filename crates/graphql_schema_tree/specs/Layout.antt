@@ -1,0 +1,195 @@
+-- The text of a document in a style. A line begins with a margin of so many spaces.
+use Rattle.std.specs.Prelude.{ℕ, ◌+◌, max, Bool, true, false, List, [], ◌∷◌, ◌++◌, Option, Some, None, codes, map}
+use Rattle.std.specs.List.{flat_map}
+use Rattle.std.specs.Option.{option_map_or}
+use Rattle.graphql_core.specs.Style.{Layout, spaces}
+use Rattle.graphql_core.specs.Parts.{Part, text_of, name, mark, gap}
+use Rattle.graphql_values.specs.Values.{DirectiveTree}
+use Rattle.graphql_values.specs.ValueLayout.{string_layout, type_layout, directives_layout, string_levels, value_levels, directives_levels}
+use Rattle.graphql_values.specs.ValueLayout as values
+use Rattle.graphql_values.specs.Lines.{in_braces, separated, default_layout}
+use Rattle.graphql_values.specs.Printable.{most}
+use Rattle.graphql_schema_tree.specs.declared.location.DirectiveLocation.{DirectiveLocation}
+use Rattle.graphql_schema_tree.specs.Locations.{word_of}
+use Rattle.graphql_schema_tree.specs.Tree.{InputValueTree, FieldTree, EnumValueTree, SchemaTree, PartsTree, scalar, object, interface, union, enum, input}
+use Rattle.graphql_schema_tree.specs.Tree.{BodyTree, DirectiveDefinitionTree, DefinitionTree, schema, type_definition, extension, directive, DocumentTree}
+
+-- ---- descriptions
+
+-- above what it describes
+abbrev pub description_layout : Layout → ℕ → Option (List ℕ) → List Part
+description_layout style margin None = []
+description_layout style margin (Some text) = gap (spaces margin) ++ (string_layout style margin text ++ gap (codes "\n"))
+
+-- in the line of what it describes
+abbrev pub inline_layout : Layout → ℕ → Option (List ℕ) → List Part
+inline_layout style margin None = []
+inline_layout style margin (Some text) = string_layout style margin text ++ gap (codes " ")
+
+-- ---- lists
+
+-- a mark between two spaces
+abbrev pub between : List ℕ → List Part
+between s = gap (codes " ") ++ (mark s ++ gap (codes " "))
+
+abbrev pub later_names : List ℕ → List (List ℕ) → List Part
+later_names s [] = []
+later_names s (n ∷ ns) = between s ++ (name n ++ later_names s ns)
+
+-- names, with a mark between two
+abbrev pub joined_names : List ℕ → List (List ℕ) → List Part
+joined_names s [] = []
+joined_names s (n ∷ ns) = name n ++ later_names s ns
+
+abbrev pub interfaces_layout : List (List ℕ) → List Part
+interfaces_layout [] = []
+interfaces_layout (n ∷ ns) =
+    gap (codes " ") ++ (name (codes "implements") ++ (gap (codes " ") ++ joined_names (codes "&") (n ∷ ns)))
+
+abbrev pub members_layout : List (List ℕ) → List Part
+members_layout [] = []
+members_layout (n ∷ ns) = between (codes "=") ++ joined_names (codes "|") (n ∷ ns)
+
+abbrev pub locations_layout : List DirectiveLocation → List Part
+locations_layout [] = []
+locations_layout (l ∷ ls) = gap (codes " ") ++ (name (codes "on") ++ (gap (codes " ") ++ joined_names (codes "|") (map word_of (l ∷ ls))))
+
+-- the lines of some parts in braces, or the end of the line where there are none
+abbrev pub block_layout : {A : Type 0} → ℕ → (A → List Part) → List A → List Part
+block_layout margin lines [] = gap (codes "\n")
+block_layout margin lines (x ∷ xs) = gap (codes " ") ++ in_braces margin (flat_map lines (x ∷ xs))
+
+-- ---- arguments, fields and values
+
+abbrev pub input_value_layout : Layout → ℕ → InputValueTree → List Part
+input_value_layout style margin v =
+    inline_layout style margin v.description ++ (name v.name ++ (mark (codes ":") ++ (gap (codes " ")
+    ++ (type_layout v.value_type ++ (default_layout style margin v.default_value ++ directives_layout style margin v.directives)))))
+
+abbrev pub later_arguments : Layout → ℕ → List InputValueTree → List Part
+later_arguments style margin [] = []
+later_arguments style margin (v ∷ vs) = gap (codes ", ") ++ (input_value_layout style margin v ++ later_arguments style margin vs)
+
+-- in parentheses, joined by a comma and a space, under every style
+abbrev pub arguments_layout : Layout → ℕ → List InputValueTree → List Part
+arguments_layout style margin [] = []
+arguments_layout style margin (v ∷ vs) = mark (codes "(") ++ (input_value_layout style margin v ++ (later_arguments style margin vs ++ mark (codes ")")))
+
+-- the line of a field of an input object
+abbrev pub input_field_layout : Layout → ℕ → InputValueTree → List Part
+input_field_layout style margin v = gap (spaces margin) ++ (input_value_layout style margin v ++ gap (codes "\n"))
+
+abbrev pub field_layout : Layout → ℕ → FieldTree → List Part
+field_layout style margin f =
+    description_layout style margin f.description ++ (gap (spaces margin) ++ (name f.name ++ (arguments_layout style margin f.arguments
+    ++ (mark (codes ":") ++ (gap (codes " ") ++ (type_layout f.field_type ++ (directives_layout style margin f.directives ++ gap (codes "\n"))))))))
+
+abbrev pub enum_value_layout : Layout → ℕ → EnumValueTree → List Part
+enum_value_layout style margin v =
+    gap (spaces margin) ++ (inline_layout style margin v.description ++ (name v.name ++ (directives_layout style margin v.directives ++ gap (codes "\n"))))
+
+-- ---- definitions, which have no margin
+
+-- the line of an operation, where it is there
+abbrev pub root_layout : ℕ → List ℕ → Option (List ℕ) → List Part
+root_layout margin word None = []
+root_layout margin word (Some n) = gap (spaces margin) ++ (name word ++ (mark (codes ":") ++ (gap (codes " ") ++ (name n ++ gap (codes "\n")))))
+
+abbrev pub schema_layout : Layout → SchemaTree → List Part
+schema_layout style s =
+    name (codes "schema") ++ (directives_layout style 0 s.directives ++ (gap (codes " ") ++ in_braces 0 (root_layout style.indent (codes "query") s.query
+    ++ (root_layout style.indent (codes "mutation") s.mutation ++ root_layout style.indent (codes "subscription") s.subscription))))
+
+-- the keyword of a type
+abbrev pub keyword : PartsTree → List ℕ
+keyword scalar = codes "scalar"
+keyword (object is fs) = codes "type"
+keyword (interface is fs) = codes "interface"
+keyword (union ts) = codes "union"
+keyword (enum vs) = codes "enum"
+keyword (input fs) = codes "input"
+
+-- what stands after a type's name: interfaces stand before the directives, and all else after them
+abbrev pub parts_layout : Layout → List DirectiveTree → PartsTree → List Part
+parts_layout style ds scalar = directives_layout style 0 ds ++ gap (codes "\n")
+parts_layout style ds (object is fs) = interfaces_layout is ++ (directives_layout style 0 ds ++ block_layout 0 (field_layout style style.indent) fs)
+parts_layout style ds (interface is fs) = interfaces_layout is ++ (directives_layout style 0 ds ++ block_layout 0 (field_layout style style.indent) fs)
+parts_layout style ds (union ts) = directives_layout style 0 ds ++ (members_layout ts ++ gap (codes "\n"))
+parts_layout style ds (enum vs) = directives_layout style 0 ds ++ block_layout 0 (enum_value_layout style style.indent) vs
+parts_layout style ds (input fs) = directives_layout style 0 ds ++ block_layout 0 (input_field_layout style style.indent) fs
+
+abbrev pub body_layout : Layout → BodyTree → List Part
+body_layout style b = name (keyword b.parts) ++ (gap (codes " ") ++ (name b.name ++ parts_layout style b.directives b.parts))
+
+abbrev pub repeatable_layout : Bool → List Part
+repeatable_layout false = []
+repeatable_layout true = gap (codes " ") ++ name (codes "repeatable")
+
+abbrev pub directive_definition_layout : Layout → DirectiveDefinitionTree → List Part
+directive_definition_layout style d =
+    description_layout style 0 d.description ++ (name (codes "directive") ++ (gap (codes " ") ++ (mark (codes "@") ++ (name d.name
+    ++ (arguments_layout style 0 d.arguments ++ (repeatable_layout d.repeatable ++ (locations_layout d.locations ++ gap (codes "\n"))))))))
+
+abbrev pub definition_layout : Layout → DefinitionTree → List Part
+definition_layout style (schema s) = schema_layout style s
+definition_layout style (type_definition d b) = description_layout style 0 d ++ body_layout style b
+definition_layout style (extension b) = name (codes "extend") ++ (gap (codes " ") ++ body_layout style b)
+definition_layout style (directive d) = directive_definition_layout style d
+
+-- the definitions, with an empty line between two
+abbrev pub document_layout : Layout → DocumentTree → List Part
+document_layout style = separated (definition_layout style)
+
+-- the text of a document
+abbrev pub layout : Layout → DocumentTree → List ℕ
+layout style d = text_of (document_layout style d)
+
+-- ---- levels that are open at once
+
+-- a description in block form opens one
+abbrev pub description_levels : Option (List ℕ) → ℕ
+description_levels d = option_map_or string_levels d 0
+
+-- braces open one, where there is anything in them
+abbrev pub block_levels : {A : Type 0} → (A → ℕ) → List A → ℕ
+block_levels f [] = 0
+block_levels f (x ∷ xs) = most f (x ∷ xs) + 1
+
+abbrev pub input_value_levels : Layout → InputValueTree → ℕ
+input_value_levels style v =
+    max (description_levels v.description) (max (option_map_or (value_levels style) v.default_value 0) (directives_levels style v.directives))
+
+-- the parentheses of arguments open none
+abbrev pub field_levels : Layout → FieldTree → ℕ
+field_levels style f = max (description_levels f.description) (max (most (input_value_levels style) f.arguments) (directives_levels style f.directives))
+
+abbrev pub enum_value_levels : Layout → EnumValueTree → ℕ
+enum_value_levels style v = max (description_levels v.description) (directives_levels style v.directives)
+
+-- a schema has its braces always
+abbrev pub schema_levels : Layout → SchemaTree → ℕ
+schema_levels style s = max (directives_levels style s.directives) 1
+
+abbrev pub parts_levels : Layout → PartsTree → ℕ
+parts_levels style scalar = 0
+parts_levels style (object is fs) = block_levels (field_levels style) fs
+parts_levels style (interface is fs) = block_levels (field_levels style) fs
+parts_levels style (union ts) = 0
+parts_levels style (enum vs) = block_levels (enum_value_levels style) vs
+parts_levels style (input fs) = block_levels (input_value_levels style) fs
+
+abbrev pub body_levels : Layout → BodyTree → ℕ
+body_levels style b = max (directives_levels style b.directives) (parts_levels style b.parts)
+
+abbrev pub definition_levels : Layout → DefinitionTree → ℕ
+definition_levels style (schema s) = schema_levels style s
+definition_levels style (type_definition d b) = max (description_levels d) (body_levels style b)
+definition_levels style (extension b) = body_levels style b
+definition_levels style (directive d) = max (description_levels d.description) (most (input_value_levels style) d.arguments)
+
+abbrev pub levels : Layout → DocumentTree → ℕ
+levels style d = most (definition_levels style) d
+
+-- the widest line's indentation passes `u32::MAX`
+abbrev pub IsTooWide : Layout → DocumentTree → Type 0
+IsTooWide style d = values.IsTooWide style (levels style d)

@@ -1,0 +1,10 @@
+pub mod Locations
+pub mod Tree
+pub mod Views
+pub mod Meanings
+pub mod Roots
+pub mod Grammar
+pub mod Language
+pub mod Printable
+pub mod Layout
+pub mod Examples

@@ -1,0 +1,215 @@
+-- What the shapes of schema documents mean, a line or two for each production.
+use Rattle.std.specs.Prelude.{ℕ, Bool, true, false, cond, List, [], ◌∷◌, Option, Some, None, codes}
+use Rattle.graphql_grammar.specs.Tokens.{nowhere, same_spelling}
+use Rattle.graphql_grammar.specs.Trees.{Shape, Both, First, Second, More, Node, leaves}
+use Rattle.graphql_values.specs.Leaves.{string_of, block_string_of}
+use Rattle.graphql_values.specs.Values.{named}
+use Rattle.graphql_values.specs.Meanings.{place_at, first_place, spelling_at, type_of, optional_default_of, directives_of}
+use Rattle.graphql_schema_tree.specs.declared.location.DirectiveLocation.{DirectiveLocation}
+use Rattle.graphql_schema_tree.specs.Locations.{location_of}
+use Rattle.graphql_schema_tree.specs.Tree.{InputValueTree, FieldTree, EnumValueTree, SchemaTree, PartsTree, scalar, object, interface, union, enum, input}
+use Rattle.graphql_schema_tree.specs.Tree.{BodyTree, DirectiveDefinitionTree, DefinitionTree, schema, type_definition, extension, directive, DocumentTree}
+
+-- ---- optional parts and lists
+
+-- an optional part is there
+abbrev pub is_there : Shape → Bool
+is_there (First x) = true
+is_there _ = false
+
+-- what an optional part means, or nothing
+abbrev pub optional_of : {A : Type 0} → (Shape → A) → Shape → Option A
+optional_of f (First x) = Some (f x)
+optional_of f _ = None
+
+-- what an optional list means, which is empty where it is missing
+abbrev pub optional_list_of : {A : Type 0} → (Shape → List A) → Shape → List A
+optional_list_of f (First x) = f x
+optional_list_of f _ = []
+
+-- the parts of a list: the first of at least one, or a later one
+abbrev pub each_of : {A : Type 0} → (Shape → A) → Shape → List A
+each_of f (Both x xs) = f x ∷ each_of f xs
+each_of f (More x xs) = f x ∷ each_of f xs
+each_of f _ = []
+
+-- the parts between an opener and a closer
+abbrev pub enclosed_of : {A : Type 0} → (Shape → A) → Shape → List A
+enclosed_of f (Node k (Both o (Both xs c))) = each_of f xs
+enclosed_of f _ = []
+
+-- a part after a mark
+abbrev pub marked_of : {A : Type 0} → (Shape → A) → A → Shape → A
+marked_of f none (Both m x) = f x
+marked_of f none _ = none
+
+-- the parts of a list that is joined by marks; a mark before the first means nothing
+abbrev pub joined_of : {A : Type 0} → (Shape → A) → A → Shape → List A
+joined_of f none (Both m (Both x xs)) = f x ∷ each_of (marked_of f none) xs
+joined_of f none _ = []
+
+-- ---- parts of definitions
+
+-- a description: a string or a block string
+abbrev pub description_of : Shape → List ℕ
+description_of (Node k (First t)) = string_of (spelling_at t)
+description_of (Node k (Second t)) = block_string_of (spelling_at t)
+description_of _ = []
+
+-- an argument or a field of an input object stands at its first token, which is its description where it has one
+abbrev pub input_value_of : Shape → InputValueTree
+input_value_of (Node k (Both d (Both n (Both c (Both t (Both v ds)))))) = record {
+  position = first_place (leaves (Both d n));
+  description = optional_of description_of d;
+  name = spelling_at n;
+  value_type = type_of t;
+  default_value = optional_default_of v;
+  directives = directives_of ds;
+}
+input_value_of _ =
+    record { position = nowhere; description = None; name = []; value_type = named []; default_value = None; directives = [] }
+
+-- and so does a field
+abbrev pub field_of : Shape → FieldTree
+field_of (Node k (Both d (Both n (Both arguments (Both c (Both t ds)))))) = record {
+  position = first_place (leaves (Both d n));
+  description = optional_of description_of d;
+  name = spelling_at n;
+  arguments = optional_list_of (enclosed_of input_value_of) arguments;
+  field_type = type_of t;
+  directives = directives_of ds;
+}
+field_of _ = record { position = nowhere; description = None; name = []; arguments = []; field_type = named []; directives = [] }
+
+-- and a value of an enum
+abbrev pub enum_value_of : Shape → EnumValueTree
+enum_value_of (Node k (Both d (Both n ds))) = record {
+  position = first_place (leaves (Both d n));
+  description = optional_of description_of d;
+  name = spelling_at n;
+  directives = directives_of ds;
+}
+enum_value_of _ = record { position = nowhere; description = None; name = []; directives = [] }
+
+-- the names of interfaces after `implements`
+abbrev pub interfaces_of : Shape → List (List ℕ)
+interfaces_of (Node k (Both w ns)) = joined_of spelling_at [] ns
+interfaces_of _ = []
+
+-- the names of types after `=`
+abbrev pub members_of : Shape → List (List ℕ)
+members_of (Node k (Both e ns)) = joined_of spelling_at [] ns
+members_of _ = []
+
+-- ---- schemas
+
+-- the type of the operation that has this name
+abbrev pub root_of : List ℕ → Shape → Option (List ℕ)
+root_of word (More (Node k (Both n (Both c t))) more) =
+    cond (same_spelling word (spelling_at n)) (Some (spelling_at t)) (root_of word more)
+root_of word _ = None
+
+-- a schema stands at its keyword
+abbrev pub schema_of : Shape → SchemaTree
+schema_of (Node k (Both w (Both ds (Both o (Both roots c))))) = record {
+  position = place_at w;
+  directives = directives_of ds;
+  query = root_of (codes "query") roots;
+  mutation = root_of (codes "mutation") roots;
+  subscription = root_of (codes "subscription") roots;
+}
+schema_of _ = record { position = nowhere; directives = []; query = None; mutation = None; subscription = None }
+
+-- ---- types, which stand at their keywords
+
+abbrev pub body_by : Shape → Shape → Shape → PartsTree → BodyTree
+body_by w n ds parts = record { position = place_at w; name = spelling_at n; directives = directives_of ds; parts = parts }
+
+abbrev pub no_body : BodyTree
+no_body = record { position = nowhere; name = []; directives = []; parts = scalar }
+
+abbrev pub scalar_of : Shape → BodyTree
+scalar_of (Node k (Both w (Both n ds))) = body_by w n ds scalar
+scalar_of _ = no_body
+
+abbrev pub object_of : Shape → BodyTree
+object_of (Node k (Both w (Both n (Both is (Both ds fs))))) =
+    body_by w n ds (object (optional_list_of interfaces_of is) (optional_list_of (enclosed_of field_of) fs))
+object_of _ = no_body
+
+abbrev pub interface_of : Shape → BodyTree
+interface_of (Node k (Both w (Both n (Both is (Both ds fs))))) =
+    body_by w n ds (interface (optional_list_of interfaces_of is) (optional_list_of (enclosed_of field_of) fs))
+interface_of _ = no_body
+
+abbrev pub union_of : Shape → BodyTree
+union_of (Node k (Both w (Both n (Both ds ms)))) = body_by w n ds (union (optional_list_of members_of ms))
+union_of _ = no_body
+
+abbrev pub enum_of : Shape → BodyTree
+enum_of (Node k (Both w (Both n (Both ds vs)))) = body_by w n ds (enum (optional_list_of (enclosed_of enum_value_of) vs))
+enum_of _ = no_body
+
+abbrev pub input_of : Shape → BodyTree
+input_of (Node k (Both w (Both n (Both ds fs)))) = body_by w n ds (input (optional_list_of (enclosed_of input_value_of) fs))
+input_of _ = no_body
+
+abbrev pub body_of : Shape → BodyTree
+body_of (Node k (First b)) = scalar_of b
+body_of (Node k (Second (First b))) = object_of b
+body_of (Node k (Second (Second (First b)))) = interface_of b
+body_of (Node k (Second (Second (Second (First b))))) = union_of b
+body_of (Node k (Second (Second (Second (Second (First b)))))) = enum_of b
+body_of (Node k (Second (Second (Second (Second (Second b)))))) = input_of b
+body_of _ = no_body
+
+-- ---- directives
+
+abbrev pub location_at : Shape → Option DirectiveLocation
+location_at (Node k n) = location_of (spelling_at n)
+location_at _ = None
+
+-- those that are there
+abbrev pub present : {A : Type 0} → List (Option A) → List A
+present [] = []
+present (None ∷ os) = present os
+present (Some x ∷ os) = x ∷ present os
+
+abbrev pub locations_of : Shape → List DirectiveLocation
+locations_of (Node k ls) = present (joined_of location_at None ls)
+locations_of _ = []
+
+-- a directive's definition stands at its keyword
+abbrev pub directive_definition_of : Option (List ℕ) → Shape → DirectiveDefinitionTree
+directive_definition_of description (Node k (Both w (Both a (Both n (Both arguments (Both r (Both o ls))))))) = record {
+  position = place_at w;
+  description = description;
+  name = spelling_at n;
+  arguments = optional_list_of (enclosed_of input_value_of) arguments;
+  repeatable = is_there r;
+  locations = locations_of ls;
+}
+directive_definition_of description _ =
+    record { position = nowhere; description = None; name = []; arguments = []; repeatable = false; locations = [] }
+
+-- ---- documents
+
+-- an extension stands at the keyword of its type
+abbrev pub extension_of : Shape → BodyTree
+extension_of (Node k (Both w b)) = body_of b
+extension_of _ = no_body
+
+abbrev pub described_of : Shape → DefinitionTree
+described_of (Node k (First (Both d b))) = type_definition (optional_of description_of d) (body_of b)
+described_of (Node k (Second (Both d b))) = directive (directive_definition_of (optional_of description_of d) b)
+described_of _ = extension no_body
+
+abbrev pub item_of : Shape → DefinitionTree
+item_of (Node k (First s)) = schema (schema_of s)
+item_of (Node k (Second (First e))) = extension (extension_of e)
+item_of (Node k (Second (Second d))) = described_of d
+item_of _ = extension no_body
+
+abbrev pub document_of : Shape → DocumentTree
+document_of (Node k x) = each_of item_of x
+document_of _ = []

@@ -1,0 +1,174 @@
+-- What a schema document is: names as their bytes, positions kept.
+use Rattle.std.specs.Prelude.{ℕ, Bool, true, false, ◌||◌, List, [], ◌∷◌, Option, None, map}
+use Rattle.graphql_grammar.specs.Tokens.{Place}
+use Rattle.graphql_values.specs.Values.{ValueTree, TypeTree, DirectiveTree, no_place, erase_all}
+use Rattle.graphql_schema_tree.specs.declared.location.DirectiveLocation.{DirectiveLocation}
+
+-- ---- parts of definitions
+
+-- an argument of a field or of a directive, or a field of an input object
+pub record InputValueTree : Type 0 where
+  pub position : Place
+  pub description : Option (List ℕ)
+  pub name : List ℕ
+  pub value_type : TypeTree
+  pub default_value : Option ValueTree
+  pub directives : List DirectiveTree
+
+-- a field of an object or of an interface
+pub record FieldTree : Type 0 where
+  pub position : Place
+  pub description : Option (List ℕ)
+  pub name : List ℕ
+  pub arguments : List InputValueTree
+  pub field_type : TypeTree
+  pub directives : List DirectiveTree
+
+pub record EnumValueTree : Type 0 where
+  pub position : Place
+  pub description : Option (List ℕ)
+  pub name : List ℕ
+  pub directives : List DirectiveTree
+
+-- ---- definitions
+
+-- which names the operations have
+pub record SchemaTree : Type 0 where
+  pub position : Place
+  pub directives : List DirectiveTree
+  pub query : Option (List ℕ)
+  pub mutation : Option (List ℕ)
+  pub subscription : Option (List ℕ)
+
+-- what a type consists of, by its kind
+pub data PartsTree : Type 0 where
+  scalar : PartsTree
+  object : (interfaces : List (List ℕ)) (fields : List FieldTree) → PartsTree
+  interface : (interfaces : List (List ℕ)) (fields : List FieldTree) → PartsTree
+  union : (types : List (List ℕ)) → PartsTree
+  enum : (values : List EnumValueTree) → PartsTree
+  input : (fields : List InputValueTree) → PartsTree
+
+-- what a type's definition and its extension both have
+pub record BodyTree : Type 0 where
+  pub position : Place
+  pub name : List ℕ
+  pub directives : List DirectiveTree
+  pub parts : PartsTree
+
+pub record DirectiveDefinitionTree : Type 0 where
+  pub position : Place
+  pub description : Option (List ℕ)
+  pub name : List ℕ
+  pub arguments : List InputValueTree
+  pub repeatable : Bool
+  pub locations : List DirectiveLocation
+
+-- a type of this name alone
+abbrev pub bare : List ℕ → PartsTree → BodyTree
+bare name parts = record { position = no_place; name = name; directives = []; parts = parts }
+
+-- the operations of a schema, a type, an extension of a type, or a directive
+pub data DefinitionTree : Type 0 where
+  schema : (s : SchemaTree) → DefinitionTree
+  type_definition : (description : Option (List ℕ)) (b : BodyTree) → DefinitionTree
+  extension : (b : BodyTree) → DefinitionTree
+  directive : (d : DirectiveDefinitionTree) → DefinitionTree
+
+-- a schema that names nothing, and a directive and an enum's value of a name alone
+abbrev pub empty_schema : SchemaTree
+empty_schema = record { position = no_place; directives = []; query = None; mutation = None; subscription = None }
+
+abbrev pub bare_directive : List ℕ → DirectiveDefinitionTree
+bare_directive name =
+    record { position = no_place; description = None; name = name; arguments = []; repeatable = false; locations = [] }
+
+abbrev pub bare_enum_value : List ℕ → EnumValueTree
+bare_enum_value name = record { position = no_place; description = None; name = name; directives = [] }
+
+-- a document: its definitions in order
+abbrev pub DocumentTree : Type 0
+DocumentTree = List DefinitionTree
+
+-- ---- what an extension adds
+
+abbrev pub has_any : {A : Type 0} → List A → Bool
+has_any [] = false
+has_any (x ∷ xs) = true
+
+-- a directive or a part of its own; for an object interfaces do too, for an interface they do not
+abbrev pub adds : BodyTree → Bool
+adds b = has_any b.directives || has_parts b.parts
+  where
+    has_parts : PartsTree → Bool
+    has_parts scalar = false
+    has_parts (object is fs) = has_any is || has_any fs
+    has_parts (interface is fs) = has_any fs
+    has_parts (union ts) = has_any ts
+    has_parts (enum vs) = has_any vs
+    has_parts (input fs) = has_any fs
+
+-- ---- without positions
+
+abbrev pub erase_input_value : InputValueTree → InputValueTree
+erase_input_value v = record {
+  position = no_place;
+  description = v.description;
+  name = v.name;
+  value_type = v.value_type;
+  default_value = v.default_value;
+  directives = erase_all v.directives;
+}
+
+abbrev pub erase_field : FieldTree → FieldTree
+erase_field f = record {
+  position = no_place;
+  description = f.description;
+  name = f.name;
+  arguments = map erase_input_value f.arguments;
+  field_type = f.field_type;
+  directives = erase_all f.directives;
+}
+
+abbrev pub erase_enum_value : EnumValueTree → EnumValueTree
+erase_enum_value v = record { position = no_place; description = v.description; name = v.name; directives = erase_all v.directives }
+
+abbrev pub erase_schema : SchemaTree → SchemaTree
+erase_schema s = record {
+  position = no_place;
+  directives = erase_all s.directives;
+  query = s.query;
+  mutation = s.mutation;
+  subscription = s.subscription;
+}
+
+abbrev pub erase_parts : PartsTree → PartsTree
+erase_parts scalar = scalar
+erase_parts (object is fs) = object is (map erase_field fs)
+erase_parts (interface is fs) = interface is (map erase_field fs)
+erase_parts (union ts) = union ts
+erase_parts (enum vs) = enum (map erase_enum_value vs)
+erase_parts (input fs) = input (map erase_input_value fs)
+
+abbrev pub erase_body : BodyTree → BodyTree
+erase_body b = record { position = no_place; name = b.name; directives = erase_all b.directives; parts = erase_parts b.parts }
+
+abbrev pub erase_directive : DirectiveDefinitionTree → DirectiveDefinitionTree
+erase_directive d = record {
+  position = no_place;
+  description = d.description;
+  name = d.name;
+  arguments = map erase_input_value d.arguments;
+  repeatable = d.repeatable;
+  locations = d.locations;
+}
+
+abbrev pub erase_definition : DefinitionTree → DefinitionTree
+erase_definition (schema s) = schema (erase_schema s)
+erase_definition (type_definition d b) = type_definition d (erase_body b)
+erase_definition (extension b) = extension (erase_body b)
+erase_definition (directive d) = directive (erase_directive d)
+
+-- every position to line 0, column 0
+abbrev pub erase : DocumentTree → DocumentTree
+erase d = map erase_definition d

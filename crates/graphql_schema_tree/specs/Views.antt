@@ -1,0 +1,207 @@
+-- What the declared trees of schemas stand for.
+use Rattle.std.specs.Prelude.{ℕ, List, option_map, map, string_bytes}
+use Rattle.graphql_core.specs.Source.{place_of}
+use Rattle.graphql_values.specs.ValueViews.{value_view, type_view, directives_view}
+use Rattle.graphql_schema_tree.specs.Tree.{InputValueTree, FieldTree, EnumValueTree, SchemaTree, PartsTree, scalar, object, interface, union, enum, input}
+use Rattle.graphql_schema_tree.specs.Tree.{BodyTree, DirectiveDefinitionTree, DefinitionTree, schema, type_definition, extension, directive, DocumentTree}
+use Rattle.graphql_schema_tree.specs.declared.tree.parts.InputValue.{InputValue}
+use Rattle.graphql_schema_tree.specs.declared.tree.parts.Field.{Field}
+use Rattle.graphql_schema_tree.specs.declared.tree.parts.EnumValue.{EnumValue}
+use Rattle.graphql_schema_tree.specs.declared.tree.types.ScalarType.{ScalarType}
+use Rattle.graphql_schema_tree.specs.declared.tree.types.ObjectType.{ObjectType}
+use Rattle.graphql_schema_tree.specs.declared.tree.types.InterfaceType.{InterfaceType}
+use Rattle.graphql_schema_tree.specs.declared.tree.types.UnionType.{UnionType}
+use Rattle.graphql_schema_tree.specs.declared.tree.types.EnumType.{EnumType}
+use Rattle.graphql_schema_tree.specs.declared.tree.types.InputObjectType.{InputObjectType}
+use Rattle.graphql_schema_tree.specs.declared.tree.extensions.ScalarTypeExtension.{ScalarTypeExtension}
+use Rattle.graphql_schema_tree.specs.declared.tree.extensions.ObjectTypeExtension.{ObjectTypeExtension}
+use Rattle.graphql_schema_tree.specs.declared.tree.extensions.InterfaceTypeExtension.{InterfaceTypeExtension}
+use Rattle.graphql_schema_tree.specs.declared.tree.extensions.UnionTypeExtension.{UnionTypeExtension}
+use Rattle.graphql_schema_tree.specs.declared.tree.extensions.EnumTypeExtension.{EnumTypeExtension}
+use Rattle.graphql_schema_tree.specs.declared.tree.extensions.InputObjectTypeExtension.{InputObjectTypeExtension}
+use Rattle.graphql_schema_tree.specs.declared.tree.TypeDefinition.{TypeDefinition}
+use Rattle.graphql_schema_tree.specs.declared.tree.TypeExtension.{TypeExtension}
+use Rattle.graphql_schema_tree.specs.declared.tree.SchemaDefinition.{SchemaDefinition}
+use Rattle.graphql_schema_tree.specs.declared.tree.DirectiveDefinition.{DirectiveDefinition}
+use Rattle.graphql_schema_tree.specs.declared.tree.Definition.{Definition}
+use Rattle.graphql_schema_tree.specs.declared.tree.Document.{Document}
+use Rattle.graphql_schema_tree.specs.declared.tree.TypeDefinition.TheVariants as types
+use Rattle.graphql_schema_tree.specs.declared.tree.TypeExtension.TheVariants as extensions
+use Rattle.graphql_schema_tree.specs.declared.tree.Definition.TheVariants as definitions
+
+module _ {N T : Type 0} (bytes : T → List ℕ) where
+  -- ---- parts of definitions
+
+  abbrev pub input_value_view : InputValue N T → InputValueTree
+  input_value_view v = record {
+    position = place_of v.position;
+    description = option_map string_bytes v.description;
+    name = bytes v.name;
+    value_type = type_view bytes v.value_type;
+    default_value = option_map (value_view bytes) v.default_value;
+    directives = directives_view bytes v.directives.items;
+  }
+
+  abbrev pub field_view : Field N T → FieldTree
+  field_view f = record {
+    position = place_of f.position;
+    description = option_map string_bytes f.description;
+    name = bytes f.name;
+    arguments = map input_value_view f.arguments.items;
+    field_type = type_view bytes f.field_type;
+    directives = directives_view bytes f.directives.items;
+  }
+
+  abbrev pub enum_value_view : EnumValue N T → EnumValueTree
+  enum_value_view v = record {
+    position = place_of v.position;
+    description = option_map string_bytes v.description;
+    name = bytes v.name;
+    directives = directives_view bytes v.directives.items;
+  }
+
+  -- ---- types
+
+  abbrev pub scalar_view : ScalarType N T → DefinitionTree
+  scalar_view t = type_definition (option_map string_bytes t.description) (record {
+    position = place_of t.position;
+    name = bytes t.name;
+    directives = directives_view bytes t.directives.items;
+    parts = scalar;
+  })
+
+  abbrev pub object_view : ObjectType N T → DefinitionTree
+  object_view t = type_definition (option_map string_bytes t.description) (record {
+    position = place_of t.position;
+    name = bytes t.name;
+    directives = directives_view bytes t.directives.items;
+    parts = object (map bytes t.implements_interfaces.items) (map field_view t.fields.items);
+  })
+
+  abbrev pub interface_view : InterfaceType N T → DefinitionTree
+  interface_view t = type_definition (option_map string_bytes t.description) (record {
+    position = place_of t.position;
+    name = bytes t.name;
+    directives = directives_view bytes t.directives.items;
+    parts = interface (map bytes t.implements_interfaces.items) (map field_view t.fields.items);
+  })
+
+  abbrev pub union_view : UnionType N T → DefinitionTree
+  union_view t = type_definition (option_map string_bytes t.description) (record {
+    position = place_of t.position;
+    name = bytes t.name;
+    directives = directives_view bytes t.directives.items;
+    parts = union (map bytes t.types.items);
+  })
+
+  abbrev pub enum_view : EnumType N T → DefinitionTree
+  enum_view t = type_definition (option_map string_bytes t.description) (record {
+    position = place_of t.position;
+    name = bytes t.name;
+    directives = directives_view bytes t.directives.items;
+    parts = enum (map enum_value_view t.values.items);
+  })
+
+  abbrev pub input_view : InputObjectType N T → DefinitionTree
+  input_view t = type_definition (option_map string_bytes t.description) (record {
+    position = place_of t.position;
+    name = bytes t.name;
+    directives = directives_view bytes t.directives.items;
+    parts = input (map input_value_view t.fields.items);
+  })
+
+  abbrev pub type_definition_view : TypeDefinition N T → DefinitionTree
+  type_definition_view (types.Scalar t) = scalar_view t
+  type_definition_view (types.Object t) = object_view t
+  type_definition_view (types.Interface t) = interface_view t
+  type_definition_view (types.Union t) = union_view t
+  type_definition_view (types.Enum t) = enum_view t
+  type_definition_view (types.InputObject t) = input_view t
+
+  -- ---- extensions
+
+  abbrev pub scalar_extension_view : ScalarTypeExtension N T → DefinitionTree
+  scalar_extension_view t = extension (record {
+    position = place_of t.position;
+    name = bytes t.name;
+    directives = directives_view bytes t.directives.items;
+    parts = scalar;
+  })
+
+  abbrev pub object_extension_view : ObjectTypeExtension N T → DefinitionTree
+  object_extension_view t = extension (record {
+    position = place_of t.position;
+    name = bytes t.name;
+    directives = directives_view bytes t.directives.items;
+    parts = object (map bytes t.implements_interfaces.items) (map field_view t.fields.items);
+  })
+
+  abbrev pub interface_extension_view : InterfaceTypeExtension N T → DefinitionTree
+  interface_extension_view t = extension (record {
+    position = place_of t.position;
+    name = bytes t.name;
+    directives = directives_view bytes t.directives.items;
+    parts = interface (map bytes t.implements_interfaces.items) (map field_view t.fields.items);
+  })
+
+  abbrev pub union_extension_view : UnionTypeExtension N T → DefinitionTree
+  union_extension_view t = extension (record {
+    position = place_of t.position;
+    name = bytes t.name;
+    directives = directives_view bytes t.directives.items;
+    parts = union (map bytes t.types.items);
+  })
+
+  abbrev pub enum_extension_view : EnumTypeExtension N T → DefinitionTree
+  enum_extension_view t = extension (record {
+    position = place_of t.position;
+    name = bytes t.name;
+    directives = directives_view bytes t.directives.items;
+    parts = enum (map enum_value_view t.values.items);
+  })
+
+  abbrev pub input_extension_view : InputObjectTypeExtension N T → DefinitionTree
+  input_extension_view t = extension (record {
+    position = place_of t.position;
+    name = bytes t.name;
+    directives = directives_view bytes t.directives.items;
+    parts = input (map input_value_view t.fields.items);
+  })
+
+  abbrev pub type_extension_view : TypeExtension N T → DefinitionTree
+  type_extension_view (extensions.Scalar t) = scalar_extension_view t
+  type_extension_view (extensions.Object t) = object_extension_view t
+  type_extension_view (extensions.Interface t) = interface_extension_view t
+  type_extension_view (extensions.Union t) = union_extension_view t
+  type_extension_view (extensions.Enum t) = enum_extension_view t
+  type_extension_view (extensions.InputObject t) = input_extension_view t
+
+  -- ---- documents
+
+  abbrev pub schema_view : SchemaDefinition N T → SchemaTree
+  schema_view s = record {
+    position = place_of s.position;
+    directives = directives_view bytes s.directives.items;
+    query = option_map bytes s.query;
+    mutation = option_map bytes s.mutation;
+    subscription = option_map bytes s.subscription;
+  }
+
+  abbrev pub directive_definition_view : DirectiveDefinition N T → DirectiveDefinitionTree
+  directive_definition_view d = record {
+    position = place_of d.position;
+    description = option_map string_bytes d.description;
+    name = bytes d.name;
+    arguments = map input_value_view d.arguments.items;
+    repeatable = d.repeatable;
+    locations = d.locations.items;
+  }
+
+  abbrev pub definition_view : Definition N T → DefinitionTree
+  definition_view (definitions.SchemaDefinition s) = schema (schema_view s)
+  definition_view (definitions.TypeDefinition t) = type_definition_view t
+  definition_view (definitions.TypeExtension t) = type_extension_view t
+  definition_view (definitions.DirectiveDefinition d) = directive (directive_definition_view d)
+
+  abbrev pub document_view : Document N T → DocumentTree
+  document_view d = map definition_view d.definitions.items

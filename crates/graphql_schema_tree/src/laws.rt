@@ -1,0 +1,68 @@
+//! Laws of the definitions alone.
+ghost use Rattle.std.specs.Prelude.{◌≡◌, ℕ, List, [], ◌∷◌, Some};
+ghost use Rattle.graphql_core.specs.Style.{Layout};
+ghost use Rattle.graphql_schema_tree.specs.Tree.{DocumentTree, erase};
+ghost use Rattle.graphql_schema_tree.specs.Layout.{layout};
+ghost use Rattle.graphql_schema_tree.specs.declared.location.DirectiveLocation.{DirectiveLocation};
+ghost use Rattle.graphql_schema_tree.specs.Examples as example;
+ghost use Rattle.graphql_schema_tree.specs.Grammar.{described_symbol, unread, written_rows};
+ghost use Rattle.graphql_schema_tree.specs.Locations.{word_of, location_of};
+
+/// Of the symbols as they are written, one cannot be read with one item of lookahead.
+pub fn one_symbol_has_a_second_rule()
+    ensures { unread written_rows 0 written_rows ≡ described_symbol ∷ [] }
+{}
+
+/// Each location has a word of its own, which names it, and no other word does.
+pub fn locations_are_named()
+    ensures named { (l : DirectiveLocation) → location_of (word_of l) ≡ Some l }
+    ensures only { (word : List ℕ) (l : DirectiveLocation) → location_of word ≡ Some l → word ≡ word_of l }
+{}
+
+/// The documents of some small texts.
+pub fn worked_examples()
+    ensures positions { example.Positions }
+    ensures leading_bar { example.LeadingBar }
+    ensures empty_schema { example.EmptySchema }
+    ensures any_name { example.AnyName }
+    ensures variable_argument { example.VariableArgument }
+    ensures extension { example.Extension }
+{}
+
+/// How the documents of some small texts are laid out.
+pub fn worked_layouts()
+    ensures positions_layout { example.PositionsLayout }
+    ensures directive_layout { example.DirectiveLayout }
+    ensures directive_in_lines { example.DirectiveInLines }
+    ensures enum_layout { example.EnumLayout }
+    ensures union_layout { example.UnionLayout }
+    ensures schema_layout { example.SchemaLayout }
+    ensures empty_schema_layout { example.EmptySchemaLayout }
+    ensures empty_schema_fits { example.EmptySchemaFits }
+    ensures input_layout { example.InputLayout }
+    ensures extension_layout { example.ExtensionLayout }
+    ensures block_description { example.BlockDescription }
+{}
+
+/// The text of a document is that of the document without its positions.
+pub fn text_has_no_positions()
+    ensures { (style : Layout) (d : DocumentTree) → layout style (erase d) ≡ layout style d }
+{}
+
+/// Where some small texts are refused.
+pub fn worked_refusals()
+    ensures unknown_root { example.UnknownRoot }
+    ensures duplicate_root { example.DuplicateRoot }
+    ensures open_schema { example.OpenSchema }
+    ensures later_fault { example.LaterFault }
+    ensures bare_extension { example.BareExtension }
+    ensures interface_alone { example.InterfaceAlone }
+    ensures open_extension { example.OpenExtension }
+    ensures no_mark { example.NoMark }
+    ensures described_extension { example.DescribedExtension }
+    ensures no_fields { example.NoFields }
+    ensures variable_default { example.VariableDefault }
+    ensures no_location { example.NoLocation }
+    ensures other_location { example.OtherLocation }
+    ensures nothing { example.Nothing }
+{}

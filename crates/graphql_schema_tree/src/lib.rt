@@ -1,0 +1,76 @@
+//! Schema documents: their trees, what they mean, and how they are laid out.
+#![tactic(auto)]
+
+mod laws;
+mod location;
+mod tree;
+
+pub use graphql_core::common::{Names, Text};
+pub use laws::{
+    locations_are_named, one_symbol_has_a_second_rule, text_has_no_positions, worked_examples,
+    worked_layouts, worked_refusals,
+};
+pub use location::{DirectiveLocation, InvalidDirectiveLocation};
+
+/// A schema document (October 2021, section 3).
+pub type Document<'a, T> = tree::Document<T>;
+
+/// A definition of a schema document (section 3).
+pub type Definition<'a, T> = tree::Definition<T>;
+
+/// Which types the operations have (section 3.3).
+pub type SchemaDefinition<'a, T> = tree::SchemaDefinition<T>;
+
+/// A type (section 3.4).
+pub type TypeDefinition<'a, T> = tree::TypeDefinition<T>;
+
+/// A scalar type (section 3.5).
+pub type ScalarType<'a, T> = tree::ScalarType<T>;
+
+/// An object type (section 3.6).
+pub type ObjectType<'a, T> = tree::ObjectType<T>;
+
+/// An interface (section 3.7).
+pub type InterfaceType<'a, T> = tree::InterfaceType<T>;
+
+/// A union (section 3.8).
+pub type UnionType<'a, T> = tree::UnionType<T>;
+
+/// An enum (section 3.9).
+pub type EnumType<'a, T> = tree::EnumType<T>;
+
+/// An input object (section 3.10).
+pub type InputObjectType<'a, T> = tree::InputObjectType<T>;
+
+/// A field of an object or of an interface (section 3.6).
+pub type Field<'a, T> = tree::Field<T>;
+
+/// An argument of a field or of a directive, or a field of an input object (section 3.6.1).
+pub type InputValue<'a, T> = tree::InputValue<T>;
+
+/// A value of an enum (section 3.9).
+pub type EnumValue<'a, T> = tree::EnumValue<T>;
+
+/// An extension of a type (section 3.4.3).
+pub type TypeExtension<'a, T> = tree::TypeExtension<T>;
+
+/// An extension of a scalar type (section 3.5.6).
+pub type ScalarTypeExtension<'a, T> = tree::ScalarTypeExtension<T>;
+
+/// An extension of an object type (section 3.6.3).
+pub type ObjectTypeExtension<'a, T> = tree::ObjectTypeExtension<T>;
+
+/// An extension of an interface (section 3.7.1).
+pub type InterfaceTypeExtension<'a, T> = tree::InterfaceTypeExtension<T>;
+
+/// An extension of a union (section 3.8.1).
+pub type UnionTypeExtension<'a, T> = tree::UnionTypeExtension<T>;
+
+/// An extension of an enum (section 3.9.1).
+pub type EnumTypeExtension<'a, T> = tree::EnumTypeExtension<T>;
+
+/// An extension of an input object (section 3.10.1).
+pub type InputObjectTypeExtension<'a, T> = tree::InputObjectTypeExtension<T>;
+
+/// A directive (section 3.13).
+pub type DirectiveDefinition<'a, T> = tree::DirectiveDefinition<T>;

@@ -1,0 +1,137 @@
+//! Where directives may stand.
+ghost use Rattle.std.specs.Prelude.{◌≡◌, not};
+ghost use Rattle.graphql_schema_tree.specs.Locations.{word_of, location_of, IsNamed, is_in_queries};
+
+use std::str::FromStr;
+use thiserror::Error;
+
+/// A place where a directive may stand (October 2021, section 3.13).
+#[derive(Debug, Clone, Copy, PartialEq, Eq, Hash)]
+pub enum DirectiveLocation {
+    /// A query.
+    Query,
+    /// A mutation.
+    Mutation,
+    /// A subscription.
+    Subscription,
+    /// A field of a selection set.
+    Field,
+    /// A fragment.
+    FragmentDefinition,
+    /// The spread of a fragment.
+    FragmentSpread,
+    /// Selections on a type.
+    InlineFragment,
+    /// A schema.
+    Schema,
+    /// A scalar type.
+    Scalar,
+    /// An object type.
+    Object,
+    /// A field of an object or of an interface.
+    FieldDefinition,
+    /// An argument of such a field or of a directive.
+    ArgumentDefinition,
+    /// An interface.
+    Interface,
+    /// A union.
+    Union,
+    /// An enum.
+    Enum,
+    /// A value of an enum.
+    EnumValue,
+    /// An input object.
+    InputObject,
+    /// A field of an input object.
+    InputFieldDefinition,
+    /// A variable of an operation.
+    VariableDefinition,
+}
+
+/// A text that names no location.
+#[derive(Debug, Clone, Copy, PartialEq, Eq, Error)]
+#[error("invalid directive location")]
+pub struct InvalidDirectiveLocation;
+
+impl DirectiveLocation {
+    /// The word that names it.
+    pub fn as_str(&self) -> &'static str
+        ensures { result.now ≡ word_of self.now }
+    {
+        match self {
+            DirectiveLocation::Query => "QUERY",
+            DirectiveLocation::Mutation => "MUTATION",
+            DirectiveLocation::Subscription => "SUBSCRIPTION",
+            DirectiveLocation::Field => "FIELD",
+            DirectiveLocation::FragmentDefinition => "FRAGMENT_DEFINITION",
+            DirectiveLocation::FragmentSpread => "FRAGMENT_SPREAD",
+            DirectiveLocation::InlineFragment => "INLINE_FRAGMENT",
+            DirectiveLocation::Schema => "SCHEMA",
+            DirectiveLocation::Scalar => "SCALAR",
+            DirectiveLocation::Object => "OBJECT",
+            DirectiveLocation::FieldDefinition => "FIELD_DEFINITION",
+            DirectiveLocation::ArgumentDefinition => "ARGUMENT_DEFINITION",
+            DirectiveLocation::Interface => "INTERFACE",
+            DirectiveLocation::Union => "UNION",
+            DirectiveLocation::Enum => "ENUM",
+            DirectiveLocation::EnumValue => "ENUM_VALUE",
+            DirectiveLocation::InputObject => "INPUT_OBJECT",
+            DirectiveLocation::InputFieldDefinition => "INPUT_FIELD_DEFINITION",
+            DirectiveLocation::VariableDefinition => "VARIABLE_DEFINITION",
+        }
+    }
+
+    /// Whether it is a place in queries.
+    pub fn is_query(&self) -> bool
+        ensures { result ≡ is_in_queries self.now }
+    {
+        matches!(
+            self,
+            DirectiveLocation::Query
+                | DirectiveLocation::Mutation
+                | DirectiveLocation::Subscription
+                | DirectiveLocation::Field
+                | DirectiveLocation::FragmentDefinition
+                | DirectiveLocation::FragmentSpread
+                | DirectiveLocation::InlineFragment
+        )
+    }
+
+    /// Whether it is a place in schemas, which is any other.
+    pub fn is_schema(&self) -> bool
+        ensures { result ≡ not (is_in_queries self.now) }
+    {
+        !self.is_query()
+    }
+}
+
+impl FromStr for DirectiveLocation {
+    type Err = InvalidDirectiveLocation;
+
+    ghost from_str_gives = { λ text r. IsNamed (location_of text) r };
+
+    fn from_str(text: &str) -> Result<DirectiveLocation, InvalidDirectiveLocation> {
+        match text {
+            "QUERY" => Ok(DirectiveLocation::Query),
+            "MUTATION" => Ok(DirectiveLocation::Mutation),
+            "SUBSCRIPTION" => Ok(DirectiveLocation::Subscription),
+            "FIELD" => Ok(DirectiveLocation::Field),
+            "FRAGMENT_DEFINITION" => Ok(DirectiveLocation::FragmentDefinition),
+            "FRAGMENT_SPREAD" => Ok(DirectiveLocation::FragmentSpread),
+            "INLINE_FRAGMENT" => Ok(DirectiveLocation::InlineFragment),
+            "SCHEMA" => Ok(DirectiveLocation::Schema),
+            "SCALAR" => Ok(DirectiveLocation::Scalar),
+            "OBJECT" => Ok(DirectiveLocation::Object),
+            "FIELD_DEFINITION" => Ok(DirectiveLocation::FieldDefinition),
+            "ARGUMENT_DEFINITION" => Ok(DirectiveLocation::ArgumentDefinition),
+            "INTERFACE" => Ok(DirectiveLocation::Interface),
+            "UNION" => Ok(DirectiveLocation::Union),
+            "ENUM" => Ok(DirectiveLocation::Enum),
+            "ENUM_VALUE" => Ok(DirectiveLocation::EnumValue),
+            "INPUT_OBJECT" => Ok(DirectiveLocation::InputObject),
+            "INPUT_FIELD_DEFINITION" => Ok(DirectiveLocation::InputFieldDefinition),
+            "VARIABLE_DEFINITION" => Ok(DirectiveLocation::VariableDefinition),
+            _ => Err(InvalidDirectiveLocation),
+        }
+    }
+}

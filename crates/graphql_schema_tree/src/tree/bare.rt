@@ -1,0 +1,250 @@
+//! Trees that have a name alone, and trees that are empty.
+ghost use Rattle.std.specs.Prelude.{◌≡◌, [], ◌∷◌, None};
+ghost use Rattle.graphql_schema_tree.specs.Tree.{object, interface, union, enum, input, scalar, bare, bare_enum_value, bare_directive, empty_schema};
+ghost use Rattle.graphql_schema_tree.specs.Tree.{type_definition, extension};
+ghost use Rattle.graphql_schema_tree.specs.Views.{scalar_view, object_view, interface_view, union_view, enum_view, input_view};
+ghost use Rattle.graphql_schema_tree.specs.Views.{scalar_extension_view, object_extension_view, interface_extension_view, union_extension_view};
+ghost use Rattle.graphql_schema_tree.specs.Views.{enum_extension_view, input_extension_view, enum_value_view, directive_definition_view, schema_view};
+ghost use Rattle.graphql_schema_tree.specs.Views.{document_view};
+
+use crate::tree::{
+    DirectiveDefinition, Document, EnumType, EnumTypeExtension, EnumValue, InputObjectType,
+    InputObjectTypeExtension, InterfaceType, InterfaceTypeExtension, ObjectType,
+    ObjectTypeExtension, ScalarType, ScalarTypeExtension, SchemaDefinition, UnionType,
+    UnionTypeExtension,
+};
+use graphql_core::common::Names;
+use graphql_core::position::Pos;
+use std::alloc::Global;
+
+impl<N: Names> ScalarType<N> {
+    /// A scalar type of this name, with nothing else.
+    pub fn new(alloc: Global, name: N::Value) -> ScalarType<N>
+        ensures { scalar_view N.bytes result ≡ type_definition None (bare (N.bytes name) scalar) }
+    {
+        ScalarType {
+            position: Pos::default(),
+            description: None,
+            name,
+            directives: Vec::new(alloc),
+        }
+    }
+}
+
+impl<N: Names> ObjectType<N> {
+    /// An object type of this name, with nothing else.
+    pub fn new(alloc: Global, name: N::Value) -> ObjectType<N>
+        ensures { object_view N.bytes result ≡ type_definition None (bare (N.bytes name) (object [] [])) }
+    {
+        ObjectType {
+            position: Pos::default(),
+            description: None,
+            name,
+            implements_interfaces: Vec::new(alloc),
+            directives: Vec::new(alloc),
+            fields: Vec::new(alloc),
+        }
+    }
+}
+
+impl<N: Names> InterfaceType<N> {
+    /// An interface of this name, with nothing else.
+    pub fn new(alloc: Global, name: N::Value) -> InterfaceType<N>
+        ensures { interface_view N.bytes result ≡ type_definition None (bare (N.bytes name) (interface [] [])) }
+    {
+        InterfaceType {
+            position: Pos::default(),
+            description: None,
+            name,
+            implements_interfaces: Vec::new(alloc),
+            directives: Vec::new(alloc),
+            fields: Vec::new(alloc),
+        }
+    }
+}
+
+impl<N: Names> UnionType<N> {
+    /// A union of this name, with nothing else.
+    pub fn new(alloc: Global, name: N::Value) -> UnionType<N>
+        ensures { union_view N.bytes result ≡ type_definition None (bare (N.bytes name) (union [])) }
+    {
+        UnionType {
+            position: Pos::default(),
+            description: None,
+            name,
+            directives: Vec::new(alloc),
+            types: Vec::new(alloc),
+        }
+    }
+}
+
+impl<N: Names> EnumType<N> {
+    /// An enum of this name, with nothing else.
+    pub fn new(alloc: Global, name: N::Value) -> EnumType<N>
+        ensures { enum_view N.bytes result ≡ type_definition None (bare (N.bytes name) (enum [])) }
+    {
+        EnumType {
+            position: Pos::default(),
+            description: None,
+            name,
+            directives: Vec::new(alloc),
+            values: Vec::new(alloc),
+        }
+    }
+}
+
+impl<N: Names> InputObjectType<N> {
+    /// An input object of this name, with nothing else.
+    pub fn new(alloc: Global, name: N::Value) -> InputObjectType<N>
+        ensures { input_view N.bytes result ≡ type_definition None (bare (N.bytes name) (input [])) }
+    {
+        InputObjectType {
+            position: Pos::default(),
+            description: None,
+            name,
+            directives: Vec::new(alloc),
+            fields: Vec::new(alloc),
+        }
+    }
+}
+
+impl<N: Names> ScalarTypeExtension<N> {
+    /// An extension of a scalar type of this name, with nothing else.
+    pub fn new(alloc: Global, name: N::Value) -> ScalarTypeExtension<N>
+        ensures { scalar_extension_view N.bytes result ≡ extension (bare (N.bytes name) scalar) }
+    {
+        ScalarTypeExtension {
+            position: Pos::default(),
+            name,
+            directives: Vec::new(alloc),
+        }
+    }
+}
+
+impl<N: Names> ObjectTypeExtension<N> {
+    /// An extension of an object type of this name, with nothing else.
+    pub fn new(alloc: Global, name: N::Value) -> ObjectTypeExtension<N>
+        ensures { object_extension_view N.bytes result ≡ extension (bare (N.bytes name) (object [] [])) }
+    {
+        ObjectTypeExtension {
+            position: Pos::default(),
+            name,
+            implements_interfaces: Vec::new(alloc),
+            directives: Vec::new(alloc),
+            fields: Vec::new(alloc),
+        }
+    }
+}
+
+impl<N: Names> InterfaceTypeExtension<N> {
+    /// An extension of an interface of this name, with nothing else.
+    pub fn new(alloc: Global, name: N::Value) -> InterfaceTypeExtension<N>
+        ensures { interface_extension_view N.bytes result ≡ extension (bare (N.bytes name) (interface [] [])) }
+    {
+        InterfaceTypeExtension {
+            position: Pos::default(),
+            name,
+            implements_interfaces: Vec::new(alloc),
+            directives: Vec::new(alloc),
+            fields: Vec::new(alloc),
+        }
+    }
+}
+
+impl<N: Names> UnionTypeExtension<N> {
+    /// An extension of a union of this name, with nothing else.
+    pub fn new(alloc: Global, name: N::Value) -> UnionTypeExtension<N>
+        ensures { union_extension_view N.bytes result ≡ extension (bare (N.bytes name) (union [])) }
+    {
+        UnionTypeExtension {
+            position: Pos::default(),
+            name,
+            directives: Vec::new(alloc),
+            types: Vec::new(alloc),
+        }
+    }
+}
+
+impl<N: Names> EnumTypeExtension<N> {
+    /// An extension of an enum of this name, with nothing else.
+    pub fn new(alloc: Global, name: N::Value) -> EnumTypeExtension<N>
+        ensures { enum_extension_view N.bytes result ≡ extension (bare (N.bytes name) (enum [])) }
+    {
+        EnumTypeExtension {
+            position: Pos::default(),
+            name,
+            directives: Vec::new(alloc),
+            values: Vec::new(alloc),
+        }
+    }
+}
+
+impl<N: Names> InputObjectTypeExtension<N> {
+    /// An extension of an input object of this name, with nothing else.
+    pub fn new(alloc: Global, name: N::Value) -> InputObjectTypeExtension<N>
+        ensures { input_extension_view N.bytes result ≡ extension (bare (N.bytes name) (input [])) }
+    {
+        InputObjectTypeExtension {
+            position: Pos::default(),
+            name,
+            directives: Vec::new(alloc),
+            fields: Vec::new(alloc),
+        }
+    }
+}
+
+impl<N: Names> EnumValue<N> {
+    /// A value of an enum of this name, with nothing else.
+    pub fn new(alloc: Global, name: N::Value) -> EnumValue<N>
+        ensures { enum_value_view N.bytes result ≡ bare_enum_value (N.bytes name) }
+    {
+        EnumValue {
+            position: Pos::default(),
+            description: None,
+            name,
+            directives: Vec::new(alloc),
+        }
+    }
+}
+
+impl<N: Names> DirectiveDefinition<N> {
+    /// A directive of this name, with nothing else: it may stand nowhere.
+    pub fn new(alloc: Global, name: N::Value) -> DirectiveDefinition<N>
+        ensures { directive_definition_view N.bytes result ≡ bare_directive (N.bytes name) }
+    {
+        DirectiveDefinition {
+            position: Pos::default(),
+            description: None,
+            name,
+            arguments: Vec::new(alloc),
+            repeatable: false,
+            locations: Vec::new(alloc),
+        }
+    }
+}
+
+impl<N: Names> SchemaDefinition<N> {
+    /// A schema that names no operation.
+    pub fn empty(alloc: Global) -> SchemaDefinition<N>
+        ensures { schema_view N.bytes result ≡ empty_schema }
+    {
+        SchemaDefinition {
+            position: Pos::default(),
+            directives: Vec::new(alloc),
+            query: None,
+            mutation: None,
+            subscription: None,
+        }
+    }
+}
+
+impl<N: Names> Document<N> {
+    /// A document without definitions.
+    pub fn empty(alloc: Global) -> Document<N>
+        ensures { document_view N.bytes result ≡ [] }
+    {
+        Document {
+            definitions: Vec::new(alloc),
+        }
+    }
+}

@@ -1,0 +1,91 @@
+//! Extensions of types.
+use crate::tree::parts::{EnumValue, Field, InputValue};
+use graphql_core::common::Names;
+use graphql_core::position::Pos;
+use graphql_values::tree::Directive;
+
+/// An extension of a scalar type (October 2021, section 3.5.6).
+#[derive_where(Debug, Clone, PartialEq)]
+#[derive(Drop)]
+pub struct ScalarTypeExtension<N: Names> {
+    /// The position of the keyword after `extend`.
+    pub position: Pos,
+    /// The name.
+    pub name: N::Value,
+    /// The directives in order.
+    pub directives: Vec<Directive<N>>,
+}
+
+/// An extension of an object type (October 2021, section 3.6.3).
+#[derive_where(Debug, Clone, PartialEq)]
+#[derive(Drop)]
+pub struct ObjectTypeExtension<N: Names> {
+    /// The position of the keyword after `extend`.
+    pub position: Pos,
+    /// The name.
+    pub name: N::Value,
+    /// The interfaces that it implements, in order.
+    pub implements_interfaces: Vec<N::Value>,
+    /// The directives in order.
+    pub directives: Vec<Directive<N>>,
+    /// The fields in order.
+    pub fields: Vec<Field<N>>,
+}
+
+/// An extension of an interface (October 2021, section 3.7.1).
+#[derive_where(Debug, Clone, PartialEq)]
+#[derive(Drop)]
+pub struct InterfaceTypeExtension<N: Names> {
+    /// The position of the keyword after `extend`.
+    pub position: Pos,
+    /// The name.
+    pub name: N::Value,
+    /// The interfaces that it implements, in order.
+    pub implements_interfaces: Vec<N::Value>,
+    /// The directives in order.
+    pub directives: Vec<Directive<N>>,
+    /// The fields in order.
+    pub fields: Vec<Field<N>>,
+}
+
+/// An extension of a union (October 2021, section 3.8.1).
+#[derive_where(Debug, Clone, PartialEq)]
+#[derive(Drop)]
+pub struct UnionTypeExtension<N: Names> {
+    /// The position of the keyword after `extend`.
+    pub position: Pos,
+    /// The name.
+    pub name: N::Value,
+    /// The directives in order.
+    pub directives: Vec<Directive<N>>,
+    /// The types that it joins, in order.
+    pub types: Vec<N::Value>,
+}
+
+/// An extension of an enum (October 2021, section 3.9.1).
+#[derive_where(Debug, Clone, PartialEq)]
+#[derive(Drop)]
+pub struct EnumTypeExtension<N: Names> {
+    /// The position of the keyword after `extend`.
+    pub position: Pos,
+    /// The name.
+    pub name: N::Value,
+    /// The directives in order.
+    pub directives: Vec<Directive<N>>,
+    /// The values in order.
+    pub values: Vec<EnumValue<N>>,
+}
+
+/// An extension of an input object (October 2021, section 3.10.1).
+#[derive_where(Debug, Clone, PartialEq)]
+#[derive(Drop)]
+pub struct InputObjectTypeExtension<N: Names> {
+    /// The position of the keyword after `extend`.
+    pub position: Pos,
+    /// The name.
+    pub name: N::Value,
+    /// The directives in order.
+    pub directives: Vec<Directive<N>>,
+    /// The fields in order.
+    pub fields: Vec<InputValue<N>>,
+}

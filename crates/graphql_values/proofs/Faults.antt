@@ -1,0 +1,168 @@
+-- What a refusal says of the item at the index of a fault, and what follows of a text's faults.
+use Rattle.std.proofs.Common.{◌≡◌, ℕ, suc, Bool, true, false, List, [], ◌∷◌, ◌++◌, length, take, drop, Option, Some, None, is_some, refl, sym, ap, subst, ◌∙◌}
+use Rattle.std.proofs.Common.{arith}
+use Rattle.std.proofs.lemmas.List.{drop_at}
+use Rattle.std.proofs.lemmas.Bool.{and_parts, both_ways}
+use Rattle.std.proofs.lemmas.Bool.Decides.{nat_tests}
+use Rattle.graphql_grammar.specs.Tokens.{Token, Class, AnyOf, matches}
+use Rattle.graphql_grammar.specs.Trees.{Sym, Grammar, Begins}
+use Rattle.graphql_grammar.specs.Reading.{Reason, Unexpected, Improper, Refused, unchecked, lax}
+use Rattle.graphql_grammar.specs.Texts as texts
+use Rattle.graphql_grammar.specs.Texts.{Answers, Answer}
+use Rattle.graphql_grammar.specs.Faults.{IsFault, leaf_refused, node_refused, IsLeast, index_of}
+use Rattle.graphql_lexer.specs.declared.tokenizer.token.Kind.TheVariants.{IntValue, FloatValue, StringValue}
+use Rattle.graphql_core.specs.Source.{Items, Last, End, Wrong, IsEnd, FaultText, fault_by, fault_at, place_next, split}
+use Rattle.graphql_core.specs.Causes.{CauseText, int_out_of_range, malformed_float, bad_escape}
+use Rattle.graphql_lexer.specs.Items.{Item}
+use Rattle.graphql_lexer.proofs.OneCut.{items_unique}
+use Rattle.graphql_core.proofs.FloatLiterals.{literal_is_float}
+use Rattle.graphql_values.specs.Grammar.{any}
+use Rattle.graphql_values.specs.Leaves.{is_good, unquoted, without_ends}
+use Rattle.graphql_values.specs.Language.{Language, reading}
+use Rattle.graphql_values.specs.Document.{IsDocument}
+use Rattle.graphql_values.specs.Faults.{ending_of, text_of, HasNoValue, out_of_range, malformed, escaped_badly, Says, IsFaultAt, IsLeastFault}
+use Rattle.graphql_values.specs.Faults.{IsFaultOf, IsLeastFaultOf, HasOneFaultEach, HasNoFault, IsFaultAfter, unexpected, no_value, IsFirstFault}
+use Rattle.graphql_values.specs.Faults.{IsFirstFaultOf}
+use Rattle.graphql_values.proofs.StringValues.{has_unquoted}
+use Rattle.graphql_values.proofs.LeafValues.{in_range, whole_exponent, in_quotes}
+use Rattle.graphql_values.proofs.Readable.{IsReadable, whole, least, whole_reading}
+
+pub ends : (l : Last) → IsEnd l → ending_of l ≡ texts.End
+ends (End p) h = refl
+ends (Wrong p b) h = absurd h
+
+-- ---- tokens without a value
+
+kind_is : (k : ℕ) (t : Token) → matches (AnyOf k) t ≡ true → t.kind ≡ k
+kind_is k t h = let s = (and_parts _ true h).0 in grind (arith, nat_tests)
+
+none_there : {A : Type 0} (o : Option A) → is_some o ≡ false → o ≡ None
+none_there None h = refl
+none_there (Some x) h = absurd cc
+
+-- each token of this class that is not good as a leaf of a value has none, for this cause
+abbrev pub Lacks : Class → CauseText → Type 0
+Lacks c k = (t : Token) → matches c t ≡ true → is_good c t ≡ false → HasNoValue t k
+
+pub no_integer : Lacks (any IntValue) int_out_of_range
+no_integer t m h = out_of_range (kind_is _ t m) (λ fits. both_ways _ h ((in_range t.spelling).1 fits))
+
+pub no_float : Lacks (any FloatValue) malformed_float
+no_float t m h = malformed (kind_is _ t m) (λ literal. both_ways _ h ((whole_exponent t.spelling (literal_is_float t.spelling literal)).1 literal))
+
+pub no_string : Lacks (any StringValue) bad_escape
+no_string t m h = escaped_badly (kind_is _ t m) (λ body is v value.
+    let there : unquoted (without_ends 1 t.spelling) ≡ Some v = ap unquoted (in_quotes t.spelling body is) ∙ (has_unquoted body v).1 value in
+    let none = none_there (unquoted (without_ends 1 t.spelling)) h in
+    cc)
+
+head_is : (t u : Token) (ts us : List Token) → t ∷ ts ≡ u ∷ us → u ≡ t
+head_is t u ts us h = cc
+
+module _ {D : Type 0} (l : Language D) (r : IsReadable l) where
+  -- ---- what is said where a reader stops
+
+  -- the token that is refused as a leaf, and the index of its fault
+  abbrev RefusedLeaf : texts.Text → Class → ℕ → Type 0
+  RefusedLeaf t c n =
+      (u : Token) × (us : List Token) × (front : List Token) × (t.tokens ≡ front ++ u ∷ us) × (n ≡ suc (length front)) × (matches c u ≡ true)
+      × (l.grammar.good c u ≡ false)
+
+  refused_leaf : (t : texts.Text) (c : Class) (n : ℕ) → IsFault l.grammar (Sym l.document) t (Improper c) n → RefusedLeaf t c n
+  refused_leaf t c _ (leaf_refused front us u _ p leads m g) = (u, us, front, p, refl, m, g)
+
+  -- each token of this class that is not good is refused for this cause
+  abbrev pub Misses : Class → CauseText → Type 0
+  Misses c k = (t : Token) → matches c t ≡ true → l.grammar.good c t ≡ false → l.lacks c t k
+
+  -- n items of i stand before those of j
+  module _ (i j : Items) (n : ℕ) (later : drop n i.tokens ≡ j.tokens) (last : i.last ≡ j.last) (f : FaultText) where
+    pub unexpected_here : IsLeast l.grammar (Sym l.document) (text_of i) Unexpected (suc n) → f ≡ fault_at j → IsLeastFault l i f
+    unexpected_here w h = (suc n, Unexpected, w, h ∙ sym (λ k. fault_by (later k) (last k)))
+
+    pub no_value_here : (c : Class) (k : CauseText) → Misses c k → IsLeast l.grammar (Sym l.document) (text_of i) (Improper c) (suc n)
+        → f.cause ≡ k → f.place ≡ place_next j → IsLeastFault l i f
+    no_value_here c k lacks w cause place =
+        let (u, us, front, p, m, is, not_good) = refused_leaf (text_of i) c (suc n) w.0 in
+        let here : drop n i.tokens ≡ u ∷ us = ap (drop n) p ∙ drop_at front (u ∷ us) n (omega (arith, m)) in
+        let at : place_next j ≡ u.place = ap (λ ts. (fault_by ts j.last).place) (sym later ∙ here) in
+        (suc n, Improper c, w, (u, us, here, subst (l.lacks c u) (sym cause) (lacks u is not_good), place ∙ at))
+
+  -- ---- one fault an index
+
+  one_said : (why : Reason) (i : Items) (n : ℕ) (f g : FaultText) → IsFault l.grammar (Sym l.document) (text_of i) why n
+      → Says l why i n f → Says l why i n g → f ≡ g
+  one_said Unexpected i n f g x h k = h ∙ sym k
+  one_said (Improper c) i n f g x (t, ts, p, lacks, at) (u, us, q, lacks', at') =
+      let same : u ≡ t = head_is t u ts us (sym p ∙ q) in
+      let cause_is = r.one_cause c t f.cause g.cause lacks (subst (λ (v : Token). l.lacks c v g.cause) same lacks') in
+      let place_is = at ∙ ap (λ (v : Token). v.place) (sym same) ∙ sym at' in
+      λ k. record { cause = cause_is k; place = place_is k }
+  one_said (Refused k) i n f g x h w = r.one_said i k n f g x h w
+
+  pub one_each : (text : List ℕ) → HasOneFaultEach l text
+  one_each text f g n (items, has, (why, x, said)) (others, has', (other, y, said')) =
+      let same = subst (λ (is : List Item). IsFault l.grammar (Sym l.document) (text_of (split is)) other n) (items_unique text others items has' has) y in
+      let said_same = subst (λ (is : List Item). Says l other (split is) n g) (items_unique text others items has' has) said' in
+      let reason = (least l r).one_index (text_of (split items)) why other n x same in
+      one_said why (split items) n f g x said (subst (λ (q : Reason). Says l q (split items) n g) (sym reason) said_same)
+
+  pub one_least : (text : List ℕ) (f g : FaultText) → IsLeastFaultOf l text f → IsLeastFaultOf l text g → f ≡ g
+  one_least text f g (items, has, (n, why, x, said)) (others, has', (m, other, y, said')) =
+      let same = subst (λ (is : List Item). IsLeast l.grammar (Sym l.document) (text_of (split is)) other m) (items_unique text others items has' has) y in
+      let at = ((least l r).one (text_of (split items)) why other n m x same).1 in
+      one_each text f g n (items, has, (why, x.0, said))
+      (subst (λ (k : ℕ). IsFaultOf l text g k) (sym at) (others, has', (other, y.0, said')))
+
+  -- ---- documents
+
+  no_fault_in : (i : Items) (d : D) (f : FaultText) (n : ℕ) → IsDocument l i d → IsFaultAt l i f n → ⊥
+  no_fault_in i d f n (x, derived, at_end, means) (why, fault, said) =
+      let c = (whole l r).complete (text_of i) x derived (ends i.last at_end) in
+      (least l r).tree (text_of i) c.0 c.1 why n fault
+
+  pub no_fault : (text : List ℕ) (d : D) → HasNoFault l text d
+  no_fault text d (items, has, document) f n (others, has', fault) =
+      no_fault_in (split items) d f n document (subst (λ (is : List Item). IsFaultAt l (split is) f n) (items_unique text others items has' has) fault)
+
+  -- ---- the least is the first, where no node is refused
+
+  module _ (no_checks : unchecked l.grammar ≡ l.grammar) where
+    none_refused : (t : texts.Text) (k n : ℕ) → IsFault l.grammar (Sym l.document) t (Refused k) n → ⊥
+    none_refused t _ _ (node_refused before us k x (p, nonempty, leads, f, c, n)) =
+        let passes : true ≡ l.grammar.check k x = ap (λ (g : Grammar). g.check k x) no_checks in
+        absurd (cc (passes, c))
+
+    module _ (i : Items) (f : FaultText) (place : ℕ) where
+      -- the fault after the first items, where the theory answers that place for this reason
+      after_first : (why : Reason) → texts.IsFaultAt l.grammar (Sym l.document) (text_of i) why place
+          → IsFault l.grammar (Sym l.document) (text_of i) why (index_of why place) → Says l why i (index_of why place) f
+          → IsFaultAfter l (take place i.tokens) (drop place i.tokens) i.last f
+      after_first Unexpected w x said =
+          subst (IsFaultAfter l (take place i.tokens) (drop place i.tokens) i.last) (sym said) (unexpected (w.unexpected refl))
+      after_first (Improper c) w x (t, ts, is, lacks, at) =
+          let v = w.value c refl in
+          let same : v.token ≡ t = head_is t v.token ts v.rest (sym is ∙ v.is) in
+          let begins = subst (λ (u : Token). Begins (lax l.grammar) (Sym l.document) (take place i.tokens ++ u ∷ [])) same v.begins in
+          let found : IsFaultAfter l (take place i.tokens) (t ∷ ts) i.last (record { cause = f.cause; place = t.place }) = no_value lacks begins in
+          let here = subst (λ (us : List Token). IsFaultAfter l (take place i.tokens) us i.last (record { cause = f.cause; place = t.place }))
+          (sym is) found in
+          subst (IsFaultAfter l (take place i.tokens) (drop place i.tokens) i.last) (λ k. record { cause = f.cause; place = sym at k }) here
+      after_first (Refused k) w x said = absurd (none_refused (text_of i) k place x)
+
+    first_by : (i : Items) (f : FaultText) (n : ℕ) (why : Reason) → IsLeast l.grammar (Sym l.document) (text_of i) why n → Says l why i n f
+        → (a : Answer) → Answers (reading l) (Sym l.document) (text_of i) a → IsFirstFault l i f
+    first_by i f n why w said (texts.Tree x) a = absurd ((least l r).tree (text_of i) x a why n w.0)
+    first_by i f n why w said (texts.Wrong other place) a =
+        let is = (least l r).wrong (text_of i) other place a in
+        let (reason, at) = (least l r).one (text_of i) why other n (index_of other place) w is in
+        let x = (whole l r).wrong (text_of i) other place a in
+        let said_here = subst (λ (k : ℕ). Says l why i k f) at said in
+        let said_other = subst (λ (q : Reason). Says l q i (index_of other place) f) reason said_here in
+        let begins = subst (λ (g : Grammar). Begins g (Sym l.document) (take place i.tokens)) no_checks x.begins in
+        (place, x.within, begins, x.ends, after_first i f place other x is.0 said_other)
+
+    pub least_is_first : (text : List ℕ) (f : FaultText) → IsLeastFaultOf l text f → IsFirstFaultOf l text f
+    least_is_first text f (items, has, (n, why, w, said)) =
+        let a = (whole_reading l r).answer (text_of (split items)) in
+        (items, has, first_by (split items) f n why w said a.0 a.1)

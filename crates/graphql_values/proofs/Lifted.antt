@@ -1,0 +1,42 @@
+-- What readers of values, types and directives give holds where a language is read that goes on from them. And where a tree begins.
+use Rattle.std.proofs.Common.{◌≡◌, ◌<◌, true, List, [], ◌∷◌, ◌++◌, length, Option, Some, None, refl, sym, ap, subst, ◌∙◌, arith}
+use Rattle.graphql_grammar.specs.Tokens.{Token}
+use Rattle.graphql_grammar.specs.Trees.{Expr, Shape, leaves}
+use Rattle.graphql_grammar.specs.Reading.{Takes, Reason}
+use Rattle.graphql_grammar.specs.ReaderWords.{TakesSome, Stops}
+use Rattle.graphql_grammar.specs.Extended.{TestsAlike, is_below}
+use Rattle.graphql_grammar.specs.Factored.{written}
+use Rattle.graphql_grammar.proofs.SecondRules.{written-leaves}
+use Rattle.graphql_grammar.proofs.Extending.{reads_on, left_alone}
+use Rattle.graphql_grammar.proofs.Sound.{takes-fits, takes-leaves}
+use Rattle.graphql_core.specs.Source.{Items, Last, fault_by, place_next}
+use Rattle.graphql_values.specs.Grammar.{shared, shared_symbols}
+use Rattle.graphql_values.specs.Language.{Language, reading}
+use Rattle.graphql_values.specs.Meanings.{first_place}
+use Rattle.graphql_values.proofs.Readable.{IsReadable}
+
+first_of : (xs ts us : List Token) (l : Last) → ts ≡ xs ++ us → length us < length ts → first_place xs ≡ (fault_by ts l).place
+first_of [] ts us l parts h = let e : length ts ≡ length us = ap length parts in absurd (omega (arith, e, h))
+first_of (t ∷ xs) ts us l parts h = rw parts refl
+
+module _ {D : Type 0} (l : Language D) (r : IsReadable l) where
+  -- the written tree of what is read begins where the next item did
+  pub begins_at : (e : Expr) (old new : Items) (x : Shape) → Takes (reading l) e old.tokens x new.tokens → length new.tokens < length old.tokens
+      → first_place (leaves (written l.changes x)) ≡ place_next old
+  begins_at e old new x h shorter =
+      ap first_place (written-leaves l.grammar l.second_rows l.changes r.each (takes-fits (reading l) h))
+      ∙ first_of (leaves x) old.tokens new.tokens old.last (takes-leaves (reading l) h) shorter
+
+  -- an expression of the shared symbols, whose leaves are tested alike
+  module _ (e : Expr) (alike : TestsAlike shared (reading l) e) (below : is_below shared_symbols e ≡ true) where
+    pub takes_lifted : (ts us : List Token) (x : Shape) → Takes shared e ts x us → Takes (reading l) e ts x us
+    takes_lifted ts us x h = (reads_on shared_symbols shared (reading l) r.goes_on e below alike).takes ts us x h
+
+    pub stops_lifted : (ts us : List Token) (o : Option Reason) → Stops shared e ts us o → Stops (reading l) e ts us o
+    stops_lifted ts us None h = tt
+    stops_lifted ts us (Some why) h = (reads_on shared_symbols shared (reading l) r.goes_on e below alike).fails ts us why h
+
+    -- its shape is its own written shape
+    pub some_lifted : (ts us : List Token) (P : Shape → Type 0) → TakesSome shared e ts us P → TakesSome (reading l) e ts us (λ x. P (written l.changes x))
+    some_lifted ts us P (x, h, p) =
+        (x, takes_lifted ts us x h, subst P (sym (left_alone shared_symbols shared l.changes r.alone (takes-fits shared h) below)) p)

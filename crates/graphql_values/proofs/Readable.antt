@@ -1,0 +1,94 @@
+-- What a language has to show once, and what the theory of grammars then says of it.
+use Rattle.std.proofs.Common.{◌≡◌, ℕ, true, List, [], ◌∷◌, ◌++◌, length, replicate, refl, arith}
+use Rattle.graphql_grammar.specs.Tokens.{Token, Class, AnyOf}
+use Rattle.graphql_grammar.specs.Trees.{Sym, Shape, Row, Grammar}
+use Rattle.graphql_grammar.specs.Tables.{is_ll1, is_tight, is_productive, decides, has_samples}
+use Rattle.graphql_grammar.specs.Reading.{Refused, unchecked, lax}
+use Rattle.graphql_grammar.specs.Theorems.{IsExact}
+use Rattle.graphql_grammar.specs.Factored.{Change, unchanged, AreSecond, EachIsSecond, with_rows, IsExactFor}
+use Rattle.graphql_grammar.specs.Texts.{IsWhole, IsWholeFor}
+use Rattle.graphql_grammar.specs.Faults.{IsFault, AnswersLeast, RefusesTokens}
+use Rattle.graphql_grammar.specs.Extended.{Extends, LeavesAlone}
+use Rattle.graphql_grammar.proofs.SecondRules.{IsSecond-unchanged, exact_for, whole_for}
+use Rattle.graphql_grammar.proofs.FaultedFor.{least_for}
+use Rattle.graphql_grammar.proofs.Exact as theory
+use Rattle.graphql_grammar.proofs.WholeTexts as whole_theory
+use Rattle.graphql_core.specs.Causes.{CauseText}
+use Rattle.graphql_core.specs.Source.{Items, FaultText}
+use Rattle.graphql_values.specs.Leaves.{is_good}
+use Rattle.graphql_values.specs.Grammar.{shared, shared_symbols}
+use Rattle.graphql_values.specs.Language.{Language, reading}
+use Rattle.graphql_values.specs.Faults.{text_of, HasNoValue, out_of_range, malformed, escaped_badly}
+
+-- ---- tokens without a value
+
+pub one_cause : (t : Token) (c d : CauseText) → HasNoValue t c → HasNoValue t d → c ≡ d
+one_cause t c d (out_of_range e r) (out_of_range f s) = refl
+one_cause t c d (out_of_range e r) (malformed f s) = absurd (omega (arith, e, f))
+one_cause t c d (out_of_range e r) (escaped_badly f s) = absurd (omega (arith, e, f))
+one_cause t c d (malformed e r) (out_of_range f s) = absurd (omega (arith, e, f))
+one_cause t c d (malformed e r) (malformed f s) = refl
+one_cause t c d (malformed e r) (escaped_badly f s) = absurd (omega (arith, e, f))
+one_cause t c d (escaped_badly e r) (out_of_range f s) = absurd (omega (arith, e, f))
+one_cause t c d (escaped_badly e r) (malformed f s) = absurd (omega (arith, e, f))
+one_cause t c d (escaped_badly e r) (escaped_badly f s) = refl
+
+pub record IsReadable {D : Type 0} (l : Language D) : Type 0 where
+  -- tests of the second rows, which are computed
+  pub ll1 : is_ll1 l.second_rows ≡ true
+  pub tight : is_tight l.second_rows ≡ true
+  pub productive : is_productive (reading l) ≡ true
+  pub productive_lax : is_productive (with_rows (lax l.grammar) l.second_rows l.changes) ≡ true
+  -- a whole document can be read, and stands for what is written
+  pub decides : decides l.second_rows (Sym l.document) ≡ true
+  pub samples : has_samples (reading l) (Sym l.document) ≡ true
+  pub samples_lax : has_samples (with_rows (lax l.grammar) l.second_rows l.changes) (Sym l.document) ≡ true
+  -- the second rules have the trees of the written ones, whatever is tested
+  pub each : EachIsSecond l.grammar l.second_rows l.changes
+  pub each_unchecked : EachIsSecond (unchecked l.grammar) l.second_rows l.changes
+  pub each_lax : EachIsSecond (lax l.grammar) l.second_rows l.changes
+  -- it goes on from the grammar of values, types and directives, whose trees are left alone
+  pub goes_on : Extends shared_symbols shared (reading l)
+  pub alone : LeavesAlone shared_symbols shared l.changes
+  -- any token of a kind has a value where it has one as a leaf of a value
+  pub good : (k : ℕ) (t : Token) → l.grammar.good (AnyOf k) t ≡ is_good (AnyOf k) t
+  -- such a token is refused for the cause for which it has no value, and each leaf for one cause
+  pub lacks : (k : ℕ) (t : Token) (c : CauseText) → HasNoValue t c → l.lacks (AnyOf k) t c
+  pub one_cause : (leaf : Class) (t : Token) (c d : CauseText) → l.lacks leaf t c → l.lacks leaf t d → c ≡ d
+  -- no node without tokens is refused, and none of a whole document
+  pub refuses_tokens : RefusesTokens l.grammar
+  pub passes : (x : Shape) → l.grammar.check l.document x ≡ true
+  -- one thing is said of a node that is refused
+  pub one_said : (i : Items) (k n : ℕ) (f g : FaultText) → IsFault l.grammar (Sym l.document) (text_of i) (Refused k) n
+      → l.refuses k i n f → l.refuses k i n g → f ≡ g
+
+-- rows that both rules share: those of core stand first in each
+pub shared_rows : (g : Grammar) (rs : List Row) (cs : List Change) (shared ws qs : List Row) (others : List Change) → AreSecond g rs cs ws qs others
+    → AreSecond g rs cs (shared ++ ws) (shared ++ qs) (replicate (length shared) unchanged ++ others)
+shared_rows g rs cs [] ws qs others h = h
+shared_rows g rs cs (r ∷ shared) ws qs others h = (IsSecond-unchanged g rs cs r.rule, shared_rows g rs cs shared ws qs others h)
+
+-- ---- what the theory says
+
+module _ {D : Type 0} (l : Language D) (r : IsReadable l) where
+  pub exact : IsExactFor l.grammar l.second_rows l.changes (Sym l.document)
+  exact = exact_for l.grammar l.second_rows l.changes r.each r.each_unchecked r.each_lax r.ll1 r.productive (Sym l.document) r.decides r.samples
+
+  -- the same, whatever values the leaves have
+  pub exact_lax : IsExactFor (lax l.grammar) l.second_rows l.changes (Sym l.document)
+  exact_lax =
+      exact_for (lax l.grammar) l.second_rows l.changes r.each_lax r.each_lax r.each_lax r.ll1 r.productive_lax (Sym l.document) r.decides r.samples_lax
+
+  pub whole : IsWholeFor l.grammar l.second_rows l.changes (Sym l.document)
+  whole = whole_for l.grammar l.second_rows l.changes r.each r.each_unchecked r.each_lax r.ll1 r.productive (Sym l.document) r.decides r.samples
+
+  pub least : AnswersLeast l.grammar (reading l) (Sym l.document)
+  least =
+      least_for l.grammar l.second_rows l.changes r.each r.each_lax r.ll1 r.tight r.productive r.refuses_tokens (Sym l.document) r.decides r.samples
+
+  -- what is read, as a grammar of its own
+  pub exact_reading : IsExact (reading l) (Sym l.document)
+  exact_reading = theory.exact (reading l) r.ll1 r.productive (Sym l.document) r.decides r.samples
+
+  pub whole_reading : IsWhole (reading l) (Sym l.document)
+  whole_reading = whole_theory.whole (reading l) (Sym l.document) exact_reading

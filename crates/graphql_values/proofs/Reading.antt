@@ -1,0 +1,193 @@
+-- The steps of readers, for every grammar: single tokens, choices, and loops.
+use Rattle.std.proofs.Common.{◌≡◌, true, false, List, [], ◌∷◌, ◌++◌, map, Result, Ok, Err, IsErrAnd, Option, Some, None, refl, sym, ap, subst, ◌∙◌}
+use Rattle.std.proofs.Common.{append_assoc, append-nil, inl, inr}
+use Rattle.std.proofs.lemmas.Bool.{and_from, cases_Bool}
+use Rattle.graphql_grammar.specs.Tokens.{Token, Class, matches}
+use Rattle.graphql_grammar.specs.Trees.{Expr, Empty, One, Then, Either, Many, Shape, Nothing, Leaf, Both, First, Second, More, Row, Grammar, optional, some_of}
+use Rattle.graphql_grammar.specs.Trees as trees
+use Rattle.graphql_grammar.specs.Tables.{nullable, first}
+use Rattle.graphql_grammar.specs.Reading.{sees, choose, Left, Right, Takes, takes_nothing, takes_leaf, takes_both, takes_first, takes_second, takes_stop}
+use Rattle.graphql_grammar.specs.Reading.{takes_more, Reason, Unexpected, Fails, fails_one, fails_before, fails_after, fails_first, fails_second, fails_neither}
+use Rattle.graphql_grammar.specs.Reading.{fails_turn}
+use Rattle.graphql_grammar.specs.ReaderWords.{TakesSome, Stops, Turns, values}
+use Rattle.graphql_grammar.proofs.Items.{sees-parts}
+use Rattle.graphql_grammar.proofs.Deterministic.{take-or_fail, same-fail}
+use Rattle.graphql_grammar.proofs.ReaderSteps.{exits, Stops-first, Stops-after, Turns-stop, picks-first, picks-neither}
+use Rattle.graphql_core.specs.declared.helpers.stop.Stop.{Stop}
+use Rattle.graphql_core.specs.declared.helpers.stop.Stop.TheVariants.{Memory, Item, Integer, Float, Escape}
+use Rattle.graphql_core.specs.Source.{Items, kept, fault_by, place_next}
+use Rattle.graphql_core.specs.steps.Matching.{TakesToken, TakesOne}
+use Rattle.graphql_values.specs.steps.Answers.{GivesBy, Gives, Adds, reason_of}
+
+-- ---- single tokens
+
+-- a token that a match takes is a leaf, where every token of its class has a value
+pub takes_one : (g : Grammar) (c : Class) (old new : Items) (t : Token) → g.good c t ≡ true → TakesToken c old new t
+    → Takes g (One c) old.tokens (Leaf t) new.tokens
+takes_one g c old new t good h = subst (λ (ts : List Token). Takes g (One c) ts (Leaf t) new.tokens) (sym h.tokens)
+    (takes_leaf (and_from (matches c t) (g.good c t) h.of_class good))
+
+-- it stands where the next item began
+pub placed : (c : Class) (old new : Items) (t : Token) → TakesToken c old new t → place_next old ≡ t.place
+placed c old new t h = ap (λ ts. (fault_by ts old.last).place) h.tokens
+
+-- what a match leaves that takes nothing
+abbrev pub TakesNone : Class → Items → Items → Stop → Type 0
+TakesNone c old new s = TakesOne {A = Unit {0}} c old new (λ v t. Unit {0}) (Err s)
+
+-- its error is the theory's
+pub stops_one : (g : Grammar) (c : Class) (old new : Items) (s : Stop) → TakesNone c old new s → Stops g (One c) old.tokens new.tokens (reason_of s)
+stops_one g c old new Memory h = tt
+stops_one g c old new Item (same, unseen) = rw same (fails_one unseen)
+stops_one g c old new Integer h = absurd h
+stops_one g c old new Float h = absurd h
+stops_one g c old new Escape h = absurd h
+
+pub kept_one : (c : Class) (old new : Items) (s : Stop) → TakesNone c old new s → kept new ≡ kept old
+kept_one c old new Memory h = ap kept h
+kept_one c old new Item h = ap kept h.0
+kept_one c old new Integer h = absurd h
+kept_one c old new Float h = absurd h
+kept_one c old new Escape h = absurd h
+
+-- ---- choices where one side is left
+
+-- The expression is not read where the next item is none of its first: it fails there.
+abbrev pub FailsUnseen : Grammar → Expr → List Token → Type 0
+FailsUnseen g a ts = sees (first g.rows a) (trees.peek ts) ≡ false → Fails g a ts Unexpected ts
+
+pub unseen_one : (g : Grammar) (c : Class) (ts : List Token) → FailsUnseen g (One c) ts
+unseen_one g c ts h = fails_one h
+
+pub unseen_then : (g : Grammar) (a b : Expr) (ts : List Token) → nullable g.rows a ≡ false → FailsUnseen g a ts → FailsUnseen g (Then a b) ts
+unseen_then g a b ts n f h = fails_before (f (sees-parts (first g.rows a) _ (trees.peek ts) h).0)
+
+pub unseen_either : (g : Grammar) (a b : Expr) (ts : List Token) → nullable g.rows a ≡ false → nullable g.rows b ≡ false → FailsUnseen g (Either a b) ts
+unseen_either g a b ts n m h = fails_neither (picks-neither g.rows a b (trees.peek ts) n m h)
+
+-- what is taken begins with one of its first
+pub takes_seen : (g : Grammar) (a : Expr) (ts us : List Token) (x : Shape) → FailsUnseen g a ts → Takes g a ts x us
+    → sees (first g.rows a) (trees.peek ts) ≡ true
+takes_seen g a ts us x f h = elim (cases_Bool (sees (first g.rows a) (trees.peek ts))) [ inl seen ↦ seen | inr unseen ↦ absurd (take-or_fail g h (f unseen)) ]
+
+-- a reader of an expression stops where it is seen, or where it is not
+stops_cases : (g : Grammar) (a e : Expr) (ts ss us : List Token) (why : Reason) → FailsUnseen g a ts
+    → (sees (first g.rows a) (trees.peek ts) ≡ true → Fails g e ss why us) → (sees (first g.rows a) (trees.peek ts) ≡ false → Fails g e ss Unexpected ts)
+    → Fails g a ts why us → Fails g e ss why us
+stops_cases g a e ts ss us why f where_seen elsewhere h =
+    elim (cases_Bool (sees (first g.rows a) (trees.peek ts))) [
+      | inl seen ↦ where_seen seen
+      | inr unseen ↦ let (reason, place) = same-fail g h (f unseen) in rw (reason, place) (elsewhere unseen)
+    ]
+
+-- the second side is not seen: the first is taken, or fails
+pub takes_left : (g : Grammar) (a b : Expr) (ts us : List Token) (x : Shape) → FailsUnseen g a ts → Takes g a ts x us → choose g.rows a b (trees.peek ts) ≡ Left
+takes_left g a b ts us x f h = picks-first g.rows a b (trees.peek ts) (takes_seen g a ts us x f h)
+
+pub stops_left : (g : Grammar) (a b : Expr) (ts us : List Token) (o : Option Reason) → nullable g.rows a ≡ false → nullable g.rows b ≡ false
+    → FailsUnseen g a ts
+    → sees (first g.rows b) (trees.peek ts) ≡ false → Stops g a ts us o → Stops g (Either a b) ts us o
+stops_left g a b ts us None n m f other h = tt
+stops_left g a b ts us (Some why) n m f other h =
+    stops_cases g a (Either a b) ts ts us why f (λ seen. fails_first (picks-first g.rows a b (trees.peek ts) seen) h)
+    (λ unseen. fails_neither (rw (unseen, other, n, m) refl)) h
+
+-- the first side is not seen: the second is taken, or fails
+pub takes_right : (g : Grammar) (a b : Expr) (ts us : List Token) (x : Shape) → FailsUnseen g b ts → sees (first g.rows a) (trees.peek ts) ≡ false
+    → Takes g b ts x us → choose g.rows a b (trees.peek ts) ≡ Right
+takes_right g a b ts us x f other h = rw (other, takes_seen g b ts us x f h) refl
+
+pub stops_right : (g : Grammar) (a b : Expr) (ts us : List Token) (o : Option Reason) → nullable g.rows a ≡ false → nullable g.rows b ≡ false
+    → FailsUnseen g b ts
+    → sees (first g.rows a) (trees.peek ts) ≡ false → Stops g b ts us o → Stops g (Either a b) ts us o
+stops_right g a b ts us None n m f other h = tt
+stops_right g a b ts us (Some why) n m f other h =
+    stops_cases g b (Either a b) ts ts us why f (λ seen. fails_second (rw (other, seen) refl) h) (λ unseen. fails_neither (rw (other, unseen, n, m) refl)) h
+
+-- ---- what may be missing
+
+pub picks_none : (rs : List Row) (a : Expr) (item : Option Token) → nullable rs a ≡ false → sees (first rs a) item ≡ false → choose rs a Empty item ≡ Right
+picks_none rs a None n h = rw n refl
+picks_none rs a (Some t) n h = rw (h, n) refl
+
+pub takes_some : (g : Grammar) (a : Expr) (ts us : List Token) (x : Shape) → sees (first g.rows a) (trees.peek ts) ≡ true → Takes g a ts x us
+    → Takes g (optional a) ts (First x) us
+takes_some g a ts us x seen h = takes_first (picks-first g.rows a Empty (trees.peek ts) seen) h
+
+pub takes_none : (g : Grammar) (a : Expr) (ts : List Token) → nullable g.rows a ≡ false → sees (first g.rows a) (trees.peek ts) ≡ false
+    → Takes g (optional a) ts (Second Nothing) ts
+takes_none g a ts n unseen = takes_second (picks_none g.rows a (trees.peek ts) n unseen) takes_nothing
+
+pub stops_optional : (g : Grammar) (a : Expr) (ts us : List Token) (o : Option Reason) → sees (first g.rows a) (trees.peek ts) ≡ true → Stops g a ts us o
+    → Stops g (optional a) ts us o
+stops_optional g a ts us o seen h = Stops-first g a Empty ts us o (picks-first g.rows a Empty (trees.peek ts) seen) h
+
+-- ---- what another reader gives
+
+-- the last step of a reader is another's
+pub gives_then : {A : Type 0} (g : Grammar) (e f : Expr) (old mid new : Items) (P Q : A → Shape → Type 0) (r : Result A Stop)
+    → ((v : A) (x : Shape) → Takes g f mid.tokens x new.tokens → P v x → TakesSome g e old.tokens new.tokens (Q v))
+    → ((o : Option Reason) → Stops g f mid.tokens new.tokens o → Stops g e old.tokens new.tokens o)
+    → Gives g f mid new P r → Gives g e old new Q r
+gives_then g e f old mid new P Q (Ok v) takes stops (x, h, p) = takes v x h p
+gives_then g e f old mid new P Q (Err d) takes stops h = stops (reason_of d) h
+
+-- an error goes up, whatever errors there are, with the reason that each has
+pub gives_error_by : {A E : Type 0} (reason : E → Option Reason) (g : Grammar) (e : Expr) (old new : Items) (P : A → Shape → Type 0) (r : Result A E) (d : E)
+    → Stops g e old.tokens new.tokens (reason d) → IsErrAnd r (λ x. x ≡ d) → GivesBy reason g e old new P r
+gives_error_by reason g e old new P (Ok v) d stops h = absurd h
+gives_error_by reason g e old new P (Err x) d stops h = rw h stops
+
+pub gives_error : {A : Type 0} (g : Grammar) (e : Expr) (old new : Items) (P : A → Shape → Type 0) (r : Result A Stop) (d : Stop)
+    → Stops g e old.tokens new.tokens (reason_of d) → IsErrAnd r (λ x. x ≡ d) → Gives g e old new P r
+gives_error = gives_error_by reason_of
+
+-- ---- one after the other
+
+abbrev pub one_of : {A : Type 0} → (Shape → A) → Shape → List A
+one_of f x = f x ∷ []
+
+-- what a repetition means, by what its turns mean
+pub many_means : {A B : Type 0} (g : Grammar) (a : Expr) (f : Shape → A) (m : Shape → B) (of : List A → B) → m trees.Stop ≡ of []
+    → ((x y : Shape) (vs : List A) → m y ≡ of vs → m (More x y) ≡ of (f x ∷ vs))
+    → {ts : List Token} {x : Shape} {us : List Token} → Takes g (Many a) ts x us → m x ≡ of (values (one_of f) x)
+many_means g a f m of stop more (takes_stop h) = stop
+many_means g a f m of stop more (takes_more {x = x} {y = y} h p q) = more x y (values (one_of f) y) (many_means g a f m of stop more q)
+
+pub map_push : {A B : Type 0} (f : A → B) (xs : List A) (x : A) → map f (xs ++ x ∷ []) ≡ map f xs ++ f x ∷ []
+map_push f [] x = refl
+map_push f (y ∷ ys) x = ap (λ l. f y ∷ l) (map_push f ys x)
+
+-- what readers append: f is what an element is seen as
+module _ {V A : Type 0} (f : V → A) where
+  pub adds_none : (start : List V) → Adds f start start []
+  adds_none start = sym (append-nil (map f start))
+
+  pub adds_one : (found next : List V) (v : V) (x : A) → next ≡ found ++ v ∷ [] → f v ≡ x → Adds f found next (x ∷ [])
+  adds_one found next v x push one = ap (map f) push ∙ map_push f found v ∙ ap (λ (t : A). map f found ++ t ∷ []) one
+
+  pub adds_more : (start found next : List V) (xs ys : List A) → Adds f start found xs → Adds f found next ys → Adds f start next (xs ++ ys)
+  adds_more start found next xs ys so_far more = more ∙ ap (λ (l : List A). l ++ ys) so_far ∙ append_assoc (map f start) xs ys
+
+  -- to a list that was empty
+  pub fills : (start found : List V) (xs : List A) → start ≡ [] → Adds f start found xs → map f found ≡ xs
+  fills start found xs none so_far = so_far ∙ ap (λ (l : List V). map f l ++ xs) none
+
+-- an error after the last turn of a loop over some_of
+pub stops_some : {A : Type 0} (g : Grammar) (a b : Expr) (f : Shape → List A) (ts start now us : List Token) (x : Shape) (items : List A) (o : Option Reason)
+    → Takes g a ts x start → Turns g a f start now items → sees (first g.rows a) (trees.peek now) ≡ false → Stops g b now us o
+    → Stops g (Then (some_of a) b) ts us o
+stops_some g a b f ts start now us x items o h t s k = let r = Turns-stop g a f start now items t s in Stops-after g (some_of a) b ts now us (Both x r.0) o
+    (takes_both h r.1) k
+
+-- an error in a turn of a loop that goes on until it sees what stands after the repetition
+pub stops_until : {A : Type 0} (g : Grammar) (a : Expr) (c : Class) (f : Shape → List A) (start now us : List Token) (items : List A) (o : Option Reason)
+    → FailsUnseen g a now
+    → Turns g a f start now items → sees (c ∷ []) (trees.peek now) ≡ false → Stops g a now us o → Stops g (Then (Many a) (One c)) start us o
+stops_until g a c f start now us items None un t s h = tt
+stops_until g a c f start now us items (Some why) un t s h =
+    stops_cases g a (Then (Many a) (One c)) now start us why un (λ seen. fails_before (t.fails why us (fails_turn seen h)))
+    (λ unseen. let r = Turns-stop g a f start now items t unseen in fails_after r.1 (fails_one s)) h
+
+-- for errors that go up
+pub ruleset reading = (exits, stops_one, kept_one)

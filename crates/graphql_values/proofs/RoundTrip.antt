@@ -1,0 +1,64 @@
+-- What parsing a text answers that has a document but for positions, and what follows of layouts that are read back.
+use Rattle.std.proofs.Common.{◌≡◌, ◌<◌, ◌≤◌, ◌⊎◌, length, List, ℕ, inl, inr, sym, ap, ◌∙◌, subst}
+use Rattle.std.proofs.lemmas.Bool.{cases_lt}
+use Rattle.graphql_core.specs.Style.{Layout}
+use Rattle.graphql_lexer.specs.Items.{Item}
+use Rattle.graphql_core.specs.Source.{split}
+use Rattle.graphql_core.specs.Refusal.{Refusal, no_memory, max_length}
+use Rattle.graphql_lexer.proofs.OneCut.{items_unique}
+use Rattle.graphql_values.specs.Language.{Language}
+use Rattle.graphql_values.specs.Document.{IsDocument, IsDocumentOf, IsReadBack}
+use Rattle.graphql_values.proofs.Readable.{IsReadable}
+use Rattle.graphql_values.proofs.Whole.{one_document}
+
+module _ {D : Type 0} (l : Language D) where
+  -- a document, where each document of the text within the bound would be this one, and no text past the bound is answered so
+  pub same_document : (text : List ℕ) (d v : D) → ((e : D) → length text ≤ max_length → IsDocumentOf l text e → v ≡ e)
+      → (max_length < length text → ⊥) → IsReadBack l text d → l.erase v ≡ l.erase d
+  same_document text d v complete past (e, has, same) =
+      elim (cases_lt max_length (length text)) [ inl long ↦ absurd (past long) | inr within ↦ ap l.erase (complete e within has) ∙ same ]
+
+  -- a refusal, of which each document of the text within the bound tells that memory ran out
+  pub memory_or_length : (text : List ℕ) (d : D) (f : Refusal) → ((e : D) → length text ≤ max_length → IsDocumentOf l text e → f ≡ no_memory)
+      → IsReadBack l text d
+      → (f ≡ no_memory) ⊎ (max_length < length text)
+  memory_or_length text d f complete (e, has, same) =
+      elim (cases_lt max_length (length text)) [ inl long ↦ inr long | inr within ↦ inl (complete e within has) ]
+
+-- A text for each of some documents in each style, in which no positions stand and which is read back.
+module _
+    {D : Type 0}
+    (l : Language D)
+    (r : IsReadable l)
+    (layout : Layout → D → List ℕ)
+    (alike : (style : Layout) (d : D) → layout style (l.erase d) ≡ layout style d)
+    (IsPrinted : D → Type 0)
+    (back : (style : Layout) (d : D) → IsPrinted d → IsReadBack l (layout style d) d)
+  where
+    -- a text has one document
+    only_document : (text : List ℕ) (d e : D) → IsDocumentOf l text d → IsDocumentOf l text e → d ≡ e
+    only_document text d e (i, h, is) (j, k, other) =
+        one_document l r (split i) d e is (subst (λ (items : List Item). IsDocument l (split items) e) (items_unique text j i k h) other)
+
+    -- documents that are equal but for positions have one text in each style
+    same_text : (style : Layout) (d e : D) → l.erase d ≡ l.erase e → layout style d ≡ layout style e
+    same_text style d e same = sym (alike style d) ∙ ap (layout style) same ∙ alike style e
+
+    -- what a printed document is read as: the document but for positions, whose text in the same style is the same
+    pub printed_again : (style : Layout) (d e : D) → IsPrinted d → IsDocumentOf l (layout style d) e
+        → (l.erase e ≡ l.erase d) × (layout style e ≡ layout style d)
+    printed_again style d e is h =
+        let w = back style d is in
+        let same : l.erase e ≡ l.erase d = ap l.erase (only_document (layout style d) e w.0 h w.1) ∙ w.2 in
+        (same, same_text style e d same)
+
+    -- two texts of a document, in two styles, are read as documents that are equal but for positions
+    pub styles_agree : (style other : Layout) (d e f : D) → IsPrinted d → IsDocumentOf l (layout style d) e
+        → IsDocumentOf l (layout other d) f → l.erase e ≡ l.erase f
+    styles_agree style other d e f is h k = (printed_again style d e is h).0 ∙ sym (printed_again other d f is k).0
+
+    -- documents with one text are equal but for positions
+    pub one_text : (style : Layout) (d e : D) → IsPrinted d → IsPrinted e → layout style d ≡ layout style e → l.erase d ≡ l.erase e
+    one_text style d e is other same =
+        let w = back style e other in
+        sym (printed_again style d w.0 is (subst (λ (t : List ℕ). IsDocumentOf l t w.0) (sym same) w.1)).0 ∙ w.2

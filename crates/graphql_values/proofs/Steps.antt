@@ -1,0 +1,140 @@
+-- A rule that is read from left to right: after what is taken, the rest is read in its place.
+use Rattle.std.proofs.Common.{◌≡◌, ℕ, true, false, List, [], ◌∷◌, ◌++◌, map, Result, IsErrAnd, Option, refl, sym, ap, ◌∙◌, append_assoc}
+use Rattle.graphql_grammar.specs.Tokens.{Token, Class}
+use Rattle.graphql_grammar.specs.Trees.{Expr, One, Then, Either, Many, Sym, Shape, Leaf, Both, First, Second, Node, Grammar, row, leaves, peek}
+use Rattle.graphql_grammar.specs.Tables.{nullable, first, decides}
+use Rattle.graphql_grammar.specs.Reading.{sees, Takes, takes_both, Reason}
+use Rattle.graphql_grammar.specs.ReaderWords.{TakesSome, Stops, Turns, values}
+use Rattle.graphql_grammar.proofs.Sound.{takes-leaves}
+use Rattle.graphql_grammar.proofs.ReaderSteps.{picks-second, Stops-before, Stops-after, Turns-start, Turns-more, Turns-stop}
+use Rattle.graphql_core.specs.declared.helpers.stop.Stop.{Stop}
+use Rattle.graphql_core.specs.Source.{Items, kept}
+use Rattle.graphql_core.specs.steps.Matching.{TakesToken}
+use Rattle.graphql_values.specs.steps.Answers.{GivesBy, Gives, Adds, reason_of}
+use Rattle.graphql_values.specs.Grammar.{keyword, word}
+use Rattle.graphql_values.proofs.Reading.{takes_one, unseen_one, stops_one, gives_error_by, gives_error, TakesNone, one_of}
+use Rattle.graphql_values.proofs.Reading.{adds_none, adds_one, adds_more, fills}
+use Rattle.graphql_values.proofs.Alternatives.{IsSide, side_node, side_left, side_chosen_second}
+
+-- e that began at ts has come to us, where its rest f is read, whose shapes stand inside e's
+pub record Leads (g : Grammar) (e f : Expr) (inside : Shape → Shape) (ts us : List Token) : Type 0 where
+  pub takes : (vs : List Token) (x : Shape) → Takes g f us x vs → Takes g e ts (inside x) vs
+  pub stops : (vs : List Token) (o : Option Reason) → Stops g f us vs o → Stops g e ts vs o
+
+-- how f stops at us, e stops that began at ts
+abbrev pub StopsBy : Grammar → Expr → Expr → List Token → List Token → Type 0
+StopsBy g e f ts us = (vs : List Token) (o : Option Reason) → Stops g f us vs o → Stops g e ts vs o
+
+pub leads_in : {g : Grammar} {e f : Expr} {inside : Shape → Shape} {ts : List Token} → IsSide g e f inside ts → Leads g e f inside ts ts
+leads_in s = record { takes = s.takes; stops = s.stops }
+
+-- the rule of a symbol whose nodes all pass
+pub starts : (g : Grammar) (k : ℕ) (ts : List Token) → ((x : Shape) → g.check k x ≡ true) → Leads g (Sym k) (row g k).rule (Node k) ts ts
+starts g k ts passes = leads_in (side_node g k ts passes)
+
+-- the rule itself, and a side of what is read
+pub here : {g : Grammar} {e : Expr} {ts : List Token} → Leads g e e (λ x. x) ts ts
+here = record { takes = λ vs x h. h; stops = λ vs o h. h }
+
+pub into : {g : Grammar} {e f h : Expr} {inside j : Shape → Shape} {ts us : List Token} → Leads g e f inside ts us → IsSide g f h j us
+    → Leads g e h (λ x. inside (j x)) ts us
+into {j = j} l s = record { takes = λ vs x k. l.takes vs (j x) (s.takes vs x k); stops = λ vs o k. l.stops vs o (s.stops vs o k) }
+
+-- its first part is taken
+pub past : {g : Grammar} {e a b : Expr} {inside : Shape → Shape} {ts us vs : List Token} {x : Shape}
+    → Leads g e (Then a b) inside ts us → Takes g a us x vs → Leads g e b (λ y. inside (Both x y)) ts vs
+past {g} {e} {a} {b} {inside} {ts} {us} {vs} {x} l h = record {
+  takes = λ ws y k. l.takes ws (Both x y) (takes_both h k);
+  stops = λ ws o k. l.stops ws o (Stops-after g a b us vs ws x o h k);
+}
+
+-- a token is taken, and then a side of the rest is read
+pub after_one : (g : Grammar) (c : Class) {e f : Expr} {j : Shape → Shape} (old mid : Items) (t : Token) → g.good c t ≡ true → TakesToken c old mid t
+    → IsSide g e f j mid.tokens → Leads g (Then (One c) e) f (λ x. Both (Leaf t) (j x)) old.tokens mid.tokens
+after_one g c old mid t good h side = into (past here (takes_one g c old mid t good h)) side
+
+-- and that is another token, before or after something else of which the next item tells
+pub after_left : (g : Grammar) (c d : Class) (b : Expr) (old mid : Items) (t : Token) → g.good c t ≡ true → TakesToken c old mid t → nullable g.rows b ≡ false
+    → sees (first g.rows b) (peek mid.tokens) ≡ false
+    → Leads g (Then (One c) (Either (One d) b)) (One d) (λ x. Both (Leaf t) (First x)) old.tokens mid.tokens
+after_left g c d b old mid t good h none unseen =
+    after_one g c old mid t good h (side_left g (One d) b mid.tokens refl none (unseen_one g d mid.tokens) unseen)
+
+pub after_right : (g : Grammar) (c d : Class) (a : Expr) (old mid : Items) (t : Token) → g.good c t ≡ true → TakesToken c old mid t
+    → decides g.rows (Either a (One d)) ≡ true → sees (d ∷ []) (peek mid.tokens) ≡ true
+    → Leads g (Then (One c) (Either a (One d))) (One d) (λ x. Both (Leaf t) (Second x)) old.tokens mid.tokens
+after_right g c d a old mid t good h decided seen =
+    after_one g c old mid t good h (side_chosen_second g a (One d) mid.tokens (picks-second g.rows a (One d) (peek mid.tokens) decided seen))
+
+-- or stops
+pub before : {g : Grammar} {e a b : Expr} {inside : Shape → Shape} {ts us : List Token} → Leads g e (Then a b) inside ts us → StopsBy g e a ts us
+before {g} {e} {a} {b} {inside} {ts} {us} l vs o h = l.stops vs o (Stops-before g a b us vs o h)
+
+-- an error goes up, whatever errors there are, with the reason that each has
+pub error_in_by : {A E : Type 0} (reason : E → Option Reason) {g : Grammar} {e f : Expr} (old mid new : Items) (P : A → Shape → Type 0) (r : Result A E) (d : E)
+    → StopsBy g e f old.tokens mid.tokens → Stops g f mid.tokens new.tokens (reason d) → IsErrAnd r (λ x. x ≡ d) → GivesBy reason g e old new P r
+error_in_by reason {g} {e} old mid new P r d by h up = gives_error_by reason g e old new P r d (by new.tokens (reason d) h) up
+
+pub error_in : {A : Type 0} {g : Grammar} {e f : Expr} (old mid new : Items) (P : A → Shape → Type 0) (r : Result A Stop) (d : Stop)
+    → StopsBy g e f old.tokens mid.tokens → Stops g f mid.tokens new.tokens (reason_of d) → IsErrAnd r (λ x. x ≡ d) → Gives g e old new P r
+error_in {g = g} {e = e} old mid new P r d by h up = gives_error g e old new P r d (by new.tokens (reason_of d) h) up
+
+pub error_one : {A : Type 0} {g : Grammar} {e : Expr} {c : Class} (old mid new : Items) (P : A → Shape → Type 0) (r : Result A Stop) (d : Stop)
+    → StopsBy g e (One c) old.tokens mid.tokens → TakesNone c mid new d → IsErrAnd r (λ x. x ≡ d) → Gives g e old new P r
+error_one {g = g} {c = c} old mid new P r d by h up = error_in old mid new P r d by (stops_one g c mid new d h) up
+
+-- ---- a keyword, and an expression after it
+
+-- both are taken
+pub keyword_taken : (g : Grammar) (w : List ℕ) (e : Expr) (old mid new : Items) (t : Token) (P Q : Shape → Type 0) → g.good (keyword w) t ≡ true
+    → TakesToken (keyword w) old mid t → ((x : Shape) → P x → Q (Both (Leaf t) x)) → TakesSome g e mid.tokens new.tokens P
+    → TakesSome g (Then (word w) e) old.tokens new.tokens Q
+keyword_taken g w e old mid new t P Q good begins means (x, takes, p) =
+    (Both (Leaf t) x, takes_both (takes_one g (keyword w) old mid t good begins) takes, means x p)
+
+-- or the keyword is missing
+pub keyword_missing : {A : Type 0} (g : Grammar) (w : List ℕ) (e : Expr) (old new : Items) (P : A → Shape → Type 0) (r : Result A Stop) (d : Stop)
+    → TakesNone (keyword w) old new d → IsErrAnd r (λ x. x ≡ d) → Gives g (Then (word w) e) old new P r
+keyword_missing g w e old new P r d h up =
+    gives_error g _ old new P r d (Stops-before g (word w) e old.tokens new.tokens (reason_of d) (stops_one g (keyword w) old new d h)) up
+
+-- or an error after it goes up
+pub keyword_fails : {A : Type 0} (g : Grammar) (w : List ℕ) (e : Expr) (old mid new : Items) (P : A → Shape → Type 0) (r : Result A Stop) (d : Stop)
+    (t : Token) → g.good (keyword w) t ≡ true
+    → TakesToken (keyword w) old mid t → Stops g e mid.tokens new.tokens (reason_of d) → IsErrAnd r (λ x. x ≡ d) → Gives g (Then (word w) e) old new P r
+keyword_fails g w e old mid new P r d t good begins stops up =
+    gives_error g _ old new P r d
+    (Stops-after g (word w) e old.tokens mid.tokens new.tokens (Leaf t) (reason_of d) (takes_one g (keyword w) old mid t good begins) stops) up
+
+-- A loop that pushes what each turn of a repetition gives, seen through view: it has come from start to now.
+pub record Pushes {V A : Type 0} (g : Grammar) (a : Expr) (f : Shape → A) (view : V → A) (start now : Items) (old new : List V) : Type 0 where
+  pub means : List A
+  pub turns : Turns g a (one_of f) start.tokens now.tokens means
+  pub adds : Adds view old new means
+  pub front : List Token
+  pub parts : start.tokens ≡ front ++ now.tokens
+  pub last : kept now ≡ kept start
+
+module _ {V A : Type 0} (g : Grammar) (a : Expr) (f : Shape → A) (view : V → A) where
+  pub pushes_none : (start : Items) (old : List V) → Pushes g a f view start start old old
+  pushes_none start old =
+      record { means = []; turns = Turns-start g a (one_of f) start.tokens; adds = adds_none view old; front = []; parts = refl; last = refl }
+
+  pub pushes_more : (start now next : Items) (old found new : List V) (v : V) → Pushes g a f view start now old found
+      → sees (first g.rows a) (peek now.tokens) ≡ true
+      → TakesSome g a now.tokens next.tokens (λ x. view v ≡ f x) → kept next ≡ kept now → new ≡ found ++ v ∷ [] → Pushes g a f view start next old new
+  pushes_more start now next old found new v p seen (x, takes, is) same push = record {
+    means = p.means ++ f x ∷ [];
+    turns = Turns-more g a (one_of f) start.tokens now.tokens next.tokens p.means x p.turns seen takes;
+    adds = adds_more view old found new p.means (f x ∷ []) p.adds (adds_one view found new v (f x) push is);
+    front = p.front ++ leaves x;
+    parts = p.parts ∙ ap (λ (ts : List Token). p.front ++ ts) (takes-leaves g takes) ∙ sym (append_assoc p.front (leaves x) next.tokens);
+    last = same ∙ p.last;
+  }
+
+  -- into a list that was empty, until no turn begins
+  pub pushes_all : (start now : Items) (old new : List V) → old ≡ [] → Pushes g a f view start now old new → sees (first g.rows a) (peek now.tokens) ≡ false
+      → TakesSome g (Many a) start.tokens now.tokens (λ x. map view new ≡ values (one_of f) x)
+  pushes_all start now old new none p unseen =
+      let r = Turns-stop g a (one_of f) start.tokens now.tokens p.means p.turns unseen in
+      (r.0, r.1, fills view old new p.means none p.adds ∙ sym r.2)

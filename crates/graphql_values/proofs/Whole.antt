@@ -1,0 +1,206 @@
+-- What a whole document is, by the theorems on every grammar.
+use Rattle.std.proofs.Common.{◌≡◌, ℕ, ◌-◌, List, [], ◌∷◌, ◌++◌, length, drop, length-append, ◌≤◌, refl, sym, ap, subst, ◌∙◌, arith, Result, Ok, Err, IfErr}
+use Rattle.std.specs.Result.{IsErrAnd}
+use Rattle.std.proofs.lemmas.List.{drop_at}
+use Rattle.graphql_grammar.specs.Tokens.{Token, Class, AnyOf}
+use Rattle.graphql_grammar.specs.Trees.{Sym, Shape, Node}
+use Rattle.graphql_grammar.specs.Factored.{written, change_at}
+use Rattle.graphql_grammar.specs.Reading.{Takes, takes_node, Reason, Unexpected, Improper, Refused, Fails, fails_node, Done, Fault as Stopped}
+use Rattle.graphql_grammar.specs.ReaderWords.{Stops}
+use Rattle.graphql_grammar.specs.Texts as texts
+use Rattle.graphql_grammar.specs.Texts.{Answers}
+use Rattle.graphql_core.specs.declared.common.fault.Fault.{Fault}
+use Rattle.graphql_core.specs.declared.common.fault.Fault.TheVariants.{OutOfMemory, At}
+use Rattle.graphql_core.specs.declared.helpers.stop.Stop.{Stop}
+use Rattle.graphql_core.specs.declared.helpers.stop.Stop.TheVariants.{Memory, Item, Integer, Float, Escape}
+use Rattle.graphql_core.specs.Source.{Items, Last, End, Wrong, IsEnd, IsAtEnd, IsFaultOf, FaultText, kept, fault_at, place_of, place_next, split}
+use Rattle.graphql_core.specs.steps.Stops.{IsCauseHere, IsFaultFor}
+use Rattle.graphql_core.specs.Causes.{CauseText, cause_text}
+use Rattle.graphql_lexer.specs.Items.{HasItems, start}
+use Rattle.graphql_lexer.specs.Items as items_of
+use Rattle.graphql_lexer.specs.steps.Cut.{items}
+use Rattle.graphql_lexer.proofs.OneCut.{has_items}
+use Rattle.graphql_core.specs.Refusal.{Refusal, max_length, refusal_of}
+use Rattle.graphql_values.specs.steps.Answers.{reason_of}
+use Rattle.graphql_values.specs.Leaves.{is_good}
+use Rattle.graphql_values.specs.Language.{Language, reading, document_rule}
+use Rattle.graphql_values.specs.Document.{IsDocument, IsDocumentOf, AnswersUnlessMemory, HasOneShape}
+use Rattle.graphql_values.specs.Faults.{ending_of, text_of, IsLeastFault, IsLeastOf, IsRefusalOf, ran_out, faulty}
+use Rattle.graphql_values.proofs.Readable.{IsReadable, exact, exact_lax, whole, least, exact_reading, whole_reading}
+use Rattle.graphql_values.proofs.Faults.{ends, Lacks, Misses, no_integer, no_float, no_string, unexpected_here, no_value_here}
+
+ended : (l : Last) → ending_of l ≡ texts.End → IsEnd l
+ended (End p) h = tt
+ended (Wrong p b) h = absurd cc
+
+dropped : (front ts us : List Token) → ts ≡ front ++ us → drop (length ts - length us) ts ≡ us
+dropped front ts us e = ap (drop (length ts - length us)) e ∙ drop_at front us (length ts - length us) (omega (arith, ap length e, length-append front us))
+
+-- what holds of an error holds of the one that `?` makes of it
+pub exit : {D E : Type 0} (r : Result D E) (e : E) (P : E → Type 0) → IsErrAnd r (λ y. y ≡ e) → P e → IfErr r P
+exit (Ok v) e P h p = absurd h
+exit (Err y) e P h p = subst P (sym h) p
+
+-- the answer that `?` makes of a fault
+pub answers_unless_memory : {V D : Type 0} (view : V → D) (d : D) (r : Result V Refusal) (e : Fault) → IsErrAnd r (λ y. y ≡ refusal_of e) → e ≡ OutOfMemory
+    → AnswersUnlessMemory view d r
+answers_unless_memory view d (Ok v) e h m = absurd h
+answers_unless_memory view d (Err y) e h m = h ∙ ap refusal_of m
+
+-- these are the items of the text
+abbrev pub AreItems : List ℕ → Items → Type 0
+AreItems text i = (items : List items_of.Item) → HasItems text items → i ≡ split items
+
+module _ {D : Type 0} (l : Language D) (r : IsReadable l) where
+  -- the answer to i is a fault at its item where j is left
+  abbrev IsWrong : Reason → Items → Items → Type 0
+  IsWrong why i j = Answers (reading l) (Sym l.document) (text_of i) (texts.Wrong why (length i.tokens - length j.tokens))
+
+  -- a whole document that is taken passes
+  node_taken : {ts us : List Token} {x : Shape} → Takes (reading l) (document_rule l) ts x us → Takes (reading l) (Sym l.document) ts (Node l.document x) us
+  node_taken {x = x} h = takes_node h (r.passes ((change_at l.changes l.document).to_written (written l.changes x)))
+
+  -- ---- where the reader stops
+
+  at_fault : (why : Reason) (i j : Items) → Fails (reading l) (document_rule l) i.tokens why j.tokens → IsWrong why i j
+  at_fault why i j h = (Stopped why j.tokens, fails_node h, refl)
+
+  -- a reader that is done before the end
+  at_rest : (i : Items) (us : List Token) (last : Last) (x : Shape) → Takes (reading l) (document_rule l) i.tokens x us → last ≡ i.last
+      → (IsAtEnd (record { tokens = us; last = last }) → ⊥)
+      → IsWrong Unexpected i (record { tokens = us; last = last })
+  at_rest i (u ∷ us) last x h e other = (Done (Node l.document x) (u ∷ us), node_taken h, refl)
+  at_rest i [] (End p) x h e other = absurd (other (refl, tt))
+  at_rest i [] (Wrong p b) x h e other = (Done (Node l.document x) [], node_taken h, bad (ending_of i.last) (ap ending_of e))
+    where
+      bad : (en : texts.Ending) → texts.Bad ≡ en
+          → texts.Wrong Unexpected (length i.tokens - 0) ≡ texts.answer_of (record { tokens = i.tokens; ending = en }) (Done (Node l.document x) [])
+      bad texts.End k = absurd cc
+      bad texts.Bad k = ap (λ (n : ℕ). texts.Wrong Unexpected n) (omega arith)
+
+  -- ---- the fault there
+
+  -- the answer to i, at its item where j is left, is its least fault
+  module _ (i j : Items) (front : List Token) (parts : i.tokens ≡ front ++ j.tokens) (last : kept j ≡ kept i) (f : FaultText) where
+    left : drop (length i.tokens - length j.tokens) i.tokens ≡ j.tokens
+    left = dropped front i.tokens j.tokens parts
+
+    unexpected_left : IsWrong Unexpected i j → f ≡ fault_at j → IsLeastFault l i f
+    unexpected_left a h = unexpected_here l r i j _ left (sym last) f ((least l r).wrong (text_of i) Unexpected _ a) h
+
+    no_value_left : (c : Class) (k : CauseText) → Misses l r c k → IsWrong (Improper c) i j → f.cause ≡ k → f.place ≡ place_next j
+        → IsLeastFault l i f
+    no_value_left c k lacks a cause place =
+        no_value_here l r i j _ left (sym last) f c k lacks ((least l r).wrong (text_of i) (Improper c) _ a) cause place
+
+  -- ---- no document is refused
+
+  none_wrong : (why : Reason) (i j : Items) (d : D) → IsWrong why i j → IsDocument l i d → ⊥
+  none_wrong why i j d a (x, derived, at_end, means) =
+      let c = (whole l r).complete (text_of i) x derived (ends i.last at_end) in
+      not_both c.0 ((whole_reading l r).one (text_of i) (texts.Tree c.0) (texts.Wrong why (length i.tokens - length j.tokens)) c.1 a)
+    where
+      not_both : (y : Shape) → texts.Tree y ≡ texts.Wrong why (length i.tokens - length j.tokens) → ⊥
+      not_both y h = cc
+
+  -- ---- what a reader's exits say
+
+  pub memory_only : (i j : Items) (s : Stop) (e : Fault) (d : D) → Stops (reading l) (document_rule l) i.tokens j.tokens (reason_of s)
+      → IsFaultFor s j e → IsDocument l i d → e ≡ OutOfMemory
+  memory_only i j Memory e d h f k = f
+  memory_only i j Item e d h f k = absurd (none_wrong Unexpected i j d (at_fault Unexpected i j h) k)
+  memory_only i j Integer e d h f k = absurd (none_wrong _ i j d (at_fault _ i j h) k)
+  memory_only i j Float e d h f k = absurd (none_wrong _ i j d (at_fault _ i j h) k)
+  memory_only i j Escape e d h f k = absurd (none_wrong _ i j d (at_fault _ i j h) k)
+
+  -- a token of a kind has no value where it has none as a leaf of a value
+  lacks_here : (k : ℕ) (c : CauseText) → Lacks (AnyOf k) c → Misses l r (AnyOf k) c
+  lacks_here k c lacks t m h = r.lacks k t c (lacks t m (sym (r.good k t) ∙ h))
+
+  -- a reader that stops for a token without a value
+  valueless : (i j : Items) (k : ℕ) (c : CauseText) (e : Fault) → Lacks (AnyOf k) c
+      → Fails (reading l) (document_rule l) i.tokens (Improper (AnyOf k)) j.tokens
+      → IsCauseHere c j e → kept j ≡ kept i → IsLeastOf l i e
+  valueless i j k c OutOfMemory lacks h f last = tt
+  valueless i j k c (At cause p) lacks h f last =
+      let first = (exact_reading l r).earliest i.tokens j.tokens _ (fails_node h) in
+      no_value_left i j _ first.parts last _ (AnyOf k) c (lacks_here k c lacks) (at_fault _ i j h) f.0 f.1
+
+  -- or for one that may not stand there
+  misplaced : (i j : Items) (e : Fault) → Fails (reading l) (document_rule l) i.tokens Unexpected j.tokens → IsFaultOf j e → kept j ≡ kept i → IsLeastOf l i e
+  misplaced i j OutOfMemory h f last = tt
+  misplaced i j (At cause p) h f last =
+      let first = (exact_reading l r).earliest i.tokens j.tokens _ (fails_node h) in
+      unexpected_left i j _ first.parts last _ (at_fault _ i j h) f
+
+  pub least_stop : (i j : Items) (s : Stop) (e : Fault) → Stops (reading l) (document_rule l) i.tokens j.tokens (reason_of s) → IsFaultFor s j e
+      → kept j ≡ kept i → IsLeastOf l i e
+  least_stop i j Memory e h f last = subst (IsLeastOf l i) (sym f) tt
+  least_stop i j Item e h f last = misplaced i j e h f last
+  least_stop i j Integer e h f last = valueless i j _ _ e no_integer h f last
+  least_stop i j Float e h f last = valueless i j _ _ e no_float h f last
+  least_stop i j Escape e h f last = valueless i j _ _ e no_string h f last
+
+  -- a reader that stops after a node that is refused
+  pub none_refused : (i j : Items) (k : ℕ) (d : D) → Fails (reading l) (document_rule l) i.tokens (Refused k) j.tokens → IsDocument l i d → ⊥
+  none_refused i j k d h = none_wrong (Refused k) i j d (at_fault (Refused k) i j h)
+
+  pub least_refused : (i j : Items) (k : ℕ) (f : FaultText) → Fails (reading l) (document_rule l) i.tokens (Refused k) j.tokens
+      → (drop (length i.tokens - length j.tokens) i.tokens ≡ j.tokens → l.refuses k i (length i.tokens - length j.tokens) f) → IsLeastFault l i f
+  least_refused i j k f h said =
+      let n : ℕ = length i.tokens - length j.tokens in
+      let first = (exact_reading l r).earliest i.tokens j.tokens _ (fails_node h) in
+      (n, Refused k, (least l r).wrong (text_of i) (Refused k) n (at_fault (Refused k) i j h), said (dropped first.front i.tokens j.tokens first.parts))
+
+  pub none_rest : (i j : Items) (d : D) (x : Shape) → Takes (reading l) (document_rule l) i.tokens x j.tokens → j.last ≡ i.last → (IsAtEnd j → ⊥)
+      → IsDocument l i d → ⊥
+  none_rest i j d x h last other = none_wrong Unexpected i j d (at_rest i j.tokens j.last x h last other)
+
+  pub least_left : (i j : Items) (e : Fault) (x : Shape) → Takes (reading l) (document_rule l) i.tokens x j.tokens → kept j ≡ kept i → (IsAtEnd j → ⊥)
+      → IsFaultOf j e → IsLeastOf l i e
+  least_left i j OutOfMemory x h last other s = tt
+  least_left i j (At c p) x h last other s =
+      let first = (exact_reading l r).sound i.tokens j.tokens (Node l.document x) (node_taken h) in
+      unexpected_left i j _ first.1 last _ (at_rest i j.tokens j.last x h last other) s
+
+  -- ---- what is answered
+
+  pub found : (i j : Items) (d : D) (x : Shape) → Takes (reading l) (document_rule l) i.tokens x j.tokens → j.last ≡ i.last → IsAtEnd j
+      → d ≡ l.means (written l.changes (Node l.document x)) → IsDocument l i d
+  found i j d x h last at_end means =
+      let e = sym (ap ending_of (sym last) ∙ ends j.last at_end.1) in
+      let taken = node_taken (subst (λ (us : List Token). Takes (reading l) (document_rule l) i.tokens x us) at_end.0 h) in
+      let s = (whole l r).sound (text_of i) (Node l.document x) (Done (Node l.document x) [], taken, answer (ending_of i.last) e) in
+      (written l.changes (Node l.document x), s.0, ended i.last s.1, means)
+    where
+      answer : (en : texts.Ending) → texts.End ≡ en
+          → texts.Tree (Node l.document x) ≡ texts.answer_of (record { tokens = i.tokens; ending = en }) (Done (Node l.document x) [])
+      answer texts.End k = refl
+      answer texts.Bad k = absurd cc
+
+  pub one_document : (i : Items) (d e : D) → IsDocument l i d → IsDocument l i e → d ≡ e
+  one_document i d e (x, derived, at_end, means) (y, derived', at_end', means') =
+      means ∙ ap l.means ((exact l r).unambiguous i.tokens x y derived derived') ∙ sym means'
+
+  -- ---- of texts
+
+  pub one_shape : (text : List ℕ) → HasOneShape l text
+  one_shape text items x y h = (exact_lax l r).unambiguous (split items).tokens x y
+
+-- ---- from the items of a text to the text
+
+module _ {D : Type 0} (l : Language D) where
+  pub text_document : (text : List ℕ) (i : Items) (d : D) → AreItems text i → IsDocument l i d → IsDocumentOf l text d
+  text_document text i d are h =
+      let has = has_items text in
+      (items start text, has, subst (λ (j : Items). IsDocument l j d) (are (items start text) has) h)
+
+  pub items_document : (text : List ℕ) (i : Items) (d : D) → AreItems text i → IsDocumentOf l text d → IsDocument l i d
+  items_document text i d are (items, has, h) = subst (λ (j : Items). IsDocument l j d) (sym (are items has)) h
+
+  pub refusal : (text : List ℕ) (i : Items) (e : Fault) → length text ≤ max_length → AreItems text i → IsLeastOf l i e → IsRefusalOf l text (refusal_of e)
+  refusal text i OutOfMemory bound are h = ran_out
+  refusal text i (At c p) bound are h =
+      let has = has_items text in
+      let f : FaultText = record { cause = cause_text c; place = place_of p } in
+      faulty f bound (items start text, has, subst (λ (j : Items). IsLeastFault l j f) (are (items start text) has) h)

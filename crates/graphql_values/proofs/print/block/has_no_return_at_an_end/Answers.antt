@@ -1,0 +1,10 @@
+use Rattle.std.proofs.Common.{rules, tests, arith, not}
+use Rattle.std.proofs.lemmas.Iterator.Search.{all_from_yields_List}
+use Rattle.std.proofs.lemmas.Iterator.Splits.{YieldsList-from_str_split}
+use Rattle.graphql_values.specs.ValueLayout as spec
+use Rattle.graphql_values.proofs.print.block.has_no_return_at_an_end.Goals as goal
+
+pub returns : goal.returns
+returns c = all_from_yields_List (λ l. not (spec.ends_in_return l)) _ _ c.all.result c.all.ensures.ran
+    (YieldsList-from_str_split 10 c.args.text.now (omega arith) c.split.ensures.text c.split.ensures.has_more c.split.ensures.pattern)
+    (λ x b q k. search (rules, tests))

@@ -1,0 +1,16 @@
+use Rattle.std.proofs.Common.{◌≡◌, ◌++◌, ◌+◌, ◌*◌, ◌<◌, ◌^◌, List, ℕ, drop, false, codes}
+use Rattle.graphql_core.specs.Parts.{text_of}
+use Rattle.graphql_values.specs.ValueViews.{arguments_view}
+use Rattle.graphql_values.specs.ValueLayout.{parts, each_argument, most_levels}
+use Rattle.graphql_values.proofs.print.directives.write_arguments.Given as goal
+
+abbrev pub invariant-arguments : goal.invariant-arguments
+invariant-arguments g l =
+    let left = arguments_view g.N.Names.bytes (drop l.argument-index l.argument-items) in
+    let whole = arguments_view g.N.Names.bytes l.argument-items in
+    record {
+      bound : l.indented + most_levels l.style left * l.style.indent < 2 ^ 32;
+      wrote : (done : List ℕ) × g.S.Sink.took l.fn.out done l.out
+          × (done ++ text_of (parts l.style l.indented l.is_later (each_argument l.style l.indented left)) ≡ codes "("
+          ++ text_of (parts l.style l.indented false (each_argument l.style l.indented whole)));
+    }

@@ -1,0 +1,38 @@
+use Rattle.std.proofs.Common.{arith, ◌∙◌, ◌++◌, ◌^◌, ap, sym, refl, []}
+use Rattle.graphql_core.specs.Parts.{text_of}
+use Rattle.graphql_values.specs.ValueViews.{directive_view}
+use Rattle.graphql_values.specs.ValueLayout.{directives_layout}
+use Rattle.graphql_values.proofs.Views.{directive_here}
+use Rattle.graphql_values.proofs.Appending.{and_part}
+use Rattle.graphql_values.proofs.Enclosed.{narrower, directives_more}
+use Rattle.graphql_values.proofs.print.directives.write_directives.Goals as goal
+
+pub directives-init : goal.directives-init
+directives-init g c = record { bound = rw c.deref-directive-items.ensures.value c.requires; wrote = ([], g.met.S.Sink.took_nil _, refl) }
+
+pub write_directive-requires : goal.write_directive-requires
+write_directive-requires g c =
+    let here = directive_here _ _ g.N.Names.bytes c.deref-directive-items.result.now c.directives.directive-index c.directive-item.result
+    (omega arith) c.directive-item.is in
+    let bound = rw here at c.directives.invariant.bound in
+    let fits = narrower _ _ _ c.args.style.now.indent (2 ^ 32) bound in
+    fits.0
+
+pub directives-preserved : goal.directives-preserved
+directives-preserved g c =
+    let more = g.met.S.Sink.took_more in
+    let bytes = g.N.Names.bytes in
+    let style = c.args.style.now in
+    let margin = c.args.margin in
+    let here = directive_here _ _ bytes c.deref-directive-items.result.now c.directives.directive-index c.directive-item.result
+    (omega arith) c.directive-item.is in
+    let bound = rw here at c.directives.invariant.bound in
+    let fits = narrower _ _ _ style.indent (2 ^ 32) bound in
+    let (done, wrote, rest) = c.directives.invariant.wrote in
+    record {
+      bound = fits.1;
+      wrote = and_part g.S.Sink.took more _ _ _ done _ _ _ wrote (more _ _ _ _ _ c.in_ok-push_str.ensures c.in_ok-write_directive.ensures)
+          (ap (λ r. done ++ r)
+          (directives_more style margin (directive_view bytes c.directive-item.result) _
+          ∙ ap (λ ds. text_of (directives_layout style margin ds)) (sym here)) ∙ rest);
+    }

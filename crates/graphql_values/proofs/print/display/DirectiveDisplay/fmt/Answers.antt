@@ -1,0 +1,22 @@
+use Rattle.std.specs.Fmt.{HasWritten}
+use Rattle.graphql_core.specs.Style.{Layout}
+use Rattle.graphql_core.specs.Parts.{text_of}
+use Rattle.graphql_values.specs.ValueViews.{directive_view}
+use Rattle.graphql_values.specs.ValueLayout.{directive_layout}
+use Rattle.graphql_values.proofs.Narrow.{fits_outside, narrow, written}
+use Rattle.graphql_values.proofs.print.display.DirectiveDisplay.fmt.Goals as goal
+
+pub write_directive-requires : goal.write_directive-requires
+write_directive-requires g c =
+    fits_outside c.default-style.result c.levels_in_arguments.result _ c.levels_in_arguments.ensures.levels c.in_ok-check_width.ensures
+
+pub returns-clause-writes : goal.returns-clause-writes
+returns-clause-writes g c =
+    let text = λ (style : Layout). text_of (directive_layout style 0 (directive_view g.N.Names.bytes c.args.self.now)) in
+    written c.write_directive.result c.default-style.result (λ style. HasWritten g.W.Write.write_str_gives c.args.f.now (text style) c.write_directive.new.out)
+    c.default-style.ensures c.write_directive.ensures
+
+pub returns-clause-narrow : goal.returns-clause-narrow
+returns-clause-narrow g c =
+    narrow c.write_directive.result _ _ (rw c.default-style.ensures at c.levels_in_arguments.ensures.levels)
+    (rw c.default-style.ensures at c.in_ok-check_width.ensures)

@@ -1,0 +1,23 @@
+use Rattle.std.proofs.Common.{sym, ◌∙◌}
+use Rattle.graphql_core.specs.Parts.{text_of}
+use Rattle.graphql_values.specs.ValueLayout.{after_parts}
+use Rattle.graphql_values.proofs.Appending.{alike, and_last}
+use Rattle.graphql_values.proofs.Enclosed.{after_lines, after_none, closed_text}
+use Rattle.graphql_values.proofs.print.enclosed.write_closer.Goals as goal
+use Rattle.graphql_values.proofs.print.enclosed.write_closer.Goals.{then-has_multiline_arguments+in_ok-write_new_line, else-has_multiline_arguments}
+
+pub returns : goal.returns
+returns g c =
+    let took = g.S.Sink.took in
+    let more = g.met.S.Sink.took_more in
+    let style = c.args.style.now in
+    let margin = c.args.margin in
+    let after : took c.args.out.now (text_of (after_parts style margin)) c.if-has_multiline_arguments.out = elim c.if-has_multiline_arguments.branch [
+      | then-has_multiline_arguments+in_ok-write_new_line w ↦ rw w.out-is
+          (alike took more _ _ _ _
+          (after_lines style margin (sym c.has_multiline_arguments.ensures ∙ w.if-has_multiline_arguments.true)) w.in_ok-write_new_line.ensures)
+      | else-has_multiline_arguments w ↦ rw w.out-is
+          (alike took more _ _ _ _ (after_none style margin (sym c.has_multiline_arguments.ensures ∙ w.if-has_multiline_arguments.false))
+          (g.met.S.Sink.took_nil _))
+    ] in
+    and_last took more _ _ _ _ _ _ _ after c.push_str.ensures (closed_text (after_parts style margin) c.args.closer.now)

@@ -1,0 +1,13 @@
+use Rattle.std.proofs.Common.{refl}
+use Rattle.graphql_values.proofs.PlainAlternatives.{differs}
+use Rattle.graphql_values.proofs.read.leaf.is_enum_word.Goals as goal
+use Rattle.graphql_values.proofs.read.leaf.is_enum_word.Goals.{in_default, in-true, in-true-2, in-true-3}
+
+pub returns : goal.returns
+returns c =
+    elim c.if-matches.branch [
+      | in_default w ↦ rw (w.matches-is, differs _ _ w.in_default.not-true, differs _ _ w.in_default.not-false, differs _ _ w.in_default.not-null) refl
+      | in-true w ↦ rw (w.matches-is, w.in-true.is-true) refl
+      | in-true-2 w ↦ rw (w.matches-is, w.in-true.is-false) refl
+      | in-true-3 w ↦ rw (w.matches-is, w.in-true.is-null) refl
+    ]

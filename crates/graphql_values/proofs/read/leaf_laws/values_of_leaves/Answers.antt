@@ -1,0 +1,10 @@
+use Rattle.graphql_values.proofs.StringValues.{has_unquoted}
+use Rattle.graphql_values.proofs.LeafValues.{in_range, whole_exponent}
+use Rattle.graphql_values.proofs.read.leaf_laws.values_of_leaves.Goals as goal
+
+pub returns : goal.returns
+returns c = record {
+  string = has_unquoted;
+  float = whole_exponent;
+  integer = λ run h. in_range run;
+}

@@ -1,0 +1,29 @@
+use Rattle.std.proofs.Common.{◌≡◌, [], ◌∷◌, ◌++◌, subst, append_assoc}
+use Rattle.std.specs.List.Sorted.{IsStrictlySortedBy}
+use Rattle.std.specs.Map.{keys_of}
+use Rattle.graphql_values.specs.declared.tree.Value.{Value}
+use Rattle.graphql_values.proofs.ObjectMembers.{view_insert, put_last}
+use Rattle.graphql_values.proofs.tree.copies.+copy.Goals as goal
+
+pub copy_members-members-preserved : goal.copy_members-members-preserved
+copy_members-members-preserved g t c =
+    let l = c.members in
+    let bytes = g.N.Names.bytes in
+    let cmp = g.N.Value.Ord.cmp in
+    let law = g.met.N.Names.cmp_by_bytes in
+    let done = l.invariant.0 in
+    let e : g.row.N-Value.Denot × Value g.row.N.Denot g.row.N-Value.Denot = (c.in-Some.key.now, c.in-Some.member.now) in
+    let left = c.next.new.self in
+    let all : c.args.members.now.entries ≡ done ++ e ∷ left = rw (l.invariant.1, c.in-Some.ensures.steps) in
+    let last = put_last bytes cmp law done e left (subst (λ es. IsStrictlySortedBy cmp (keys_of es)) all c.iter-key-items.ensures.ordered) in
+    let named : bytes c.in_ok-name.name ≡ bytes e.0 = g.met.N.Names.clone_keeps e.0 c.in_ok-name.name c.in_ok-name.ensures.cases in (
+      done ++ e ∷ [],
+      rw (append_assoc done (e ∷ []) left) all,
+      rw (
+        c.in_ok-insert.ensures.entries,
+        view_insert bytes cmp law l.copies.entries c.in_ok-name.name c.in_ok-copy.field-0,
+        named,
+        c.in_ok-copy.ensures,
+        l.invariant.2,
+      ) last,
+    )

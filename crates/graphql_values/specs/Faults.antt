@@ -1,0 +1,113 @@
+-- The faults of a text that is no document of a language, each with its index and what a refusal says of it.
+use Rattle.std.specs.Prelude.{◌≡◌, ◌≤◌, ◌<◌, ℕ, zero, suc, List, [], ◌∷◌, ◌++◌, length, take, drop}
+use Rattle.std.specs.Int.RustNames.{FitsSigned}
+use mir.Syntax.{w64}
+use Rattle.graphql_grammar.specs.Tokens.{Token, Class}
+use Rattle.graphql_grammar.specs.Trees.{Sym, Begins}
+use Rattle.graphql_grammar.specs.Reading.{Reason, Unexpected, Improper, Refused, lax}
+use Rattle.graphql_grammar.specs.Texts as texts
+use Rattle.graphql_grammar.specs.Faults.{IsFault, IsLeast}
+use Rattle.graphql_core.specs.declared.common.fault.Fault.{Fault}
+use Rattle.graphql_core.specs.declared.common.fault.Fault.TheVariants.{OutOfMemory, At}
+use Rattle.graphql_lexer.specs.declared.tokenizer.token.Kind.TheVariants.{IntValue, FloatValue, StringValue}
+use Rattle.graphql_lexer.specs.Items.{Item, HasItems}
+use Rattle.graphql_core.specs.Causes.{CauseText, cause_text, kind_number, int_out_of_range, malformed_float, bad_escape}
+use Rattle.graphql_core.specs.Source.{Items, Last, End, Wrong, split, place_of, fault_by, fault_at, FaultText}
+use Rattle.graphql_core.specs.Literals.{IsFloatLiteral}
+use Rattle.graphql_core.specs.Strings as strings
+use Rattle.graphql_core.specs.Strings.{IsInQuotes}
+use Rattle.graphql_core.specs.Refusal.{Refusal, at, no_memory, max_length, too_long}
+use Rattle.graphql_values.specs.Leaves.{int_of}
+use Rattle.graphql_values.specs.Language.{Language}
+use Rattle.graphql_values.specs.Document.{IsDocumentOf}
+
+-- ---- the items of a text
+
+abbrev pub ending_of : Last → texts.Ending
+ending_of (End p) = texts.End
+ending_of (Wrong p b) = texts.Bad
+
+-- the items as the theory of grammars sees them
+abbrev pub text_of : Items → texts.Text
+text_of i = record { tokens = i.tokens; ending = ending_of i.last }
+
+-- the items from the n-th on; they are numbered from 1
+abbrev pub from_item : ℕ → Items → Items
+from_item zero i = i
+from_item (suc n) i = record { tokens = drop n i.tokens; last = i.last }
+
+-- a token has no value as a leaf of a value, for this cause
+pub data HasNoValue : Token → CauseText → Type 0 where
+  -- an integer that is no `i64`
+  out_of_range : {t : Token} → t.kind ≡ kind_number IntValue → (FitsSigned w64 (int_of t.spelling) → ⊥) → HasNoValue t int_out_of_range
+  -- a float whose exponent has no digit
+  malformed : {t : Token} → t.kind ≡ kind_number FloatValue → (IsFloatLiteral t.spelling → ⊥) → HasNoValue t malformed_float
+  -- a string with a bad escape: what stands between its quotes has no value
+  escaped_badly : {t : Token} → t.kind ≡ kind_number StringValue → ((body : List ℕ) → IsInQuotes t.spelling body → strings.HasNoValue body)
+      → HasNoValue t bad_escape
+
+module _ {D : Type 0} (l : Language D) where
+  -- ---- faults by index
+
+  -- What is said of the item with this index, for this reason: that it may not stand there, that it is a token without a
+  -- value, or that it is the last token of a node that is refused.
+  abbrev pub Says : Reason → Items → ℕ → FaultText → Type 0
+  Says Unexpected i n f = f ≡ fault_at (from_item n i)
+  Says (Improper c) i n f = (t : Token) × (rest : List Token) × ((from_item n i).tokens ≡ t ∷ rest) × l.lacks c t f.cause × (f.place ≡ t.place)
+  Says (Refused k) i n f = l.refuses k i n f
+
+  -- a fault of the items, its index, and what is said of the item with that index
+  abbrev pub IsFaultAt : Items → FaultText → ℕ → Type 0
+  IsFaultAt i f n = (why : Reason) × IsFault l.grammar (Sym l.document) (text_of i) why n × Says why i n f
+
+  -- the fault of least index
+  abbrev pub IsLeastFault : Items → FaultText → Type 0
+  IsLeastFault i f = (n : ℕ) × (why : Reason) × IsLeast l.grammar (Sym l.document) (text_of i) why n × Says why i n f
+
+  -- memory ran out, or it is the least fault of the items
+  abbrev pub IsLeastOf : Items → Fault → Type 0
+  IsLeastOf i OutOfMemory = Unit {0}
+  IsLeastOf i (At c p) = IsLeastFault i (record { cause = cause_text c; place = place_of p })
+
+  -- the same of a text
+  abbrev pub IsFaultOf : List ℕ → FaultText → ℕ → Type 0
+  IsFaultOf text f n = (items : List Item) × HasItems text items × IsFaultAt (split items) f n
+
+  abbrev pub IsLeastFaultOf : List ℕ → FaultText → Type 0
+  IsLeastFaultOf text f = (items : List Item) × HasItems text items × IsLeastFault (split items) f
+
+  -- no two faults of a text have one index; so at most one has the least
+  abbrev pub HasOneFaultEach : List ℕ → Type 0
+  HasOneFaultEach text = (f g : FaultText) (n : ℕ) → IsFaultOf text f n → IsFaultOf text g n → f ≡ g
+
+  -- a text that is a document has no fault
+  abbrev pub HasNoFault : List ℕ → D → Type 0
+  HasNoFault text d = IsDocumentOf l text d → (f : FaultText) (n : ℕ) → IsFaultOf text f n → ⊥
+
+  -- Why a text is refused: memory ran out, or it is too long, or it has no document, and this is its fault of least index.
+  pub data IsRefusalOf (text : List ℕ) : Refusal → Type 0 where
+    ran_out : IsRefusalOf text no_memory
+    past_bound : max_length < length text → IsRefusalOf text too_long
+    faulty : (f : FaultText) → length text ≤ max_length → IsLeastFaultOf text f → IsRefusalOf text (at f)
+
+  -- ---- the first fault, where the language refuses no node
+
+  -- Why no document goes on after these tokens.
+  pub data IsFaultAfter (front : List Token) : List Token → Last → FaultText → Type 0 where
+    -- even were all values good, none has this item here
+    unexpected : {after : List Token} {last : Last} → texts.EndsAt (lax l.grammar) (Sym l.document) front after (ending_of last)
+        → IsFaultAfter front after last (fault_by after last)
+    -- were all values good, some would go on with this token
+    no_value : {t : Token} {after : List Token} {last : Last} {leaf : Class} {c : CauseText} → l.lacks leaf t c
+        → Begins (lax l.grammar) (Sym l.document) (front ++ t ∷ [])
+        → IsFaultAfter front (t ∷ after) last (record { cause = c; place = t.place })
+
+  -- some document begins with the first n tokens, none goes on with the item after them, and the fault is that of the item
+  abbrev pub IsFirstFault : Items → FaultText → Type 0
+  IsFirstFault i f = (n : ℕ) × (n ≤ length i.tokens) × Begins l.grammar (Sym l.document) (take n i.tokens)
+      × texts.EndsAt l.grammar (Sym l.document) (take n i.tokens) (drop n i.tokens) (ending_of i.last)
+      × IsFaultAfter (take n i.tokens) (drop n i.tokens) i.last f
+
+  -- the same of a text
+  abbrev pub IsFirstFaultOf : List ℕ → FaultText → Type 0
+  IsFirstFaultOf text f = (items : List Item) × HasItems text items × IsFirstFault (split items) f

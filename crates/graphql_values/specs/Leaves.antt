@@ -1,0 +1,102 @@
+-- Which leaves of a shape have a value, and the values that they have.
+use Rattle.std.specs.Prelude.{ℕ, ℤ, ◌+◌, ◌-◌, ◌^◌, Bool, true, not, ◌&&◌, ◌||◌, ◌==◌, nat_lt, nat_le, if◌then◌else◌, is_some, List, [], ◌∷◌, ◌++◌, length, take}
+use Rattle.std.specs.Prelude.{drop, Option, Some, None}
+use Rattle.std.specs.List.{list_any, list_all}
+use Rattle.std.specs.Option.{unwrap_or}
+use Rattle.std.specs.Char.{encode_utf8, is_ascii_digit, is_ascii_hexdigit}
+use Rattle.std.specs.Str.Parse.{digits_value, signed_digits_value, starts_with_minus, without_leading_sign}
+use Rattle.graphql_grammar.specs.Tokens.{Token, Class, AnyOf}
+use Rattle.graphql_core.specs.Causes.{kind_number}
+use Rattle.graphql_core.specs.BlockStrings.{block_value}
+use Rattle.graphql_lexer.specs.declared.tokenizer.token.Kind.TheVariants.{IntValue, FloatValue, StringValue}
+
+-- ---- integers
+
+-- the number that a sign and digits write
+abbrev pub int_of : List ℕ → ℤ
+int_of run = signed_digits_value 10 run
+
+-- it is an `i64`: from -2^63 to 2^63 - 1
+abbrev pub is_in_range : List ℕ → Bool
+is_in_range run =
+    if starts_with_minus run then nat_le (digits_value 10 (without_leading_sign run)) (2 ^ 63)
+    else nat_lt (digits_value 10 (without_leading_sign run)) (2 ^ 63)
+
+-- ---- floats
+
+abbrev pub is_exponent_mark : ℕ → Bool
+is_exponent_mark b = b == 101 || b == 69
+
+-- what stands after the mark of an exponent
+abbrev pub after_mark : List ℕ → List ℕ
+after_mark [] = []
+after_mark (b ∷ bs) = if is_exponent_mark b then bs else after_mark bs
+
+-- an exponent, where there is one, has a digit
+abbrev pub has_whole_exponent : List ℕ → Bool
+has_whole_exponent run = not (list_any is_exponent_mark run) || list_any is_ascii_digit (after_mark run)
+
+-- ---- strings
+
+-- one text before another, where both are there
+abbrev pub before : Option (List ℕ) → Option (List ℕ) → Option (List ℕ)
+before (Some a) (Some b) = Some (a ++ b)
+before _ _ = None
+
+-- what a backslash and one character stand for
+abbrev pub escape_of : ℕ → Option (List ℕ)
+escape_of c =
+    if c == 34 || c == 92 || c == 47 then Some (c ∷ [])
+    else if c == 98 then Some (8 ∷ [])
+    else if c == 102 then Some (12 ∷ [])
+    else if c == 110 then Some (10 ∷ [])
+    else if c == 114 then Some (13 ∷ [])
+    else if c == 116 then Some (9 ∷ [])
+    else None
+
+-- U+D800 to U+DFFF are no characters
+abbrev pub is_surrogate : ℕ → Bool
+is_surrogate c = nat_le 55296 c && nat_le c 57343
+
+-- the character that four hexadecimal digits name
+abbrev pub named_by : List ℕ → Option (List ℕ)
+named_by digits = if list_all is_ascii_hexdigit digits && not (is_surrogate (digits_value 16 digits)) then Some (encode_utf8 (digits_value 16 digits)) else None
+
+-- what stands between the quotes of a string, with each escape as what it stands for; none where an escape is bad
+unfoldable mutual
+  pub unquoted : List ℕ → Option (List ℕ)
+  unquoted [] = Some []
+  unquoted (b ∷ bs) = if b == 92 then escaped bs else before (Some (b ∷ [])) (unquoted bs)
+
+  pub escaped : List ℕ → Option (List ℕ)
+  escaped [] = None
+  escaped (c ∷ cs) = if c == 117 then named cs else before (escape_of c) (unquoted cs)
+
+  pub named : List ℕ → Option (List ℕ)
+  named (a ∷ b ∷ c ∷ d ∷ rest) = before (named_by (a ∷ b ∷ c ∷ d ∷ [])) (unquoted rest)
+  named _ = None
+
+-- without n characters at either end
+abbrev pub without_ends : ℕ → List ℕ → List ℕ
+without_ends n text = take (length text - (n + n)) (drop n text)
+
+abbrev pub string_of : List ℕ → List ℕ
+string_of spelling = unwrap_or (unquoted (without_ends 1 spelling)) []
+
+abbrev pub block_string_of : List ℕ → List ℕ
+block_string_of spelling = block_value (without_ends 3 spelling)
+
+-- ---- leaves
+
+-- a token of this kind has a value
+abbrev pub has_value : ℕ → List ℕ → Bool
+has_value k spelling =
+    if k == kind_number IntValue then is_in_range spelling
+    else if k == kind_number FloatValue then has_whole_exponent spelling
+    else if k == kind_number StringValue then is_some (unquoted (without_ends 1 spelling))
+    else true
+
+-- a token has a value as the leaf of this class
+abbrev pub is_good : Class → Token → Bool
+is_good (AnyOf k) t = has_value k t.spelling
+is_good c t = true

@@ -1,0 +1,25 @@
+-- Layouts of lines in braces, of definitions, and of what stands before or after another part in its line.
+use Rattle.std.specs.Prelude.{ℕ, List, [], ◌∷◌, ◌++◌, Option, Some, None, codes}
+use Rattle.graphql_core.specs.Style.{Layout, spaces}
+use Rattle.graphql_core.specs.Parts.{Part, mark, gap}
+use Rattle.graphql_values.specs.Values.{ValueTree}
+use Rattle.graphql_values.specs.ValueLayout.{value_layout}
+
+-- lines in braces, of which the closing one stands at the margin
+abbrev pub in_braces : ℕ → List Part → List Part
+in_braces margin lines = mark (codes "{") ++ (gap (codes "\n") ++ (lines ++ (gap (spaces margin) ++ (mark (codes "}") ++ gap (codes "\n")))))
+
+-- each with an empty line before it
+abbrev pub later : {A : Type 0} → (A → List Part) → List A → List Part
+later lines [] = []
+later lines (x ∷ xs) = gap (codes "\n") ++ (lines x ++ later lines xs)
+
+-- with an empty line between two
+abbrev pub separated : {A : Type 0} → (A → List Part) → List A → List Part
+separated lines [] = []
+separated lines (x ∷ xs) = lines x ++ later lines xs
+
+-- a default value, where there is one
+abbrev pub default_layout : Layout → ℕ → Option ValueTree → List Part
+default_layout style margin None = []
+default_layout style margin (Some v) = gap (codes " ") ++ (mark (codes "=") ++ (gap (codes " ") ++ value_layout style margin v))

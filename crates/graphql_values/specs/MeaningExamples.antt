@@ -1,0 +1,27 @@
+-- The meanings of some small values, written out.
+use Rattle.std.specs.Prelude.{◌≡◌, [], ◌∷◌, true, false, pos, codes}
+use Rattle.graphql_values.specs.Leaves.{int_of, has_whole_exponent, is_in_range}
+use Rattle.graphql_values.specs.Values.{no_members, member, int}
+use Rattle.graphql_values.specs.Meanings.{put_all}
+
+-- {b: 1, a: 2, b: 3}: the fields stand in the order of their names, and of equal names the last counts
+abbrev pub EqualNames : Type 0
+EqualNames =
+    put_all ((codes "b", int (pos 1)) ∷ (codes "a", int (pos 2)) ∷ (codes "b", int (pos 3)) ∷ []) no_members
+    ≡ member (codes "a") (int (pos 2)) (member (codes "b") (int (pos 3)) no_members)
+
+-- minus zero is zero
+abbrev pub MinusZero : Type 0
+MinusZero = int_of (codes "-0") ≡ pos 0
+
+-- the least and the greatest integer with a value, and what lies past them
+abbrev pub Range : Type 0
+Range =
+    (is_in_range (codes "-9223372036854775808") ≡ true)
+    × (is_in_range (codes "-9223372036854775809") ≡ false)
+    × (is_in_range (codes "9223372036854775807") ≡ true)
+    × (is_in_range (codes "9223372036854775808") ≡ false)
+
+-- an exponent may lack its digits in a token, and has no value then
+abbrev pub Exponents : Type 0
+Exponents = (has_whole_exponent (codes "1e+") ≡ false) × (has_whole_exponent (codes "1e+2") ≡ true)

@@ -1,0 +1,132 @@
+-- What the shapes of values, types and directives mean, a line for each production.
+use Rattle.std.specs.Prelude.{ℕ, true, false, List, [], ◌∷◌, Option, Some, None}
+use Rattle.graphql_grammar.specs.Tokens.{Token, Place, nowhere}
+use Rattle.graphql_grammar.specs.Trees.{Shape, Leaf, Both, First, Second, More, Node}
+use Rattle.graphql_values.specs.Leaves.{int_of, string_of, block_string_of}
+use Rattle.graphql_values.specs.Values.{ValueTree, variable, int, float, string, boolean, null, enum, list, object, ValueItems, no_items, item, ValueMembers}
+use Rattle.graphql_values.specs.Values.{no_members, put, TypeTree, named, list_of, non_null, DirectiveTree}
+
+-- ---- leaves
+
+abbrev pub place_at : Shape → Place
+place_at (Leaf t) = t.place
+place_at _ = nowhere
+
+-- where the first of some tokens begins
+abbrev pub first_place : List Token → Place
+first_place [] = nowhere
+first_place (t ∷ ts) = t.place
+
+abbrev pub spelling_at : Shape → List ℕ
+spelling_at (Leaf t) = t.spelling
+spelling_at _ = []
+
+-- ---- values
+
+-- true, false, null, an enum value, an integer, a float, a string or a block string
+abbrev pub plain_of : Shape → ValueTree
+plain_of (Node k (First t)) = boolean true
+plain_of (Node k (Second (First t))) = boolean false
+plain_of (Node k (Second (Second (First t)))) = null
+plain_of (Node k (Second (Second (Second (First (Node j t)))))) = enum (spelling_at t)
+plain_of (Node k (Second (Second (Second (Second (First t)))))) = int (int_of (spelling_at t))
+plain_of (Node k (Second (Second (Second (Second (Second (First t))))))) = float (spelling_at t)
+plain_of (Node k (Second (Second (Second (Second (Second (Second (First t)))))))) = string (string_of (spelling_at t))
+plain_of (Node k (Second (Second (Second (Second (Second (Second (Second t)))))))) = string (block_string_of (spelling_at t))
+plain_of _ = null
+
+-- the name of an enum value
+abbrev pub enum_name_of : Shape → List ℕ
+enum_name_of (Node k t) = spelling_at t
+enum_name_of _ = []
+
+-- the fields of an object: of equal names the last counts
+abbrev pub put_all : List (List ℕ × ValueTree) → ValueMembers → ValueMembers
+put_all [] ms = ms
+put_all (p ∷ ps) ms = put_all ps (put p.0 p.1 ms)
+
+abbrev mutual
+  pub value_of : Shape → ValueTree
+  value_of (Node k (First (Both d n))) = variable (spelling_at n)
+  value_of (Node k (Second (First p))) = plain_of p
+  value_of (Node k (Second (Second (First (Both o (Both vs c)))))) = list (values_of vs)
+  value_of (Node k (Second (Second (Second (Both o (Both ps c)))))) = object (put_all (pairs_of ps) no_members)
+  value_of _ = null
+
+  pub values_of : Shape → ValueItems
+  values_of (More x xs) = item (value_of x) (values_of xs)
+  values_of _ = no_items
+
+  -- an argument, or a field of an object: a name and a value
+  pub argument_of : Shape → List ℕ × ValueTree
+  argument_of (Node k (Both n (Both c v))) = (spelling_at n, value_of v)
+  argument_of _ = ([], null)
+
+  pub pairs_of : Shape → List (List ℕ × ValueTree)
+  pairs_of (Both x xs) = argument_of x ∷ pairs_of xs
+  pairs_of (More x xs) = argument_of x ∷ pairs_of xs
+  pairs_of _ = []
+
+-- the same of constants
+abbrev mutual
+  pub const_of : Shape → ValueTree
+  const_of (Node k (First p)) = plain_of p
+  const_of (Node k (Second (First (Both o (Both vs c))))) = list (consts_of vs)
+  const_of (Node k (Second (Second (Both o (Both ps c))))) = object (put_all (const_pairs_of ps) no_members)
+  const_of _ = null
+
+  pub consts_of : Shape → ValueItems
+  consts_of (More x xs) = item (const_of x) (consts_of xs)
+  consts_of _ = no_items
+
+  pub const_pair_of : Shape → List ℕ × ValueTree
+  const_pair_of (Node k (Both n (Both c v))) = (spelling_at n, const_of v)
+  const_pair_of _ = ([], null)
+
+  pub const_pairs_of : Shape → List (List ℕ × ValueTree)
+  const_pairs_of (More x xs) = const_pair_of x ∷ const_pairs_of xs
+  const_pairs_of _ = []
+
+abbrev pub default_of : Shape → ValueTree
+default_of (Node k (Both e v)) = const_of v
+default_of _ = null
+
+abbrev pub optional_default_of : Shape → Option ValueTree
+optional_default_of (First d) = Some (default_of d)
+optional_default_of _ = None
+
+-- ---- types
+
+-- with a `!` or without
+abbrev pub marked : Shape → TypeTree → TypeTree
+marked (First m) t = non_null t
+marked _ t = t
+
+abbrev pub type_of : Shape → TypeTree
+type_of (Node k (First (Both n m))) = marked m (named (spelling_at n))
+type_of (Node k (Second (Both o (Both t (Both c m))))) = marked m (list_of (type_of t))
+type_of _ = named []
+
+-- ---- arguments and directives
+
+abbrev pub arguments_of : Shape → List (List ℕ × ValueTree)
+arguments_of (Node k (Both o (Both ps c))) = pairs_of ps
+arguments_of _ = []
+
+-- none where they are missing
+abbrev pub optional_arguments_of : Shape → List (List ℕ × ValueTree)
+optional_arguments_of (First a) = arguments_of a
+optional_arguments_of _ = []
+
+-- a directive stands at its `@`
+abbrev pub directive_of : Shape → DirectiveTree
+directive_of (Node k (Both a (Both n o))) = record { position = place_at a; name = spelling_at n; arguments = optional_arguments_of o }
+directive_of _ = record { position = nowhere; name = []; arguments = [] }
+
+abbrev pub each_directive_of : Shape → List DirectiveTree
+each_directive_of (More x xs) = directive_of x ∷ each_directive_of xs
+each_directive_of _ = []
+
+abbrev pub directives_of : Shape → List DirectiveTree
+directives_of (Node k xs) = each_directive_of xs
+directives_of _ = []

@@ -1,0 +1,30 @@
+-- What functions answer that read a whole document.
+use Rattle.std.specs.Prelude.{◌≡◌, ◌<◌, ◌≤◌, ℕ, List, length, Result, IfOk, IfErr, IsErrOf}
+use Rattle.graphql_core.specs.declared.common.fault.Fault.{Fault}
+use Rattle.graphql_core.specs.declared.common.fault.Fault.TheVariants.{OutOfMemory}
+use Rattle.graphql_core.specs.Refusal.{Refusal, max_length, too_long}
+use Rattle.graphql_core.specs.Source.{Items}
+use Rattle.graphql_values.specs.Language.{Language}
+use Rattle.graphql_values.specs.Document.{IsDocument, IsDocumentOf, AnswersUnlessMemory, HasOneShape}
+use Rattle.graphql_values.specs.Faults.{IsLeastOf, IsRefusalOf}
+
+-- of the items of a source, where view is what an answer is seen as
+pub record ReadsDocument {D V : Type 0} (l : Language D) (view : V → D) (i : Items) (r : Result V Fault) : Type 0 where
+  -- what is answered is derived
+  pub derived : IfOk r (λ v. IsDocument l i (view v))
+  -- what is derived is answered, unless memory runs out
+  pub complete : (d : D) → IsDocument l i d → IfErr r (λ e. e ≡ OutOfMemory)
+  -- a refusal is the fault of least index
+  pub refused : IfErr r (IsLeastOf l i)
+
+-- of a text
+pub record ParsesDocument {D V : Type 0} (l : Language D) (view : V → D) (text : List ℕ) (r : Result V Refusal) : Type 0 where
+  -- what is answered is derived
+  pub derived : IfOk r (λ v. IsDocumentOf l text (view v))
+  -- what is derived is answered, unless memory runs out
+  pub complete : (d : D) → length text ≤ max_length → IsDocumentOf l text d → AnswersUnlessMemory view d r
+  -- the list of its tokens has at most one shape
+  pub one_shape : HasOneShape l text
+  -- a refusal is the fault of least index of the text, and a text past the bound is refused
+  pub refused : IfErr r (IsRefusalOf l text)
+  pub too_long : max_length < length text → IsErrOf r too_long

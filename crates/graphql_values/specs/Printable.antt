@@ -1,0 +1,110 @@
+-- Values, types and directives whose layouts are read as what they are, and how many brackets those open at once.
+use Rattle.std.specs.Prelude.{◌≡◌, ℕ, ◌+◌, max, List, [], ◌∷◌, codes}
+use Rattle.std.specs.List.{AllByRecursion}
+use Rattle.graphql_lexer.specs.Lexical.{IsName}
+use Rattle.graphql_values.specs.Values.{ValueTree, variable, enum, list, object, ValueItems, no_items, item, ValueMembers, no_members, member, TypeTree, named}
+use Rattle.graphql_values.specs.Values.{list_of, non_null, DirectiveTree}
+
+-- ---- names
+
+-- a name that is none of some words
+abbrev pub IsNameBut : List (List ℕ) → List ℕ → Type 0
+IsNameBut words n = IsName n × AllByRecursion (λ w. n ≡ w → ⊥) words
+
+-- ---- values
+
+abbrev mutual
+  pub IsPrintableValue : ValueTree → Type 0
+  IsPrintableValue (variable n) = IsName n
+  IsPrintableValue (enum n) = IsNameBut (codes "true" ∷ codes "false" ∷ codes "null" ∷ []) n
+  IsPrintableValue (list vs) = ArePrintableItems vs
+  IsPrintableValue (object ms) = ArePrintableMembers ms
+  IsPrintableValue _ = Unit {0}
+
+  pub ArePrintableItems : ValueItems → Type 0
+  ArePrintableItems no_items = Unit {0}
+  ArePrintableItems (item v vs) = IsPrintableValue v × ArePrintableItems vs
+
+  pub ArePrintableMembers : ValueMembers → Type 0
+  ArePrintableMembers no_members = Unit {0}
+  ArePrintableMembers (member n v ms) = IsName n × IsPrintableValue v × ArePrintableMembers ms
+
+-- it holds no variable at any depth
+abbrev mutual
+  pub IsConstant : ValueTree → Type 0
+  IsConstant (variable n) = ⊥
+  IsConstant (list vs) = AreConstant vs
+  IsConstant (object ms) = HoldConstants ms
+  IsConstant _ = Unit {0}
+
+  pub AreConstant : ValueItems → Type 0
+  AreConstant no_items = Unit {0}
+  AreConstant (item v vs) = IsConstant v × AreConstant vs
+
+  pub HoldConstants : ValueMembers → Type 0
+  HoldConstants no_members = Unit {0}
+  HoldConstants (member n v ms) = IsConstant v × HoldConstants ms
+
+-- ---- types, arguments and directives
+
+abbrev pub AdmitsNull : TypeTree → Type 0
+AdmitsNull (non_null t) = ⊥
+AdmitsNull _ = Unit {0}
+
+abbrev pub IsPrintableType : TypeTree → Type 0
+IsPrintableType (named n) = IsName n
+IsPrintableType (list_of t) = IsPrintableType t
+IsPrintableType (non_null t) = AdmitsNull t × IsPrintableType t
+
+abbrev pub IsPrintableArgument : List ℕ × ValueTree → Type 0
+IsPrintableArgument a = IsName a.0 × IsPrintableValue a.1
+
+abbrev pub IsPrintableDirective : DirectiveTree → Type 0
+IsPrintableDirective d = IsName d.name × AllByRecursion IsPrintableArgument d.arguments
+
+-- a value that may be a default
+abbrev pub IsPrintableDefault : ValueTree → Type 0
+IsPrintableDefault v = IsPrintableValue v × IsConstant v
+
+-- ---- brackets that are open at once
+
+-- the most brackets of a list's trees
+abbrev pub most : {A : Type 0} → (A → ℕ) → List A → ℕ
+most f [] = 0
+most f (x ∷ xs) = max (f x) (most f xs)
+
+-- parentheses, where there is anything in them
+abbrev pub in_parentheses : {A : Type 0} → (A → ℕ) → List A → ℕ
+in_parentheses f [] = 0
+in_parentheses f (x ∷ xs) = most f (x ∷ xs) + 1
+
+abbrev mutual
+  pub value_brackets : ValueTree → ℕ
+  value_brackets (list vs) = items_brackets vs + 1
+  value_brackets (object ms) = members_brackets ms + 1
+  value_brackets _ = 0
+
+  pub items_brackets : ValueItems → ℕ
+  items_brackets no_items = 0
+  items_brackets (item v vs) = max (value_brackets v) (items_brackets vs)
+
+  pub members_brackets : ValueMembers → ℕ
+  members_brackets no_members = 0
+  members_brackets (member n v ms) = max (value_brackets v) (members_brackets ms)
+
+abbrev pub type_brackets : TypeTree → ℕ
+type_brackets (named n) = 0
+type_brackets (list_of t) = type_brackets t + 1
+type_brackets (non_null t) = type_brackets t
+
+abbrev pub argument_brackets : List ℕ × ValueTree → ℕ
+argument_brackets a = value_brackets a.1
+
+abbrev pub arguments_brackets : List (List ℕ × ValueTree) → ℕ
+arguments_brackets = in_parentheses argument_brackets
+
+abbrev pub directive_brackets : DirectiveTree → ℕ
+directive_brackets d = arguments_brackets d.arguments
+
+abbrev pub directives_brackets : List DirectiveTree → ℕ
+directives_brackets = most directive_brackets

@@ -1,0 +1,32 @@
+-- What readers of a language answer that refuses nodes.
+use Rattle.std.specs.Prelude.{◌≡◌, ◌-◌, ℕ, List, ◌++◌, length, Result, IfErr, Option, Some}
+use Rattle.graphql_grammar.specs.Tokens.{Token}
+use Rattle.graphql_grammar.specs.Trees.{Expr, Shape}
+use Rattle.graphql_grammar.specs.Factored.{written}
+use Rattle.graphql_grammar.specs.Reading as reads
+use Rattle.graphql_core.specs.Source.{Items, FaultText}
+use Rattle.graphql_values.specs.declared.read.halt.Halt.{Halt}
+use Rattle.graphql_values.specs.declared.read.halt.Halt.TheVariants.{Stopped, Refused}
+use Rattle.graphql_values.specs.steps.Answers.{GivesBy, reason_of}
+use Rattle.graphql_values.specs.Language.{Language, reading}
+
+-- what an error tells of a node that is refused: its symbol, and what is said of it
+pub record Refusals (R : Type 0) : Type 0 where
+  pub symbol : R → ℕ
+  pub fault : R → FaultText
+
+abbrev pub halt_reason : {R : Type 0} → Refusals R → Halt R → Option reads.Reason
+halt_reason w (Stopped s) = reason_of s
+halt_reason w (Refused n) = Some (reads.Refused (w.symbol n))
+
+module _ {D R : Type 0} (l : Language D) (w : Refusals R) where
+  -- whatever stands before, what an error says of a node that is refused is what the language says
+  abbrev pub Says : Items → Items → Halt R → Type 0
+  Says old new (Stopped s) = Unit {0}
+  Says old new (Refused n) = (start : Items) (front : List Token) → start.tokens ≡ front ++ old.tokens
+      → l.refuses (w.symbol n) start (length start.tokens - length new.tokens) (w.fault n)
+
+  -- it reads by the second rules, and its answer is what the written shape means; or it stops, and says why
+  pub record Reads {A : Type 0} (e : Expr) (old new : Items) (P : A → Shape → Type 0) (r : Result A (Halt R)) : Type 0 where
+    pub gives : GivesBy (halt_reason w) (reading l) e old new (λ v x. P v (written l.changes x)) r
+    pub says : IfErr r (Says old new)

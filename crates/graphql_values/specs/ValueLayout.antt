@@ -1,0 +1,220 @@
+-- The layouts of values, types, arguments and directives, where a line begins with a margin of so many spaces.
+use Rattle.std.specs.Prelude.{ℕ, ◌+◌, ◌-◌, ◌*◌, ◌^◌, ◌≤◌, max, Bool, true, false, not, ◌&&◌, ◌||◌, ◌==◌, nat_lt, nat_le, if◌then◌else◌, List, [], ◌∷◌, ◌++◌}
+use Rattle.std.specs.Prelude.{codes, map}
+use Rattle.std.specs.Fmt.{signed_decimal}
+use Rattle.std.specs.List.{list_all, list_any, slice_split, flat_map}
+use Rattle.std.specs.Str.{chars}
+use Rattle.graphql_lexer.specs.declared.tokenizer.token.Kind.TheVariants.{IntValue, FloatValue, StringValue, BlockString}
+use Rattle.graphql_lexer.specs.Lexical.{begins_quotes}
+use Rattle.graphql_core.specs.BlockStrings.{is_white, is_blank}
+use Rattle.graphql_core.specs.Style.{Layout, default_style, spaces}
+use Rattle.graphql_core.specs.Parts.{Part, token, name, mark, gap, new_line}
+use Rattle.graphql_values.specs.Values.{ValueTree, variable, int, float, string, boolean, null, enum, list, object, ValueItems, no_items, item, ValueMembers}
+use Rattle.graphql_values.specs.Values.{no_members, member, TypeTree, named, list_of, non_null, DirectiveTree}
+
+-- ---- strings in quotes
+
+-- an upper hexadecimal digit
+abbrev pub hexadecimal_digit : ℕ → ℕ
+hexadecimal_digit n = if nat_lt n 10 then 48 + n else 55 + n
+
+-- `\u` and four digits, of a character below U+0020
+abbrev pub unicode_escape : ℕ → List ℕ
+unicode_escape b = 92 ∷ 117 ∷ 48 ∷ 48 ∷ (if nat_lt b 16 then 48 else 49) ∷ hexadecimal_digit (if nat_lt b 16 then b else b - 16) ∷ []
+
+abbrev pub quoted_byte : ℕ → List ℕ
+quoted_byte b =
+    if b == 13 then codes "\\r"
+    else if b == 10 then codes "\\n"
+    else if b == 9 then codes "\\t"
+    else if b == 34 then 92 ∷ 34 ∷ []
+    else if b == 92 then 92 ∷ 92 ∷ []
+    else if nat_lt b 32 then unicode_escape b
+    else b ∷ []
+
+abbrev pub quoted : List ℕ → List ℕ
+quoted text = 34 ∷ (flat_map quoted_byte text ++ 34 ∷ [])
+
+-- ---- strings in block form
+
+-- what stands between the line feeds
+abbrev pub lines_of : List ℕ → List (List ℕ)
+lines_of text = slice_split (λ b. b == 10) text
+
+-- LF, CR, TAB, or U+0020 to U+FFFF
+abbrev pub is_block_character : ℕ → Bool
+is_block_character c = c == 10 || (c == 13 || (c == 9 || (nat_le 32 c && nat_le c 65535)))
+
+abbrev pub first_line : List (List ℕ) → List ℕ
+first_line [] = []
+first_line (l ∷ ls) = l
+
+abbrev pub last_line : List (List ℕ) → List ℕ
+last_line [] = []
+last_line (l ∷ []) = l
+last_line (l ∷ m ∷ ms) = last_line (m ∷ ms)
+
+abbrev pub is_empty : List ℕ → Bool
+is_empty [] = true
+is_empty (b ∷ bs) = false
+
+abbrev pub ends_in_return : List ℕ → Bool
+ends_in_return [] = false
+ends_in_return (b ∷ []) = b == 13
+ends_in_return (b ∷ c ∷ cs) = ends_in_return (c ∷ cs)
+
+abbrev pub begins_white : List ℕ → Bool
+begins_white [] = false
+begins_white (b ∷ bs) = is_white b
+
+-- a text is written in block form
+abbrev pub has_block_form : List ℕ → Bool
+has_block_form text =
+    list_any (λ b. b == 10) text
+    && (list_all is_block_character (chars text)
+    && (not (is_blank (first_line (lines_of text)))
+    && (not (is_blank (last_line (lines_of text)))
+    && (list_all (λ l. not (is_blank l) || is_empty l) (lines_of text)
+    && (list_all (λ l. not (ends_in_return l)) (lines_of text)
+    && list_any (λ l. not (is_blank l) && not (begins_white l)) (lines_of text))))))
+
+-- each three quotes, from the left, with a backslash before them
+abbrev pub escaped_quotes : List ℕ → List ℕ
+escaped_quotes (a ∷ b ∷ c ∷ more) = if begins_quotes (a ∷ b ∷ c ∷ []) then 92 ∷ 34 ∷ 34 ∷ 34 ∷ escaped_quotes more else a ∷ escaped_quotes (b ∷ c ∷ more)
+escaped_quotes text = text
+
+-- a line with its margin, or LF alone
+abbrev pub block_line : ℕ → List ℕ → List ℕ
+block_line margin [] = 10 ∷ []
+block_line margin (b ∷ bs) = spaces margin ++ (escaped_quotes (b ∷ bs) ++ 10 ∷ [])
+
+-- in three quotes, with its lines at one margin, and the closing quotes at another
+abbrev pub in_block_form : ℕ → ℕ → List ℕ → List ℕ
+in_block_form inside margin text = codes "\"\"\"\n" ++ (flat_map (block_line inside) (lines_of text) ++ (spaces margin ++ codes "\"\"\""))
+
+abbrev pub string_layout : Layout → ℕ → List ℕ → List Part
+string_layout style margin text =
+    if has_block_form text then token BlockString (in_block_form (margin + style.indent) margin text) ∷ []
+    else token StringValue (quoted text) ∷ []
+
+-- ---- parts between an opener and a closer
+
+-- the margin of the parts
+abbrev pub inside : Layout → ℕ → ℕ
+inside style margin = if style.multiline then margin + style.indent else margin
+
+-- before the first part, and before each later one, where the parts stand at a margin
+abbrev pub before_part : Layout → ℕ → Bool → List Part
+before_part style margin false = if style.multiline then new_line margin else []
+before_part style margin true = if style.multiline then gap (codes ",") ++ new_line margin else gap (codes ", ")
+
+-- parts at a margin, where some stand before them or none
+abbrev pub parts : Layout → ℕ → Bool → List (List Part) → List Part
+parts style margin later [] = []
+parts style margin later (p ∷ ps) = before_part style margin later ++ (p ++ parts style margin true ps)
+
+-- after the last part, where the closer stands at a margin
+abbrev pub after_parts : Layout → ℕ → List Part
+after_parts style margin = if style.multiline then new_line margin else []
+
+abbrev pub enclosed : Layout → ℕ → List ℕ → List ℕ → List (List Part) → List Part
+enclosed style margin opener closer ps = mark opener ++ (parts style (inside style margin) false ps ++ (after_parts style margin ++ mark closer))
+
+-- ---- values
+
+abbrev pub boolean_name : Bool → List ℕ
+boolean_name true = codes "true"
+boolean_name false = codes "false"
+
+-- a name, a colon, a space and a value
+abbrev pub pair_layout : List ℕ → List Part → List Part
+pair_layout n value = name n ++ (mark (codes ":") ++ (gap (codes " ") ++ value))
+
+abbrev mutual
+  pub value_layout : Layout → ℕ → ValueTree → List Part
+  value_layout style margin (variable n) = mark (codes "$") ++ name n
+  value_layout style margin (int i) = token IntValue (signed_decimal i) ∷ []
+  value_layout style margin (float literal) = token FloatValue literal ∷ []
+  value_layout style margin (string text) = string_layout style margin text
+  value_layout style margin (boolean b) = name (boolean_name b)
+  value_layout style margin null = name (codes "null")
+  value_layout style margin (enum n) = name n
+  value_layout style margin (list vs) = enclosed style margin (codes "[") (codes "]") (items_layout style (inside style margin) vs)
+  value_layout style margin (object ms) = enclosed style margin (codes "{") (codes "}") (members_layout style (inside style margin) ms)
+
+  pub items_layout : Layout → ℕ → ValueItems → List (List Part)
+  items_layout style margin no_items = []
+  items_layout style margin (item v vs) = value_layout style margin v ∷ items_layout style margin vs
+
+  pub members_layout : Layout → ℕ → ValueMembers → List (List Part)
+  members_layout style margin no_members = []
+  members_layout style margin (member n v ms) = pair_layout n (value_layout style margin v) ∷ members_layout style margin ms
+
+-- ---- types
+
+abbrev pub type_layout : TypeTree → List Part
+type_layout (named n) = name n
+type_layout (list_of t) = mark (codes "[") ++ (type_layout t ++ mark (codes "]"))
+type_layout (non_null t) = type_layout t ++ mark (codes "!")
+
+-- ---- arguments and directives
+
+abbrev pub each_argument : Layout → ℕ → List (List ℕ × ValueTree) → List (List Part)
+each_argument style margin arguments = map (λ a. pair_layout a.0 (value_layout style margin a.1)) arguments
+
+abbrev pub arguments_layout : Layout → ℕ → List (List ℕ × ValueTree) → List Part
+arguments_layout style margin [] = []
+arguments_layout style margin (a ∷ more) = enclosed style margin (codes "(") (codes ")") (each_argument style (inside style margin) (a ∷ more))
+
+abbrev pub directive_layout : Layout → ℕ → DirectiveTree → List Part
+directive_layout style margin d = mark (codes "@") ++ (name d.name ++ arguments_layout style margin d.arguments)
+
+-- a space before each
+abbrev pub directives_layout : Layout → ℕ → List DirectiveTree → List Part
+directives_layout style margin [] = []
+directives_layout style margin (d ∷ ds) = gap (codes " ") ++ (directive_layout style margin d ++ directives_layout style margin ds)
+
+-- ---- levels that are open at once
+
+-- lists, objects and arguments open a level where each part takes a line
+abbrev pub opened : Layout → ℕ → ℕ
+opened style n = if style.multiline then n + 1 else n
+
+-- a string in block form opens one
+abbrev pub string_levels : List ℕ → ℕ
+string_levels text = if has_block_form text then 1 else 0
+
+abbrev mutual
+  pub value_levels : Layout → ValueTree → ℕ
+  value_levels style (string text) = string_levels text
+  value_levels style (list vs) = opened style (items_levels style vs)
+  value_levels style (object ms) = opened style (members_levels style ms)
+  value_levels style _ = 0
+
+  pub items_levels : Layout → ValueItems → ℕ
+  items_levels style no_items = 0
+  items_levels style (item v vs) = max (value_levels style v) (items_levels style vs)
+
+  pub members_levels : Layout → ValueMembers → ℕ
+  members_levels style no_members = 0
+  members_levels style (member n v ms) = max (value_levels style v) (members_levels style ms)
+
+abbrev pub most_levels : Layout → List (List ℕ × ValueTree) → ℕ
+most_levels style [] = 0
+most_levels style (a ∷ more) = max (value_levels style a.1) (most_levels style more)
+
+abbrev pub arguments_levels : Layout → List (List ℕ × ValueTree) → ℕ
+arguments_levels style [] = 0
+arguments_levels style (a ∷ more) = opened style (most_levels style (a ∷ more))
+
+abbrev pub directives_levels : Layout → List DirectiveTree → ℕ
+directives_levels style [] = 0
+directives_levels style (d ∷ ds) = max (arguments_levels style d.arguments) (directives_levels style ds)
+
+-- so many levels take more than `u32::MAX` spaces, whether a line stands in the last of them or not
+abbrev pub IsTooWide : Layout → ℕ → Type 0
+IsTooWide style levels = 2 ^ 32 ≤ levels * style.indent
+
+-- so many levels are not too wide in the default style
+abbrev pub IsNarrow : ℕ → Type 0
+IsNarrow levels = IsTooWide default_style levels → ⊥

@@ -1,0 +1,35 @@
+-- What a reader answered, and where it left its source. The same words serve every grammar.
+use Rattle.std.specs.Prelude.{◌≡◌, ◌<◌, List, ◌++◌, map, length, Result, Ok, Err, OnOk, Option, Some, None}
+use Rattle.graphql_grammar.specs.Trees.{Expr, Shape, Grammar}
+use Rattle.graphql_grammar.specs.Reading.{Reason, Unexpected, Improper}
+use Rattle.graphql_grammar.specs.ReaderWords.{TakesSome, Stops}
+use Rattle.graphql_core.specs.declared.helpers.stop.Stop.{Stop}
+use Rattle.graphql_core.specs.declared.helpers.stop.Stop.TheVariants.{Memory, Item, Integer, Float, Escape}
+use Rattle.graphql_lexer.specs.declared.tokenizer.token.Kind.TheVariants.{IntValue, FloatValue, StringValue}
+use Rattle.graphql_core.specs.Source.{Items}
+use Rattle.graphql_values.specs.Grammar.{any}
+
+-- the theory's reason for which a reader stopped; none where memory ran out
+abbrev pub reason_of : Stop → Option Reason
+reason_of Memory = None
+reason_of Item = Some Unexpected
+reason_of Integer = Some (Improper (any IntValue))
+reason_of Float = Some (Improper (any FloatValue))
+reason_of Escape = Some (Improper (any StringValue))
+
+-- Some shape is taken, of which P holds with what is answered; or the theory fails for the reason of the error, where it has one.
+abbrev pub GivesBy : {A E : Type 0} → (E → Option Reason) → Grammar → Expr → Items → Items → (A → Shape → Type 0) → Result A E → Type 0
+GivesBy reason g e old new P (Ok v) = TakesSome g e old.tokens new.tokens (P v)
+GivesBy reason g e old new P (Err s) = Stops g e old.tokens new.tokens (reason s)
+
+-- Some shape is taken, of which P holds with what is answered; or memory ran out; or the theory fails.
+abbrev pub Gives : {A : Type 0} → Grammar → Expr → Items → Items → (A → Shape → Type 0) → Result A Stop → Type 0
+Gives g e old new P r = GivesBy reason_of g e old new P r
+
+-- after the old elements of a list stand these, seen through f
+abbrev pub Adds : {A B : Type 0} → (A → B) → List A → List A → List B → Type 0
+Adds f old new xs = map f new ≡ map f old ++ xs
+
+-- an answer leaves fewer tokens
+abbrev pub Shortens : {A E : Type 0} → Items → Items → Result A E → Type 0
+Shortens old new r = OnOk r (length new.tokens < length old.tokens)

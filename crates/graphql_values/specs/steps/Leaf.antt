@@ -1,0 +1,29 @@
+-- The next token as a leaf.
+use Rattle.std.specs.Prelude.{◌≡◌, ℕ, true, false, if◌then◌else◌, List, ◌∷◌, drop, codes, Result, Ok, Err}
+use Rattle.graphql_grammar.specs.Tokens.{same_spelling}
+use Rattle.graphql_core.specs.declared.helpers.stop.Stop.{Stop}
+use Rattle.graphql_core.specs.declared.helpers.source.Lexeme.{Lexeme}
+use Rattle.graphql_lexer.specs.declared.tokenizer.token.Kind.{Kind}
+use Rattle.graphql_core.specs.Source.{Items, IsLexeme, lexeme_token}
+use Rattle.graphql_core.specs.steps.Matching.{TakesOne}
+use Rattle.graphql_values.specs.Grammar.{any}
+use Rattle.graphql_values.specs.Values.{ValueTree, boolean, null, enum}
+
+-- the next item is this token, of this kind
+pub record IsNext {T : Type 0} (bytes : T → List ℕ) (k : Kind) (i : Items) (t : Lexeme T) : Type 0 where
+  pub first : i.tokens ≡ lexeme_token bytes t ∷ drop 1 i.tokens
+  pub kind : t.kind ≡ k
+  pub lexeme : IsLexeme (lexeme_token bytes t)
+
+-- the next item, where it is a token of this kind
+abbrev pub Shows : {T : Type 0} → (T → List ℕ) → Kind → Items → Result (Lexeme T) Stop → Type 0
+Shows bytes k i (Ok t) = IsNext bytes k i t
+Shows bytes k i (Err s) = TakesOne {A = Unit {0}} (any k) i i (λ v t. Unit {0}) (Err s)
+
+-- the value that a name writes
+abbrev pub word_of : List ℕ → ValueTree
+word_of text =
+    if same_spelling (codes "true") text then boolean true
+    else if same_spelling (codes "false") text then boolean false
+    else if same_spelling (codes "null") text then null
+    else enum text

@@ -1,0 +1,24 @@
+//! The text of values, types, arguments and directives.
+mod block;
+mod directives;
+mod display;
+mod enclosed;
+mod laws;
+mod levels;
+mod quotes;
+mod spaces;
+mod strings;
+mod types;
+mod values;
+
+pub use block::{has_block_form, write_block};
+pub use directives::{write_arguments, write_directive, write_directives};
+pub use laws::{brackets_are_those_of_layouts, worked_layouts};
+pub use levels::{
+    check_width, is_too_wide, levels_in_arguments, levels_in_directives, levels_in_value,
+};
+pub use quotes::write_quoted;
+pub use spaces::{write_new_line, write_spaces};
+pub use strings::write_string;
+pub use types::write_type;
+pub use values::write_value;

@@ -1,0 +1,56 @@
+//! Values, types and directives as texts in the default style.
+ghost use Rattle.std.specs.Prelude.{Some, None, OnOk};
+ghost use Rattle.std.specs.Fmt.{DisplaysOnOk, DisplaysStyledOnOk};
+ghost use Rattle.graphql_core.specs.Parts.{text_of};
+ghost use Rattle.graphql_core.specs.Style.{default_style};
+ghost use Rattle.graphql_values.specs.ValueViews.{value_view, type_view, directive_view};
+ghost use Rattle.graphql_values.specs.ValueLayout.{value_layout, type_layout, directive_layout, value_levels, arguments_levels, IsNarrow};
+
+use crate::print::directives::write_directive;
+use crate::print::levels::{check_width, levels_in_arguments, levels_in_value};
+use crate::print::types::write_type;
+use crate::print::values::write_value;
+use crate::tree::{Directive, Type, Value};
+use graphql_core::common::Names;
+use graphql_core::format::Style;
+use std::fmt;
+
+/// The text in the default style, unless that is too wide.
+impl<N: Names> fmt::Display for Value<N> {
+    ghost output = { λ v. Some (text_of (value_layout default_style 0 (value_view N.bytes v))) };
+
+    fn fmt<W: fmt::Write>(&self, f: &mut fmt::Formatter<W>) -> fmt::Result
+        ensures writes { DisplaysOnOk W.write_str_gives f.old result (Some (text_of (value_layout default_style 0 (value_view N.bytes self.now)))) f.new }
+        ensures styled { DisplaysStyledOnOk W.write_str_gives f.old result None f.new }
+        ensures narrow { OnOk result (IsNarrow (value_levels default_style (value_view N.bytes self.now))) }
+    {
+        let style = Style::default();
+        check_width(levels_in_value(self, &style), &style)?;
+        write_value(f, self, &style, 0)
+    }
+}
+
+/// The text, which is the same in every style.
+impl<N: Names> fmt::Display for Type<N> {
+    ghost output = { λ t. Some (text_of (type_layout (type_view N.bytes t))) };
+
+    fn fmt<W: fmt::Write>(&self, f: &mut fmt::Formatter<W>) -> fmt::Result {
+        write_type(f, self)
+    }
+}
+
+/// The text in the default style, unless that is too wide.
+impl<N: Names> fmt::Display for Directive<N> {
+    ghost output = { λ d. Some (text_of (directive_layout default_style 0 (directive_view N.bytes d))) };
+
+    fn fmt<W: fmt::Write>(&self, f: &mut fmt::Formatter<W>) -> fmt::Result
+        ensures writes { DisplaysOnOk W.write_str_gives f.old result (Some (text_of (directive_layout default_style 0 (directive_view N.bytes self.now))))
+            f.new }
+        ensures styled { DisplaysStyledOnOk W.write_str_gives f.old result None f.new }
+        ensures narrow { OnOk result (IsNarrow (arguments_levels default_style (directive_view N.bytes self.now).arguments)) }
+    {
+        let style = Style::default();
+        check_width(levels_in_arguments(&self.arguments, &style), &style)?;
+        write_directive(f, self, &style, 0)
+    }
+}

@@ -1,0 +1,133 @@
+//! How many levels a layout opens at once, and whether it is too wide.
+ghost use Rattle.std.specs.Prelude.{◌≡◌, ◌-◌, ◌^◌, ◌↔◌, ℕ, IsTrue, IsErr, min};
+ghost use Rattle.graphql_values.specs.Lawful.{IsLawful, AreLawful, AreLawfulArguments, AreLawfulDirectives};
+ghost use Rattle.graphql_values.specs.Values.{int, float, list, object};
+ghost use Rattle.graphql_values.specs.ValueViews.{value_view, items_view, members_view, arguments_view, directives_view};
+ghost use Rattle.graphql_values.specs.ValueLayout.{IsTooWide, arguments_levels, directives_levels, opened, string_levels, value_levels};
+
+use crate::print::block::has_block_form;
+use crate::tree::{Directive, Value};
+use graphql_core::common::{FloatLiteral, Names, Number};
+use graphql_core::format::Style;
+use std::collections::BTreeMap;
+use std::fmt;
+
+/// The levels of some parts, and the one that they stand in, saturating at `usize::MAX`.
+fn levels_around(style: &Style, levels: usize) -> usize
+    ensures { (n : ℕ) → levels ≡ min n (2 ^ 64 - 1) → result ≡ min (opened style.now n) (2 ^ 64 - 1) }
+{
+    if style.has_multiline_arguments() {
+        levels.saturating_add(1)
+    } else {
+        levels
+    }
+}
+
+/// How many levels a value opens at once, saturating at `usize::MAX`.
+#[cycle(levels)]
+pub fn levels_in_value<N: Names>(value: &Value<N>, style: &Style) -> usize
+    ensures levels { result ≡ min (value_levels style.now (value_view N.bytes value.now)) (2 ^ 64 - 1) }
+    ensures lawful { IsLawful (value_view N.bytes value.now) }
+{
+    match value {
+        Value::String(text) => levels_in_string(text.as_str()),
+        Value::List(items) => levels_in_list(items, style),
+        Value::Object(members) => levels_in_object(members, style),
+        Value::Int(number) => levels_in_number(number),
+        Value::Float(literal) => levels_in_float(literal),
+        _ => 0,
+    }
+}
+
+/// A number opens none.
+fn levels_in_number(number: &Number) -> usize
+    ensures none { result ≡ 0 }
+    ensures lawful { IsLawful (int number.now) }
+{
+    let _value = number.as_i64();
+    0
+}
+
+/// A float opens none.
+fn levels_in_float(literal: &FloatLiteral) -> usize
+    ensures none { result ≡ 0 }
+    ensures lawful { IsLawful (float literal.now) }
+{
+    let _text = literal.as_str();
+    0
+}
+
+/// How many levels a string opens.
+fn levels_in_string(text: &str) -> usize
+    ensures { result ≡ string_levels text.now }
+{
+    if has_block_form(text) { 1 } else { 0 }
+}
+
+#[cycle(levels)]
+fn levels_in_list<N: Names>(items: &Vec<Value<N>>, style: &Style) -> usize
+    ensures levels { result ≡ min (value_levels style.now (list (items_view N.bytes items.now.items))) (2 ^ 64 - 1) }
+    ensures lawful { AreLawful (items_view N.bytes items.now.items) }
+{
+    let mut most = 0;
+    'items: for item in items {
+        most = levels_in_value(item, style).max(most);
+    }
+    levels_around(style, most)
+}
+
+#[cycle(levels)]
+fn levels_in_object<N: Names>(members: &BTreeMap<N::Value, Value<N>>, style: &Style) -> usize
+    ensures levels { result ≡ min (value_levels style.now (object (members_view N.bytes members.now.entries))) (2 ^ 64 - 1) }
+    ensures lawful { IsLawful (object (members_view N.bytes members.now.entries)) }
+{
+    let mut most = 0;
+    'members: for (_name, member) in members.iter() {
+        most = levels_in_value(member, style).max(most);
+    }
+    levels_around(style, most)
+}
+
+/// How many levels arguments open at once, saturating at `usize::MAX`.
+pub fn levels_in_arguments<N: Names>(arguments: &Vec<(N::Value, Value<N>)>, style: &Style) -> usize
+    ensures levels { result ≡ min (arguments_levels style.now (arguments_view N.bytes arguments.now.items)) (2 ^ 64 - 1) }
+    ensures lawful { AreLawfulArguments (arguments_view N.bytes arguments.now.items) }
+{
+    if arguments.is_empty() {
+        return 0;
+    }
+    let mut most = 0;
+    'arguments: for argument in arguments {
+        most = levels_in_value(&argument.1, style).max(most);
+    }
+    levels_around(style, most)
+}
+
+/// How many levels directives open at once, saturating at `usize::MAX`.
+pub fn levels_in_directives<N: Names>(directives: &Vec<Directive<N>>, style: &Style) -> usize
+    ensures levels { result ≡ min (directives_levels style.now (directives_view N.bytes directives.now.items)) (2 ^ 64 - 1) }
+    ensures lawful { AreLawfulDirectives (directives_view N.bytes directives.now.items) }
+{
+    let mut most = 0;
+    'directives: for directive in directives {
+        most = levels_in_arguments(&directive.arguments, style).max(most);
+    }
+    most
+}
+
+/// Whether so many levels, open at once, take more than `u32::MAX` spaces.
+pub fn is_too_wide(levels: usize, style: &Style) -> bool
+    ensures { (n : ℕ) → levels ≡ min n (2 ^ 64 - 1) → IsTrue result ↔ IsTooWide style.now n }
+{
+    levels.saturating_mul(style.indentation() as usize) > u32::MAX as usize
+}
+
+/// The fault of a formatter where so many levels are too wide, and only there.
+pub fn check_width(levels: usize, style: &Style) -> fmt::Result
+    ensures { (n : ℕ) → levels ≡ min n (2 ^ 64 - 1) → IsErr result ↔ IsTooWide style.now n }
+{
+    if is_too_wide(levels, style) {
+        return Err(fmt::Error);
+    }
+    Ok(())
+}

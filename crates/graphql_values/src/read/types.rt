@@ -1,0 +1,49 @@
+//! Types.
+ghost use Rattle.std.specs.Prelude.{◌≡◌, ◌≤◌, OnOk, length, codes};
+ghost use Rattle.graphql_grammar.specs.Trees.{Sym, optional};
+ghost use Rattle.graphql_values.specs.Grammar.{shared, type_symbol, punctuator};
+ghost use Rattle.graphql_values.specs.Meanings.{type_of, marked};
+ghost use Rattle.graphql_values.specs.ValueViews.{type_view};
+ghost use Rattle.graphql_core.specs.Source.{kept};
+ghost use Rattle.graphql_values.specs.steps.Answers.{Gives, Shortens};
+
+use crate::tree::Type;
+use graphql_core::helpers::{Mark, Stop, TokenSource, name, take_mark};
+use std::alloc::Global;
+
+/// `"!"?`: the type before it, without `null` or as it is.
+#[tactic(auto, using(crate::proofs::Reading::reading))]
+fn marked<S: TokenSource>(
+    alloc: Global,
+    source: &mut S,
+    inner: Type<S::Names>,
+) -> Result<Type<S::Names>, Stop>
+    ensures reads { Gives shared (optional (punctuator (codes "!"))) (S.items source.old) (S.items source.new)
+        (λ v x. type_view S.Names.bytes v ≡ marked x (type_view S.Names.bytes inner)) result }
+    ensures kept { kept (S.items source.new) ≡ kept (S.items source.old) }
+    ensures within { OnOk result (length (S.items source.new).tokens ≤ length (S.items source.old).tokens) }
+{
+    if source.sees_mark(Mark::Bang) {
+        take_mark(source, Mark::Bang)?;
+        return Ok(Type::NonNullType(Box::new(alloc, inner)?));
+    }
+    Ok(inner)
+}
+
+/// `Type = Name "!"? | "[" Type "]" "!"?`
+#[tactic(auto, using(crate::proofs::Reading::reading))]
+pub fn parse_type<S: TokenSource>(alloc: Global, source: &mut S) -> Result<Type<S::Names>, Stop>
+    ensures reads { Gives shared (Sym type_symbol) (S.items source.old) (S.items source.new)
+        (λ v x. type_view S.Names.bytes v ≡ type_of x) result }
+    ensures kept { kept (S.items source.new) ≡ kept (S.items source.old) }
+    ensures shorter { Shortens (S.items source.old) (S.items source.new) result }
+{
+    if source.sees_mark(Mark::OpenBracket) {
+        take_mark(source, Mark::OpenBracket)?;
+        let items = parse_type(alloc, source)?;
+        take_mark(source, Mark::CloseBracket)?;
+        return marked(alloc, source, Type::ListType(Box::new(alloc, items)?));
+    }
+    let name = name(alloc, source)?;
+    marked(alloc, source, Type::NamedType(name))
+}
