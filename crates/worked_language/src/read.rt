@@ -1,5 +1,6 @@
 //! Readers, one for each symbol of the grammar.
-ghost use Rattle.graphql_values.specs.Dialect.{◌≡◌, map, same_spelling, Many, Sym, kept, Shortens, Reads};
+ghost use Rattle.std.specs.Prelude.{◌≡◌};
+ghost use Rattle.graphql_values.specs.Dialect.{map, same_spelling, Many, Sym, kept, Shortens, Reads};
 ghost use Rattle.worked_language.specs.Meanings.{extension_view, extension_of, extensions_of};
 ghost use Rattle.worked_language.specs.Language.{extension_symbol, worked, refusals};
 
