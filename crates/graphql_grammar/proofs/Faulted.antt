@@ -12,7 +12,7 @@ use Rattle.graphql_grammar.specs.Theorems.{IsFirstFault}
 use Rattle.graphql_grammar.specs.Leads.{Leads, leads_here, leads_before, leads_after, leads_first, leads_second, leads_turn, leads_later, leads_node}
 use Rattle.graphql_grammar.specs.Texts.{Text, Ending, End, Bad, Answer, Tree, Wrong, answer_of}
 use Rattle.graphql_grammar.specs.Faults.{StopsBefore, IsFault, bad_place, unexpected, leaf_refused, node_refused, IsLeast, index_of, AnswersLeast}
-use Rattle.graphql_grammar.specs.Faults.{RefusesTokens}
+use Rattle.graphql_grammar.specs.Faults.{IsRefused, RefusesTokens}
 use Rattle.graphql_grammar.proofs.OneClass.{Fronts, fronts, cancel}
 use Rattle.graphql_grammar.proofs.Sound.{takes-fits, takes-leaves}
 use Rattle.graphql_grammar.proofs.Complete.{IsRow-each, fits-first}
@@ -87,6 +87,28 @@ lax-begins g e ts b = (b.0, b.1, (fits-lax (unchecked g) b.2.0, b.2.1))
 begins-past : (g : Grammar) (e : Expr) (front us more : List Token) (u : Token) → Ends g e front (peek us) → us ≡ u ∷ more → (l : List Token)
     → Begins g e (front ++ u ∷ l) → ⊥
 begins-past g e front us more u n h l b = n b.0 ((u ∷ l) ++ b.1) (b.2.0, sym (append_assoc front (u ∷ l) b.1) ∙ b.2.1) (sym (ap peek h))
+
+-- no longer list of its symbol goes on after a node that is taken
+module _ (g : Grammar) (ok : is_ll1 g.rows ≡ true) where
+  in_node : (k : ℕ) (ts : List Token) (y : Shape) → Fits (lax g) (Sym k) y → ts ≡ leaves y → (z : Shape) × Fits (lax g) (row g k).rule z × (ts ≡ leaves z)
+  in_node k ts _ (fits_node {x = z} w c) i = (z, w, i)
+
+  pub stopped : (k : ℕ) (x : Shape) (ts us : List Token) → Takes g (row g k).rule ts x us → StopsBefore (lax g) (Sym k) (leaves x) us
+  stopped k x ts us w u rest i b =
+      let z = in_node k ((leaves x ++ u ∷ []) ++ b.1) b.0 b.2.0 b.2.1 in
+      let r = taken-ends (lax g) ok (row g k).rule (IsRow-each g.rows ok k).decides ts us x (takes-lax g w) z.0 (u ∷ b.1)
+      (z.1, sym (append_assoc (leaves x) (u ∷ []) b.1) ∙ z.2) (sym (ap peek i)) in
+      not_empty u b.1 r.1
+    where
+      not_empty : (v : Token) (vs : List Token) → v ∷ vs ≡ [] → ⊥
+      not_empty v vs j = cc
+
+  -- a node that is taken and does not pass is refused
+  pub node_here : RefusesTokens g → (k : ℕ) (x : Shape) (ts us : List Token) → Takes g (row g k).rule ts x us → g.check k x ≡ false
+      → IsRefused g (Sym k) ts k x [] us
+  node_here tokens k x ts us w bad =
+      let fits = takes-fits g w in
+      (takes-leaves g w, (λ i. tokens k x fits bad i), leads_here, fits, bad, stopped k x ts us w)
 
 module _ (g : Grammar) (ok : is_ll1 g.rows ≡ true) (full : is_productive g ≡ true) (tight : is_tight g.rows ≡ true) (e : Expr) (d : decides g.rows e ≡ true)
     (f : has_samples g e ≡ true) where
@@ -297,20 +319,7 @@ module _ (g : Grammar) (ok : is_ll1 g.rows ≡ true) (full : is_productive g ≡
       at-index t (Refused k) (length (s.front ++ leaves x)) (index_of (Refused k) (length t.tokens - length us))
       (omega (arith, index_is (Refused k) t.tokens us (s.front ++ leaves x) (p ∙ sym (append_assoc s.front (leaves x) us))))
       (node_refused s.front us k x
-      (p, (λ i. tokens k x fits v.3 i), subst (λ (a : Expr). Leads (lax g) e s.front a) v.1 s.leads, fits, v.3, stopped k x s.rest us v.2))
-    where
-      in_node : (k : ℕ) (ts : List Token) (y : Shape) → Fits (lax g) (Sym k) y → ts ≡ leaves y → (z : Shape) × Fits (lax g) (row g k).rule z × (ts ≡ leaves z)
-      in_node k ts _ (fits_node {x = z} w c) i = (z, w, i)
-
-      stopped : (k : ℕ) (x : Shape) (ts us : List Token) → Takes g (row g k).rule ts x us → StopsBefore (lax g) (Sym k) (leaves x) us
-      stopped k x ts us w u rest i b =
-          let z = in_node k ((leaves x ++ u ∷ []) ++ b.1) b.0 b.2.0 b.2.1 in
-          let r = taken-ends (lax g) ok (row g k).rule (IsRow-each g.rows ok k).decides ts us x (takes-lax g w) z.0 (u ∷ b.1)
-          (z.1, sym (append_assoc (leaves x) (u ∷ []) b.1) ∙ z.2) (sym (ap peek i)) in
-          not_empty u b.1 r.1
-        where
-          not_empty : (v : Token) (vs : List Token) → v ∷ vs ≡ [] → ⊥
-          not_empty v vs j = cc
+      (p, (λ i. tokens k x fits v.3 i), subst (λ (a : Expr). Leads (lax g) e s.front a) v.1 s.leads, fits, v.3, stopped g ok k x s.rest us v.2))
 
   wrong_is : (a b : Reason) (m n : ℕ) → Wrong a m ≡ Wrong b n → (a ≡ b) × (m ≡ n)
   wrong_is a b m n h = (cc, cc)

@@ -133,11 +133,13 @@ module _ (g : Grammar) (rs : List Row) (cs : List Change) (each : EachIsSecond g
       at-leaves (with_rows g rs cs) e t k before (leaves (from-rule k x)) (leaves x) (from-leaves k x r.3)
       (node_refused before us k (from-rule k x) (node-second e t.tokens k x before us r))
 
+  pub refuses_tokens_for : RefusesTokens g → RefusesTokens (with_rows g rs cs)
+  refuses_tokens_for tokens k x w c i = tokens k (to-rule k x) (rule-fits k x w) (sym (rule-check k x) ∙ c) (rule-leaves k x w ∙ i)
+
   pub least_for : is_ll1 rs ≡ true → is_tight rs ≡ true → is_productive (with_rows g rs cs) ≡ true → RefusesTokens g
       → (e : Expr) → decides rs e ≡ true → has_samples (with_rows g rs cs) e ≡ true → AnswersLeast g (with_rows g rs cs) e
   least_for ok tight full tokens e d f =
-      let a = least (with_rows g rs cs) ok full tight e d f
-      (λ k x w c i. tokens k (to-rule k x) (rule-fits k x w) (sym (rule-check k x) ∙ c) (rule-leaves k x w ∙ i)) in
+      let a = least (with_rows g rs cs) ok full tight e d f (refuses_tokens_for tokens) in
       record {
         one_index = λ t why other n x y. a.one_index t why other n (fault-second e t why n x) (fault-second e t other n y);
         tree = λ t x b why n y. a.tree t x b why n (fault-second e t why n y);
@@ -145,6 +147,14 @@ module _ (g : Grammar) (rs : List Row) (cs : List Change) (each : EachIsSecond g
         one = λ t why other m n x y. a.one t why other m n
             (fault-second e t why m x.0, λ w i z. x.1 w i (fault-written e t w i z)) (fault-second e t other n y.0, λ w i z. y.1 w i (fault-written e t w i z));
       }
+
+  -- A node that is refused where the second rule of a symbol is read is, as it is written, refused in the symbol.
+  pub node_refused_for : (j : ℕ) (ts : List Token) (k : ℕ) (x : Shape) (before us : List Token)
+      → IsRefused (with_rows g rs cs) (row_at rs j).rule ts k x before us
+      → (y : Shape) × (written cs (Node k x) ≡ Node k y) × IsRefused g (Sym j) ts k y before us
+  unfolding to-rule
+  node_refused_for j ts k x before us (p, ne, l, f, c, n) =
+      (to-rule k x, refl, node-written (Sym j) ts k x before us (p, ne, leads_node l, f, c, n))
 
   -- of one symbol one node at most is refused that ends there
   pub one_node_for : is_ll1 rs ≡ true → is_tight rs ≡ true → is_productive (with_rows g rs cs) ≡ true

@@ -10,7 +10,7 @@ use Rattle.graphql_grammar.specs.ReaderWords.{values}
 use Rattle.graphql_grammar.specs.Factored.{written}
 use Rattle.graphql_grammar.proofs.Items.{sees-within}
 use Rattle.graphql_core.specs.declared.helpers.stop.Stop.{Stop}
-use Rattle.graphql_core.specs.declared.helpers.stop.Stop.TheVariants.{Memory, Item, Integer, Float, Escape}
+use Rattle.graphql_core.specs.declared.helpers.stop.Stop.TheVariants.{Memory, Item, Integer, Float, Escape, Location}
 use Rattle.graphql_lexer.specs.declared.tokenizer.token.Kind.TheVariants.{Name}
 use Rattle.graphql_core.specs.Source.{Items}
 use Rattle.graphql_core.specs.steps.Matching.{TakesOne, TakesToken, sees_class}
@@ -61,6 +61,7 @@ narrowed old new P (Err Item) seen (same, unseen) = (same, sees-within (spread_c
 narrowed old new P (Err Integer) seen h = h
 narrowed old new P (Err Float) seen h = h
 narrowed old new P (Err Escape) seen h = h
+narrowed old new P (Err Location) seen h = h
 
 -- ---- what may be missing
 

@@ -6,21 +6,12 @@ use Rattle.graphql_grammar.specs.Tables.{first}
 use Rattle.graphql_grammar.specs.Factored.{written}
 use Rattle.graphql_grammar.specs.Reading.{sees, Takes}
 use Rattle.graphql_grammar.specs.ReaderWords.{values}
-use Rattle.graphql_values.specs.Grammar.{mark, default_symbol, tables as shared_tables}
+use Rattle.graphql_values.specs.Grammar.{mark, tables as shared_tables}
 use Rattle.graphql_values.proofs.Reading.{takes_none, one_of, many_means}
 use Rattle.graphql_values.proofs.Alternatives.{IsSide, side_first}
 use Rattle.graphql_query_tree.specs.Tree.{VariableDefinitionTree}
 use Rattle.graphql_query_tree.specs.Grammar.{reading, changes, second_rows, tables, variable_definitions_symbol, variable_definition_symbol}
 use Rattle.graphql_query_tree.specs.Meanings.{variable_definition_of, each_variable_definition_of}
-
-pub some_default : (ts : List Token) → sees (mark (codes "=") ∷ []) (peek ts) ≡ true
-    → IsSide reading (optional (Sym default_symbol)) (Sym default_symbol) First ts
-unfolding tables shared_tables
-some_default ts seen = side_first reading (Sym default_symbol) Empty (mark (codes "=")) ts refl seen
-
-pub no_default : (ts : List Token) → sees (mark (codes "=") ∷ []) (peek ts) ≡ false → Takes reading (optional (Sym default_symbol)) ts (Second Nothing) ts
-unfolding tables shared_tables
-no_default ts unseen = takes_none reading (Sym default_symbol) ts refl unseen
 
 pub some_variable_definitions : (ts : List Token) → sees (mark (codes "(") ∷ []) (peek ts) ≡ true
     → IsSide reading (optional (Sym variable_definitions_symbol)) (Sym variable_definitions_symbol) First ts

@@ -6,13 +6,12 @@ ghost use Rattle.graphql_core.specs.Refusal.{too_long, refusal_of};
 
 use graphql_core::common::{Cause, Fault, Refused};
 use graphql_core::position::Pos;
-use std::fmt;
 use std::marker::Model;
 use thiserror::Error;
 
 /// Why a text is no query document: a cause, and the position at which it stands.
 #[derive(Debug, Drop, Error)]
-#[error("query parse error: {}", Located {cause: &.refused.cause, position: .refused.position})]
+#[error("query parse error: {}", .refused)]
 pub struct ParseError {
     refused: Refused,
 }
@@ -56,23 +55,6 @@ impl From<Fault> for ParseError {
     fn from(fault: Fault) -> ParseError {
         ParseError {
             refused: Refused::from(fault),
-        }
-    }
-}
-
-/// A cause as a message tells it, with its position where it has one.
-#[derive(Clone, Copy)]
-struct Located<'a> {
-    cause: &'a Cause,
-    position: Option<Pos>,
-}
-
-impl fmt::Display for Located<'_> {
-    fn fmt<W: fmt::Write>(&self, f: &mut fmt::Formatter<W>) -> fmt::Result {
-        let Located { cause, position } = *self;
-        match position {
-            Some(position) => write!(f, "Parse error at {position}\n{cause}\n"),
-            None => write!(f, "{cause}"),
         }
     }
 }

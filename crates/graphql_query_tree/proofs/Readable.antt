@@ -91,8 +91,9 @@ readable = record {
   alone = alone_before shared _ refl;
   good = λ k t. refl;
   lacks = λ k t c h. h;
+  location = λ t h. absurd cc;
   one_cause = λ leaf t c d h w. one_cause t c d h w;
   refuses_tokens = none_refused;
   passes = λ x. refl;
-  one_said = λ i k n f g x h w. absurd h;
+  one_said = λ node f g h w. absurd h;
 }

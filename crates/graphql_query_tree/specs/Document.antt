@@ -18,7 +18,7 @@ queries = record {
   means = document_of;
   erase = erase;
   lacks = λ c. fault.HasNoValue;
-  refuses = λ k i n f. ⊥;
+  refuses = λ node f. ⊥;
   second_rows = second_rows;
   changes = changes;
 }

@@ -14,18 +14,19 @@ use Rattle.graphql_grammar.specs.Faults.{RefusesTokens}
 use Rattle.graphql_grammar.specs.Extended.{Extends, TestsAlike}
 use Rattle.graphql_grammar.proofs.SecondRules.{each_is_second, IsSecond-head}
 use Rattle.graphql_grammar.proofs.Unchanged.{unchanged_then}
-use Rattle.graphql_grammar.proofs.FaultedFor.{one_node_for}
 use Rattle.graphql_grammar.proofs.Extending.{with_more, alone_before}
 use Rattle.graphql_core.specs.Causes.{CauseText}
-use Rattle.graphql_core.specs.Source.{Items, FaultText}
+use Rattle.graphql_core.specs.Source.{FaultText}
 use Rattle.graphql_values.specs.Grammar.{shared, tables as core_tables, shared_symbols}
 use Rattle.graphql_values.specs.Leaves.{unquoted, is_good as leaves_good}
 use Rattle.graphql_values.specs.Language.{reading}
+use Rattle.graphql_values.proofs.Faults.{none_there}
 use Rattle.graphql_values.proofs.Readable.{IsReadable, shared_rows, one_cause}
+use Rattle.graphql_schema_tree.specs.Locations.{location_of}
 use Rattle.graphql_schema_tree.specs.Grammar.{schema, is_good, rules, second_rules, second_rows, tables, changes, passes}
 use Rattle.graphql_schema_tree.specs.Grammar.{document_symbol, schema_symbol, extension_symbol, description_symbol, type_body_symbol}
 use Rattle.graphql_schema_tree.specs.Grammar.{directive_definition_symbol}
-use Rattle.graphql_schema_tree.specs.Language.{schemas, Lacks, said_of, Says}
+use Rattle.graphql_schema_tree.specs.Language.{schemas, Lacks, said_of}
 
 ll1 : is_ll1 second_rows ≡ true
 unfolding tables core_tables
@@ -60,7 +61,7 @@ each good check =
 -- ---- it goes on from the grammar of values, types and directives
 
 -- an expression names no location
-abbrev shares : Expr → Bool
+abbrev pub shares : Expr → Bool
 shares Empty = true
 shares (One (Except k [])) = false
 shares (One c) = true
@@ -134,14 +135,6 @@ one_lack (Except k []) t c d h w = h.1 ∙ sym w.1
 same_fault : (o : Option FaultText) (f g : FaultText) → o ≡ Some f → o ≡ Some g → f ≡ g
 same_fault o f g p q = cc
 
--- one thing is said of a node that is refused, for one node at most is refused that ends there
-one_said : (i : Items) (k n : ℕ) (f g : FaultText) → Says k i n f → Says k i n g → f ≡ g
-unfolding tables
-one_said i k n f g (before, us, x, refused, at, said) (before', us', y, refused', at', said') =
-    let same = one_node_for schema second_rows changes (each _ _) (each _ _) ll1 tight productive (Sym document_symbol) refl refl
-    i.tokens before us before' us' k x y refused refused' (sym at ∙ at') in
-    same_fault (said_of k x) f g said (ap (said_of k) same ∙ said')
-
 pub readable : IsReadable schemas
 unfolding tables
 readable = record {
@@ -159,8 +152,9 @@ readable = record {
   alone = alone_before shared _ refl;
   good = λ k t. refl;
   lacks = λ k t c h. h;
+  location = λ t h. (none_there (location_of t.spelling) h, refl);
   one_cause = one_lack;
   refuses_tokens = refuses_tokens;
   passes = λ x. refl;
-  one_said = λ i k n f g x h w. one_said i k n f g h w;
+  one_said = λ node f g h w. same_fault (said_of node) f g h w;
 }

@@ -10,7 +10,8 @@ use Rattle.graphql_core.specs.Source.{split}
 use Rattle.graphql_values.specs.Faults.{text_of}
 use Rattle.graphql_values.specs.Values.{variable, named}
 use Rattle.graphql_schema_tree.specs.Tree.{EnumValueTree, PartsTree, object, union, enum, schema, empty_schema, type_definition, extension, DocumentTree}
-use Rattle.graphql_schema_tree.specs.Grammar.{schema as schemas, document_symbol, schema_symbol, extension_symbol, location_class}
+use Rattle.graphql_values.specs.Grammar.{location_class}
+use Rattle.graphql_schema_tree.specs.Grammar.{schema as schemas, document_symbol, schema_symbol, extension_symbol}
 use Rattle.graphql_schema_tree.specs.Language.{IsDocumentOf}
 use Rattle.graphql_schema_tree.specs.Layout.{layout, IsTooWide}
 

@@ -7,12 +7,11 @@ use Rattle.graphql_grammar.specs.Trees.{Row, Grammar, optional, some_of}
 use Rattle.graphql_grammar.specs.Tables.{is_row}
 use Rattle.graphql_grammar.specs.Solve.{solve, with_tables}
 use Rattle.graphql_grammar.specs.Factored.{Change, unchanged, out_of_head}
-use Rattle.graphql_core.specs.Causes.{kind_number}
 use Rattle.graphql_lexer.specs.declared.tokenizer.token.Kind.TheVariants.{Punctuator, Name, StringValue, BlockString}
 use Rattle.graphql_values.specs.Leaves as leaves
 use Rattle.graphql_values.specs.Grammar as shared
 use Rattle.graphql_values.specs.Grammar.{type_symbol, directives_symbol, directive_symbol, default_symbol, shared_symbols}
-use Rattle.graphql_values.specs.Grammar.{punctuator, word, name, any, sample}
+use Rattle.graphql_values.specs.Grammar.{punctuator, word, name, any, location_class, sample}
 use Rattle.graphql_schema_tree.specs.Locations.{is_location}
 use Rattle.graphql_schema_tree.specs.Tree.{adds}
 use Rattle.graphql_schema_tree.specs.Meanings.{extension_of}
@@ -100,11 +99,7 @@ location_symbol = 36
 
 -- ---- single tokens
 
--- a name in the place of a location: any name is of the class, and its value is good where it names one
-abbrev pub location_class : Class
-location_class = Except (kind_number Name) []
-
--- a token has a value as the leaf of this class
+-- a token has a value as the leaf of this class: a name in the place of a location, where it names one
 abbrev pub is_good : Class → Token → Bool
 is_good (Except k []) t = is_location t.spelling
 is_good c t = leaves.is_good c t

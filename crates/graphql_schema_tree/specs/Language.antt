@@ -1,11 +1,10 @@
 -- The language of schemas: what a text's document is, and what is said of a text that has none.
-use Rattle.std.specs.Prelude.{◌≡◌, ℕ, ◌==◌, if◌then◌else◌, List, [], ◌++◌, length, Option, Some, None, option_map, Result}
+use Rattle.std.specs.Prelude.{◌≡◌, ℕ, ◌==◌, if◌then◌else◌, List, [], Option, Some, None, option_map, Result}
 use Rattle.graphql_grammar.specs.Tokens.{Token, Class, Except}
-use Rattle.graphql_grammar.specs.Trees.{Shape, Node, Sym, leaves}
-use Rattle.graphql_grammar.specs.Faults.{IsRefused}
+use Rattle.graphql_grammar.specs.Trees.{Shape, Node}
 use Rattle.graphql_core.specs.Causes.{CauseText, unknown_location, empty_extension}
 use Rattle.graphql_core.specs.Refusal.{Refusal}
-use Rattle.graphql_core.specs.Source.{Items, FaultText}
+use Rattle.graphql_core.specs.Source.{FaultText}
 use Rattle.graphql_values.specs.Language.{Language}
 use Rattle.graphql_values.specs.Document as document
 use Rattle.graphql_values.specs.Faults as fault
@@ -23,19 +22,14 @@ Lacks leaf t c = HasNoValue t c
 
 -- What is said of a node that is refused: of a schema the first bad name, at its keyword; and of an extension that it adds
 -- nothing, at the keyword of its type.
-abbrev pub said_of : ℕ → Shape → Option FaultText
-said_of k x =
+abbrev pub said_of : Shape → Option FaultText
+said_of (Node k x) =
     if k == schema_symbol then option_map at_keyword (root_fault_of x)
     else Some (record { cause = empty_extension; place = (extension_of (Node k x)).position })
   where
     at_keyword : RootFault → FaultText
     at_keyword f = record { cause = root_cause f; place = (schema_of (Node k x)).position }
-
--- of the node of this symbol whose last token is the item with this index
-abbrev pub Says : ℕ → Items → ℕ → FaultText → Type 0
-Says k i n f =
-    (before us : List Token) × (x : Shape) × IsRefused schema (Sym document_symbol) i.tokens k x before us
-    × (n ≡ length (before ++ leaves x)) × (said_of k x ≡ Some f)
+said_of _ = None
 
 abbrev pub schemas : Language DocumentTree
 schemas = record {
@@ -44,7 +38,7 @@ schemas = record {
   means = document_of;
   erase = erase;
   lacks = Lacks;
-  refuses = Says;
+  refuses = λ node f. said_of node ≡ Some f;
   second_rows = second_rows;
   changes = changes;
 }

@@ -3,7 +3,7 @@
 
 mod laws;
 mod location;
-mod tree;
+pub mod tree;
 
 pub use graphql_core::common::{Names, Text};
 pub use laws::{

@@ -4,7 +4,8 @@ use Rattle.graphql_grammar.specs.Tokens.{Token, Class, all_within, matches}
 use Rattle.graphql_grammar.specs.Trees.{Expr, Either, Sym, Shape, First, Second, Node, Grammar, row}
 use Rattle.graphql_grammar.specs.Trees as trees
 use Rattle.graphql_grammar.specs.Tables.{nullable, first, decides}
-use Rattle.graphql_grammar.specs.Reading.{sees, choose, Left, Right, Takes, takes_node, takes_first, takes_second, Reason, fails_node}
+use Rattle.graphql_grammar.specs.Reading.{sees, choose, Left, Right, Takes, takes_node, takes_first, takes_second, Reason, fails_node, lax}
+use Rattle.graphql_grammar.specs.Leads.{Leads, leads_first, leads_second, leads_node}
 use Rattle.graphql_grammar.specs.ReaderWords.{Stops}
 use Rattle.graphql_grammar.proofs.Classes.{all_within-sound}
 use Rattle.graphql_grammar.proofs.Items.{sees-within}
@@ -18,6 +19,8 @@ use Rattle.graphql_values.proofs.Reading.{FailsUnseen, takes_left, stops_left, t
 pub record IsSide (g : Grammar) (e f : Expr) (inside : Shape → Shape) (ts : List Token) : Type 0 where
   pub takes : (us : List Token) (x : Shape) → Takes g f ts x us → Takes g e ts (inside x) us
   pub stops : (us : List Token) (o : Option Reason) → Stops g f ts us o → Stops g e ts us o
+  -- what f comes to, e comes to
+  pub leads : (us : List Token) (d : Expr) → Leads (lax g) f us d → Leads (lax g) e us d
 
 pub gives_side : {A : Type 0} (g : Grammar) (e f : Expr) (inside : Shape → Shape) (old new : Items) (P Q : A → Shape → Type 0) (r : Result A Stop)
     → IsSide g e f inside old.tokens
@@ -29,16 +32,20 @@ pub through : (g : Grammar) (e f h : Expr) (i j : Shape → Shape) (ts : List To
 through g e f h i j ts outer inner = record {
   takes = λ us x t. outer.takes us (j x) (inner.takes us x t);
   stops = λ us o s. outer.stops us o (inner.stops us o s);
+  leads = λ us d l. outer.leads us d (inner.leads us d l);
 }
 
 pub side_node : (g : Grammar) (k : ℕ) (ts : List Token) → ((x : Shape) → g.check k x ≡ true) → IsSide g (Sym k) (row g k).rule (Node k) ts
-side_node g k ts passes = record { takes = λ us x t. takes_node t (passes x); stops = λ us o s. Stops-node g k ts us o s }
+side_node g k ts passes =
+    record { takes = λ us x t. takes_node t (passes x); stops = λ us o s. Stops-node g k ts us o s; leads = λ us d l. leads_node l }
 
 side_chosen_first : (g : Grammar) (a b : Expr) (ts : List Token) → choose g.rows a b (trees.peek ts) ≡ Left → IsSide g (Either a b) a First ts
-side_chosen_first g a b ts h = record { takes = λ us x t. takes_first h t; stops = λ us o s. Stops-first g a b ts us o h s }
+side_chosen_first g a b ts h =
+    record { takes = λ us x t. takes_first h t; stops = λ us o s. Stops-first g a b ts us o h s; leads = λ us d l. leads_first l }
 
 pub side_chosen_second : (g : Grammar) (a b : Expr) (ts : List Token) → choose g.rows a b (trees.peek ts) ≡ Right → IsSide g (Either a b) b Second ts
-side_chosen_second g a b ts h = record { takes = λ us x t. takes_second h t; stops = λ us o s. Stops-second g a b ts us o h s }
+side_chosen_second g a b ts h =
+    record { takes = λ us x t. takes_second h t; stops = λ us o s. Stops-second g a b ts us o h s; leads = λ us d l. leads_second l }
 
 -- ---- sides that begin with a token that is seen
 
@@ -58,13 +65,18 @@ side_second g a b c ts d w h = side_chosen_second g a b ts (picks-second g.rows 
 
 pub side_left : (g : Grammar) (a b : Expr) (ts : List Token) → nullable g.rows a ≡ false → nullable g.rows b ≡ false → FailsUnseen g a ts
     → sees (first g.rows b) (trees.peek ts) ≡ false → IsSide g (Either a b) a First ts
-side_left g a b ts n m f h = record { takes = λ us x t. takes_first (takes_left g a b ts us x f t) t; stops = λ us o s. stops_left g a b ts us o n m f h s }
+side_left g a b ts n m f h = record {
+  takes = λ us x t. takes_first (takes_left g a b ts us x f t) t;
+  stops = λ us o s. stops_left g a b ts us o n m f h s;
+  leads = λ us d l. leads_first l;
+}
 
 pub side_right : (g : Grammar) (a b : Expr) (ts : List Token) → nullable g.rows a ≡ false → nullable g.rows b ≡ false → FailsUnseen g b ts
     → sees (first g.rows a) (trees.peek ts) ≡ false → IsSide g (Either a b) b Second ts
 side_right g a b ts n m f h = record {
   takes = λ us x t. takes_second (takes_right g a b ts us x f h t) t;
   stops = λ us o s. stops_right g a b ts us o n m f h s;
+  leads = λ us d l. leads_second l;
 }
 
 pub unseen_symbol : (g : Grammar) (k : ℕ) (ts : List Token) → all_within (first g.rows (row g k).rule) (row g k).first ≡ true

@@ -5,11 +5,12 @@ use Rattle.std.proofs.lemmas.List.{drop_at}
 use Rattle.std.proofs.lemmas.Bool.{and_parts, both_ways}
 use Rattle.std.proofs.lemmas.Bool.Decides.{nat_tests}
 use Rattle.graphql_grammar.specs.Tokens.{Token, Class, AnyOf, matches}
-use Rattle.graphql_grammar.specs.Trees.{Sym, Grammar, Begins}
+use Rattle.graphql_grammar.specs.Trees.{Sym, Shape, Node, Grammar, Begins}
 use Rattle.graphql_grammar.specs.Reading.{Reason, Unexpected, Improper, Refused, unchecked, lax}
 use Rattle.graphql_grammar.specs.Texts as texts
 use Rattle.graphql_grammar.specs.Texts.{Answers, Answer}
 use Rattle.graphql_grammar.specs.Faults.{IsFault, leaf_refused, node_refused, IsLeast, index_of}
+use Rattle.graphql_grammar.proofs.FaultedFor.{one_node_for}
 use Rattle.graphql_lexer.specs.declared.tokenizer.token.Kind.TheVariants.{IntValue, FloatValue, StringValue}
 use Rattle.graphql_core.specs.Source.{Items, Last, End, Wrong, IsEnd, FaultText, fault_by, fault_at, place_next, split}
 use Rattle.graphql_core.specs.Causes.{CauseText, int_out_of_range, malformed_float, bad_escape}
@@ -36,7 +37,7 @@ ends (Wrong p b) h = absurd h
 kind_is : (k : ℕ) (t : Token) → matches (AnyOf k) t ≡ true → t.kind ≡ k
 kind_is k t h = let s = (and_parts _ true h).0 in grind (arith, nat_tests)
 
-none_there : {A : Type 0} (o : Option A) → is_some o ≡ false → o ≡ None
+pub none_there : {A : Type 0} (o : Option A) → is_some o ≡ false → o ≡ None
 none_there None h = refl
 none_there (Some x) h = absurd cc
 
@@ -98,7 +99,10 @@ module _ {D : Type 0} (l : Language D) (r : IsReadable l) where
       let cause_is = r.one_cause c t f.cause g.cause lacks (subst (λ (v : Token). l.lacks c v g.cause) same lacks') in
       let place_is = at ∙ ap (λ (v : Token). v.place) (sym same) ∙ sym at' in
       λ k. record { cause = cause_is k; place = place_is k }
-  one_said (Refused k) i n f g x h w = r.one_said i k n f g x h w
+  one_said (Refused k) i n f g fault (before, us, x, refused, at, said) (before', us', y, refused', at', said') =
+      let same = one_node_for l.grammar l.second_rows l.changes r.each r.each_lax r.ll1 r.tight r.productive (Sym l.document) r.decides r.samples
+      i.tokens before us before' us' k x y refused refused' (sym at ∙ at') in
+      r.one_said (Node k x) f g said (subst (λ (z : Shape). l.refuses (Node k z) g) (sym same) said')
 
   pub one_each : (text : List ℕ) → HasOneFaultEach l text
   one_each text f g n (items, has, (why, x, said)) (others, has', (other, y, said')) =

@@ -18,6 +18,7 @@ use Rattle.graphql_values.specs.Language.{Language, document_rule}
 use Rattle.graphql_values.specs.Faults.{IsLeastFault, IsRefusalOf, past_bound}
 use Rattle.graphql_values.specs.Parsing.{ReadsDocument, ParsesDocument}
 use Rattle.graphql_values.specs.Refusing.{Refusals, Reads}
+use Rattle.graphql_values.proofs.Faults.{one_each, no_fault}
 use Rattle.graphql_values.proofs.Readable.{IsReadable}
 use Rattle.graphql_values.proofs.Whole.{AreItems, one_document, one_shape, text_document, items_document, refusal, answers_unless_memory, exit}
 use Rattle.graphql_values.proofs.Whole.{found, memory_only, least_stop, none_refused, least_refused, none_rest, least_left}
@@ -31,6 +32,8 @@ module _ {D V : Type 0} (l : Language D) (r : IsReadable l) (view : V → D) (te
     one_shape = one_shape l r text;
     refused = subst (λ (y : Refusal). IsRefusalOf l text y) (sym is) (past_bound long);
     too_long = λ h. ap Err is;
+    one_fault = one_each l r text;
+    no_fault = no_fault l r text;
   }
 
   module _ (i : Items) (are : AreItems text i) (bound : length text ≤ max_length) where
@@ -41,6 +44,8 @@ module _ {D V : Type 0} (l : Language D) (r : IsReadable l) (view : V → D) (te
       one_shape = one_shape l r text;
       refused = tt;
       too_long = λ long. absurd (omega (arith, long, bound));
+      one_fault = one_each l r text;
+      no_fault = no_fault l r text;
     }
 
     pub unparsed : (e : Fault) (x : Result V Refusal) → ReadsDocument l view i (Err e) → IsErrAnd x (λ y. y ≡ refusal_of e) → ParsesDocument l view text x
@@ -51,6 +56,8 @@ module _ {D V : Type 0} (l : Language D) (r : IsReadable l) (view : V → D) (te
       one_shape = one_shape l r text;
       refused = exit {D = V} (Err y) (refusal_of e) (IsRefusalOf l text) up (refusal l text i e bound are h.refused);
       too_long = λ long. absurd (omega (arith, long, bound));
+      one_fault = one_each l r text;
+      no_fault = no_fault l r text;
     }
 
 -- of a source that a reader left at j
@@ -75,7 +82,9 @@ module _ {D V A R : Type 0} (l : Language D) (r : IsReadable l) (w : Refusals R)
   read_refused n c p h is = record {
     derived = tt;
     complete = λ d k. absurd (none_refused l r i j (w.symbol n) d h.gives k);
-    refused = subst (IsLeastFault l i) (sym is) (least_refused l r i j (w.symbol n) (w.fault n) h.gives (λ later. h.says i [] refl));
+    refused =
+        let (before, x, refused, said) = h.says in
+        subst (IsLeastFault l i) (sym is) (least_refused l r i j (w.symbol n) (w.fault n) before x h.gives refused said);
   }
 
   pub read_left : (v : A) (e : Fault) (b : Bool) → Reads l w (document_rule l) i j P (Ok v) → kept j ≡ kept i → IsTrue b ↔ IsAtEnd j → b ≡ false

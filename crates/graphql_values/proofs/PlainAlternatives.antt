@@ -10,7 +10,7 @@ use Rattle.graphql_grammar.specs.Reading.{sees, Takes, Unexpected, Fails, fails_
 use Rattle.graphql_grammar.specs.ReaderWords.{TakesSome, Stops}
 use Rattle.graphql_grammar.proofs.Classes.{same_spelling-true}
 use Rattle.graphql_core.specs.declared.helpers.stop.Stop.{Stop}
-use Rattle.graphql_core.specs.declared.helpers.stop.Stop.TheVariants.{Memory, Item, Integer, Float, Escape}
+use Rattle.graphql_core.specs.declared.helpers.stop.Stop.TheVariants.{Memory, Item, Integer, Float, Escape, Location}
 use Rattle.graphql_core.specs.declared.helpers.source.Lexeme.{Lexeme}
 use Rattle.graphql_lexer.specs.declared.tokenizer.token.Kind.{Kind}
 use Rattle.graphql_lexer.specs.declared.tokenizer.token.Kind.TheVariants.{Punctuator, Name, IntValue, FloatValue, StringValue, BlockString}
@@ -161,6 +161,7 @@ no_enum_taken i Item (same, unseen) = (same, no_enum (peek i.tokens) unseen)
 no_enum_taken i Integer h = h
 no_enum_taken i Float h = h
 no_enum_taken i Escape h = h
+no_enum_taken i Location h = h
 
 pub enum_not_shown : {A T : Type 0} (bytes : T → List ℕ) (i : Items) (P : A → Shape → Type 0) (r : Result A Stop) (e : Stop)
     → Shows bytes Name i (Err e) → IsErrAnd r (λ d. d ≡ e) → Gives shared (Sym enum_name_symbol) i i P r

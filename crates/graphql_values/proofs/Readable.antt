@@ -1,22 +1,23 @@
 -- What a language has to show once, and what the theory of grammars then says of it.
-use Rattle.std.proofs.Common.{◌≡◌, ℕ, true, List, [], ◌∷◌, ◌++◌, length, replicate, refl, arith}
+use Rattle.std.proofs.Common.{◌≡◌, ℕ, true, false, List, [], ◌∷◌, ◌++◌, length, replicate, refl, arith}
 use Rattle.graphql_grammar.specs.Tokens.{Token, Class, AnyOf}
-use Rattle.graphql_grammar.specs.Trees.{Sym, Shape, Row, Grammar}
-use Rattle.graphql_grammar.specs.Tables.{is_ll1, is_tight, is_productive, decides, has_samples}
-use Rattle.graphql_grammar.specs.Reading.{Refused, unchecked, lax}
+use Rattle.graphql_grammar.specs.Trees.{Expr, Sym, Shape, Row, Grammar, peek}
+use Rattle.graphql_grammar.specs.Tables.{nullable, first, is_ll1, is_tight, is_productive, decides, has_samples}
+use Rattle.graphql_grammar.specs.Reading.{sees, Unexpected, Refused, Fails, unchecked, lax}
 use Rattle.graphql_grammar.specs.Theorems.{IsExact}
 use Rattle.graphql_grammar.specs.Factored.{Change, unchanged, AreSecond, EachIsSecond, with_rows, IsExactFor}
 use Rattle.graphql_grammar.specs.Texts.{IsWhole, IsWholeFor}
 use Rattle.graphql_grammar.specs.Faults.{IsFault, AnswersLeast, RefusesTokens}
 use Rattle.graphql_grammar.specs.Extended.{Extends, LeavesAlone}
 use Rattle.graphql_grammar.proofs.SecondRules.{IsSecond-unchanged, exact_for, whole_for}
-use Rattle.graphql_grammar.proofs.FaultedFor.{least_for}
+use Rattle.graphql_grammar.proofs.FaultedFor.{least_for, refuses_tokens_for}
 use Rattle.graphql_grammar.proofs.Exact as theory
 use Rattle.graphql_grammar.proofs.WholeTexts as whole_theory
-use Rattle.graphql_core.specs.Causes.{CauseText}
+use Rattle.graphql_grammar.proofs.Unseen as theory_of_unseen
+use Rattle.graphql_core.specs.Causes.{CauseText, unknown_location}
 use Rattle.graphql_core.specs.Source.{Items, FaultText}
 use Rattle.graphql_values.specs.Leaves.{is_good}
-use Rattle.graphql_values.specs.Grammar.{shared, shared_symbols}
+use Rattle.graphql_values.specs.Grammar.{shared, shared_symbols, location_class}
 use Rattle.graphql_values.specs.Language.{Language, reading}
 use Rattle.graphql_values.specs.Faults.{text_of, HasNoValue, out_of_range, malformed, escaped_badly}
 
@@ -55,12 +56,13 @@ pub record IsReadable {D : Type 0} (l : Language D) : Type 0 where
   -- such a token is refused for the cause for which it has no value, and each leaf for one cause
   pub lacks : (k : ℕ) (t : Token) (c : CauseText) → HasNoValue t c → l.lacks (AnyOf k) t c
   pub one_cause : (leaf : Class) (t : Token) (c d : CauseText) → l.lacks leaf t c → l.lacks leaf t d → c ≡ d
+  -- a name that may not stand in the place of a location names none
+  pub location : (t : Token) → l.grammar.good location_class t ≡ false → l.lacks location_class t unknown_location
   -- no node without tokens is refused, and none of a whole document
   pub refuses_tokens : RefusesTokens l.grammar
   pub passes : (x : Shape) → l.grammar.check l.document x ≡ true
   -- one thing is said of a node that is refused
-  pub one_said : (i : Items) (k n : ℕ) (f g : FaultText) → IsFault l.grammar (Sym l.document) (text_of i) (Refused k) n
-      → l.refuses k i n f → l.refuses k i n g → f ≡ g
+  pub one_said : (node : Shape) (f g : FaultText) → l.refuses node f → l.refuses node g → f ≡ g
 
 -- rows that both rules share: those of core stand first in each
 pub shared_rows : (g : Grammar) (rs : List Row) (cs : List Change) (shared ws qs : List Row) (others : List Change) → AreSecond g rs cs ws qs others
@@ -92,3 +94,12 @@ module _ {D : Type 0} (l : Language D) (r : IsReadable l) where
 
   pub whole_reading : IsWhole (reading l) (Sym l.document)
   whole_reading = whole_theory.whole (reading l) (Sym l.document) exact_reading
+
+  -- no node without tokens is refused where it is read
+  pub refuses_read : RefusesTokens (reading l)
+  refuses_read k x fits bad empty = refuses_tokens_for l.grammar l.second_rows l.changes r.each r.each_lax r.refuses_tokens k x fits bad empty
+
+  -- where the next item begins no list of an expression, the expression fails there
+  pub unseen : (e : Expr) → decides l.second_rows e ≡ true → has_samples (reading l) e ≡ true → nullable l.second_rows e ≡ false → (ts : List Token)
+      → sees (first l.second_rows e) (peek ts) ≡ false → Fails (reading l) e ts Unexpected ts
+  unseen = theory_of_unseen.unseen (reading l) r.ll1 r.productive refuses_read

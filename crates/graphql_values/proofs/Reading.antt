@@ -14,7 +14,7 @@ use Rattle.graphql_grammar.proofs.Items.{sees-parts}
 use Rattle.graphql_grammar.proofs.Deterministic.{take-or_fail, same-fail}
 use Rattle.graphql_grammar.proofs.ReaderSteps.{exits, Stops-first, Stops-after, Turns-stop, picks-first, picks-neither}
 use Rattle.graphql_core.specs.declared.helpers.stop.Stop.{Stop}
-use Rattle.graphql_core.specs.declared.helpers.stop.Stop.TheVariants.{Memory, Item, Integer, Float, Escape}
+use Rattle.graphql_core.specs.declared.helpers.stop.Stop.TheVariants.{Memory, Item, Integer, Float, Escape, Location}
 use Rattle.graphql_core.specs.Source.{Items, kept, fault_by, place_next}
 use Rattle.graphql_core.specs.steps.Matching.{TakesToken, TakesOne}
 use Rattle.graphql_values.specs.steps.Answers.{GivesBy, Gives, Adds, reason_of}
@@ -42,6 +42,7 @@ stops_one g c old new Item (same, unseen) = rw same (fails_one unseen)
 stops_one g c old new Integer h = absurd h
 stops_one g c old new Float h = absurd h
 stops_one g c old new Escape h = absurd h
+stops_one g c old new Location h = absurd h
 
 pub kept_one : (c : Class) (old new : Items) (s : Stop) → TakesNone c old new s → kept new ≡ kept old
 kept_one c old new Memory h = ap kept h
@@ -49,6 +50,7 @@ kept_one c old new Item h = ap kept h.0
 kept_one c old new Integer h = absurd h
 kept_one c old new Float h = absurd h
 kept_one c old new Escape h = absurd h
+kept_one c old new Location h = absurd h
 
 -- ---- choices where one side is left
 

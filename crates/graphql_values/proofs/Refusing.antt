@@ -1,44 +1,81 @@
 -- The steps of readers of a language that refuses nodes.
-use Rattle.std.proofs.Common.{◌≡◌, ◌-◌, ℕ, suc, drop, length, arith, length-append, true, false, List, [], ◌∷◌, ◌++◌, map}
-use Rattle.std.proofs.Common.{Result, Ok, Err, IsErrAnd, sym, ap, ◌∙◌, append_assoc}
+use Rattle.std.proofs.Common.{◌≡◌, ℕ, true, false, List, [], ◌∷◌, ◌++◌, map}
+use Rattle.std.proofs.Common.{Result, Ok, Err, IsErrAnd, refl, sym, ap, ◌∙◌, append_assoc}
 use Rattle.graphql_grammar.specs.Tokens.{Token, Class}
-use Rattle.graphql_grammar.specs.Trees.{Expr, One, Many, Sym, Shape, More, Node, row, peek}
+use Rattle.graphql_grammar.specs.Trees.{Expr, One, Then, Many, Sym, Shape, More, Node, row, leaves, peek, Fits}
 use Rattle.graphql_grammar.specs.Trees as trees
 use Rattle.graphql_grammar.specs.Tables.{first}
 use Rattle.graphql_grammar.specs.Factored.{written}
-use Rattle.graphql_grammar.specs.Reading.{sees, Takes, takes_node, fails_check}
+use Rattle.graphql_grammar.specs.Reading.{sees, Takes, takes_node, fails_check, lax}
+use Rattle.graphql_grammar.specs.Leads.{Leads, leads_before, leads_turn}
 use Rattle.graphql_grammar.specs.ReaderWords.{Stops}
-use Rattle.graphql_grammar.proofs.ReaderSteps.{Stops-node, Stops-turn}
+use Rattle.graphql_grammar.proofs.ReaderSteps.{Stops-node, Stops-before, Stops-turn}
 use Rattle.graphql_core.specs.declared.helpers.stop.Stop.{Stop}
-use Rattle.graphql_core.specs.Source.{Items, kept, fault_by, place_next}
-use Rattle.graphql_values.specs.Faults.{from_item}
-use Rattle.std.proofs.lemmas.List.{drop_at}
-use Rattle.graphql_core.specs.steps.Matching.{TakesToken}
+use Rattle.graphql_core.specs.Source.{Items, kept}
+use Rattle.graphql_grammar.proofs.Faulted.{node_here}
 use Rattle.graphql_values.specs.declared.read.halt.Halt.{Halt}
 use Rattle.graphql_values.specs.declared.read.halt.Halt.TheVariants.{Stopped, Refused}
 use Rattle.graphql_values.specs.steps.Answers.{reason_of}
 use Rattle.graphql_values.specs.Language.{Language, reading}
 use Rattle.graphql_values.specs.Refusing.{Refusals, halt_reason, Says, Reads}
-use Rattle.graphql_values.proofs.Reading.{TakesNone, stops_one, placed, gives_error_by, many_means}
+use Rattle.graphql_values.proofs.Readable.{IsReadable, refuses_read}
+use Rattle.graphql_values.proofs.Reading.{TakesNone, stops_one, gives_error_by, many_means}
+use Rattle.graphql_values.proofs.Steps as steps
 use Rattle.graphql_values.proofs.Steps.{StopsBy, Pushes, pushes_more, pushes_all}
 use Rattle.graphql_values.proofs.Whole.{exit}
 
--- where a source stood, told by the index of its next item, a token that was taken
-pub place_again : (start old mid : Items) (front : List Token) (c : Class) (t : Token) (k : ℕ) → start.tokens ≡ front ++ old.tokens → TakesToken c old mid t
-    → k ≡ length start.tokens - length mid.tokens → place_next (from_item k start) ≡ place_next old
-place_again start old mid front c t k parts h is =
-    let whole : start.tokens ≡ front ++ t ∷ mid.tokens = parts ∙ ap (λ (ts : List Token). front ++ ts) h.tokens in
-    let index : k ≡ suc (length front) = omega (arith, is, ap length whole, length-append front (t ∷ mid.tokens)) in
-    let left : drop (length front) start.tokens ≡ t ∷ mid.tokens =
-    ap (drop (length front)) whole ∙ drop_at front (t ∷ mid.tokens) (length front) (omega arith) in
-    ap (λ (n : ℕ). place_next (from_item n start)) index ∙ ap (λ (ts : List Token). (fault_by ts start.last).place) left ∙ sym (placed c old mid t h)
-
 module _ {D R : Type 0} (l : Language D) (w : Refusals R) where
-  -- what is said of a node is said after others too
-  says_after : (start mid new : Items) (h : Halt R) (front : List Token) → start.tokens ≡ front ++ mid.tokens → Says l w mid new h → Says l w start new h
-  says_after start mid new (Stopped s) front parts said = tt
-  says_after start mid new (Refused n) front parts said =
-      λ whole before is. said whole (before ++ front) (is ∙ ap (λ (ts : List Token). before ++ ts) parts ∙ sym (append_assoc before front mid.tokens))
+  -- what is said of a node stands in what that leads to
+  says_inside : (e f : Expr) (start mid new : Items) (h : Halt R) (front : List Token) → start.tokens ≡ front ++ mid.tokens
+      → ((ts : List Token) (d : Expr) → Leads (lax (reading l)) f ts d → Leads (lax (reading l)) e (front ++ ts) d)
+      → Says l w f mid new h → Says l w e start new h
+  says_inside e f start mid new (Stopped s) front parts leads said = tt
+  says_inside e f start mid new (Refused n) front parts leads (before, x, (p, ne, led, fits, bad, stops), said) = (
+    front ++ before,
+    x,
+    (parts ∙ ap (λ (ts : List Token). front ++ ts) p ∙ sym (append_assoc front before (leaves x ++ new.tokens)), ne, leads _ _ led, fits, bad, stops),
+    said,
+  )
+
+  -- ---- what a part gives, the whole gives, where it has come to the part
+
+  pub reads_led : {A : Type 0} {e f : Expr} {inside : Shape → Shape} (old mid new : Items) (P Q : A → Shape → Type 0) (r : Result A (Halt R))
+      → steps.Leads (reading l) e f inside old.tokens mid.tokens
+      → ((v : A) (x : Shape) → P v (written l.changes x) → Q v (written l.changes (inside x))) → Reads l w f mid new P r → Reads l w e old new Q r
+  reads_led {inside = inside} old mid new P Q (Ok v) led means h =
+      let (x, takes, is) = h.gives in
+      record { gives = (inside x, led.takes new.tokens x takes, means v x is); says = tt }
+  reads_led {e = e} {f = f} old mid new P Q (Err d) led means h = record {
+    gives = led.stops new.tokens (halt_reason w d) h.gives;
+    says = says_inside e f old mid new d led.front led.parts led.derives h.says;
+  }
+
+  -- an error of the part goes up
+  pub halts_led : {A B : Type 0} {e f : Expr} {inside : Shape → Shape} (old mid new : Items) (P : A → Shape → Type 0) (Q : B → Shape → Type 0)
+      (r : Result B (Halt R)) (d : Halt R) → steps.Leads (reading l) e f inside old.tokens mid.tokens → Reads l w f mid new P (Err d)
+      → IsErrAnd r (λ x. x ≡ d) → Reads l w e old new Q r
+  halts_led {e = e} {f = f} old mid new P Q r d led h up = record {
+    gives = gives_error_by (halt_reason w) (reading l) e old new _ r d (led.stops new.tokens (halt_reason w d) h.gives) up;
+    says = exit r d _ up (says_inside e f old mid new d led.front led.parts led.derives h.says);
+  }
+
+  -- and one of a first part, where there is a list of what comes after it
+  pub halts_before : {A B : Type 0} {a b : Expr} (y : Shape) (old new : Items) (P : A → Shape → Type 0) (Q : B → Shape → Type 0) (r : Result B (Halt R))
+      (d : Halt R) → Fits (lax (reading l)) b y → Reads l w a old new P (Err d) → IsErrAnd r (λ x. x ≡ d) → Reads l w (Then a b) old new Q r
+  halts_before {a = a} {b = b} y old new P Q r d fits h up = record {
+    gives = gives_error_by (halt_reason w) (reading l) (Then a b) old new _ r d
+        (Stops-before (reading l) a b old.tokens new.tokens (halt_reason w d) h.gives) up;
+    says = exit r d _ up (says_inside (Then a b) a old old new d [] refl (λ ts e led. leads_before led fits) h.says);
+  }
+
+  -- and so does one of a part that refuses no node
+  pub stops_led : {A : Type 0} {e f : Expr} {inside : Shape → Shape} (old mid new : Items) (P : A → Shape → Type 0) (r : Result A (Halt R)) (d : Stop)
+      → steps.Leads (reading l) e f inside old.tokens mid.tokens → Stops (reading l) f mid.tokens new.tokens (reason_of d)
+      → IsErrAnd r (λ x. x ≡ Stopped d) → Reads l w e old new P r
+  stops_led {e = e} old mid new P r d led stops up = record {
+    gives = gives_error_by (halt_reason w) (reading l) e old new _ r (Stopped d) (led.stops new.tokens (reason_of d) stops) up;
+    says = exit r (Stopped d) _ up tt;
+  }
 
   -- ---- a node
 
@@ -64,10 +101,12 @@ module _ {D R : Type 0} (l : Language D) (w : Refusals R) where
     node_passes P v x takes good means = record { gives = (Node k x, takes_node takes good, means); says = tt }
 
   -- or is refused
-  pub node_refused : {A : Type 0} (old new : Items) (P : A → Shape → Type 0) (n : R) (x : Shape)
+  pub node_refused : IsReadable l → {A : Type 0} (old new : Items) (P : A → Shape → Type 0) (n : R) (x : Shape)
       → Takes (reading l) (row (reading l) (w.symbol n)).rule old.tokens x new.tokens
-      → (reading l).check (w.symbol n) x ≡ false → Says l w old new (Refused n) → Reads l w (Sym (w.symbol n)) old new P (Err (Refused n))
-  node_refused old new P n x takes bad said = record { gives = fails_check takes bad; says = said }
+      → (reading l).check (w.symbol n) x ≡ false → l.refuses (written l.changes (Node (w.symbol n) x)) (w.fault n)
+      → Reads l w (Sym (w.symbol n)) old new P (Err (Refused n))
+  node_refused r old new P n x takes bad said =
+      record { gives = fails_check takes bad; says = ([], x, node_here (reading l) r.ll1 (refuses_read l r) (w.symbol n) x _ _ takes bad, said) }
 
   -- ---- one after the other, in a loop that pushes them: f is what a turn means, and view what an element is seen as
 
@@ -87,7 +126,7 @@ module _ {D R : Type 0} (l : Language D) (w : Refusals R) where
     turn_halts P r d p seen h up = record {
       gives = gives_error_by (halt_reason w) (reading l) (Many a) start next _ r d
           (Stops-turn (reading l) a _ start.tokens now.tokens next.tokens p.means (halt_reason w d) p.turns seen h.gives) up;
-      says = exit r d _ up (says_after start now next d p.front p.parts h.says);
+      says = exit r d _ up (says_inside (Many a) a start now next d p.front p.parts (λ ts e led. p.leads ts e (leads_turn led)) h.says);
     }
 
   -- until no turn begins, where m is what the whole means

@@ -1,11 +1,13 @@
 -- A rule that is read from left to right: after what is taken, the rest is read in its place.
-use Rattle.std.proofs.Common.{◌≡◌, ℕ, true, false, List, [], ◌∷◌, ◌++◌, map, Result, IsErrAnd, Option, refl, sym, ap, ◌∙◌, append_assoc}
+use Rattle.std.proofs.Common.{◌≡◌, ℕ, true, false, List, [], ◌∷◌, ◌++◌, map, Result, IsErrAnd, Option, refl, sym, ap, subst, ◌∙◌, append_assoc}
 use Rattle.graphql_grammar.specs.Tokens.{Token, Class}
 use Rattle.graphql_grammar.specs.Trees.{Expr, One, Then, Either, Many, Sym, Shape, Leaf, Both, First, Second, Node, Grammar, row, leaves, peek}
 use Rattle.graphql_grammar.specs.Tables.{nullable, first, decides}
-use Rattle.graphql_grammar.specs.Reading.{sees, Takes, takes_both, Reason}
+use Rattle.graphql_grammar.specs.Reading.{sees, Takes, takes_both, Reason, lax}
+use Rattle.graphql_grammar.specs.Leads as Derives
 use Rattle.graphql_grammar.specs.ReaderWords.{TakesSome, Stops, Turns, values}
-use Rattle.graphql_grammar.proofs.Sound.{takes-leaves}
+use Rattle.graphql_grammar.proofs.Sound.{takes-fits, takes-leaves}
+use Rattle.graphql_grammar.proofs.FirstFault.{fits-lax}
 use Rattle.graphql_grammar.proofs.ReaderSteps.{picks-second, Stops-before, Stops-after, Turns-start, Turns-more, Turns-stop}
 use Rattle.graphql_core.specs.declared.helpers.stop.Stop.{Stop}
 use Rattle.graphql_core.specs.Source.{Items, kept}
@@ -20,13 +22,17 @@ use Rattle.graphql_values.proofs.Alternatives.{IsSide, side_node, side_left, sid
 pub record Leads (g : Grammar) (e f : Expr) (inside : Shape → Shape) (ts us : List Token) : Type 0 where
   pub takes : (vs : List Token) (x : Shape) → Takes g f us x vs → Takes g e ts (inside x) vs
   pub stops : (vs : List Token) (o : Option Reason) → Stops g f us vs o → Stops g e ts vs o
+  -- what was read, and that what f comes to, e comes to after it
+  pub front : List Token
+  pub parts : ts ≡ front ++ us
+  pub derives : (vs : List Token) (d : Expr) → Derives.Leads (lax g) f vs d → Derives.Leads (lax g) e (front ++ vs) d
 
 -- how f stops at us, e stops that began at ts
 abbrev pub StopsBy : Grammar → Expr → Expr → List Token → List Token → Type 0
 StopsBy g e f ts us = (vs : List Token) (o : Option Reason) → Stops g f us vs o → Stops g e ts vs o
 
 pub leads_in : {g : Grammar} {e f : Expr} {inside : Shape → Shape} {ts : List Token} → IsSide g e f inside ts → Leads g e f inside ts ts
-leads_in s = record { takes = s.takes; stops = s.stops }
+leads_in s = record { takes = s.takes; stops = s.stops; front = []; parts = refl; derives = s.leads }
 
 -- the rule of a symbol whose nodes all pass
 pub starts : (g : Grammar) (k : ℕ) (ts : List Token) → ((x : Shape) → g.check k x ≡ true) → Leads g (Sym k) (row g k).rule (Node k) ts ts
@@ -34,11 +40,17 @@ starts g k ts passes = leads_in (side_node g k ts passes)
 
 -- the rule itself, and a side of what is read
 pub here : {g : Grammar} {e : Expr} {ts : List Token} → Leads g e e (λ x. x) ts ts
-here = record { takes = λ vs x h. h; stops = λ vs o h. h }
+here = record { takes = λ vs x h. h; stops = λ vs o h. h; front = []; parts = refl; derives = λ vs d h. h }
 
 pub into : {g : Grammar} {e f h : Expr} {inside j : Shape → Shape} {ts us : List Token} → Leads g e f inside ts us → IsSide g f h j us
     → Leads g e h (λ x. inside (j x)) ts us
-into {j = j} l s = record { takes = λ vs x k. l.takes vs (j x) (s.takes vs x k); stops = λ vs o k. l.stops vs o (s.stops vs o k) }
+into {j = j} l s = record {
+  takes = λ vs x k. l.takes vs (j x) (s.takes vs x k);
+  stops = λ vs o k. l.stops vs o (s.stops vs o k);
+  front = l.front;
+  parts = l.parts;
+  derives = λ vs d k. l.derives vs d (s.leads vs d k);
+}
 
 -- its first part is taken
 pub past : {g : Grammar} {e a b : Expr} {inside : Shape → Shape} {ts us vs : List Token} {x : Shape}
@@ -46,6 +58,10 @@ pub past : {g : Grammar} {e a b : Expr} {inside : Shape → Shape} {ts us vs : L
 past {g} {e} {a} {b} {inside} {ts} {us} {vs} {x} l h = record {
   takes = λ ws y k. l.takes ws (Both x y) (takes_both h k);
   stops = λ ws o k. l.stops ws o (Stops-after g a b us vs ws x o h k);
+  front = l.front ++ leaves x;
+  parts = l.parts ∙ ap (λ (ws : List Token). l.front ++ ws) (takes-leaves g h) ∙ sym (append_assoc l.front (leaves x) vs);
+  derives = λ ws d k. subst (λ (us : List Token). Derives.Leads (lax g) e us d) (sym (append_assoc l.front (leaves x) ws))
+      (l.derives (leaves x ++ ws) d (Derives.leads_after (fits-lax g (takes-fits g h)) k));
 }
 
 -- a token is taken, and then a side of the rest is read
@@ -113,12 +129,15 @@ pub record Pushes {V A : Type 0} (g : Grammar) (a : Expr) (f : Shape → A) (vie
   pub adds : Adds view old new means
   pub front : List Token
   pub parts : start.tokens ≡ front ++ now.tokens
+  -- what the next turn comes to, the repetition comes to
+  pub leads : (ts : List Token) (d : Expr) → Derives.Leads (lax g) (Many a) ts d → Derives.Leads (lax g) (Many a) (front ++ ts) d
   pub last : kept now ≡ kept start
 
 module _ {V A : Type 0} (g : Grammar) (a : Expr) (f : Shape → A) (view : V → A) where
   pub pushes_none : (start : Items) (old : List V) → Pushes g a f view start start old old
   pushes_none start old =
-      record { means = []; turns = Turns-start g a (one_of f) start.tokens; adds = adds_none view old; front = []; parts = refl; last = refl }
+      let turns = Turns-start g a (one_of f) start.tokens in
+      record { means = []; turns = turns; adds = adds_none view old; front = []; parts = refl; leads = λ ts d l. l; last = refl }
 
   pub pushes_more : (start now next : Items) (old found new : List V) (v : V) → Pushes g a f view start now old found
       → sees (first g.rows a) (peek now.tokens) ≡ true
@@ -129,6 +148,8 @@ module _ {V A : Type 0} (g : Grammar) (a : Expr) (f : Shape → A) (view : V →
     adds = adds_more view old found new p.means (f x ∷ []) p.adds (adds_one view found new v (f x) push is);
     front = p.front ++ leaves x;
     parts = p.parts ∙ ap (λ (ts : List Token). p.front ++ ts) (takes-leaves g takes) ∙ sym (append_assoc p.front (leaves x) next.tokens);
+    leads = λ ts d l. subst (λ (us : List Token). Derives.Leads (lax g) (Many a) us d) (sym (append_assoc p.front (leaves x) ts))
+        (p.leads _ d (Derives.leads_later (fits-lax g (takes-fits g takes)) l));
     last = same ∙ p.last;
   }
 

@@ -14,7 +14,7 @@ use Rattle.graphql_grammar.specs.Extended.{Extends, TestsAlike}
 use Rattle.graphql_grammar.proofs.Items.{append-empty}
 use Rattle.graphql_grammar.proofs.SecondRules.{each_is_second}
 use Rattle.graphql_grammar.proofs.Extending.{tests_alike, with_more, alone_before}
-use Rattle.graphql_core.specs.Source.{Items, FaultText}
+use Rattle.graphql_core.specs.Source.{FaultText}
 use Rattle.graphql_values.specs.Grammar.{shared, shared_symbols}
 use Rattle.graphql_values.specs.Language.{reading}
 use Rattle.graphql_values.specs.Told.{Told, grammar_told, language, is_among, has_token, lax_reading, may_be_refused, is_told}
@@ -42,7 +42,7 @@ pub record IsTold {D : Type 0} (t : Told D) : Type 0 where
       → AreSecond (with_tests (grammar_told t) good check) (language t).second_rows (language t).changes (with_tables t.rules [])
       (with_tables t.second_rules t.tables) t.changes
   -- one thing is said of a node that is refused
-  pub one_said : (i : Items) (k n : ℕ) (f g : FaultText) → t.refuses k i n f → t.refuses k i n g → f ≡ g
+  pub one_said : (node : Shape) (f g : FaultText) → t.refuses node f → t.refuses node g → f ≡ g
 
 module _ {D : Type 0} (t : Told D) where
   -- a symbol of which nodes may be refused
@@ -142,8 +142,9 @@ module _ {D : Type 0} (t : Told D) where
           alone = alone_before shared _ refl;
           good = λ k t. refl;
           lacks = λ k t c h. h;
+          location = λ t h. absurd cc;
           one_cause = λ leaf t c d h w. one_cause t c d h w;
           refuses_tokens = refuses_tokens p.may;
           passes = λ x. others_pass p.may shared_symbols x (omega arith);
-          one_said = λ i k n f g x h w. is.one_said i k n f g h w;
+          one_said = is.one_said;
         }

@@ -11,7 +11,7 @@ use Rattle.graphql_core.specs.Source.{Items}
 use Rattle.graphql_values.specs.declared.read.values.Sort.{Sort}
 use Rattle.graphql_values.specs.declared.read.values.Sort.TheVariants.{Value, Constant}
 use Rattle.graphql_values.specs.Grammar.{shared, rows, tables, name, any, punctuator, mark, value_symbol, const_symbol, plain_symbol, argument_symbol}
-use Rattle.graphql_values.specs.Grammar.{const_pair_symbol, type_symbol, arguments_symbol, directive_symbol}
+use Rattle.graphql_values.specs.Grammar.{const_pair_symbol, type_symbol, arguments_symbol, directive_symbol, default_symbol}
 use Rattle.graphql_values.specs.Meanings.{spelling_at, plain_of, put_all, value_of, values_of, argument_of, pairs_of, const_of, consts_of, const_pair_of}
 use Rattle.graphql_values.specs.Meanings.{const_pairs_of, directive_of, each_directive_of}
 use Rattle.graphql_values.specs.steps.Constness.{symbol_of, pair_symbol_of, variable_rule, list_rule, object_rule, pair_rule, begins_variable, tree_of}
@@ -151,6 +151,15 @@ some_arguments ts seen = side_first shared (Sym arguments_symbol) Empty parenthe
 pub no_arguments : (ts : List Token) → sees (parenthesis ∷ []) (peek ts) ≡ false → Takes shared (optional (Sym arguments_symbol)) ts (Second Nothing) ts
 unfolding tables
 no_arguments ts unseen = takes_none shared (Sym arguments_symbol) ts refl unseen
+
+pub some_default : (ts : List Token) → sees (mark (codes "=") ∷ []) (peek ts) ≡ true
+    → IsSide shared (optional (Sym default_symbol)) (Sym default_symbol) First ts
+unfolding tables
+some_default ts seen = side_first shared (Sym default_symbol) Empty (mark (codes "=")) ts refl seen
+
+pub no_default : (ts : List Token) → sees (mark (codes "=") ∷ []) (peek ts) ≡ false → Takes shared (optional (Sym default_symbol)) ts (Second Nothing) ts
+unfolding tables
+no_default ts unseen = takes_none shared (Sym default_symbol) ts refl unseen
 
 pub begins_directive : (next : Option Token) → sees (first rows (Sym directive_symbol)) next ≡ sees (mark (codes "@") ∷ []) next
 unfolding tables

@@ -3,16 +3,18 @@ use Rattle.std.proofs.Common.{◌≡◌, ℕ, ◌-◌, List, [], ◌∷◌, ◌+
 use Rattle.std.specs.Result.{IsErrAnd}
 use Rattle.std.proofs.lemmas.List.{drop_at}
 use Rattle.graphql_grammar.specs.Tokens.{Token, Class, AnyOf}
-use Rattle.graphql_grammar.specs.Trees.{Sym, Shape, Node}
+use Rattle.graphql_grammar.specs.Trees.{Sym, Shape, Node, leaves}
 use Rattle.graphql_grammar.specs.Factored.{written, change_at}
 use Rattle.graphql_grammar.specs.Reading.{Takes, takes_node, Reason, Unexpected, Improper, Refused, Fails, fails_node, Done, Fault as Stopped}
 use Rattle.graphql_grammar.specs.ReaderWords.{Stops}
+use Rattle.graphql_grammar.specs.Faults.{IsRefused}
+use Rattle.graphql_grammar.proofs.FaultedFor.{node_refused_for}
 use Rattle.graphql_grammar.specs.Texts as texts
 use Rattle.graphql_grammar.specs.Texts.{Answers}
 use Rattle.graphql_core.specs.declared.common.fault.Fault.{Fault}
 use Rattle.graphql_core.specs.declared.common.fault.Fault.TheVariants.{OutOfMemory, At}
 use Rattle.graphql_core.specs.declared.helpers.stop.Stop.{Stop}
-use Rattle.graphql_core.specs.declared.helpers.stop.Stop.TheVariants.{Memory, Item, Integer, Float, Escape}
+use Rattle.graphql_core.specs.declared.helpers.stop.Stop.TheVariants.{Memory, Item, Integer, Float, Escape, Location}
 use Rattle.graphql_core.specs.Source.{Items, Last, End, Wrong, IsEnd, IsAtEnd, IsFaultOf, FaultText, kept, fault_at, place_of, place_next, split}
 use Rattle.graphql_core.specs.steps.Stops.{IsCauseHere, IsFaultFor}
 use Rattle.graphql_core.specs.Causes.{CauseText, cause_text}
@@ -112,19 +114,20 @@ module _ {D : Type 0} (l : Language D) (r : IsReadable l) where
   memory_only i j Integer e d h f k = absurd (none_wrong _ i j d (at_fault _ i j h) k)
   memory_only i j Float e d h f k = absurd (none_wrong _ i j d (at_fault _ i j h) k)
   memory_only i j Escape e d h f k = absurd (none_wrong _ i j d (at_fault _ i j h) k)
+  memory_only i j Location e d h f k = absurd (none_wrong _ i j d (at_fault _ i j h) k)
 
   -- a token of a kind has no value where it has none as a leaf of a value
   lacks_here : (k : ℕ) (c : CauseText) → Lacks (AnyOf k) c → Misses l r (AnyOf k) c
   lacks_here k c lacks t m h = r.lacks k t c (lacks t m (sym (r.good k t) ∙ h))
 
   -- a reader that stops for a token without a value
-  valueless : (i j : Items) (k : ℕ) (c : CauseText) (e : Fault) → Lacks (AnyOf k) c
-      → Fails (reading l) (document_rule l) i.tokens (Improper (AnyOf k)) j.tokens
+  valueless : (i j : Items) (leaf : Class) (c : CauseText) (e : Fault) → Misses l r leaf c
+      → Fails (reading l) (document_rule l) i.tokens (Improper leaf) j.tokens
       → IsCauseHere c j e → kept j ≡ kept i → IsLeastOf l i e
-  valueless i j k c OutOfMemory lacks h f last = tt
-  valueless i j k c (At cause p) lacks h f last =
+  valueless i j leaf c OutOfMemory misses h f last = tt
+  valueless i j leaf c (At cause p) misses h f last =
       let first = (exact_reading l r).earliest i.tokens j.tokens _ (fails_node h) in
-      no_value_left i j _ first.parts last _ (AnyOf k) c (lacks_here k c lacks) (at_fault _ i j h) f.0 f.1
+      no_value_left i j _ first.parts last _ leaf c misses (at_fault _ i j h) f.0 f.1
 
   -- or for one that may not stand there
   misplaced : (i j : Items) (e : Fault) → Fails (reading l) (document_rule l) i.tokens Unexpected j.tokens → IsFaultOf j e → kept j ≡ kept i → IsLeastOf l i e
@@ -137,20 +140,39 @@ module _ {D : Type 0} (l : Language D) (r : IsReadable l) where
       → kept j ≡ kept i → IsLeastOf l i e
   least_stop i j Memory e h f last = subst (IsLeastOf l i) (sym f) tt
   least_stop i j Item e h f last = misplaced i j e h f last
-  least_stop i j Integer e h f last = valueless i j _ _ e no_integer h f last
-  least_stop i j Float e h f last = valueless i j _ _ e no_float h f last
-  least_stop i j Escape e h f last = valueless i j _ _ e no_string h f last
+  least_stop i j Integer e h f last = valueless i j _ _ e (lacks_here _ _ no_integer) h f last
+  least_stop i j Float e h f last = valueless i j _ _ e (lacks_here _ _ no_float) h f last
+  least_stop i j Escape e h f last = valueless i j _ _ e (lacks_here _ _ no_string) h f last
+  least_stop i j Location e h f last = valueless i j _ _ e (λ t m none. r.location t none) h f last
 
   -- a reader that stops after a node that is refused
   pub none_refused : (i j : Items) (k : ℕ) (d : D) → Fails (reading l) (document_rule l) i.tokens (Refused k) j.tokens → IsDocument l i d → ⊥
   none_refused i j k d h = none_wrong (Refused k) i j d (at_fault (Refused k) i j h)
 
-  pub least_refused : (i j : Items) (k : ℕ) (f : FaultText) → Fails (reading l) (document_rule l) i.tokens (Refused k) j.tokens
-      → (drop (length i.tokens - length j.tokens) i.tokens ≡ j.tokens → l.refuses k i (length i.tokens - length j.tokens) f) → IsLeastFault l i f
-  least_refused i j k f h said =
+  pub least_refused : (i j : Items) (k : ℕ) (f : FaultText) (before : List Token) (x : Shape)
+      → Fails (reading l) (document_rule l) i.tokens (Refused k) j.tokens
+      → IsRefused (reading l) (document_rule l) i.tokens k x before j.tokens → l.refuses (written l.changes (Node k x)) f → IsLeastFault l i f
+  least_refused i j k f before x h refused said =
       let n : ℕ = length i.tokens - length j.tokens in
-      let first = (exact_reading l r).earliest i.tokens j.tokens _ (fails_node h) in
-      (n, Refused k, (least l r).wrong (text_of i) (Refused k) n (at_fault (Refused k) i j h), said (dropped first.front i.tokens j.tokens first.parts))
+      let (inside, is, node) = node_refused_for l.grammar l.second_rows l.changes r.each r.each_lax l.document i.tokens k x before j.tokens refused in (
+        n,
+        Refused k,
+        (least l r).wrong (text_of i) (Refused k) n (at_fault (Refused k) i j h),
+        (
+          before,
+          j.tokens,
+          inside,
+          node,
+          omega (
+            arith,
+            ap length node.0,
+            length-append before (leaves inside ++ j.tokens),
+            length-append before (leaves inside),
+            length-append (leaves inside) j.tokens,
+          ),
+          subst (λ (y : Shape). l.refuses y f) is said,
+        ),
+      )
 
   pub none_rest : (i j : Items) (d : D) (x : Shape) → Takes (reading l) (document_rule l) i.tokens x j.tokens → j.last ≡ i.last → (IsAtEnd j → ⊥)
       → IsDocument l i d → ⊥

@@ -3,10 +3,10 @@ use Rattle.std.specs.Prelude.{◌≡◌, ◌≤◌, ◌<◌, ℕ, zero, suc, Lis
 use Rattle.std.specs.Int.RustNames.{FitsSigned}
 use mir.Syntax.{w64}
 use Rattle.graphql_grammar.specs.Tokens.{Token, Class}
-use Rattle.graphql_grammar.specs.Trees.{Sym, Begins}
+use Rattle.graphql_grammar.specs.Trees.{Sym, Shape, Node, leaves, Begins}
 use Rattle.graphql_grammar.specs.Reading.{Reason, Unexpected, Improper, Refused, lax}
 use Rattle.graphql_grammar.specs.Texts as texts
-use Rattle.graphql_grammar.specs.Faults.{IsFault, IsLeast}
+use Rattle.graphql_grammar.specs.Faults.{IsFault, IsLeast, IsRefused}
 use Rattle.graphql_core.specs.declared.common.fault.Fault.{Fault}
 use Rattle.graphql_core.specs.declared.common.fault.Fault.TheVariants.{OutOfMemory, At}
 use Rattle.graphql_lexer.specs.declared.tokenizer.token.Kind.TheVariants.{IntValue, FloatValue, StringValue}
@@ -54,7 +54,9 @@ module _ {D : Type 0} (l : Language D) where
   abbrev pub Says : Reason → Items → ℕ → FaultText → Type 0
   Says Unexpected i n f = f ≡ fault_at (from_item n i)
   Says (Improper c) i n f = (t : Token) × (rest : List Token) × ((from_item n i).tokens ≡ t ∷ rest) × l.lacks c t f.cause × (f.place ≡ t.place)
-  Says (Refused k) i n f = l.refuses k i n f
+  Says (Refused k) i n f =
+      (before us : List Token) × (x : Shape) × IsRefused l.grammar (Sym l.document) i.tokens k x before us × (n ≡ length (before ++ leaves x))
+      × l.refuses (Node k x) f
 
   -- a fault of the items, its index, and what is said of the item with that index
   abbrev pub IsFaultAt : Items → FaultText → ℕ → Type 0

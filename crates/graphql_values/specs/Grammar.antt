@@ -62,6 +62,10 @@ any k = AnyOf (kind_number k)
 abbrev pub enum_class : Class
 enum_class = Except (kind_number Name) (codes "true" ∷ codes "false" ∷ codes "null" ∷ [])
 
+-- a name in the place of a directive's location, which any name may be that a schema has there
+abbrev pub location_class : Class
+location_class = Except (kind_number Name) []
+
 abbrev pub punctuator : List ℕ → Expr
 punctuator s = One (mark s)
 

@@ -4,7 +4,7 @@ use Rattle.graphql_grammar.specs.Tokens.{Token, Class}
 use Rattle.graphql_grammar.specs.Trees.{Shape, Expr, Row, Grammar, row}
 use Rattle.graphql_grammar.specs.Factored.{Change, with_rows}
 use Rattle.graphql_core.specs.Causes.{CauseText}
-use Rattle.graphql_core.specs.Source.{Items, FaultText}
+use Rattle.graphql_core.specs.Source.{FaultText}
 
 -- D is what its documents mean.
 pub record Language (D : Type 0) : Type 1 where
@@ -16,8 +16,8 @@ pub record Language (D : Type 0) : Type 1 where
   pub erase : D → D
   -- for which cause a token is refused as a leaf of this class
   pub lacks : Class → Token → CauseText → Type 0
-  -- what is said of a node of this symbol that is refused, where its last token is the item with this index
-  pub refuses : ℕ → Items → ℕ → FaultText → Type 0
+  -- what is said of a node that is refused
+  pub refuses : Shape → FaultText → Type 0
   -- second rules for the same symbols, by which it is read, and how their trees are trees of the written ones
   pub second_rows : List Row
   pub changes : List Change

@@ -6,7 +6,7 @@ use Rattle.graphql_core.specs.Refusal.{Refusal, max_length, too_long}
 use Rattle.graphql_core.specs.Source.{Items}
 use Rattle.graphql_values.specs.Language.{Language}
 use Rattle.graphql_values.specs.Document.{IsDocument, IsDocumentOf, AnswersUnlessMemory, HasOneShape}
-use Rattle.graphql_values.specs.Faults.{IsLeastOf, IsRefusalOf}
+use Rattle.graphql_values.specs.Faults.{IsLeastOf, IsRefusalOf, HasOneFaultEach, HasNoFault}
 
 -- of the items of a source, where view is what an answer is seen as
 pub record ReadsDocument {D V : Type 0} (l : Language D) (view : V → D) (i : Items) (r : Result V Fault) : Type 0 where
@@ -28,3 +28,6 @@ pub record ParsesDocument {D V : Type 0} (l : Language D) (view : V → D) (text
   -- a refusal is the fault of least index of the text, and a text past the bound is refused
   pub refused : IfErr r (IsRefusalOf l text)
   pub too_long : max_length < length text → IsErrOf r too_long
+  -- no two faults of the text have one index, and a document has none
+  pub one_fault : HasOneFaultEach l text
+  pub no_fault : (d : D) → HasNoFault l text d

@@ -1,8 +1,9 @@
 -- What readers of a language answer that refuses nodes.
-use Rattle.std.specs.Prelude.{◌≡◌, ◌-◌, ℕ, List, ◌++◌, length, Result, IfErr, Option, Some}
+use Rattle.std.specs.Prelude.{ℕ, List, Result, IfErr, Option, Some}
 use Rattle.graphql_grammar.specs.Tokens.{Token}
-use Rattle.graphql_grammar.specs.Trees.{Expr, Shape}
+use Rattle.graphql_grammar.specs.Trees.{Expr, Shape, Node}
 use Rattle.graphql_grammar.specs.Factored.{written}
+use Rattle.graphql_grammar.specs.Faults.{IsRefused}
 use Rattle.graphql_grammar.specs.Reading as reads
 use Rattle.graphql_core.specs.Source.{Items, FaultText}
 use Rattle.graphql_values.specs.declared.read.halt.Halt.{Halt}
@@ -20,13 +21,14 @@ halt_reason w (Stopped s) = reason_of s
 halt_reason w (Refused n) = Some (reads.Refused (w.symbol n))
 
 module _ {D R : Type 0} (l : Language D) (w : Refusals R) where
-  -- whatever stands before, what an error says of a node that is refused is what the language says
-  abbrev pub Says : Items → Items → Halt R → Type 0
-  Says old new (Stopped s) = Unit {0}
-  Says old new (Refused n) = (start : Items) (front : List Token) → start.tokens ≡ front ++ old.tokens
-      → l.refuses (w.symbol n) start (length start.tokens - length new.tokens) (w.fault n)
+  -- what an error says: a node is refused that stands in the expression and ends where the source is left, and the language says so of it
+  abbrev pub Says : Expr → Items → Items → Halt R → Type 0
+  Says e old new (Stopped s) = Unit {0}
+  Says e old new (Refused n) =
+      (before : List Token) × (x : Shape) × IsRefused (reading l) e old.tokens (w.symbol n) x before new.tokens
+      × l.refuses (written l.changes (Node (w.symbol n) x)) (w.fault n)
 
   -- it reads by the second rules, and its answer is what the written shape means; or it stops, and says why
   pub record Reads {A : Type 0} (e : Expr) (old new : Items) (P : A → Shape → Type 0) (r : Result A (Halt R)) : Type 0 where
     pub gives : GivesBy (halt_reason w) (reading l) e old new (λ v x. P v (written l.changes x)) r
-    pub says : IfErr r (Says old new)
+    pub says : IfErr r (Says e old new)

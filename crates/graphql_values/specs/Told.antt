@@ -6,7 +6,7 @@ use Rattle.graphql_grammar.specs.Solve.{with_tables}
 use Rattle.graphql_grammar.specs.Tables.{is_ll1, is_tight, is_productive, decides, has_samples}
 use Rattle.graphql_grammar.specs.Reading.{lax}
 use Rattle.graphql_grammar.specs.Factored.{Change, unchanged, with_rows}
-use Rattle.graphql_core.specs.Source.{Items, FaultText}
+use Rattle.graphql_core.specs.Source.{FaultText}
 use Rattle.graphql_values.specs.Leaves.{is_good}
 use Rattle.graphql_values.specs.Grammar.{shared, shared_symbols}
 use Rattle.graphql_values.specs.Language.{Language, reading}
@@ -24,7 +24,7 @@ pub record Told (D : Type 0) : Type 1 where
   -- the symbols of which nodes may be refused, the test of them, and what is said of a node that does not pass
   pub tested : List ℕ
   pub test : ℕ → Shape → Bool
-  pub refuses : ℕ → Items → ℕ → FaultText → Type 0
+  pub refuses : Shape → FaultText → Type 0
   -- what a document means, and what that is but for positions
   pub means : Shape → D
   pub erase : D → D

@@ -9,7 +9,7 @@ unfolding tables shared_tables unquoted
 is_told = record {
   tests = refl;
   seconds = λ good check. (IsSecond-unchanged _ _ _ _, (IsSecond-head _ _ _ name int name, tt));
-  one_said = λ i k n f g h w. h ∙ sym w;
+  one_said = λ node f g h w. h ∙ sym w;
 }
 
 pub readable : IsReadable worked

@@ -1,7 +1,7 @@
 -- The language of extensions: how they are written and read, and what is said of one that is refused.
-use Rattle.graphql_values.specs.Dialect.{◌≡◌, ℕ, ◌-◌, not, List, [], ◌∷◌, ◌++◌, drop, matches}
+use Rattle.graphql_values.specs.Dialect.{◌≡◌, ℕ, not, List, [], ◌∷◌, ◌++◌, drop, matches}
 use Rattle.graphql_values.specs.Dialect.{Expr, One, Then, Either, Many, Sym, Node, Row, solve, unchanged, out_of_head, IntValue, Pos}
-use Rattle.graphql_values.specs.Dialect.{empty_extension, place_of, place_next, shared, shared_rules, shared_symbols, any, name, from_item, Language}
+use Rattle.graphql_values.specs.Dialect.{empty_extension, place_of, first_place, leaves, shared, shared_rules, shared_symbols, any, name, Language}
 use Rattle.graphql_values.specs.Dialect.{Told, language, Refusals}
 use Rattle.worked_language.specs.Meanings.{ExtensionTree, adds_nothing, extension_of, document_of}
 
@@ -27,10 +27,10 @@ told = record {
   tables = tables;
   changes = unchanged ∷ out_of_head ∷ [];
   samples = [];
-  -- an extension that adds nothing is refused: the fault stands at its first token, the item before its last
+  -- an extension that adds nothing is refused: the fault stands at its first token
   tested = extension_symbol ∷ [];
   test = λ k x. not (adds_nothing (extension_of (Node k x)));
-  refuses = λ k i n f. f ≡ record { cause = empty_extension; place = place_next (from_item (n - 1) i) };
+  refuses = λ node f. f ≡ record { cause = empty_extension; place = first_place (leaves node) };
   means = document_of;
   erase = λ d. d;
 }

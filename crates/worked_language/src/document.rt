@@ -31,7 +31,8 @@ fn read_document<S: TokenSource>(
 
 /// Parses a text as extensions.
 pub fn parse<'a, S: Text<'a>>(alloc: Global, source: &'a str) -> Result<Vec<Extension<S>>, Refused>
-    // *derived*, *complete*, *one shape*, *refused* and *too long*: `specs/Parsing.antt` of graphql_values says each
+    // what is answered is derived, and what is derived is answered; a refusal is the fault of least index; and more:
+    // `specs/Parsing.antt` of graphql_values says each
     ensures { ParsesDocument worked (λ d. map (extension_view S.Names.bytes) d.items) source.now result }
 {
     if source.len() > MAX_LENGTH {

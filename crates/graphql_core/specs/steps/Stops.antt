@@ -3,8 +3,8 @@ use Rattle.std.specs.Prelude.{◌≡◌}
 use Rattle.graphql_core.specs.declared.common.fault.Fault.{Fault}
 use Rattle.graphql_core.specs.declared.common.fault.Fault.TheVariants.{OutOfMemory, At}
 use Rattle.graphql_core.specs.declared.helpers.stop.Stop.{Stop}
-use Rattle.graphql_core.specs.declared.helpers.stop.Stop.TheVariants.{Memory, Item, Integer, Float, Escape}
-use Rattle.graphql_core.specs.Causes.{CauseText, cause_text, int_out_of_range, malformed_float, bad_escape}
+use Rattle.graphql_core.specs.declared.helpers.stop.Stop.TheVariants.{Memory, Item, Integer, Float, Escape, Location}
+use Rattle.graphql_core.specs.Causes.{CauseText, cause_text, int_out_of_range, malformed_float, bad_escape, unknown_location}
 use Rattle.graphql_core.specs.Source.{Items, IsFaultOf, place_of, place_next}
 
 -- it is this cause, where the next item begins
@@ -18,3 +18,4 @@ IsFaultFor Item i f = IsFaultOf i f
 IsFaultFor Integer i f = IsCauseHere int_out_of_range i f
 IsFaultFor Float i f = IsCauseHere malformed_float i f
 IsFaultFor Escape i f = IsCauseHere bad_escape i f
+IsFaultFor Location i f = IsCauseHere unknown_location i f

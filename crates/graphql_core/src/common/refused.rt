@@ -5,6 +5,7 @@ ghost use Rattle.graphql_core.specs.Refusal.{too_long, refusal_of};
 use crate::common::cause::Cause;
 use crate::common::fault::Fault;
 use graphql_lexer::position::Pos;
+use std::fmt;
 use std::marker::Model;
 
 /// The most bytes that a text may have: 2 ^ 60 - 1. A longer one is refused before any allocation.
@@ -53,6 +54,17 @@ impl From<Fault> for Refused {
                 cause,
                 position: Some(position),
             },
+        }
+    }
+}
+
+/// As the message of a parse error ends: the position in a line of its own, and the cause in the next; where memory ran out, the cause alone.
+impl fmt::Display for Refused {
+    fn fmt<W: fmt::Write>(&self, f: &mut fmt::Formatter<W>) -> fmt::Result {
+        let cause = &self.cause;
+        match self.position {
+            Some(position) => write!(f, "Parse error at {position}\n{cause}\n"),
+            None => write!(f, "{cause}"),
         }
     }
 }

@@ -20,6 +20,8 @@ pub enum Stop {
     Float,
     /// The item is a string with a bad escape.
     Escape,
+    /// The item is a name that is no directive location.
+    Location,
 }
 
 impl From<AllocError> for Stop {
@@ -50,5 +52,6 @@ pub fn fault_of<S: TokenSource>(alloc: Global, source: &S, stop: Stop) -> Fault
         Stop::Integer => Fault::At(Cause::IntOutOfRange, source.position()),
         Stop::Float => Fault::At(Cause::MalformedFloat, source.position()),
         Stop::Escape => Fault::At(Cause::BadEscape, source.position()),
+        Stop::Location => Fault::At(Cause::UnknownLocation, source.position()),
     }
 }

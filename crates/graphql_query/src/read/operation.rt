@@ -2,11 +2,9 @@
 ghost use Rattle.std.specs.Prelude.{◌≡◌, ◌≤◌, OnOk, [], ◌∷◌, length, codes, option_map};
 ghost use Rattle.graphql_grammar.specs.Trees.{Then, Sym, optional};
 ghost use Rattle.graphql_core.specs.Source.{kept};
-ghost use Rattle.graphql_values.specs.ValueViews.{value_view};
-ghost use Rattle.graphql_values.specs.Grammar.{default_symbol, word};
+ghost use Rattle.graphql_values.specs.Grammar.{word};
 ghost use Rattle.graphql_values.specs.Grammar as shared;
 ghost use Rattle.graphql_values.specs.steps.Answers.{Adds, Shortens};
-ghost use Rattle.graphql_values.specs.Meanings.{optional_default_of};
 ghost use Rattle.graphql_query_tree.specs.Tree.{query_kind, mutation_kind, subscription_kind, variable_definition_view, query_view, mutation_view};
 ghost use Rattle.graphql_query_tree.specs.Tree.{subscription_view};
 ghost use Rattle.graphql_query_tree.specs.Tree.{operation_view};
@@ -22,9 +20,9 @@ use graphql_core::helpers::{Mark, Stop, TokenSource, keyword, name, sees_keyword
 use graphql_query_tree::tree::{
     Mutation, OperationDefinition, Query, SelectionSet, Subscription, VariableDefinition,
 };
-use graphql_values::read::directives::{self, default_value};
+use graphql_values::read::directives::{self, optional_default};
 use graphql_values::read::types::parse_type;
-use graphql_values::tree::{Directive, Value};
+use graphql_values::tree::Directive;
 use std::alloc::Global;
 
 /// What every operation has after its keyword.
@@ -55,23 +53,6 @@ fn optional_name<S: TokenSource>(
         return Ok(None);
     }
     Ok(Some(name(alloc, source)?))
-}
-
-/// `Default?`
-#[tactic(auto, using(graphql_values::proofs::Reading::reading))]
-fn optional_default<S: TokenSource>(
-    alloc: Global,
-    source: &mut S,
-) -> Result<Option<Value<S::Names>>, Stop>
-    ensures reads { Reads (optional (Sym default_symbol)) (S.items source.old) (S.items source.new)
-        (λ v x. option_map (value_view S.Names.bytes) v ≡ optional_default_of x) result }
-    ensures kept { kept (S.items source.new) ≡ kept (S.items source.old) }
-    ensures within { OnOk result (length (S.items source.new).tokens ≤ length (S.items source.old).tokens) }
-{
-    if !source.sees_mark(Mark::Equals) {
-        return Ok(None);
-    }
-    Ok(Some(default_value(alloc, source)?))
 }
 
 /// `VariableDefinition = "$" Name ":" Type Default?`, after the variables before it.

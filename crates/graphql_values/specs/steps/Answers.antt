@@ -4,10 +4,10 @@ use Rattle.graphql_grammar.specs.Trees.{Expr, Shape, Grammar}
 use Rattle.graphql_grammar.specs.Reading.{Reason, Unexpected, Improper}
 use Rattle.graphql_grammar.specs.ReaderWords.{TakesSome, Stops}
 use Rattle.graphql_core.specs.declared.helpers.stop.Stop.{Stop}
-use Rattle.graphql_core.specs.declared.helpers.stop.Stop.TheVariants.{Memory, Item, Integer, Float, Escape}
+use Rattle.graphql_core.specs.declared.helpers.stop.Stop.TheVariants.{Memory, Item, Integer, Float, Escape, Location}
 use Rattle.graphql_lexer.specs.declared.tokenizer.token.Kind.TheVariants.{IntValue, FloatValue, StringValue}
 use Rattle.graphql_core.specs.Source.{Items}
-use Rattle.graphql_values.specs.Grammar.{any}
+use Rattle.graphql_values.specs.Grammar.{any, location_class}
 
 -- the theory's reason for which a reader stopped; none where memory ran out
 abbrev pub reason_of : Stop → Option Reason
@@ -16,6 +16,7 @@ reason_of Item = Some Unexpected
 reason_of Integer = Some (Improper (any IntValue))
 reason_of Float = Some (Improper (any FloatValue))
 reason_of Escape = Some (Improper (any StringValue))
+reason_of Location = Some (Improper location_class)
 
 -- Some shape is taken, of which P holds with what is answered; or the theory fails for the reason of the error, where it has one.
 abbrev pub GivesBy : {A E : Type 0} → (E → Option Reason) → Grammar → Expr → Items → Items → (A → Shape → Type 0) → Result A E → Type 0

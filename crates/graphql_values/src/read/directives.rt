@@ -1,8 +1,8 @@
 //! Arguments, directives and default values.
-ghost use Rattle.std.specs.Prelude.{◌≡◌, ◌≤◌, OnOk, [], ◌∷◌, length};
+ghost use Rattle.std.specs.Prelude.{◌≡◌, ◌≤◌, OnOk, [], ◌∷◌, length, option_map};
 ghost use Rattle.graphql_grammar.specs.Trees.{Sym, optional};
 ghost use Rattle.graphql_values.specs.Grammar.{shared, arguments_symbol, directive_symbol, directives_symbol, default_symbol};
-ghost use Rattle.graphql_values.specs.Meanings.{arguments_of, optional_arguments_of, directive_of, directives_of, default_of};
+ghost use Rattle.graphql_values.specs.Meanings.{arguments_of, optional_arguments_of, directive_of, directives_of, default_of, optional_default_of};
 ghost use Rattle.graphql_values.specs.ValueViews.{value_view, argument_view, directive_view};
 ghost use Rattle.graphql_core.specs.Source.{kept};
 ghost use Rattle.graphql_values.specs.steps.Answers.{Gives, Adds, Shortens};
@@ -96,7 +96,7 @@ pub fn directives<S: TokenSource>(
 
 /// `Default = "=" Const`
 #[tactic(auto, using(crate::proofs::Reading::reading))]
-pub fn default_value<S: TokenSource>(alloc: Global, source: &mut S) -> Result<Value<S::Names>, Stop>
+fn default_value<S: TokenSource>(alloc: Global, source: &mut S) -> Result<Value<S::Names>, Stop>
     ensures reads { Gives shared (Sym default_symbol) (S.items source.old) (S.items source.new)
         (λ v x. value_view S.Names.bytes v ≡ default_of x) result }
     ensures kept { kept (S.items source.new) ≡ kept (S.items source.old) }
@@ -104,4 +104,21 @@ pub fn default_value<S: TokenSource>(alloc: Global, source: &mut S) -> Result<Va
 {
     take_mark(source, Mark::Equals)?;
     constant(alloc, source)
+}
+
+/// `Default?`
+#[tactic(auto, using(crate::proofs::Reading::reading))]
+pub fn optional_default<S: TokenSource>(
+    alloc: Global,
+    source: &mut S,
+) -> Result<Option<Value<S::Names>>, Stop>
+    ensures reads { Gives shared (optional (Sym default_symbol)) (S.items source.old) (S.items source.new)
+        (λ v x. option_map (value_view S.Names.bytes) v ≡ optional_default_of x) result }
+    ensures kept { kept (S.items source.new) ≡ kept (S.items source.old) }
+    ensures within { OnOk result (length (S.items source.new).tokens ≤ length (S.items source.old).tokens) }
+{
+    if !source.sees_mark(Mark::Equals) {
+        return Ok(None);
+    }
+    Ok(Some(default_value(alloc, source)?))
 }

@@ -20,7 +20,7 @@ use graphql_core::tokenizer::Kind;
 use std::alloc::{AllocError, Global};
 
 /// The next item, where it is a token of this kind.
-fn next_of<S: TokenSource>(source: &S, kind: Kind) -> Result<Lexeme<S::Text>, Stop>
+pub fn next_of<S: TokenSource>(source: &S, kind: Kind) -> Result<Lexeme<S::Text>, Stop>
     ensures { Shows S.bytes kind (S.items source.now) result }
 {
     match source.peek() {

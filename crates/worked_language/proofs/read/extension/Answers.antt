@@ -1,5 +1,5 @@
 use Rattle.graphql_values.proofs.Dialect.{◌∙◌, ℕ, not, List, length, ap, ap₂, sym, refl, arith, Leaf, Both, First, Second, same_spelling, reading, takes_one}
-use Rattle.graphql_values.proofs.Dialect.{here, before, after_left, after_right, read_alike, some_lifted, stops_lifted, place_again, node_stops, node_lacks}
+use Rattle.graphql_values.proofs.Dialect.{here, before, after_left, after_right, read_alike, some_lifted, stops_lifted, placed, node_stops, node_lacks}
 use Rattle.graphql_values.proofs.Dialect.{node_passes, node_refused, name, empty_extension}
 use Rattle.worked_language.specs.Meanings.{by_number, by_name}
 use Rattle.worked_language.specs.Language.{told, worked, refusals, int}
@@ -33,10 +33,9 @@ returns-then-is_same-clause-reads g c =
     let (n, named, spelled) = c.in_ok-name.ensures in
     let (m, other, spelled') = c.in_ok-other.ensures in
     let lead = after_right (reading worked) _ _ int _ _ n refl named refl (sym c.sees_name.ensures ∙ c.if-not-sees_name.false) in
-    node_refused worked refusals _ _ _ _ (Both (Leaf n) (Second (Leaf m))) (lead.takes _ (Leaf m) (takes_one (reading worked) _ _ _ m refl other))
+    node_refused worked refusals readable _ _ _ _ (Both (Leaf n) (Second (Leaf m))) (lead.takes _ (Leaf m) (takes_one (reading worked) _ _ _ m refl other))
     (ap₂ (λ (x y : List ℕ). not (same_spelling y x)) spelled spelled' ∙ ap not (sym c.is_same.ensures ∙ c.if-is_same.true))
-    (λ start front parts. ap (λ place. record { cause = empty_extension; place = place }) (c.position-position.ensures
-    ∙ sym (place_again start _ _ front _ n _ parts named (omega (arith, ap length other.tokens)))))
+    (ap (λ place. record { cause = empty_extension; place = place }) (c.position-position.ensures ∙ placed _ _ _ n named))
 
 pub returns-clause-reads : goal.returns-clause-reads
 returns-clause-reads g c =

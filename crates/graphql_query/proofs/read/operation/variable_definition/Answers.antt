@@ -52,7 +52,8 @@ returns-in_err-default_value-clause-reads g c =
     let colon = past named (takes_one reading _ _ _ _ refl c.in_ok-take_mark.ensures.1) in
     let (t, typed, seen) = c.in_ok-var_type.ensures.reads in
     error_in old mid new _ _ _
-    (past colon (takes_lifted _ refl _ _ _ typed)).stops c.in_err-default_value.ensures.reads c.from_residual-in_err-default_value.ensures.1
+    (past colon (takes_lifted _ refl _ _ _ typed)).stops (stops_lifted _ refl _ _ _ c.in_err-default_value.ensures.reads)
+    c.from_residual-in_err-default_value.ensures.1
 
 pub returns-clause-reads : goal.returns-clause-reads
 returns-clause-reads g c =
@@ -60,7 +61,7 @@ returns-clause-reads g c =
     let (n, named, spelled) = c.in_ok-name.ensures in
     let (m, colon, until) = c.in_ok-take_mark.ensures in
     let (t, typed, seen) = some_lifted _ refl _ _ _ c.in_ok-var_type.ensures.reads in
-    let (v, valued, view) = c.in_ok-default_value.ensures.reads in (
+    let (v, valued, view) = some_lifted _ refl _ _ _ c.in_ok-default_value.ensures.reads in (
       Node variable_definition_symbol (Both (Leaf d) (Both (Leaf n) (Both (Leaf m) (Both t v)))),
       takes_node (takes_both (takes_one reading _ _ _ d refl dollar)
           (takes_both (takes_one reading _ _ _ n refl named) (takes_both (takes_one reading _ _ _ m refl colon) (takes_both typed valued)))) refl,

@@ -1,0 +1,136 @@
+-- Locations of directives, and lists with a mark between two of their parts.
+use Rattle.std.proofs.Common.{◌≡◌, ℕ, Bool, true, false, List, [], ◌∷◌, ◌++◌, map, Result, Ok, Err, Option, Some, None, IsErrAnd, refl, sym, ap, subst, ◌∙◌}
+use Rattle.graphql_grammar.specs.Tokens.{Token, Place}
+use Rattle.graphql_grammar.specs.Trees.{Expr, Then, Many, Sym, Shape, Leaf, Both, Node, optional, peek}
+use Rattle.graphql_grammar.specs.Tables.{first}
+use Rattle.graphql_grammar.specs.Factored.{written}
+use Rattle.graphql_grammar.specs.Reading.{sees, Takes, takes_both, Improper, Fails, fails_node, fails_value}
+use Rattle.graphql_grammar.specs.ReaderWords.{TakesSome, Stops}
+use Rattle.graphql_grammar.proofs.ReaderSteps.{Stops-turn, Turns-stop}
+use Rattle.graphql_core.specs.declared.helpers.stop.Stop.{Stop}
+use Rattle.graphql_core.specs.declared.helpers.stop.Stop.TheVariants.{Memory, Item, Integer, Float, Escape, Location}
+use Rattle.graphql_core.specs.declared.helpers.source.Lexeme.{Lexeme}
+use Rattle.graphql_lexer.specs.declared.tokenizer.token.Kind.TheVariants.{Name}
+use Rattle.graphql_core.specs.Source.{Items, after, lexeme_token}
+use Rattle.graphql_core.proofs.Matches.{takes_first}
+use Rattle.graphql_values.specs.Grammar.{any, punctuator, location_class}
+use Rattle.graphql_values.specs.steps.Answers.{Gives, Adds, reason_of}
+use Rattle.graphql_values.specs.steps.Leaf.{IsNext, Shows}
+use Rattle.graphql_values.proofs.LeafSteps.{next_matches}
+use Rattle.graphql_values.proofs.Reading.{takes_one, TakesNone, one_of, adds_more}
+use Rattle.graphql_values.proofs.Steps.{error_one}
+use Rattle.graphql_schema_tree.specs.declared.location.DirectiveLocation.{DirectiveLocation}
+use Rattle.graphql_schema_tree.specs.Locations.{IsNamed, is_location}
+use Rattle.graphql_schema_tree.specs.Grammar.{changes, joined_by, location_symbol}
+use Rattle.graphql_schema_tree.specs.Meanings.{marked_of, joined_of, present}
+use Rattle.graphql_schema_tree.specs.Tree.{InputValueTree, DirectiveDefinitionTree}
+use Rattle.graphql_schema.proofs.Dialect.{reading, starts}
+use Rattle.graphql_schema.proofs.Lists.{as_written, Comes, each_means}
+
+-- ---- what a word names
+
+-- the location that is answered
+pub named : (E : Type 0) (o : Option DirectiveLocation) (l : DirectiveLocation) → IsNamed {E = E} o (Ok l) → o ≡ Some l
+named E (Some m) l h = ap answer (sym h)
+  where
+    answer : Result DirectiveLocation E → Option DirectiveLocation
+    answer (Ok x) = Some x
+    answer (Err e) = None
+named E None l h = absurd cc
+
+-- or an error, where there is none
+pub unnamed : (E : Type 0) (o : Option DirectiveLocation) (e : E) → IsNamed {E = E} o (Err e) → o ≡ None
+unnamed E (Some m) e h = absurd cc
+unnamed E None e h = refl
+
+-- ---- a location
+
+-- any name is seen as one, and nothing else
+no_location : (item : Option Token) → sees (any Name ∷ []) item ≡ false → sees (location_class ∷ []) item ≡ false
+no_location None h = refl
+no_location (Some t) h = h
+
+no_location_taken : (i : Items) (s : Stop) → TakesNone (any Name) i i s → TakesNone location_class i i s
+no_location_taken i Memory h = h
+no_location_taken i Item (same, unseen) = (same, no_location (peek i.tokens) unseen)
+no_location_taken i Integer h = h
+no_location_taken i Float h = h
+no_location_taken i Escape h = h
+no_location_taken i Location h = h
+
+module _ {T : Type 0} (bytes : T → List ℕ) (i : Items) where
+  -- no name comes
+  pub location_missing : {A : Type 0} (P : A → Shape → Type 0) (r : Result A Stop) (e : Stop) → Shows bytes Name i (Err e) → IsErrAnd r (λ d. d ≡ e)
+      → Gives reading (Sym location_symbol) i i P r
+  location_missing P r e s up = error_one i i i P r e (starts location_symbol i.tokens (λ x. refl)).stops (no_location_taken i e s) up
+
+  module _ (t : Lexeme T) (n : IsNext bytes Name i t) where
+    -- a name comes that is no location
+    pub location_refused : is_location (bytes t.text) ≡ false → Fails reading (Sym location_symbol) i.tokens (Improper location_class) i.tokens
+    location_refused bad = subst (λ (ts : List Token). Fails reading (Sym location_symbol) ts (Improper location_class) ts) (sym n.first)
+        (fails_node (fails_value (next_matches bytes Name i t n) bad))
+
+    -- or one that is
+    pub location_taken : (new : Items) → is_location (bytes t.text) ≡ true → new ≡ after i
+        → Takes reading (Sym location_symbol) i.tokens (Node location_symbol (Leaf (lexeme_token bytes t))) new.tokens
+    location_taken new good e =
+        (starts location_symbol i.tokens (λ x. refl)).takes new.tokens (Leaf (lexeme_token bytes t)) (takes_one reading location_class i new
+        (lexeme_token bytes t) good (takes_first location_class i new (lexeme_token bytes t) n.first e (next_matches bytes Name i t n)))
+
+-- ---- those that are there
+
+module _ {A : Type 0} where
+  present_each : (xs : List A) → present (map Some xs) ≡ xs
+  present_each [] = refl
+  present_each (x ∷ xs) = ap (λ l. x ∷ l) (present_each xs)
+
+  present_more : (xs ys : List (Option A)) → present (xs ++ ys) ≡ present xs ++ present ys
+  present_more [] ys = refl
+  present_more (None ∷ xs) ys = present_more xs ys
+  present_more (Some x ∷ xs) ys = ap (λ l. x ∷ l) (present_more xs ys)
+
+  -- where each of these is there
+  pub adds_present : (old new : List A) (os : List (Option A)) → Adds Some old new os → new ≡ old ++ present os
+  adds_present old new os adds =
+      sym (present_each new) ∙ ap present adds ∙ present_more (map Some old) os ∙ ap (λ (l : List A). l ++ present os) (present_each old)
+
+  -- what stands after none is all
+  pub after_none : (old new more : List A) → old ≡ [] → new ≡ old ++ more → new ≡ more
+  after_none old new more none is = is ∙ ap (λ (l : List A). l ++ more) none
+
+-- ---- a list with a mark between two of its parts: f is what a part means, and view what an element is seen as
+
+module _ {V A : Type 0} (s : List ℕ) (e : Expr) (f : Shape → A) (none : A) (view : V → A) where
+  -- until no mark comes
+  pub joined_taken : (old mid start now : Items) (from to new : List V) (m : Shape) → Takes reading (optional (punctuator s)) old.tokens m mid.tokens
+      → TakesSome reading e mid.tokens start.tokens (λ x. Adds view from to (as_written f x ∷ []))
+      → Comes (Then (punctuator s) e) (marked_of f none) view start now to new
+      → sees (first reading.rows (Then (punctuator s) e)) (peek now.tokens) ≡ false
+      → TakesSome reading (joined_by s e) old.tokens now.tokens (λ x. Adds view from new (joined_of f none (written changes x)))
+  joined_taken old mid start now from to new m marked (x, takes, adds) p unseen =
+      let a = Then (punctuator s) e in
+      let (xs, turns, are) = Turns-stop reading a (one_of (as_written (marked_of f none))) start.tokens now.tokens p.means p.turns unseen in (
+        Both m (Both x xs),
+        takes_both marked (takes_both takes turns),
+        adds_more view from to new (as_written f x ∷ []) p.means adds p.adds
+            ∙ ap (λ l. map view from ++ (as_written f x ∷ l)) (sym (each_means a (marked_of f none) view turns ∙ are)),
+      )
+
+  -- a part after the first stops
+  pub marked_stops : (start now new : Items) (to found : List V) (d : Stop) → Comes (Then (punctuator s) e) (marked_of f none) view start now to found
+      → sees (first reading.rows (Then (punctuator s) e)) (peek now.tokens) ≡ true → Stops reading (Then (punctuator s) e) now.tokens new.tokens (reason_of d)
+      → Stops reading (Many (Then (punctuator s) e)) start.tokens new.tokens (reason_of d)
+  marked_stops start now new to found d p seen stops =
+      Stops-turn reading (Then (punctuator s) e) (one_of (as_written (marked_of f none))) start.tokens now.tokens new.tokens p.means (reason_of d) p.turns seen
+      stops
+
+-- ---- definitions
+
+-- the same parts make the same tree
+abbrev definition : Place → Option (List ℕ) → List ℕ → List InputValueTree → Bool → List DirectiveLocation → DirectiveDefinitionTree
+definition p d n arguments r ls =
+    record { position = p; description = d; name = n; arguments = arguments; repeatable = r; locations = ls }
+
+pub same_definition : {p q : Place} {n m : List ℕ} {vs ws : List InputValueTree} {a b : Bool} {ls ks : List DirectiveLocation} → q ≡ p → m ≡ n → vs ≡ ws
+    → a ≡ b → ls ≡ ks → definition p None n vs a ls ≡ definition q None m ws b ks
+same_definition at spelled arguments repeats places = rw (at, spelled, arguments, repeats, places) refl

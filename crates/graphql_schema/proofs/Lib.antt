@@ -1,0 +1,9 @@
+pub mod Definitions
+pub mod Dialect
+pub mod Directives
+pub mod Fields
+pub mod Inputs
+pub mod JoinedNames
+pub mod Lists
+pub mod RootNames
+pub mod Types

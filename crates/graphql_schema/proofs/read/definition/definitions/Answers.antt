@@ -1,0 +1,51 @@
+use Rattle.std.proofs.Common.{sym, ◌∙◌, refl, Err}
+use Rattle.graphql_grammar.specs.Trees.{Sym, Stop, fits_stop}
+use Rattle.graphql_values.proofs.Reading.{adds_one, fills}
+use Rattle.graphql_values.proofs.Refusing.{halts_before, halts_led, turn_done, turn_halts}
+use Rattle.graphql_values.proofs.Steps.{here, past, pushes_none}
+use Rattle.graphql_schema_tree.specs.Grammar.{item_symbol}
+use Rattle.graphql_schema_tree.specs.Language.{schemas}
+use Rattle.graphql_schema_tree.specs.Meanings.{item_of}
+use Rattle.graphql_schema_tree.specs.Views.{definition_view}
+use Rattle.graphql_schema.specs.steps.Refusals.{refusals}
+use Rattle.graphql_schema.proofs.Dialect.{reading}
+use Rattle.graphql_schema.proofs.Definitions.{item_begins}
+use Rattle.graphql_schema.proofs.Lists.{as_written, some_taken}
+use Rattle.graphql_schema.proofs.read.definition.definitions.Goals as goal
+
+pub returns-in_err-definition-clause-reads : goal.returns-in_err-definition-clause-reads
+returns-in_err-definition-clause-reads g c =
+    halts_before schemas refusals Stop _ _ _ _ _ _ fits_stop c.in_err-definition.ensures.reads c.from_residual.ensures.1
+
+pub more-init : goal.more-init
+more-init g c = record { pushes = pushes_none reading _ (as_written item_of) (definition_view g.S.Names.Names.bytes) _ _ }
+
+pub more-preserved : goal.more-preserved
+more-preserved g c =
+    let now = g.S.TokenSource.items c.more.source in
+    record {
+      pushes = turn_done schemas refusals _ item_of (definition_view g.S.Names.Names.bytes) _ now _ _ _ _ _ c.more.invariant.pushes
+          (item_begins now ∙ sym c.sees_definition.ensures ∙ c.more-test.true) c.in_ok-definition-2.ensures.reads c.in_ok-definition-2.ensures.kept
+          c.in_ok-push-2.ensures.items;
+    }
+
+pub returns-in_err-definition-2-clause-reads : goal.returns-in_err-definition-2-clause-reads
+returns-in_err-definition-2-clause-reads g c =
+    let now = g.S.TokenSource.items c.more.source in
+    let (x, taken, is) = c.in_ok-definition.ensures.reads.gives in
+    let halt = c.in_err-definition-2.field-0.0 in
+    let turn = turn_halts schemas refusals _ item_of (definition_view g.S.Names.Names.bytes) _ now _ _ _ (λ (v : Unit {0}) y. ⊥) (Err halt) halt
+    c.more.invariant.pushes (item_begins now ∙ sym c.sees_definition.ensures ∙ c.more-test.true) c.in_err-definition-2.ensures.reads refl in
+    halts_led schemas refusals _ _ _ _ _ _ _ (past here taken) turn c.from_residual-in_err-definition-2.ensures.1
+
+pub returns-clause-reads : goal.returns-clause-reads
+returns-clause-reads g c =
+    let now = g.S.TokenSource.items c.more.source in
+    let view = definition_view g.S.Names.Names.bytes in
+    let (x, taken, is) = c.in_ok-definition.ensures.reads.gives in
+    let old = g.S.TokenSource.items c.args.source.now in
+    let start = g.S.TokenSource.items c.definition.new.source in
+    let (xs, all, adds) =
+    some_taken (Sym item_symbol) item_of view old start now _ _ _ (x, taken, adds_one view _ _ _ _ c.in_ok-push.ensures.items is)
+    c.more.invariant.pushes (item_begins now ∙ sym c.sees_definition.ensures ∙ c.more-test.false) in
+    record { gives = (xs, all, fills view _ _ _ c.new-definitions.ensures.items adds); says = tt }

@@ -1,0 +1,18 @@
+use Rattle.std.proofs.Common.{refl, sym, ◌∙◌, codes}
+use Rattle.graphql_grammar.specs.Trees.{Leaf, First, Second, Nothing}
+use Rattle.graphql_values.specs.Grammar.{word}
+use Rattle.graphql_values.proofs.Reading.{takes_one, takes_some, takes_none}
+use Rattle.graphql_schema.proofs.Dialect.{reading}
+use Rattle.graphql_schema.proofs.read.directive.repeatable.Goals as goal
+
+pub returns-then-not-sees_keyword-clause-reads : goal.returns-then-not-sees_keyword-clause-reads
+returns-then-not-sees_keyword-clause-reads g c =
+    (Second Nothing, takes_none reading (word (codes "repeatable")) _ refl (sym c.sees_keyword.ensures ∙ c.if-not-sees_keyword.true), refl)
+
+pub returns-clause-reads : goal.returns-clause-reads
+returns-clause-reads g c =
+    let (t, begins, at) = c.in_ok-keyword.ensures in (
+      First (Leaf t),
+      takes_some reading (word (codes "repeatable")) _ _ _ (sym c.sees_keyword.ensures ∙ c.if-not-sees_keyword.false) (takes_one reading _ _ _ t refl begins),
+      refl,
+    )

@@ -1,0 +1,4 @@
+pub mod Implementer
+pub mod Reads
+pub mod Refusals
+pub mod Roots

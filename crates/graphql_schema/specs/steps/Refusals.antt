@@ -1,0 +1,28 @@
+-- What readers of schemas answer that refuse nodes.
+use Rattle.std.specs.Prelude.{ℕ, Result}
+use Rattle.graphql_grammar.specs.Trees.{Expr, Shape}
+use Rattle.graphql_core.specs.Causes.{cause_text, empty_extension}
+use Rattle.graphql_core.specs.Source.{Items, FaultText, place_of}
+use Rattle.graphql_values.specs.declared.read.halt.Halt.{Halt}
+use Rattle.graphql_values.specs.Refusing.{Refusals}
+use Rattle.graphql_values.specs.Refusing as refusing
+use Rattle.graphql_schema_tree.specs.Grammar.{schema_symbol, extension_symbol}
+use Rattle.graphql_schema_tree.specs.Language.{schemas}
+use Rattle.graphql_schema.specs.declared.read.refusal.Refusal.{Refusal}
+use Rattle.graphql_schema.specs.declared.read.refusal.Refusal.TheVariants.{Schema, Extension}
+
+-- the symbol of the node, and what is said of it
+abbrev pub refused_symbol : Refusal → ℕ
+refused_symbol (Schema c p) = schema_symbol
+refused_symbol (Extension p) = extension_symbol
+
+abbrev pub fault_said : Refusal → FaultText
+fault_said (Schema c p) = record { cause = cause_text c; place = place_of p }
+fault_said (Extension p) = record { cause = empty_extension; place = place_of p }
+
+abbrev pub refusals : Refusals Refusal
+refusals = record { symbol = refused_symbol; fault = fault_said }
+
+-- it reads by the second rules, and its answer is what the written shape means; or it stops, or refuses a node, and says why
+abbrev pub ReadsNode : {A : Type 0} → Expr → Items → Items → (A → Shape → Type 0) → Result A (Halt Refusal) → Type 0
+ReadsNode = refusing.Reads schemas refusals

@@ -1,0 +1,18 @@
+//! Schemas: their grammar is read here; trees and text are those of `graphql_schema_tree`.
+#![tactic(auto)]
+
+mod document;
+mod error;
+mod read;
+
+pub use document::parse_schema;
+pub use error::ParseError;
+pub use graphql_core::common::{Names, Text};
+pub use graphql_schema_tree::{
+    Definition, DirectiveDefinition, DirectiveLocation, Document, EnumType, EnumTypeExtension,
+    EnumValue, Field, InputObjectType, InputObjectTypeExtension, InputValue, InterfaceType,
+    InterfaceTypeExtension, InvalidDirectiveLocation, ObjectType, ObjectTypeExtension, ScalarType,
+    ScalarTypeExtension, SchemaDefinition, TypeDefinition, TypeExtension, UnionType,
+    UnionTypeExtension, locations_are_named, one_symbol_has_a_second_rule, text_has_no_positions,
+    tree, worked_examples, worked_layouts, worked_refusals,
+};

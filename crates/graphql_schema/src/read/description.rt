@@ -1,0 +1,74 @@
+//! Descriptions.
+ghost use Rattle.std.specs.Prelude.{◌≡◌, ◌≤◌, OnOk, length, option_map, string_bytes};
+ghost use Rattle.graphql_grammar.specs.Trees.{Sym, optional};
+ghost use Rattle.graphql_core.specs.Source.{kept};
+ghost use Rattle.graphql_core.specs.steps.Matching.{sees_class};
+ghost use Rattle.graphql_lexer.specs.declared.tokenizer.token.Kind.TheVariants.{BlockString};
+ghost use Rattle.graphql_values.specs.Grammar.{any};
+ghost use Rattle.graphql_values.specs.steps.Answers.{Shortens};
+ghost use Rattle.graphql_schema_tree.specs.Grammar.{description_symbol};
+ghost use Rattle.graphql_schema_tree.specs.Meanings.{description_of, optional_of};
+ghost use Rattle.graphql_schema.specs.steps.Reads.{Reads, sees_description, sees_described_name};
+
+use graphql_core::helpers::{Stop, TokenSource};
+use graphql_core::tokenizer::Kind;
+use graphql_values::read::leaf::{block_string_value, string_value};
+use std::alloc::Global;
+
+/// Whether a description comes next.
+pub fn sees_description<S: TokenSource>(source: &S) -> bool
+    ensures { result ≡ sees_description (S.items source.now) }
+{
+    match source.peek() {
+        Some(token) => matches!(token.kind, Kind::StringValue | Kind::BlockString),
+        None => false,
+    }
+}
+
+/// Whether a block string comes next.
+fn sees_block_string<S: TokenSource>(source: &S) -> bool
+    ensures { result ≡ sees_class (any BlockString) (S.items source.now) }
+{
+    match source.peek() {
+        Some(token) => matches!(token.kind, Kind::BlockString),
+        None => false,
+    }
+}
+
+/// Whether a name comes next, or its description.
+pub fn sees_described_name<S: TokenSource>(source: &S) -> bool
+    ensures { result ≡ sees_described_name (S.items source.now) }
+{
+    sees_description(source) || source.sees_name()
+}
+
+/// `Description = String | Block`
+#[tactic(auto, using(graphql_values::proofs::Reading::reading))]
+fn description<S: TokenSource>(alloc: Global, source: &mut S) -> Result<String, Stop>
+    ensures reads { Reads (Sym description_symbol) (S.items source.old) (S.items source.new)
+        (λ v x. string_bytes v ≡ description_of x) result }
+    ensures kept { kept (S.items source.new) ≡ kept (S.items source.old) }
+    ensures shorter { Shortens (S.items source.old) (S.items source.new) result }
+{
+    if sees_block_string(source) {
+        return block_string_value(alloc, source);
+    }
+    string_value(alloc, source)
+}
+
+/// `Description?`
+#[tactic(auto, using(graphql_values::proofs::Reading::reading))]
+pub fn optional_description<S: TokenSource>(
+    alloc: Global,
+    source: &mut S,
+) -> Result<Option<String>, Stop>
+    ensures reads { Reads (optional (Sym description_symbol)) (S.items source.old) (S.items source.new)
+        (λ v x. option_map string_bytes v ≡ optional_of description_of x) result }
+    ensures kept { kept (S.items source.new) ≡ kept (S.items source.old) }
+    ensures within { OnOk result (length (S.items source.new).tokens ≤ length (S.items source.old).tokens) }
+{
+    if !sees_description(source) {
+        return Ok(None);
+    }
+    Ok(Some(description(alloc, source)?))
+}

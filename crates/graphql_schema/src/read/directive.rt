@@ -1,0 +1,115 @@
+//! Definitions of directives.
+ghost use Rattle.std.specs.Prelude.{◌≡◌, ◌≤◌, OnOk, None, Some, [], ◌∷◌, ◌++◌, length, codes};
+ghost use Rattle.graphql_grammar.specs.Trees.{Then, Sym, optional};
+ghost use Rattle.graphql_core.specs.Source.{kept};
+ghost use Rattle.graphql_values.specs.Grammar.{punctuator, word};
+ghost use Rattle.graphql_values.specs.steps.Answers.{Adds, Shortens};
+ghost use Rattle.graphql_schema_tree.specs.Grammar.{location_symbol, locations_symbol, directive_definition_symbol};
+ghost use Rattle.graphql_schema_tree.specs.Meanings.{is_there, location_at, marked_of, locations_of, directive_definition_of};
+ghost use Rattle.graphql_schema_tree.specs.Views.{directive_definition_view};
+ghost use Rattle.graphql_schema.specs.steps.Reads.{Reads};
+
+use crate::read::input::optional_argument_definitions;
+use crate::read::names::optional_mark;
+use graphql_core::helpers::{Mark, Stop, TokenSource, keyword, name, sees_keyword, take_mark};
+use graphql_core::tokenizer::Kind;
+use graphql_schema_tree::DirectiveLocation;
+use graphql_schema_tree::tree::DirectiveDefinition;
+use graphql_values::read::leaf::next_of;
+use std::alloc::Global;
+
+/// `Location = Name` that names one.
+#[tactic(auto, using(graphql_values::proofs::Reading::reading))]
+fn location<S: TokenSource>(source: &mut S) -> Result<DirectiveLocation, Stop>
+    ensures reads { Reads (Sym location_symbol) (S.items source.old) (S.items source.new)
+        (λ v x. Some v ≡ location_at x) result }
+    ensures kept { kept (S.items source.new) ≡ kept (S.items source.old) }
+    ensures shorter { Shortens (S.items source.old) (S.items source.new) result }
+{
+    let token = next_of(source, Kind::Name)?;
+    let Ok(location) = S::as_str(&token.text).parse::<DirectiveLocation>() else {
+        return Err(Stop::Location);
+    };
+    source.advance();
+    Ok(location)
+}
+
+/// `"|" Location`, after the locations before it.
+#[tactic(auto, using(graphql_values::proofs::Reading::reading))]
+fn marked_location<S: TokenSource>(
+    source: &mut S,
+    locations: &mut Vec<DirectiveLocation>,
+) -> Result<(), Stop>
+    ensures reads { Reads (Then (punctuator (codes "|")) (Sym location_symbol)) (S.items source.old) (S.items source.new)
+        (λ v x. Adds Some locations.old.items locations.new.items (marked_of location_at None x ∷ [])) result }
+    ensures kept { kept (S.items source.new) ≡ kept (S.items source.old) }
+    ensures shorter { Shortens (S.items source.old) (S.items source.new) result }
+{
+    take_mark(source, Mark::Pipe)?;
+    locations.push(location(source)?)?;
+    Ok(())
+}
+
+/// `Locations = "|"? Location ("|" Location)*`, after the locations before them.
+#[tactic(auto, using(graphql_values::proofs::Reading::reading))]
+fn locations<S: TokenSource>(
+    source: &mut S,
+    locations: &mut Vec<DirectiveLocation>,
+) -> Result<(), Stop>
+    ensures reads { Reads (Sym locations_symbol) (S.items source.old) (S.items source.new)
+        (λ v x. locations.new.items ≡ locations.old.items ++ locations_of x) result }
+    ensures kept { kept (S.items source.new) ≡ kept (S.items source.old) }
+    ensures shorter { Shortens (S.items source.old) (S.items source.new) result }
+{
+    optional_mark(source, Mark::Pipe)?;
+    locations.push(location(source)?)?;
+    'more: while source.sees_mark(Mark::Pipe) {
+        marked_location(source, locations)?;
+    }
+    Ok(())
+}
+
+/// `"repeatable"?`
+#[tactic(auto, using(graphql_values::proofs::Reading::reading))]
+fn repeatable<S: TokenSource>(source: &mut S) -> Result<bool, Stop>
+    ensures reads { Reads (optional (word (codes "repeatable"))) (S.items source.old) (S.items source.new)
+        (λ v x. v ≡ is_there x) result }
+    ensures kept { kept (S.items source.new) ≡ kept (S.items source.old) }
+    ensures within { OnOk result (length (S.items source.new).tokens ≤ length (S.items source.old).tokens) }
+{
+    if !sees_keyword(source, "repeatable") {
+        return Ok(false);
+    }
+    keyword(source, "repeatable")?;
+    Ok(true)
+}
+
+/// `DirectiveDef = "directive" "@" Name ArgumentDefs? "repeatable"? "on" Locations`, without its description.
+#[tactic(auto, using(graphql_values::proofs::Reading::reading))]
+pub fn directive_definition<S: TokenSource>(
+    alloc: Global,
+    source: &mut S,
+) -> Result<DirectiveDefinition<S::Names>, Stop>
+    ensures reads { Reads (Sym directive_definition_symbol) (S.items source.old) (S.items source.new)
+        (λ v x. directive_definition_view S.Names.bytes v ≡ directive_definition_of None x) result }
+    ensures kept { kept (S.items source.new) ≡ kept (S.items source.old) }
+    ensures shorter { Shortens (S.items source.old) (S.items source.new) result }
+{
+    let position = keyword(source, "directive")?;
+    take_mark(source, Mark::At)?;
+    let name = name(alloc, source)?;
+    let mut arguments = Vec::new(alloc);
+    optional_argument_definitions(alloc, source, &mut arguments)?;
+    let repeatable = repeatable(source)?;
+    keyword(source, "on")?;
+    let mut locations = Vec::new(alloc);
+    self::locations(source, &mut locations)?;
+    Ok(DirectiveDefinition {
+        position,
+        description: None,
+        name,
+        arguments,
+        repeatable,
+        locations,
+    })
+}

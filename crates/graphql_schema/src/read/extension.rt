@@ -1,0 +1,129 @@
+//! Extensions of types.
+ghost use Rattle.std.specs.Prelude.{◌≡◌, ℕ, List, Option};
+ghost use Rattle.graphql_grammar.specs.Trees.{Sym};
+ghost use Rattle.graphql_core.specs.Source.{kept, place_of};
+ghost use Rattle.graphql_values.specs.steps.Answers.{Shortens};
+ghost use Rattle.graphql_schema_tree.specs.Grammar.{extension_symbol};
+ghost use Rattle.graphql_schema_tree.specs.Meanings.{extension_of};
+ghost use Rattle.graphql_schema_tree.specs.Tree.{BodyTree, type_definition, extension, adds};
+ghost use Rattle.graphql_schema_tree.specs.Views.{type_definition_view, type_extension_view};
+ghost use Rattle.graphql_schema.specs.steps.Refusals.{ReadsNode};
+
+use crate::read::refusal::Refusal;
+use crate::read::types::type_body;
+use graphql_core::common::Names;
+use graphql_core::helpers::{TokenSource, keyword};
+use graphql_core::position::Pos;
+use graphql_schema_tree::tree::{
+    EnumTypeExtension, InputObjectTypeExtension, InterfaceTypeExtension, ObjectTypeExtension,
+    ScalarTypeExtension, TypeDefinition, TypeExtension, UnionTypeExtension,
+};
+use graphql_values::read::halt::Halt;
+use std::alloc::Global;
+
+/// The extension that has what a definition has, but for its description.
+fn without_description<N: Names>(definition: TypeDefinition<N>) -> TypeExtension<N>
+    ensures { (d : Option (List ℕ)) (b : BodyTree) → type_definition_view N.bytes definition ≡ type_definition d b
+        → type_extension_view N.bytes result ≡ extension b }
+{
+    match definition {
+        TypeDefinition::Scalar(scalar) => TypeExtension::Scalar(ScalarTypeExtension {
+            position: scalar.position,
+            name: scalar.name,
+            directives: scalar.directives,
+        }),
+        TypeDefinition::Object(object) => TypeExtension::Object(ObjectTypeExtension {
+            position: object.position,
+            name: object.name,
+            implements_interfaces: object.implements_interfaces,
+            directives: object.directives,
+            fields: object.fields,
+        }),
+        TypeDefinition::Interface(interface) => {
+            TypeExtension::Interface(InterfaceTypeExtension {
+                position: interface.position,
+                name: interface.name,
+                implements_interfaces: interface.implements_interfaces,
+                directives: interface.directives,
+                fields: interface.fields,
+            })
+        }
+        TypeDefinition::Union(union) => TypeExtension::Union(UnionTypeExtension {
+            position: union.position,
+            name: union.name,
+            directives: union.directives,
+            types: union.types,
+        }),
+        TypeDefinition::Enum(declared) => TypeExtension::Enum(EnumTypeExtension {
+            position: declared.position,
+            name: declared.name,
+            directives: declared.directives,
+            values: declared.values,
+        }),
+        TypeDefinition::InputObject(input) => {
+            TypeExtension::InputObject(InputObjectTypeExtension {
+                position: input.position,
+                name: input.name,
+                directives: input.directives,
+                fields: input.fields,
+            })
+        }
+    }
+}
+
+/// Whether it adds something: a directive or a part of its own. For an object interfaces count, for an interface they do not.
+fn adds<N: Names>(added: &TypeExtension<N>) -> bool
+    ensures { (b : BodyTree) → type_extension_view N.bytes added.now ≡ extension b → result ≡ adds b }
+{
+    match added {
+        TypeExtension::Scalar(scalar) => !scalar.directives.is_empty(),
+        TypeExtension::Object(object) => {
+            !object.directives.is_empty()
+                || !object.implements_interfaces.is_empty()
+                || !object.fields.is_empty()
+        }
+        TypeExtension::Interface(interface) => {
+            !interface.directives.is_empty() || !interface.fields.is_empty()
+        }
+        TypeExtension::Union(union) => !union.directives.is_empty() || !union.types.is_empty(),
+        TypeExtension::Enum(declared) => {
+            !declared.directives.is_empty() || !declared.values.is_empty()
+        }
+        TypeExtension::InputObject(input) => {
+            !input.directives.is_empty() || !input.fields.is_empty()
+        }
+    }
+}
+
+/// Where it stands.
+fn position<N: Names>(added: &TypeExtension<N>) -> Pos
+    ensures { (b : BodyTree) → type_extension_view N.bytes added.now ≡ extension b → place_of result ≡ b.position }
+{
+    match added {
+        TypeExtension::Scalar(scalar) => scalar.position,
+        TypeExtension::Object(object) => object.position,
+        TypeExtension::Interface(interface) => interface.position,
+        TypeExtension::Union(union) => union.position,
+        TypeExtension::Enum(declared) => declared.position,
+        TypeExtension::InputObject(input) => input.position,
+    }
+}
+
+/// `Extension = "extend" TypeBody`, of one that adds something.
+#[tactic(auto, using(graphql_values::proofs::Reading::reading))]
+pub fn extension<S: TokenSource>(
+    alloc: Global,
+    source: &mut S,
+) -> Result<TypeExtension<S::Names>, Halt<Refusal>>
+    ensures reads { ReadsNode (Sym extension_symbol) (S.items source.old) (S.items source.new)
+        (λ v x. type_extension_view S.Names.bytes v ≡ extension (extension_of x)) result }
+    ensures kept { kept (S.items source.new) ≡ kept (S.items source.old) }
+    ensures shorter { Shortens (S.items source.old) (S.items source.new) result }
+{
+    keyword(source, "extend")?;
+    let extension = without_description(type_body(alloc, source)?);
+    if !adds(&extension) {
+        return Err(Halt::Refused(Refusal::Extension(position(&extension))));
+    }
+    Ok(extension)
+}

@@ -1,0 +1,88 @@
+//! Fields of objects and of interfaces.
+ghost use Rattle.std.specs.Prelude.{◌≡◌, ◌≤◌, OnOk, [], ◌∷◌, length};
+ghost use Rattle.graphql_grammar.specs.Trees.{Sym, optional};
+ghost use Rattle.graphql_core.specs.Source.{kept};
+ghost use Rattle.graphql_values.specs.steps.Answers.{Adds, Shortens};
+ghost use Rattle.graphql_schema_tree.specs.Grammar.{field_symbol, fields_symbol};
+ghost use Rattle.graphql_schema_tree.specs.Meanings.{field_of, enclosed_of, optional_list_of};
+ghost use Rattle.graphql_schema_tree.specs.Views.{field_view};
+ghost use Rattle.graphql_schema.specs.steps.Reads.{Reads};
+
+use crate::read::description::{optional_description, sees_described_name};
+use crate::read::input::optional_argument_definitions;
+use graphql_core::helpers::{Mark, Stop, TokenSource, name, take_mark};
+use graphql_schema_tree::tree::Field;
+use graphql_values::read::directives;
+use graphql_values::read::types::parse_type;
+use std::alloc::Global;
+
+/// `FieldDef = Description? Name ArgumentDefs? ":" Type Directives`, after the fields before it.
+#[tactic(auto, using(graphql_values::proofs::Reading::reading))]
+fn field<S: TokenSource>(
+    alloc: Global,
+    source: &mut S,
+    fields: &mut Vec<Field<S::Names>>,
+) -> Result<(), Stop>
+    ensures reads { Reads (Sym field_symbol) (S.items source.old) (S.items source.new)
+        (λ v x. Adds (field_view S.Names.bytes) fields.old.items fields.new.items (field_of x ∷ [])) result }
+    ensures kept { kept (S.items source.new) ≡ kept (S.items source.old) }
+    ensures shorter { Shortens (S.items source.old) (S.items source.new) result }
+{
+    let position = source.position();
+    let description = optional_description(alloc, source)?;
+    let name = name(alloc, source)?;
+    let mut arguments = Vec::new(alloc);
+    optional_argument_definitions(alloc, source, &mut arguments)?;
+    take_mark(source, Mark::Colon)?;
+    let field_type = parse_type(alloc, source)?;
+    let mut directives = Vec::new(alloc);
+    directives::directives(alloc, source, &mut directives)?;
+    fields.push(Field {
+        position,
+        description,
+        name,
+        arguments,
+        field_type,
+        directives,
+    })?;
+    Ok(())
+}
+
+/// `Fields = "{" FieldDef+ "}"`
+#[tactic(auto, using(graphql_values::proofs::Reading::reading))]
+fn fields<S: TokenSource>(
+    alloc: Global,
+    source: &mut S,
+    fields: &mut Vec<Field<S::Names>>,
+) -> Result<(), Stop>
+    ensures reads { Reads (Sym fields_symbol) (S.items source.old) (S.items source.new)
+        (λ v x. Adds (field_view S.Names.bytes) fields.old.items fields.new.items (enclosed_of field_of x)) result }
+    ensures kept { kept (S.items source.new) ≡ kept (S.items source.old) }
+    ensures shorter { Shortens (S.items source.old) (S.items source.new) result }
+{
+    take_mark(source, Mark::OpenBrace)?;
+    field(alloc, source, fields)?;
+    'more: while sees_described_name(source) {
+        field(alloc, source, fields)?;
+    }
+    take_mark(source, Mark::CloseBrace)?;
+    Ok(())
+}
+
+/// `Fields?`
+#[tactic(auto, using(graphql_values::proofs::Reading::reading))]
+pub fn optional_fields<S: TokenSource>(
+    alloc: Global,
+    source: &mut S,
+    fields: &mut Vec<Field<S::Names>>,
+) -> Result<(), Stop>
+    ensures reads { Reads (optional (Sym fields_symbol)) (S.items source.old) (S.items source.new)
+        (λ v x. Adds (field_view S.Names.bytes) fields.old.items fields.new.items (optional_list_of (enclosed_of field_of) x)) result }
+    ensures kept { kept (S.items source.new) ≡ kept (S.items source.old) }
+    ensures within { OnOk result (length (S.items source.new).tokens ≤ length (S.items source.old).tokens) }
+{
+    if !source.sees_mark(Mark::OpenBrace) {
+        return Ok(());
+    }
+    self::fields(alloc, source, fields)
+}

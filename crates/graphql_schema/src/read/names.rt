@@ -1,0 +1,137 @@
+//! Names with a mark between two of them: interfaces of a type, and members of a union.
+ghost use Rattle.std.specs.Prelude.{◌≡◌, ◌≤◌, OnOk, [], ◌∷◌, length, codes};
+ghost use Rattle.graphql_grammar.specs.Trees.{Then, Sym, optional};
+ghost use Rattle.graphql_core.specs.Source.{kept};
+ghost use Rattle.graphql_core.specs.steps.Marks.{spelling_of};
+ghost use Rattle.graphql_values.specs.Grammar as shared;
+ghost use Rattle.graphql_values.specs.Grammar.{punctuator};
+ghost use Rattle.graphql_values.specs.Meanings.{spelling_at};
+ghost use Rattle.graphql_values.specs.steps.Answers.{Adds, Shortens};
+ghost use Rattle.graphql_schema_tree.specs.Grammar.{joined_by, implements_symbol, members_symbol};
+ghost use Rattle.graphql_schema_tree.specs.Meanings.{joined_of, marked_of, interfaces_of, members_of, optional_list_of};
+ghost use Rattle.graphql_schema.specs.steps.Reads.{Reads};
+
+use graphql_core::common::Names;
+use graphql_core::helpers::{Mark, Stop, TokenSource, keyword, name, sees_keyword, take_mark};
+use std::alloc::Global;
+
+/// A mark, where it comes next.
+#[tactic(auto, using(graphql_values::proofs::Reading::reading))]
+pub fn optional_mark<S: TokenSource>(source: &mut S, mark: Mark) -> Result<(), Stop>
+    ensures reads { Reads (optional (punctuator (spelling_of mark))) (S.items source.old) (S.items source.new)
+        (λ v x. Unit {0}) result }
+    ensures kept { kept (S.items source.new) ≡ kept (S.items source.old) }
+    ensures within { OnOk result (length (S.items source.new).tokens ≤ length (S.items source.old).tokens) }
+{
+    if source.sees_mark(mark) {
+        take_mark(source, mark)?;
+    }
+    Ok(())
+}
+
+/// A mark and a name, after the names before it.
+#[tactic(auto, using(graphql_values::proofs::Reading::reading))]
+fn marked_name<S: TokenSource>(
+    alloc: Global,
+    source: &mut S,
+    mark: Mark,
+    names: &mut Vec<<S::Names as Names>::Value>,
+) -> Result<(), Stop>
+    ensures reads { Reads (Then (punctuator (spelling_of mark)) shared.name) (S.items source.old) (S.items source.new)
+        (λ v x. Adds S.Names.bytes names.old.items names.new.items (marked_of spelling_at [] x ∷ [])) result }
+    ensures kept { kept (S.items source.new) ≡ kept (S.items source.old) }
+    ensures shorter { Shortens (S.items source.old) (S.items source.new) result }
+{
+    take_mark(source, mark)?;
+    names.push(name(alloc, source)?)?;
+    Ok(())
+}
+
+/// Names with this mark between two of them, and perhaps one before the first, after the names before them.
+#[tactic(auto, using(graphql_values::proofs::Reading::reading))]
+fn joined_names<S: TokenSource>(
+    alloc: Global,
+    source: &mut S,
+    mark: Mark,
+    names: &mut Vec<<S::Names as Names>::Value>,
+) -> Result<(), Stop>
+    ensures reads { Reads (joined_by (spelling_of mark) shared.name) (S.items source.old) (S.items source.new)
+        (λ v x. Adds S.Names.bytes names.old.items names.new.items (joined_of spelling_at [] x)) result }
+    ensures kept { kept (S.items source.new) ≡ kept (S.items source.old) }
+    ensures shorter { Shortens (S.items source.old) (S.items source.new) result }
+{
+    optional_mark(source, mark)?;
+    names.push(name(alloc, source)?)?;
+    'more: while source.sees_mark(mark) {
+        marked_name(alloc, source, mark, names)?;
+    }
+    Ok(())
+}
+
+/// `Implements = "implements" "&"? Name ("&" Name)*`
+#[tactic(auto, using(graphql_values::proofs::Reading::reading))]
+fn implements<S: TokenSource>(
+    alloc: Global,
+    source: &mut S,
+    names: &mut Vec<<S::Names as Names>::Value>,
+) -> Result<(), Stop>
+    ensures reads { Reads (Sym implements_symbol) (S.items source.old) (S.items source.new)
+        (λ v x. Adds S.Names.bytes names.old.items names.new.items (interfaces_of x)) result }
+    ensures kept { kept (S.items source.new) ≡ kept (S.items source.old) }
+    ensures shorter { Shortens (S.items source.old) (S.items source.new) result }
+{
+    keyword(source, "implements")?;
+    joined_names(alloc, source, Mark::Ampersand, names)
+}
+
+/// `Implements?`
+#[tactic(auto, using(graphql_values::proofs::Reading::reading))]
+pub fn optional_implements<S: TokenSource>(
+    alloc: Global,
+    source: &mut S,
+    names: &mut Vec<<S::Names as Names>::Value>,
+) -> Result<(), Stop>
+    ensures reads { Reads (optional (Sym implements_symbol)) (S.items source.old) (S.items source.new)
+        (λ v x. Adds S.Names.bytes names.old.items names.new.items (optional_list_of interfaces_of x)) result }
+    ensures kept { kept (S.items source.new) ≡ kept (S.items source.old) }
+    ensures within { OnOk result (length (S.items source.new).tokens ≤ length (S.items source.old).tokens) }
+{
+    if !sees_keyword(source, "implements") {
+        return Ok(());
+    }
+    implements(alloc, source, names)
+}
+
+/// `Members = "=" "|"? Name ("|" Name)*`
+#[tactic(auto, using(graphql_values::proofs::Reading::reading))]
+fn members<S: TokenSource>(
+    alloc: Global,
+    source: &mut S,
+    names: &mut Vec<<S::Names as Names>::Value>,
+) -> Result<(), Stop>
+    ensures reads { Reads (Sym members_symbol) (S.items source.old) (S.items source.new)
+        (λ v x. Adds S.Names.bytes names.old.items names.new.items (members_of x)) result }
+    ensures kept { kept (S.items source.new) ≡ kept (S.items source.old) }
+    ensures shorter { Shortens (S.items source.old) (S.items source.new) result }
+{
+    take_mark(source, Mark::Equals)?;
+    joined_names(alloc, source, Mark::Pipe, names)
+}
+
+/// `Members?`
+#[tactic(auto, using(graphql_values::proofs::Reading::reading))]
+pub fn optional_members<S: TokenSource>(
+    alloc: Global,
+    source: &mut S,
+    names: &mut Vec<<S::Names as Names>::Value>,
+) -> Result<(), Stop>
+    ensures reads { Reads (optional (Sym members_symbol)) (S.items source.old) (S.items source.new)
+        (λ v x. Adds S.Names.bytes names.old.items names.new.items (optional_list_of members_of x)) result }
+    ensures kept { kept (S.items source.new) ≡ kept (S.items source.old) }
+    ensures within { OnOk result (length (S.items source.new).tokens ≤ length (S.items source.old).tokens) }
+{
+    if !source.sees_mark(Mark::Equals) {
+        return Ok(());
+    }
+    members(alloc, source, names)
+}

@@ -1,0 +1,171 @@
+//! Which types the operations have.
+ghost use Rattle.std.specs.Prelude.{◌≡◌, ◌≤◌, IfOk, OnOk, List, [], ◌∷◌, ◌++◌, length};
+ghost use Rattle.graphql_grammar.specs.Trees.{Sym, Many};
+ghost use Rattle.graphql_core.specs.Source.{kept};
+ghost use Rattle.graphql_values.specs.steps.Answers.{Shortens};
+ghost use Rattle.graphql_schema_tree.specs.Grammar.{schema_symbol, root_type_symbol};
+ghost use Rattle.graphql_schema_tree.specs.Meanings.{schema_of, root_of};
+ghost use Rattle.graphql_schema_tree.specs.Roots.{roots_of};
+ghost use Rattle.graphql_schema_tree.specs.Views.{schema_view};
+ghost use Rattle.graphql_schema.specs.steps.Reads.{Reads};
+ghost use Rattle.graphql_schema.specs.steps.Refusals.{ReadsNode};
+ghost use Rattle.graphql_schema.specs.steps.Roots.{Root, root_at, AreRoots, HasRoots, Fills};
+
+use crate::read::refusal::Refusal;
+use graphql_core::common::{Cause, Names};
+use graphql_core::helpers::{Mark, Stop, TokenSource, keyword, name, take_mark};
+use graphql_schema_tree::tree::SchemaDefinition;
+use graphql_values::read::directives;
+use graphql_values::read::halt::Halt;
+use std::alloc::{AllocError, Global};
+
+/// What the reader of a schema's operations has come past.
+#[derive(Drop)]
+struct Roots<N: Names> {
+    /// The type of queries.
+    query: Option<N::Value>,
+    /// The type of mutations.
+    mutation: Option<N::Value>,
+    /// The type of subscriptions.
+    subscription: Option<N::Value>,
+    /// Why the first name may not stand there that may not.
+    fault: Option<Cause>,
+}
+
+/// Gives an operation its type, or tells that it has one.
+fn fill<V: Drop>(
+    alloc: Global,
+    slot: &mut Option<V>,
+    fault: &mut Option<Cause>,
+    operation: &str,
+    type_name: V,
+) -> Result<(), AllocError>
+    ensures { IfOk result (λ u. Fills operation.now type_name slot.old slot.new fault.old fault.new) }
+{
+    if slot.is_some() {
+        *fault = Some(Cause::DuplicateOperation(String::from_str(alloc, operation)?));
+        return Ok(());
+    }
+    *slot = Some(type_name);
+    Ok(())
+}
+
+/// Adds an operation and its type. The first fault stays.
+fn add_root<N: Names>(
+    alloc: Global,
+    roots: &mut Roots<N>,
+    operation: &str,
+    type_name: N::Value,
+) -> Result<(), AllocError>
+    ensures { (rs : List Root) → HasRoots N.bytes roots.old rs
+        → IfOk result (λ u. HasRoots N.bytes roots.new (rs ++ record { name = operation.now; type_name = N.bytes type_name } ∷ [])) }
+{
+    if roots.fault.is_some() {
+        return Ok(());
+    }
+    if operation == "query" {
+        fill(
+            alloc,
+            &mut roots.query,
+            &mut roots.fault,
+            operation,
+            type_name,
+        )?;
+        return Ok(());
+    }
+    if operation == "mutation" {
+        fill(
+            alloc,
+            &mut roots.mutation,
+            &mut roots.fault,
+            operation,
+            type_name,
+        )?;
+        return Ok(());
+    }
+    if operation == "subscription" {
+        fill(
+            alloc,
+            &mut roots.subscription,
+            &mut roots.fault,
+            operation,
+            type_name,
+        )?;
+        return Ok(());
+    }
+    roots.fault = Some(Cause::UnknownOperation(String::from_str(alloc, operation)?));
+    Ok(())
+}
+
+/// `RootType = Name ":" Name`, after those before it.
+#[tactic(auto, using(graphql_values::proofs::Reading::reading))]
+fn root_type<S: TokenSource>(
+    alloc: Global,
+    source: &mut S,
+    roots: &mut Roots<S::Names>,
+) -> Result<(), Stop>
+    ensures reads { Reads (Sym root_type_symbol) (S.items source.old) (S.items source.new)
+        (λ v x. (rs : List Root) → HasRoots S.Names.bytes roots.old rs → HasRoots S.Names.bytes roots.new (rs ++ root_at x ∷ [])) result }
+    ensures kept { kept (S.items source.new) ≡ kept (S.items source.old) }
+    ensures shorter { Shortens (S.items source.old) (S.items source.new) result }
+{
+    let operation = name(alloc, source)?;
+    take_mark(source, Mark::Colon)?;
+    let type_name = name(alloc, source)?;
+    add_root::<S::Names>(alloc, roots, S::Names::view(&operation), type_name)?;
+    Ok(())
+}
+
+/// `RootType*`
+#[tactic(auto, using(graphql_values::proofs::Reading::reading))]
+fn root_types<S: TokenSource>(alloc: Global, source: &mut S) -> Result<Roots<S::Names>, Stop>
+    ensures reads { Reads (Many (Sym root_type_symbol)) (S.items source.old) (S.items source.new)
+        (λ v x. AreRoots S.Names.bytes v (roots_of x) (λ word. root_of word x)) result }
+    ensures kept { kept (S.items source.new) ≡ kept (S.items source.old) }
+    ensures within { OnOk result (length (S.items source.new).tokens ≤ length (S.items source.old).tokens) }
+{
+    let mut roots = Roots {
+        query: None,
+        mutation: None,
+        subscription: None,
+        fault: None,
+    };
+    'more: while source.sees_name() {
+        root_type(alloc, source, &mut roots)?;
+    }
+    Ok(roots)
+}
+
+/// `Schema = "schema" Directives "{" RootType* "}"`, of which each name may stand there.
+#[tactic(auto, using(graphql_values::proofs::Reading::reading))]
+pub fn schema_definition<S: TokenSource>(
+    alloc: Global,
+    source: &mut S,
+) -> Result<SchemaDefinition<S::Names>, Halt<Refusal>>
+    ensures reads { ReadsNode (Sym schema_symbol) (S.items source.old) (S.items source.new)
+        (λ v x. schema_view S.Names.bytes v ≡ schema_of x) result }
+    ensures kept { kept (S.items source.new) ≡ kept (S.items source.old) }
+    ensures shorter { Shortens (S.items source.old) (S.items source.new) result }
+{
+    let position = keyword(source, "schema")?;
+    let mut directives = Vec::new(alloc);
+    directives::directives(alloc, source, &mut directives)?;
+    take_mark(source, Mark::OpenBrace)?;
+    let Roots {
+        query,
+        mutation,
+        subscription,
+        fault,
+    } = root_types(alloc, source)?;
+    take_mark(source, Mark::CloseBrace)?;
+    match fault {
+        Some(cause) => Err(Halt::Refused(Refusal::Schema(cause, position))),
+        None => Ok(SchemaDefinition {
+            position,
+            directives,
+            query,
+            mutation,
+            subscription,
+        }),
+    }
+}
