@@ -1,6 +1,7 @@
 -- The language of extensions is readable.
 use Rattle.graphql_values.specs.Dialect.{shared_tables, unquoted}
-use Rattle.graphql_values.proofs.Dialect.{◌∙◌, sym, refl, name, IsSecond-unchanged, IsSecond-head, IsReadable, IsTold}
+use Rattle.std.proofs.Common.{◌∙◌}
+use Rattle.graphql_values.proofs.Dialect.{sym, refl, name, IsSecond-unchanged, IsSecond-head, IsReadable, IsTold}
 use Rattle.graphql_values.proofs.Told as every
 use Rattle.worked_language.specs.Language.{told, worked, int, tables}
 

@@ -1,5 +1,6 @@
 -- The language of extensions: how they are written and read, and what is said of one that is refused.
-use Rattle.graphql_values.specs.Dialect.{◌≡◌, ℕ, not, List, [], ◌∷◌, ◌++◌, drop, matches}
+use Rattle.std.specs.Prelude.{◌≡◌, ◌∷◌, ◌++◌}
+use Rattle.graphql_values.specs.Dialect.{ℕ, not, List, [], drop, matches}
 use Rattle.graphql_values.specs.Dialect.{Expr, One, Then, Either, Many, Sym, Node, Row, solve, unchanged, out_of_head, IntValue, Pos}
 use Rattle.graphql_values.specs.Dialect.{empty_extension, place_of, first_place, leaves, shared, shared_rules, shared_symbols, any, name, Language}
 use Rattle.graphql_values.specs.Dialect.{Told, language, Refusals}

@@ -1,4 +1,5 @@
-use Rattle.graphql_values.proofs.Dialect.{◌∙◌, ℕ, not, List, length, ap, ap₂, sym, refl, arith, Leaf, Both, First, Second, same_spelling, reading, takes_one}
+use Rattle.std.proofs.Common.{◌∙◌}
+use Rattle.graphql_values.proofs.Dialect.{ℕ, not, List, length, ap, ap₂, sym, refl, arith, Leaf, Both, First, Second, same_spelling, reading, takes_one}
 use Rattle.graphql_values.proofs.Dialect.{here, before, after_left, after_right, read_alike, some_lifted, stops_lifted, placed, node_stops, node_lacks}
 use Rattle.graphql_values.proofs.Dialect.{node_passes, node_refused, name, empty_extension}
 use Rattle.worked_language.specs.Meanings.{by_number, by_name}

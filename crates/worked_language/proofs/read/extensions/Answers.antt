@@ -1,5 +1,6 @@
 use Rattle.graphql_values.specs.Dialect.{shared_tables}
-use Rattle.graphql_values.proofs.Dialect.{◌≡◌, ◌∙◌, ◌∷◌, [], List, Token, Sym, Name, sym, refl, sees, first, peek, reading, any}
+use Rattle.std.proofs.Common.{◌≡◌, ◌∙◌, ◌∷◌}
+use Rattle.graphql_values.proofs.Dialect.{[], List, Token, Sym, Name, sym, refl, sees, first, peek, reading, any}
 use Rattle.graphql_values.proofs.Dialect.{pushes_none, turn_done, turn_halts, turns_all}
 use Rattle.worked_language.specs.Meanings.{extension_view, extension_of}
 use Rattle.worked_language.specs.Language.{worked, refusals, extension_symbol, tables}
