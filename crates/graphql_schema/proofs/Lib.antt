@@ -5,5 +5,6 @@ pub mod Fields
 pub mod Inputs
 pub mod JoinedNames
 pub mod Lists
+pub mod Printable
 pub mod RootNames
 pub mod Types

@@ -1,5 +1,7 @@
 //! Whole documents.
+ghost use Rattle.std.specs.Prelude.{IfOk};
 ghost use Rattle.graphql_schema_tree.specs.Views.{document_view};
+ghost use Rattle.graphql_schema_tree.specs.Printable.{IsPrintable};
 ghost use Rattle.graphql_schema_tree.specs.Language.{schemas};
 ghost use Rattle.graphql_values.specs.Parsing.{ReadsDocument, ParsesDocument};
 
@@ -47,7 +49,9 @@ pub fn parse_schema<'a, S: Text<'a>>(
 ) -> Result<Document<S>, ParseError>
     // what is answered is derived, and what is derived is answered; a refusal is the fault of least index; and more:
     // `specs/Parsing.antt` of graphql_values says each
-    ensures { ParsesDocument schemas (document_view S.Names.bytes) source.now result }
+    ensures parses { ParsesDocument schemas (document_view S.Names.bytes) source.now result }
+    // what is answered can be printed
+    ensures printable { IfOk result (λ d. IsPrintable (document_view S.Names.bytes d)) }
 {
     if source.len() > MAX_LENGTH {
         return Err(ParseError::text_too_long());

@@ -85,13 +85,22 @@ class_alike (AnyOf k) t h = refl
 class_alike (Except k (s ∷ ss)) t h = refl
 class_alike (Except k []) t h = absurd cc
 
+-- what tests leaves so tests those of values, types and directives alike
+module _ (h : Grammar) (same : (c : Class) (t : Token) → h.good c t ≡ is_good c t) where
+  alike_for : (e : Expr) → shares e ≡ true → TestsAlike shared h e
+  alike_for Empty s = tt
+  alike_for (One c) s = λ t. same c t ∙ class_alike c t s
+  alike_for (Then a b) s = let both = and_parts (shares a) (shares b) s in (alike_for a both.0, alike_for b both.1)
+  alike_for (Either a b) s = let both = and_parts (shares a) (shares b) s in (alike_for a both.0, alike_for b both.1)
+  alike_for (Many a) s = alike_for a s
+  alike_for (Sym k) s = tt
+
 pub read_alike : (e : Expr) → shares e ≡ true → TestsAlike shared (reading schemas) e
-read_alike Empty h = tt
-read_alike (One c) h = λ t. class_alike c t h
-read_alike (Then a b) h = let s = and_parts (shares a) (shares b) h in (read_alike a s.0, read_alike b s.1)
-read_alike (Either a b) h = let s = and_parts (shares a) (shares b) h in (read_alike a s.0, read_alike b s.1)
-read_alike (Many a) h = read_alike a h
-read_alike (Sym k) h = tt
+read_alike = alike_for (reading schemas) (λ c t. refl)
+
+-- the same of what is written
+pub tested_alike : (e : Expr) → shares e ≡ true → TestsAlike shared schema e
+tested_alike = alike_for schema (λ c t. refl)
 
 passes_below : (k : ℕ) (x : Shape) → k < shared_symbols → passes k x ≡ true
 passes_below k x h =
@@ -103,6 +112,10 @@ goes_on : Extends shared_symbols shared (reading schemas)
 goes_on = with_more shared _ is_good (reading schemas).check schema.samples refl
     (λ k h. read_alike (row_at shared.rows k).rule (shares_at shared.rows k refl h))
     (λ k x h. passes_below k ((change_at changes k).to_written (written changes x)) h)
+
+pub written_goes_on : Extends shared_symbols shared schema
+written_goes_on = with_more shared _ is_good passes schema.samples refl
+    (λ k h. tested_alike (row_at shared.rows k).rule (shares_at shared.rows k refl h)) passes_below
 
 -- ---- what is refused
 
