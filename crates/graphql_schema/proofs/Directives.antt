@@ -1,31 +1,26 @@
--- Locations of directives, and lists with a mark between two of their parts.
+-- Locations of directives, and their definitions.
 use Rattle.std.proofs.Common.{◌≡◌, ℕ, Bool, true, false, List, [], ◌∷◌, ◌++◌, map, Result, Ok, Err, Option, Some, None, IsErrAnd, refl, sym, ap, subst, ◌∙◌}
 use Rattle.graphql_grammar.specs.Tokens.{Token, Place}
-use Rattle.graphql_grammar.specs.Trees.{Expr, Then, Many, Sym, Shape, Leaf, Both, Node, optional, peek}
-use Rattle.graphql_grammar.specs.Tables.{first}
-use Rattle.graphql_grammar.specs.Factored.{written}
-use Rattle.graphql_grammar.specs.Reading.{sees, Takes, takes_both, Improper, Fails, fails_node, fails_value}
-use Rattle.graphql_grammar.specs.ReaderWords.{TakesSome, Stops}
-use Rattle.graphql_grammar.proofs.ReaderSteps.{Stops-turn, Turns-stop}
+use Rattle.graphql_grammar.specs.Trees.{Sym, Shape, Leaf, Node, peek}
+use Rattle.graphql_grammar.specs.Reading.{sees, Takes, Improper, Fails, fails_node, fails_value}
 use Rattle.graphql_core.specs.declared.helpers.stop.Stop.{Stop}
 use Rattle.graphql_core.specs.declared.helpers.stop.Stop.TheVariants.{Memory, Item, Integer, Float, Escape, Location}
 use Rattle.graphql_core.specs.declared.helpers.source.Lexeme.{Lexeme}
 use Rattle.graphql_lexer.specs.declared.tokenizer.token.Kind.TheVariants.{Name}
 use Rattle.graphql_core.specs.Source.{Items, after, lexeme_token}
 use Rattle.graphql_core.proofs.Matches.{takes_first}
-use Rattle.graphql_values.specs.Grammar.{any, punctuator, location_class}
-use Rattle.graphql_values.specs.steps.Answers.{Gives, Adds, reason_of}
+use Rattle.graphql_values.specs.Grammar.{any, location_class}
+use Rattle.graphql_values.specs.steps.Answers.{Gives, Adds}
 use Rattle.graphql_values.specs.steps.Leaf.{IsNext, Shows}
 use Rattle.graphql_values.proofs.LeafSteps.{next_matches}
-use Rattle.graphql_values.proofs.Reading.{takes_one, TakesNone, one_of, adds_more}
+use Rattle.graphql_values.proofs.Reading.{takes_one, TakesNone}
 use Rattle.graphql_values.proofs.Steps.{error_one}
 use Rattle.graphql_schema_tree.specs.declared.location.DirectiveLocation.{DirectiveLocation}
 use Rattle.graphql_schema_tree.specs.Locations.{IsNamed, is_location}
-use Rattle.graphql_schema_tree.specs.Grammar.{changes, joined_by, location_symbol}
-use Rattle.graphql_schema_tree.specs.Meanings.{marked_of, joined_of, present}
+use Rattle.graphql_schema_tree.specs.Grammar.{location_symbol}
+use Rattle.graphql_schema_tree.specs.Meanings.{present}
 use Rattle.graphql_schema_tree.specs.Tree.{InputValueTree, DirectiveDefinitionTree}
 use Rattle.graphql_schema.proofs.Dialect.{reading, starts}
-use Rattle.graphql_schema.proofs.Lists.{as_written, Comes, each_means}
 
 -- ---- what a word names
 
@@ -97,32 +92,6 @@ module _ {A : Type 0} where
   -- what stands after none is all
   pub after_none : (old new more : List A) → old ≡ [] → new ≡ old ++ more → new ≡ more
   after_none old new more none is = is ∙ ap (λ (l : List A). l ++ more) none
-
--- ---- a list with a mark between two of its parts: f is what a part means, and view what an element is seen as
-
-module _ {V A : Type 0} (s : List ℕ) (e : Expr) (f : Shape → A) (none : A) (view : V → A) where
-  -- until no mark comes
-  pub joined_taken : (old mid start now : Items) (from to new : List V) (m : Shape) → Takes reading (optional (punctuator s)) old.tokens m mid.tokens
-      → TakesSome reading e mid.tokens start.tokens (λ x. Adds view from to (as_written f x ∷ []))
-      → Comes (Then (punctuator s) e) (marked_of f none) view start now to new
-      → sees (first reading.rows (Then (punctuator s) e)) (peek now.tokens) ≡ false
-      → TakesSome reading (joined_by s e) old.tokens now.tokens (λ x. Adds view from new (joined_of f none (written changes x)))
-  joined_taken old mid start now from to new m marked (x, takes, adds) p unseen =
-      let a = Then (punctuator s) e in
-      let (xs, turns, are) = Turns-stop reading a (one_of (as_written (marked_of f none))) start.tokens now.tokens p.means p.turns unseen in (
-        Both m (Both x xs),
-        takes_both marked (takes_both takes turns),
-        adds_more view from to new (as_written f x ∷ []) p.means adds p.adds
-            ∙ ap (λ l. map view from ++ (as_written f x ∷ l)) (sym (each_means a (marked_of f none) view turns ∙ are)),
-      )
-
-  -- a part after the first stops
-  pub marked_stops : (start now new : Items) (to found : List V) (d : Stop) → Comes (Then (punctuator s) e) (marked_of f none) view start now to found
-      → sees (first reading.rows (Then (punctuator s) e)) (peek now.tokens) ≡ true → Stops reading (Then (punctuator s) e) now.tokens new.tokens (reason_of d)
-      → Stops reading (Many (Then (punctuator s) e)) start.tokens new.tokens (reason_of d)
-  marked_stops start now new to found d p seen stops =
-      Stops-turn reading (Then (punctuator s) e) (one_of (as_written (marked_of f none))) start.tokens now.tokens new.tokens p.means (reason_of d) p.turns seen
-      stops
 
 -- ---- definitions
 

@@ -1,25 +1,27 @@
--- Names with a mark between two of them, and what may be missing.
-use Rattle.std.proofs.Common.{◌≡◌, ℕ, true, false, List, [], ◌∷◌, codes, refl, ap, ◌∙◌}
+-- Lists with a mark between two of their parts, names above all, and what may be missing.
+use Rattle.std.proofs.Common.{◌≡◌, ℕ, true, false, List, [], ◌∷◌, ◌++◌, map, codes, refl, sym, ap, ◌∙◌}
 use Rattle.graphql_grammar.specs.Tokens.{Token, Class}
 use Rattle.graphql_grammar.specs.Trees.{Expr, Empty, One, Then, Either, Many, Sym, Shape, Leaf, Both, First, Second, Nothing, optional, peek}
 use Rattle.graphql_grammar.specs.Tables.{nullable, first}
 use Rattle.graphql_grammar.specs.Factored.{written}
-use Rattle.graphql_grammar.specs.Reading.{sees, Takes, takes_first}
+use Rattle.graphql_grammar.specs.Reading.{sees, Takes, takes_first, takes_both}
 use Rattle.graphql_grammar.specs.Leads.{leads_first}
-use Rattle.graphql_grammar.specs.ReaderWords.{values}
-use Rattle.graphql_grammar.proofs.ReaderSteps.{Stops-first, picks-first}
+use Rattle.graphql_grammar.specs.ReaderWords.{TakesSome, Stops}
+use Rattle.graphql_grammar.proofs.ReaderSteps.{Stops-first, Stops-turn, Turns-stop, picks-first}
+use Rattle.graphql_core.specs.declared.helpers.stop.Stop.{Stop}
 use Rattle.graphql_core.specs.Source.{Items}
 use Rattle.graphql_core.specs.steps.Matching.{TakesToken}
 use Rattle.graphql_values.specs.Grammar as shared
 use Rattle.graphql_values.specs.Grammar.{punctuator, mark, keyword, any, tables as shared_tables}
 use Rattle.graphql_lexer.specs.declared.tokenizer.token.Kind.TheVariants.{Name}
-use Rattle.graphql_values.specs.Meanings.{spelling_at}
-use Rattle.graphql_values.proofs.Reading.{takes_one, takes_none, one_of, many_means}
+use Rattle.graphql_values.specs.steps.Answers.{Adds, reason_of}
+use Rattle.graphql_values.proofs.Reading.{takes_one, takes_none, one_of, adds_more}
 use Rattle.graphql_values.proofs.Alternatives.{IsSide}
 use Rattle.graphql_values.proofs.Steps.{Leads, here, past}
 use Rattle.graphql_schema_tree.specs.Grammar.{changes, joined_by, implements_symbol, members_symbol, tables}
-use Rattle.graphql_schema_tree.specs.Meanings.{marked_of, each_of}
+use Rattle.graphql_schema_tree.specs.Meanings.{marked_of, joined_of}
 use Rattle.graphql_schema.proofs.Dialect.{reading}
+use Rattle.graphql_schema.proofs.Lists.{as_written, Comes, each_means}
 
 -- after a token
 pub past_one : {e f : Expr} {inside : Shape → Shape} {ts : List Token} (c : Class) (old mid : Items) (t : Token)
@@ -55,18 +57,36 @@ pub members_begins : BeginsWith members_symbol (mark (codes "="))
 unfolding tables shared_tables
 members_begins = record { something = refl; first = refl }
 
+-- ---- a list with a mark between two of its parts: f is what a part means, and view what an element is seen as
+
+module _ {V A : Type 0} (s : List ℕ) (e : Expr) (f : Shape → A) (none : A) (view : V → A) where
+  -- until no mark comes
+  pub joined_taken : (old mid start now : Items) (from to new : List V) (m : Shape) → Takes reading (optional (punctuator s)) old.tokens m mid.tokens
+      → TakesSome reading e mid.tokens start.tokens (λ x. Adds view from to (as_written f x ∷ []))
+      → Comes (Then (punctuator s) e) (marked_of f none) view start now to new
+      → sees (first reading.rows (Then (punctuator s) e)) (peek now.tokens) ≡ false
+      → TakesSome reading (joined_by s e) old.tokens now.tokens (λ x. Adds view from new (joined_of f none (written changes x)))
+  joined_taken old mid start now from to new m marked (x, takes, adds) p unseen =
+      let a = Then (punctuator s) e in
+      let (xs, turns, are) = Turns-stop reading a (one_of (as_written (marked_of f none))) start.tokens now.tokens p.means p.turns unseen in (
+        Both m (Both x xs),
+        takes_both marked (takes_both takes turns),
+        adds_more view from to new (as_written f x ∷ []) p.means adds p.adds
+            ∙ ap (λ l. map view from ++ (as_written f x ∷ l)) (sym (each_means a (marked_of f none) view turns ∙ are)),
+      )
+
+  -- a part after the first stops
+  pub marked_stops : (start now new : Items) (to found : List V) (d : Stop) → Comes (Then (punctuator s) e) (marked_of f none) view start now to found
+      → sees (first reading.rows (Then (punctuator s) e)) (peek now.tokens) ≡ true → Stops reading (Then (punctuator s) e) now.tokens new.tokens (reason_of d)
+      → Stops reading (Many (Then (punctuator s) e)) start.tokens new.tokens (reason_of d)
+  marked_stops start now new to found d p seen stops =
+      Stops-turn reading (Then (punctuator s) e) (one_of (as_written (marked_of f none))) start.tokens now.tokens new.tokens p.means (reason_of d) p.turns seen
+      stops
+
 -- ---- names with a mark between two of them
 
 abbrev pub marked : List ℕ → Expr
 marked s = Then (punctuator s) shared.name
-
-abbrev pub read_marked : Shape → List ℕ
-read_marked x = marked_of spelling_at [] (written changes x)
-
-pub each_marked_means : (s : List ℕ) {ts us : List Token} {x : Shape} → Takes reading (Many (marked s)) ts x us
-    → each_of (marked_of spelling_at []) (written changes x) ≡ values (one_of read_marked) x
-each_marked_means s h = many_means reading (marked s) read_marked (λ x. each_of (marked_of spelling_at []) (written changes x)) (λ l. l) refl
-    (λ x y vs e. ap (λ l. read_marked x ∷ l) e) h
 
 -- the mark that may stand before the first is read
 pub after_mark : (s : List ℕ) {ts us : List Token} {m : Shape} → Takes reading (optional (punctuator s)) ts m us

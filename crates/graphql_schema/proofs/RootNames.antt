@@ -1,6 +1,6 @@
 -- Operations of a schema, one after the other.
 use Rattle.std.proofs.Common.{◌≡◌, ℕ, Bool, true, false, not, ◌||◌, if◌then◌else◌, cond, List, [], ◌∷◌, ◌++◌}
-use Rattle.std.proofs.Common.{Option, Some, None, option_map, is_some, codes, nat_eq, ◌==◌, refl, sym, ap, ap₂, subst, ◌∙◌, arith}
+use Rattle.std.proofs.Common.{Option, Some, None, option_map, is_some, codes, nat_eq, inl, inr, refl, sym, ap, ap₂, subst, ◌∙◌}
 use Rattle.std.specs.Cmp.Lexicographic.{pointwise}
 use Rattle.graphql_grammar.specs.Tokens.{Token, Place, same_spelling, is_listed}
 use Rattle.graphql_grammar.specs.Trees.{Shape, Many, Sym, More, Node}
@@ -8,6 +8,8 @@ use Rattle.graphql_grammar.specs.Reading.{Takes, takes_leaf, takes_both, takes_s
 use Rattle.graphql_grammar.specs.ReaderWords.{values}
 use Rattle.graphql_grammar.specs.Factored.{written}
 use Rattle.graphql_grammar.proofs.Classes.{same_spelling-true}
+use Rattle.graphql_core.proofs.Matches.{same_text_spelling}
+use Rattle.std.proofs.lemmas.Bool.{cases_Bool, false≢true}
 use Rattle.graphql_core.specs.declared.common.cause.Cause.{Cause}
 use Rattle.graphql_core.specs.Causes.{CauseText, cause_text, unknown_operation}
 use Rattle.graphql_core.specs.Source.{FaultText}
@@ -92,32 +94,19 @@ listed (r ∷ rs) w = cond_some (same_spelling w r.name) _ r.type_name (type_in 
 
 -- ---- what the reader has
 
--- a test of two texts as the grammar's test of two spellings
-text_spelling : (xs ys : List ℕ) → pointwise nat_eq xs ys ≡ same_spelling xs ys
-text_spelling [] [] = refl
-text_spelling [] (y ∷ ys) = refl
-text_spelling (x ∷ xs) [] = refl
-text_spelling (x ∷ xs) (y ∷ ys) = rw (byte x y, text_spelling xs ys) refl
-  where
-    byte : (m n : ℕ) → nat_eq m n ≡ (m == n)
-    byte m n = grind (arith)
-
+-- texts that are the same, and texts that are not
 pub is_text : (xs ys : List ℕ) → pointwise nat_eq xs ys ≡ true → xs ≡ ys
-is_text xs ys h = same_spelling-true xs ys (sym (text_spelling xs ys) ∙ h)
+is_text xs ys h = sym (same_spelling-true ys xs (sym (same_text_spelling xs ys) ∙ h))
+
+other_text : (n w : List ℕ) → pointwise nat_eq w w ≡ true → pointwise nat_eq n w ≡ false → same_spelling n w ≡ false
+other_text n w self other = elim (cases_Bool (same_spelling n w)) [
+  | inl same ↦ absurd (false≢true (sym other ∙ ap (λ m. pointwise nat_eq m w) (same_spelling-true n w same) ∙ self))
+  | inr e ↦ e
+]
 
 pub not_root : (n : List ℕ) → pointwise nat_eq n (codes "query") ≡ false → pointwise nat_eq n (codes "mutation") ≡ false
     → pointwise nat_eq n (codes "subscription") ≡ false → is_listed n root_names ≡ false
-not_root n q m s =
-    let q' : same_spelling n (codes "query") ≡ false = sym (text_spelling n (codes "query")) ∙ q in
-    let m' : same_spelling n (codes "mutation") ≡ false = sym (text_spelling n (codes "mutation")) ∙ m in
-    let s' : same_spelling n (codes "subscription") ≡ false = sym (text_spelling n (codes "subscription")) ∙ s in
-    none (same_spelling n (codes "query")) (same_spelling n (codes "mutation")) (same_spelling n (codes "subscription")) q' m' s'
-  where
-    none : (a b c : Bool) → a ≡ false → b ≡ false → c ≡ false → (a || (b || (c || false))) ≡ false
-    none true b c h k l = h
-    none false true c h k l = k
-    none false false true h k l = l
-    none false false false h k l = refl
+not_root n q m s = rw (other_text n (codes "query") refl q, other_text n (codes "mutation") refl m, other_text n (codes "subscription") refl s) refl
 
 -- a cause is that of a fault, and none of none
 some_fault : (u : Option Cause) (o : Option RootFault) → is_some u ≡ true

@@ -8,7 +8,8 @@ use Rattle.graphql_schema_tree.specs.Grammar.{changes, location_symbol, location
 use Rattle.graphql_schema_tree.specs.Meanings.{location_at, marked_of, joined_of}
 use Rattle.graphql_schema.proofs.Dialect.{reading, starts}
 use Rattle.graphql_schema.proofs.Lists.{as_written, turn_appends}
-use Rattle.graphql_schema.proofs.Directives.{joined_taken, marked_stops, adds_present}
+use Rattle.graphql_schema.proofs.Directives.{adds_present}
+use Rattle.graphql_schema.proofs.JoinedNames.{joined_taken, marked_stops}
 use Rattle.graphql_schema.proofs.read.directive.locations.Goals as goal
 
 pub returns-in_err-location-clause-reads : goal.returns-in_err-location-clause-reads
