@@ -1,37 +1,11 @@
 //! The calls, and what is right.
-use graphql_parser::query::{Document, MinifyError, ParseError, Text, minify_query, parse_query};
-use graphql_parser::{Cause, FormatError, Pos, Style};
+use crate::documents::{Refusal, refuse};
+use crate::schemas::use_schemas;
+use crate::tally::Tally;
+use graphql_parser::query::{Document, ParseError, Text, minify_query, parse_query};
+use graphql_parser::{FormatError, Style};
 use std::alloc::{AllocError, Global};
 use std::borrow::CowStr;
-
-/// How many answers are right, how many tell in the form of their call that an allocation failed, and how many are neither.
-#[derive(Clone, Copy, Default)]
-pub struct Tally {
-    pub right: u32,
-    pub out_of_memory: u32,
-    pub wrong: u32,
-}
-
-impl Tally {
-    /// Counts an answer.
-    fn add(&mut self, right: bool, out_of_memory: bool) {
-        if right {
-            self.right = self.right.saturating_add(1);
-        } else if out_of_memory {
-            self.out_of_memory = self.out_of_memory.saturating_add(1);
-        } else {
-            self.wrong = self.wrong.saturating_add(1);
-        }
-    }
-
-    /// Counts a text that was asked for.
-    fn add_text<E>(&mut self, answer: &Result<String, E>, wanted: &str, out_of_memory: bool) {
-        match answer {
-            Ok(text) => self.add(text.as_str() == wanted, false),
-            Err(_) => self.add(false, out_of_memory),
-        }
-    }
-}
 
 /// Documents, and their layouts in the default style.
 const DOCUMENTS: [(&str, &str); 4] = [
@@ -64,11 +38,6 @@ const REFUSED: [(&str, usize); 7] = [
 /// Texts, and what they are minified to.
 const MINIFIED: [(&str, &str); 2] = [("", ""), ("a-1 ... \"b\"\"c\"", "a -1 ...\"b\" \"c\"")];
 
-/// Whether a text is refused because an allocation failed, which has no position.
-fn ran_out(error: &ParseError) -> bool {
-    matches!(error.cause(), Cause::OutOfMemory) && error.position().is_none()
-}
-
 /// Lays a document out and clones it.
 fn use_document<'a, T: Text<'a>>(
     alloc: Global,
@@ -79,10 +48,7 @@ fn use_document<'a, T: Text<'a>>(
     let answer = document.format(alloc, &Style::default());
     let out_of_memory = matches!(answer, Err(FormatError::OutOfMemory));
     tally.add_text(&answer, layout, out_of_memory);
-    match document.clone() {
-        Ok(copy) => tally.add(copy == *document, false),
-        Err(_) => tally.add(false, true),
-    }
+    tally.add_copy(document);
 }
 
 /// Reads each document, and uses it.
@@ -94,7 +60,7 @@ fn read_documents<'a, T: Text<'a>>(alloc: Global, tally: &mut Tally) {
                 tally.add(true, false);
                 use_document(alloc, tally, &document, layout);
             }
-            Err(error) => tally.add(false, ran_out(&error)),
+            Err(error) => tally.add(false, Refusal::of_query(&error).ran_out),
         }
     }
 }
@@ -105,28 +71,9 @@ fn show_documents(alloc: Global, tally: &mut Tally) {
         let answer: Result<Document<'_, &str>, ParseError> = parse_query(alloc, text);
         match answer {
             Ok(document) => tally.add_text(&document.to_string(alloc), layout, true),
-            Err(error) => tally.add(false, ran_out(&error)),
+            Err(error) => tally.add(false, Refusal::of_query(&error).ran_out),
         }
     }
-}
-
-/// Reads texts that are no documents.
-fn refuse(alloc: Global, tally: &mut Tally) {
-    for (text, column) in REFUSED {
-        let answer: Result<Document<'_, &str>, ParseError> = parse_query(alloc, text);
-        match answer {
-            Ok(_) => tally.add(false, false),
-            Err(error) => {
-                let place = Pos { line: 1, column };
-                tally.add(error.position() == Some(place), ran_out(&error));
-            }
-        }
-    }
-}
-
-/// Whether a text is not minified because an allocation failed, which has no position.
-fn minify_ran_out(error: &MinifyError) -> bool {
-    matches!(error.cause(), Cause::OutOfMemory) && error.position().is_none()
 }
 
 /// Minifies texts.
@@ -137,7 +84,7 @@ fn minify(alloc: Global, tally: &mut Tally) {
             continue;
         };
         let answer = minify_query(alloc, source);
-        let out_of_memory = matches!(&answer, Err(error) if minify_ran_out(error));
+        let out_of_memory = matches!(&answer, Err(error) if Refusal::of_minifying(error).ran_out);
         tally.add_text(&answer, minified, out_of_memory);
     }
 }
@@ -147,10 +94,7 @@ fn refuse_to_minify(alloc: Global, tally: &mut Tally) {
     match String::from_str(alloc, "{ a ; }") {
         Ok(source) => match minify_query(alloc, source) {
             Ok(_) => tally.add(false, false),
-            Err(error) => {
-                let place = Pos { line: 1, column: 5 };
-                tally.add(error.position() == Some(place), minify_ran_out(&error));
-            }
+            Err(error) => Refusal::of_minifying(&error).count(tally, 5),
         },
         Err(AllocError) => tally.add(false, true),
     }
@@ -163,8 +107,9 @@ pub fn make_calls(alloc: Global) -> Tally {
     read_documents::<String>(alloc, &mut tally);
     read_documents::<CowStr>(alloc, &mut tally);
     show_documents(alloc, &mut tally);
-    refuse(alloc, &mut tally);
+    refuse::<Document<'_, &str>>(alloc, &mut tally, &REFUSED);
     minify(alloc, &mut tally);
     refuse_to_minify(alloc, &mut tally);
+    use_schemas(alloc, &mut tally);
     tally
 }

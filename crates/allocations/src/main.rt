@@ -6,8 +6,12 @@
 #![tactic(auto)]
 
 mod calls;
+mod documents;
+mod schemas;
+mod tally;
 
-use crate::calls::{Tally, make_calls};
+use crate::calls::make_calls;
+use crate::tally::Tally;
 use std::alloc::Global;
 use std::io;
 use std::process::ExitCode;

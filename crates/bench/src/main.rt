@@ -1,26 +1,43 @@
-//! `bench`: how long the library takes to cut, parse and lay out a query document in memory.
+//! `bench`: how long the library takes to cut, parse and lay out a document in memory.
 #![tactic(auto)]
 
 mod work;
 
-use crate::work::{Work, run};
-use graphql_parser::query::{Document, parse_query};
+use crate::work::{Document, Work, run};
+use graphql_parser::{query, schema};
 use std::process::ExitCode;
 use std::time::{Duration, Instant};
 use std::{env, fs, io};
 
-/// What is told where the words are no file and no number of rounds.
-const USAGE: &str = "usage: bench FILE ROUNDS";
+/// What is told where the words are no language, no file and no number of rounds.
+const USAGE: &str = "usage: bench query|schema FILE ROUNDS";
 
-/// The file and the number of rounds that the words name.
-fn words(rt: &HostRuntime) -> Option<(String, u32)> {
+/// The languages of documents.
+#[derive(Clone, Copy)]
+enum Language {
+    Query,
+    Schema,
+}
+
+/// The language that a word names.
+fn read_language(word: &str) -> Option<Language> {
+    match word {
+        "query" => Some(Language::Query),
+        "schema" => Some(Language::Schema),
+        _ => None,
+    }
+}
+
+/// The language, the file and the number of rounds that the words name.
+fn words(rt: &HostRuntime) -> Option<(Language, String, u32)> {
     let mut args = env::args(rt).ok()?.skip(1);
+    let language = read_language(args.next()?.as_str())?;
     let file = args.next()?;
     let rounds: u32 = args.next()?.as_str().parse().ok()?;
     if rounds == 0 || args.next().is_some() {
         return None;
     }
-    Some((file, rounds))
+    Some((language, file, rounds))
 }
 
 /// The lesser of the least time so far, where there is one, and another.
@@ -32,17 +49,17 @@ fn lesser(least: Option<Duration>, elapsed: Duration) -> Option<Duration> {
 }
 
 /// The least time that the work takes; none where it does not come to its end.
-fn least(
+fn least<'a, B: Document<'a>, O: Document<'a>>(
     rt: &HostRuntime,
     rounds: u32,
     work: Work,
-    source: &str,
-    document: &Document<'_, &str>,
+    source: &'a str,
+    document: &B,
 ) -> io::Result<Option<Duration>> {
     let mut least = None;
     'rounds: for _ in 0..rounds {
         let start = Instant::now(rt)?;
-        let done = run(rt.alloc(), work, source, document);
+        let done = run::<B, O>(rt.alloc(), work, source, document);
         let elapsed = start.elapsed(rt)?;
         if !done {
             return Ok(None);
@@ -53,16 +70,16 @@ fn least(
 }
 
 /// The least times to parse and to drop what was parsed, each for itself; none where the text is refused.
-fn least_parts(
+fn least_parts<'a, D: Document<'a>>(
     rt: &HostRuntime,
     rounds: u32,
-    source: &str,
+    source: &'a str,
 ) -> io::Result<(Option<Duration>, Option<Duration>)> {
     let mut parsing = None;
     let mut dropping = None;
     'rounds: for _ in 0..rounds {
         let start = Instant::now(rt)?;
-        let parsed: Result<Document<'_, &str>, _> = parse_query(rt.alloc(), source);
+        let parsed = D::parse(rt.alloc(), source);
         parsing = lesser(parsing, start.elapsed(rt)?);
         let Ok(document) = parsed else {
             return Ok((None, None));
@@ -83,8 +100,12 @@ fn print_time(rt: &HostRuntime, name: &str, least: Option<Duration>) -> io::Resu
 }
 
 /// Measures every kind of work on one document, and prints its least time in microseconds.
-fn measure_all(rt: &HostRuntime, rounds: u32, source: &str) -> io::Result<bool> {
-    let document: Document<'_, &str> = match parse_query(rt.alloc(), source) {
+fn measure_all<'a, B: Document<'a>, O: Document<'a>>(
+    rt: &HostRuntime,
+    rounds: u32,
+    source: &'a str,
+) -> io::Result<bool> {
+    let document = match B::parse(rt.alloc(), source) {
         Ok(document) => document,
         Err(error) => {
             eprintln!(rt; "{error}")?;
@@ -98,26 +119,39 @@ fn measure_all(rt: &HostRuntime, rounds: u32, source: &str) -> io::Result<bool> 
         ("parse and drop (String)", Work::ParseOwned),
         ("format", Work::Format),
     ] {
-        print_time(rt, name, least(rt, rounds, work, source, &document)?)?;
+        let least = least::<B, O>(rt, rounds, work, source, &document)?;
+        print_time(rt, name, least)?;
     }
-    let (parsing, dropping) = least_parts(rt, rounds, source)?;
+    let (parsing, dropping) = least_parts::<B>(rt, rounds, source)?;
     print_time(rt, "parse alone (&str)", parsing)?;
     print_time(rt, "drop (&str)", dropping)?;
     Ok(true)
 }
 
 /// Reads the file and measures.
-fn bench(rt: &HostRuntime, file: &str, rounds: u32) -> io::Result<bool> {
-    let source = fs::read_to_string(rt, file)?;
-    measure_all(rt, rounds, source.as_str())
+fn bench(rt: &HostRuntime, language: Language, file: &str, rounds: u32) -> io::Result<bool> {
+    let text = fs::read_to_string(rt, file)?;
+    let source = text.as_str();
+    match language {
+        Language::Query => {
+            measure_all::<query::Document<'_, &str>, query::Document<'_, String>>(
+                rt, rounds, source,
+            )
+        }
+        Language::Schema => {
+            measure_all::<schema::Document<'_, &str>, schema::Document<'_, String>>(
+                rt, rounds, source,
+            )
+        }
+    }
 }
 
 fn main(rt: HostRuntime) -> ExitCode {
-    let Some((file, rounds)) = words(&rt) else {
+    let Some((language, file, rounds)) = words(&rt) else {
         let _ = println!(rt; "{USAGE}");
         return ExitCode::from(2);
     };
-    match bench(&rt, file.as_str(), rounds) {
+    match bench(&rt, language, file.as_str(), rounds) {
         Ok(true) => ExitCode::from(0),
         Ok(false) => ExitCode::from(1),
         Err(_) => {

@@ -1,8 +1,46 @@
 //! What is measured.
-use graphql_parser::Style;
-use graphql_parser::query::{Document, parse_query};
+use graphql_parser::common::Text;
 use graphql_parser::tokenizer::TokenStream;
+use graphql_parser::{Style, query, schema};
 use std::alloc::Global;
+use std::fmt::Display;
+
+/// A document of a language, with names of a text type.
+pub trait Document<'a>: Drop {
+    /// Why a text is none.
+    type Error: Display + Drop;
+
+    /// The document of a text.
+    fn parse(alloc: Global, source: &'a str) -> Result<Self, Self::Error>;
+
+    /// Lays it out; whether that is done.
+    fn lay_out(&self, alloc: Global) -> bool;
+}
+
+impl<'a, T: Text<'a>> Document<'a> for query::Document<'a, T> {
+    type Error = query::ParseError;
+
+    fn parse(alloc: Global, source: &'a str) -> Result<Self, query::ParseError> {
+        query::parse_query(alloc, source)
+    }
+
+    fn lay_out(&self, alloc: Global) -> bool {
+        self.format(alloc, &Style::default()).is_ok()
+    }
+}
+
+impl<'a, T: Text<'a>> Document<'a> for schema::Document<'a, T> {
+    type Error = schema::ParseError;
+
+    fn parse(alloc: Global, source: &'a str) -> Result<Self, schema::ParseError> {
+        schema::parse_schema(alloc, source)
+    }
+
+    /// Nothing lays out schemas.
+    fn lay_out(&self, _alloc: Global) -> bool {
+        false
+    }
+}
 
 /// Work whose time is taken.
 #[derive(Clone, Copy)]
@@ -33,24 +71,17 @@ fn cut(source: &str) -> bool {
     false
 }
 
-/// Parses a text; whether it is a document.
-fn parse_borrowed(alloc: Global, source: &str) -> bool {
-    let document: Result<Document<'_, &str>, _> = parse_query(alloc, source);
-    document.is_ok()
-}
-
-/// The same with owned names.
-fn parse_owned(alloc: Global, source: &str) -> bool {
-    let document: Result<Document<'_, String>, _> = parse_query(alloc, source);
-    document.is_ok()
-}
-
-/// Does the work once on a text and its document; whether it came to its end.
-pub fn run(alloc: Global, work: Work, source: &str, document: &Document<'_, &str>) -> bool {
+/// Does the work once on a text and its document, with borrowed names and with owned ones; whether it came to its end.
+pub fn run<'a, B: Document<'a>, O: Document<'a>>(
+    alloc: Global,
+    work: Work,
+    source: &'a str,
+    document: &B,
+) -> bool {
     match work {
         Work::Cut => cut(source),
-        Work::ParseBorrowed => parse_borrowed(alloc, source),
-        Work::ParseOwned => parse_owned(alloc, source),
-        Work::Format => document.format(alloc, &Style::default()).is_ok(),
+        Work::ParseBorrowed => B::parse(alloc, source).is_ok(),
+        Work::ParseOwned => O::parse(alloc, source).is_ok(),
+        Work::Format => document.lay_out(alloc),
     }
 }

@@ -5,6 +5,7 @@ pub use graphql_core::common::{BadToken, Cause};
 pub use graphql_core::format::{FormatError, Style};
 pub use graphql_core::position::Pos;
 pub use graphql_query::{minify_query, parse_query};
+pub use graphql_schema::parse_schema;
 
 /// Text types, numbers, values of strings, and causes of faults.
 pub mod common {
@@ -27,6 +28,18 @@ pub mod query {
         MinifyError, Mutation, Names, OperationDefinition, ParseError, Query, Selection,
         SelectionSet, Subscription, Text, TypeCondition, VariableDefinition, minify_query,
         parse_query,
+    };
+    pub use graphql_values::{Directive, Type, Value};
+}
+
+/// Schema documents.
+pub mod schema {
+    pub use graphql_schema::{
+        Definition, DirectiveDefinition, DirectiveLocation, Document, EnumType, EnumTypeExtension,
+        EnumValue, Field, InputObjectType, InputObjectTypeExtension, InputValue, InterfaceType,
+        InterfaceTypeExtension, InvalidDirectiveLocation, Names, ObjectType, ObjectTypeExtension,
+        ParseError, ScalarType, ScalarTypeExtension, SchemaDefinition, Text, TypeDefinition,
+        TypeExtension, UnionType, UnionTypeExtension, parse_schema,
     };
     pub use graphql_values::{Directive, Type, Value};
 }

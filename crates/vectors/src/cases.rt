@@ -1,17 +1,14 @@
 //! Cases: what is asked of a text, and what is wanted.
+use crate::languages::Language;
 use crate::told::Told;
 
 /// What is asked of a text.
 #[derive(Clone, Copy)]
 pub enum Asked {
-    /// To parse it as a query document, and to lay that out in a style.
-    Layout { indent: u32, multiline: bool },
-    /// To parse it as a query document, and to show the tree.
-    Tree,
-    /// The same, and to show the parts of the tree one by one.
-    Parts,
-    /// To parse each of its lines as a query document, of which no two are equal.
-    Unlike,
+    /// To parse it as a document of a language, and to tell of that.
+    Document(Language, Telling),
+    /// To parse each of its lines as a document of a language, of which no two are equal.
+    Unlike(Language),
     /// To minify it.
     Minify,
     /// To cut it into its tokens.
@@ -24,6 +21,19 @@ pub enum Asked {
     Float,
     /// To make as many boxes as the number that it is, one after another.
     Boxes,
+}
+
+/// What is asked of a document.
+#[derive(Clone, Copy)]
+pub enum Telling {
+    /// To lay it out in a style.
+    Layout { indent: u32, multiline: bool },
+    /// To show the tree.
+    Tree,
+    /// To show the parts of the tree one by one.
+    Parts,
+    /// No more than that it is there.
+    Nothing,
 }
 
 /// What is wanted of a text.
@@ -66,7 +76,7 @@ impl Case<'_> {
             return false;
         }
         match (self.asked, self.answer) {
-            (Asked::Tree, Answer::Text(lines)) => !told.is_refusal()
+            (Asked::Document(_, Telling::Tree), Answer::Text(lines)) => !told.is_refusal()
                 && is_in_lines(told.text(), lines),
             _ => self.answer.is_met(told),
         }
@@ -87,20 +97,30 @@ fn sized<'a>(text: &'a str, length: &str) -> Option<(&'a str, &'a str)> {
     Some((sized, after.strip_prefix('\n')?))
 }
 
-/// What a word asks, with so many spaces a level.
-fn read_word(word: &str, indent: u32) -> Option<Asked> {
+/// What a word asks of query documents, with so many spaces a level.
+fn read_telling(word: &str, indent: u32) -> Option<Telling> {
     match word {
-        "query" => Some(Asked::Layout {
+        "query" => Some(Telling::Layout {
             indent,
             multiline: false,
         }),
-        "lines" => Some(Asked::Layout {
+        "lines" => Some(Telling::Layout {
             indent,
             multiline: true,
         }),
-        "tree" => Some(Asked::Tree),
-        "parts" => Some(Asked::Parts),
-        "unlike" => Some(Asked::Unlike),
+        "tree" => Some(Telling::Tree),
+        "parts" => Some(Telling::Parts),
+        _ => None,
+    }
+}
+
+/// What another word asks.
+fn read_word(word: &str) -> Option<Asked> {
+    match word {
+        "unlike" => Some(Asked::Unlike(Language::Query)),
+        "schema" => Some(Asked::Document(Language::Schema, Telling::Nothing)),
+        "schema-tree" => Some(Asked::Document(Language::Schema, Telling::Tree)),
+        "schemas-unlike" => Some(Asked::Unlike(Language::Schema)),
         "minify" => Some(Asked::Minify),
         "tokens" => Some(Asked::Tokens),
         "quoted" => Some(Asked::Quoted),
@@ -118,7 +138,11 @@ fn read_asked(line: &str) -> Option<(Asked, &str)> {
         Some((length, indent)) => (length, indent.parse().ok()?),
         None => (numbers, 2),
     };
-    Some((read_word(word, indent)?, length))
+    let asked = match read_telling(word, indent) {
+        Some(telling) => Asked::Document(Language::Query, telling),
+        None => read_word(word)?,
+    };
+    Some((asked, length))
 }
 
 /// The answer at the front, and what follows.

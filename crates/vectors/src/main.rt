@@ -10,6 +10,8 @@
 //! - `parts`: wanted is what `Display` shows of the query document, and then of its parts down to the first selections,
 //!   each with LF after it;
 //! - `unlike`: each line of the text is a query document, and no two of them are equal;
+//! - `schema`, whose text is a schema document: wanted is that it is accepted or refused, since nothing prints schemas;
+//! - `schema-tree` and `schemas-unlike`: as `tree` and `unlike`, of schema documents;
 //! - `minify`: wanted is the minified text;
 //! - `tokens`: wanted is a line for each item, the last without LF: its position, its offset, the brackets that are open
 //!   before it, and the token and its kind, or `end` or the bad place and the count of cuts when it is answered twice;
@@ -21,11 +23,12 @@
 
 mod cases;
 mod documents;
+mod languages;
 mod parts;
 mod tokens;
 mod told;
 
-use crate::cases::{Asked, Case, next_case};
+use crate::cases::{Asked, Case, Telling, next_case};
 use crate::documents::{told_of, told_of_layouts, told_of_lines};
 use crate::tokens::{tell_block, tell_float, tell_items, tell_quoted, told_of_minifying};
 use crate::told::Told;
@@ -61,9 +64,14 @@ fn told_of_tokens(alloc: Global, source: &str, asked: Asked) -> Told {
 /// What is told of a case's text.
 fn told_of_case(alloc: Global, case: &Case<'_>) -> Told {
     match case.asked {
-        Asked::Layout { .. } => told_of_layouts(alloc, case.source, case.asked),
-        Asked::Tree | Asked::Parts => told_of(alloc, case.source, case.asked),
-        Asked::Unlike => told_of_lines(alloc, case.source),
+        Asked::Document(language, telling @ Telling::Layout { .. }) => told_of_layouts(
+            alloc,
+            language,
+            case.source,
+            telling,
+        ),
+        Asked::Document(language, telling) => told_of(alloc, language, case.source, telling),
+        Asked::Unlike(language) => told_of_lines(alloc, language, case.source),
         Asked::Minify => told_of_minifying(alloc, case.source),
         _ => told_of_tokens(alloc, case.source, case.asked),
     }
