@@ -1,9 +1,8 @@
 //! The calls, and what is right.
-use crate::documents::{Refusal, refuse};
+use crate::documents::{Refusal, read_documents, refuse, show_documents};
 use crate::schemas::use_schemas;
 use crate::tally::Tally;
-use graphql_parser::query::{Document, ParseError, Text, minify_query, parse_query};
-use graphql_parser::{FormatError, Style};
+use graphql_parser::query::{Document, minify_query};
 use std::alloc::{AllocError, Global};
 use std::borrow::CowStr;
 
@@ -38,44 +37,6 @@ const REFUSED: [(&str, usize); 7] = [
 /// Texts, and what they are minified to.
 const MINIFIED: [(&str, &str); 2] = [("", ""), ("a-1 ... \"b\"\"c\"", "a -1 ...\"b\" \"c\"")];
 
-/// Lays a document out and clones it.
-fn use_document<'a, T: Text<'a>>(
-    alloc: Global,
-    tally: &mut Tally,
-    document: &Document<'a, T>,
-    layout: &str,
-) {
-    let answer = document.format(alloc, &Style::default());
-    let out_of_memory = matches!(answer, Err(FormatError::OutOfMemory));
-    tally.add_text(&answer, layout, out_of_memory);
-    tally.add_copy(document);
-}
-
-/// Reads each document, and uses it.
-fn read_documents<'a, T: Text<'a>>(alloc: Global, tally: &mut Tally) {
-    for (text, layout) in DOCUMENTS {
-        let answer: Result<Document<'a, T>, ParseError> = parse_query(alloc, text);
-        match answer {
-            Ok(document) => {
-                tally.add(true, false);
-                use_document(alloc, tally, &document, layout);
-            }
-            Err(error) => tally.add(false, Refusal::of_query(&error).ran_out),
-        }
-    }
-}
-
-/// Shows a document's text as `Display` has it.
-fn show_documents(alloc: Global, tally: &mut Tally) {
-    for (text, layout) in DOCUMENTS {
-        let answer: Result<Document<'_, &str>, ParseError> = parse_query(alloc, text);
-        match answer {
-            Ok(document) => tally.add_text(&document.to_string(alloc), layout, true),
-            Err(error) => tally.add(false, Refusal::of_query(&error).ran_out),
-        }
-    }
-}
-
 /// Minifies texts.
 fn minify(alloc: Global, tally: &mut Tally) {
     for (text, minified) in MINIFIED {
@@ -103,10 +64,10 @@ fn refuse_to_minify(alloc: Global, tally: &mut Tally) {
 /// Makes each call.
 pub fn make_calls(alloc: Global) -> Tally {
     let mut tally = Tally::default();
-    read_documents::<&str>(alloc, &mut tally);
-    read_documents::<String>(alloc, &mut tally);
-    read_documents::<CowStr>(alloc, &mut tally);
-    show_documents(alloc, &mut tally);
+    read_documents::<Document<'_, &str>>(alloc, &mut tally, &DOCUMENTS);
+    read_documents::<Document<'_, String>>(alloc, &mut tally, &DOCUMENTS);
+    read_documents::<Document<'_, CowStr<'_>>>(alloc, &mut tally, &DOCUMENTS);
+    show_documents::<Document<'_, &str>>(alloc, &mut tally, &DOCUMENTS);
     refuse::<Document<'_, &str>>(alloc, &mut tally, &REFUSED);
     minify(alloc, &mut tally);
     refuse_to_minify(alloc, &mut tally);

@@ -1,8 +1,9 @@
 //! Documents of both languages, and why a text is none.
 use crate::tally::Tally;
 use graphql_parser::common::Text;
-use graphql_parser::{Cause, Pos, query, schema};
+use graphql_parser::{Cause, FormatError, Pos, Style, query, schema};
 use std::alloc::Global;
+use std::fmt::Display;
 
 /// Why a text is refused.
 #[derive(Clone, Copy)]
@@ -22,7 +23,7 @@ impl Refusal {
     }
 
     /// Why a text is no query document.
-    pub fn of_query(error: &query::ParseError) -> Self {
+    fn of_query(error: &query::ParseError) -> Self {
         Refusal::new(error.cause(), error.position())
     }
 
@@ -44,9 +45,12 @@ impl Refusal {
 }
 
 /// A document of a language, with names of a text type.
-pub trait Document<'a>: Clone + PartialEq + Drop {
+pub trait Document<'a>: Clone + PartialEq + Display + Drop {
     /// The document of a text.
     fn parse(alloc: Global, source: &'a str) -> Result<Self, Refusal>;
+
+    /// Its text in the default style.
+    fn laid_out(&self, alloc: Global) -> Result<String, FormatError>;
 }
 
 impl<'a, T: Text<'a>> Document<'a> for query::Document<'a, T> {
@@ -56,6 +60,10 @@ impl<'a, T: Text<'a>> Document<'a> for query::Document<'a, T> {
             Err(error) => Err(Refusal::of_query(&error)),
         }
     }
+
+    fn laid_out(&self, alloc: Global) -> Result<String, FormatError> {
+        self.format(alloc, &Style::default())
+    }
 }
 
 impl<'a, T: Text<'a>> Document<'a> for schema::Document<'a, T> {
@@ -63,6 +71,44 @@ impl<'a, T: Text<'a>> Document<'a> for schema::Document<'a, T> {
         match schema::parse_schema(alloc, source) {
             Ok(document) => Ok(document),
             Err(error) => Err(Refusal::of_schema(&error)),
+        }
+    }
+
+    fn laid_out(&self, alloc: Global) -> Result<String, FormatError> {
+        self.format(alloc, &Style::default())
+    }
+}
+
+/// Reads texts, each with its layout, lays their documents out and clones them.
+pub fn read_documents<'a, D: Document<'a>>(
+    alloc: Global,
+    tally: &mut Tally,
+    texts: &[(&'a str, &str)],
+) {
+    for (text, layout) in texts {
+        match D::parse(alloc, *text) {
+            Ok(document) => {
+                tally.add(true, false);
+                let answer = document.laid_out(alloc);
+                let out_of_memory = matches!(answer, Err(FormatError::OutOfMemory));
+                tally.add_text(&answer, *layout, out_of_memory);
+                tally.add_copy(&document);
+            }
+            Err(refusal) => tally.add(false, refusal.ran_out),
+        }
+    }
+}
+
+/// Shows the documents of texts as `Display` has them.
+pub fn show_documents<'a, D: Document<'a>>(
+    alloc: Global,
+    tally: &mut Tally,
+    texts: &[(&'a str, &str)],
+) {
+    for (text, layout) in texts {
+        match D::parse(alloc, *text) {
+            Ok(document) => tally.add_text(&document.to_string(alloc), *layout, true),
+            Err(refusal) => tally.add(false, refusal.ran_out),
         }
     }
 }

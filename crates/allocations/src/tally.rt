@@ -1,6 +1,4 @@
 //! What is told of the answers.
-use std::alloc::Global;
-use std::fmt::Debug;
 
 /// How many answers are right, how many tell in the form of their call that an allocation failed, and how many are neither.
 #[derive(Clone, Copy, Default)]
@@ -28,16 +26,6 @@ impl Tally {
             Ok(text) => self.add(text.as_str() == wanted, false),
             Err(_) => self.add(false, out_of_memory),
         }
-    }
-    /// Counts what was made: it is shown as wanted, and its clone is equal.
-    pub fn add_made<D: Clone + Debug + PartialEq + Drop>(
-        &mut self,
-        alloc: Global,
-        made: &D,
-        wanted: &str,
-    ) {
-        self.add_text(&format!(in alloc; "{made:?}"), wanted, true);
-        self.add_copy(made);
     }
 
     /// Counts a clone, which is equal.

@@ -36,9 +36,8 @@ impl<'a, T: Text<'a>> Document<'a> for schema::Document<'a, T> {
         schema::parse_schema(alloc, source)
     }
 
-    /// Nothing lays out schemas.
-    fn lay_out(&self, _alloc: Global) -> bool {
-        false
+    fn lay_out(&self, alloc: Global) -> bool {
+        self.format(alloc, &Style::default()).is_ok()
     }
 }
 

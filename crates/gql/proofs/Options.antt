@@ -1,14 +1,14 @@
 -- What words say: options after what was said so far, and commands.
 use Rattle.std.proofs.Common.{◌≡◌, ◌∙◌, ℕ, Bool, true, false, List, [], ◌∷◌, Option, Some, None, refl, sym, ap, subst, arith}
-use Rattle.std.specs.Prelude.{◌↔◌, codes, nat_eq, option_map}
+use Rattle.std.specs.Prelude.{◌↔◌, codes, nat_eq}
 use Rattle.std.specs.Cmp.Lexicographic.{pointwise}
 use Rattle.std.specs.Str.Parse.{digits_value}
 use Rattle.std.proofs.lemmas.Bool.{and_parts, eqb-true, false≢true}
 use Rattle.graphql_core.specs.Style.{Layout, default_style}
 use Rattle.gql.specs.Words.{is_indent, is_multiline, is_number, number_of, style_said, Says, SaysStyle, all_said, says_multiline, says_indent}
-use Rattle.gql.specs.Words.{Means, means_query, means_minify}
+use Rattle.gql.specs.Words.{Means, means_styled, means_minify, styled_command}
 use Rattle.gql.specs.declared.command.Command.{Command}
-use Rattle.gql.specs.declared.command.Command.TheVariants.{Query, Minify}
+use Rattle.gql.specs.declared.command.Command.TheVariants.{Minify}
 
 -- no word is both
 both_words : (w : List ℕ) → is_multiline w ≡ true → is_indent w ≡ true → ⊥
@@ -83,32 +83,35 @@ all_left {options = options} {i = i} {m = m} {r = r} e is left style =
 
 -- ---- commands
 
--- no word is both
-both_commands : (w : List ℕ) → pointwise nat_eq w (codes "query") ≡ true → pointwise nat_eq w (codes "minify") ≡ true → ⊥
-both_commands [] q m = absurd (false≢true q)
-both_commands (a ∷ cs) q m =
-    let one = eqb-true a 113 (and_parts _ _ q).0 in
-    let other = eqb-true a 109 (and_parts _ _ m).0 in
-    omega arith
+-- `minify` takes no options
+minify_unstyled : (w : List ℕ) (c : Command) → pointwise nat_eq w (codes "minify") ≡ true → styled_command w ≡ Some c → ⊥
+minify_unstyled [] c m q = absurd (false≢true m)
+minify_unstyled (a ∷ cs) c m q =
+    let one = eqb-true a 109 (and_parts _ _ m).0 in
+    let none : None ≡ Some c = rw one at q in
+    absurd cc
 
-query_said : {ws : List (List ℕ)} {w : List ℕ} {style : Layout} {said : Command × Layout} → pointwise nat_eq w (codes "query") ≡ true
-    → ((s : Layout) → Some style ≡ Some s ↔ SaysStyle ws s) → Means (w ∷ ws) said → Some (Query, style) ≡ Some said
-query_said q is (means_query k says) = ap (λ o. option_map (λ s. (Query, s)) o) ((is _).1 says)
-query_said {w = w} q is (means_minify k) = absurd (both_commands w q k)
+styled_said : {ws : List (List ℕ)} {w : List ℕ} {command : Command} {style : Layout} {said : Command × Layout} → styled_command w ≡ Some command
+    → ((s : Layout) → Some style ≡ Some s ↔ SaysStyle ws s) → Means (w ∷ ws) said → Some (command, style) ≡ Some said
+styled_said {command = command} q is (means_styled {command = other} {style = here} k says) =
+    let one : Some command ≡ Some other = sym q ∙ k in
+    let two = (is here).1 says in
+    cc
+styled_said {w = w} q is (means_minify k) = absurd (minify_unstyled w _ k q)
 
-pub means_one_query : (words ws : List (List ℕ)) (w : List ℕ) (style : Layout) → (r : Option Layout) → r ≡ Some style
-    → ((s : Layout) → r ≡ Some s ↔ SaysStyle ws s) → words ≡ w ∷ ws → pointwise nat_eq w (codes "query") ≡ true
-    → (said : Command × Layout) → Some (Query, style) ≡ Some said ↔ Means words said
-means_one_query words ws w style r was here e q said =
+pub means_one_styled : (words ws : List (List ℕ)) (w : List ℕ) (command : Command) (style : Layout) → (r : Option Layout) → r ≡ Some style
+    → ((s : Layout) → r ≡ Some s ↔ SaysStyle ws s) → words ≡ w ∷ ws → styled_command w ≡ Some command
+    → (said : Command × Layout) → Some (command, style) ≡ Some said ↔ Means words said
+means_one_styled words ws w command style r was here e q said =
     let is : (s : Layout) → Some style ≡ Some s ↔ SaysStyle ws s = subst (λ o. (s : Layout) → o ≡ Some s ↔ SaysStyle ws s) was here in
-    let means : Means words (Query, style) = subst (λ x. Means x (Query, style)) (sym e) (means_query q ((is style).0 refl)) in (
-      λ same. let equal : Some (Query, style) ≡ Some said = same in let one : (Query, style) ≡ said = cc in subst (λ s. Means words s) one means,
-      λ means. query_said q is (subst (λ x. Means x said) e means),
+    let means : Means words (command, style) = subst (λ x. Means x (command, style)) (sym e) (means_styled q ((is style).0 refl)) in (
+      λ same. let equal : Some (command, style) ≡ Some said = same in let one : (command, style) ≡ said = cc in subst (λ s. Means words s) one means,
+      λ means. styled_said q is (subst (λ x. Means x said) e means),
     )
 
 minify_said : {w : List ℕ} {said : Command × Layout} → pointwise nat_eq w (codes "minify") ≡ true → Means (w ∷ []) said
     → Some (Minify, default_style) ≡ Some said
-minify_said {w = w} m (means_query k says) = absurd (both_commands w k m)
+minify_said {w = w} m (means_styled k says) = absurd (minify_unstyled w _ m k)
 minify_said m (means_minify k) = refl
 
 pub means_one_minify : (words : List (List ℕ)) (w : List ℕ) (style : Layout) → words ≡ w ∷ [] → pointwise nat_eq w (codes "minify") ≡ true
@@ -116,7 +119,7 @@ pub means_one_minify : (words : List (List ℕ)) (w : List ℕ) (style : Layout)
 means_one_minify words w style e m is said =
     let means : Means words (Minify, default_style) = subst (λ x. Means x (Minify, default_style)) (sym e) (means_minify m) in
     let whole : Some (Minify, style) ≡ Some (Minify, default_style) = ap (λ s. Some (Minify, s)) is in (
-      λ same. let equal : Some (Minify, default_style) ≡ Some said = sym whole ∙ same in let one : (Minify, default_style) ≡ said = cc in
+      λ same. let equal : Some (Minify, style) ≡ Some said = same in let one : (Minify, default_style) ≡ said = cc in
           subst (λ s. Means words s) one means,
       λ means. whole ∙ minify_said m (subst (λ x. Means x said) e means),
     )

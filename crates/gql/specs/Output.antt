@@ -3,9 +3,13 @@ use Rattle.std.specs.Prelude.{◌≡◌, ◌≢◌, ◌<◌, ◌++◌, ◌⊎◌
 use Rattle.std.specs.Io.KnownBytes.{Appends, IsAtEnd}
 use Rattle.graphql_core.specs.Style.{Layout}
 use Rattle.graphql_core.specs.Minified.{IsMinified}
-use Rattle.graphql_query_tree.specs.Tree.{DocumentTree}
-use Rattle.graphql_query_tree.specs.Document.{IsDocumentOf, IsRefusalOf}
-use Rattle.graphql_query_tree.specs.Layout.{layout, IsTooWide}
+use Rattle.graphql_values.specs.Language.{Language}
+use Rattle.graphql_values.specs.Document.{IsDocumentOf}
+use Rattle.graphql_values.specs.Faults.{IsRefusalOf}
+use Rattle.graphql_query_tree.specs.Document.{queries}
+use Rattle.graphql_query_tree.specs.Layout as query
+use Rattle.graphql_schema_tree.specs.Language.{schemas}
+use Rattle.graphql_schema_tree.specs.Layout as schema
 use Rattle.graphql_query.specs.Minifying.{IsMinifyRefusalOf}
 use Rattle.graphql_core.specs.Refusal.{Refusal, no_memory, max_length}
 use Rattle.graphql_core.specs.declared.format.error.FormatError.{FormatError}
@@ -16,27 +20,56 @@ use Rattle.gql.specs.declared.error.RunError.{RunError}
 use Rattle.gql.specs.declared.error.RunError.TheVariants.{Read, NotUtf8, Format, Write, OutOfMemory}
 use Rattle.gql.specs.declared.error.RunError.TheVariants as error
 use Rattle.gql.specs.declared.command.Command.{Command}
-use Rattle.gql.specs.declared.command.Command.TheVariants.{Query, Minify}
+use Rattle.gql.specs.declared.command.Command.TheVariants.{Query, Schema, Minify}
+
+-- ---- documents
+
+module _ {D : Type 0} (l : Language D) where
+  -- the text's document has this layout
+  abbrev pub IsLaidOut : (D → List ℕ) → List ℕ → List ℕ → Type 0
+  IsLaidOut layout text output = (d : D) × IsDocumentOf l text d × (output ≡ layout d)
+
+  -- this is why the text is refused, and, unless memory ran out, it is too long or has no document
+  abbrev pub IsRefused : List ℕ → Refusal → Type 0
+  IsRefused text e = IsRefusalOf l text e × (e ≢ no_memory → (max_length < length text) ⊎ ((d : D) → IsDocumentOf l text d → ⊥))
+
+  -- the text's document is too wide
+  abbrev pub IsWide : (D → Type 0) → List ℕ → Type 0
+  IsWide IsTooWide text = (d : D) × IsDocumentOf l text d × IsTooWide d
+
+-- ---- commands
 
 -- a command makes this output of a text
 abbrev pub IsOutputOf : Command → Layout → List ℕ → List ℕ → Type 0
-IsOutputOf Query style text output = (d : DocumentTree) × IsDocumentOf text d × (output ≡ layout style d)
+IsOutputOf Query style text output = IsLaidOut queries (query.layout style) text output
+IsOutputOf Schema style text output = IsLaidOut schemas (schema.layout style) text output
 IsOutputOf Minify style text output = IsMinified text output
 
--- this is why the text is refused, and, unless memory ran out, it is too long or has no document
-abbrev pub HasNoDocument : Command → List ℕ → Refusal → Type 0
-HasNoDocument Query text e = IsRefusalOf text e × (e ≢ no_memory → (max_length < length text) ⊎ ((d : DocumentTree) → IsDocumentOf text d → ⊥))
-HasNoDocument Minify text e = ⊥
+-- this is why the text is no query document
+abbrev pub HasNoQuery : Command → List ℕ → Refusal → Type 0
+HasNoQuery Query text e = IsRefused queries text e
+HasNoQuery Schema text e = ⊥
+HasNoQuery Minify text e = ⊥
+
+-- this is why the text is no schema document
+abbrev pub HasNoSchema : Command → List ℕ → Refusal → Type 0
+HasNoSchema Query text e = ⊥
+HasNoSchema Schema text e = IsRefused schemas text e
+HasNoSchema Minify text e = ⊥
 
 -- this is why the text is not minified: memory ran out, or it is too long, or its items end in a bad place
 abbrev pub HasBadPlace : Command → List ℕ → Refusal → Type 0
 HasBadPlace Query text e = ⊥
+HasBadPlace Schema text e = ⊥
 HasBadPlace Minify text e = IsMinifyRefusalOf text e
 
 -- the text's document is too wide for the style
 abbrev pub HasNoLayout : Command → Layout → List ℕ → Type 0
-HasNoLayout Query style text = (d : DocumentTree) × IsDocumentOf text d × IsTooWide style d
+HasNoLayout Query style text = IsWide queries (query.IsTooWide style) text
+HasNoLayout Schema style text = IsWide schemas (schema.IsTooWide style) text
 HasNoLayout Minify style text = ⊥
+
+-- ---- devices
 
 -- all that was left was read, and this holds of it
 abbrev pub ReadsAll : Option (List ℕ) → Option (List ℕ) → (List ℕ → Type 0) → Type 0
@@ -46,12 +79,15 @@ ReadsAll old new P = IsAtEnd new × IfSome old P
 abbrev pub WritesPart : Option (List ℕ) → Option (List ℕ) → List ℕ → Type 0
 WritesPart old new all = (front : List ℕ) × (rest : List ℕ) × (all ≡ front ++ rest) × Appends old new front
 
+-- ---- runs that end early
+
 -- reading ends early where memory runs out, or a read failed
 abbrev pub EndsReading : ℕ → ℕ → RunError → Type 0
 EndsReading old new Read = HasFault old new
 EndsReading old new OutOfMemory = Unit {0}
 EndsReading old new NotUtf8 = ⊥
 EndsReading old new (error.Query e) = ⊥
+EndsReading old new (error.Schema e) = ⊥
 EndsReading old new (error.Minify e) = ⊥
 EndsReading old new (Format e) = ⊥
 EndsReading old new Write = ⊥
@@ -63,7 +99,8 @@ RefusesLayout command style text layout_error.OutOfMemory = Unit {0}
 
 -- a text gets no output where it is refused or has a bad place, or its document is not laid out
 abbrev pub EndsEngine : Command → Layout → List ℕ → RunError → Type 0
-EndsEngine command style text (error.Query e) = HasNoDocument command text e
+EndsEngine command style text (error.Query e) = HasNoQuery command text e
+EndsEngine command style text (error.Schema e) = HasNoSchema command text e
 EndsEngine command style text (error.Minify e) = HasBadPlace command text e
 EndsEngine command style text (Format e) = RefusesLayout command style text e
 EndsEngine command style text OutOfMemory = Unit {0}

@@ -1,12 +1,13 @@
 -- The status with which the program ends, and the end of what it tells.
 use Rattle.std.specs.Prelude.{ℕ, Bool, false, Option, Some, None, is_some, Result, Ok, Err}
 use Rattle.gql.specs.declared.error.RunError.{RunError}
-use Rattle.gql.specs.declared.error.RunError.TheVariants.{Read, NotUtf8, Query, Minify, Format, Write, OutOfMemory}
+use Rattle.gql.specs.declared.error.RunError.TheVariants.{Read, NotUtf8, Query, Schema, Minify, Format, Write, OutOfMemory}
 
 abbrev pub error_status : RunError → ℕ
 error_status Read = 2
 error_status NotUtf8 = 2
 error_status (Query e) = 1
+error_status (Schema e) = 1
 error_status (Minify e) = 1
 error_status (Format e) = 1
 error_status Write = 2
@@ -21,6 +22,7 @@ status_of None = 2
 -- whether the message of an error ends in a line end: that of a document's refusal with a place does
 abbrev pub ends_its_line : RunError → Bool
 ends_its_line (Query e) = is_some e.place
+ends_its_line (Schema e) = is_some e.place
 ends_its_line Read = false
 ends_its_line NotUtf8 = false
 ends_its_line (Minify e) = false

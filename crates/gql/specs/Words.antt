@@ -7,7 +7,7 @@ use Rattle.std.specs.Char.{is_ascii_digit}
 use Rattle.std.specs.Str.Parse.{digits_value}
 use Rattle.graphql_core.specs.Style.{Layout, default_style, with_indent, with_multiline}
 use Rattle.gql.specs.declared.command.Command.{Command}
-use Rattle.gql.specs.declared.command.Command.TheVariants.{Query, Minify}
+use Rattle.gql.specs.declared.command.Command.TheVariants.{Query, Schema, Minify}
 
 -- one to ten digits, of at most 4294967295
 abbrev pub is_number : List ℕ → Bool
@@ -39,8 +39,15 @@ pub data Says : Option ℕ → Bool → List (List ℕ) → Layout → Type 0 wh
 abbrev pub SaysStyle : List (List ℕ) → Layout → Type 0
 SaysStyle = Says None false
 
+-- the command that a word says, of those that take options
+abbrev pub styled_command : List ℕ → Option Command
+styled_command w =
+    if pointwise nat_eq w (codes "query") then Some Query
+    else if pointwise nat_eq w (codes "schema") then Some Schema
+    else None
+
 -- the words, each by its bytes, and the command and the style that they say; `minify` takes no options
 pub data Means : List (List ℕ) → Command × Layout → Type 0 where
-  means_query : {w : List ℕ} {ws : List (List ℕ)} {style : Layout} → pointwise nat_eq w (codes "query") ≡ true → SaysStyle ws style
-      → Means (w ∷ ws) (Query, style)
+  means_styled : {w : List ℕ} {ws : List (List ℕ)} {command : Command} {style : Layout} → styled_command w ≡ Some command → SaysStyle ws style
+      → Means (w ∷ ws) (command, style)
   means_minify : {w : List ℕ} → pointwise nat_eq w (codes "minify") ≡ true → Means (w ∷ []) (Minify, default_style)

@@ -3,7 +3,7 @@ ghost use Rattle.std.specs.Prelude.{◌≡◌, ◌↔◌, Some, map, string_byte
 ghost use Rattle.std.specs.List.{list_all};
 ghost use Rattle.std.specs.Char.{is_ascii_digit};
 ghost use Rattle.graphql_core.specs.Style.{Layout};
-ghost use Rattle.gql.specs.Words.{is_indent, is_multiline, number_of, style_said, SaysStyle, Means};
+ghost use Rattle.gql.specs.Words.{is_indent, is_multiline, number_of, style_said, styled_command, SaysStyle, Means};
 
 use graphql_parser::Style;
 
@@ -15,6 +15,8 @@ pub const USAGE: &str = "usage: gql query|schema|minify|first [--indent N] [--mu
 pub enum Command {
     /// Lays out a query document.
     Query,
+    /// Lays out a schema document.
+    Schema,
     /// Writes the tokens with no more spaces between them than keep them apart.
     Minify,
 }
@@ -85,16 +87,30 @@ fn style_of(options: &[String]) -> Option<Style>
     Some(style_said(indent, multiline))
 }
 
+/// The command that a word says, of those that take options.
+fn styled_command(word: &str) -> Option<Command>
+    ensures { result ≡ styled_command word.now }
+{
+    if word == "query" {
+        Some(Command::Query)
+    } else if word == "schema" {
+        Some(Command::Schema)
+    } else {
+        None
+    }
+}
+
 /// The command that the words after the program's name say, and `None` for wrong words.
 pub fn read_words(words: Vec<String>) -> Option<(Command, Style)>
     ensures { (said : Command × Layout) → result ≡ Some said ↔ Means (map string_bytes words.items) said }
 {
     match words.as_slice() {
-        [word, options @ ..] if word.as_str() == "query" => {
-            let style = style_of(options)?;
-            Some((Command::Query, style))
-        }
         [word] if word.as_str() == "minify" => Some((Command::Minify, Style::default())),
+        [word, options @ ..] => {
+            let command = styled_command(word.as_str())?;
+            let style = style_of(options)?;
+            Some((command, style))
+        }
         _ => None,
     }
 }

@@ -4,14 +4,13 @@ ghost use Rattle.std.specs.Str.{IsUtf8};
 ghost use Rattle.std.specs.Io.KnownBytes.{Keeps, Appends, Consumes, IsAtEnd};
 ghost use Rattle.graphql_core.specs.Refusal.{Refusal};
 ghost use Rattle.gql.specs.Faults.{HasFault};
-ghost use Rattle.gql.specs.Output.{IsOutputOf, HasNoDocument, HasBadPlace, HasNoLayout};
+ghost use Rattle.gql.specs.Output.{IsOutputOf, HasNoQuery, HasNoSchema, HasBadPlace, HasNoLayout};
 ghost use Rattle.gql.specs.Output.{ReadsAll, EndsReading, EndsEngine, WritesPart};
 
 use crate::command::Command;
 use crate::counted::Counted;
 use crate::error::RunError;
-use graphql_parser::query::Document;
-use graphql_parser::{FormatError, Style, minify_query, parse_query};
+use graphql_parser::{FormatError, Style, minify_query, parse_query, parse_schema, query, schema};
 use std::alloc::Global;
 use std::io::{Read, Write};
 
@@ -58,14 +57,29 @@ fn write_all<W: Write>(writer: &mut Counted<W>, bytes: &[u8]) -> Result<(), RunE
     unreachable!()
 }
 
-/// The document of a text, laid out.
-fn laid_out(alloc: Global, style: &Style, text: &str) -> Result<String, RunError>
+/// The query document of a text, laid out.
+fn query_laid_out(alloc: Global, style: &Style, text: &str) -> Result<String, RunError>
     ensures ok { IfOk result (λ s. IsOutputOf Command.Query style.now text.now (string_bytes s)) }
     ensures err { IfErr result (EndsEngine Command.Query style.now text.now) }
 {
-    let document: Document<'_, &str> = match parse_query(alloc, text) {
+    let document: query::Document<'_, &str> = match parse_query(alloc, text) {
         Ok(document) => document,
         Err(error) => return Err(RunError::Query(error)),
+    };
+    match document.format(alloc, style) {
+        Ok(text) => Ok(text),
+        Err(error) => Err(RunError::Format(error)),
+    }
+}
+
+/// The schema document of a text, laid out.
+fn schema_laid_out(alloc: Global, style: &Style, text: &str) -> Result<String, RunError>
+    ensures ok { IfOk result (λ s. IsOutputOf Command.Schema style.now text.now (string_bytes s)) }
+    ensures err { IfErr result (EndsEngine Command.Schema style.now text.now) }
+{
+    let document: schema::Document<'_, &str> = match parse_schema(alloc, text) {
+        Ok(document) => document,
+        Err(error) => return Err(RunError::Schema(error)),
     };
     match document.format(alloc, style) {
         Ok(text) => Ok(text),
@@ -96,7 +110,8 @@ fn output_of(
     ensures err { IfErr result (EndsEngine command style.now (string_bytes text)) }
 {
     match command {
-        Command::Query => laid_out(alloc, style, &text),
+        Command::Query => query_laid_out(alloc, style, &text),
+        Command::Schema => schema_laid_out(alloc, style, &text),
         Command::Minify => minified(alloc, style, text),
     }
 }
@@ -117,7 +132,9 @@ pub fn run<R: Read, W: Write>(
     ensures not_utf8 { result ≡ Err RunError.NotUtf8 → ReadsAll (R.remaining reader.old.device) (R.remaining reader.new.device)
         (λ input. ¬ IsUtf8 input) }
     ensures query { (e : Refusal) → result ≡ Err (RunError.Query e) → ReadsAll (R.remaining reader.old.device) (R.remaining reader.new.device)
-        (λ input. HasNoDocument command input e) }
+        (λ input. HasNoQuery command input e) }
+    ensures schema { (e : Refusal) → result ≡ Err (RunError.Schema e) → ReadsAll (R.remaining reader.old.device) (R.remaining reader.new.device)
+        (λ input. HasNoSchema command input e) }
     ensures minify { (e : Refusal) → result ≡ Err (RunError.Minify e) → ReadsAll (R.remaining reader.old.device) (R.remaining reader.new.device)
         (λ input. HasBadPlace command input e) }
     ensures format { result ≡ Err (RunError.Format FormatError.TooWide) → ReadsAll (R.remaining reader.old.device) (R.remaining reader.new.device)

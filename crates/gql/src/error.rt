@@ -2,8 +2,8 @@
 ghost use Rattle.std.specs.Prelude.{◌≡◌, option_map};
 ghost use Rattle.gql.specs.Status.{ends_its_line, status_of};
 
-use graphql_parser::FormatError;
-use graphql_parser::query::{MinifyError, ParseError};
+use graphql_parser::query::{self, MinifyError};
+use graphql_parser::{FormatError, schema};
 use std::alloc::AllocError;
 use thiserror::Error;
 
@@ -18,7 +18,10 @@ pub enum RunError {
     NotUtf8,
     /// The input is no query document. Nothing was written.
     #[error("{0}")]
-    Query(ParseError),
+    Query(query::ParseError),
+    /// The input is no schema document. Nothing was written.
+    #[error("{0}")]
+    Schema(schema::ParseError),
     /// The input has a bad place, or is too long. Nothing was written.
     #[error("{0}")]
     Minify(MinifyError),
@@ -40,6 +43,7 @@ impl RunError {
     {
         match self {
             RunError::Query(error) => error.position().is_some(),
+            RunError::Schema(error) => error.position().is_some(),
             _ => false,
         }
     }
@@ -63,7 +67,14 @@ pub fn status(answer: Option<&Result<(), RunError>>) -> u8
 {
     match answer {
         Some(Ok(())) => 0,
-        Some(Err(RunError::Query(_) | RunError::Minify(_) | RunError::Format(_))) => 1,
+        Some(
+            Err(
+                RunError::Query(_)
+                | RunError::Schema(_)
+                | RunError::Minify(_)
+                | RunError::Format(_),
+            ),
+        ) => 1,
         Some(Err(_)) | None => 2,
     }
 }

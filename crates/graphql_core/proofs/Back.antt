@@ -191,6 +191,28 @@ five_back {Q = Q} {R = R} {S = S} {T = T} {V = V} k l m o t all =
     × T u} l m o t (λ y z w u hy hz hw hu. (y, z, w, u, refl, hy, hz, hw, hu)))
     (λ x v hx j. subst (λ (v : Shape). V (Both x v)) (sym j.4) (all x j.0 j.1 j.2 j.3 hx j.5 j.6 j.7 j.8))
 
+pub six_back : {g : Grammar} {a b c n m l : Expr} {p q r s u v w : Bool} {d e f h i j k : ℕ} {ps qs rs ss us vs : List Part} {P Q R S T V W : Shape → Type 0}
+    → Back g a p d ps q e P → Back g b q e qs r f Q → Back g c r f rs s h R → Back g n s h ss u i S → Back g m u i us v j T → Back g l v j vs w k V
+    → ((x y z t o c : Shape) → P x → Q y → R z → S t → T o → V c → W (Both x (Both y (Both z (Both t (Both o c))))))
+    → Back g (Then a (Then b (Then c (Then n (Then m l))))) p d (ps ++ (qs ++ (rs ++ (ss ++ (us ++ vs))))) w k W
+six_back {Q = Q} {R = R} {S = S} {T = T} {V = V} {W = W} k l m o t u all =
+    both_back k (five_back {V = λ (v : Shape). (y : Shape) × (z : Shape) × (w : Shape) × (n : Shape) × (c : Shape)
+    × (v ≡ Both y (Both z (Both w (Both n c)))) × Q y × R z × S w × T n × V c} l m o t u
+    (λ y z w n c hy hz hw hn hc. (y, z, w, n, c, refl, hy, hz, hw, hn, hc)))
+    (λ x v hx j. subst (λ (v : Shape). W (Both x v)) (sym j.5) (all x j.0 j.1 j.2 j.3 j.4 hx j.6 j.7 j.8 j.9 j.10))
+
+pub seven_back : {g : Grammar} {a b c n m l o : Expr} {p q r s u v w z : Bool} {d e f h i j k t : ℕ} {ps qs rs ss us vs ws : List Part}
+    {P Q R S T V W X : Shape → Type 0}
+    → Back g a p d ps q e P → Back g b q e qs r f Q → Back g c r f rs s h R → Back g n s h ss u i S → Back g m u i us v j T → Back g l v j vs w k V
+    → Back g o w k ws z t W
+    → ((x y z t o c n : Shape) → P x → Q y → R z → S t → T o → V c → W n → X (Both x (Both y (Both z (Both t (Both o (Both c n)))))))
+    → Back g (Then a (Then b (Then c (Then n (Then m (Then l o)))))) p d (ps ++ (qs ++ (rs ++ (ss ++ (us ++ (vs ++ ws)))))) z t X
+seven_back {Q = Q} {R = R} {S = S} {T = T} {V = V} {W = W} {X = X} k l m o t u n all =
+    both_back k (six_back {W = λ (v : Shape). (y : Shape) × (z : Shape) × (w : Shape) × (n : Shape) × (c : Shape) × (r : Shape)
+    × (v ≡ Both y (Both z (Both w (Both n (Both c r))))) × Q y × R z × S w × T n × V c × W r} l m o t u n
+    (λ y z w n c r hy hz hw hn hc hr. (y, z, w, n, c, r, refl, hy, hz, hw, hn, hc, hr)))
+    (λ x v hx j. subst (λ (v : Shape). X (Both x v)) (sym j.6) (all x j.0 j.1 j.2 j.3 j.4 j.5 hx j.7 j.8 j.9 j.10 j.11 j.12))
+
 -- ---- a grammar that goes on from another
 
 pub lift_back : {n : ℕ} {g h : Grammar} {e : Expr} {p q : Bool} {d f : ℕ} {ps : List Part} {R : Shape → Type 0} → Extends n g h → is_below n e ≡ true

@@ -3,5 +3,6 @@
 mod built;
 mod callers;
 mod messages;
+mod schemas;
 mod tokens;
 mod values;

@@ -1,19 +1,17 @@
 -- The brackets of a document are those that its layout opens at once.
-use Rattle.std.proofs.Common.{ℕ, ◌+◌, max, List, [], ◌∷◌, ◌++◌, Option, Some, None, refl, arith}
+use Rattle.std.proofs.Common.{ℕ, ◌+◌, max, List, [], ◌∷◌, Option, Some, None, refl, arith}
 use Rattle.std.specs.Option.{option_map_or}
 use Rattle.graphql_core.specs.Style.{Layout}
-use Rattle.graphql_core.specs.Parts.{Part, ignored}
-use Rattle.graphql_core.proofs.Depths.{Rises, rises_as, none_rise, flat_rise, gap_rises, level_rises, both_rise, gap_sinks, closer_sinks, both_sink}
+use Rattle.graphql_core.proofs.Depths.{Rises, rises_as, none_rise, flat_rise, gap_rises, level_rises, both_rise, closer_sinks, both_sink}
 use Rattle.graphql_core.proofs.Depths.{opener_rises}
 use Rattle.graphql_values.specs.Values.{ValueTree}
 use Rattle.graphql_values.specs.Printable.{most, value_brackets}
-use Rattle.graphql_values.proofs.Depths.{value_rises, type_rises, arguments_rise, directives_rise}
+use Rattle.graphql_values.proofs.Depths.{value_rises, type_rises, arguments_rise, directives_rise, braces_rise, line_end_rises}
 use Rattle.graphql_query_tree.specs.Tree.{SelectionTree, field, spread, inline, SelectionSetTree, set, SelectionTrees, none, more, VariableDefinitionTree}
 use Rattle.graphql_query_tree.specs.Tree.{DefinitionTree, short, operation, fragment, DocumentTree}
 use Rattle.graphql_query_tree.specs.Printable.{selection_brackets, selected_brackets, selection_set_brackets, selections_brackets, variable_definition_brackets}
 use Rattle.graphql_query_tree.specs.Printable.{variable_definitions_brackets}
 use Rattle.graphql_query_tree.specs.Printable.{definition_brackets}
-use Rattle.graphql_values.specs.Lines.{in_braces}
 use Rattle.graphql_query_tree.specs.Layout.{alias_layout, type_condition_layout, on_layout, selection_layout, selected_layout, selection_set_layout}
 use Rattle.graphql_query_tree.specs.Layout.{selections_layout}
 use Rattle.graphql_query_tree.specs.Layout.{operation_name_layout, default_layout, variable_definition_layout, later_variable_definitions}
@@ -21,11 +19,6 @@ use Rattle.graphql_query_tree.specs.Layout.{variable_definitions_layout}
 use Rattle.graphql_query_tree.specs.Layout.{definition_layout, later_definitions, document_layout}
 
 -- ---- selections
-
-braces_rise : {n : ℕ} {lines : List Part} (margin : ℕ) → Rises n lines → Rises (n + 1) (in_braces margin lines)
-braces_rise {n} margin h =
-    rises_as {m = max n 0 + 1} {n = n + 1} (omega arith)
-    (opener_rises refl (gap_sinks _ (both_sink h (gap_sinks _ (closer_sinks refl (gap_rises _ none_rise))))))
 
 alias_rises : (alias : Option (List ℕ)) → Rises 0 (alias_layout alias)
 alias_rises None = none_rise
@@ -37,9 +30,6 @@ type_condition_rises c = level_rises refl (gap_rises _ (level_rises refl none_ri
 on_rises : (condition : Option (List ℕ)) → Rises 0 (on_layout condition)
 on_rises None = none_rise
 on_rises (Some c) = gap_rises _ (type_condition_rises c)
-
-line_end_rises : {n : ℕ} {ps : List Part} (text : List ℕ) → Rises n ps → Rises n (ps ++ ignored text ∷ [])
-line_end_rises {n} text h = rises_as {m = max n 0} {n = n} (omega arith) (both_rise h (gap_rises text none_rise))
 
 mutual
   pub selection_rises : (style : Layout) (margin : ℕ) (s : SelectionTree) → Rises (selection_brackets s) (selection_layout style margin s)

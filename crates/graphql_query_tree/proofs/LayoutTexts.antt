@@ -1,24 +1,20 @@
 -- Trees beside what they stand for, and their layouts in the pieces that are written.
-use Rattle.std.proofs.Common.{◌≡◌, ◌++◌, ◌∙◌, ap, sym, refl, codes, ℕ, ◌+◌, ◌*◌, ◌<◌, max, length, List, [], ◌∷◌, get_or, drop, option_map, append_assoc, rules}
+use Rattle.std.proofs.Common.{◌≡◌, ◌++◌, ◌∙◌, ap, sym, refl, codes, ℕ, ◌+◌, ◌<◌, length, List, [], ◌∷◌, get_or, drop, option_map, append_assoc, rules}
 use Rattle.std.proofs.Common.{arith, true, false, ◌==◌, vec_len}
 use Rattle.std.proofs.lemmas.Bool.{eqb-true, eqb-false}
 use Rattle.std.proofs.lemmas.List.{at_drop_more, nil_from_length}
 use Rattle.graphql_core.specs.Source.{place_of}
-use Rattle.graphql_core.specs.Style.{Layout, spaces}
+use Rattle.graphql_core.specs.Style.{Layout}
 use Rattle.graphql_core.specs.Parts.{Part, text_of, name, mark, gap}
 use Rattle.graphql_values.proofs.Appending.{text_append}
-use Rattle.graphql_values.proofs.Enclosed.{narrower}
 use Rattle.graphql_values.specs.ValueViews.{arguments_view, directives_view}
 use Rattle.graphql_query_tree.specs.declared.tree.Selection.{Selection}
 use Rattle.graphql_query_tree.specs.declared.tree.Field.{Field}
 use Rattle.graphql_query_tree.specs.declared.tree.InlineFragment.{InlineFragment}
-use Rattle.graphql_query_tree.specs.declared.tree.Definition.{Definition}
-use Rattle.graphql_query_tree.specs.declared.tree.VariableDefinition.{VariableDefinition}
 use Rattle.graphql_query_tree.specs.declared.tree.SelectionSet.{SelectionSet, out-SelectionSet, the_lemmas}
 use Rattle.graphql_query_tree.specs.Tree.{field, inline, set, more, type_condition_view, selection_view, selections_view, field_view, inline_fragment_view}
-use Rattle.graphql_query_tree.specs.Tree.{selection_set_view, variable_definition_view, variable_definitions_view, definition_view, definitions_view}
+use Rattle.graphql_query_tree.specs.Tree.{selection_set_view}
 use Rattle.graphql_query_tree.specs.Lawful.{IsLawfulSet}
-use Rattle.graphql_values.specs.Lines.{in_braces}
 use Rattle.graphql_query_tree.specs.Layout.{selected_layout, selection_set_layout, selected_levels, selection_set_levels}
 
 -- ---- the parts of a tree
@@ -48,16 +44,6 @@ module _ {N T : Type 0} (bytes : T → List ℕ) where
       → selections_view bytes (drop i xs) ≡ more (selection_view bytes x) (selections_view bytes (drop (i + 1) xs))
   selection_here xs i x h is = at_drop_more (selections_view bytes) xs i x h
       ∙ ap (λ y. more (selection_view bytes y) (selections_view bytes (drop (i + 1) xs))) (sym is)
-
-  pub variable_definition_here : (xs : List (VariableDefinition N T)) (i : ℕ) (x : VariableDefinition N T) → i < length xs → x ≡ get_or xs i x
-      → variable_definitions_view bytes (drop i xs) ≡ variable_definition_view bytes x ∷ variable_definitions_view bytes (drop (i + 1) xs)
-  variable_definition_here xs i x h is = at_drop_more (variable_definitions_view bytes) xs i x h ∙ ap
-      (λ y. variable_definition_view bytes y ∷ variable_definitions_view bytes (drop (i + 1) xs)) (sym is)
-
-  pub definition_here : (xs : List (Definition N T)) (i : ℕ) (x : Definition N T) → i < length xs → x ≡ get_or xs i x
-      → definitions_view bytes (drop i xs) ≡ definition_view bytes x ∷ definitions_view bytes (drop (i + 1) xs)
-  definition_here xs i x h is = at_drop_more (definitions_view bytes) xs i x h
-      ∙ ap (λ y. definition_view bytes y ∷ definitions_view bytes (drop (i + 1) xs)) (sym is)
 
   -- what the test for no items says
   pub no_items : (s : SelectionSet N T) → (vec_len (out-SelectionSet N T s).items == 0) ≡ true → items_of s ≡ []
@@ -98,29 +84,11 @@ module _ {N T : Type 0} (bytes : T → List ℕ) where
 
 -- ---- layouts in the pieces that are written
 
-pub braces_text : (margin : ℕ) (lines : List Part) → ((123 ∷ 10 ∷ [] ++ text_of lines) ++ spaces margin) ++ (125 ∷ 10 ∷ []) ≡ text_of (in_braces margin lines)
-braces_text margin lines = simp (text_append, append_assoc)
-
 pub variable_definition_text : (n : List ℕ) (declared rest : List Part) → (((codes "$" ++ n) ++ codes ": ") ++ text_of declared)
     ++ text_of rest ≡ text_of (mark (codes "$") ++ (name n ++ (mark (codes ":") ++ (gap (codes " ") ++ (declared ++ rest)))))
 variable_definition_text n declared rest = simp (text_append, append_assoc)
-
--- one more of a list, after a separator
-pub next_text : (separator : List ℕ) (one later : List Part) → text_of (gap separator ++ (one ++ later)) ≡ (separator ++ text_of one) ++ text_of later
-next_text separator one later = simp (text_append, append_assoc)
-
--- the first of a list in parentheses, and the others
-pub first_text : (one later : List Part) → (codes "(" ++ text_of one)
-    ++ (text_of later ++ codes ")") ≡ text_of (mark (codes "(") ++ (one ++ (later ++ mark (codes ")"))))
-first_text one later = simp (text_append, append_assoc)
 
 pub fragment_definition_text : (n : List ℕ) (condition directives selected : List Part)
     → (((((codes "fragment " ++ n) ++ codes " ") ++ text_of condition) ++ text_of directives) ++ codes " ") ++ text_of selected
     ≡ text_of (name (codes "fragment") ++ (gap (codes " ") ++ (name n ++ (gap (codes " ") ++ (condition ++ (directives ++ (gap (codes " ") ++ selected)))))))
 fragment_definition_text n condition directives selected = simp (text_append, append_assoc)
-
--- ---- widths
-
--- both parts fit where the one with more levels does
-pub both_fit : (a b indent most : ℕ) → max a b * indent < most → (a * indent < most) × (b * indent < most)
-both_fit a b indent most h = let parts = narrower 0 a b indent most (omega arith) in (omega (arith, parts.0), omega (arith, parts.1))

@@ -3,10 +3,11 @@ use Rattle.std.specs.Prelude.{ℕ, ◌+◌, max, List, [], ◌∷◌, ◌++◌, 
 use Rattle.graphql_core.specs.Style.{Layout, spaces}
 use Rattle.graphql_core.specs.Parts.{Part, text_of, name, mark, gap}
 use Rattle.graphql_values.specs.Values.{ValueTree, DirectiveTree}
-use Rattle.graphql_values.specs.ValueLayout.{type_layout, arguments_layout, directives_layout, value_levels, arguments_levels, directives_levels}
+use Rattle.graphql_values.specs.ValueLayout.{type_layout, arguments_layout, directives_layout, arguments_levels, directives_levels}
 use Rattle.graphql_values.specs.ValueLayout as values
 use Rattle.graphql_values.specs.Lines as lines
-use Rattle.graphql_values.specs.Lines.{in_braces}
+use Rattle.graphql_values.specs.Lines.{in_braces, default_levels}
+use Rattle.graphql_values.specs.Printable.{most}
 use Rattle.graphql_query_tree.specs.Tree.{SelectionTree, field, spread, inline, SelectionSetTree, set, SelectionTrees, none, more, OperationKind, query_kind}
 use Rattle.graphql_query_tree.specs.Tree.{mutation_kind, subscription_kind, VariableDefinitionTree, OperationTree, FragmentDefinitionTree, DefinitionTree}
 use Rattle.graphql_query_tree.specs.Tree.{short, operation, fragment, DocumentTree}
@@ -132,16 +133,11 @@ abbrev mutual
   selections_levels style none = 0
   selections_levels style (more s ss) = max (selection_levels style s) (selections_levels style ss)
 
-abbrev pub default_levels : Layout → Option ValueTree → ℕ
-default_levels style None = 0
-default_levels style (Some v) = value_levels style v
-
 abbrev pub variable_definition_levels : Layout → VariableDefinitionTree → ℕ
 variable_definition_levels style v = default_levels style v.default_value
 
 abbrev pub variable_definitions_levels : Layout → List VariableDefinitionTree → ℕ
-variable_definitions_levels style [] = 0
-variable_definitions_levels style (v ∷ vs) = max (variable_definition_levels style v) (variable_definitions_levels style vs)
+variable_definitions_levels style = most (variable_definition_levels style)
 
 abbrev pub operation_levels_of : Layout → List VariableDefinitionTree → List DirectiveTree → SelectionSetTree → ℕ
 operation_levels_of style vs ds s = max (variable_definitions_levels style vs) (max (directives_levels style ds) (selection_set_levels style s))
@@ -158,8 +154,7 @@ definition_levels style (operation o) = operation_levels style o
 definition_levels style (fragment f) = fragment_definition_levels style f
 
 abbrev pub levels : Layout → DocumentTree → ℕ
-levels style [] = 0
-levels style (d ∷ ds) = max (definition_levels style d) (levels style ds)
+levels style = most (definition_levels style)
 
 -- the levels that are open at once take more than `u32::MAX` spaces, whether a line stands in the last of them or not
 abbrev pub IsTooWide : Layout → DocumentTree → Type 0

@@ -12,11 +12,9 @@ ghost use Rattle.graphql_query_tree.specs.Tree.{document_view};
 ghost use Rattle.graphql_query_tree.specs.Layout.{layout, IsTooWide};
 
 use crate::tree::Document;
-use definition::write_document;
 use graphql_core::common::Names;
 use graphql_core::format::{Buffer, FormatError, Style};
-use graphql_values::print::is_too_wide;
-use levels::levels_in_document;
+use graphql_values::print::{Pretty, is_too_wide};
 use std::alloc::Global;
 
 impl<N: Names> Document<N> {
@@ -31,11 +29,11 @@ impl<N: Names> Document<N> {
             → IsReadBack (string_bytes text) (document_view N.bytes self.now)) }
         ensures too_wide { IsErrOf result FormatError.TooWide ↔ IsTooWide style.now (document_view N.bytes self.now) }
     {
-        if is_too_wide(levels_in_document(self, style), style) {
+        if is_too_wide(self.levels(style), style) {
             return Err(FormatError::TooWide);
         }
         let mut text = Buffer::new(alloc);
-        write_document(&mut text, self, style)?;
+        self.write(&mut text, style, 0)?;
         Ok(text.into_string())
     }
 }

@@ -13,6 +13,7 @@ pub use graphql_schema_tree::{
     EnumValue, Field, InputObjectType, InputObjectTypeExtension, InputValue, InterfaceType,
     InterfaceTypeExtension, InvalidDirectiveLocation, ObjectType, ObjectTypeExtension, ScalarType,
     ScalarTypeExtension, SchemaDefinition, TypeDefinition, TypeExtension, UnionType,
-    UnionTypeExtension, locations_are_named, one_symbol_has_a_second_rule, text_has_no_positions,
-    tree, worked_examples, worked_layouts, worked_refusals,
+    UnionTypeExtension, brackets_are_those_of_the_layout, locations_are_named,
+    one_symbol_has_a_second_rule, printed_documents_are_read_back, text_has_no_positions, tree,
+    worked_examples, worked_layouts, worked_refusals,
 };

@@ -3,3 +3,8 @@ pub mod Computed
 pub mod Answering
 pub mod Refused
 pub mod NoPositions
+pub mod Depths
+pub mod LocationWords
+pub mod PartsBack
+pub mod WayBack
+pub mod PrintedTexts

@@ -1,5 +1,5 @@
 -- The language of schemas: what a text's document is, and what is said of a text that has none.
-use Rattle.std.specs.Prelude.{◌≡◌, ℕ, ◌==◌, if◌then◌else◌, List, [], Option, Some, None, option_map, Result}
+use Rattle.std.specs.Prelude.{◌≡◌, ℕ, ◌==◌, if◌then◌else◌, List, [], Option, Some, None, option_map}
 use Rattle.graphql_grammar.specs.Tokens.{Token, Class, Except}
 use Rattle.graphql_grammar.specs.Trees.{Shape, Node}
 use Rattle.graphql_core.specs.Causes.{CauseText, unknown_location, empty_extension}
@@ -48,6 +48,10 @@ schemas = record {
 -- the items of the text are a document that means this
 abbrev pub IsDocumentOf : List ℕ → DocumentTree → Type 0
 IsDocumentOf = document.IsDocumentOf schemas
+
+-- the text has a document that is this one but for positions
+abbrev pub IsReadBack : List ℕ → DocumentTree → Type 0
+IsReadBack = document.IsReadBack schemas
 
 -- the list of tokens of a text has at most one shape, also where leaves and nodes that are refused are let through
 abbrev pub HasOneShape : List ℕ → Type 0

@@ -5,9 +5,9 @@ use Rattle.std.specs.Option.{option_map_or}
 use Rattle.graphql_core.specs.Style.{Layout, spaces}
 use Rattle.graphql_core.specs.Parts.{Part, text_of, name, mark, gap}
 use Rattle.graphql_values.specs.Values.{DirectiveTree}
-use Rattle.graphql_values.specs.ValueLayout.{string_layout, type_layout, directives_layout, string_levels, value_levels, directives_levels}
+use Rattle.graphql_values.specs.ValueLayout.{string_layout, type_layout, directives_layout, string_levels, directives_levels}
 use Rattle.graphql_values.specs.ValueLayout as values
-use Rattle.graphql_values.specs.Lines.{in_braces, separated, default_layout}
+use Rattle.graphql_values.specs.Lines.{in_braces, separated, default_layout, default_levels}
 use Rattle.graphql_values.specs.Printable.{most}
 use Rattle.graphql_schema_tree.specs.declared.location.DirectiveLocation.{DirectiveLocation}
 use Rattle.graphql_schema_tree.specs.Locations.{word_of}
@@ -157,7 +157,7 @@ block_levels f (x ∷ xs) = most f (x ∷ xs) + 1
 
 abbrev pub input_value_levels : Layout → InputValueTree → ℕ
 input_value_levels style v =
-    max (description_levels v.description) (max (option_map_or (value_levels style) v.default_value 0) (directives_levels style v.directives))
+    max (description_levels v.description) (max (default_levels style v.default_value) (directives_levels style v.directives))
 
 -- the parentheses of arguments open none
 abbrev pub field_levels : Layout → FieldTree → ℕ

@@ -7,4 +7,6 @@ pub mod Grammar
 pub mod Language
 pub mod Printable
 pub mod Layout
+pub mod Lawful
 pub mod Examples
+pub mod steps

@@ -3,12 +3,14 @@
 
 mod laws;
 mod location;
+mod print;
 pub mod tree;
 
 pub use graphql_core::common::{Names, Text};
 pub use laws::{
-    locations_are_named, one_symbol_has_a_second_rule, text_has_no_positions, worked_examples,
-    worked_layouts, worked_refusals,
+    brackets_are_those_of_the_layout, locations_are_named, one_symbol_has_a_second_rule,
+    printed_documents_are_read_back, text_has_no_positions, worked_examples, worked_layouts,
+    worked_refusals,
 };
 pub use location::{DirectiveLocation, InvalidDirectiveLocation};
 

@@ -1,16 +1,19 @@
 -- The brackets of values, types, arguments and directives are those that their layouts open at once.
-use Rattle.std.proofs.Common.{◌≡◌, ℕ, ◌+◌, max, Bool, true, false, List, [], ◌∷◌, codes, refl, arith}
+use Rattle.std.proofs.Common.{◌≡◌, ℕ, ◌+◌, max, Bool, true, false, List, [], ◌∷◌, ◌++◌, Option, Some, None, codes, refl, arith}
+use Rattle.std.specs.List.{flat_map}
+use Rattle.std.specs.Option.{option_map_or}
 use Rattle.graphql_lexer.specs.declared.tokenizer.piece.Nesting.TheVariants.{Opens, Closes}
 use Rattle.graphql_lexer.specs.declared.tokenizer.token.Kind.TheVariants.{Punctuator}
 use Rattle.graphql_core.specs.Style.{Layout}
-use Rattle.graphql_core.specs.Parts.{Part}
+use Rattle.graphql_core.specs.Parts.{Part, ignored}
 use Rattle.graphql_core.specs.Depths.{bracket_of}
-use Rattle.graphql_core.proofs.Depths.{Rises, rises_as, none_rise, gap_rises, level_rises, both_rise, closer_sinks, both_sink, opener_rises}
+use Rattle.graphql_core.proofs.Depths.{Rises, rises_as, none_rise, gap_rises, level_rises, both_rise, gap_sinks, closer_sinks, both_sink, opener_rises}
 use Rattle.graphql_core.proofs.Depths.{either_rises}
 use Rattle.graphql_values.specs.Values.{ValueTree, variable, int, float, string, boolean, null, enum, list, object, ValueItems, no_items, item, ValueMembers}
 use Rattle.graphql_values.specs.Values.{no_members, member, TypeTree, named, list_of, non_null, DirectiveTree}
-use Rattle.graphql_values.specs.ValueLayout.{has_block_form, before_part, after_parts, parts, enclosed, inside, pair_layout, value_layout, items_layout}
-use Rattle.graphql_values.specs.ValueLayout.{members_layout, type_layout, each_argument, arguments_layout, directive_layout, directives_layout}
+use Rattle.graphql_values.specs.ValueLayout.{has_block_form, before_part, after_parts, parts, enclosed, inside, pair_layout, string_layout, value_layout}
+use Rattle.graphql_values.specs.ValueLayout.{items_layout, members_layout, type_layout, each_argument, arguments_layout, directive_layout, directives_layout}
+use Rattle.graphql_values.specs.Lines.{in_braces, later, separated, default_layout}
 use Rattle.graphql_values.specs.Printable.{value_brackets, items_brackets, members_brackets, type_brackets, argument_brackets, arguments_brackets}
 use Rattle.graphql_values.specs.Printable.{directive_brackets, directives_brackets, most}
 
@@ -45,12 +48,15 @@ enclosed_rises {n} style margin opener closer o c all =
 pair_rises : {n : ℕ} {value : List Part} (name : List ℕ) → Rises n value → Rises n (pair_layout name value)
 pair_rises name h = level_rises refl (level_rises refl (gap_rises _ h))
 
+pub string_rises : (style : Layout) (margin : ℕ) (text : List ℕ) → Rises 0 (string_layout style margin text)
+string_rises style margin text = either_rises (has_block_form text) (level_rises refl none_rise) (level_rises refl none_rise)
+
 mutual
   pub value_rises : (style : Layout) (margin : ℕ) (v : ValueTree) → Rises (value_brackets v) (value_layout style margin v)
   value_rises style margin (variable n) = level_rises refl (level_rises refl none_rise)
   value_rises style margin (int i) = level_rises refl none_rise
   value_rises style margin (float literal) = level_rises refl none_rise
-  value_rises style margin (string text) = either_rises (has_block_form text) (level_rises refl none_rise) (level_rises refl none_rise)
+  value_rises style margin (string text) = string_rises style margin text
   value_rises style margin (boolean b) = level_rises refl none_rise
   value_rises style margin null = level_rises refl none_rise
   value_rises style margin (enum n) = level_rises refl none_rise
@@ -92,3 +98,30 @@ directive_rises style margin d = level_rises refl (level_rises refl (arguments_r
 pub directives_rise : (style : Layout) (margin : ℕ) (ds : List DirectiveTree) → Rises (directives_brackets ds) (directives_layout style margin ds)
 directives_rise style margin [] = none_rise
 directives_rise style margin (d ∷ ds) = gap_rises _ (both_rise (directive_rises style margin d) (directives_rise style margin ds))
+
+-- ---- lines, definitions and defaults
+
+pub braces_rise : {n : ℕ} {lines : List Part} (margin : ℕ) → Rises n lines → Rises (n + 1) (in_braces margin lines)
+braces_rise {n} margin h =
+    rises_as {m = max n 0 + 1} {n = n + 1} (omega arith)
+    (opener_rises refl (gap_sinks _ (both_sink h (gap_sinks _ (closer_sinks refl (gap_rises _ none_rise))))))
+
+pub line_end_rises : {n : ℕ} {ps : List Part} (text : List ℕ) → Rises n ps → Rises n (ps ++ ignored text ∷ [])
+line_end_rises {n} text h = rises_as {m = max n 0} {n = n} (omega arith) (both_rise h (gap_rises text none_rise))
+
+pub default_rises : (style : Layout) (margin : ℕ) (v : Option ValueTree) → Rises (option_map_or value_brackets v 0) (default_layout style margin v)
+default_rises style margin None = none_rise
+default_rises style margin (Some v) = gap_rises _ (level_rises refl (gap_rises _ (value_rises style margin v)))
+
+module _ {A : Type 0} (lines : A → List Part) (brackets : A → ℕ) (rise : (x : A) → Rises (brackets x) (lines x)) where
+  pub lines_rise : (xs : List A) → Rises (most brackets xs) (flat_map lines xs)
+  lines_rise [] = none_rise
+  lines_rise (x ∷ xs) = both_rise (rise x) (lines_rise xs)
+
+  later_rise : (xs : List A) → Rises (most brackets xs) (later lines xs)
+  later_rise [] = none_rise
+  later_rise (x ∷ xs) = gap_rises _ (both_rise (rise x) (later_rise xs))
+
+  pub separated_rise : (xs : List A) → Rises (most brackets xs) (separated lines xs)
+  separated_rise [] = none_rise
+  separated_rise (x ∷ xs) = both_rise (rise x) (later_rise xs)

@@ -1,19 +1,22 @@
 -- The layouts of arguments, directives and defaults are read back.
-use Rattle.std.proofs.Common.{◌≡◌, ℕ, ◌+◌, ◌≤◌, Bool, true, false, List, [], ◌∷◌, ◌++◌, codes, refl, ap₂, arith}
+use Rattle.std.proofs.Common.{◌≡◌, ℕ, ◌+◌, ◌≤◌, Bool, true, false, List, [], ◌∷◌, ◌++◌, Option, Some, None, codes, refl, ap, ap₂, arith}
 use Rattle.std.specs.List.{AllByRecursion}
+use Rattle.std.specs.Option.{IfSome, option_map_or}
 use Rattle.graphql_grammar.specs.Trees.{Many, Sym, optional}
 use Rattle.graphql_core.specs.Style.{Layout}
 use Rattle.graphql_core.specs.Parts.{mark, gap}
 use Rattle.graphql_values.specs.Values.{ValueTree, DirectiveTree, no_place, erase, erase_all}
 use Rattle.graphql_values.specs.ValueLayout.{value_layout, parts, inside, each_argument, arguments_layout, directive_layout, directives_layout}
+use Rattle.graphql_values.specs.Lines.{default_layout}
 use Rattle.graphql_values.specs.Grammar.{shared, argument_symbol, arguments_symbol, directive_symbol, directives_symbol, default_symbol}
 use Rattle.graphql_values.specs.Meanings.{spelling_at, pairs_of, optional_arguments_of, directive_of, each_directive_of, directives_of, default_of}
+use Rattle.graphql_values.specs.Meanings.{optional_default_of}
 use Rattle.graphql_values.specs.Printable.{IsPrintableArgument, IsPrintableDirective, IsPrintableDefault, most, argument_brackets, arguments_brackets}
 use Rattle.graphql_values.specs.Printable.{directive_brackets, directives_brackets, value_brackets}
 use Rattle.graphql_values.specs.Lawful.{IsLawful, AreLawfulArguments, AreLawfulDirectives}
 use Rattle.graphql_values.specs.declared.read.values.Sort.TheVariants.{Value, Constant}
 use Rattle.graphql_values.proofs.LeavesBack.{name_word}
-use Rattle.graphql_core.proofs.Back.{Back, as_word_back, gap_back, word_back, mark_back, open_back, close_back, nothing_back, both_back, first_back}
+use Rattle.graphql_core.proofs.Back.{Back, as_word_back, means, gap_back, word_back, mark_back, open_back, close_back, nothing_back, both_back, first_back}
 use Rattle.graphql_core.proofs.Back.{second_back, node_back, stop_back, more_back, three_back}
 use Rattle.graphql_values.proofs.ValuesBack.{to_word, before_back, closer_back, pair_back, value_back}
 
@@ -69,3 +72,10 @@ module _ (style : Layout) where
   default_back margin v d (is, constant) lawful deep =
       node_back (λ x. refl) (both_back (mark_back (codes "=") (refl, refl) (λ p. refl))
       (gap_back refl (value_back style Constant margin v d is lawful constant deep)) (λ e x he hx. hx))
+
+  -- a default, where there is one
+  pub optional_default_back : (margin : ℕ) (v : Option ValueTree) (d : ℕ) → IfSome v IsPrintableDefault → IfSome v IsLawful
+      → d + option_map_or value_brackets v 0 ≤ 50
+      → Back shared (optional (Sym default_symbol)) true d (default_layout style margin v) true d (λ x. optional_default_of x ≡ v)
+  optional_default_back margin None d is lawful deep = second_back (nothing_back refl)
+  optional_default_back margin (Some v) d is lawful deep = first_back (gap_back refl (means (λ x h. ap Some h) (default_back margin v d is lawful deep)))

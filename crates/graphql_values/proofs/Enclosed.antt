@@ -3,10 +3,11 @@ use Rattle.std.proofs.Common.{◌≡◌, ◌++◌, ◌∙◌, ap, sym, refl, ℕ
 use Rattle.std.proofs.Common.{append_assoc, append-nil, arith}
 use Rattle.std.proofs.lemmas.Bool.{eqb-false}
 use Rattle.std.proofs.Math.Nat.{mul-le-mul_left}
-use Rattle.graphql_core.specs.Style.{Layout}
-use Rattle.graphql_core.specs.Parts.{Part, text_of, mark, new_line}
+use Rattle.graphql_core.specs.Style.{Layout, spaces}
+use Rattle.graphql_core.specs.Parts.{Part, text_of, mark, gap, new_line}
 use Rattle.graphql_values.specs.ValueLayout.{inside, opened, before_part, parts, after_parts, enclosed, pair_layout, each_argument, arguments_layout}
 use Rattle.graphql_values.specs.ValueLayout.{arguments_levels, most_levels, directive_layout, directives_layout}
+use Rattle.graphql_values.specs.Lines.{in_braces}
 use Rattle.graphql_values.specs.Values.{ValueTree, DirectiveTree}
 use Rattle.graphql_values.proofs.Appending.{text_append, and_part}
 
@@ -29,11 +30,28 @@ narrower margin a b indent most h =
     let right = mul-le-mul_left {m = b} {n = max a b} indent (omega arith) in
     (omega arith, omega arith)
 
+-- both parts fit where the one with more levels does
+pub both_fit : (a b indent most : ℕ) → max a b * indent < most → (a * indent < most) × (b * indent < most)
+both_fit a b indent most h = let parts = narrower 0 a b indent most (omega arith) in (omega (arith, parts.0), omega (arith, parts.1))
+
 -- ---- texts
 
 -- a name with what stands after it, and the value
 pub pair_text : (n : List ℕ) (value : List Part) → (n ++ codes ": ") ++ text_of value ≡ text_of (pair_layout n value)
 pair_text n value = append_assoc n (codes ": ") (text_of value)
+
+-- lines in braces
+pub braces_text : (margin : ℕ) (lines : List Part) → ((123 ∷ 10 ∷ [] ++ text_of lines) ++ spaces margin) ++ (125 ∷ 10 ∷ []) ≡ text_of (in_braces margin lines)
+braces_text margin lines = simp (text_append, append_assoc)
+
+-- one more of a list, after a separator
+pub next_text : (separator : List ℕ) (one later : List Part) → text_of (gap separator ++ (one ++ later)) ≡ (separator ++ text_of one) ++ text_of later
+next_text separator one later = simp (text_append, append_assoc)
+
+-- the first of a list in parentheses, and the others
+pub first_text : (one later : List Part) → (codes "(" ++ text_of one)
+    ++ (text_of later ++ codes ")") ≡ text_of (mark (codes "(") ++ (one ++ (later ++ mark (codes ")"))))
+first_text one later = simp (text_append, append_assoc)
 
 -- before a part, where each takes a line
 pub before_first : (style : Layout) (margin : ℕ) (later : Bool) → style.multiline ≡ true → later ≡ false

@@ -20,6 +20,7 @@ pub mod TypesBack
 pub mod Ordered
 pub mod ValuesBack
 pub mod DirectivesBack
+pub mod LinesBack
 pub mod Margins
 pub mod Narrow
 pub mod Counting
@@ -37,3 +38,4 @@ pub mod Parsing
 pub mod Refusing
 pub mod Dialect
 pub mod NoPositions
+pub mod Seen

@@ -1,3 +1,4 @@
 pub mod Answers
 pub mod Constness
 pub mod Leaf
+pub mod Joined

@@ -32,8 +32,6 @@ pub enum Telling {
     Tree,
     /// To show the parts of the tree one by one.
     Parts,
-    /// No more than that it is there.
-    Nothing,
 }
 
 /// What is wanted of a text.
@@ -97,19 +95,25 @@ fn sized<'a>(text: &'a str, length: &str) -> Option<(&'a str, &'a str)> {
     Some((sized, after.strip_prefix('\n')?))
 }
 
-/// What a word asks of query documents, with so many spaces a level.
-fn read_telling(word: &str, indent: u32) -> Option<Telling> {
+/// What a word asks of documents of a language, with so many spaces a level.
+fn read_telling(word: &str, indent: u32) -> Option<(Language, Telling)> {
+    let lines = Telling::Layout {
+        indent,
+        multiline: true,
+    };
+    let layout = Telling::Layout {
+        indent,
+        multiline: false,
+    };
     match word {
-        "query" => Some(Telling::Layout {
-            indent,
-            multiline: false,
-        }),
-        "lines" => Some(Telling::Layout {
-            indent,
-            multiline: true,
-        }),
-        "tree" => Some(Telling::Tree),
-        "parts" => Some(Telling::Parts),
+        "query" => Some((Language::Query, layout)),
+        "lines" => Some((Language::Query, lines)),
+        "tree" => Some((Language::Query, Telling::Tree)),
+        "parts" => Some((Language::Query, Telling::Parts)),
+        "schema" => Some((Language::Schema, layout)),
+        "schema-lines" => Some((Language::Schema, lines)),
+        "schema-tree" => Some((Language::Schema, Telling::Tree)),
+        "schema-parts" => Some((Language::Schema, Telling::Parts)),
         _ => None,
     }
 }
@@ -118,8 +122,6 @@ fn read_telling(word: &str, indent: u32) -> Option<Telling> {
 fn read_word(word: &str) -> Option<Asked> {
     match word {
         "unlike" => Some(Asked::Unlike(Language::Query)),
-        "schema" => Some(Asked::Document(Language::Schema, Telling::Nothing)),
-        "schema-tree" => Some(Asked::Document(Language::Schema, Telling::Tree)),
         "schemas-unlike" => Some(Asked::Unlike(Language::Schema)),
         "minify" => Some(Asked::Minify),
         "tokens" => Some(Asked::Tokens),
@@ -139,7 +141,7 @@ fn read_asked(line: &str) -> Option<(Asked, &str)> {
         None => (numbers, 2),
     };
     let asked = match read_telling(word, indent) {
-        Some(telling) => Asked::Document(Language::Query, telling),
+        Some((language, telling)) => Asked::Document(language, telling),
         None => read_word(word)?,
     };
     Some((asked, length))

@@ -1,9 +1,9 @@
 //! The languages whose documents are told of: queries and schemas.
 use crate::cases::Telling;
-use crate::parts::tell_parts;
 use crate::told::Told;
-use graphql_parser::common::{Names, Text};
-use graphql_parser::{Style, query, schema};
+use crate::{parts, schema_parts};
+use graphql_parser::common::Text;
+use graphql_parser::{FormatError, Style, query, schema};
 use std::alloc::Global;
 use std::fmt::{Debug, Display};
 
@@ -50,8 +50,11 @@ trait Document<'a>: Clone + PartialEq + Debug + Drop {
     /// The document of a text.
     fn parse(alloc: Global, source: &'a str) -> Result<Self, Self::Error>;
 
-    /// Tells of it what is asked.
-    fn tell(&self, told: &mut Told, telling: Telling);
+    /// Its text in a style.
+    fn laid_out(&self, alloc: Global, style: &Style) -> Result<String, FormatError>;
+
+    /// Tells what is shown of it and of its parts.
+    fn tell_parts(&self, told: &mut Told);
 }
 
 /// What is told of a text's document; its clone is equal.
@@ -60,7 +63,7 @@ fn told_as<'a, D: Document<'a>>(alloc: Global, source: &'a str, telling: Telling
     match D::parse(alloc, source) {
         Ok(document) => {
             compare_with_copy(&mut told, &document);
-            document.tell(&mut told, telling);
+            tell(&mut told, &document, telling);
         }
         Err(error) => told.refuse(&error),
     }
@@ -83,37 +86,17 @@ fn are_equal_as<'a, D: Document<'a>>(alloc: Global, one: &'a str, other: &'a str
     Some(one == other)
 }
 
-impl<'a, T: Text<'a>> Document<'a> for query::Document<'a, T> {
-    type Error = query::ParseError;
-
-    fn parse(alloc: Global, source: &'a str) -> Result<Self, query::ParseError> {
-        query::parse_query(alloc, source)
-    }
-
-    fn tell(&self, told: &mut Told, telling: Telling) {
-        match telling {
-            Telling::Layout { indent, multiline } => {
-                tell_layout(told, self, &style_of(indent, multiline));
+/// Tells of a document what is asked.
+fn tell<'a, D: Document<'a>>(told: &mut Told, document: &D, telling: Telling) {
+    match telling {
+        Telling::Layout { indent, multiline } => {
+            match document.laid_out(told.alloc, &style_of(indent, multiline)) {
+                Ok(text) => told.tell(text.as_str()),
+                Err(error) => told.refuse(&error),
             }
-            Telling::Tree => told.show_debug(self),
-            Telling::Parts => tell_parts(told, self),
-            Telling::Nothing => {}
         }
-    }
-}
-
-/// Nothing but the tree of a schema document is shown, since nothing prints one.
-impl<'a, T: Text<'a>> Document<'a> for schema::Document<'a, T> {
-    type Error = schema::ParseError;
-
-    fn parse(alloc: Global, source: &'a str) -> Result<Self, schema::ParseError> {
-        schema::parse_schema(alloc, source)
-    }
-
-    fn tell(&self, told: &mut Told, telling: Telling) {
-        if let Telling::Tree = telling {
-            told.show_debug(self);
-        }
+        Telling::Tree => told.show_debug(document),
+        Telling::Parts => document.tell_parts(told),
     }
 }
 
@@ -124,10 +107,34 @@ fn style_of(indent: u32, multiline: bool) -> Style {
     style
 }
 
-/// Tells the layout of a query document.
-fn tell_layout<N: Names>(told: &mut Told, document: &query::Document<'_, N>, style: &Style) {
-    match document.format(told.alloc, style) {
-        Ok(text) => told.tell(text.as_str()),
-        Err(error) => told.refuse(&error),
+impl<'a, T: Text<'a>> Document<'a> for query::Document<'a, T> {
+    type Error = query::ParseError;
+
+    fn parse(alloc: Global, source: &'a str) -> Result<Self, query::ParseError> {
+        query::parse_query(alloc, source)
+    }
+
+    fn laid_out(&self, alloc: Global, style: &Style) -> Result<String, FormatError> {
+        self.format(alloc, style)
+    }
+
+    fn tell_parts(&self, told: &mut Told) {
+        parts::tell_parts(told, self);
+    }
+}
+
+impl<'a, T: Text<'a>> Document<'a> for schema::Document<'a, T> {
+    type Error = schema::ParseError;
+
+    fn parse(alloc: Global, source: &'a str) -> Result<Self, schema::ParseError> {
+        schema::parse_schema(alloc, source)
+    }
+
+    fn laid_out(&self, alloc: Global, style: &Style) -> Result<String, FormatError> {
+        self.format(alloc, style)
+    }
+
+    fn tell_parts(&self, told: &mut Told) {
+        schema_parts::tell_parts(told, self);
     }
 }

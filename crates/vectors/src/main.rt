@@ -10,8 +10,7 @@
 //! - `parts`: wanted is what `Display` shows of the query document, and then of its parts down to the first selections,
 //!   each with LF after it;
 //! - `unlike`: each line of the text is a query document, and no two of them are equal;
-//! - `schema`, whose text is a schema document: wanted is that it is accepted or refused, since nothing prints schemas;
-//! - `schema-tree` and `schemas-unlike`: as `tree` and `unlike`, of schema documents;
+//! - `schema`, `schema-lines`, `schema-tree`, `schema-parts` and `schemas-unlike`: the same of schema documents;
 //! - `minify`: wanted is the minified text;
 //! - `tokens`: wanted is a line for each item, the last without LF: its position, its offset, the brackets that are open
 //!   before it, and the token and its kind, or `end` or the bad place and the count of cuts when it is answered twice;
@@ -25,6 +24,7 @@ mod cases;
 mod documents;
 mod languages;
 mod parts;
+mod schema_parts;
 mod tokens;
 mod told;
 

@@ -4,7 +4,7 @@ use crate::tests::{assert_ended, run_over};
 use std::test::Fail;
 
 /// Words, a text, what is written, what is told, and the status.
-const RUNS: [(&str, &str, &str, &str, u8); 7] = [
+const RUNS: [(&str, &str, &str, &str, u8); 9] = [
     ("query", "{ a } { b }", "{\n  a\n}\n\n{\n  b\n}\n", "", 0),
     (
         "query,--indent,3,--multiline",
@@ -39,6 +39,20 @@ const RUNS: [(&str, &str, &str, &str, u8); 7] = [
         "{ a { b } }",
         "",
         "format error: indentation too wide",
+        1,
+    ),
+    (
+        "schema,--indent,4",
+        "\"\"\"d\"\"\" enum E { \"v\" A @x B }",
+        "\"d\"\nenum E {\n    \"v\" A @x\n    B\n}\n",
+        "",
+        0,
+    ),
+    (
+        "schema",
+        "schema { foo: A } scalar A !",
+        "",
+        "schema parse error: Parse error at 1:1\nUnexpected `foo[Name]`\n",
         1,
     ),
     (

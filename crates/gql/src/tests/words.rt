@@ -9,6 +9,8 @@ fn right_words_say_a_command_and_a_style(rt: HostRuntime) -> Result<(), Fail> {
     for (words, command, indent, multiline) in [
         ("query", Command::Query, 2, false),
         ("minify", Command::Minify, 2, false),
+        ("schema", Command::Schema, 2, false),
+        ("schema,--indent,4", Command::Schema, 4, false),
         ("query,--multiline", Command::Query, 2, true),
         ("query,--indent,4", Command::Query, 4, false),
         (
@@ -38,7 +40,6 @@ fn wrong_words_say_nothing(rt: HostRuntime) -> Result<(), Fail> {
     for words in [
         "",
         "minify,--multiline",
-        "schema",
         "first",
         "query,--indent,",
         "query,--indent,+4",

@@ -1,85 +1,107 @@
-//! Writers of definitions and documents.
-ghost use Rattle.std.specs.Prelude.{◌≡◌, ◌*◌, ◌^◌, ◌<◌, OnOk};
-ghost use Rattle.graphql_core.specs.Parts.{text_of};
-ghost use Rattle.graphql_query_tree.specs.Tree.{fragment_definition_view, operation_view, definition_view, document_view};
-ghost use Rattle.graphql_query_tree.specs.Layout.{fragment_definition_layout, definition_layout, layout};
+//! Fragments, definitions and documents.
+ghost use Rattle.graphql_query_tree.specs.Lawful.{IsLawfulFragment, IsLawfulDefinition, IsLawfulDocument};
+ghost use Rattle.graphql_query_tree.specs.Layout.{fragment_definition_layout, definition_layout, document_layout};
 ghost use Rattle.graphql_query_tree.specs.Layout.{fragment_definition_levels, definition_levels, levels};
+ghost use Rattle.graphql_query_tree.specs.Tree.{fragment_definition_view, operation_view, definition_view, document_view};
 
-use crate::print::operation::{write_mutation, write_query, write_subscription};
+use crate::print::levels::levels_in_selection_set;
 use crate::print::selection::{write_selection_set, write_type_condition};
 use crate::tree::{Definition, Document, FragmentDefinition, OperationDefinition};
 use graphql_core::common::Names;
 use graphql_core::format::{Sink, Style};
-use graphql_values::print::write_directives;
+use graphql_values::print::{
+    Pretty, levels_in_directives, levels_in_each, write_directives, write_joined,
+};
 
-/// Appends an operation, in its short form or with a keyword.
-pub fn write_operation_definition<S: Sink, N: Names>(
-    out: &mut S,
-    operation: &OperationDefinition<N>,
-    style: &Style,
-) -> Result<(), S::Error>
-    requires { definition_levels style.now (operation_view N.bytes operation.now) * style.now.indent < 2 ^ 32 }
-    ensures { OnOk result (S.took out.old (text_of (definition_layout style.now (operation_view N.bytes operation.now))) out.new) }
-{
-    match operation {
-        OperationDefinition::SelectionSet(set) => write_selection_set(out, set, style, 0),
-        OperationDefinition::Query(query) => write_query(out, query, style),
-        OperationDefinition::Mutation(mutation) => write_mutation(out, mutation, style),
-        OperationDefinition::Subscription(subscription) => {
-            write_subscription(out, subscription, style)
+/// An operation, in its short form or with a keyword.
+impl<N: Names> Pretty for OperationDefinition<N> {
+    ghost lines = { λ style _ o. definition_layout style (operation_view N.bytes o) };
+
+    ghost opens = { λ style o. definition_levels style (operation_view N.bytes o) };
+
+    ghost lawful = { λ o. IsLawfulDefinition (operation_view N.bytes o) };
+
+    fn levels(&self, style: &Style) -> usize {
+        match self {
+            OperationDefinition::SelectionSet(set) => levels_in_selection_set(set, style),
+            OperationDefinition::Query(query) => query.levels(style),
+            OperationDefinition::Mutation(mutation) => mutation.levels(style),
+            OperationDefinition::Subscription(subscription) => subscription.levels(style),
+        }
+    }
+
+    fn write<S: Sink>(&self, out: &mut S, style: &Style, margin: usize) -> Result<(), S::Error> {
+        match self {
+            OperationDefinition::SelectionSet(set) => write_selection_set(out, set, style, 0),
+            OperationDefinition::Query(query) => query.write(out, style, margin),
+            OperationDefinition::Mutation(mutation) => mutation.write(out, style, margin),
+            OperationDefinition::Subscription(subscription) => {
+                subscription.write(out, style, margin)
+            }
         }
     }
 }
 
-/// Appends a fragment.
-pub fn write_fragment_definition<S: Sink, N: Names>(
-    out: &mut S,
-    fragment: &FragmentDefinition<N>,
-    style: &Style,
-) -> Result<(), S::Error>
-    requires { fragment_definition_levels style.now (fragment_definition_view N.bytes fragment.now) * style.now.indent < 2 ^ 32 }
-    ensures { OnOk result (S.took out.old (text_of (fragment_definition_layout style.now (fragment_definition_view N.bytes fragment.now))) out.new) }
-{
-    out.push_str("fragment ")?;
-    out.push_str(N::view(&fragment.name))?;
-    out.push_str(" ")?;
-    write_type_condition(out, &fragment.type_condition)?;
-    write_directives(out, &fragment.directives, style, 0)?;
-    out.push_str(" ")?;
-    write_selection_set(out, &fragment.selection_set, style, 0)
-}
+/// A fragment.
+impl<N: Names> Pretty for FragmentDefinition<N> {
+    ghost lines = { λ style _ f. fragment_definition_layout style (fragment_definition_view N.bytes f) };
 
-/// Appends a definition.
-pub fn write_definition<S: Sink, N: Names>(
-    out: &mut S,
-    definition: &Definition<N>,
-    style: &Style,
-) -> Result<(), S::Error>
-    requires { definition_levels style.now (definition_view N.bytes definition.now) * style.now.indent < 2 ^ 32 }
-    ensures { OnOk result (S.took out.old (text_of (definition_layout style.now (definition_view N.bytes definition.now))) out.new) }
-{
-    match definition {
-        Definition::Operation(operation) => write_operation_definition(out, operation, style),
-        Definition::Fragment(fragment) => write_fragment_definition(out, fragment, style),
+    ghost opens = { λ style f. fragment_definition_levels style (fragment_definition_view N.bytes f) };
+
+    ghost lawful = { λ f. IsLawfulFragment (fragment_definition_view N.bytes f) };
+
+    fn levels(&self, style: &Style) -> usize {
+        let selected = levels_in_selection_set(&self.selection_set, style);
+        levels_in_directives(&self.directives, style).max(selected)
+    }
+
+    fn write<S: Sink>(&self, out: &mut S, style: &Style, _margin: usize) -> Result<(), S::Error> {
+        out.push_str("fragment ")?;
+        out.push_str(N::view(&self.name))?;
+        out.push_str(" ")?;
+        write_type_condition(out, &self.type_condition)?;
+        write_directives(out, &self.directives, style, 0)?;
+        out.push_str(" ")?;
+        write_selection_set(out, &self.selection_set, style, 0)
     }
 }
 
-/// Appends a document's definitions, with an empty line between two.
-pub fn write_document<S: Sink, N: Names>(
-    out: &mut S,
-    document: &Document<N>,
-    style: &Style,
-) -> Result<(), S::Error>
-    requires { levels style.now (document_view N.bytes document.now) * style.now.indent < 2 ^ 32 }
-    ensures { OnOk result (S.took out.old (layout style.now (document_view N.bytes document.now)) out.new) }
-{
-    let Some((first, others)) = document.definitions.split_first() else {
-        return Ok(());
-    };
-    write_definition(out, first, style)?;
-    'others: for definition in others {
-        out.push_str("\n")?;
-        write_definition(out, definition, style)?;
+/// A definition.
+impl<N: Names> Pretty for Definition<N> {
+    ghost lines = { λ style _ d. definition_layout style (definition_view N.bytes d) };
+
+    ghost opens = { λ style d. definition_levels style (definition_view N.bytes d) };
+
+    ghost lawful = { λ d. IsLawfulDefinition (definition_view N.bytes d) };
+
+    fn levels(&self, style: &Style) -> usize {
+        match self {
+            Definition::Operation(operation) => operation.levels(style),
+            Definition::Fragment(fragment) => fragment.levels(style),
+        }
     }
-    Ok(())
+
+    fn write<S: Sink>(&self, out: &mut S, style: &Style, margin: usize) -> Result<(), S::Error> {
+        match self {
+            Definition::Operation(operation) => operation.write(out, style, margin),
+            Definition::Fragment(fragment) => fragment.write(out, style, margin),
+        }
+    }
+}
+
+/// A document: its definitions, with an empty line between two.
+impl<N: Names> Pretty for Document<N> {
+    ghost lines = { λ style _ d. document_layout style (document_view N.bytes d) };
+
+    ghost opens = { λ style d. levels style (document_view N.bytes d) };
+
+    ghost lawful = { λ d. IsLawfulDocument (document_view N.bytes d) };
+
+    fn levels(&self, style: &Style) -> usize {
+        levels_in_each(&self.definitions, style)
+    }
+
+    fn write<S: Sink>(&self, out: &mut S, style: &Style, _margin: usize) -> Result<(), S::Error> {
+        write_joined(out, "\n", &self.definitions, style, 0)
+    }
 }

@@ -13,28 +13,13 @@ ghost use Rattle.graphql_query_tree.specs.Layout.{fragment_definition_layout, de
 ghost use Rattle.graphql_query_tree.specs.Layout.{selection_levels, selection_set_levels, variable_definition_levels, operation_levels};
 ghost use Rattle.graphql_query_tree.specs.Layout.{fragment_definition_levels, definition_levels, levels};
 
-use crate::print::definition::{
-    write_definition, write_document, write_fragment_definition, write_operation_definition,
-};
-use crate::print::levels::{
-    levels_in_definition, levels_in_document, levels_in_field, levels_in_fragment_definition,
-    levels_in_fragment_spread, levels_in_inline_fragment, levels_in_operation,
-    levels_in_operation_definition, levels_in_selection_set, levels_in_variable_definition,
-};
-use crate::print::operation::{
-    write_mutation, write_query, write_subscription, write_variable_definition,
-};
-use crate::print::selection::{
-    write_field, write_fragment_spread, write_inline_fragment, write_selection_set,
-    write_type_condition,
-};
+use crate::print::selection::write_type_condition;
 use crate::tree::{
     Definition, Document, Field, FragmentDefinition, FragmentSpread, InlineFragment, Mutation,
     OperationDefinition, Query, SelectionSet, Subscription, TypeCondition, VariableDefinition,
 };
 use graphql_core::common::Names;
-use graphql_core::format::Style;
-use graphql_values::print::check_width;
+use graphql_values::print::fmt_in_default_style;
 use std::fmt;
 
 impl<N: Names> fmt::Display for Document<N> {
@@ -45,9 +30,7 @@ impl<N: Names> fmt::Display for Document<N> {
         ensures styled { DisplaysStyledOnOk W.write_str_gives f.old result None f.new }
         ensures narrow { OnOk result (IsNarrow (levels default_style (document_view N.bytes self.now))) }
     {
-        let style = Style::default();
-        check_width(levels_in_document(self, &style), &style)?;
-        write_document(f, self, &style)
+        fmt_in_default_style(self, f)
     }
 }
 
@@ -60,9 +43,7 @@ impl<N: Names> fmt::Display for Definition<N> {
         ensures styled { DisplaysStyledOnOk W.write_str_gives f.old result None f.new }
         ensures narrow { OnOk result (IsNarrow (definition_levels default_style (definition_view N.bytes self.now))) }
     {
-        let style = Style::default();
-        check_width(levels_in_definition(self, &style), &style)?;
-        write_definition(f, self, &style)
+        fmt_in_default_style(self, f)
     }
 }
 
@@ -75,9 +56,7 @@ impl<N: Names> fmt::Display for OperationDefinition<N> {
         ensures styled { DisplaysStyledOnOk W.write_str_gives f.old result None f.new }
         ensures narrow { OnOk result (IsNarrow (definition_levels default_style (operation_view N.bytes self.now))) }
     {
-        let style = Style::default();
-        check_width(levels_in_operation_definition(self, &style), &style)?;
-        write_operation_definition(f, self, &style)
+        fmt_in_default_style(self, f)
     }
 }
 
@@ -90,9 +69,7 @@ impl<N: Names> fmt::Display for FragmentDefinition<N> {
         ensures styled { DisplaysStyledOnOk W.write_str_gives f.old result None f.new }
         ensures narrow { OnOk result (IsNarrow (fragment_definition_levels default_style (fragment_definition_view N.bytes self.now))) }
     {
-        let style = Style::default();
-        check_width(levels_in_fragment_definition(self, &style), &style)?;
-        write_fragment_definition(f, self, &style)
+        fmt_in_default_style(self, f)
     }
 }
 
@@ -104,15 +81,7 @@ impl<N: Names> fmt::Display for Query<N> {
         ensures styled { DisplaysStyledOnOk W.write_str_gives f.old result None f.new }
         ensures narrow { OnOk result (IsNarrow (operation_levels default_style (query_view N.bytes self.now))) }
     {
-        let style = Style::default();
-        let levels = levels_in_operation(
-            &self.variable_definitions,
-            &self.directives,
-            &self.selection_set,
-            &style,
-        );
-        check_width(levels, &style)?;
-        write_query(f, self, &style)
+        fmt_in_default_style(self, f)
     }
 }
 
@@ -124,15 +93,7 @@ impl<N: Names> fmt::Display for Mutation<N> {
         ensures styled { DisplaysStyledOnOk W.write_str_gives f.old result None f.new }
         ensures narrow { OnOk result (IsNarrow (operation_levels default_style (mutation_view N.bytes self.now))) }
     {
-        let style = Style::default();
-        let levels = levels_in_operation(
-            &self.variable_definitions,
-            &self.directives,
-            &self.selection_set,
-            &style,
-        );
-        check_width(levels, &style)?;
-        write_mutation(f, self, &style)
+        fmt_in_default_style(self, f)
     }
 }
 
@@ -145,15 +106,7 @@ impl<N: Names> fmt::Display for Subscription<N> {
         ensures styled { DisplaysStyledOnOk W.write_str_gives f.old result None f.new }
         ensures narrow { OnOk result (IsNarrow (operation_levels default_style (subscription_view N.bytes self.now))) }
     {
-        let style = Style::default();
-        let levels = levels_in_operation(
-            &self.variable_definitions,
-            &self.directives,
-            &self.selection_set,
-            &style,
-        );
-        check_width(levels, &style)?;
-        write_subscription(f, self, &style)
+        fmt_in_default_style(self, f)
     }
 }
 
@@ -166,9 +119,7 @@ impl<N: Names> fmt::Display for VariableDefinition<N> {
         ensures styled { DisplaysStyledOnOk W.write_str_gives f.old result None f.new }
         ensures narrow { OnOk result (IsNarrow (variable_definition_levels default_style (variable_definition_view N.bytes self.now))) }
     {
-        let style = Style::default();
-        check_width(levels_in_variable_definition(self, &style), &style)?;
-        write_variable_definition(f, self, &style)
+        fmt_in_default_style(self, f)
     }
 }
 
@@ -181,9 +132,7 @@ impl<N: Names> fmt::Display for SelectionSet<N> {
         ensures styled { DisplaysStyledOnOk W.write_str_gives f.old result None f.new }
         ensures narrow { OnOk result (IsNarrow (selection_set_levels default_style (selection_set_view N.bytes self.now))) }
     {
-        let style = Style::default();
-        check_width(levels_in_selection_set(self, &style), &style)?;
-        write_selection_set(f, self, &style, 0)
+        fmt_in_default_style(self, f)
     }
 }
 
@@ -195,9 +144,7 @@ impl<N: Names> fmt::Display for Field<N> {
         ensures styled { DisplaysStyledOnOk W.write_str_gives f.old result None f.new }
         ensures narrow { OnOk result (IsNarrow (selection_levels default_style (field_view N.bytes self.now))) }
     {
-        let style = Style::default();
-        check_width(levels_in_field(self, &style), &style)?;
-        write_field(f, self, &style, 0)
+        fmt_in_default_style(self, f)
     }
 }
 
@@ -210,9 +157,7 @@ impl<N: Names> fmt::Display for FragmentSpread<N> {
         ensures styled { DisplaysStyledOnOk W.write_str_gives f.old result None f.new }
         ensures narrow { OnOk result (IsNarrow (selection_levels default_style (fragment_spread_view N.bytes self.now))) }
     {
-        let style = Style::default();
-        check_width(levels_in_fragment_spread(self, &style), &style)?;
-        write_fragment_spread(f, self, &style, 0)
+        fmt_in_default_style(self, f)
     }
 }
 
@@ -225,9 +170,7 @@ impl<N: Names> fmt::Display for InlineFragment<N> {
         ensures styled { DisplaysStyledOnOk W.write_str_gives f.old result None f.new }
         ensures narrow { OnOk result (IsNarrow (selection_levels default_style (inline_fragment_view N.bytes self.now))) }
     {
-        let style = Style::default();
-        check_width(levels_in_inline_fragment(self, &style), &style)?;
-        write_inline_fragment(f, self, &style, 0)
+        fmt_in_default_style(self, f)
     }
 }
 

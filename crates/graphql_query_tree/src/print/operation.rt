@@ -1,20 +1,24 @@
-//! Writers of operations with a keyword, and of their variables.
-ghost use Rattle.std.specs.Prelude.{◌≡◌, ◌*◌, ◌^◌, ◌<◌, OnOk, option_map};
+//! Operations with a keyword, and their variables.
+ghost use Rattle.std.specs.Prelude.{◌≡◌, ◌*◌, ◌-◌, ◌^◌, ◌<◌, OnOk, min, option_map};
 ghost use Rattle.graphql_core.specs.Parts.{text_of};
-ghost use Rattle.graphql_values.specs.ValueViews.{value_view, directives_view};
+ghost use Rattle.graphql_values.specs.ValueViews.{directives_view};
 ghost use Rattle.graphql_query_tree.specs.Tree.{variable_definition_view, variable_definitions_view, selection_set_view, query_view, mutation_view};
-ghost use Rattle.graphql_query_tree.specs.Tree.{subscription_view};
-ghost use Rattle.graphql_query_tree.specs.Layout.{operation_name_layout, default_layout, variable_definition_layout, variable_definitions_layout, operation_of};
+ghost use Rattle.graphql_query_tree.specs.Tree.{subscription_view, operation};
+ghost use Rattle.graphql_query_tree.specs.Lawful.{IsLawfulVariable, AreLawfulParts, IsLawfulDefinition};
+ghost use Rattle.graphql_query_tree.specs.Layout.{operation_name_layout, variable_definition_layout, variable_definitions_layout, operation_of};
 ghost use Rattle.graphql_query_tree.specs.Layout.{operation_layout};
-ghost use Rattle.graphql_query_tree.specs.Layout.{default_levels, variable_definition_levels, variable_definitions_levels, operation_levels_of};
-ghost use Rattle.graphql_query_tree.specs.Layout.{operation_levels};
+ghost use Rattle.graphql_query_tree.specs.Layout.{variable_definition_levels, variable_definitions_levels, operation_levels_of, operation_levels};
 
+use crate::print::levels::levels_in_selection_set;
 use crate::print::selection::write_selection_set;
 use crate::tree::{Mutation, Query, SelectionSet, Subscription, VariableDefinition};
 use graphql_core::common::Names;
 use graphql_core::format::{Sink, Style};
-use graphql_values::print::{write_directives, write_type, write_value};
-use graphql_values::tree::{Directive, Value};
+use graphql_values::print::{
+    Pretty, levels_in_default, levels_in_directives, levels_in_each, write_default,
+    write_directives, write_joined, write_type,
+};
+use graphql_values::tree::Directive;
 
 /// Appends the name of an operation, where it has one.
 fn write_operation_name<S: Sink, N: Names>(
@@ -30,36 +34,25 @@ fn write_operation_name<S: Sink, N: Names>(
     out.push_str(N::view(name))
 }
 
-/// Appends the default value of a variable, where it has one.
-fn write_default<S: Sink, N: Names>(
-    out: &mut S,
-    value: &Option<Value<N>>,
-    style: &Style,
-) -> Result<(), S::Error>
-    requires { default_levels style.now (option_map (value_view N.bytes) value.now) * style.now.indent < 2 ^ 32 }
-    ensures { OnOk result (S.took out.old (text_of (default_layout style.now (option_map (value_view N.bytes) value.now))) out.new) }
-{
-    let Some(value) = value else {
-        return Ok(());
-    };
-    out.push_str(" = ")?;
-    write_value(out, value, style, 0)
-}
+/// A variable with its type and its default value.
+impl<N: Names> Pretty for VariableDefinition<N> {
+    ghost lines = { λ style _ v. variable_definition_layout style (variable_definition_view N.bytes v) };
 
-/// Appends a variable with its type and its default value.
-pub fn write_variable_definition<S: Sink, N: Names>(
-    out: &mut S,
-    variable: &VariableDefinition<N>,
-    style: &Style,
-) -> Result<(), S::Error>
-    requires { variable_definition_levels style.now (variable_definition_view N.bytes variable.now) * style.now.indent < 2 ^ 32 }
-    ensures { OnOk result (S.took out.old (text_of (variable_definition_layout style.now (variable_definition_view N.bytes variable.now))) out.new) }
-{
-    out.push_str("$")?;
-    out.push_str(N::view(&variable.name))?;
-    out.push_str(": ")?;
-    write_type(out, &variable.var_type)?;
-    write_default(out, &variable.default_value, style)
+    ghost opens = { λ style v. variable_definition_levels style (variable_definition_view N.bytes v) };
+
+    ghost lawful = { λ v. IsLawfulVariable (variable_definition_view N.bytes v) };
+
+    fn levels(&self, style: &Style) -> usize {
+        levels_in_default(&self.default_value, style)
+    }
+
+    fn write<S: Sink>(&self, out: &mut S, style: &Style, _margin: usize) -> Result<(), S::Error> {
+        out.push_str("$")?;
+        out.push_str(N::view(&self.name))?;
+        out.push_str(": ")?;
+        write_type(out, &self.var_type)?;
+        write_default(out, &self.default_value, style, 0)
+    }
 }
 
 /// Appends the variables of an operation in parentheses, where it has any.
@@ -71,16 +64,29 @@ fn write_variable_definitions<S: Sink, N: Names>(
     requires { variable_definitions_levels style.now (variable_definitions_view N.bytes variables.now.items) * style.now.indent < 2 ^ 32 }
     ensures { OnOk result (S.took out.old (text_of (variable_definitions_layout style.now (variable_definitions_view N.bytes variables.now.items))) out.new) }
 {
-    let Some((first, others)) = variables.split_first() else {
+    if variables.is_empty() {
         return Ok(());
-    };
-    out.push_str("(")?;
-    write_variable_definition(out, first, style)?;
-    'others: for variable in others {
-        out.push_str(", ")?;
-        write_variable_definition(out, variable, style)?;
     }
+    out.push_str("(")?;
+    write_joined(out, ", ", variables, style, 0)?;
     out.push_str(")")
+}
+
+/// How many levels an operation with these parts opens at once.
+fn levels_in_operation<N: Names>(
+    variables: &Vec<VariableDefinition<N>>,
+    directives: &Vec<Directive<N>>,
+    set: &SelectionSet<N>,
+    style: &Style,
+) -> usize
+    ensures levels { result ≡ min
+        (operation_levels_of style.now (variable_definitions_view N.bytes variables.now.items) (directives_view N.bytes directives.now.items)
+        (selection_set_view N.bytes set.now)) (2 ^ 64 - 1) }
+    ensures lawful { AreLawfulParts (variable_definitions_view N.bytes variables.now.items) (directives_view N.bytes directives.now.items)
+        (selection_set_view N.bytes set.now) }
+{
+    let around = levels_in_each(variables, style).max(levels_in_directives(directives, style));
+    around.max(levels_in_selection_set(set, style))
 }
 
 /// Appends an operation with a keyword and these parts.
@@ -108,62 +114,92 @@ fn write_operation<S: Sink, N: Names>(
     write_selection_set(out, set, style, 0)
 }
 
-/// Appends a query with its keyword.
-pub fn write_query<S: Sink, N: Names>(
-    out: &mut S,
-    query: &Query<N>,
-    style: &Style,
-) -> Result<(), S::Error>
-    requires { operation_levels style.now (query_view N.bytes query.now) * style.now.indent < 2 ^ 32 }
-    ensures { OnOk result (S.took out.old (text_of (operation_layout style.now (query_view N.bytes query.now))) out.new) }
-{
-    write_operation(
-        out,
-        "query",
-        &query.name,
-        &query.variable_definitions,
-        &query.directives,
-        &query.selection_set,
-        style,
-    )
+/// A query with its keyword.
+impl<N: Names> Pretty for Query<N> {
+    ghost lines = { λ style _ o. operation_layout style (query_view N.bytes o) };
+
+    ghost opens = { λ style o. operation_levels style (query_view N.bytes o) };
+
+    ghost lawful = { λ o. IsLawfulDefinition (operation (query_view N.bytes o)) };
+
+    fn levels(&self, style: &Style) -> usize {
+        levels_in_operation(
+            &self.variable_definitions,
+            &self.directives,
+            &self.selection_set,
+            style,
+        )
+    }
+
+    fn write<S: Sink>(&self, out: &mut S, style: &Style, _margin: usize) -> Result<(), S::Error> {
+        write_operation(
+            out,
+            "query",
+            &self.name,
+            &self.variable_definitions,
+            &self.directives,
+            &self.selection_set,
+            style,
+        )
+    }
 }
 
-/// Appends a mutation.
-pub fn write_mutation<S: Sink, N: Names>(
-    out: &mut S,
-    mutation: &Mutation<N>,
-    style: &Style,
-) -> Result<(), S::Error>
-    requires { operation_levels style.now (mutation_view N.bytes mutation.now) * style.now.indent < 2 ^ 32 }
-    ensures { OnOk result (S.took out.old (text_of (operation_layout style.now (mutation_view N.bytes mutation.now))) out.new) }
-{
-    write_operation(
-        out,
-        "mutation",
-        &mutation.name,
-        &mutation.variable_definitions,
-        &mutation.directives,
-        &mutation.selection_set,
-        style,
-    )
+/// A mutation.
+impl<N: Names> Pretty for Mutation<N> {
+    ghost lines = { λ style _ o. operation_layout style (mutation_view N.bytes o) };
+
+    ghost opens = { λ style o. operation_levels style (mutation_view N.bytes o) };
+
+    ghost lawful = { λ o. IsLawfulDefinition (operation (mutation_view N.bytes o)) };
+
+    fn levels(&self, style: &Style) -> usize {
+        levels_in_operation(
+            &self.variable_definitions,
+            &self.directives,
+            &self.selection_set,
+            style,
+        )
+    }
+
+    fn write<S: Sink>(&self, out: &mut S, style: &Style, _margin: usize) -> Result<(), S::Error> {
+        write_operation(
+            out,
+            "mutation",
+            &self.name,
+            &self.variable_definitions,
+            &self.directives,
+            &self.selection_set,
+            style,
+        )
+    }
 }
 
-/// Appends a subscription.
-pub fn write_subscription<S: Sink, N: Names>(
-    out: &mut S,
-    subscription: &Subscription<N>,
-    style: &Style,
-) -> Result<(), S::Error>
-    requires { operation_levels style.now (subscription_view N.bytes subscription.now) * style.now.indent < 2 ^ 32 }
-    ensures { OnOk result (S.took out.old (text_of (operation_layout style.now (subscription_view N.bytes subscription.now))) out.new) }
-{
-    write_operation(
-        out,
-        "subscription",
-        &subscription.name,
-        &subscription.variable_definitions,
-        &subscription.directives,
-        &subscription.selection_set,
-        style,
-    )
+/// A subscription.
+impl<N: Names> Pretty for Subscription<N> {
+    ghost lines = { λ style _ o. operation_layout style (subscription_view N.bytes o) };
+
+    ghost opens = { λ style o. operation_levels style (subscription_view N.bytes o) };
+
+    ghost lawful = { λ o. IsLawfulDefinition (operation (subscription_view N.bytes o)) };
+
+    fn levels(&self, style: &Style) -> usize {
+        levels_in_operation(
+            &self.variable_definitions,
+            &self.directives,
+            &self.selection_set,
+            style,
+        )
+    }
+
+    fn write<S: Sink>(&self, out: &mut S, style: &Style, _margin: usize) -> Result<(), S::Error> {
+        write_operation(
+            out,
+            "subscription",
+            &self.name,
+            &self.variable_definitions,
+            &self.directives,
+            &self.selection_set,
+            style,
+        )
+    }
 }

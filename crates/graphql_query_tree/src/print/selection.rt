@@ -3,14 +3,18 @@ ghost use Rattle.std.specs.Prelude.{◌≡◌, ◌+◌, ◌*◌, ◌^◌, ◌<�
 ghost use Rattle.graphql_core.specs.Parts.{text_of};
 ghost use Rattle.graphql_query_tree.specs.Tree.{type_condition_view, fragment_spread_view, field_view, inline_fragment_view, selection_view, selections_view};
 ghost use Rattle.graphql_query_tree.specs.Tree.{selection_set_view};
+ghost use Rattle.graphql_query_tree.specs.Lawful.{IsLawfulSelection, IsLawfulSet};
 ghost use Rattle.graphql_query_tree.specs.Layout.{alias_layout, type_condition_layout, on_layout, selection_layout, selected_layout, selections_layout};
 ghost use Rattle.graphql_query_tree.specs.Layout.{selection_set_layout};
 ghost use Rattle.graphql_query_tree.specs.Layout.{selection_levels, selected_levels, selections_levels, selection_set_levels};
 
+use crate::print::levels::{
+    levels_in_field, levels_in_fragment_spread, levels_in_inline_fragment, levels_in_selection_set,
+};
 use crate::tree::{Field, FragmentSpread, InlineFragment, Selection, SelectionSet, TypeCondition};
 use graphql_core::common::Names;
 use graphql_core::format::{Sink, Style};
-use graphql_values::print::{write_arguments, write_directives, write_spaces};
+use graphql_values::print::{Pretty, write_arguments, write_directives, write_spaces};
 
 /// Appends the alias before a name, where there is one.
 fn write_alias<S: Sink, N: Names>(out: &mut S, alias: &Option<N::Value>) -> Result<(), S::Error>
@@ -53,7 +57,7 @@ fn write_on<S: Sink, N: Names>(
 }
 
 /// Appends the spread of a fragment, in a line.
-pub fn write_fragment_spread<S: Sink, N: Names>(
+fn write_fragment_spread<S: Sink, N: Names>(
     out: &mut S,
     spread: &FragmentSpread<N>,
     style: &Style,
@@ -124,7 +128,7 @@ fn write_selection<S: Sink, N: Names>(
 
 /// Appends a field, and what is selected of it.
 #[cycle(print)]
-pub fn write_field<S: Sink, N: Names>(
+fn write_field<S: Sink, N: Names>(
     out: &mut S,
     field: &Field<N>,
     style: &Style,
@@ -161,7 +165,7 @@ fn write_selected<S: Sink, N: Names>(
 
 /// Appends an inline fragment.
 #[cycle(print)]
-pub fn write_inline_fragment<S: Sink, N: Names>(
+fn write_inline_fragment<S: Sink, N: Names>(
     out: &mut S,
     fragment: &InlineFragment<N>,
     style: &Style,
@@ -176,4 +180,72 @@ pub fn write_inline_fragment<S: Sink, N: Names>(
     write_directives(out, &fragment.directives, style, margin)?;
     out.push_str(" ")?;
     write_selection_set(out, &fragment.selection_set, style, margin)
+}
+
+/// Selections in braces.
+impl<N: Names> Pretty for SelectionSet<N> {
+    ghost lines = { λ style margin s. selection_set_layout style margin (selection_set_view N.bytes s) };
+
+    ghost opens = { λ style s. selection_set_levels style (selection_set_view N.bytes s) };
+
+    ghost lawful = { λ s. IsLawfulSet (selection_set_view N.bytes s) };
+
+    fn levels(&self, style: &Style) -> usize {
+        levels_in_selection_set(self, style)
+    }
+
+    fn write<S: Sink>(&self, out: &mut S, style: &Style, margin: usize) -> Result<(), S::Error> {
+        write_selection_set(out, self, style, margin)
+    }
+}
+
+/// A field, and what is selected of it.
+impl<N: Names> Pretty for Field<N> {
+    ghost lines = { λ style margin f. selection_layout style margin (field_view N.bytes f) };
+
+    ghost opens = { λ style f. selection_levels style (field_view N.bytes f) };
+
+    ghost lawful = { λ f. IsLawfulSelection (field_view N.bytes f) };
+
+    fn levels(&self, style: &Style) -> usize {
+        levels_in_field(self, style)
+    }
+
+    fn write<S: Sink>(&self, out: &mut S, style: &Style, margin: usize) -> Result<(), S::Error> {
+        write_field(out, self, style, margin)
+    }
+}
+
+/// The spread of a fragment.
+impl<N: Names> Pretty for FragmentSpread<N> {
+    ghost lines = { λ style margin s. selection_layout style margin (fragment_spread_view N.bytes s) };
+
+    ghost opens = { λ style s. selection_levels style (fragment_spread_view N.bytes s) };
+
+    ghost lawful = { λ s. IsLawfulSelection (fragment_spread_view N.bytes s) };
+
+    fn levels(&self, style: &Style) -> usize {
+        levels_in_fragment_spread(self, style)
+    }
+
+    fn write<S: Sink>(&self, out: &mut S, style: &Style, margin: usize) -> Result<(), S::Error> {
+        write_fragment_spread(out, self, style, margin)
+    }
+}
+
+/// An inline fragment.
+impl<N: Names> Pretty for InlineFragment<N> {
+    ghost lines = { λ style margin f. selection_layout style margin (inline_fragment_view N.bytes f) };
+
+    ghost opens = { λ style f. selection_levels style (inline_fragment_view N.bytes f) };
+
+    ghost lawful = { λ f. IsLawfulSelection (inline_fragment_view N.bytes f) };
+
+    fn levels(&self, style: &Style) -> usize {
+        levels_in_inline_fragment(self, style)
+    }
+
+    fn write<S: Sink>(&self, out: &mut S, style: &Style, margin: usize) -> Result<(), S::Error> {
+        write_inline_fragment(out, self, style, margin)
+    }
 }

@@ -58,7 +58,7 @@ fn levels_in_float(literal: &FloatLiteral) -> usize
 }
 
 /// How many levels a string opens.
-fn levels_in_string(text: &str) -> usize
+pub fn levels_in_string(text: &str) -> usize
     ensures { result ≡ string_levels text.now }
 {
     if has_block_form(text) { 1 } else { 0 }

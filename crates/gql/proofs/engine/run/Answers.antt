@@ -4,7 +4,7 @@ use Rattle.std.specs.Io.KnownBytes.{Appends, Consumes, IsAtEnd}
 use Rattle.graphql_core.specs.Style.{Layout}
 use Rattle.gql.specs.declared.command.Command.{Command}
 use Rattle.gql.specs.declared.error.RunError.TheVariants as error
-use Rattle.gql.specs.Output.{IsOutputOf, HasNoDocument, HasBadPlace, EndsEngine, ReadsAll, WritesPart}
+use Rattle.gql.specs.Output.{IsOutputOf, HasNoQuery, HasNoSchema, HasBadPlace, EndsEngine, ReadsAll, WritesPart}
 use Rattle.gql.proofs.engine.run.Goals as goal
 
 -- what was read to its end is all that was left
@@ -29,7 +29,16 @@ returns-in_err-output-clause-query g c = λ e is.
     let passed = err_from_is_err_and c.from_residual-in_err-output.result c.from_residual-in_err-output.ensures.1 in
     let why : c.in_err-output.field-0.0 ≡ error.Query e = cc (passed.1, passed.2) in
     let none = subst (EndsEngine c.args.command c.args.style.now _) why c.in_err-output.ensures.err in
-    reads_all _ _ _ _ read.bytes read.end (subst (λ text. HasNoDocument c.args.command text e) same none)
+    reads_all _ _ _ _ read.bytes read.end (subst (λ text. HasNoQuery c.args.command text e) same none)
+
+pub returns-in_err-output-clause-schema : goal.returns-in_err-output-clause-schema
+returns-in_err-output-clause-schema g c = λ e is.
+    let read = c.in_ok-bytes.ensures in
+    let same = ap (λ v. v.items) c.in-Ok.ensures.ok in
+    let passed = err_from_is_err_and c.from_residual-in_err-output.result c.from_residual-in_err-output.ensures.1 in
+    let why : c.in_err-output.field-0.0 ≡ error.Schema e = cc (passed.1, passed.2) in
+    let none = subst (EndsEngine c.args.command c.args.style.now _) why c.in_err-output.ensures.err in
+    reads_all _ _ _ _ read.bytes read.end (subst (λ text. HasNoSchema c.args.command text e) same none)
 
 pub returns-in_err-output-clause-minify : goal.returns-in_err-output-clause-minify
 returns-in_err-output-clause-minify g c = λ e is.

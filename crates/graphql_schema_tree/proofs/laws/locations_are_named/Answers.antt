@@ -1,32 +1,11 @@
-use Rattle.std.proofs.Common.{◌≡◌, ◌∙◌, true, false, refl, List, [], ◌∷◌, ℕ, Some, inl, inr, ap, sym}
+use Rattle.std.proofs.Common.{◌≡◌, ◌∙◌, refl, List, [], ◌∷◌, ℕ, Some, inl, inr, ap, sym}
 use Rattle.std.proofs.lemmas.Bool.{cases_Bool}
 use Rattle.graphql_grammar.specs.Tokens.{same_spelling}
 use Rattle.graphql_grammar.proofs.Classes.{same_spelling-true}
 use Rattle.graphql_schema_tree.specs.declared.location.DirectiveLocation.{DirectiveLocation}
-use Rattle.graphql_schema_tree.specs.declared.location.DirectiveLocation.TheVariants as declared
-use Rattle.graphql_schema_tree.specs.Locations.{word_of, found, all, location_of}
+use Rattle.graphql_schema_tree.specs.Locations.{word_of, found, all}
+use Rattle.graphql_schema_tree.proofs.LocationWords.{location_named}
 use Rattle.graphql_schema_tree.proofs.laws.locations_are_named.Goals as goal
-
-named : (l : DirectiveLocation) → location_of (word_of l) ≡ Some l
-named declared.Query = refl
-named declared.Mutation = refl
-named declared.Subscription = refl
-named declared.Field = refl
-named declared.FragmentDefinition = refl
-named declared.FragmentSpread = refl
-named declared.InlineFragment = refl
-named declared.Schema = refl
-named declared.Scalar = refl
-named declared.Object = refl
-named declared.FieldDefinition = refl
-named declared.ArgumentDefinition = refl
-named declared.Interface = refl
-named declared.Union = refl
-named declared.Enum = refl
-named declared.EnumValue = refl
-named declared.InputObject = refl
-named declared.InputFieldDefinition = refl
-named declared.VariableDefinition = refl
 
 same : (l m : DirectiveLocation) → Some l ≡ Some m → l ≡ m
 same l m h = cc
@@ -39,4 +18,4 @@ only word (m ∷ ms) l h = elim (cases_Bool (same_spelling word (word_of m))) [
 ]
 
 pub returns : goal.returns
-returns c = record { named = named; only = λ word l h. only word all l h }
+returns c = record { named = location_named; only = λ word l h. only word all l h }

@@ -1,61 +1,39 @@
-use Rattle.std.proofs.Common.{arith, ◌≡◌, ◌∙◌, ◌+◌, ◌++◌, ◌∷◌, ◌^◌, append_assoc, drop, codes, sym, ap}
-use Rattle.std.proofs.lemmas.List.{at_drop_all}
+use Rattle.std.proofs.Common.{◌≡◌, ◌∙◌, ◌<◌, ◌++◌, ◌∷◌, ◌*◌, ◌^◌, [], List, length, codes, map, arith, ap, refl, sym, append_assoc}
 use Rattle.graphql_core.specs.Parts.{text_of}
-use Rattle.graphql_query_tree.specs.Tree.{variable_definition_view, variable_definitions_view}
-use Rattle.graphql_query_tree.specs.Layout.{variable_definition_layout, later_variable_definitions, variable_definitions_layout}
-use Rattle.graphql_values.proofs.Appending.{and_last, and_part}
-use Rattle.graphql_query_tree.proofs.LayoutTexts.{variable_definition_here, next_text, first_text, both_fit}
+use Rattle.graphql_core.specs.Style.{Layout}
+use Rattle.graphql_values.proofs.Appending.{text_append, and_last}
+use Rattle.graphql_values.proofs.Enclosed.{some_items, first_text}
+use Rattle.graphql_values.proofs.Seen.{most_seen, joined_seen}
+use Rattle.graphql_values.specs.Printable.{most}
+use Rattle.graphql_values.specs.steps.Joined.{joined}
+use Rattle.graphql_query_tree.specs.Layout.{variable_definition_layout, later_variable_definitions, variable_definitions_layout, variable_definition_levels}
+use Rattle.graphql_query_tree.specs.Tree.{VariableDefinitionTree, variable_definition_view}
 use Rattle.graphql_query_tree.proofs.print.operation.write_variable_definitions.Goals as goal
 
-pub write_variable_definition-requires-in-others : goal.write_variable_definition-requires-in-others
-write_variable_definition-requires-in-others g c =
-    let l = c.others in
-    let here = variable_definition_here g.N.Names.bytes c.in-Some.others.now l.variable-index c.variable-item.result (omega arith) c.variable-item.is in
-    (both_fit _ _ c.args.style.now.indent (2 ^ 32) (rw here at l.invariant.bound)).0
+-- variables, of which there are some
+in_parentheses : {X : Type 0} (view : X → VariableDefinitionTree) (style : Layout) (xs : List X) → 0 < length xs
+    → (codes "(" ++ joined (codes ", ") (map (λ x. text_of (variable_definition_layout style (view x))) xs)) ++ codes ")"
+    ≡ text_of (variable_definitions_layout style (map view xs))
+in_parentheses view style [] h = absurd (omega arith)
+in_parentheses view style (x ∷ xs) h =
+    let one = variable_definition_layout style in
+    let later = later_variable_definitions style in
+    ap (λ r. (codes "(" ++ r) ++ codes ")")
+    (joined_seen view (codes ", ") one later refl (λ t ts. refl) x xs ∙ text_append (one (view x)) (later (map view xs)))
+    ∙ ap (λ r. r ++ codes ")") (sym (append_assoc (codes "(") (text_of (one (view x))) (text_of (later (map view xs)))))
+    ∙ append_assoc (codes "(" ++ text_of (one (view x))) (text_of (later (map view xs))) (codes ")")
+    ∙ first_text (one (view x)) (later (map view xs))
 
-pub others-init : goal.others-init
-others-init g c =
-    let bytes = g.N.Names.bytes in
-    let style = c.args.style.now in
-    let first = variable_definition_view bytes c.in-Some.first.now in
-    let others = variable_definitions_view bytes c.in-Some.others.now in
-    let all : variable_definitions_view bytes c.args.variables.now.items ≡ first
-    ∷ others = ap (variable_definitions_view bytes) (sym c.deref.ensures.value ∙ c.in-Some.ensures.cases.0) in
-    let fits = both_fit _ _ style.indent (2 ^ 32) (rw all at c.requires) in
-    record {
-      bound = fits.1;
-      wrote = (
-        codes "(" ++ text_of (variable_definition_layout style first),
-        g.met.S.Sink.took_more _ _ _ _ _ c.in_ok-push_str.ensures c.in_ok-write_variable_definition.ensures,
-        first_text (variable_definition_layout style first) (later_variable_definitions style others) ∙ sym
-            (ap (λ vs. text_of (variable_definitions_layout style vs)) all),
-      );
-    }
-
-pub others-preserved : goal.others-preserved
-others-preserved g c =
-    let bytes = g.N.Names.bytes in
-    let more = g.met.S.Sink.took_more in
-    let style = c.args.style.now in
-    let l = c.others in
-    let vs = c.in-Some.others.now in
-    let here = variable_definition_here bytes vs l.variable-index c.variable-item.result (omega arith) c.variable-item.is in
-    let fits = both_fit _ _ style.indent (2 ^ 32) (rw here at l.invariant.bound) in
-    let (done, wrote, rest) = l.invariant.wrote in
-    let one = variable_definition_layout style (variable_definition_view bytes c.variable-item.result) in
-    let later = later_variable_definitions style (variable_definitions_view bytes (drop (l.variable-index + 1) vs)) in
-    let next = ap (λ ws. text_of (later_variable_definitions style ws)) here ∙ next_text (codes ", ") one later in
-    record {
-      bound = fits.1;
-      wrote = and_part g.S.Sink.took more _ _ _ done _ _ _ wrote (more _ _ _ _ _ c.in_ok-push_str-2.ensures c.in_ok-write_variable_definition-2.ensures)
-          (ap (λ r. done ++ r) (sym (ap (λ r. r ++ codes ")") next ∙ append_assoc (codes ", " ++ text_of one) (text_of later) (codes ")"))) ∙ rest);
-    }
+pub write_joined-requires : goal.write_joined-requires
+write_joined-requires g c =
+    let view = variable_definition_view g.N.Names.bytes in
+    let levels = variable_definition_levels c.args.style.now in
+    let fits : most levels (map view c.args.variables.now.items) * c.args.style.now.indent < 2 ^ 32 = c.requires in
+    rw (c.deref.ensures.value, most_seen view levels c.args.variables.now.items) (omega (arith, fits))
 
 pub returns : goal.returns
 returns g c =
-    let l = c.others in
-    let (done, wrote, rest) = l.invariant.wrote in
-    let none = at_drop_all
-    (λ vs. text_of (later_variable_definitions c.args.style.now (variable_definitions_view g.N.Names.bytes vs))) c.in-Some.others.now l.variable-index
-    (omega arith) in
-    and_last g.S.Sink.took g.met.S.Sink.took_more _ _ _ _ _ _ _ wrote c.push_str-2.ensures (sym (ap (λ r. done ++ (r ++ codes ")")) none) ∙ rest)
+    let more = g.met.S.Sink.took_more in
+    let some = some_items _ c.args.variables.now.items c.args.variables.now.ok.0 (sym c.is_empty.ensures ∙ c.if-is_empty.false) in
+    and_last g.S.Sink.took more _ _ _ _ _ _ _ (more _ _ _ _ _ c.in_ok-push_str.ensures c.in_ok-write_joined.ensures) c.push_str-2.ensures
+    (rw c.deref.ensures.value (in_parentheses (variable_definition_view g.N.Names.bytes) c.args.style.now c.args.variables.now.items some))

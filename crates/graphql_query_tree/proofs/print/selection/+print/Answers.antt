@@ -4,8 +4,8 @@ use Rattle.graphql_query_tree.specs.declared.tree.SelectionSet.{the_lemmas}
 use Rattle.graphql_query_tree.specs.Tree.{selection_set_view, selection_view, selections_view}
 use Rattle.graphql_query_tree.specs.Layout.{selection_layout, selections_layout, selection_set_levels}
 use Rattle.graphql_query_tree.proofs.LayoutTexts.{items_of, selection_set_parts, field_parts, inline_fragment_parts, selection_here, no_items, some_items}
-use Rattle.graphql_query_tree.proofs.LayoutTexts.{nothing_layout, some_levels, some_layout, braces_text}
-use Rattle.graphql_values.proofs.Enclosed.{narrower}
+use Rattle.graphql_query_tree.proofs.LayoutTexts.{nothing_layout, some_levels, some_layout}
+use Rattle.graphql_values.proofs.Enclosed.{narrower, braces_text}
 use Rattle.graphql_values.proofs.Appending.{text_append, and_last, and_part}
 use Rattle.graphql_query_tree.proofs.print.selection.+print.Goals as goal
 

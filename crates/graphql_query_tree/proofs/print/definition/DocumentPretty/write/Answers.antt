@@ -1,0 +1,15 @@
+use Rattle.std.proofs.Common.{arith}
+use Rattle.graphql_values.proofs.Appending.{and_alone}
+use Rattle.graphql_values.proofs.Seen.{most_seen, separated_seen}
+use Rattle.graphql_query_tree.specs.Layout.{definition_layout, definition_levels}
+use Rattle.graphql_query_tree.specs.Tree.{definition_view}
+use Rattle.graphql_query_tree.proofs.print.definition.DocumentPretty.write.Goals as goal
+
+pub write_joined-requires : goal.write_joined-requires
+write_joined-requires g c =
+    rw (c.deref.ensures.value, most_seen (definition_view g.N.Names.bytes) (definition_levels c.args.style.now) c.args.self.now.definitions.items)
+    (omega (arith, c.requires))
+
+pub returns : goal.returns
+returns g c = and_alone g.S.Sink.took g.met.S.Sink.took_more _ _ _ _ _ c.write_joined.ensures
+    (rw c.deref.ensures.value (separated_seen (definition_view g.N.Names.bytes) (definition_layout c.args.style.now) c.args.self.now.definitions.items))

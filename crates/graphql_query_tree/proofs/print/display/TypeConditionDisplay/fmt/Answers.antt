@@ -1,5 +1,0 @@
-use Rattle.graphql_values.proofs.Narrow.{written_alone}
-use Rattle.graphql_query_tree.proofs.print.display.TypeConditionDisplay.fmt.Goals as goal
-
-pub returns-clause-writes : goal.returns-clause-writes
-returns-clause-writes g c = written_alone c.write_type_condition.result c.write_type_condition.ensures

@@ -1,0 +1,132 @@
+-- The brackets of a document are those that its layout opens at once.
+use Rattle.std.proofs.Common.{◌≡◌, ℕ, ◌+◌, max, Bool, true, false, List, [], ◌∷◌, Option, Some, None, codes, map, refl, arith}
+use Rattle.graphql_lexer.specs.declared.tokenizer.piece.Nesting.TheVariants.{Level}
+use Rattle.graphql_lexer.specs.declared.tokenizer.token.Kind.TheVariants.{Punctuator}
+use Rattle.graphql_core.specs.Depths.{bracket_of}
+use Rattle.graphql_core.specs.Parts.{Part}
+use Rattle.graphql_core.specs.Style.{Layout}
+use Rattle.graphql_core.proofs.Depths.{Rises, rises_as, none_rise, flat_rise, gap_rises, level_rises, both_rise, closer_sinks, both_sink}
+use Rattle.graphql_core.proofs.Depths.{opener_rises}
+use Rattle.graphql_values.specs.Printable.{most, in_parentheses, directives_brackets}
+use Rattle.graphql_values.specs.Values.{DirectiveTree}
+use Rattle.graphql_values.proofs.Depths.{string_rises, type_rises, directives_rise, braces_rise, line_end_rises, default_rises, lines_rise, separated_rise}
+use Rattle.graphql_schema_tree.specs.declared.location.DirectiveLocation.{DirectiveLocation}
+use Rattle.graphql_schema_tree.specs.Layout.{description_layout, inline_layout, later_names, joined_names, interfaces_layout, members_layout, locations_layout}
+use Rattle.graphql_schema_tree.specs.Layout.{block_layout, input_value_layout, later_arguments, arguments_layout, input_field_layout, field_layout}
+use Rattle.graphql_schema_tree.specs.Layout.{enum_value_layout, root_layout, parts_layout, body_layout, repeatable_layout, definition_layout, document_layout}
+use Rattle.graphql_schema_tree.specs.Locations.{word_of}
+use Rattle.graphql_schema_tree.specs.Printable.{input_value_brackets, field_brackets, enum_value_brackets, parts_brackets, body_brackets, definition_brackets}
+use Rattle.graphql_schema_tree.specs.Tree.{InputValueTree, FieldTree, EnumValueTree, PartsTree, scalar, object, interface, union, enum, input, BodyTree}
+use Rattle.graphql_schema_tree.specs.Tree.{DefinitionTree, schema, type_definition, extension, directive, DocumentTree}
+
+-- ---- parts in braces
+
+block_rises : {A : Type 0} (lines : A → List Part) (brackets : A → ℕ) → ((x : A) → Rises (brackets x) (lines x)) → (margin : ℕ) (xs : List A)
+    → Rises (in_parentheses brackets xs) (block_layout margin lines xs)
+block_rises lines brackets rise margin [] = gap_rises _ none_rise
+block_rises lines brackets rise margin (x ∷ xs) = gap_rises _ (braces_rise margin (lines_rise lines brackets rise (x ∷ xs)))
+
+-- ---- descriptions and names
+
+description_rises : (style : Layout) (margin : ℕ) (t : Option (List ℕ)) → Rises 0 (description_layout style margin t)
+description_rises style margin None = none_rise
+description_rises style margin (Some text) = gap_rises _ (line_end_rises _ (string_rises style margin text))
+
+inline_rises : (style : Layout) (margin : ℕ) (t : Option (List ℕ)) → Rises 0 (inline_layout style margin t)
+inline_rises style margin None = none_rise
+inline_rises style margin (Some text) = line_end_rises _ (string_rises style margin text)
+
+later_names_rise : (s : List ℕ) → bracket_of Punctuator s ≡ Level → (ns : List (List ℕ)) → Rises 0 (later_names s ns)
+later_names_rise s flat [] = none_rise
+later_names_rise s flat (n ∷ ns) = gap_rises _ (level_rises flat (gap_rises _ (level_rises refl (later_names_rise s flat ns))))
+
+joined_rise : (s : List ℕ) → bracket_of Punctuator s ≡ Level → (ns : List (List ℕ)) → Rises 0 (joined_names s ns)
+joined_rise s flat [] = none_rise
+joined_rise s flat (n ∷ ns) = level_rises refl (later_names_rise s flat ns)
+
+interfaces_rise : (ns : List (List ℕ)) → Rises 0 (interfaces_layout ns)
+interfaces_rise [] = none_rise
+interfaces_rise (n ∷ ns) = gap_rises _ (level_rises refl (gap_rises _ (joined_rise (codes "&") refl (n ∷ ns))))
+
+members_rise : (ns : List (List ℕ)) → Rises 0 (members_layout ns)
+members_rise [] = none_rise
+members_rise (n ∷ ns) = gap_rises _ (level_rises refl (gap_rises _ (joined_rise (codes "|") refl (n ∷ ns))))
+
+locations_rise : (ls : List DirectiveLocation) → Rises 0 (locations_layout ls)
+locations_rise [] = none_rise
+locations_rise (l ∷ ls) = gap_rises _ (level_rises refl (gap_rises _ (joined_rise (codes "|") refl (map word_of (l ∷ ls)))))
+
+-- ---- arguments, fields and values
+
+module _ (style : Layout) where
+  input_value_rises : (margin : ℕ) (v : InputValueTree) → Rises (input_value_brackets v) (input_value_layout style margin v)
+  input_value_rises margin v =
+      flat_rise (inline_rises style margin v.description) (level_rises refl (level_rises refl (gap_rises _ (both_rise (type_rises v.value_type)
+      (both_rise (default_rises style margin v.default_value) (directives_rise style margin v.directives))))))
+
+  later_arguments_rise : (margin : ℕ) (vs : List InputValueTree) → Rises (most input_value_brackets vs) (later_arguments style margin vs)
+  later_arguments_rise margin [] = none_rise
+  later_arguments_rise margin (v ∷ vs) = gap_rises _ (both_rise (input_value_rises margin v) (later_arguments_rise margin vs))
+
+  arguments_rise : (margin : ℕ) (vs : List InputValueTree) → Rises (in_parentheses input_value_brackets vs) (arguments_layout style margin vs)
+  arguments_rise margin [] = none_rise
+  arguments_rise margin (v ∷ vs) =
+      let m = input_value_brackets v in
+      let n = most input_value_brackets vs in
+      rises_as {m = max m (max n 0) + 1} {n = max m n + 1} (omega arith)
+      (opener_rises refl (both_sink (input_value_rises margin v) (both_sink (later_arguments_rise margin vs) (closer_sinks refl none_rise))))
+
+  input_field_rises : (margin : ℕ) (v : InputValueTree) → Rises (input_value_brackets v) (input_field_layout style margin v)
+  input_field_rises margin v = gap_rises _ (line_end_rises _ (input_value_rises margin v))
+
+  field_rises : (margin : ℕ) (f : FieldTree) → Rises (field_brackets f) (field_layout style margin f)
+  field_rises margin f =
+      flat_rise (description_rises style margin f.description) (gap_rises _ (level_rises refl (both_rise (arguments_rise margin f.arguments)
+      (level_rises refl (gap_rises _ (both_rise (type_rises f.field_type) (line_end_rises _ (directives_rise style margin f.directives))))))))
+
+  enum_value_rises : (margin : ℕ) (v : EnumValueTree) → Rises (enum_value_brackets v) (enum_value_layout style margin v)
+  enum_value_rises margin v =
+      gap_rises _ (flat_rise (inline_rises style margin v.description)
+      (level_rises refl (line_end_rises _ (directives_rise style margin v.directives))))
+
+  -- ---- definitions
+
+  root_rises : (margin : ℕ) (w : List ℕ) (n : Option (List ℕ)) → Rises 0 (root_layout margin w n)
+  root_rises margin w None = none_rise
+  root_rises margin w (Some n) = gap_rises _ (level_rises refl (level_rises refl (gap_rises _ (level_rises refl (gap_rises _ none_rise)))))
+
+  parts_rise : (ds : List DirectiveTree) (p : PartsTree) → Rises (max (directives_brackets ds) (parts_brackets p)) (parts_layout style ds p)
+  parts_rise ds scalar = both_rise (directives_rise style 0 ds) (gap_rises _ none_rise)
+  parts_rise ds (object is fs) =
+      flat_rise (interfaces_rise is)
+      (both_rise (directives_rise style 0 ds) (block_rises (field_layout style style.indent) field_brackets (field_rises style.indent) 0 fs))
+  parts_rise ds (interface is fs) =
+      flat_rise (interfaces_rise is)
+      (both_rise (directives_rise style 0 ds) (block_rises (field_layout style style.indent) field_brackets (field_rises style.indent) 0 fs))
+  parts_rise ds (union ts) = both_rise (directives_rise style 0 ds) (line_end_rises _ (members_rise ts))
+  parts_rise ds (enum vs) =
+      both_rise (directives_rise style 0 ds) (block_rises (enum_value_layout style style.indent) enum_value_brackets (enum_value_rises style.indent) 0 vs)
+  parts_rise ds (input fs) =
+      both_rise (directives_rise style 0 ds) (block_rises (input_field_layout style style.indent) input_value_brackets (input_field_rises style.indent) 0 fs)
+
+  body_rises : (b : BodyTree) → Rises (body_brackets b) (body_layout style b)
+  body_rises b = level_rises refl (gap_rises _ (level_rises refl (parts_rise b.directives b.parts)))
+
+  repeatable_rises : (b : Bool) → Rises 0 (repeatable_layout b)
+  repeatable_rises false = none_rise
+  repeatable_rises true = gap_rises _ (level_rises refl none_rise)
+
+  definition_rises : (t : DefinitionTree) → Rises (definition_brackets t) (definition_layout style t)
+  definition_rises (schema s) =
+      level_rises refl (both_rise (directives_rise style 0 s.directives) (gap_rises _ (braces_rise 0
+      (flat_rise (root_rises style.indent _ s.query) (flat_rise (root_rises style.indent _ s.mutation) (root_rises style.indent _ s.subscription))))))
+  definition_rises (type_definition t b) = flat_rise (description_rises style 0 t) (body_rises b)
+  definition_rises (extension b) = level_rises refl (gap_rises _ (body_rises b))
+  definition_rises (directive t) =
+      let n = in_parentheses input_value_brackets t.arguments in
+      flat_rise (description_rises style 0 t.description) (level_rises refl (gap_rises _ (level_rises refl (level_rises refl
+      (rises_as {m = max n 0} {n = n} (omega arith) (both_rise (arguments_rise 0 t.arguments)
+      (flat_rise (repeatable_rises t.repeatable) (line_end_rises _ (locations_rise t.locations)))))))))
+
+  pub document_rises : (d : DocumentTree) → Rises (most definition_brackets d) (document_layout style d)
+  document_rises = separated_rise (definition_layout style) definition_brackets definition_rises

@@ -1,0 +1,281 @@
+-- The layouts of the parts of schema documents, and of types, are read back, up to positions.
+use Rattle.std.proofs.Common.{◌≡◌, ℕ, ◌+◌, ◌<◌, ◌≤◌, Bool, true, false, if◌then◌else◌, List, [], ◌∷◌, ◌++◌, Option, Some, None, codes, map, refl, sym}
+use Rattle.std.proofs.Common.{ap, ap₂, ◌∙◌, subst, arith, append_assoc}
+use Rattle.std.proofs.lemmas.List.{map-id}
+use Rattle.std.specs.List.{AllByRecursion, flat_map}
+use Rattle.graphql_grammar.specs.Trees.{Expr, Then, Many, Sym, Shape, Both, Node, optional, some_of, row}
+use Rattle.graphql_grammar.specs.Extended.{is_below}
+use Rattle.graphql_lexer.specs.declared.tokenizer.token.Kind.TheVariants.{Punctuator, StringValue, BlockString}
+use Rattle.graphql_lexer.specs.declared.tokenizer.piece.Nesting.TheVariants.{Level}
+use Rattle.graphql_lexer.specs.Lexical.{IsName}
+use Rattle.graphql_core.specs.Style.{Layout}
+use Rattle.graphql_core.specs.Parts.{Part, token, name, mark, gap}
+use Rattle.graphql_values.specs.Values.{DirectiveTree, no_place, erase_all}
+use Rattle.graphql_values.specs.ValueLayout.{directives_layout, has_block_form, in_block_form, quoted, string_layout}
+use Rattle.graphql_values.specs.Lines.{in_braces}
+use Rattle.graphql_values.specs.Grammar.{shared, directives_symbol, shared_symbols, punctuator, name as a_name, mark as a_mark}
+use Rattle.graphql_values.specs.Leaves.{string_of, block_string_of}
+use Rattle.graphql_values.specs.Meanings.{spelling_at, directives_of}
+use Rattle.graphql_values.specs.Printable.{IsPrintableDirective, most, in_parentheses, directives_brackets}
+use Rattle.graphql_values.specs.Lawful.{AreLawfulDirectives}
+use Rattle.graphql_schema_tree.specs.Tree.{InputValueTree, FieldTree, EnumValueTree, PartsTree, scalar, object, interface, union, enum, input, BodyTree}
+use Rattle.graphql_schema_tree.specs.Tree.{erase_input_value, erase_field, erase_enum_value, erase_parts, erase_body}
+use Rattle.graphql_schema_tree.specs.Grammar.{schema, joined_by, description_symbol, type_body_symbol, implements_symbol, fields_symbol, field_symbol}
+use Rattle.graphql_schema_tree.specs.Grammar.{argument_definitions_symbol, input_value_symbol, members_symbol, enum_values_symbol, enum_value_symbol}
+use Rattle.graphql_schema_tree.specs.Grammar.{input_fields_symbol}
+use Rattle.graphql_schema_tree.specs.Meanings.{optional_of, optional_list_of, each_of, enclosed_of, marked_of, joined_of, description_of, input_value_of}
+use Rattle.graphql_schema_tree.specs.Meanings.{field_of, enum_value_of, interfaces_of, members_of, body_of}
+use Rattle.graphql_schema_tree.specs.Layout.{description_layout, inline_layout, later_names, joined_names, interfaces_layout, members_layout, block_layout}
+use Rattle.graphql_schema_tree.specs.Layout.{input_value_layout, later_arguments, arguments_layout, input_field_layout, field_layout, enum_value_layout}
+use Rattle.graphql_schema_tree.specs.Layout.{keyword, parts_layout, body_layout}
+use Rattle.graphql_schema_tree.specs.Printable.{IsPrintableInputValue, IsPrintableField, IsPrintableEnumValue, ArePrintableParts, IsPrintableBody}
+use Rattle.graphql_schema_tree.specs.Printable.{input_value_brackets, field_brackets, enum_value_brackets, parts_brackets, body_brackets}
+use Rattle.graphql_schema_tree.specs.Lawful.{IsLawfulInputValue, IsLawfulField, IsLawfulEnumValue, AreLawfulParts, IsLawfulBody}
+use Rattle.graphql_core.proofs.Back.{Back, Any, Takes, IsMark, as_word_back, same_parts, means, margin_back, gap_back, then_gap, word_back, mark_back}
+use Rattle.graphql_core.proofs.Back.{open_back, close_back, nothing_back, both_back, first_back, second_back, node_back, stop_back, more_back, three_back}
+use Rattle.graphql_core.proofs.Back.{four_back, five_back, six_back, lift_back}
+use Rattle.graphql_values.proofs.LeavesBack.{name_word, quoted_word, quoted_takes, quoted_means}
+use Rattle.graphql_values.proofs.BlockForm.{block_word}
+use Rattle.graphql_values.proofs.BlockValues.{block_means}
+use Rattle.graphql_values.proofs.ValuesBack.{spaces_blank}
+use Rattle.graphql_values.proofs.LinesBack.{in_braces_back}
+use Rattle.graphql_values.proofs.TypesBack.{type_back}
+use Rattle.graphql_values.proofs.DirectivesBack.{directives_back, optional_default_back}
+use Rattle.graphql_schema_tree.proofs.Readable.{shares, tested_alike, written_goes_on}
+
+-- what is shared is read back in schemas too
+pub shared_back : {e : Expr} {p q : Bool} {d f : ℕ} {ps : List Part} {R : Shape → Type 0} → is_below shared_symbols e ≡ true → shares e ≡ true
+    → Back shared e p d ps q f R → Back schema e p d ps q f R
+shared_back {e} below shared b = lift_back written_goes_on below (tested_alike e shared) b
+
+-- ---- names
+
+-- any name
+pub named_back : (n : List ℕ) (d : ℕ) → IsName n → Back schema a_name false d (name n) true d (λ x. spelling_at x ≡ n)
+named_back n d is = word_back (name_word n is) (λ p. refl) (λ t e. e)
+
+-- a list that is joined by a mark, of words that each mean something
+module _ {A : Type 0} (s : List ℕ) (is : IsMark Level s) (takes : Takes schema (a_mark s) Punctuator s) (one : Expr) (f : Shape → A) (none : A)
+    (g : List ℕ → A) (P : List ℕ → Type 0) (each : (n : List ℕ) (d : ℕ) → P n → Back schema one false d (name n) true d (λ x. f x ≡ g n)) where
+  later_names_back : (ns : List (List ℕ)) (d : ℕ) → AllByRecursion P ns
+      → Back schema (Many (Then (punctuator s) one)) true d (later_names s ns) true d (λ x. each_of (marked_of f none) x ≡ map g ns)
+  later_names_back [] d h = stop_back refl
+  later_names_back (n ∷ ns) d (here, others) =
+      gap_back refl (more_back {P = λ x. marked_of f none x ≡ g n} (both_back (mark_back s is takes) (gap_back refl (each n d here)) (λ m x hm hx. hx))
+      (later_names_back ns d others) (λ x y hx hy. ap₂ (λ t ts. t ∷ ts) hx hy))
+
+  pub joined_back : (n : List ℕ) (ns : List (List ℕ)) (d : ℕ) → P n → AllByRecursion P ns
+      → Back schema (joined_by s one) false d (joined_names s (n ∷ ns)) true d (λ x. joined_of f none x ≡ map g (n ∷ ns))
+  joined_back n ns d here others =
+      three_back {P = Any} (second_back (nothing_back tt)) (each n d here) (later_names_back ns d others)
+      (λ m x y hm hx hy. ap₂ (λ t ts. t ∷ ts) hx hy)
+
+names_back : (s : List ℕ) → IsMark Level s → Takes schema (a_mark s) Punctuator s → (n : List ℕ) (ns : List (List ℕ)) (d : ℕ) → IsName n
+    → AllByRecursion IsName ns
+    → Back schema (joined_by s a_name) false d (joined_names s (n ∷ ns)) true d (λ x. joined_of spelling_at [] x ≡ n ∷ ns)
+names_back s is takes n ns d here others =
+    means (λ x h. h ∙ map-id (n ∷ ns)) (joined_back s is takes a_name spelling_at [] (λ m. m) IsName named_back n ns d here others)
+
+interfaces_back : (ns : List (List ℕ)) (d : ℕ) → AllByRecursion IsName ns
+    → Back schema (optional (Sym implements_symbol)) true d (interfaces_layout ns) true d (λ x. optional_list_of interfaces_of x ≡ ns)
+interfaces_back [] d is = second_back (nothing_back refl)
+interfaces_back (n ∷ ns) d (is, are) =
+    gap_back refl (first_back (node_back (λ x. refl) (both_back {P = Any}
+    (word_back (name_word (codes "implements") (refl, refl)) (λ p. refl) (λ t e. tt))
+    (gap_back refl (names_back (codes "&") (refl, refl) (λ p. refl) n ns d is are)) (λ x y hx hy. hy))))
+
+members_back : (ns : List (List ℕ)) (d : ℕ) → AllByRecursion IsName ns
+    → Back schema (optional (Sym members_symbol)) true d (members_layout ns) true d (λ x. optional_list_of members_of x ≡ ns)
+members_back [] d is = second_back (nothing_back refl)
+members_back (n ∷ ns) d (is, are) =
+    gap_back refl (first_back (node_back (λ x. refl) (both_back (mark_back (codes "=") (refl, refl) (λ p. refl))
+    (gap_back refl (names_back (codes "|") (refl, refl) (λ p. refl) n ns d is are)) (λ x y hx hy. hy))))
+
+-- ---- lines in braces
+
+pub braces_back : {e : Expr} {p : Bool} {d : ℕ} {lines : List Part} {P R : Shape → Type 0} (margin : ℕ) → d < 50
+    → Back schema e false (d + 1) lines false (d + 1) P → ((x y z : Shape) → P y → R (Both x (Both y z)))
+    → Back schema (Then (punctuator (codes "{")) (Then e (punctuator (codes "}")))) p d (in_braces margin lines) false d R
+braces_back margin room inside all = in_braces_back margin (λ p. refl) (λ p. refl) room inside all
+
+-- lines of which each is read back
+module _ {A : Type 0} (one : Expr) (f : Shape → A) (erase : A → A) (lines : A → List Part) (P Q : A → Type 0) (brackets : A → ℕ)
+    (each : (a : A) (d : ℕ) → P a → Q a → d + brackets a ≤ 50 → Back schema one false d (lines a) false d (λ x. erase (f x) ≡ erase a)) where
+  later_lines_back : (vs : List A) (d : ℕ) → AllByRecursion P vs → AllByRecursion Q vs → d + most brackets vs ≤ 50
+      → Back schema (Many one) false d (flat_map lines vs) false d (λ x. map erase (each_of f x) ≡ map erase vs)
+  later_lines_back [] d is law deep = stop_back refl
+  later_lines_back (v ∷ vs) d (is, are) (law, laws) deep =
+      more_back (each v d is law (omega arith)) (later_lines_back vs d are laws (omega arith)) (λ x y hx hy. ap₂ (λ t ts. t ∷ ts) hx hy)
+
+  -- the lines of a symbol in braces, where there are any
+  block_back : (k : ℕ) → (row schema k).rule ≡ Then (punctuator (codes "{")) (Then (some_of one) (punctuator (codes "}")))
+      → ((x : Shape) → schema.check k x ≡ true)
+      → (margin : ℕ) (vs : List A) (d : ℕ) → AllByRecursion P vs → AllByRecursion Q vs → d + in_parentheses brackets vs ≤ 50
+      → Back schema (optional (Sym k)) true d (block_layout margin lines vs) false d (λ x. map erase (optional_list_of (enclosed_of f) x) ≡ map erase vs)
+  block_back k rule passes margin [] d is law deep = gap_back refl (second_back (nothing_back refl))
+  block_back k rule passes margin (v ∷ vs) d (is, are) (law, laws) deep =
+      gap_back refl (first_back (node_back passes (subst (λ (e : Expr). Back schema e false d (in_braces margin (flat_map lines (v ∷ vs))) false d
+      (λ x. map erase (enclosed_of f (Node k x)) ≡ map erase (v ∷ vs))) (sym rule)
+      (braces_back {P = λ x. map erase (each_of f x) ≡ map erase (v ∷ vs)} margin (omega arith)
+      (both_back (each v (d + 1) is law (omega arith)) (later_lines_back vs (d + 1) are laws (omega arith))
+      (λ x y hx hy. ap₂ (λ t ts. t ∷ ts) hx hy))
+      (λ x y z hy. hy)))))
+
+-- ---- what may have descriptions, values and directives
+
+module _ (style : Layout) where
+  pub directives_in : (margin : ℕ) (ds : List DirectiveTree) (d : ℕ) → AllByRecursion IsPrintableDirective ds → AreLawfulDirectives ds
+      → d + directives_brackets ds ≤ 50
+      → Back schema (Sym directives_symbol) true d (directives_layout style margin ds) true d (λ x. erase_all (directives_of x) ≡ erase_all ds)
+  directives_in margin ds d is lawful deep = shared_back refl refl (directives_back style margin ds d is lawful deep)
+
+  form_back : (margin : ℕ) (text : List ℕ) (d : ℕ) (b : Bool) → has_block_form text ≡ b
+      → Back schema (Sym description_symbol) false d (if b then token BlockString (in_block_form (margin + style.indent) margin text)
+      ∷ [] else token StringValue (quoted text) ∷ []) true d (λ x. description_of x ≡ text)
+  form_back margin text d true h =
+      node_back (λ x. refl) (second_back (word_back (block_word (margin + style.indent) margin text) (λ p. refl)
+      (λ t e. ap block_string_of e ∙ block_means (margin + style.indent) margin text h)))
+  form_back margin text d false h =
+      node_back (λ x. refl) (first_back (word_back (quoted_word text) (quoted_takes text) (λ t e. ap string_of e ∙ quoted_means text)))
+
+  text_back : (margin : ℕ) (text : List ℕ) (d : ℕ)
+      → Back schema (optional (Sym description_symbol)) false d (string_layout style margin text) true d (λ x. optional_of description_of x ≡ Some text)
+  text_back margin text d = first_back (means (λ x h. ap Some h) (form_back margin text d (has_block_form text) refl))
+
+  -- above what it describes, and in its line
+  pub description_back : (margin : ℕ) (t : Option (List ℕ)) (d : ℕ)
+      → Back schema (optional (Sym description_symbol)) false d (description_layout style margin t) false d (λ x. optional_of description_of x ≡ t)
+  description_back margin None d = second_back (nothing_back refl)
+  description_back margin (Some text) d = margin_back (spaces_blank margin) (then_gap 10 [] refl (text_back margin text d))
+
+  inline_back : (margin : ℕ) (t : Option (List ℕ)) (d : ℕ)
+      → Back schema (optional (Sym description_symbol)) false d (inline_layout style margin t) false d (λ x. optional_of description_of x ≡ t)
+  inline_back margin None d = second_back (nothing_back refl)
+  inline_back margin (Some text) d = then_gap 32 [] refl (text_back margin text d)
+
+  -- ---- arguments, fields and values
+
+  input_value_back : (margin : ℕ) (v : InputValueTree) (d : ℕ) → IsPrintableInputValue v → IsLawfulInputValue v → d + input_value_brackets v ≤ 50
+      → Back schema (Sym input_value_symbol) false d (input_value_layout style margin v) true d
+      (λ x. erase_input_value (input_value_of x) ≡ erase_input_value v)
+  input_value_back margin v d (is, type, default, dir) (defaultlaw, dirlaw) deep =
+      node_back (λ x. refl) (six_back
+      (inline_back margin v.description d) (named_back v.name d is) (mark_back (codes ":") (refl, refl) (λ p. refl))
+      (gap_back refl (shared_back refl refl (type_back v.value_type d type (omega arith))))
+      (shared_back refl refl (optional_default_back style margin v.default_value d default defaultlaw (omega arith)))
+      (directives_in margin v.directives d dir dirlaw (omega arith))
+      (λ x y z w k l hx hy hz hw hk hl. λ i.
+      record { position = no_place; description = hx i; name = hy i; value_type = hw i; default_value = hk i; directives = hl i }))
+
+  later_arguments_back : (margin : ℕ) (vs : List InputValueTree) (d : ℕ) → AllByRecursion IsPrintableInputValue vs → AllByRecursion IsLawfulInputValue vs
+      → d + most input_value_brackets vs ≤ 50
+      → Back schema (Many (Sym input_value_symbol)) true d (later_arguments style margin vs) true d
+      (λ x. map erase_input_value (each_of input_value_of x) ≡ map erase_input_value vs)
+  later_arguments_back margin [] d is law deep = stop_back refl
+  later_arguments_back margin (v ∷ vs) d (is, are) (law, laws) deep =
+      gap_back refl (more_back (input_value_back margin v d is law (omega arith)) (later_arguments_back margin vs d are laws (omega arith))
+      (λ x y hx hy. ap₂ (λ t ts. t ∷ ts) hx hy))
+
+  pub argument_definitions_back : (margin : ℕ) (vs : List InputValueTree) (d : ℕ) → AllByRecursion IsPrintableInputValue vs
+      → AllByRecursion IsLawfulInputValue vs → d + in_parentheses input_value_brackets vs ≤ 50
+      → Back schema (optional (Sym argument_definitions_symbol)) true d (arguments_layout style margin vs) true d
+      (λ x. map erase_input_value (optional_list_of (enclosed_of input_value_of) x) ≡ map erase_input_value vs)
+  argument_definitions_back margin [] d is law deep = second_back (nothing_back refl)
+  argument_definitions_back margin (v ∷ vs) d (is, are) (law, laws) deep =
+      same_parts (mark (codes "(") ++ ((input_value_layout style margin v ++ later_arguments style margin vs) ++ mark (codes ")"))) _
+      (ap (λ (l : List Part). mark (codes "(") ++ l)
+      (sym (append_assoc (input_value_layout style margin v) (later_arguments style margin vs) (mark (codes ")")))))
+      (first_back (node_back (λ x. refl)
+      (as_word_back (three_back {Q = λ x. map erase_input_value (each_of input_value_of x) ≡ map erase_input_value (v ∷ vs)}
+      (open_back (codes "(") (refl, refl) (omega arith) (λ p. refl))
+      (both_back (input_value_back margin v (d + 1) is law (omega arith)) (later_arguments_back margin vs (d + 1) are laws (omega arith))
+      (λ x y hx hy. ap₂ (λ t ts. t ∷ ts) hx hy))
+      (close_back (codes ")") (refl, refl) (λ p. refl))
+      (λ o x c ho hx hc. hx)))))
+
+  input_field_back : (margin : ℕ) (v : InputValueTree) (d : ℕ) → IsPrintableInputValue v → IsLawfulInputValue v → d + input_value_brackets v ≤ 50
+      → Back schema (Sym input_value_symbol) false d (input_field_layout style margin v) false d
+      (λ x. erase_input_value (input_value_of x) ≡ erase_input_value v)
+  input_field_back margin v d is law deep = margin_back (spaces_blank margin) (then_gap 10 [] refl (input_value_back margin v d is law deep))
+
+  field_back : (margin : ℕ) (v : FieldTree) (d : ℕ) → IsPrintableField v → IsLawfulField v → d + field_brackets v ≤ 50
+      → Back schema (Sym field_symbol) false d (field_layout style margin v) false d (λ x. erase_field (field_of x) ≡ erase_field v)
+  field_back margin v d (is, args, type, dir) (argslaw, dirlaw) deep =
+      node_back (λ x. refl) (six_back
+      (description_back margin v.description d) (margin_back (spaces_blank margin) (named_back v.name d is))
+      (argument_definitions_back margin v.arguments d args argslaw (omega arith)) (mark_back (codes ":") (refl, refl) (λ p. refl))
+      (gap_back refl (shared_back refl refl (type_back v.field_type d type (omega arith))))
+      (then_gap 10 [] refl (directives_in margin v.directives d dir dirlaw (omega arith)))
+      (λ x y z w k l hx hy hz hw hk hl. λ i.
+      record { position = no_place; description = hx i; name = hy i; arguments = hz i; field_type = hk i; directives = hl i }))
+
+  enum_value_back : (margin : ℕ) (v : EnumValueTree) (d : ℕ) → IsPrintableEnumValue v → IsLawfulEnumValue v → d + enum_value_brackets v ≤ 50
+      → Back schema (Sym enum_value_symbol) false d (enum_value_layout style margin v) false d (λ x. erase_enum_value (enum_value_of x) ≡ erase_enum_value v)
+  enum_value_back margin v d (is, dir) dirlaw deep =
+      margin_back (spaces_blank margin) (node_back (λ x. refl) (three_back
+      (inline_back margin v.description d) (named_back v.name d is) (then_gap 10 [] refl (directives_in margin v.directives d dir dirlaw deep))
+      (λ x y z hx hy hz. λ i. record { position = no_place; description = hx i; name = hy i; directives = hz i })))
+
+  -- ---- types
+
+  fields_back : (fs : List FieldTree) (d : ℕ) → AllByRecursion IsPrintableField fs → AllByRecursion IsLawfulField fs → d + in_parentheses field_brackets fs ≤ 50
+      → Back schema (optional (Sym fields_symbol)) true d (block_layout 0 (field_layout style style.indent) fs) false d
+      (λ x. map erase_field (optional_list_of (enclosed_of field_of) x) ≡ map erase_field fs)
+  fields_back fs d is law deep =
+      block_back (Sym field_symbol) field_of erase_field (field_layout style style.indent) IsPrintableField IsLawfulField field_brackets
+      (field_back style.indent) fields_symbol refl (λ x. refl) 0 fs d is law deep
+
+  enum_values_back : (vs : List EnumValueTree) (d : ℕ) → AllByRecursion IsPrintableEnumValue vs → AllByRecursion IsLawfulEnumValue vs
+      → d + in_parentheses enum_value_brackets vs ≤ 50
+      → Back schema (optional (Sym enum_values_symbol)) true d (block_layout 0 (enum_value_layout style style.indent) vs) false d
+      (λ x. map erase_enum_value (optional_list_of (enclosed_of enum_value_of) x) ≡ map erase_enum_value vs)
+  enum_values_back vs d is law deep =
+      block_back (Sym enum_value_symbol) enum_value_of erase_enum_value (enum_value_layout style style.indent) IsPrintableEnumValue IsLawfulEnumValue
+      enum_value_brackets (enum_value_back style.indent) enum_values_symbol refl (λ x. refl) 0 vs d is law deep
+
+  input_fields_back : (fs : List InputValueTree) (d : ℕ) → AllByRecursion IsPrintableInputValue fs → AllByRecursion IsLawfulInputValue fs
+      → d + in_parentheses input_value_brackets fs ≤ 50
+      → Back schema (optional (Sym input_fields_symbol)) true d (block_layout 0 (input_field_layout style style.indent) fs) false d
+      (λ x. map erase_input_value (optional_list_of (enclosed_of input_value_of) x) ≡ map erase_input_value fs)
+  input_fields_back fs d is law deep =
+      block_back (Sym input_value_symbol) input_value_of erase_input_value (input_field_layout style style.indent) IsPrintableInputValue IsLawfulInputValue
+      input_value_brackets (input_field_back style.indent) input_fields_symbol refl (λ x. refl) 0 fs d is law deep
+
+  parts_back : (n : List ℕ) (ds : List DirectiveTree) (parts : PartsTree) (d : ℕ) → IsName n → AllByRecursion IsPrintableDirective ds
+      → ArePrintableParts parts → AreLawfulDirectives ds → AreLawfulParts parts → d + directives_brackets ds ≤ 50 → d + parts_brackets parts ≤ 50
+      → Back schema (Sym type_body_symbol) false d (name (keyword parts) ++ (gap (codes " ") ++ (name n ++ parts_layout style ds parts))) false d
+      (λ x. erase_body (body_of x) ≡ record { position = no_place; name = n; directives = erase_all ds; parts = erase_parts parts })
+  parts_back n ds scalar d is dir are dirlaw law deep inside =
+      node_back (λ x. refl) (first_back (node_back (λ x. refl) (three_back {P = Any}
+      (word_back (name_word (codes "scalar") (refl, refl)) (λ p. refl) (λ t e. tt)) (gap_back refl (named_back n d is))
+      (then_gap 10 [] refl (directives_in 0 ds d dir dirlaw deep))
+      (λ x y z hx hy hz. λ i. record { position = no_place; name = hy i; directives = hz i; parts = scalar }))))
+  parts_back n ds (object ns fs) d is dir are dirlaw law deep inside =
+      node_back (λ x. refl) (second_back (first_back (node_back (λ x. refl) (five_back {P = Any}
+      (word_back (name_word (codes "type") (refl, refl)) (λ p. refl) (λ t e. tt)) (gap_back refl (named_back n d is))
+      (interfaces_back ns d are.0) (directives_in 0 ds d dir dirlaw deep) (fields_back fs d are.1 law inside)
+      (λ x y z w k hx hy hz hw hk. λ i. record { position = no_place; name = hy i; directives = hw i; parts = object (hz i) (hk i) })))))
+  parts_back n ds (interface ns fs) d is dir are dirlaw law deep inside =
+      node_back (λ x. refl) (second_back (second_back (first_back (node_back (λ x. refl) (five_back {P = Any}
+      (word_back (name_word (codes "interface") (refl, refl)) (λ p. refl) (λ t e. tt)) (gap_back refl (named_back n d is))
+      (interfaces_back ns d are.0) (directives_in 0 ds d dir dirlaw deep) (fields_back fs d are.1 law inside)
+      (λ x y z w k hx hy hz hw hk. λ i. record { position = no_place; name = hy i; directives = hw i; parts = interface (hz i) (hk i) }))))))
+  parts_back n ds (union ts) d is dir are dirlaw law deep inside =
+      node_back (λ x. refl) (second_back (second_back (second_back (first_back (node_back (λ x. refl) (four_back {P = Any}
+      (word_back (name_word (codes "union") (refl, refl)) (λ p. refl) (λ t e. tt)) (gap_back refl (named_back n d is))
+      (directives_in 0 ds d dir dirlaw deep) (then_gap 10 [] refl (members_back ts d are))
+      (λ x y z w hx hy hz hw. λ i. record { position = no_place; name = hy i; directives = hz i; parts = union (hw i) })))))))
+  parts_back n ds (enum vs) d is dir are dirlaw law deep inside =
+      node_back (λ x. refl) (second_back (second_back (second_back (second_back (first_back (node_back (λ x. refl) (four_back {P = Any}
+      (word_back (name_word (codes "enum") (refl, refl)) (λ p. refl) (λ t e. tt)) (gap_back refl (named_back n d is))
+      (directives_in 0 ds d dir dirlaw deep) (enum_values_back vs d are law inside)
+      (λ x y z w hx hy hz hw. λ i. record { position = no_place; name = hy i; directives = hz i; parts = enum (hw i) }))))))))
+  parts_back n ds (input fs) d is dir are dirlaw law deep inside =
+      node_back (λ x. refl) (second_back (second_back (second_back (second_back (second_back (node_back (λ x. refl) (four_back {P = Any}
+      (word_back (name_word (codes "input") (refl, refl)) (λ p. refl) (λ t e. tt)) (gap_back refl (named_back n d is))
+      (directives_in 0 ds d dir dirlaw deep) (input_fields_back fs d are law inside)
+      (λ x y z w hx hy hz hw. λ i. record { position = no_place; name = hy i; directives = hz i; parts = input (hw i) }))))))))
+
+  pub body_back : (b : BodyTree) (d : ℕ) → IsPrintableBody b → IsLawfulBody b → d + body_brackets b ≤ 50
+      → Back schema (Sym type_body_symbol) false d (body_layout style b) false d (λ x. erase_body (body_of x) ≡ erase_body b)
+  body_back b d (is, dir, are) (dirlaw, law) deep = parts_back b.name b.directives b.parts d is dir are dirlaw law (omega arith) (omega arith)

@@ -1,0 +1,157 @@
+-- Lists of trees, each of which is seen, and layouts in the pieces that are written.
+use Rattle.std.proofs.Common.{◌≡◌, ◌<◌, ◌+◌, ◌*◌, ◌++◌, ◌∙◌, [], ◌∷◌, Option, Some, ap, sym, refl, codes, ℕ, List, length, get_or, drop, map, max}
+use Rattle.std.proofs.Common.{append_assoc, arith}
+use Rattle.std.specs.List.{flat_map}
+use Rattle.std.proofs.lemmas.List.{at_drop_more}
+use Rattle.std.proofs.lemmas.List.Folds.{flat_map-map}
+use Rattle.graphql_core.specs.Style.{Layout, spaces}
+use Rattle.graphql_core.specs.Parts.{Part, text_of, name, gap}
+use Rattle.graphql_values.specs.Lines.{in_braces, default_layout}
+use Rattle.graphql_values.specs.Printable.{most}
+use Rattle.graphql_values.specs.ValueLayout.{type_layout, directives_layout}
+use Rattle.graphql_values.specs.Values.{DirectiveTree}
+use Rattle.graphql_values.specs.steps.Joined.{joined}
+use Rattle.graphql_values.proofs.Appending.{text_append}
+use Rattle.graphql_values.proofs.Enclosed.{first_text, narrower, both_fit}
+use Rattle.graphql_values.proofs.Seen.{most_seen, later_seen}
+use Rattle.graphql_schema_tree.specs.Tree.{InputValueTree, FieldTree, EnumValueTree, SchemaTree, PartsTree, DirectiveDefinitionTree, type_definition}
+use Rattle.graphql_schema_tree.specs.Layout.{description_layout, inline_layout, between, later_names, joined_names, interfaces_layout, members_layout}
+use Rattle.graphql_schema_tree.specs.Layout.{locations_layout, input_value_layout, later_arguments, arguments_layout, input_field_layout, field_layout}
+use Rattle.graphql_schema_tree.specs.Layout.{enum_value_layout, block_layout, block_levels, root_layout, schema_layout, body_layout, repeatable_layout}
+use Rattle.graphql_schema_tree.specs.Layout.{directive_definition_layout, definition_layout}
+use Rattle.graphql_schema_tree.specs.steps.Body.{body, named}
+
+-- ---- names
+
+-- one more name, after a mark
+next_name : (s one : List ℕ) (later : List Part) → text_of (between s ++ (name one ++ later)) ≡ (text_of (between s) ++ one) ++ text_of later
+next_name s one later = simp (text_append, append_assoc)
+
+-- the name at i, after a mark, and what is left after it
+pub name_here : {X : Type 0} (word : X → List ℕ) (s : List ℕ) (xs : List X) (i : ℕ) (x default : X) → i < length xs → x ≡ get_or xs i default
+    → text_of (later_names s (map word (drop i xs))) ≡ (text_of (between s) ++ word x) ++ text_of (later_names s (map word (drop (i + 1) xs)))
+name_here word s xs i x default h is = at_drop_more (λ ys. text_of (later_names s (map word ys))) xs i default h
+    ∙ ap (λ y. text_of (later_names s (word y ∷ map word (drop (i + 1) xs)))) (sym is)
+    ∙ next_name s (word x) (later_names s (map word (drop (i + 1) xs)))
+
+-- interfaces and members, of which there are some
+pub some_interfaces : {X : Type 0} (word : X → List ℕ) (xs : List X) → 0 < length xs
+    → codes " implements " ++ text_of (joined_names (codes "&") (map word xs)) ≡ text_of (interfaces_layout (map word xs))
+some_interfaces word [] h = absurd (omega arith)
+some_interfaces word (x ∷ xs) h = refl
+
+pub some_members : {X : Type 0} (word : X → List ℕ) (xs : List X) → 0 < length xs
+    → text_of (between (codes "=")) ++ text_of (joined_names (codes "|") (map word xs)) ≡ text_of (members_layout (map word xs))
+some_members word [] h = absurd (omega arith)
+some_members word (x ∷ xs) h = refl
+
+-- ---- texts in the pieces that are written
+
+pub root_text : (margin : ℕ) (word n : List ℕ)
+    → (((spaces margin ++ word) ++ codes ": ") ++ n) ++ codes "\n" ≡ text_of (root_layout margin word (Some n))
+root_text margin word n = simp (text_append, append_assoc)
+
+pub input_value_text : (style : Layout) (margin : ℕ) (v : InputValueTree) → ((((text_of (inline_layout style margin v.description) ++ v.name) ++ codes ": ")
+    ++ text_of (type_layout v.value_type)) ++ text_of (default_layout style margin v.default_value)) ++ text_of (directives_layout style margin v.directives)
+    ≡ text_of (input_value_layout style margin v)
+input_value_text style margin v = simp (text_append, append_assoc)
+
+pub field_text : (style : Layout) (margin : ℕ) (f : FieldTree) → ((((((text_of (description_layout style margin f.description) ++ spaces margin) ++ f.name)
+    ++ text_of (arguments_layout style margin f.arguments)) ++ codes ": ") ++ text_of (type_layout f.field_type))
+    ++ text_of (directives_layout style margin f.directives)) ++ codes "\n" ≡ text_of (field_layout style margin f)
+field_text style margin f = simp (text_append, append_assoc)
+
+pub input_field_text : (style : Layout) (margin : ℕ) (v : InputValueTree) → (spaces margin ++ text_of (input_value_layout style margin v)) ++ codes "\n"
+    ≡ text_of (input_field_layout style margin v)
+input_field_text style margin v = simp (text_append, append_assoc)
+
+pub enum_value_text : (style : Layout) (margin : ℕ) (v : EnumValueTree) → (((spaces margin ++ text_of (inline_layout style margin v.description)) ++ v.name)
+    ++ text_of (directives_layout style margin v.directives)) ++ codes "\n" ≡ text_of (enum_value_layout style margin v)
+enum_value_text style margin v = simp (text_append, append_assoc)
+
+pub schema_text : (style : Layout) (s : SchemaTree) → (((((codes "schema" ++ text_of (directives_layout style 0 s.directives)) ++ codes " {\n")
+    ++ text_of (root_layout style.indent (codes "query") s.query)) ++ text_of (root_layout style.indent (codes "mutation") s.mutation))
+    ++ text_of (root_layout style.indent (codes "subscription") s.subscription)) ++ codes "}\n" ≡ text_of (schema_layout style s)
+schema_text style s = simp (text_append, append_assoc)
+
+pub directive_definition_text : (style : Layout) (d : DirectiveDefinitionTree)
+    → (((((text_of (description_layout style 0 d.description) ++ codes "directive @") ++ d.name) ++ text_of (arguments_layout style 0 d.arguments))
+    ++ text_of (repeatable_layout d.repeatable)) ++ text_of (locations_layout d.locations)) ++ codes "\n" ≡ text_of (directive_definition_layout style d)
+directive_definition_text style d = simp (text_append, append_assoc)
+
+-- a type, whose position no text shows
+pub type_text : (style : Layout) (d : Option (List ℕ)) (n : List ℕ) (directives : List DirectiveTree) (parts : PartsTree)
+    → text_of (description_layout style 0 d) ++ text_of (body_layout style (body n directives parts))
+    ≡ text_of (definition_layout style (type_definition d (body n directives parts)))
+type_text style d n directives parts = sym (text_append (description_layout style 0 d) (body_layout style (body n directives parts)))
+
+-- a keyword, a name, and two parts or three
+pub two_after : (keyword n : List ℕ) (a b : List Part) → (((keyword ++ codes " ") ++ n) ++ text_of a) ++ text_of b ≡ text_of (named keyword n (a ++ b))
+two_after keyword n a b = simp (text_append, append_assoc)
+
+pub three_after : (keyword n : List ℕ) (a b c : List Part)
+    → ((((keyword ++ codes " ") ++ n) ++ text_of a) ++ text_of b) ++ text_of c ≡ text_of (named keyword n (a ++ (b ++ c)))
+three_after keyword n a b c = simp (text_append, append_assoc)
+
+-- and lines in braces
+pub braces_after : (keyword n : List ℕ) (a lines : List Part)
+    → (((((keyword ++ codes " ") ++ n) ++ text_of a) ++ codes " {\n") ++ text_of lines) ++ codes "}\n"
+    ≡ text_of (named keyword n (a ++ (gap (codes " ") ++ in_braces 0 lines)))
+braces_after keyword n a lines = simp (text_append, append_assoc)
+
+-- ---- trees in braces
+
+-- of which there are some
+pub filled_block : {A : Type 0} (margin : ℕ) (lines : A → List Part) (xs : List A) → 0 < length xs
+    → gap (codes " ") ++ in_braces margin (flat_map lines xs) ≡ block_layout margin lines xs
+filled_block margin lines [] h = absurd (omega arith)
+filled_block margin lines (x ∷ xs) h = refl
+
+-- ---- trees, each of which is seen
+
+module _ {X T : Type 0} (view : X → T) where
+  pub block_levels_seen : (f : T → ℕ) (xs : List X) → block_levels (λ x. f (view x)) xs ≡ block_levels f (map view xs)
+  block_levels_seen f [] = refl
+  block_levels_seen f (x ∷ xs) = ap (λ n. n + 1) (most_seen view f (x ∷ xs))
+
+  pub block_seen : (margin : ℕ) (lines : T → List Part) (xs : List X) → block_layout margin (λ x. lines (view x)) xs ≡ block_layout margin lines (map view xs)
+  block_seen margin lines [] = refl
+  block_seen margin lines (x ∷ xs) = ap (λ ls. gap (codes " ") ++ in_braces margin ls) (sym (flat_map-map lines view (x ∷ xs)))
+
+  -- what is in the braces of a definition fits where the definition does
+  pub block_fits : (f : T → ℕ) (xs : List X) (others indent width : ℕ) → max others (block_levels f (map view xs)) * indent < width
+      → 0 + block_levels (λ x. f (view x)) xs * indent < width
+  block_fits f xs others indent width h =
+      let fits = (both_fit others (block_levels f (map view xs)) indent width h).1 in
+      rw (block_levels_seen f xs) (omega (arith, fits))
+
+  -- and is what is written in them
+  pub block_written : (lines : ℕ → T → List Part) (indent : ℕ) (xs : List X) → text_of (block_layout 0 (λ x. lines (0 + indent) (view x)) xs)
+      ≡ text_of (block_layout 0 (lines indent) (map view xs))
+  block_written lines indent xs =
+      let none : 0 + indent ≡ indent = omega arith in
+      ap (λ n. text_of (block_layout 0 (λ x. lines n (view x)) xs)) none ∙ ap text_of (block_seen 0 (lines indent) xs)
+
+-- arguments, of which there are some
+pub arguments_seen : {X : Type 0} (view : X → InputValueTree) (style : Layout) (margin : ℕ) (xs : List X) → 0 < length xs
+    → (codes "(" ++ joined (codes ", ") (map (λ x. text_of (input_value_layout style margin (view x))) xs))
+    ++ codes ")" ≡ text_of (arguments_layout style margin (map view xs))
+arguments_seen view style margin [] h = absurd (omega arith)
+arguments_seen view style margin (x ∷ xs) h =
+    let one = input_value_layout style margin (view x) in
+    let others = later_arguments style margin (map view xs) in
+    ap (λ r. (codes "(" ++ (text_of one ++ r)) ++ codes ")")
+    (later_seen view (codes ", ") (input_value_layout style margin) (later_arguments style margin) refl (λ _ _. refl) xs)
+    ∙ append_assoc (codes "(" ++ text_of one) (text_of others) (codes ")") ∙ first_text one others
+
+-- ---- levels
+
+-- what stands in the lines of braces fits where the braces do
+pub lines_fit : {A : Type 0} (f : A → ℕ) (xs : List A) (indent width : ℕ) → 0 < length xs → block_levels f xs * indent < width
+    → indent + most f xs * indent < width
+lines_fit f [] indent width h fits = absurd (omega (arith, h))
+lines_fit f (x ∷ xs) indent width h fits = omega (arith, fits)
+
+-- the latter part fits where both do, at any margin
+pub latter_fits : (margin a b indent width : ℕ) → margin + max a b * indent < width → b * indent < width
+latter_fits margin a b indent width h = let parts = narrower margin a b indent width h in omega (arith, parts.1)

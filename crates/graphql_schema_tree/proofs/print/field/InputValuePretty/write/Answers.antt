@@ -1,0 +1,20 @@
+use Rattle.std.proofs.Common.{◌^◌}
+use Rattle.graphql_values.proofs.Appending.{and_last}
+use Rattle.graphql_values.proofs.Enclosed.{narrower}
+use Rattle.graphql_schema_tree.specs.Views.{input_value_view}
+use Rattle.graphql_schema_tree.proofs.PrintedTexts.{input_value_text}
+use Rattle.graphql_schema_tree.proofs.print.field.InputValuePretty.write.Goals as goal
+
+pub write_default-requires : goal.write_default-requires
+write_default-requires g c =
+    let style = c.args.style.now in
+    let after = (narrower c.args.margin _ _ style.indent (2 ^ 32) c.requires).1 in
+    (narrower c.args.margin _ _ style.indent (2 ^ 32) after).0
+
+pub returns : goal.returns
+returns g c =
+    let more = g.met.S.Sink.took_more in
+    let named = more _ _ _ _ _ (more _ _ _ _ _ c.in_ok-write_inline_description.ensures c.in_ok-push_str.ensures) c.in_ok-push_str-2.ensures in
+    let typed = more _ _ _ _ _ named c.in_ok-write_type.ensures in
+    and_last g.S.Sink.took more _ _ _ _ _ _ _ (more _ _ _ _ _ typed c.in_ok-write_default.ensures) c.write_directives.ensures
+    (rw c.view.ensures (input_value_text c.args.style.now c.args.margin (input_value_view g.N.Names.bytes c.args.self.now)))

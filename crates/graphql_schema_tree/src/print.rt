@@ -1,0 +1,43 @@
+//! The text of schemas.
+mod block;
+mod body;
+mod definition;
+mod description;
+mod display;
+mod extensions;
+mod field;
+mod names;
+mod types;
+
+ghost use Rattle.std.specs.Prelude.{◌≡◌, ◌↔◌, IfOk, IsErrOf, string_bytes};
+ghost use Rattle.graphql_schema_tree.specs.Language.{IsReadBack};
+ghost use Rattle.graphql_schema_tree.specs.Layout.{layout, IsTooWide};
+ghost use Rattle.graphql_schema_tree.specs.Printable.{IsPrintable};
+ghost use Rattle.graphql_schema_tree.specs.Views.{document_view};
+
+use crate::tree::Document;
+use graphql_core::common::Names;
+use graphql_core::format::{Buffer, FormatError, Style};
+use graphql_values::print::{Pretty, is_too_wide};
+use std::alloc::Global;
+
+impl<N: Names> Document<N> {
+    /// The text of the document in a style.
+    ///
+    /// `TooWide` where the levels that are open at once take more than `u32::MAX` spaces, which is decided before any
+    /// allocation; `OutOfMemory` where an allocation fails.
+    pub fn format(&self, alloc: Global, style: &Style) -> Result<String, FormatError>
+        ensures text { IfOk result (λ text. string_bytes text ≡ layout style.now (document_view N.bytes self.now)) }
+        // What can be printed is read back, but for positions.
+        ensures read_back { IfOk result (λ text. IsPrintable (document_view N.bytes self.now)
+            → IsReadBack (string_bytes text) (document_view N.bytes self.now)) }
+        ensures too_wide { IsErrOf result FormatError.TooWide ↔ IsTooWide style.now (document_view N.bytes self.now) }
+    {
+        if is_too_wide(self.levels(style), style) {
+            return Err(FormatError::TooWide);
+        }
+        let mut text = Buffer::new(alloc);
+        self.write(&mut text, style, 0)?;
+        Ok(text.into_string())
+    }
+}

@@ -1,0 +1,128 @@
+//! Schemas, directives, definitions and documents.
+ghost use Rattle.std.specs.Prelude.{◌≡◌, ◌^◌, ◌<◌, OnOk, option_map};
+ghost use Rattle.graphql_core.specs.Parts.{text_of};
+ghost use Rattle.graphql_schema_tree.specs.Lawful.{IsLawfulDefinition, IsLawfulDocument};
+ghost use Rattle.graphql_schema_tree.specs.Layout.{root_layout, definition_layout, document_layout};
+ghost use Rattle.graphql_schema_tree.specs.Layout.{definition_levels, levels};
+ghost use Rattle.graphql_schema_tree.specs.Tree.{schema, directive};
+ghost use Rattle.graphql_schema_tree.specs.Views.{schema_view, directive_definition_view, definition_view, document_view};
+
+use crate::print::description::{levels_in_description, write_description};
+use crate::print::field::write_arguments;
+use crate::print::names::{write_locations, write_repeatable};
+use crate::tree::{Definition, DirectiveDefinition, Document, SchemaDefinition};
+use graphql_core::common::Names;
+use graphql_core::format::{Sink, Style};
+use graphql_values::print::{
+    Pretty, levels_in_directives, levels_in_each, write_directives, write_joined, write_spaces,
+};
+
+/// Appends the line of an operation, where it is there.
+fn write_root<S: Sink, N: Names>(
+    out: &mut S,
+    word: &str,
+    name: &Option<N::Value>,
+    margin: usize,
+) -> Result<(), S::Error>
+    ensures { OnOk result (S.took out.old (text_of (root_layout margin word.now (option_map N.bytes name.now))) out.new) }
+{
+    let Some(name) = name else {
+        return Ok(());
+    };
+    write_spaces(out, margin)?;
+    out.push_str(word)?;
+    out.push_str(": ")?;
+    out.push_str(N::view(name))?;
+    out.push_str("\n")
+}
+
+/// Which types the operations have.
+impl<N: Names> Pretty for SchemaDefinition<N> {
+    ghost lines = { λ style _ s. definition_layout style (schema (schema_view N.bytes s)) };
+
+    ghost opens = { λ style s. definition_levels style (schema (schema_view N.bytes s)) };
+
+    ghost lawful = { λ s. IsLawfulDefinition (schema (schema_view N.bytes s)) };
+
+    fn levels(&self, style: &Style) -> usize {
+        levels_in_directives(&self.directives, style).max(1)
+    }
+
+    fn write<S: Sink>(&self, out: &mut S, style: &Style, _margin: usize) -> Result<(), S::Error> {
+        out.push_str("schema")?;
+        write_directives(out, &self.directives, style, 0)?;
+        out.push_str(" {\n")?;
+        let inside = style.indentation() as usize;
+        write_root::<S, N>(out, "query", &self.query, inside)?;
+        write_root::<S, N>(out, "mutation", &self.mutation, inside)?;
+        write_root::<S, N>(out, "subscription", &self.subscription, inside)?;
+        out.push_str("}\n")
+    }
+}
+
+/// A directive.
+impl<N: Names> Pretty for DirectiveDefinition<N> {
+    ghost lines = { λ style _ d. definition_layout style (directive (directive_definition_view N.bytes d)) };
+
+    ghost opens = { λ style d. definition_levels style (directive (directive_definition_view N.bytes d)) };
+
+    ghost lawful = { λ d. IsLawfulDefinition (directive (directive_definition_view N.bytes d)) };
+
+    fn levels(&self, style: &Style) -> usize {
+        levels_in_description(&self.description).max(levels_in_each(&self.arguments, style))
+    }
+
+    fn write<S: Sink>(&self, out: &mut S, style: &Style, _margin: usize) -> Result<(), S::Error> {
+        write_description(out, &self.description, style, 0)?;
+        out.push_str("directive @")?;
+        out.push_str(N::view(&self.name))?;
+        write_arguments(out, &self.arguments, style, 0)?;
+        write_repeatable(out, self.repeatable)?;
+        write_locations(out, &self.locations)?;
+        out.push_str("\n")
+    }
+}
+
+/// A definition.
+impl<N: Names> Pretty for Definition<N> {
+    ghost lines = { λ style _ d. definition_layout style (definition_view N.bytes d) };
+
+    ghost opens = { λ style d. definition_levels style (definition_view N.bytes d) };
+
+    ghost lawful = { λ d. IsLawfulDefinition (definition_view N.bytes d) };
+
+    fn levels(&self, style: &Style) -> usize {
+        match self {
+            Definition::SchemaDefinition(schema) => schema.levels(style),
+            Definition::TypeDefinition(definition) => definition.levels(style),
+            Definition::TypeExtension(extension) => extension.levels(style),
+            Definition::DirectiveDefinition(directive) => directive.levels(style),
+        }
+    }
+
+    fn write<S: Sink>(&self, out: &mut S, style: &Style, margin: usize) -> Result<(), S::Error> {
+        match self {
+            Definition::SchemaDefinition(schema) => schema.write(out, style, margin),
+            Definition::TypeDefinition(definition) => definition.write(out, style, margin),
+            Definition::TypeExtension(extension) => extension.write(out, style, margin),
+            Definition::DirectiveDefinition(directive) => directive.write(out, style, margin),
+        }
+    }
+}
+
+/// A document: its definitions, with an empty line between two.
+impl<N: Names> Pretty for Document<N> {
+    ghost lines = { λ style _ d. document_layout style (document_view N.bytes d) };
+
+    ghost opens = { λ style d. levels style (document_view N.bytes d) };
+
+    ghost lawful = { λ d. IsLawfulDocument (document_view N.bytes d) };
+
+    fn levels(&self, style: &Style) -> usize {
+        levels_in_each(&self.definitions, style)
+    }
+
+    fn write<S: Sink>(&self, out: &mut S, style: &Style, _margin: usize) -> Result<(), S::Error> {
+        write_joined(out, "\n", &self.definitions, style, 0)
+    }
+}

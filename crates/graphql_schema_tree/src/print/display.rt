@@ -1,0 +1,142 @@
+//! Display of documents, their definitions and types: the text in the default style, unless that is too wide.
+ghost use Rattle.std.specs.Prelude.{Some, None, OnOk};
+ghost use Rattle.std.specs.Fmt.{DisplaysOnOk, DisplaysStyledOnOk};
+ghost use Rattle.graphql_core.specs.Style.{default_style};
+ghost use Rattle.graphql_core.specs.Parts.{text_of};
+ghost use Rattle.graphql_values.specs.ValueLayout.{IsNarrow};
+ghost use Rattle.graphql_schema_tree.specs.Layout.{layout, definition_layout, schema_layout, levels, definition_levels, schema_levels};
+ghost use Rattle.graphql_schema_tree.specs.Views.{document_view, definition_view, schema_view, type_definition_view};
+ghost use Rattle.graphql_schema_tree.specs.Views.{scalar_view, object_view, interface_view, union_view, enum_view, input_view};
+
+mod parts;
+
+use crate::tree::{
+    Definition, Document, EnumType, InputObjectType, InterfaceType, ObjectType, ScalarType,
+    SchemaDefinition, TypeDefinition, UnionType,
+};
+use graphql_core::common::Names;
+use graphql_values::print::fmt_in_default_style;
+use std::fmt;
+
+impl<N: Names> fmt::Display for Document<N> {
+    ghost output = { λ t. Some (layout default_style (document_view N.bytes t)) };
+
+    fn fmt<W: fmt::Write>(&self, f: &mut fmt::Formatter<W>) -> fmt::Result
+        ensures writes { DisplaysOnOk W.write_str_gives f.old result (Some (layout default_style (document_view N.bytes self.now))) f.new }
+        ensures styled { DisplaysStyledOnOk W.write_str_gives f.old result None f.new }
+        ensures narrow { OnOk result (IsNarrow (levels default_style (document_view N.bytes self.now))) }
+    {
+        fmt_in_default_style(self, f)
+    }
+}
+
+impl<N: Names> fmt::Display for Definition<N> {
+    ghost output = { λ t. Some (text_of (definition_layout default_style (definition_view N.bytes t))) };
+
+    fn fmt<W: fmt::Write>(&self, f: &mut fmt::Formatter<W>) -> fmt::Result
+        ensures writes { DisplaysOnOk W.write_str_gives f.old result
+            (Some (text_of (definition_layout default_style (definition_view N.bytes self.now)))) f.new }
+        ensures styled { DisplaysStyledOnOk W.write_str_gives f.old result None f.new }
+        ensures narrow { OnOk result (IsNarrow (definition_levels default_style (definition_view N.bytes self.now))) }
+    {
+        fmt_in_default_style(self, f)
+    }
+}
+
+impl<N: Names> fmt::Display for SchemaDefinition<N> {
+    ghost output = { λ t. Some (text_of (schema_layout default_style (schema_view N.bytes t))) };
+
+    fn fmt<W: fmt::Write>(&self, f: &mut fmt::Formatter<W>) -> fmt::Result
+        ensures writes { DisplaysOnOk W.write_str_gives f.old result (Some (text_of (schema_layout default_style (schema_view N.bytes self.now)))) f.new }
+        ensures styled { DisplaysStyledOnOk W.write_str_gives f.old result None f.new }
+        ensures narrow { OnOk result (IsNarrow (schema_levels default_style (schema_view N.bytes self.now))) }
+    {
+        fmt_in_default_style(self, f)
+    }
+}
+
+impl<N: Names> fmt::Display for TypeDefinition<N> {
+    ghost output = { λ t. Some (text_of (definition_layout default_style (type_definition_view N.bytes t))) };
+
+    fn fmt<W: fmt::Write>(&self, f: &mut fmt::Formatter<W>) -> fmt::Result
+        ensures writes { DisplaysOnOk W.write_str_gives f.old result
+            (Some (text_of (definition_layout default_style (type_definition_view N.bytes self.now)))) f.new }
+        ensures styled { DisplaysStyledOnOk W.write_str_gives f.old result None f.new }
+        ensures narrow { OnOk result (IsNarrow (definition_levels default_style (type_definition_view N.bytes self.now))) }
+    {
+        fmt_in_default_style(self, f)
+    }
+}
+
+impl<N: Names> fmt::Display for ScalarType<N> {
+    ghost output = { λ t. Some (text_of (definition_layout default_style (scalar_view N.bytes t))) };
+
+    fn fmt<W: fmt::Write>(&self, f: &mut fmt::Formatter<W>) -> fmt::Result
+        ensures writes { DisplaysOnOk W.write_str_gives f.old result (Some (text_of (definition_layout default_style (scalar_view N.bytes self.now)))) f.new }
+        ensures styled { DisplaysStyledOnOk W.write_str_gives f.old result None f.new }
+        ensures narrow { OnOk result (IsNarrow (definition_levels default_style (scalar_view N.bytes self.now))) }
+    {
+        fmt_in_default_style(self, f)
+    }
+}
+
+impl<N: Names> fmt::Display for ObjectType<N> {
+    ghost output = { λ t. Some (text_of (definition_layout default_style (object_view N.bytes t))) };
+
+    fn fmt<W: fmt::Write>(&self, f: &mut fmt::Formatter<W>) -> fmt::Result
+        ensures writes { DisplaysOnOk W.write_str_gives f.old result (Some (text_of (definition_layout default_style (object_view N.bytes self.now)))) f.new }
+        ensures styled { DisplaysStyledOnOk W.write_str_gives f.old result None f.new }
+        ensures narrow { OnOk result (IsNarrow (definition_levels default_style (object_view N.bytes self.now))) }
+    {
+        fmt_in_default_style(self, f)
+    }
+}
+
+impl<N: Names> fmt::Display for InterfaceType<N> {
+    ghost output = { λ t. Some (text_of (definition_layout default_style (interface_view N.bytes t))) };
+
+    fn fmt<W: fmt::Write>(&self, f: &mut fmt::Formatter<W>) -> fmt::Result
+        ensures writes { DisplaysOnOk W.write_str_gives f.old result
+            (Some (text_of (definition_layout default_style (interface_view N.bytes self.now)))) f.new }
+        ensures styled { DisplaysStyledOnOk W.write_str_gives f.old result None f.new }
+        ensures narrow { OnOk result (IsNarrow (definition_levels default_style (interface_view N.bytes self.now))) }
+    {
+        fmt_in_default_style(self, f)
+    }
+}
+
+impl<N: Names> fmt::Display for UnionType<N> {
+    ghost output = { λ t. Some (text_of (definition_layout default_style (union_view N.bytes t))) };
+
+    fn fmt<W: fmt::Write>(&self, f: &mut fmt::Formatter<W>) -> fmt::Result
+        ensures writes { DisplaysOnOk W.write_str_gives f.old result (Some (text_of (definition_layout default_style (union_view N.bytes self.now)))) f.new }
+        ensures styled { DisplaysStyledOnOk W.write_str_gives f.old result None f.new }
+        ensures narrow { OnOk result (IsNarrow (definition_levels default_style (union_view N.bytes self.now))) }
+    {
+        fmt_in_default_style(self, f)
+    }
+}
+
+impl<N: Names> fmt::Display for EnumType<N> {
+    ghost output = { λ t. Some (text_of (definition_layout default_style (enum_view N.bytes t))) };
+
+    fn fmt<W: fmt::Write>(&self, f: &mut fmt::Formatter<W>) -> fmt::Result
+        ensures writes { DisplaysOnOk W.write_str_gives f.old result (Some (text_of (definition_layout default_style (enum_view N.bytes self.now)))) f.new }
+        ensures styled { DisplaysStyledOnOk W.write_str_gives f.old result None f.new }
+        ensures narrow { OnOk result (IsNarrow (definition_levels default_style (enum_view N.bytes self.now))) }
+    {
+        fmt_in_default_style(self, f)
+    }
+}
+
+impl<N: Names> fmt::Display for InputObjectType<N> {
+    ghost output = { λ t. Some (text_of (definition_layout default_style (input_view N.bytes t))) };
+
+    fn fmt<W: fmt::Write>(&self, f: &mut fmt::Formatter<W>) -> fmt::Result
+        ensures writes { DisplaysOnOk W.write_str_gives f.old result (Some (text_of (definition_layout default_style (input_view N.bytes self.now)))) f.new }
+        ensures styled { DisplaysStyledOnOk W.write_str_gives f.old result None f.new }
+        ensures narrow { OnOk result (IsNarrow (definition_levels default_style (input_view N.bytes self.now))) }
+    {
+        fmt_in_default_style(self, f)
+    }
+}

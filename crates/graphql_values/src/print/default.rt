@@ -1,0 +1,41 @@
+//! Default values.
+ghost use Rattle.std.specs.Prelude.{◌≡◌, ◌+◌, ◌-◌, ◌*◌, ◌^◌, ◌<◌, OnOk, min, option_map};
+ghost use Rattle.std.specs.Option.{IfSome};
+ghost use Rattle.graphql_core.specs.Parts.{text_of};
+ghost use Rattle.graphql_values.specs.Lawful.{IsLawful};
+ghost use Rattle.graphql_values.specs.Lines.{default_layout, default_levels};
+ghost use Rattle.graphql_values.specs.ValueViews.{value_view};
+
+use crate::print::levels::levels_in_value;
+use crate::print::values::write_value;
+use crate::tree::Value;
+use graphql_core::common::Names;
+use graphql_core::format::{Sink, Style};
+
+/// How many levels a default value opens at once, saturating at `usize::MAX`; none where there is none.
+pub fn levels_in_default<N: Names>(value: &Option<Value<N>>, style: &Style) -> usize
+    ensures levels { result ≡ min (default_levels style.now (option_map (value_view N.bytes) value.now)) (2 ^ 64 - 1) }
+    ensures lawful { IfSome (option_map (value_view N.bytes) value.now) IsLawful }
+{
+    match value {
+        Some(value) => levels_in_value(value, style),
+        None => 0,
+    }
+}
+
+/// Appends a default value, where there is one.
+pub fn write_default<S: Sink, N: Names>(
+    out: &mut S,
+    value: &Option<Value<N>>,
+    style: &Style,
+    margin: usize,
+) -> Result<(), S::Error>
+    requires { margin + default_levels style.now (option_map (value_view N.bytes) value.now) * style.now.indent < 2 ^ 32 }
+    ensures { OnOk result (S.took out.old (text_of (default_layout style.now margin (option_map (value_view N.bytes) value.now))) out.new) }
+{
+    let Some(value) = value else {
+        return Ok(());
+    };
+    out.push_str(" = ")?;
+    write_value(out, value, style, margin)
+}
