@@ -190,6 +190,6 @@ definition_levels style (directive d) = max (description_levels d.description) (
 abbrev pub levels : Layout → DocumentTree → ℕ
 levels style d = most (definition_levels style) d
 
--- the widest line's indentation passes `u32::MAX`
+-- the levels that are open at once take more than `u32::MAX` spaces, whether a line stands in the last of them or not
 abbrev pub IsTooWide : Layout → DocumentTree → Type 0
 IsTooWide style d = values.IsTooWide style (levels style d)
