@@ -51,7 +51,7 @@ use Rattle.graphql_core.proofs.Back.{close_back, dots_back, nothing_back, both_b
 use Rattle.graphql_core.proofs.Back.{four_back, five_back, lift_back, read_back}
 use Rattle.graphql_values.proofs.ValuesBack.{spaces_blank}
 use Rattle.graphql_query_tree.proofs.Readable.{tested_alike, written_goes_on}
-use Rattle.graphql_values.proofs.DirectivesBack.{arguments_back, directives_back, default_back}
+use Rattle.graphql_values.proofs.DirectivesBack.{arguments_back, directives_back, optional_default_back}
 
 -- what is shared is read back in queries too
 shared_back : {e : Expr} {p q : Bool} {d f : ℕ} {ps : List Part} {R : Shape → Type 0} → is_below shared_symbols e ≡ true → Back shared e p d ps q f R
@@ -161,8 +161,7 @@ module _ (style : Layout) where
 
   default_part : (v : Option ValueTree) (d : ℕ) → IfSome v IsPrintableDefault → IfSome v IsLawful → d + option_map_or value_brackets v 0 ≤ 50
       → Back query (optional (Sym default_symbol)) true d (default_layout style v) true d (λ x. optional_default_of x ≡ v)
-  default_part None d is law deep = second_back (nothing_back refl)
-  default_part (Some v) d is law deep = first_back (gap_back refl (means (λ x h. ap Some h) (shared_back refl (default_back style 0 v d is law deep))))
+  default_part v d is law deep = shared_back refl (optional_default_back style 0 v d is law deep)
 
   variable_definition_back : (v : VariableDefinitionTree) (d : ℕ) → IsPrintableVariable v → IsLawfulVariable v → d + variable_definition_brackets v ≤ 50
       → Back query (Sym variable_definition_symbol) false d (variable_definition_layout style v) true d
