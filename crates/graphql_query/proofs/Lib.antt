@@ -7,3 +7,6 @@ pub mod DefinitionAlternatives
 pub mod VariableAlternatives
 pub mod Printable
 pub mod Minified
+pub mod FirstDefinition
+pub mod ItemPlaces
+pub mod Consuming

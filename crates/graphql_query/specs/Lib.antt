@@ -1,2 +1,3 @@
+pub mod FirstDefinition
 pub mod Minifying
 pub mod steps

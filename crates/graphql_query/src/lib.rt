@@ -1,12 +1,14 @@
 //! Queries: their grammar is read here; trees and text are those of `graphql_query_tree`.
 #![tactic(auto)]
 
+mod consume;
 mod document;
 mod error;
 mod laws;
 mod minify;
 mod read;
 
+pub use consume::consume_definition;
 pub use document::parse_query;
 pub use error::ParseError;
 pub use graphql_core::common::{Names, Text};

@@ -1,6 +1,6 @@
 //! Readers, one for each symbol of the grammar. Each has its production above it.
 mod alias;
-mod definition;
+pub mod definition;
 mod fragment;
 mod operation;
 mod selection;

@@ -1,19 +1,20 @@
 -- What readers of queries answer.
 use Rattle.std.specs.Prelude.{◌≡◌, ℕ, Bool, ◌||◌, List, [], Option, Some, None, Result, codes}
 use Rattle.graphql_grammar.specs.Tokens.{nowhere}
-use Rattle.graphql_grammar.specs.Trees.{Expr, Shape, Both, First, Second}
+use Rattle.graphql_grammar.specs.Trees.{Expr, Sym, Shape, Both, First, Second}
+use Rattle.graphql_grammar.specs.Reading.{Takes}
 use Rattle.graphql_grammar.specs.Factored.{written}
 use Rattle.graphql_core.specs.declared.helpers.stop.Stop.{Stop}
 use Rattle.graphql_lexer.specs.declared.position.Pos.{Pos}
-use Rattle.graphql_core.specs.Source.{Items, place_of}
+use Rattle.graphql_core.specs.Source.{Items, place_of, kept}
 use Rattle.graphql_core.specs.steps.Matching.{sees_class}
 use Rattle.graphql_values.specs.steps.Answers.{Gives, Adds}
 use Rattle.graphql_values.specs.Grammar.{mark, keyword}
 use Rattle.graphql_values.specs.Meanings.{spelling_at}
 use Rattle.graphql_query_tree.specs.declared.tree.Selection.{Selection}
-use Rattle.graphql_query_tree.specs.Tree.{SelectionTree, SelectionSetTree, spread, set, trees_of, selection_view}
-use Rattle.graphql_query_tree.specs.Grammar.{reading, changes}
-use Rattle.graphql_query_tree.specs.Meanings.{fragment_spread_rest_of, inline_fragment_rest_of}
+use Rattle.graphql_query_tree.specs.Tree.{SelectionTree, SelectionSetTree, DefinitionTree, spread, set, trees_of, selection_view}
+use Rattle.graphql_query_tree.specs.Grammar.{reading, changes, definition_symbol}
+use Rattle.graphql_query_tree.specs.Meanings.{fragment_spread_rest_of, inline_fragment_rest_of, definition_of}
 
 -- it reads by the second rules, and its answer is what the written shape means
 abbrev pub Reads : {A : Type 0} → Expr → Items → Items → (A → Shape → Type 0) → Result A Stop → Type 0
@@ -40,3 +41,8 @@ abbrev pub sees_definition : Items → Bool
 sees_definition i =
     sees_class (mark (codes "{")) i || sees_class (keyword (codes "query")) i || sees_class (keyword (codes "mutation")) i
     || sees_class (keyword (codes "subscription")) i || sees_class (keyword (codes "fragment")) i
+
+-- a definition was read that means d, by the second rules, and what a reader leaves alone is as it was
+abbrev pub TakesDefinition : Items → Items → DefinitionTree → Type 0
+TakesDefinition old new d =
+    (x : Shape) × Takes reading (Sym definition_symbol) old.tokens x new.tokens × (d ≡ definition_of (written changes x)) × (kept new ≡ kept old)

@@ -45,7 +45,10 @@ fn fragment_definition<S: TokenSource>(
 
 /// `Definition = OperationDefinition | FragmentDefinition`
 #[tactic(auto, using(graphql_values::proofs::Reading::reading))]
-fn definition<S: TokenSource>(alloc: Global, source: &mut S) -> Result<Definition<S::Names>, Stop>
+pub fn definition<S: TokenSource>(
+    alloc: Global,
+    source: &mut S,
+) -> Result<Definition<S::Names>, Stop>
     ensures reads { Reads (Sym definition_symbol) (S.items source.old) (S.items source.new)
         (λ v x. definition_view S.Names.bytes v ≡ definition_of x) result }
     ensures kept { kept (S.items source.new) ≡ kept (S.items source.old) }

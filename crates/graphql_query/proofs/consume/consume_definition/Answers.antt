@@ -1,0 +1,52 @@
+use Rattle.std.proofs.Common.{sym, subst, arith}
+use Rattle.graphql_core.specs.Refusal.{Refusal, refusal_of}
+use Rattle.graphql_values.specs.Faults.{IsRefusalOf, past_bound}
+use Rattle.graphql_values.proofs.Whole.{exit, refusal}
+use Rattle.graphql_values.proofs.Faults.{one_each}
+use Rattle.graphql_query.specs.FirstDefinition.{one_definition}
+use Rattle.graphql_query.proofs.FirstDefinition.{readable_one}
+use Rattle.graphql_query.proofs.Consuming.{found, one_first}
+use Rattle.graphql_query.proofs.consume.consume_definition.Goals as goal
+
+-- ---- too long
+
+pub returns-then-source-gt-MAX_LENGTH-clause-one : goal.returns-then-source-gt-MAX_LENGTH-clause-one
+returns-then-source-gt-MAX_LENGTH-clause-one g c = one_first c.args.source.now
+
+pub returns-then-source-gt-MAX_LENGTH-clause-refused : goal.returns-then-source-gt-MAX_LENGTH-clause-refused
+returns-then-source-gt-MAX_LENGTH-clause-refused g c =
+    subst (λ (r : Refusal). IsRefusalOf one_definition c.args.source.now r) (sym c.text_too_long.ensures) (past_bound (omega arith))
+
+pub returns-then-source-gt-MAX_LENGTH-clause-one_fault : goal.returns-then-source-gt-MAX_LENGTH-clause-one_fault
+returns-then-source-gt-MAX_LENGTH-clause-one_fault g c = one_each one_definition readable_one c.args.source.now
+
+-- ---- a fault
+
+pub returns-in_err-definition-clause-one : goal.returns-in_err-definition-clause-one
+returns-in_err-definition-clause-one g c = one_first c.args.source.now
+
+pub returns-in_err-definition-clause-refused : goal.returns-in_err-definition-clause-refused
+returns-in_err-definition-clause-refused g c =
+    let e = c.in_err-definition.field-0.0 in
+    exit _ (refusal_of e) _ c.from_residual.ensures.1
+    (refusal one_definition c.args.source.now _ e (omega arith) c.new-cursor.ensures c.in_err-definition.ensures.refused)
+
+pub returns-in_err-definition-clause-one_fault : goal.returns-in_err-definition-clause-one_fault
+returns-in_err-definition-clause-one_fault g c = one_each one_definition readable_one c.args.source.now
+
+-- ---- the first definition
+
+pub returns-clause-first : goal.returns-clause-first
+returns-clause-first g c =
+    found c.args.source.now _ _ _ c.position.result c.new-cursor.ensures c.in_ok-definition.ensures.takes c.position.ensures _ c.text_from.ensures
+
+pub returns-clause-complete : goal.returns-clause-complete
+returns-clause-complete g c r bound h =
+    one_first c.args.source.now _ r
+    (found c.args.source.now _ _ _ c.position.result c.new-cursor.ensures c.in_ok-definition.ensures.takes c.position.ensures _ c.text_from.ensures) h
+
+pub returns-clause-one : goal.returns-clause-one
+returns-clause-one g c = one_first c.args.source.now
+
+pub returns-clause-one_fault : goal.returns-clause-one_fault
+returns-clause-one_fault g c = one_each one_definition readable_one c.args.source.now

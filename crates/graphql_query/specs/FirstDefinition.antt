@@ -1,0 +1,39 @@
+-- The first definition of a text, and the rest of the text after it.
+use Rattle.std.specs.Prelude.{◌≡◌, ℕ, List, ◌++◌, length, drop}
+use Rattle.graphql_grammar.specs.Tokens.{Token}
+use Rattle.graphql_grammar.specs.Trees.{Sym, Shape, leaves, Fits}
+use Rattle.graphql_core.specs.Source.{split}
+use Rattle.graphql_lexer.specs.Items.{Item, HasItems}
+use Rattle.graphql_lexer.specs.Stream.{next_place}
+use Rattle.graphql_values.specs.Language.{Language}
+use Rattle.graphql_values.specs.Faults.{HasNoValue}
+use Rattle.graphql_query_tree.specs.Tree.{DefinitionTree, erase_definition}
+use Rattle.graphql_query_tree.specs.Grammar.{query, definition_symbol, second_rows, changes}
+use Rattle.graphql_query_tree.specs.Meanings.{definition_of}
+
+-- The language of one definition: a text of it is one definition of a query document.
+abbrev pub one_definition : Language DefinitionTree
+one_definition = record {
+  grammar = query;
+  document = definition_symbol;
+  means = definition_of;
+  erase = erase_definition;
+  lacks = λ c. HasNoValue;
+  refuses = λ node f. ⊥;
+  second_rows = second_rows;
+  changes = changes;
+}
+
+-- the text from the item after the first n tokens on: after those tokens and the ignored text that follows the last of them
+abbrev pub text_after : ℕ → List Item → List ℕ → List ℕ
+text_after n items text = drop (next_place (drop n items)).offset text
+
+-- these tokens begin with a definition of this shape, and then these are left
+abbrev pub BeginsWith : List Token → Shape → List Token → Type 0
+BeginsWith tokens x others = Fits query (Sym definition_symbol) x × (tokens ≡ leaves x ++ others)
+
+-- The tokens of the text begin with a definition that means d, and the rest is the text from the item after its last token on.
+abbrev pub IsFirstDefinition : List ℕ → DefinitionTree × List ℕ → Type 0
+IsFirstDefinition text (d, rest) =
+    (items : List Item) × HasItems text items × (x : Shape) × (others : List Token) × BeginsWith (split items).tokens x others
+    × (d ≡ definition_of x) × (rest ≡ text_after (length (leaves x)) items text)

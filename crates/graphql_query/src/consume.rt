@@ -1,0 +1,86 @@
+//! The first definition of a text.
+ghost use Rattle.std.specs.Prelude.{◌≡◌, ◌<◌, ◌≤◌, ◌/◌, ℕ, List, length, drop, IfOk, IfErr, IsErrOf};
+ghost use Rattle.graphql_grammar.specs.Tokens.{Token};
+ghost use Rattle.graphql_grammar.specs.Trees.{Shape};
+ghost use Rattle.graphql_core.specs.declared.common.fault.Fault.TheVariants.{OutOfMemory};
+ghost use Rattle.graphql_core.specs.Refusal.{max_length, too_long};
+ghost use Rattle.graphql_lexer.specs.Items.{Item, HasItems};
+ghost use Rattle.graphql_lexer.specs.Stream.{next_place};
+ghost use Rattle.graphql_values.specs.Document.{AnswersUnlessMemory};
+ghost use Rattle.graphql_values.specs.Faults.{IsLeastOf, IsRefusalOf, HasOneFaultEach};
+ghost use Rattle.graphql_query_tree.specs.Tree.{DefinitionTree, definition_view};
+ghost use Rattle.graphql_query.specs.FirstDefinition.{one_definition, text_after, BeginsWith, IsFirstDefinition};
+ghost use Rattle.graphql_query.specs.steps.Reads.{TakesDefinition};
+
+use crate::error::ParseError;
+use crate::read::definition::definition;
+use graphql_core::common::{Fault, MAX_LENGTH, Text};
+use graphql_core::helpers::{Cursor, TokenSource, fault_of};
+use graphql_core::position::Pos;
+use graphql_core::tokenizer::TokenStream;
+use graphql_query_tree::tree::Definition;
+use std::alloc::Global;
+
+/// The definition with which the items of a source begin.
+fn first_definition<S: TokenSource>(
+    alloc: Global,
+    source: &mut S,
+) -> Result<Definition<S::Names>, Fault>
+    ensures takes { IfOk result (λ d. TakesDefinition (S.items source.old) (S.items source.new) (definition_view S.Names.bytes d)) }
+    ensures complete { (x : Shape) (others : List Token) → BeginsWith (S.items source.old).tokens x others → IfErr result (λ e. e ≡ OutOfMemory) }
+    ensures refused { IfErr result (IsLeastOf one_definition (S.items source.old)) }
+{
+    match definition(alloc, source) {
+        Ok(definition) => Ok(definition),
+        Err(stop) => Err(fault_of(alloc, source, stop)),
+    }
+}
+
+/// A text from the item on that stands at this position, empty where none does.
+fn text_from(source: &str, position: Pos) -> &str
+    requires { length source.now ≤ usize.MAX / 16 }
+    ensures { (items : List Item) (n : ℕ) → HasItems source.now items → n < length items → (next_place (drop n items)).position ≡ position
+        → result.now ≡ text_after n items source.now }
+{
+    let mut stream = TokenStream::new(source);
+    'items: while stream.position() != position {
+        let Ok(Some(_)) = stream.next_token() else {
+            return "";
+        };
+    }
+    source.split_at(stream.offset()).1
+}
+
+/// The first definition of a text (October 2021, section 2.2), and the rest of the text: what follows the definition's
+/// last token and the ignored text after it. The rest plays no part, and may be any text.
+///
+/// The error is `TextTooLong` at 1:1 for a text of more than `usize::MAX / 16` bytes, which is tested first;
+/// `OutOfMemory` where an allocation fails; else the text begins with no definition, and the error is the fault that the
+/// first item shows that shows one, as for `parse_query`.
+pub fn consume_definition<'a, S: Text<'a>>(
+    alloc: Global,
+    source: &'a str,
+) -> Result<(Definition<S>, &'a str), ParseError>
+    // What is answered is the first definition, positions included, and exactly the rest.
+    ensures first { IfOk result (λ r. IsFirstDefinition source.now (definition_view S.Names.bytes r.0, r.1.now)) }
+
+    // A text that begins with a definition is answered it, unless an allocation fails.
+    ensures complete { (r : DefinitionTree × List ℕ) → length source.now ≤ max_length → IsFirstDefinition source.now r
+        → AnswersUnlessMemory (λ a. (definition_view S.Names.bytes a.0, a.1.now)) r result }
+
+    // A text has at most one first definition, and one rest after it.
+    ensures one { (q r : DefinitionTree × List ℕ) → IsFirstDefinition source.now q → IsFirstDefinition source.now r → q ≡ r }
+
+    // A refusal is the fault of least index of a text that is to be one definition, and no two faults of it have one index.
+    // A text past the bound is refused before any allocation.
+    ensures refused { IfErr result (IsRefusalOf one_definition source.now) }
+    ensures one_fault { HasOneFaultEach one_definition source.now }
+    ensures too_long { max_length < length source.now → IsErrOf result too_long }
+{
+    if source.len() > MAX_LENGTH {
+        return Err(ParseError::text_too_long());
+    }
+    let mut cursor: Cursor<'a, S> = Cursor::new(source);
+    let definition = first_definition(alloc, &mut cursor)?;
+    Ok((definition, text_from(source, cursor.position())))
+}
