@@ -26,8 +26,8 @@ pub mod query {
     pub use graphql_query::{
         Definition, Document, Field, FragmentDefinition, FragmentSpread, InlineFragment,
         MinifyError, Mutation, Names, OperationDefinition, ParseError, Query, Selection,
-        SelectionSet, Subscription, Text, TypeCondition, VariableDefinition, minify_query,
-        parse_query,
+        SelectionSet, Subscription, Text, TypeCondition, VariableDefinition, consume_definition,
+        minify_query, parse_query,
     };
     pub use graphql_values::{Directive, Type, Value};
 }

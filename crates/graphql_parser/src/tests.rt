@@ -2,6 +2,7 @@
 
 mod built;
 mod callers;
+mod first;
 mod messages;
 mod schemas;
 mod tokens;
