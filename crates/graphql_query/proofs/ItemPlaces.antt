@@ -120,7 +120,7 @@ abbrev IsAt : List ℕ → Where → List ℕ → Type 0
 IsAt whole w text = (w.offset ≤ length whole) × (drop w.offset whole ≡ text) × IsUtf8 text
 
 -- a piece is some bytes, and ends at a seam
-part : (m : Meaning) (bytes rest : List ℕ) → Stands bytes m rest → Part (bytes ++ rest) (length bytes)
+pub part : (m : Meaning) (bytes rest : List ℕ) → Stands bytes m rest → Part (bytes ++ rest) (length bytes)
 part (Ignored m) bytes rest st = (subst (Within (bytes ++ rest)) (stands_front st) (front_within (bytes ++ rest))).0
 part (Word k t) bytes rest st = subst (Within (bytes ++ rest)) (stands_front st) (front_within (bytes ++ rest))
 

@@ -10,3 +10,4 @@ pub mod Minified
 pub mod FirstDefinition
 pub mod ItemPlaces
 pub mod Consuming
+pub mod OtherRest

@@ -37,3 +37,7 @@ abbrev pub IsFirstDefinition : List ℕ → DefinitionTree × List ℕ → Type 
 IsFirstDefinition text (d, rest) =
     (items : List Item) × HasItems text items × (x : Shape) × (others : List Token) × BeginsWith (split items).tokens x others
     × (d ≡ definition_of x) × (rest ≡ text_after (length (leaves x)) items text)
+
+-- the first definition of the text means d, whatever stands after it
+abbrev pub BeginsWithDefinition : List ℕ → DefinitionTree → Type 0
+BeginsWithDefinition text d = (rest : List ℕ) × IsFirstDefinition text (d, rest)

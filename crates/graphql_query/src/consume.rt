@@ -1,5 +1,5 @@
 //! The first definition of a text.
-ghost use Rattle.std.specs.Prelude.{◌≡◌, ◌<◌, ◌≤◌, ◌/◌, ℕ, List, length, drop, IfOk, IfErr, IsErrOf};
+ghost use Rattle.std.specs.Prelude.{◌≡◌, ◌<◌, ◌≤◌, ◌/◌, ℕ, List, ◌++◌, length, drop, IfOk, IfErr, IsErrOf};
 ghost use Rattle.graphql_grammar.specs.Tokens.{Token};
 ghost use Rattle.graphql_grammar.specs.Trees.{Shape};
 ghost use Rattle.graphql_core.specs.declared.common.fault.Fault.TheVariants.{OutOfMemory};
@@ -9,7 +9,7 @@ ghost use Rattle.graphql_lexer.specs.Stream.{next_place};
 ghost use Rattle.graphql_values.specs.Document.{AnswersUnlessMemory};
 ghost use Rattle.graphql_values.specs.Faults.{IsLeastOf, IsRefusalOf, HasOneFaultEach};
 ghost use Rattle.graphql_query_tree.specs.Tree.{DefinitionTree, definition_view};
-ghost use Rattle.graphql_query.specs.FirstDefinition.{one_definition, text_after, BeginsWith, IsFirstDefinition};
+ghost use Rattle.graphql_query.specs.FirstDefinition.{one_definition, text_after, BeginsWith, IsFirstDefinition, BeginsWithDefinition};
 ghost use Rattle.graphql_query.specs.steps.Reads.{TakesDefinition};
 
 use crate::error::ParseError;
@@ -63,6 +63,7 @@ pub fn consume_definition<'a, S: Text<'a>>(
 ) -> Result<(Definition<S>, &'a str), ParseError>
     // What is answered is the first definition, positions included, and exactly the rest.
     ensures first { IfOk result (λ r. IsFirstDefinition source.now (definition_view S.Names.bytes r.0, r.1.now)) }
+    ensures shorter { IfOk result (λ r. length r.1.now < length source.now) }
 
     // A text that begins with a definition is answered it, unless an allocation fails.
     ensures complete { (r : DefinitionTree × List ℕ) → length source.now ≤ max_length → IsFirstDefinition source.now r
@@ -70,6 +71,10 @@ pub fn consume_definition<'a, S: Text<'a>>(
 
     // A text has at most one first definition, and one rest after it.
     ensures one { (q r : DefinitionTree × List ℕ) → IsFirstDefinition source.now q → IsFirstDefinition source.now r → q ≡ r }
+
+    // What follows plays no part: with any other text in place of the rest the definition is the same, positions included.
+    ensures other_rest { (d : DefinitionTree) (rest taken other : List ℕ) → IsFirstDefinition source.now (d, rest) → source.now ≡ taken ++ rest
+        → BeginsWithDefinition (taken ++ other) d }
 
     // A refusal is the fault of least index of a text that is to be one definition, and no two faults of it have one index.
     // A text past the bound is refused before any allocation.

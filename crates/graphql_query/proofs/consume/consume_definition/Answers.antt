@@ -6,6 +6,7 @@ use Rattle.graphql_values.proofs.Faults.{one_each}
 use Rattle.graphql_query.specs.FirstDefinition.{one_definition}
 use Rattle.graphql_query.proofs.FirstDefinition.{readable_one}
 use Rattle.graphql_query.proofs.Consuming.{found, one_first}
+use Rattle.graphql_query.proofs.OtherRest.{other_rest, shorter}
 use Rattle.graphql_query.proofs.consume.consume_definition.Goals as goal
 
 -- ---- too long
@@ -40,6 +41,11 @@ pub returns-clause-first : goal.returns-clause-first
 returns-clause-first g c =
     found c.args.source.now _ _ _ c.position.result c.new-cursor.ensures c.in_ok-definition.ensures.takes c.position.ensures _ c.text_from.ensures
 
+pub returns-clause-shorter : goal.returns-clause-shorter
+returns-clause-shorter g c =
+    shorter c.args.source.now _ _
+    (found c.args.source.now _ _ _ c.position.result c.new-cursor.ensures c.in_ok-definition.ensures.takes c.position.ensures _ c.text_from.ensures)
+
 pub returns-clause-complete : goal.returns-clause-complete
 returns-clause-complete g c r bound h =
     one_first c.args.source.now _ r
@@ -50,3 +56,12 @@ returns-clause-one g c = one_first c.args.source.now
 
 pub returns-clause-one_fault : goal.returns-clause-one_fault
 returns-clause-one_fault g c = one_each one_definition readable_one c.args.source.now
+
+pub returns-then-source-gt-MAX_LENGTH-clause-other_rest : goal.returns-then-source-gt-MAX_LENGTH-clause-other_rest
+returns-then-source-gt-MAX_LENGTH-clause-other_rest g c = other_rest c.args.source.now
+
+pub returns-in_err-definition-clause-other_rest : goal.returns-in_err-definition-clause-other_rest
+returns-in_err-definition-clause-other_rest g c = other_rest c.args.source.now
+
+pub returns-clause-other_rest : goal.returns-clause-other_rest
+returns-clause-other_rest g c = other_rest c.args.source.now
