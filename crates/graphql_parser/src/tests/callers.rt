@@ -12,7 +12,7 @@ use crate::common::{
 };
 use crate::query::{
     Definition, Document, Field, MinifyError, OperationDefinition, ParseError, Selection, Value,
-    minify_query, parse_query,
+    consume_definition, minify_query, parse_query,
 };
 use crate::tokenizer::{Kind, TokenStream};
 use crate::{Cause, FormatError, Pos, Style};
@@ -122,6 +122,17 @@ fn shown(alloc: Global, document: &Document<'_, &str>) -> Result<String, AllocEr
 /// A copy of a document.
 fn copied<'a>(document: &Document<'a, &'a str>) -> Result<Document<'a, &'a str>, AllocError> {
     document.clone()
+}
+
+/// How many definitions a text begins with, one after another.
+fn count_leading_definitions(alloc: Global, source: &str) -> usize {
+    let mut count = 0usize;
+    let mut rest = source;
+    'definitions: while let Ok((_, after)) = consume_definition::<&str>(alloc, rest) {
+        count = count.saturating_add(1);
+        rest = after;
+    }
+    count
 }
 
 /// A text minified, if it can be and no allocation fails.
@@ -291,6 +302,13 @@ fn borrowed_names(rt: HostRuntime) -> Result<(), Fail> {
     assert_eq!(rt; first_name::<&str>(&document), Some("hero"));
     assert_eq!(rt; count(rt.alloc(), "{ hero } { b }")?, 2);
     Ok(())
+}
+
+#[test]
+fn definitions_are_taken_one_at_a_time(rt: HostRuntime) {
+    for (source, count) in [("", 0), ("{ a } # b", 1), ("{ a } query { b } ; { c }", 2)] {
+        assert_eq!(rt; count_leading_definitions(rt.alloc(), source), count);
+    }
 }
 
 #[test]

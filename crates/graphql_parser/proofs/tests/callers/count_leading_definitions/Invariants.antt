@@ -1,0 +1,6 @@
+use Rattle.std.proofs.Common.{length}
+use Rattle.graphql_parser.proofs.tests.callers.count_leading_definitions.Given as goal
+
+-- the rest of a text is shorter
+abbrev pub decreases-definitions : goal.decreases-definitions
+decreases-definitions l = length l.rest
