@@ -7,7 +7,8 @@ use Rattle.graphql_grammar.specs.Factored.{written}
 use Rattle.graphql_lexer.specs.declared.position.Pos.{Pos}
 use Rattle.graphql_lexer.specs.BadTexts.{too_deep}
 use Rattle.graphql_lexer.specs.Lexical.{Meaning, Ignored, Word, Piece}
-use Rattle.graphql_lexer.specs.Items.{Where, Item, item, Content, Lexeme, End, Wrong, HasItems, start, past_ignored, past_token, is_too_deep, token_then, piece_then}
+use Rattle.graphql_lexer.specs.Items.{Where, Item, item, Content, Lexeme, End, Wrong, HasItems, start}
+use Rattle.graphql_lexer.specs.Items.{past_ignored, past_token, is_too_deep, token_then, piece_then}
 use Rattle.graphql_lexer.specs.Items.{items_of}
 use Rattle.graphql_lexer.specs.Stream.{next_place}
 use Rattle.graphql_lexer.specs.steps.Cut.{items}

@@ -70,7 +70,8 @@ unfolding tables
 ends_there [] = refl
 ends_there (t ∷ ts) = refl
 
-pub taken : (ts others : List Token) (x : Shape) → BeginsWith ts x others → (y : Shape) × Takes reading (Sym definition_symbol) ts y others × (written changes y ≡ x)
+pub taken : (ts others : List Token) (x : Shape) → BeginsWith ts x others
+    → (y : Shape) × Takes reading (Sym definition_symbol) ts y others × (written changes y ≡ x)
 taken ts others x (fits, parts) =
     let (y, takes, is) = (exact one_definition readable_one).complete (leaves x) others x (fits, refl) (ends_there others) in
     (y, subst (λ (l : List Token). Takes reading (Sym definition_symbol) l y others) (sym parts) takes, is)

@@ -13,12 +13,14 @@ use Rattle.graphql_lexer.specs.BadTexts.{too_deep}
 use Rattle.graphql_lexer.specs.Lexical.{Meaning, Ignored, Word, Piece, IsCutInto, Stands, tab, line_feed, carriage_return, space, comma, byte_order_mark}
 use Rattle.graphql_lexer.specs.Lexical.{comment_feed, comment_return_feed, comment_return, name, mark, spread, integer, float, string}
 use Rattle.graphql_lexer.specs.Lexical.{block_string}
-use Rattle.graphql_lexer.specs.Items.{Where, Item, HasItems, item, start, Lexeme, Wrong, past_ignored, past_token, is_too_deep, token_then, piece_then, items_of}
+use Rattle.graphql_lexer.specs.Items.{Where, Item, HasItems, item, start, Lexeme, Wrong, past_ignored}
+use Rattle.graphql_lexer.specs.Items.{past_token, is_too_deep, token_then, piece_then, items_of}
 use Rattle.graphql_lexer.specs.Stream.{next_place}
 use Rattle.graphql_lexer.proofs.OneCut.{cut_of}
 use Rattle.graphql_core.specs.Causes.{kind_number}
 use Rattle.graphql_core.specs.Source.{split, token_of}
-use Rattle.graphql_query_tree.specs.Grammar.{query, definition_symbol, operation_symbol, operation_body_symbol, selection_set_symbol, fragment_definition_symbol}
+use Rattle.graphql_query_tree.specs.Grammar.{query, definition_symbol, operation_symbol, operation_body_symbol}
+use Rattle.graphql_query_tree.specs.Grammar.{selection_set_symbol, fragment_definition_symbol}
 use Rattle.graphql_query_tree.specs.Tree.{DefinitionTree}
 use Rattle.graphql_query.specs.FirstDefinition.{text_after, BeginsWith, IsFirstDefinition, BeginsWithDefinition}
 use Rattle.graphql_query.proofs.ItemPlaces.{part}
