@@ -5,5 +5,6 @@ mod callers;
 mod first;
 mod messages;
 mod schemas;
+mod statics;
 mod tokens;
 mod values;

@@ -1,7 +1,10 @@
 //! Trees of queries. Names are kept as the parameter `N` says.
+ghost use Rattle.std.specs.Prelude.{◌≡◌, Ok};
+
 use graphql_core::common::Names;
 use graphql_core::position::Pos;
 use graphql_values::tree::{Directive, Type, Value};
+use std::alloc::{AllocError, Global};
 
 /// A query document: its definitions in order (October 2021, section 2.2).
 #[derive_where(Debug, Clone, PartialEq)]
@@ -9,6 +12,17 @@ use graphql_values::tree::{Directive, Type, Value};
 pub struct Document<N: Names> {
     /// The definitions.
     pub definitions: Vec<Definition<N>>,
+}
+
+impl Document<String> {
+    /// The document, equal in all, positions included, as one that outlives its text.
+    ///
+    /// Its names own their texts, so it is handed on as it is: nothing is allocated, and no error comes.
+    pub fn into_static(self, _alloc: Global) -> Result<Document<String>, AllocError>
+        ensures { result ≡ Ok self }
+    {
+        Ok(self)
+    }
 }
 
 /// A definition (section 2.2).

@@ -1,4 +1,6 @@
 //! Trees of schemas. Names are kept as the parameter `N` says.
+ghost use Rattle.std.specs.Prelude.{◌≡◌, Ok};
+
 mod bare;
 mod extensions;
 mod parts;
@@ -13,6 +15,7 @@ use graphql_core::common::Names;
 use graphql_core::position::Pos;
 use graphql_values::tree::Directive;
 pub use parts::{EnumValue, Field, InputValue};
+use std::alloc::{AllocError, Global};
 pub use types::{EnumType, InputObjectType, InterfaceType, ObjectType, ScalarType, UnionType};
 
 /// A schema document: its definitions in order (October 2021, section 3).
@@ -21,6 +24,17 @@ pub use types::{EnumType, InputObjectType, InterfaceType, ObjectType, ScalarType
 pub struct Document<N: Names> {
     /// The definitions.
     pub definitions: Vec<Definition<N>>,
+}
+
+impl Document<String> {
+    /// The document, equal in all, positions included, as one that outlives its text.
+    ///
+    /// Its names own their texts, so it is handed on as it is: nothing is allocated, and no error comes.
+    pub fn into_static(self, _alloc: Global) -> Result<Document<String>, AllocError>
+        ensures { result ≡ Ok self }
+    {
+        Ok(self)
+    }
 }
 
 /// A definition of a schema document (section 3).
