@@ -4,7 +4,7 @@ use crate::{Pos, Style, parse_schema};
 use std::test::Fail;
 
 const SCHEMA: &str =
-    "schema {\n    query: Query\n}\n\ntype Query {\n    users: [User!]!,\n}\n\"\"\"\n   Example user object\n\n   This is just a demo comment.\n\"\"\"\ntype User {\n    name: String!,\n}\n";
+    "    schema {\n        query: Query\n    }\n    type Query {\n        users: [User!]!,\n    }\n    \"\"\"\n       Example user object\n\n       This is just a demo comment.\n    \"\"\"\n    type User {\n        name: String!,\n    }\n";
 
 const SCHEMA_LAYOUT: &str =
     "schema {\n  query: Query\n}\n\ntype Query {\n  users: [User!]!\n}\n\n\"\"\"\n  Example user object\n\n  This is just a demo comment.\n\"\"\"\ntype User {\n  name: String!\n}\n";
