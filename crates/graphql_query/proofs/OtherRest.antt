@@ -273,8 +273,7 @@ other_rest text d rest taken other (is, has, x, us, begins, means, after) whole 
     )) in
     let (qs, end, other_cut, vs, tokens) = k.again (c ++ other) in
     let same : k.a ++ (c ++ other) ≡ taken ++ other = sym (append_assoc k.a c other) ∙ ap (λ (l : List ℕ). l ++ other) (sym front) in
-    let items = items_of start qs end in
-    (
+    let items = items_of start qs end in (
       text_after (length (leaves x)) items (taken ++ other),
       (items, (qs, end, subst (λ (l : List ℕ). IsCutInto l qs end) same other_cut, refl), x, vs, (begins.0, tokens), means, refl),
     )
