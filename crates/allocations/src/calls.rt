@@ -2,7 +2,7 @@
 use crate::documents::{Refusal, read_documents, refuse, show_documents};
 use crate::schemas::use_schemas;
 use crate::tally::Tally;
-use graphql_parser::query::{Document, consume_definition, minify_query};
+use graphql_parser::query::{Document, minify_query};
 use std::alloc::{AllocError, Global};
 use std::borrow::CowStr;
 
@@ -37,9 +37,6 @@ const REFUSED: [(&str, usize); 7] = [
 /// Texts, and what they are minified to.
 const MINIFIED: [(&str, &str); 2] = [("", ""), ("a-1 ... \"b\"\"c\"", "a -1 ...\"b\" \"c\"")];
 
-/// Texts, and what follows their first definitions.
-const CONSUMED: [(&str, &str); 2] = [("{ a } # b\n\"", "\""), ("query Q($a: [T]) { b }", "")];
-
 /// Minifies texts.
 fn minify(alloc: Global, tally: &mut Tally) {
     for (text, minified) in MINIFIED {
@@ -64,20 +61,6 @@ fn refuse_to_minify(alloc: Global, tally: &mut Tally) {
     }
 }
 
-/// Takes the first definitions of texts.
-fn consume(alloc: Global, tally: &mut Tally) {
-    for (text, rest) in CONSUMED {
-        match consume_definition::<String>(alloc, text) {
-            Ok((_, after)) => tally.add(after == rest, false),
-            Err(error) => tally.add(false, Refusal::of_query(&error).ran_out),
-        }
-    }
-    match consume_definition::<&str>(alloc, "a { b }") {
-        Ok(_) => tally.add(false, false),
-        Err(error) => Refusal::of_query(&error).count(tally, 1),
-    }
-}
-
 /// Makes each call.
 pub fn make_calls(alloc: Global) -> Tally {
     let mut tally = Tally::default();
@@ -88,7 +71,6 @@ pub fn make_calls(alloc: Global) -> Tally {
     refuse::<Document<'_, &str>>(alloc, &mut tally, &REFUSED);
     minify(alloc, &mut tally);
     refuse_to_minify(alloc, &mut tally);
-    consume(alloc, &mut tally);
     use_schemas(alloc, &mut tally);
     tally
 }

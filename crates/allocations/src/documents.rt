@@ -23,7 +23,7 @@ impl Refusal {
     }
 
     /// Why a text is no query document.
-    pub fn of_query(error: &query::ParseError) -> Self {
+    fn of_query(error: &query::ParseError) -> Self {
         Refusal::new(error.cause(), error.position())
     }
 

@@ -4,41 +4,6 @@ use crate::{BadToken, Cause, Pos};
 use std::test::Fail;
 
 #[test]
-fn the_rest_begins_at_the_next_item(rt: HostRuntime) -> Result<(), Fail> {
-    let alloc = rt.alloc();
-    for (source, text, rest) in [
-        ("{ a } # c\n{ b }", "{\n  a\n}\n", "{ b }"),
-        ("{ a }  # x\n", "{\n  a\n}\n", ""),
-        ("{ a } ; b", "{\n  a\n}\n", "; b"),
-        (
-            "query { a } query { b }",
-            "query {\n  a\n}\n",
-            "query { b }",
-        ),
-        ("query { b }", "query {\n  b\n}\n", ""),
-        (
-            "query { a } \"unterminated",
-            "query {\n  a\n}\n",
-            "\"unterminated",
-        ),
-        (
-            "query { a } where a > 1 => 10.0\n",
-            "query {\n  a\n}\n",
-            "where a > 1 => 10.0\n",
-        ),
-    ] {
-        match consume_definition::<String>(alloc, source) {
-            Ok((definition, after)) => {
-                assert_eq!(rt; definition.to_string(alloc)?.as_str(), text);
-                assert_eq!(rt; after, rest);
-            }
-            Err(_) => assert!(rt; false),
-        }
-    }
-    Ok(())
-}
-
-#[test]
 fn what_begins_with_no_definition_is_refused(rt: HostRuntime) -> Result<(), Fail> {
     let alloc = rt.alloc();
     for (source, line, column, text) in [
