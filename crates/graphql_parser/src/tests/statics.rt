@@ -3,11 +3,40 @@ use crate::query::{Definition, OperationDefinition, parse_query};
 use crate::{Pos, Style, parse_schema};
 use std::test::Fail;
 
-const SCHEMA: &str =
-    "    schema {\n        query: Query\n    }\n    type Query {\n        users: [User!]!,\n    }\n    \"\"\"\n       Example user object\n\n       This is just a demo comment.\n    \"\"\"\n    type User {\n        name: String!,\n    }\n";
+const SCHEMA: &str = "
+    schema {
+        query: Query
+    }
+    type Query {
+        users: [User!]!,
+    }
+    \"\"\"
+       Example user object
 
-const SCHEMA_LAYOUT: &str =
-    "schema {\n  query: Query\n}\n\ntype Query {\n  users: [User!]!\n}\n\n\"\"\"\n  Example user object\n\n  This is just a demo comment.\n\"\"\"\ntype User {\n  name: String!\n}\n";
+       This is just a demo comment.
+    \"\"\"
+    type User {
+        name: String!,
+    }
+";
+
+const SCHEMA_LAYOUT: &str = "schema {
+  query: Query
+}
+
+type Query {
+  users: [User!]!
+}
+
+\"\"\"
+  Example user object
+
+  This is just a demo comment.
+\"\"\"
+type User {
+  name: String!
+}
+";
 
 #[test]
 fn positions_stay(rt: HostRuntime) -> Result<(), Fail> {
