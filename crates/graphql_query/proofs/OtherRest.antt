@@ -8,6 +8,7 @@ use Rattle.graphql_grammar.specs.Tokens.{Token, Spelled, matches}
 use Rattle.graphql_grammar.specs.Trees.{Sym, Shape, leaves, accepts, Fits, fits_leaf, fits_both, fits_first, fits_second, fits_node}
 use Rattle.graphql_lexer.specs.declared.tokenizer.token.Kind.{Kind}
 use Rattle.graphql_lexer.specs.declared.tokenizer.token.Kind.TheVariants.{Punctuator}
+use Rattle.graphql_lexer.specs.declared.tokenizer.piece.Move.{Move}
 use Rattle.graphql_lexer.specs.declared.tokenizer.piece.Nesting.{Nesting}
 use Rattle.graphql_lexer.specs.BadTexts.{too_deep}
 use Rattle.graphql_lexer.specs.Lexical.{Meaning, Ignored, Word, Piece, IsCutInto, Stands, tab, line_feed, carriage_return, space, comma, byte_order_mark}
@@ -110,25 +111,34 @@ module _ (qs : List Piece) (stop rest : List ℕ) (others : List Token) where
   KeptLater = (v : Where) (front : List Token) → (split (items_of v qs stop)).tokens ≡ front ++ others → EndsInMark front
       → Kept v rest (items_of v qs stop) front
 
-  ignored_kept : (m : _) (bytes text : List ℕ) (w : Where) (front : List Token) → text ≡ bytes ++ rest → Stands bytes (Ignored m) rest
-      → Kept (past_ignored m (length bytes) w) rest (items_of (past_ignored m (length bytes) w) qs stop) front
-      → Kept w text (items_of (past_ignored m (length bytes) w) qs stop) front
-  unfolding items_of
-  ignored_kept m bytes text w front e st k = record {
+  -- what is kept after a piece is kept with it, where its tokens are those after it with the piece's own
+  with_piece : (m : Meaning) (bytes text : List ℕ) (w v : Where) (is js : List Item) (all front : List Token) → text ≡ bytes ++ rest → Stands bytes m rest
+      → v.offset ≡ w.offset + length bytes → drop (length all) is ≡ drop (length front) js
+      → ((ps : List Piece) (end : List ℕ) (us : List Token) → (split (items_of v ps end)).tokens ≡ front ++ us
+      → (split (items_of w (record { bytes = bytes; meaning = m } ∷ ps) end)).tokens ≡ all ++ us)
+      → Kept v rest js front → Kept w text is all
+  with_piece m bytes text w v is js all front e st moves same on k = record {
     a = bytes ++ k.a;
     b = k.b;
     parts = e ∙ ap (λ (l : List ℕ). bytes ++ l) k.parts ∙ sym (append_assoc bytes k.a k.b);
     some = omega (arith, k.some, length-append bytes k.a);
-    within = omega (arith, k.within, length-append bytes k.a);
+    within = omega (arith, k.within, moves, ap (λ (l : List Item). (next_place l).offset) same, length-append bytes k.a);
     again = λ c.
-        let (ps, end, cut, us, is) = k.again c in (
-          record { bytes = bytes; meaning = Ignored m } ∷ ps,
+        let (ps, end, cut, us, tokens) = k.again c in (
+          record { bytes = bytes; meaning = m } ∷ ps,
           end,
-          (k.a ++ c, append_assoc bytes k.a c, stands_on k.a k.b c k.some (subst (Stands bytes (Ignored m)) k.parts st), cut),
+          (k.a ++ c, append_assoc bytes k.a c, stands_on k.a k.b c k.some (subst (Stands bytes m) k.parts st), cut),
           us,
-          is,
+          on ps end us tokens,
         );
   }
+
+  ignored_kept : (m : Move) (bytes text : List ℕ) (w : Where) (front : List Token) → text ≡ bytes ++ rest → Stands bytes (Ignored m) rest
+      → Kept (past_ignored m (length bytes) w) rest (items_of (past_ignored m (length bytes) w) qs stop) front
+      → Kept w text (items_of (past_ignored m (length bytes) w) qs stop) front
+  unfolding items_of
+  ignored_kept m bytes text w front e st =
+      with_piece (Ignored m) bytes text w (past_ignored m (length bytes) w) _ _ front front e st refl refl (λ ps end us tokens. tokens)
 
   module _ (kind : Kind) (t : Nesting) (bytes text : List ℕ) (w : Where) (e : text ≡ bytes ++ rest) (st : Stands bytes (Word kind t) rest)
       (fits : is_too_deep t w ≡ false) where
@@ -157,21 +167,9 @@ module _ (qs : List Piece) (stop rest : List ℕ) (others : List Token) where
         → Kept (past_token t bytes w) rest (items_of (past_token t bytes w) qs stop) front
         → Kept w text (item (Lexeme kind bytes) w ∷ items_of (past_token t bytes w) qs stop) (f ∷ front)
     unfolding items_of
-    first_kept f front first k = record {
-      a = bytes ++ k.a;
-      b = k.b;
-      parts = e ∙ ap (λ (l : List ℕ). bytes ++ l) k.parts ∙ sym (append_assoc bytes k.a k.b);
-      some = omega (arith, k.some, length-append bytes k.a);
-      within = omega (arith, k.within, length-append bytes k.a);
-      again = λ c.
-          let (ps, end, cut, us, is) = k.again c in (
-            record { bytes = bytes; meaning = Word kind t } ∷ ps,
-            end,
-            (k.a ++ c, append_assoc bytes k.a c, stands_on k.a k.b c k.some (subst (Stands bytes (Word kind t)) k.parts st), cut),
-            us,
-            rw fits (λ i. first i ∷ is i),
-          );
-    }
+    first_kept f front first =
+        with_piece (Word kind t) bytes text w (past_token t bytes w) _ _ (f ∷ front) front e st refl refl
+        (λ ps end us tokens. rw fits (λ i. first i ∷ tokens i))
 
   word_kept : (b : Bool) (kind : Kind) (t : Nesting) (bytes text : List ℕ) (w : Where) (front : List Token) → is_too_deep t w ≡ b
       → text ≡ bytes ++ rest → Stands bytes (Word kind t) rest

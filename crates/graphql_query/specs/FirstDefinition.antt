@@ -6,22 +6,22 @@ use Rattle.graphql_core.specs.Source.{split}
 use Rattle.graphql_lexer.specs.Items.{Item, HasItems}
 use Rattle.graphql_lexer.specs.Stream.{next_place}
 use Rattle.graphql_values.specs.Language.{Language}
-use Rattle.graphql_values.specs.Faults.{HasNoValue}
+use Rattle.graphql_query_tree.specs.Document.{queries}
 use Rattle.graphql_query_tree.specs.Tree.{DefinitionTree, erase_definition}
-use Rattle.graphql_query_tree.specs.Grammar.{query, definition_symbol, second_rows, changes}
+use Rattle.graphql_query_tree.specs.Grammar.{query, definition_symbol}
 use Rattle.graphql_query_tree.specs.Meanings.{definition_of}
 
--- The language of one definition: a text of it is one definition of a query document.
+-- The language of one definition: as that of queries, but that a text of it is one definition.
 abbrev pub one_definition : Language DefinitionTree
 one_definition = record {
-  grammar = query;
+  grammar = queries.grammar;
   document = definition_symbol;
   means = definition_of;
   erase = erase_definition;
-  lacks = λ c. HasNoValue;
-  refuses = λ node f. ⊥;
-  second_rows = second_rows;
-  changes = changes;
+  lacks = queries.lacks;
+  refuses = queries.refuses;
+  second_rows = queries.second_rows;
+  changes = queries.changes;
 }
 
 -- the text from the item after the first n tokens on: after those tokens and the ignored text that follows the last of them
