@@ -128,6 +128,10 @@ module _ (g : Grammar) (b : are_balanced g.rows ≡ true) where
   pub has_room : {k : ℕ} {x : Shape} → Fits g (Sym k) x → (n : ℕ) (P : ℕ → Type 0) → NestsTree x n P → HasRoom g n (Sym k) x
   has_room f n P p = (rooms f refl n P p).0
 
+  -- what holds after a tree, holds where as many brackets may be opened as before it
+  pub past_tree : {k : ℕ} {x : Shape} → Fits g (Sym k) x → (n : ℕ) (P : ℕ → Type 0) → NestsTree x n P → P n
+  past_tree f n P p = (rooms f refl n P p).2
+
 -- ---- a grammar that goes on from another
 
 module _ (n : ℕ) (g h : Grammar) (x : Extends n g h) where

@@ -1,5 +1,5 @@
 -- What the tokens of a text are, and how deep their brackets are nested.
-use Rattle.std.proofs.Common.{◌≡◌, ℕ, zero, suc, ◌+◌, Bool, true, false, cond, ◌||◌, ◌&&◌, ◌==◌, List, [], ◌∷◌, ◌++◌, length, All, refl, sym, ap₂, ◌∙◌, subst}
+use Rattle.std.proofs.Common.{◌≡◌, ℕ, zero, suc, ◌+◌, Bool, true, false, cond, ◌||◌, ◌&&◌, ◌==◌, List, [], ◌∷◌, ◌++◌, length, drop, All, refl, append-nil, sym, ap, ap₂, ◌∙◌, subst}
 use Rattle.std.proofs.Common.{arith, inl, inr, codes, eqb-true}
 use Rattle.std.proofs.lemmas.Bool.Decides.{nat_tests}
 use Rattle.std.proofs.lemmas.List.Elements.{All-nil, All-cons}
@@ -14,8 +14,9 @@ use Rattle.graphql_lexer.specs.declared.tokenizer.piece.Nesting.TheVariants.{Lev
 use Rattle.graphql_core.specs.Causes.{kind_number}
 use Rattle.graphql_lexer.specs.Lexical.{IsName, Meaning, Ignored, Word, Stands, name, mark, spread, integer, float, string, block_string, Piece, IsCutInto}
 use Rattle.graphql_lexer.specs.Lexical.{is_opener, is_closer}
-use Rattle.graphql_lexer.specs.Items.{Where, Item, HasItems, start, past_ignored, past_token, is_full, last_item, piece_then, items_of}
-use Rattle.graphql_core.specs.Source.{split, place_of, IsLexeme}
+use Rattle.graphql_lexer.specs.Items.{Where, Item, item, Lexeme, HasItems, start, past_ignored, past_token, is_full, last_item, piece_then, items_of}
+use Rattle.graphql_core.specs.Source.{Last, split, place_of, token_of, IsLexeme}
+use Rattle.std.proofs.lemmas.List.{drop_at, drop-drop}
 
 -- ---- what a token does to the depth
 
@@ -76,43 +77,118 @@ stands-nesting (string body units next) p = refl
 stands-nesting (block_string closes) p = refl
 
 -- n more brackets may be opened there
-abbrev IsRoom : Where → ℕ → Type 0
+abbrev pub IsRoom : Where → ℕ → Type 0
 IsRoom w n = w.openers + n ≡ w.closers + 50
-
-nests_last : (w : Where) (stop : List ℕ) (n : ℕ) → Nests (split (last_item w stop ∷ [])).tokens n Anything
-nests_last w [] n = tt
-nests_last w (b ∷ bs) n = tt
 
 -- where the brackets are not at their deepest, one more may be opened
 not_full : (w : Where) (n : ℕ) → IsRoom w n → is_full w ≡ false → (m : ℕ) × (n ≡ suc m)
 not_full w zero e f = absurd (both_ways (is_full w) f (eq-eqb _ _ (omega arith)))
 not_full w (suc m) e f = (m, refl)
 
--- a piece, and what follows it
-nests_piece : (m : Meaning) (bytes rest : List ℕ) → Stands bytes m rest → (w : Where) (n : ℕ) → IsRoom w n → (more : Where → List Item)
-    → ((v : Where) (l : ℕ) → IsRoom v l → Nests (split (more v)).tokens l Anything) → Nests (split (piece_then m more w bytes)).tokens n Anything
-nests_piece (Ignored m) bytes rest st w n e more h = h (past_ignored m (length bytes) w) n e
-nests_piece (Word k Level) bytes rest st w n e more h =
-    ((k, Level, rest, refl, st), rw (stands-nesting st (place_of w.position)) (h (past_token Level bytes w) n e))
-nests_piece (Word k Closes) bytes rest st w n e more h =
-    ((k, Closes, rest, refl, st), rw (stands-nesting st (place_of w.position)) (h (past_token Closes bytes w) (suc n) (omega arith)))
-nests_piece (Word k Opens) bytes rest st w n e more h =
-    elim (cases_Bool (is_full w)) [
-      | inl full ↦ rw full tt
-      | inr f ↦
-          let r = not_full w n e f in
-          rw f ((k, Opens, rest, refl, st), rw (stands-nesting st (place_of w.position)) (r.0, r.1, h (past_token Opens bytes w) r.0 (omega (arith, r.1))))
-    ]
+-- What is left of a text after some of its tokens: these items, which are pieces from a place on where m brackets may be opened.
+pub record Left (whole : List ℕ) (last : Last) (is : List Item) (others : List Token) (m : ℕ) : Type 0 where
+  pub place : Where
+  pub pieces : List Piece
+  pub rest : List ℕ
+  pub stop : List ℕ
+  pub cut : IsCutInto rest pieces stop
+  pub there : drop place.offset whole ≡ rest
+  pub room : IsRoom place m
+  pub items : is ≡ items_of place pieces stop
+  pub tokens : (split is).tokens ≡ others
+  pub ends : (split is).last ≡ last
 
-nests_items : (ps : List Piece) (text stop : List ℕ) → IsCutInto text ps stop → (w : Where) (n : ℕ) → IsRoom w n
-    → Nests (split (items_of w ps stop)).tokens n Anything
-unfolding items_of
-nests_items [] text stop cut w n e = nests_last w stop n
-nests_items (q ∷ qs) text stop (rest, is, st, cut) w n e = nests_piece q.meaning q.bytes rest st w n e (λ v. items_of v qs stop) (nests_items qs rest stop cut)
+pub past_bytes : (n : ℕ) (whole bytes rest : List ℕ) → drop n whole ≡ bytes ++ rest → drop (n + length bytes) whole ≡ rest
+past_bytes n whole bytes rest there = sym (drop-drop (length bytes) n whole) ∙ ap (drop (length bytes)) there ∙ drop_at bytes rest (length bytes) refl
 
--- at most 50 brackets are open among the tokens of a text
+module _ (whole stop : List ℕ) (last : Last) (others : List Token) where
+  -- where the tokens of the items begin with these, the others are left after them
+  abbrev LeavesAfter : List Token → ℕ → List Item → Type 0
+  LeavesAfter front n is = (split is).tokens ≡ front ++ others → (split is).last ≡ last
+      → Nests front n (Left whole last (drop (length front) is) others)
+
+  abbrev LeavesLater : List ℕ → (Where → List Item) → Type 0
+  LeavesLater rest more = (v : Where) (n : ℕ) → drop v.offset whole ≡ rest → IsRoom v n → (front : List Token) → LeavesAfter front n (more v)
+
+  leaves_token : (k : Kind) (s : Nesting) (bytes rest : List ℕ) (w : Where) (n : ℕ) (more : List Item) (t : Token) (ts : List Token)
+      → Stands bytes (Word k s) rest
+      → ((split more).tokens ≡ ts ++ others → (split more).last ≡ last → Past s n (λ m. Nests ts m (Left whole last (drop (length ts) more) others)))
+      → LeavesAfter (t ∷ ts) n (item (Lexeme k bytes) w ∷ more)
+  leaves_token k s bytes rest w n more t ts st h is ends =
+      let first : token_of w.position k bytes ≡ t = cc in
+      subst (λ u. IsLexeme u × Past (nesting_of u) n (λ m. Nests ts m (Left whole last (drop (length ts) more) others))) first
+      ((k, s, rest, refl, st), rw (stands-nesting st (place_of w.position)) (h (ap (drop 1) is) ends))
+
+  -- a piece, and what follows it
+  leaves_piece : (m : Meaning) (bytes rest : List ℕ) → Stands bytes m rest → (w : Where) (n : ℕ) → IsRoom w n → drop w.offset whole ≡ bytes ++ rest
+      → (more : Where → List Item) → LeavesLater rest more → (t : Token) (ts : List Token) → LeavesAfter (t ∷ ts) n (piece_then m more w bytes)
+  leaves_piece (Ignored m) bytes rest st w n e there more h t ts =
+      h (past_ignored m (length bytes) w) n (past_bytes w.offset whole bytes rest there) e (t ∷ ts)
+  leaves_piece (Word k Level) bytes rest st w n e there more h t ts =
+      let v = past_token Level bytes w in
+      leaves_token k Level bytes rest w n (more v) t ts st (h v n (past_bytes w.offset whole bytes rest there) e ts)
+  leaves_piece (Word k Closes) bytes rest st w n e there more h t ts =
+      let v = past_token Closes bytes w in
+      leaves_token k Closes bytes rest w n (more v) t ts st (h v (suc n) (past_bytes w.offset whole bytes rest there) (omega arith) ts)
+  leaves_piece (Word k Opens) bytes rest st w n e there more h t ts =
+      elim (cases_Bool (is_full w)) [
+        | inl full ↦ rw full (λ is ends. absurd cc)
+        | inr f ↦
+            let v = past_token Opens bytes w in
+            let (m, one) = not_full w n e f in
+            rw f (leaves_token k Opens bytes rest w n (more v) t ts st
+            (λ is ends. (m, one, h v m (past_bytes w.offset whole bytes rest there) (omega (arith, one)) ts is ends)))
+      ]
+
+  leaves_last : (w : Where) (n : ℕ) (t : Token) (ts : List Token) (end : List ℕ) → LeavesAfter (t ∷ ts) n (last_item w end ∷ [])
+  leaves_last w n t ts [] is ends = absurd cc
+  leaves_last w n t ts (b ∷ bs) is ends = absurd cc
+
+  -- nothing is taken
+  leaves_all : (ps : List Piece) (text : List ℕ) → IsCutInto text ps stop → (w : Where) (n : ℕ) → IsRoom w n → drop w.offset whole ≡ text
+      → LeavesAfter [] n (items_of w ps stop)
+  leaves_all ps text cut w n e there is ends = record {
+    place = w;
+    pieces = ps;
+    rest = text;
+    stop = stop;
+    cut = cut;
+    there = there;
+    room = e;
+    items = refl;
+    tokens = is;
+    ends = ends;
+  }
+
+  leaves_items : (ps : List Piece) (text : List ℕ) → IsCutInto text ps stop → (w : Where) (n : ℕ) → IsRoom w n → drop w.offset whole ≡ text
+      → (front : List Token) → LeavesAfter front n (items_of w ps stop)
+  unfolding items_of
+  leaves_items [] text cut w n e there [] = leaves_all [] text cut w n e there
+  leaves_items [] text cut w n e there (t ∷ ts) = leaves_last w n t ts stop
+  leaves_items (q ∷ qs) text cut w n e there [] = leaves_all (q ∷ qs) text cut w n e there
+  leaves_items (q ∷ qs) text (rest, same, st, cut) w n e there (t ∷ ts) =
+      leaves_piece q.meaning q.bytes rest st w n e (there ∙ same) (λ v. items_of v qs stop)
+      (λ v m at room. leaves_items qs rest cut v m room at) t ts
+
+-- at most 50 brackets are open among the first tokens of a text
+pub nests_before : (text : List ℕ) (items : List Item) → HasItems text items → (front others : List Token) → (split items).tokens ≡ front ++ others
+    → Nests front 50 (Left text (split items).last (drop (length front) items) others)
+nests_before text items (ps, stop, cut, e) front others =
+    rw e (λ is. leaves_items text stop _ others ps text cut start 50 refl refl front is refl)
+
+past_map : (s : Nesting) (n : ℕ) (P Q : ℕ → Type 0) → ((m : ℕ) → P m → Q m) → Past s n P → Past s n Q
+past_map Level n P Q f h = f n h
+past_map Opens n P Q f (m, e, h) = (m, e, f m h)
+past_map Closes n P Q f h = f (suc n) h
+
+nests_map : (ts : List Token) (n : ℕ) (P Q : ℕ → Type 0) → ((m : ℕ) → P m → Q m) → Nests ts n P → Nests ts n Q
+nests_map [] n P Q f h = f n h
+nests_map (t ∷ ts) n P Q f (l, h) = (l, past_map (nesting_of t) n _ _ (λ m. nests_map ts m P Q f) h)
+
+-- and among all
 pub nests : (text : List ℕ) (items : List Item) → HasItems text items → Nests (split items).tokens 50 Anything
-nests text items (ps, stop, cut, e) = rw e (nests_items ps text stop cut start 50 refl)
+nests text items has =
+    nests_map (split items).tokens 50 _ Anything (λ m h. tt) (nests_before text items has (split items).tokens [] (sym (append-nil (split items).tokens)))
 
 past_inside : (s : Nesting) (n : ℕ) (P : ℕ → Type 0) → Past s n P → (m : ℕ) × P m
 past_inside Level n P h = (n, h)
@@ -128,11 +204,6 @@ pub lexemes : (text : List ℕ) (items : List Item) → HasItems text items → 
 lexemes text items has = nests-lexemes _ 50 Anything (nests text items has)
 
 -- ---- from a list of tokens to its tree
-
-past_map : (s : Nesting) (n : ℕ) (P Q : ℕ → Type 0) → ((m : ℕ) → P m → Q m) → Past s n P → Past s n Q
-past_map Level n P Q f h = f n h
-past_map Opens n P Q f (m, e, h) = (m, e, f m h)
-past_map Closes n P Q f h = f (suc n) h
 
 nests_append : (ts us : List Token) (n : ℕ) (P : ℕ → Type 0) → Nests (ts ++ us) n P → Nests ts n (λ m. Nests us m P)
 nests_append [] us n P h = h

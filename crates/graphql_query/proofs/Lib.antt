@@ -11,3 +11,4 @@ pub mod FirstDefinition
 pub mod ItemPlaces
 pub mod Consuming
 pub mod OtherRest
+pub mod OtherDefinitions

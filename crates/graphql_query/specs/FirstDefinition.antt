@@ -1,12 +1,12 @@
 -- The first definition of a text, and the rest of the text after it.
-use Rattle.std.specs.Prelude.{◌≡◌, ℕ, List, ◌++◌, length, drop}
+use Rattle.std.specs.Prelude.{◌≡◌, ℕ, List, [], ◌∷◌, ◌++◌, length, drop}
 use Rattle.graphql_grammar.specs.Tokens.{Token}
 use Rattle.graphql_grammar.specs.Trees.{Sym, Shape, leaves, Fits}
 use Rattle.graphql_core.specs.Source.{split}
 use Rattle.graphql_lexer.specs.Items.{Item, HasItems}
 use Rattle.graphql_lexer.specs.Stream.{next_place}
 use Rattle.graphql_values.specs.Language.{Language}
-use Rattle.graphql_query_tree.specs.Document.{queries}
+use Rattle.graphql_query_tree.specs.Document.{queries, IsReadBack}
 use Rattle.graphql_query_tree.specs.Tree.{DefinitionTree, erase_definition}
 use Rattle.graphql_query_tree.specs.Grammar.{query, definition_symbol}
 use Rattle.graphql_query_tree.specs.Meanings.{definition_of}
@@ -41,3 +41,8 @@ IsFirstDefinition text (d, rest) =
 -- the first definition of the text means d, whatever stands after it
 abbrev pub BeginsWithDefinition : List ℕ → DefinitionTree → Type 0
 BeginsWithDefinition text d = (rest : List ℕ) × IsFirstDefinition text (d, rest)
+
+-- the rest has these definitions, positions aside; where there are none, nothing is left
+abbrev pub HasDefinitions : List ℕ → List DefinitionTree → Type 0
+HasDefinitions rest [] = rest ≡ []
+HasDefinitions rest (d ∷ ds) = IsReadBack rest (d ∷ ds)

@@ -1,5 +1,5 @@
 //! The first definition of a text.
-ghost use Rattle.std.specs.Prelude.{◌≡◌, ◌<◌, ◌≤◌, ◌/◌, ℕ, List, ◌++◌, length, drop, IfOk, IfErr, IsErrOf};
+ghost use Rattle.std.specs.Prelude.{◌≡◌, ◌<◌, ◌≤◌, ◌/◌, ℕ, List, ◌∷◌, ◌++◌, length, drop, IfOk, IfErr, IsErrOf};
 ghost use Rattle.graphql_grammar.specs.Tokens.{Token};
 ghost use Rattle.graphql_grammar.specs.Trees.{Shape};
 ghost use Rattle.graphql_core.specs.declared.common.fault.Fault.TheVariants.{OutOfMemory};
@@ -8,8 +8,10 @@ ghost use Rattle.graphql_lexer.specs.Items.{Item, HasItems};
 ghost use Rattle.graphql_lexer.specs.Stream.{next_place};
 ghost use Rattle.graphql_values.specs.Document.{AnswersUnlessMemory};
 ghost use Rattle.graphql_values.specs.Faults.{IsLeastOf, IsRefusalOf, HasOneFaultEach};
+ghost use Rattle.graphql_query_tree.specs.Document.{IsDocumentOf};
 ghost use Rattle.graphql_query_tree.specs.Tree.{DefinitionTree, definition_view};
 ghost use Rattle.graphql_query.specs.FirstDefinition.{one_definition, text_after, BeginsWith, IsFirstDefinition, BeginsWithDefinition};
+ghost use Rattle.graphql_query.specs.FirstDefinition.{HasDefinitions};
 ghost use Rattle.graphql_query.specs.steps.Reads.{TakesDefinition};
 
 use crate::error::ParseError;
@@ -71,6 +73,11 @@ pub fn consume_definition<'a, S: Text<'a>>(
 
     // A text has at most one first definition, and one rest after it.
     ensures one { (q r : DefinitionTree × List ℕ) → IsFirstDefinition source.now q → IsFirstDefinition source.now r → q ≡ r }
+
+    // Where the text is a document of these definitions, the first of them is its first definition, and the rest has the others, positions
+    // aside: nothing is left where there are no others.
+    ensures others { (d : DefinitionTree) (ds : List DefinitionTree) → IsDocumentOf source.now (d ∷ ds)
+        → (rest : List ℕ) × IsFirstDefinition source.now (d, rest) × HasDefinitions rest ds }
 
     // What follows plays no part: with any other text in place of the rest the definition is the same, positions included.
     ensures other_rest { (d : DefinitionTree) (rest taken other : List ℕ) → IsFirstDefinition source.now (d, rest) → source.now ≡ taken ++ rest

@@ -124,7 +124,7 @@ pub record IgnoresPlaces {D : Type 0} (l : Language D) : Type 0 where
   pub means : (x : Shape) → l.erase (l.means (bare x)) ≡ l.erase (l.means x)
 
 module _ {D : Type 0} (l : Language D) (p : IgnoresPlaces l) where
-  same_document : (a b : Items) → Alike b.tokens a.tokens → IsEnd b.last → (d : D) → IsDocument l a d
+  pub same_document : (a b : Items) → Alike b.tokens a.tokens → IsEnd b.last → (d : D) → IsDocument l a d
       → (e : D) × IsDocument l b e × (l.erase e ≡ l.erase d)
   same_document a b alike end d (x, (fits, is), last, means) =
       let (y, fy, ly, ey) = refilled l.grammar p.accepts p.checks fits b.tokens (subst (λ (ts : List Token). Alike b.tokens ts) is alike) in

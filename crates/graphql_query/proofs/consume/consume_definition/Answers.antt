@@ -7,6 +7,7 @@ use Rattle.graphql_query.specs.FirstDefinition.{one_definition}
 use Rattle.graphql_query.proofs.FirstDefinition.{readable_one}
 use Rattle.graphql_query.proofs.Consuming.{found, one_first}
 use Rattle.graphql_query.proofs.OtherRest.{other_rest, shorter}
+use Rattle.graphql_query.proofs.OtherDefinitions.{other_definitions}
 use Rattle.graphql_query.proofs.consume.consume_definition.Goals as goal
 
 -- ---- too long
@@ -65,3 +66,12 @@ returns-in_err-definition-clause-other_rest g c = other_rest c.args.source.now
 
 pub returns-clause-other_rest : goal.returns-clause-other_rest
 returns-clause-other_rest g c = other_rest c.args.source.now
+
+pub returns-then-source-gt-MAX_LENGTH-clause-others : goal.returns-then-source-gt-MAX_LENGTH-clause-others
+returns-then-source-gt-MAX_LENGTH-clause-others g c = other_definitions c.args.source.now
+
+pub returns-in_err-definition-clause-others : goal.returns-in_err-definition-clause-others
+returns-in_err-definition-clause-others g c = other_definitions c.args.source.now
+
+pub returns-clause-others : goal.returns-clause-others
+returns-clause-others g c = other_definitions c.args.source.now
