@@ -94,5 +94,6 @@ pub fn consume_definition<'a, S: Text<'a>>(
     }
     let mut cursor: Cursor<'a, S> = Cursor::new(source);
     let definition = first_definition(alloc, &mut cursor)?;
-    Ok((definition, text_from(source, cursor.position())))
+    let rest = text_from(source, cursor.position());
+    Ok((definition, rest))
 }

@@ -40,17 +40,17 @@ returns-in_err-definition-clause-one_fault g c = one_each one_definition readabl
 
 pub returns-clause-first : goal.returns-clause-first
 returns-clause-first g c =
-    found c.args.source.now _ _ _ c.position.result c.new-cursor.ensures c.in_ok-definition.ensures.takes c.position.ensures _ c.text_from.ensures
+    found c.args.source.now _ _ _ c.position.result c.new-cursor.ensures c.in_ok-definition.ensures.takes c.position.ensures _ c.text_from-rest.ensures
 
 pub returns-clause-shorter : goal.returns-clause-shorter
 returns-clause-shorter g c =
     shorter c.args.source.now _ _
-    (found c.args.source.now _ _ _ c.position.result c.new-cursor.ensures c.in_ok-definition.ensures.takes c.position.ensures _ c.text_from.ensures)
+    (found c.args.source.now _ _ _ c.position.result c.new-cursor.ensures c.in_ok-definition.ensures.takes c.position.ensures _ c.text_from-rest.ensures)
 
 pub returns-clause-complete : goal.returns-clause-complete
 returns-clause-complete g c r bound h =
     one_first c.args.source.now _ r
-    (found c.args.source.now _ _ _ c.position.result c.new-cursor.ensures c.in_ok-definition.ensures.takes c.position.ensures _ c.text_from.ensures) h
+    (found c.args.source.now _ _ _ c.position.result c.new-cursor.ensures c.in_ok-definition.ensures.takes c.position.ensures _ c.text_from-rest.ensures) h
 
 pub returns-clause-one : goal.returns-clause-one
 returns-clause-one g c = one_first c.args.source.now
