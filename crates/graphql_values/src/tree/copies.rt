@@ -1,59 +1,127 @@
 //! Copies of trees.
-ghost use Rattle.std.specs.Prelude.{◌≡◌, IfOk};
+ghost use Rattle.std.specs.Prelude.{◌≡◌, [], IfOk, string_bytes};
 ghost use Rattle.graphql_values.specs.ValueViews.{value_view, items_view, members_view, type_view, directive_view};
 
 use crate::tree::{Directive, Type, Value};
 use graphql_core::common::Names;
-use std::alloc::AllocError;
+use std::alloc::{AllocError, Global};
 use std::collections::BTreeMap;
 use std::default::Emptied;
+
+// How a copy of a value, with names of `N`, has names of `M`.
+trait Copying<N: Names, M: Names> {
+    // The same name.
+    fn name(&self, name: &N::Value) -> Result<M::Value, AllocError>
+        ensures { IfOk result (λ v. M.bytes v ≡ N.bytes name.now) };
+
+    // An empty map, for the fields of a copy of an object with these.
+    fn no_fields(
+        &self,
+        like: &BTreeMap<N::Value, Value<N>>,
+    ) -> Result<BTreeMap<M::Value, Value<M>>, AllocError>
+        ensures { IfOk result (λ m. m.entries ≡ []) };
+}
+
+// A copy's names are clones.
+#[derive(Drop)]
+struct Cloning;
+
+impl<N: Names> Copying<N, N> for Cloning {
+    fn name(&self, name: &N::Value) -> Result<N::Value, AllocError> {
+        name.clone()
+    }
+
+    fn no_fields(
+        &self,
+        like: &BTreeMap<N::Value, Value<N>>,
+    ) -> Result<BTreeMap<N::Value, Value<N>>, AllocError> {
+        BTreeMap::emptied(like)
+    }
+}
+
+// A copy's names own their texts.
+#[derive(Drop)]
+struct Owning {
+    alloc: Global,
+}
+
+impl<N: Names> Copying<N, String> for Owning {
+    fn name(&self, name: &N::Value) -> Result<String, AllocError> {
+        String::from_str(self.alloc, N::view(name))
+    }
+
+    fn no_fields(
+        &self,
+        _like: &BTreeMap<N::Value, Value<N>>,
+    ) -> Result<BTreeMap<String, Value<String>>, AllocError> {
+        Ok(BTreeMap::new(self.alloc))
+    }
+}
 
 impl<N: Names> Clone for Value<N> {
     ghost is_clone = { λ v w. value_view N.bytes w ≡ value_view N.bytes v };
 
     fn clone(&self) -> Result<Value<N>, AllocError> {
-        copy(self)
+        copy(&Cloning, self)
+    }
+}
+
+impl<N: Names> Value<N> {
+    /// The same value with names that own their texts, which may outlive the text that it was read from.
+    ///
+    /// The value that is lent stays as it is. An error comes where an allocation fails.
+    pub fn into_static(&self, alloc: Global) -> Result<Value<String>, AllocError>
+        ensures { IfOk result (λ v. value_view string_bytes v ≡ value_view N.bytes self.now) }
+    {
+        copy(&Owning { alloc }, self)
     }
 }
 
 #[cycle(copy)]
-fn copy<N: Names>(value: &Value<N>) -> Result<Value<N>, AllocError>
-    ensures { IfOk result (λ v. value_view N.bytes v ≡ value_view N.bytes value.now) }
+fn copy<N: Names, M: Names, C: Copying<N, M>>(
+    copying: &C,
+    value: &Value<N>,
+) -> Result<Value<M>, AllocError>
+    ensures { IfOk result (λ v. value_view M.bytes v ≡ value_view N.bytes value.now) }
 {
     match value {
-        Value::Variable(name) => Ok(Value::Variable(name.clone()?)),
+        Value::Variable(name) => Ok(Value::Variable(copying.name(name)?)),
         Value::Int(number) => Ok(Value::Int(*number)),
         Value::Float(literal) => Ok(Value::Float(literal.clone()?)),
         Value::String(text) => Ok(Value::String(text.clone()?)),
         Value::Boolean(answer) => Ok(Value::Boolean(*answer)),
         Value::Null => Ok(Value::Null),
-        Value::Enum(name) => Ok(Value::Enum(name.clone()?)),
-        Value::List(items) => Ok(Value::List(copy_items(items)?)),
-        Value::Object(members) => Ok(Value::Object(copy_members(members)?)),
+        Value::Enum(name) => Ok(Value::Enum(copying.name(name)?)),
+        Value::List(items) => Ok(Value::List(copy_items(copying, items)?)),
+        Value::Object(members) => Ok(Value::Object(copy_members(copying, members)?)),
     }
 }
 
 #[cycle(copy)]
-fn copy_items<N: Names>(items: &Vec<Value<N>>) -> Result<Vec<Value<N>>, AllocError>
-    ensures { IfOk result (λ v. items_view N.bytes v.items ≡ items_view N.bytes items.now.items) }
+fn copy_items<N: Names, M: Names, C: Copying<N, M>>(
+    copying: &C,
+    items: &Vec<Value<N>>,
+) -> Result<Vec<Value<M>>, AllocError>
+    ensures { IfOk result (λ v. items_view M.bytes v.items ≡ items_view N.bytes items.now.items) }
 {
     let mut copies = Vec::with_capacity(*items.allocator(), items.len())?;
     'items: for item in items {
-        copies.push(copy(item)?)?;
+        copies.push(copy(copying, item)?)?;
     }
     Ok(copies)
 }
 
 #[cycle(copy)]
-fn copy_members<N: Names>(
+fn copy_members<N: Names, M: Names, C: Copying<N, M>>(
+    copying: &C,
     members: &BTreeMap<N::Value, Value<N>>,
-) -> Result<BTreeMap<N::Value, Value<N>>, AllocError>
-    ensures { IfOk result (λ m. members_view N.bytes m.entries ≡ members_view N.bytes members.now.entries) }
+) -> Result<BTreeMap<M::Value, Value<M>>, AllocError>
+    ensures { IfOk result (λ m. members_view M.bytes m.entries ≡ members_view N.bytes members.now.entries) }
 {
-    let mut copies = BTreeMap::emptied(members)?;
+    let mut copies = copying.no_fields(members)?;
     'members: for (key, member) in members.iter() {
-        let name = key.clone()?;
-        drop(copies.insert(name, copy(member)?)?);
+        let name = copying.name(key)?;
+        drop(copies.insert(name, copy(copying, member)?)?);
     }
     Ok(copies)
 }

@@ -5,9 +5,9 @@ use Rattle.graphql_values.proofs.tree.copies.+copy.Given as goal
 
 abbrev pub invariant-copy_items-items : goal.invariant-copy_items-items
 invariant-copy_items-items g l =
-    map (value_view g.N.Names.bytes) l.copies.items ≡ map (value_view g.N.Names.bytes) (take l.item-index l.item-items)
+    map (value_view g.M.Names.bytes) l.copies.items ≡ map (value_view g.N.Names.bytes) (take l.item-index l.item-items)
 
 abbrev pub invariant-copy_members-members : goal.invariant-copy_members-members
 invariant-copy_members-members g l =
     (done : List (g.row.N-Value.Denot × Value g.row.N.Denot g.row.N-Value.Denot)) × (l.members.entries ≡ done ++ l.key-iterator)
-    × (members_view g.N.Names.bytes l.copies.entries ≡ members_view g.N.Names.bytes done)
+    × (members_view g.M.Names.bytes l.copies.entries ≡ members_view g.N.Names.bytes done)
