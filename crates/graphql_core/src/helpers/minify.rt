@@ -7,6 +7,7 @@ ghost use Rattle.graphql_core.specs.Source.{IsEnd, split, lexeme_token};
 ghost use Rattle.graphql_core.specs.Minified.{AreLexemes, spaced, is_spaced, IsMinified, HasTokens, IsBadPlaceOf};
 
 use crate::common::Fault;
+use crate::format::{Buffer, Sink};
 use crate::helpers::cursor::Cursor;
 use crate::helpers::source::{Lexeme, TokenSource};
 use graphql_lexer::tokenizer::Kind;
@@ -31,7 +32,7 @@ fn spaced<S: TokenSource>(alloc: Global, source: &mut S) -> Result<String, Fault
     ensures end { IfOk result (λ text. IsEnd (S.items source.old).last) }
     ensures refused { IfErr result (IsBadPlaceOf (S.items source.old)) }
 {
-    let mut text = String::new(alloc);
+    let mut text = Buffer::new(alloc);
     let mut before = Kind::Punctuator;
     'tokens: while let Some(token) = source.peek() {
         if is_spaced::<S>(before, &token) {
@@ -42,7 +43,7 @@ fn spaced<S: TokenSource>(alloc: Global, source: &mut S) -> Result<String, Fault
         source.advance();
     }
     if source.is_at_end() {
-        Ok(text)
+        Ok(text.into_string())
     } else {
         Err(source.fault(alloc))
     }

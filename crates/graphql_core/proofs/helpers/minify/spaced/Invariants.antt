@@ -1,4 +1,4 @@
-use Rattle.std.proofs.Common.{◌≡◌, ◌++◌, length, string_bytes}
+use Rattle.std.proofs.Common.{◌≡◌, ◌++◌, length}
 use Rattle.graphql_core.specs.Causes.{kind_number}
 use Rattle.graphql_core.specs.Minified.{spaced, spaced_after}
 use Rattle.graphql_core.proofs.helpers.minify.spaced.Given as goal
@@ -6,7 +6,7 @@ use Rattle.graphql_core.proofs.helpers.minify.spaced.Given as goal
 -- after what is written stand the tokens that are left
 abbrev pub invariant-tokens : goal.invariant-tokens
 invariant-tokens g l = record {
-  text : spaced (g.S.TokenSource.items l.fn.source).tokens ≡ string_bytes l.text ++ spaced_after (kind_number l.before) (g.S.TokenSource.items l.source).tokens;
+  text : spaced (g.S.TokenSource.items l.fn.source).tokens ≡ l.text ++ spaced_after (kind_number l.before) (g.S.TokenSource.items l.source).tokens;
   last : (g.S.TokenSource.items l.source).last ≡ (g.S.TokenSource.items l.fn.source).last;
 }
 
