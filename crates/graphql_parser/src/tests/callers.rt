@@ -106,6 +106,15 @@ fn first_number<'a, 'd, T: Text<'a>>(field: &'d Field<'a, T>) -> Option<(&'d str
     }
 }
 
+/// The value of a field's first argument, which outlives the text, if there is one and no allocation fails.
+pub fn first_value<'a, T: Text<'a>>(
+    alloc: Global,
+    field: &Field<'a, T>,
+) -> Option<Value<'static, String>> {
+    let (_, value) = field.arguments.first()?;
+    value.into_static(alloc).ok()
+}
+
 /// A text laid out in a style, if it is a document and no allocation fails.
 fn laid_out(alloc: Global, source: &str, style: &Style) -> Option<String>
     ensures { IfSome result (λ text. (d : DocumentTree) × IsDocumentOf source.now d × (string_bytes text ≡ layout style.now d)) }

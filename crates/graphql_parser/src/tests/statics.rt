@@ -1,5 +1,7 @@
-//! Documents that are made static.
-use crate::query::{Definition, OperationDefinition, parse_query};
+//! Documents and values that are made static.
+use crate::common::Text;
+use crate::query::{Definition, Document, Field, OperationDefinition, Selection, parse_query};
+use crate::tests::callers::first_value;
 use crate::{Pos, Style, parse_schema};
 use std::test::Fail;
 
@@ -38,6 +40,20 @@ type User {
 }
 ";
 
+/// The first field of a document that begins with a set of selections.
+fn first_field<'a, 'd, T: Text<'a>>(document: &'d Document<'a, T>) -> Option<&'d Field<'a, T>> {
+    let Definition::Operation(OperationDefinition::SelectionSet(set)) = document
+        .definitions
+        .first()?
+    else {
+        return None;
+    };
+    match set.items.first()? {
+        Selection::Field(field) => Some(field),
+        _ => None,
+    }
+}
+
 #[test]
 fn positions_stay(rt: HostRuntime) -> Result<(), Fail> {
     let alloc = rt.alloc();
@@ -62,5 +78,29 @@ fn texts_stay(rt: HostRuntime) -> Result<(), Fail> {
     let document = parse_schema::<String>(alloc, SCHEMA)?.into_static(alloc)?;
     let text = document.format(alloc, &Style::default())?;
     assert_eq!(rt; text.as_str(), SCHEMA_LAYOUT);
+    Ok(())
+}
+
+#[test]
+fn values_outlive_the_text(rt: HostRuntime) -> Result<(), Fail> {
+    let alloc = rt.alloc();
+    let text = String::from_str(alloc, "{ f(o: {a: 1, b: 3, a: 2}) }")?;
+    let document: Document<'_, &str> = parse_query(alloc, &text)?;
+    let copy = document.clone()?;
+    let field = first_field(&document).ok_or("no field")?;
+    let value = first_value(alloc, field).ok_or("no value")?;
+    assert!(rt; document == copy);
+    assert_eq!(rt;
+        document.to_string(alloc)?.as_str(),
+        "{\n  f(o: {a: 2, b: 3})\n}\n"
+    );
+    drop(document);
+    drop(copy);
+    drop(text);
+    assert_eq!(rt; value.to_string(alloc)?.as_str(), "{a: 2, b: 3}");
+    let owned = parse_query::<String>(alloc, "{ f(o: {b: 3, a: 2}) }")?;
+    let field = first_field(&owned).ok_or("no field")?;
+    let (_, read) = field.arguments.first().ok_or("no argument")?;
+    assert!(rt; value == *read);
     Ok(())
 }
