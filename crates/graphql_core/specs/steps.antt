@@ -1,3 +1,4 @@
+pub mod Endings
 pub mod Marks
 pub mod Matching
 pub mod Stops

@@ -4,6 +4,7 @@ use Rattle.std.proofs.Common.{refl, ap, ◌∙◌, subst, inl, inr, arith, add-z
 use Rattle.std.proofs.lemmas.Bool.{cases_Bool}
 use Rattle.std.proofs.lemmas.List.Sums.{prefix_len-le-length, prefix_len_passes}
 use Rattle.std.proofs.lemmas.Str.{IsCharBoundary-start, IsCharBoundary-after_ascii}
+use Rattle.std.specs.Prelude.{IfSome}
 use Rattle.std.specs.Str.{IsCharBoundary}
 use Rattle.std.specs.Char.{is_ascii_digit}
 use Rattle.std.specs.List.{prefix_len}
@@ -55,6 +56,10 @@ spaces_boundary bytes (suc n) utf8 e =
     let last : get_or bytes n 0 ≡ 32 = eqb-true _ _ (prefix_len_passes is_space bytes n 0 (omega arith)) in
     let more : n + 1 ≡ suc n = omega arith in
     subst (IsCharBoundary bytes) more (IsCharBoundary-after_ascii bytes n utf8 (omega (arith, prefix_len-le-length is_space bytes)) (omega arith))
+
+pub near_boundary : (bytes : List ℕ) (x : Option ℕ) → IsUtf8 bytes → IfSome x (λ n. n ≡ prefix_len is_space bytes) → IfSome x (λ n. IsCharBoundary bytes n)
+near_boundary bytes None utf8 e = tt
+near_boundary bytes (Some n) utf8 e = spaces_boundary bytes n utf8 e
 
 -- ---- the quick test
 

@@ -3,6 +3,7 @@ use Rattle.std.proofs.Common.{◌≡◌, ℕ, ◌+◌, ◌<◌, true, false, ◌
 use Rattle.std.proofs.Common.{refl, sym, ap, ◌∙◌, inl, inr, arith, eqb-true}
 use Rattle.std.proofs.lemmas.Bool.{cases_Bool}
 use Rattle.std.proofs.lemmas.Bool.Decides.{nat_tests}
+use Rattle.std.specs.Prelude.{IfSome}
 use Rattle.std.specs.Str.{IsCharBoundary}
 use Rattle.std.specs.List.{prefix_len}
 use Rattle.graphql_lexer.specs.declared.tokenizer.token.Kind.{Kind}
@@ -56,6 +57,10 @@ fits_parts bytes (Takes n k t) h = h
 
 pub taken_fits : (bytes : List ℕ) (x : Option (ℕ × Kind × Nesting)) → x ≡ taken (front bytes) → IsUtf8 bytes → FitsTaken bytes x
 taken_fits bytes x e utf8 = rw e (fits_parts bytes (front bytes) (front_fits bytes (front bytes) refl utf8))
+
+pub near_fits : (bytes : List ℕ) (x : Option (ℕ × Kind × Nesting)) → IfSome x (λ t. Some t ≡ taken (front bytes)) → IsUtf8 bytes → FitsTaken bytes x
+near_fits bytes None e utf8 = tt
+near_fits bytes (Some t) e utf8 = taken_fits bytes (Some t) e utf8
 
 back : Option (ℕ × Kind × Nesting) → Piece
 back None = Stops

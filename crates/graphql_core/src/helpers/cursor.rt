@@ -4,23 +4,37 @@ ghost use Rattle.graphql_lexer.specs.Items.{HasItems, Item};
 ghost use Rattle.graphql_core.specs.Causes.{no_token, cause_text};
 ghost use Rattle.graphql_lexer.specs.BadTexts.{bad_text};
 ghost use Rattle.graphql_core.specs.steps.Marks.{first_byte, front_byte};
+ghost use Rattle.graphql_core.specs.steps.Endings.{shown};
 ghost use Rattle.graphql_lexer.specs.declared.position.Pos.{Pos};
-ghost use Rattle.graphql_core.specs.Source.{Items, Wrong, IsFaultOf, held, split, then_items, token_of, only_last, place_of};
+ghost use Rattle.graphql_core.specs.Source.{Items, Wrong, IsFaultOf, after, held, split, then_items, token_of, only_last, place_of};
 
 use crate::common::{BadToken, Cause, Fault, Names, Text};
 use crate::helpers::mark::Mark;
 use crate::helpers::source::{Lexeme, TokenSource};
 use graphql_lexer::position::Pos;
-use graphql_lexer::tokenizer::{Bad, Token, TokenStream, is_name_start};
+use graphql_lexer::tokenizer::{Bad, Kind, Token, TokenStream, is_name_start};
 use std::alloc::{AllocError, Global};
 use std::marker::{Model, PhantomData};
+
+/// Whether the next item is a token, and else what it is.
+#[derive(Clone, Copy)]
+pub enum Ending<'a> {
+    /// It is a token.
+    Open,
+    /// It is the end.
+    End,
+    /// It is a bad place.
+    Wrong(Bad<'a>),
+}
 
 /// A token stream, and its next item.
 #[derive(Drop)]
 pub struct Cursor<'a, T: Text<'a>> {
     stream: TokenStream<'a>,
     position: Pos,
-    next: Result<Option<Token<'a>>, Bad<'a>>,
+    // The next token, and an empty one where there is none.
+    token: Token<'a>,
+    ending: Ending<'a>,
     // The first byte of the next token, 0 where there is none.
     front: u8,
     names: PhantomData<T>,
@@ -29,14 +43,15 @@ pub struct Cursor<'a, T: Text<'a>> {
 impl<'a, T: Text<'a>> Model for Cursor<'a, T> {
     ghost use Rattle.std.specs.Prelude.{All, ◌≡◌};
     ghost use Rattle.graphql_core.specs.steps.Marks.{front_byte};
-    ghost use Rattle.graphql_core.specs.Source.{Items, IsLexeme, split, held};
+    ghost use Rattle.graphql_core.specs.steps.Endings.{shown};
+    ghost use Rattle.graphql_core.specs.Source.{Items, IsLexeme, split};
 
     ghost Value = { Items };
 
-    ghost view = { λ c. held c.position c.next (split c.stream.items) };
+    ghost view = { λ c. shown c.position c.token c.ending (split c.stream.items) };
 
-    ghost invariant = { λ c. All IsLexeme (held c.position c.next (split c.stream.items)).tokens
-        × (c.front ≡ front_byte (held c.position c.next (split c.stream.items)).tokens) };
+    ghost invariant = { λ c. All IsLexeme (shown c.position c.token c.ending (split c.stream.items)).tokens
+        × (c.front ≡ front_byte (shown c.position c.token c.ending (split c.stream.items)).tokens) };
 }
 
 /// The first byte of a text, 0 where there is none.
@@ -50,13 +65,20 @@ fn first_byte(text: &str) -> u8
     }
 }
 
-/// The first byte of the next token, 0 where there is none.
-fn front_of(next: &Result<Option<Token<'_>>, Bad<'_>>) -> u8
-    ensures { (place : Pos) (after : Items) → result ≡ front_byte (held place next.now after).tokens }
+/// What a cursor keeps of an answer of its stream.
+#[inline(always)]
+fn kept_of<'a>(answer: Result<Option<Token<'a>>, Bad<'a>>) -> (Token<'a>, Ending<'a>)
+    ensures items { (place : Pos) (after : Items) → shown place result.0 result.1 after ≡ held place answer.entry after }
+    ensures front { (place : Pos) (after : Items) → first_byte result.0.value.now ≡ front_byte (held place answer.entry after).tokens }
 {
-    match next {
-        Ok(Some(token)) => first_byte(token.value),
-        Ok(None) | Err(_) => 0,
+    let none = Token {
+        kind: Kind::Punctuator,
+        value: "",
+    };
+    match answer {
+        Ok(Some(token)) => (token, Ending::Open),
+        Ok(None) => (none, Ending::End),
+        Err(bad) => (none, Ending::Wrong(bad)),
     }
 }
 
@@ -69,13 +91,30 @@ impl<'a, T: Text<'a>> Cursor<'a, T> {
         let mut stream = TokenStream::new(source);
         let position = stream.position();
         let next = stream.next_token();
-        let front = front_of(&next);
+        let (token, ending) = kept_of(next);
         Cursor {
             stream,
             position,
-            next,
-            front,
+            token,
+            ending,
+            front: first_byte(token.value),
             names: PhantomData,
+        }
+    }
+
+    /// Goes past a token, whatever comes next. The end and a bad place stay.
+    #[inline(never)]
+    fn advance_far(&mut self)
+        ensures { self.new ≡ after self.old }
+    {
+        if let Ending::Open = self.ending {
+            let position = self.stream.position();
+            let next = self.stream.next_token();
+            let (token, ending) = kept_of(next);
+            self.position = position;
+            self.token = token;
+            self.ending = ending;
+            self.front = first_byte(token.value);
         }
     }
 }
@@ -133,10 +172,10 @@ impl<'a, T: Text<'a>> TokenSource for Cursor<'a, T> {
 
     #[inline(always)]
     fn peek(&self) -> Option<Lexeme<&'a str>> {
-        match self.next {
-            Ok(Some(token)) => Some(Lexeme {
-                kind: token.kind,
-                text: token.value,
+        match self.ending {
+            Ending::Open => Some(Lexeme {
+                kind: self.token.kind,
+                text: self.token.value,
                 position: self.position,
             }),
             _ => None,
@@ -160,26 +199,19 @@ impl<'a, T: Text<'a>> TokenSource for Cursor<'a, T> {
 
     #[inline(always)]
     fn is_at_end(&self) -> bool {
-        matches!(self.next, Ok(None))
+        matches!(self.ending, Ending::End)
     }
 
     #[inline(never)]
     fn advance(&mut self) {
-        if let Ok(Some(_)) = self.next {
+        if let Ending::Open = self.ending {
             self.position = self.stream.position();
-            match self.stream.next_token() {
-                Ok(Some(token)) => {
+            match self.stream.near_token() {
+                Some(token) => {
+                    self.token = token;
                     self.front = first_byte(token.value);
-                    self.next = Ok(Some(token));
                 }
-                Ok(None) => {
-                    self.front = 0;
-                    self.next = Ok(None);
-                }
-                Err(bad) => {
-                    self.front = 0;
-                    self.next = Err(bad);
-                }
+                None => self.advance_far(),
             }
         }
     }
@@ -187,10 +219,10 @@ impl<'a, T: Text<'a>> TokenSource for Cursor<'a, T> {
     #[cold]
     #[inline(never)]
     fn fault(&self, alloc: Global) -> Fault {
-        match self.next {
-            Ok(Some(token)) => unexpected(alloc, token, self.position),
-            Ok(None) => Fault::At(Cause::UnexpectedEnd, self.position),
-            Err(bad) => bad_place(alloc, bad, self.position),
+        match self.ending {
+            Ending::Open => unexpected(alloc, self.token, self.position),
+            Ending::End => Fault::At(Cause::UnexpectedEnd, self.position),
+            Ending::Wrong(bad) => bad_place(alloc, bad, self.position),
         }
     }
 

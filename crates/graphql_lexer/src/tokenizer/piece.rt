@@ -1,5 +1,5 @@
 //! What stands at the front of a text.
-ghost use Rattle.std.specs.Prelude.{◌≡◌, ◌<◌, ◌≤◌, ◌^◌, length, slice_index};
+ghost use Rattle.std.specs.Prelude.{◌≡◌, ◌<◌, ◌≤◌, ◌^◌, length, slice_index, IfSome, Some};
 ghost use Rattle.std.specs.List.{prefix_len};
 ghost use Rattle.std.specs.Str.{IsCharBoundary};
 ghost use Rattle.graphql_lexer.specs.steps.Front as spec;
@@ -137,19 +137,31 @@ fn long_name_len(bytes: &[u8]) -> usize
     bytes.len() - rest.len() + short_name_len(rest)
 }
 
+/// How many bytes a name goes on, where one load shows its end.
+#[inline(always)]
+fn near_name_len(bytes: &[u8]) -> Option<usize>
+    ensures len { IfSome result (λ n. n ≡ prefix_len lexical.is_name_continue bytes.now) }
+    ensures within { IfSome result (λ n. n ≤ length bytes.now) }
+{
+    if bytes.len() >= LANES {
+        let run = name_lanes(bytes);
+        if run < LANES {
+            return Some(run);
+        }
+    }
+    None
+}
+
 /// How many bytes a name goes on.
 #[inline(always)]
 fn name_len(bytes: &[u8]) -> usize
     ensures len { result ≡ prefix_len lexical.is_name_continue bytes.now }
     ensures within { result ≤ length bytes.now }
 {
-    if bytes.len() >= LANES {
-        let run = name_lanes(bytes);
-        if run < LANES {
-            return run;
-        }
+    match near_name_len(bytes) {
+        Some(len) => len,
+        None => long_name_len(bytes),
     }
-    long_name_len(bytes)
 }
 
 /// How many spaces stand at the front, one byte after another.
@@ -178,19 +190,31 @@ fn long_spaces_len(bytes: &[u8]) -> usize
     bytes.len() - rest.len() + short_spaces_len(rest)
 }
 
+/// How many spaces stand at the front, where one load shows their end.
+#[inline(always)]
+fn near_spaces_len(bytes: &[u8]) -> Option<usize>
+    ensures len { IfSome result (λ n. n ≡ prefix_len is_space bytes.now) }
+    ensures within { IfSome result (λ n. n ≤ length bytes.now) }
+{
+    if bytes.len() >= LANES {
+        let run = space_lanes(bytes);
+        if run < LANES {
+            return Some(run);
+        }
+    }
+    None
+}
+
 /// How many spaces stand at the front.
 #[inline(always)]
 pub fn spaces_len(bytes: &[u8]) -> usize
     ensures len { result ≡ prefix_len is_space bytes.now }
     ensures within { result ≤ length bytes.now }
 {
-    if bytes.len() >= LANES {
-        let run = space_lanes(bytes);
-        if run < LANES {
-            return run;
-        }
+    match near_spaces_len(bytes) {
+        Some(len) => len,
+        None => long_spaces_len(bytes),
     }
-    long_spaces_len(bytes)
 }
 
 /// How many bytes a comment goes on in its line.
@@ -307,24 +331,51 @@ fn piece_of(bytes: &[u8]) -> Piece
     }
 }
 
+/// The token at the front of these bytes, where one look shows it: a short name, or a punctuator of one character.
+#[inline(always)]
+fn near_token_bytes(bytes: &[u8]) -> Option<(usize, Kind, Nesting)>
+    requires { length bytes.now < 2 ^ 62 }
+    ensures { IfSome result (λ t. Some t ≡ taken (spec.front bytes.now)) }
+{
+    let Some((byte, rest)) = bytes.split_first() else {
+        return None;
+    };
+    if is_name_start(*byte) {
+        let Some(len) = near_name_len(rest) else {
+            return None;
+        };
+        return Some((len + 1, Kind::Name, Nesting::Level));
+    }
+    if is_mark(*byte) {
+        return Some((1, Kind::Punctuator, nesting_of(*byte)));
+    }
+    None
+}
+
 /// The token at the front of these bytes: its length, its kind, and how it changes the number of open brackets.
 #[inline(always)]
 fn token_bytes(bytes: &[u8]) -> Option<(usize, Kind, Nesting)>
     requires { length bytes.now < 2 ^ 62 }
     ensures { result ≡ taken (spec.front bytes.now) }
 {
-    if let Some((byte, rest)) = bytes.split_first() {
-        if is_name_start(*byte) {
-            return Some((name_len(rest) + 1, Kind::Name, Nesting::Level));
-        }
-        if is_mark(*byte) {
-            return Some((1, Kind::Punctuator, nesting_of(*byte)));
-        }
+    if let Some(token) = near_token_bytes(bytes) {
+        return Some(token);
     }
     match piece_of(bytes) {
         Piece::Takes(len, kind, nesting) => Some((len, kind, nesting)),
         _ => None,
     }
+}
+
+/// The token at the front of a text, where one look shows it.
+#[inline(always)]
+#[tactic(auto, using(crate::proofs::Tokens::near_fits))]
+pub fn near_token_at(text: &str) -> Option<(usize, Kind, Nesting)>
+    requires { length text.now < 2 ^ 62 }
+    ensures is { IfSome result (λ t. Some t ≡ taken (spec.front text.now)) }
+    ensures fits { FitsTaken text.now result }
+{
+    near_token_bytes(text.as_bytes())
 }
 
 /// The token at the front of a text.
@@ -406,6 +457,17 @@ pub fn ignored_of(text: &str) -> Option<(usize, Move)>
     ensures fits { FitsIgnored text.now result }
 {
     ignored_bytes(text.as_bytes())
+}
+
+/// How many spaces stand at the front of a text, where one load shows their end.
+#[inline(always)]
+#[tactic(auto, using(crate::proofs::Spaces::near_boundary))]
+pub fn near_spaces_of(text: &str) -> Option<usize>
+    ensures len { IfSome result (λ n. n ≡ prefix_len is_space text.now) }
+    ensures within { IfSome result (λ n. n ≤ length text.now) }
+    ensures cuts { IfSome result (λ n. IsCharBoundary text.now n) }
+{
+    near_spaces_len(text.as_bytes())
 }
 
 /// How many spaces stand at the front of a text.

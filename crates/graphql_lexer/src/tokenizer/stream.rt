@@ -1,5 +1,5 @@
 //! A text as a stream of tokens.
-ghost use Rattle.std.specs.Prelude.{◌≡◌, ℕ, List, ◌+◌, ◌-◌, ◌*◌, ◌/◌, ◌<◌, ◌≤◌, ◌^◌, length, slice_index};
+ghost use Rattle.std.specs.Prelude.{◌≡◌, ℕ, List, ◌+◌, ◌-◌, ◌*◌, ◌/◌, ◌<◌, ◌≤◌, ◌^◌, length, slice_index, IfSome, Ok, Some, None, true};
 ghost use Rattle.graphql_lexer.specs.Lexical.{steps_over};
 ghost use Rattle.graphql_lexer.specs.Items.{Where, Item, moved, past, past_character, HasItems, depth_of, openers_after, closers_after, is_too_deep};
 ghost use Rattle.graphql_lexer.specs.Stream.{NextItem, further, next_place, one_more};
@@ -10,7 +10,8 @@ ghost use Rattle.graphql_lexer.specs.declared.tokenizer.piece.Move.TheVariants.{
 
 use crate::position::Pos;
 use crate::tokenizer::piece::{
-    Move, Nesting, byte_at, ignored_of, is_plain, is_rare, spaces_of, token_at,
+    Move, Nesting, byte_at, ignored_of, is_plain, is_rare, near_spaces_of, near_token_at,
+    spaces_of, token_at,
 };
 use crate::tokenizer::stop::bad_at;
 use crate::tokenizer::token::{Bad, Kind, Token};
@@ -168,6 +169,34 @@ fn front_byte(text: &str) -> u8
     byte_at(text.as_bytes(), 0)
 }
 
+/// Past plain ignored text at the front; and whether an item follows, which is not told where other ignored text or a
+/// long run of spaces does.
+#[inline(always)]
+fn skip_plain(text: &str, at: Pos) -> (&str, Pos, bool)
+    requires small { length text.now < 2 ^ 62 }
+    requires line { at.line + length text.now < 2 ^ 62 }
+    requires column { at.column + 8 * length text.now < 2 ^ 63 }
+    ensures items { (w : Where) → w.position ≡ at
+        → items (further result.1 (length text.now - length result.0.now) w) result.0.now ≡ items w text.now }
+    ensures first { result.2 ≡ true → IsItem (front result.0.now) }
+    ensures within { length result.0.now ≤ length text.now }
+    ensures line { result.1.line + length result.0.now ≤ at.line + length text.now }
+    ensures column { result.1.column + 8 * length result.0.now ≤ at.column + 8 * length text.now }
+{
+    let mut rest = text;
+    let mut place = at;
+    'plain: while is_plain(front_byte(rest)) {
+        place = past_plain(front_byte(rest), place);
+        let after = rest.split_at(1).1;
+        let Some(spaces) = near_spaces_of(after) else {
+            return (after, place, false);
+        };
+        place = over(spaces, place);
+        rest = after.split_at(spaces).1;
+    }
+    (rest, place, !is_rare(front_byte(rest)))
+}
+
 /// Past the ignored text at the front.
 #[inline(always)]
 fn skip_ignored(text: &str, at: Pos) -> (&str, Pos)
@@ -181,19 +210,12 @@ fn skip_ignored(text: &str, at: Pos) -> (&str, Pos)
     ensures line { result.1.line + length result.0.now ≤ at.line + length text.now }
     ensures column { result.1.column + 8 * length result.0.now ≤ at.column + 8 * length text.now }
 {
-    let mut rest = text;
-    let mut place = at;
-    'plain: while is_plain(front_byte(rest)) {
-        place = past_plain(front_byte(rest), place);
-        let after = rest.split_at(1).1;
-        let spaces = spaces_of(after);
-        place = over(spaces, place);
-        rest = after.split_at(spaces).1;
+    let (rest, place, is_item) = skip_plain(text, at);
+    if is_item {
+        (rest, place)
+    } else {
+        skip_rare(rest, place)
     }
-    if is_rare(front_byte(rest)) {
-        return skip_rare(rest, place);
-    }
-    (rest, place)
 }
 
 /// Whether a token would open a bracket after 50 that are open.
@@ -230,6 +252,14 @@ fn closers_after(nesting: Nesting, closers: usize) -> usize
         Nesting::Closes => closers + 1,
         Nesting::Level | Nesting::Opens => closers,
     }
+}
+
+/// The count of calls after another, which stops at the largest number.
+#[inline(always)]
+fn one_more(cuts: usize) -> usize
+    ensures { result ≡ one_more cuts }
+{
+    cuts.saturating_add(1)
 }
 
 /// The tokens of a text, one after another, and then its end or its first bad place.
@@ -290,7 +320,7 @@ impl<'a> TokenStream<'a> {
         ensures item { NextItem self.old.items result self.new.items }
         ensures cuts { self.new.cuts ≡ one_more self.old.cuts }
     {
-        self.cuts = self.cuts.saturating_add(1);
+        self.cuts = one_more(self.cuts);
         let Some((len, kind, nesting)) = token_at(self.rest) else {
             if self.rest.is_empty() {
                 return Ok(None);
@@ -309,6 +339,40 @@ impl<'a> TokenStream<'a> {
         self.openers = openers_after(nesting, self.openers);
         self.closers = closers_after(nesting, self.closers);
         Ok(Some(Token { kind, value }))
+    }
+
+    /// The next token, where one look shows it and what follows it: it is a short name or a punctuator of one character,
+    /// and no tab, return, comment or long run of spaces comes after it.
+    ///
+    /// `None` says nothing of the next item. The stream then stays, and `next_token` answers.
+    #[inline(always)]
+    pub fn near_token(&mut self) -> Option<Token<'a>>
+        ensures item { IfSome result (λ t. NextItem self.old.items (Ok (Some t)) self.new.items) }
+        ensures cuts { IfSome result (λ t. self.new.cuts ≡ one_more self.old.cuts) }
+        ensures stays { result ≡ None → self.new ≡ self.old }
+    {
+        let Some((len, kind, nesting)) = near_token_at(self.rest) else {
+            return None;
+        };
+        if is_too_deep(nesting, self.openers, self.closers) {
+            return None;
+        }
+        let (value, after) = self.rest.split_at(len);
+        let end = past(kind, value, self.position);
+        let (rest, position, is_item) = skip_plain(after, end);
+        if !is_item {
+            return None;
+        }
+        self.cuts = one_more(self.cuts);
+        self.offset += self.rest.len() - rest.len();
+        self.rest = rest;
+        self.position = position;
+        match nesting {
+            Nesting::Opens => self.openers += 1,
+            Nesting::Closes => self.closers += 1,
+            Nesting::Level => {}
+        }
+        Some(Token { kind, value })
     }
 
     /// The position of the next item, after ignored text.

@@ -1,8 +1,8 @@
-use Rattle.graphql_core.proofs.CursorItems.{fault_of_token}
+use Rattle.graphql_core.specs.Source.{split}
 use Rattle.graphql_core.proofs.helpers.cursor.CursorTokenSource.fault.Goals as goal
 
-pub returns-in-Ok-Some : goal.returns-in-Ok-Some
-returns-in-Ok-Some g c = fault_of_token _ _ _ _ _ _ _ c.self.view_is c.in-Ok-Some.is (rw c.in-Ok-Some.is at c.in-Ok-Some.field-0-is) c.unexpected.ensures
+pub returns-in-Open : goal.returns-in-Open
+returns-in-Open g c = rw (← c.self.view_is, c.in-Open.is) (c.unexpected.ensures (split c.self.inside.stream.items))
 
-pub returns-in-Err : goal.returns-in-Err
-returns-in-Err g c = rw (← c.self.view_is, c.in-Err.is) c.bad_place.ensures
+pub returns-in-Wrong : goal.returns-in-Wrong
+returns-in-Wrong g c = rw (← c.self.view_is, c.in-Wrong.is) c.bad_place.ensures

@@ -1,5 +1,6 @@
-use Rattle.graphql_core.proofs.CursorItems.{shown_lexeme}
+use Rattle.std.proofs.lemmas.List.Elements.{All-head}
+use Rattle.graphql_core.specs.Source.{IsLexeme}
 use Rattle.graphql_core.proofs.helpers.cursor.CursorTokenSource.peek.Goals as goal
 
-pub returns-in-Ok-Some-clause-lexeme : goal.returns-in-Ok-Some-clause-lexeme
-returns-in-Ok-Some-clause-lexeme g c = shown_lexeme _ _ _ _ _ c.self.invariant.0 c.in-Ok-Some.is (rw c.in-Ok-Some.is at c.in-Ok-Some.field-0-is)
+pub returns-in-Open-clause-lexeme : goal.returns-in-Open-clause-lexeme
+returns-in-Open-clause-lexeme g c = All-head IsLexeme _ _ (rw c.in-Open.is at c.self.invariant.0)

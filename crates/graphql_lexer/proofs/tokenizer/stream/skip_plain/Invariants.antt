@@ -4,7 +4,7 @@ use denote.Shadow.{shadow}
 use Rattle.graphql_lexer.specs.Items.{Where}
 use Rattle.graphql_lexer.specs.steps.Cut.{items}
 use Rattle.graphql_lexer.specs.Stream.{further}
-use Rattle.graphql_lexer.proofs.tokenizer.stream.skip_ignored.Given as goal
+use Rattle.graphql_lexer.proofs.tokenizer.stream.skip_plain.Given as goal
 
 abbrev pub invariant-plain : goal.invariant-plain
 invariant-plain l = record {

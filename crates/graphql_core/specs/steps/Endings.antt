@@ -1,0 +1,14 @@
+-- What a cursor keeps of the next item.
+use Rattle.graphql_lexer.specs.declared.position.Pos.{Pos}
+use Rattle.graphql_lexer.specs.declared.tokenizer.token.Token.{Token}
+use Rattle.graphql_lexer.specs.BadTexts.{bad_text}
+use Rattle.graphql_core.specs.declared.helpers.cursor.Ending.{Ending}
+use Rattle.graphql_core.specs.declared.helpers.cursor.Ending.TheVariants as ending
+use Rattle.graphql_core.specs.Causes.{no_token}
+use Rattle.graphql_core.specs.Source.{Items, End, Wrong, then_items, token_of, only_last, place_of}
+
+-- what a source has where this token or this ending is next, and these items stand after it
+abbrev pub shown : Pos → Token → Ending → Items → Items
+shown p t ending.Open following = then_items (token_of p t.kind t.value.now) following
+shown p t ending.End following = only_last (End (place_of p))
+shown p t (ending.Wrong b) following = only_last (Wrong (place_of p) (no_token (bad_text b)))
