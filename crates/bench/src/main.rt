@@ -1,10 +1,10 @@
-//! `bench`: how long the library takes to cut, parse and lay out a document in memory.
+//! `bench`: how long the library takes to cut, parse, lay out and minify a document in memory.
 #![tactic(auto)]
 
 mod work;
 
 use crate::work::{Document, Work, run};
-use graphql_parser::{query, schema};
+use graphql_parser::{minify_query, query, schema};
 use std::process::ExitCode;
 use std::time::{Duration, Instant};
 use std::{env, fs, io};
@@ -91,6 +91,23 @@ fn least_parts<'a, D: Document<'a>>(
     Ok((parsing, dropping))
 }
 
+/// The least time to minify the text, which drops the copy that it is handed; none where the text has a bad place.
+fn least_minifying(rt: &HostRuntime, rounds: u32, source: &str) -> io::Result<Option<Duration>> {
+    let mut least = None;
+    'rounds: for _ in 0..rounds {
+        let Ok(copy) = String::from_str(rt.alloc(), source) else {
+            return Ok(None);
+        };
+        let start = Instant::now(rt)?;
+        let minified = minify_query(rt.alloc(), copy);
+        least = lesser(least, start.elapsed(rt)?);
+        if minified.is_err() {
+            return Ok(None);
+        }
+    }
+    Ok(least)
+}
+
 /// Prints a least time in microseconds.
 fn print_time(rt: &HostRuntime, name: &str, least: Option<Duration>) -> io::Result<()> {
     match least {
@@ -125,6 +142,7 @@ fn measure_all<'a, B: Document<'a>, O: Document<'a>>(
     let (parsing, dropping) = least_parts::<B>(rt, rounds, source)?;
     print_time(rt, "parse alone (&str)", parsing)?;
     print_time(rt, "drop (&str)", dropping)?;
+    print_time(rt, "minify", least_minifying(rt, rounds, source)?)?;
     Ok(true)
 }
 
