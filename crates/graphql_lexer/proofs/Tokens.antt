@@ -10,10 +10,11 @@ use Rattle.graphql_lexer.specs.declared.tokenizer.token.Kind.{Kind}
 use Rattle.graphql_lexer.specs.declared.tokenizer.token.Kind.TheVariants.{Punctuator, Name}
 use Rattle.graphql_lexer.specs.declared.tokenizer.piece.Move.TheVariants.{Over, Down}
 use Rattle.graphql_lexer.specs.declared.tokenizer.piece.Nesting.{Nesting}
-use Rattle.graphql_lexer.specs.declared.tokenizer.piece.Nesting.TheVariants.{Level}
+use Rattle.graphql_lexer.specs.declared.tokenizer.piece.Nesting.TheVariants.{Level, Opens, Closes}
 use Rattle.graphql_lexer.specs.declared.tokenizer.piece.Piece.{Piece}
 use Rattle.graphql_lexer.specs.declared.tokenizer.piece.Piece.TheVariants.{AtEnd, Skips, Takes, Stops}
 use Rattle.graphql_lexer.specs.Lexical.{is_name_start, is_name_continue, is_mark, nesting_of}
+use Rattle.graphql_lexer.specs.Items.{Where, is_too_deep}
 use Rattle.graphql_lexer.specs.steps.Front.{front, token_of, FitsIn, IsItem}
 use Rattle.graphql_lexer.specs.steps.Ahead.{taken, FitsTaken, is_plain, plain_move, is_rare}
 use Rattle.graphql_lexer.proofs.Runs.{differs}
@@ -87,6 +88,12 @@ stops_by bytes (Takes n k t) h e item some = absurd cc
 
 pub stops_front : (bytes : List ℕ) → taken (front bytes) ≡ None → IsItem (front bytes) → 0 < length bytes → front bytes ≡ Stops
 stops_front bytes e item some = stops_by bytes (front bytes) (front_within bytes) e item some
+
+-- what opens no bracket is not too deep
+pub not_too_deep : (n : Nesting) (w : Where) → (n ≡ Opens → ⊥) → is_too_deep n w ≡ false
+not_too_deep Level w other = refl
+not_too_deep Opens w other = absurd (other refl)
+not_too_deep Closes w other = refl
 
 -- ---- plain ignored text
 

@@ -1,7 +1,7 @@
 //! A text as a stream of tokens.
 ghost use Rattle.std.specs.Prelude.{◌≡◌, ℕ, List, ◌+◌, ◌-◌, ◌*◌, ◌/◌, ◌<◌, ◌≤◌, ◌^◌, length, slice_index, IfSome, Ok, Some, None, true};
 ghost use Rattle.graphql_lexer.specs.Lexical.{steps_over};
-ghost use Rattle.graphql_lexer.specs.Items.{Where, Item, moved, past, past_character, HasItems, depth_of, openers_after, closers_after, is_too_deep};
+ghost use Rattle.graphql_lexer.specs.Items.{Where, Item, moved, past, past_character, HasItems, depth_of, openers_after, closers_after, is_full, is_too_deep};
 ghost use Rattle.graphql_lexer.specs.Stream.{NextItem, further, next_place, one_more};
 ghost use Rattle.graphql_lexer.specs.steps.Front.{front, IsItem, IsFlat, is_quoted};
 ghost use Rattle.graphql_lexer.specs.steps.Cut.{items};
@@ -218,6 +218,15 @@ fn skip_ignored(text: &str, at: Pos) -> (&str, Pos)
     }
 }
 
+/// Whether so many brackets are open that no other may be.
+#[inline(always)]
+fn is_full(openers: usize, closers: usize) -> bool
+    requires { closers < 2 ^ 62 }
+    ensures { (w : Where) → w.openers ≡ openers → w.closers ≡ closers → result ≡ is_full w }
+{
+    openers == closers + MAX_DEPTH
+}
+
 /// Whether a token would open a bracket after 50 that are open.
 #[inline(always)]
 fn is_too_deep(nesting: Nesting, openers: usize, closers: usize) -> bool
@@ -225,7 +234,7 @@ fn is_too_deep(nesting: Nesting, openers: usize, closers: usize) -> bool
     ensures { (w : Where) → w.openers ≡ openers → w.closers ≡ closers → result ≡ is_too_deep nesting w }
 {
     match nesting {
-        Nesting::Opens => openers == closers + MAX_DEPTH,
+        Nesting::Opens => is_full(openers, closers),
         Nesting::Level | Nesting::Closes => false,
     }
 }
@@ -267,14 +276,15 @@ fn one_more(cuts: usize) -> usize
 pub struct TokenStream<'a> {
     rest: &'a str,
     position: Pos,
-    offset: usize,
+    // The bytes of the whole text.
+    size: usize,
     openers: usize,
     closers: usize,
     cuts: usize,
 }
 
 impl<'a> Model for TokenStream<'a> {
-    ghost use Rattle.std.specs.Prelude.{ℕ, ◌+◌, ◌*◌, ◌<◌, ◌≤◌, ◌^◌, length};
+    ghost use Rattle.std.specs.Prelude.{ℕ, ◌+◌, ◌-◌, ◌*◌, ◌<◌, ◌≤◌, ◌^◌, length};
     ghost use Rattle.graphql_lexer.specs.steps.Front.{front, IsItem};
     ghost use Rattle.graphql_lexer.specs.steps.Cut.{items};
     ghost use Rattle.graphql_lexer.specs.Items.{Stream};
@@ -282,12 +292,13 @@ impl<'a> Model for TokenStream<'a> {
     ghost Value = { Stream };
 
     ghost view = { λ s. record {
-      items = items (record { position = s.position; offset = s.offset; openers = s.openers; closers = s.closers }) s.rest.now;
+      items = items (record { position = s.position; offset = s.size - length s.rest.now; openers = s.openers; closers = s.closers }) s.rest.now;
       cuts = s.cuts;
     } };
 
-    ghost invariant = { λ s. (s.offset + length s.rest.now < 2 ^ 62) × (s.position.line + length s.rest.now < 2 ^ 62)
-        × (s.position.column + 8 * length s.rest.now < 2 ^ 63) × (s.openers ≤ s.offset) × (s.closers ≤ s.offset) × IsItem (front s.rest.now) };
+    ghost invariant = { λ s. (s.size < 2 ^ 62) × (s.position.line + length s.rest.now < 2 ^ 62)
+        × (s.position.column + 8 * length s.rest.now < 2 ^ 63) × (s.openers + length s.rest.now ≤ s.size)
+        × (s.closers + length s.rest.now ≤ s.size) × IsItem (front s.rest.now) };
 }
 
 impl<'a> TokenStream<'a> {
@@ -305,7 +316,7 @@ impl<'a> TokenStream<'a> {
         TokenStream {
             rest,
             position,
-            offset: source.len() - rest.len(),
+            size: source.len(),
             openers: 0,
             closers: 0,
             cuts: 0,
@@ -333,7 +344,6 @@ impl<'a> TokenStream<'a> {
         let (value, after) = self.rest.split_at(len);
         let end = past(kind, value, self.position);
         let (rest, position) = skip_ignored(after, end);
-        self.offset += self.rest.len() - rest.len();
         self.rest = rest;
         self.position = position;
         self.openers = openers_after(nesting, self.openers);
@@ -354,8 +364,10 @@ impl<'a> TokenStream<'a> {
         let Some((len, kind, nesting)) = near_token_at(self.rest) else {
             return None;
         };
-        if is_too_deep(nesting, self.openers, self.closers) {
-            return None;
+        if let Nesting::Opens = nesting {
+            if is_full(self.openers, self.closers) {
+                return None;
+            }
         }
         let (value, after) = self.rest.split_at(len);
         let end = past(kind, value, self.position);
@@ -364,7 +376,6 @@ impl<'a> TokenStream<'a> {
             return None;
         }
         self.cuts = one_more(self.cuts);
-        self.offset += self.rest.len() - rest.len();
         self.rest = rest;
         self.position = position;
         match nesting {
@@ -387,7 +398,7 @@ impl<'a> TokenStream<'a> {
     pub fn offset(&self) -> usize
         ensures { result ≡ (next_place self.now.items).offset }
     {
-        self.offset
+        self.size - self.rest.len()
     }
 
     /// The opening brackets before the next item, less the closing ones.

@@ -1,4 +1,4 @@
-use Rattle.std.proofs.Common.{◌≡◌, ℕ, ◌<◌, ◌^◌, arith, sym, ap, ◌∙◌, pos, ◌-ℤ◌, to_z, of_z, w64}
+use Rattle.std.proofs.Common.{◌≡◌, ℕ, ◌<◌, ◌^◌, arith, sym, ap, ◌∙◌, pos, ◌-ℤ◌, to_z, of_z, w64, ◌-◌, length}
 use Rattle.std.proofs.lemmas.Int.{ints}
 use Rattle.graphql_lexer.specs.Items.{Where, depth_of}
 use Rattle.graphql_lexer.proofs.FrontFits.{next_place_items}
@@ -10,5 +10,5 @@ signed a b h k = omega (arith, ints)
 pub returns : goal.returns
 returns c =
     let s = c.self.inside in
-    let w : Where = record { position = s.position; offset = s.offset; openers = s.openers; closers = s.closers } in
+    let w : Where = record { position = s.position; offset = s.size - length s.rest.now; openers = s.openers; closers = s.closers } in
     rw (← c.self.view_is) (signed s.openers s.closers (omega arith) (omega arith) ∙ ap depth_of (sym (next_place_items w s.rest.now c.self.invariant.5)))

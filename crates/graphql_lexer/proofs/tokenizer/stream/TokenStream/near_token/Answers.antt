@@ -4,10 +4,10 @@ use Rattle.graphql_lexer.specs.declared.tokenizer.piece.Piece.TheVariants.{Takes
 use Rattle.graphql_lexer.specs.Items.{Where, Lexeme, item, is_too_deep, openers_after, closers_after, past, past_token}
 use Rattle.graphql_lexer.proofs.Positions.{token_flat}
 use Rattle.graphql_lexer.proofs.FrontFits.{items_at}
-use Rattle.graphql_lexer.proofs.Tokens.{takes_first}
+use Rattle.graphql_lexer.proofs.Tokens.{takes_first, not_too_deep}
 use Rattle.graphql_lexer.specs.steps.Cut.{items}
 use Rattle.graphql_lexer.proofs.tokenizer.stream.TokenStream.near_token.Goals as goal
-use Rattle.graphql_lexer.proofs.tokenizer.stream.TokenStream.near_token.Goals.{in-Opens, in-Closes, in-Level}
+use Rattle.graphql_lexer.proofs.tokenizer.stream.TokenStream.near_token.Goals.{in-Opens+else-is_full, in_default-nesting, in-Opens-nesting, in-Closes, in-Level}
 
 pub past-end-requires-clause-flat : goal.past-end-requires-clause-flat
 past-end-requires-clause-flat c =
@@ -19,27 +19,30 @@ past-end-requires-clause-flat c =
 pub returns-clause-item : goal.returns-clause-item
 returns-clause-item c =
     let s = c.self.inside in
-    let w : Where = record { position = s.position; offset = s.offset; openers = s.openers; closers = s.closers } in
+    let w : Where = record { position = s.position; offset = s.size - length s.rest.now; openers = s.openers; closers = s.closers } in
     let t = c.in-Some in
     let e = items_at w s.rest.now (Takes t.len t.kind t.nesting) (takes_first (front c.self.inside.rest.now) t.len t.kind t.nesting (sym t.ensures.is)) in
-    let deep : is_too_deep t.nesting w ≡ false = sym (c.is_too_deep.ensures w refl refl) ∙ c.if-is_too_deep.false in
+    let deep : is_too_deep t.nesting w ≡ false = elim c.match-nesting.branch [
+      | in-Opens+else-is_full b ↦ rw b.in-Opens.is (sym (b.is_full.ensures w refl refl) ∙ b.if-is_full.false)
+      | in_default-nesting b ↦ not_too_deep t.nesting w b.in_default-nesting.not-Opens
+    ] in
     let value = take t.len s.rest.now in
     let end = sym (c.past-end.ensures.is ∙ ap (λ v. past v s.position) c.split_at.ensures.front) in
     let more = c.skip_plain-is_item.ensures.items (past_token t.nesting value w) end in
     let after = length c.split_at.result.1.now in
     let rest = length c.skip_plain-is_item.result.0.now in
     let len = ap length c.split_at.ensures.front in
-    let offset : s.offset + length value + (after - rest) ≡ s.offset + (length s.rest.now - rest) = omega (arith, c.skip_plain-is_item.ensures.within) in
+    let offset : s.size - length s.rest.now + length value + (after - rest) ≡ s.size - rest = omega (arith, c.skip_plain-is_item.ensures.within) in
     let same : (o k : ℕ) → o ≡ openers_after t.nesting s.openers → k ≡ closers_after t.nesting s.closers
     → (x : Where)
     × (c.args.self.now.items
     ≡ item (Lexeme t.kind c.split_at.result.0.now) x
     ∷ items
-    (record { position = c.skip_plain-is_item.result.1; offset = s.offset + (length s.rest.now - rest); openers = o; closers = k })
+    (record { position = c.skip_plain-is_item.result.1; offset = s.size - rest; openers = o; closers = k })
     c.skip_plain-is_item.result.0.now) = λ o k opened closed.
     rw (← c.self.view_is, c.split_at.ensures.front, opened, closed, ← offset, more, c.split_at.ensures.back) (w, rw deep at e) in
-    elim c.match-nesting.branch [
-      | in-Opens b ↦ rw b.self-is (same (s.openers + 1) s.closers (rw b.in-Opens.is refl) (rw b.in-Opens.is refl))
+    elim c.match-nesting-2.branch [
+      | in-Opens-nesting b ↦ rw b.self-is (same (s.openers + 1) s.closers (rw b.in-Opens-nesting.is refl) (rw b.in-Opens-nesting.is refl))
       | in-Closes b ↦ rw b.self-is (same s.openers (s.closers + 1) (rw b.in-Closes.is refl) (rw b.in-Closes.is refl))
       | in-Level b ↦ rw b.self-is (same s.openers s.closers (rw b.in-Level.is refl) (rw b.in-Level.is refl))
     ]
