@@ -2,9 +2,10 @@
 use crate::documents::{Refusal, read_documents, refuse, show_documents};
 use crate::schemas::use_schemas;
 use crate::tally::Tally;
-use graphql_parser::query::{Document, minify_query};
+use graphql_parser::query::{Document, Value, minify_query};
 use std::alloc::{AllocError, Global};
 use std::borrow::CowStr;
+use std::collections::BTreeMap;
 
 /// Documents, and their layouts in the default style.
 const DOCUMENTS: [(&str, &str); 4] = [
@@ -61,6 +62,24 @@ fn refuse_to_minify(alloc: Global, tally: &mut Tally) {
     }
 }
 
+/// A value with a field, an item and each kind of name, made static.
+fn static_value(alloc: Global) -> Result<Value<'static, String>, AllocError> {
+    let mut fields: BTreeMap<&str, Value<'_, &str>> = BTreeMap::new(alloc);
+    drop(fields.insert("a", Value::Enum("E"))?);
+    let mut items = Vec::new(alloc);
+    items.push(Value::Object(fields))?;
+    items.push(Value::Variable("v"))?;
+    Value::List(items).into_static(alloc)
+}
+
+/// Makes a value static.
+fn make_static(alloc: Global, tally: &mut Tally) {
+    match static_value(alloc) {
+        Ok(value) => tally.add_text(&value.to_string(alloc), "[{a: E}, $v]", true),
+        Err(AllocError) => tally.add(false, true),
+    }
+}
+
 /// Makes each call.
 pub fn make_calls(alloc: Global) -> Tally {
     let mut tally = Tally::default();
@@ -71,6 +90,7 @@ pub fn make_calls(alloc: Global) -> Tally {
     refuse::<Document<'_, &str>>(alloc, &mut tally, &REFUSED);
     minify(alloc, &mut tally);
     refuse_to_minify(alloc, &mut tally);
+    make_static(alloc, &mut tally);
     use_schemas(alloc, &mut tally);
     tally
 }
