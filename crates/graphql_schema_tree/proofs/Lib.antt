@@ -8,3 +8,4 @@ pub mod LocationWords
 pub mod PartsBack
 pub mod WayBack
 pub mod PrintedTexts
+pub mod FewLevels

@@ -1,6 +1,7 @@
 //! The text of schemas.
 mod block;
 mod body;
+mod counted;
 mod definition;
 mod description;
 mod display;
@@ -8,6 +9,7 @@ mod extensions;
 mod field;
 mod names;
 mod types;
+mod width;
 
 ghost use Rattle.std.specs.Prelude.{◌≡◌, ◌↔◌, IfOk, IsErrOf, string_bytes};
 ghost use Rattle.graphql_schema_tree.specs.Language.{IsReadBack};
@@ -15,10 +17,11 @@ ghost use Rattle.graphql_schema_tree.specs.Layout.{layout, IsTooWide};
 ghost use Rattle.graphql_schema_tree.specs.Printable.{IsPrintable};
 ghost use Rattle.graphql_schema_tree.specs.Views.{document_view};
 
+use crate::print::counted::write_document;
+use crate::print::width::is_document_too_wide;
 use crate::tree::Document;
 use graphql_core::common::Names;
 use graphql_core::format::{Buffer, FormatError, Style};
-use graphql_values::print::{Pretty, is_too_wide};
 use std::alloc::Global;
 
 impl<N: Names> Document<N> {
@@ -33,11 +36,11 @@ impl<N: Names> Document<N> {
             → IsReadBack (string_bytes text) (document_view N.bytes self.now)) }
         ensures too_wide { IsErrOf result FormatError.TooWide ↔ IsTooWide style.now (document_view N.bytes self.now) }
     {
-        if is_too_wide(self.levels(style), style) {
+        if is_document_too_wide(self, style) {
             return Err(FormatError::TooWide);
         }
         let mut text = Buffer::new(alloc);
-        self.write(&mut text, style, 0)?;
+        write_document(&mut text, self, style)?;
         Ok(text.into_string())
     }
 }

@@ -15,7 +15,8 @@ use crate::tree::{
     SchemaDefinition, TypeDefinition, UnionType,
 };
 use graphql_core::common::Names;
-use graphql_values::print::fmt_in_default_style;
+use graphql_core::format::Style;
+use graphql_values::print::{Pretty, fmt_in_default_style};
 use std::fmt;
 
 impl<N: Names> fmt::Display for Document<N> {
@@ -26,7 +27,9 @@ impl<N: Names> fmt::Display for Document<N> {
         ensures styled { DisplaysStyledOnOk W.write_str_gives f.old result None f.new }
         ensures narrow { OnOk result (IsNarrow (levels default_style (document_view N.bytes self.now))) }
     {
-        fmt_in_default_style(self, f)
+        // No document is too wide in this style.
+        let style = Style::default();
+        self.write(f, &style, 0)
     }
 }
 

@@ -1,0 +1,21 @@
+use Rattle.std.proofs.Common.{arith, ◌∙◌, ◌++◌, ◌^◌, ℕ, List, ap, codes, sym, map}
+use Rattle.std.specs.List.{flat_map}
+use Rattle.graphql_core.specs.Parts.{text_of}
+use Rattle.graphql_values.proofs.Appending.{and_part}
+use Rattle.graphql_values.proofs.Counting.{item_here}
+use Rattle.graphql_values.proofs.Enclosed.{both_fit}
+use Rattle.graphql_schema_tree.proofs.print.counted.write_each_counted.Goals as goal
+
+pub others-preserved : goal.others-preserved
+others-preserved g c =
+    let l = c.others in
+    let lines = g.P.Pretty.lines c.args.style.now 0 in
+    let here = item_here c.in-Some.others.now l.part-index c.part-item.result (omega arith) c.part-item.is in
+    let (done, wrote, rest) = l.invariant.wrote in
+    record {
+      bound = (both_fit _ _ c.args.style.now.indent (2 ^ 32) (rw here at l.invariant.bound)).1;
+      wrote = and_part g.S.Sink.took g.met.S.Sink.took_more _ _ _ done _ _ _ wrote
+          (g.met.S.Sink.took_more _ _ _ _ _ c.in_ok-push_str.ensures c.in_ok-write_counted-2.ensures.text)
+          (ap (λ r. done ++ r) (sym (ap (λ ps. flat_map (λ (u : List ℕ). codes "\n" ++ u) (map (λ p. text_of (lines p)) ps)) here)) ∙ rest);
+      lawful = λ h. l.invariant.lawful (rw here (c.write_counted-in-others.ensures.lawful, h));
+    }

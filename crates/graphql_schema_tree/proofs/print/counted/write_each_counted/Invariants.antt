@@ -1,0 +1,17 @@
+use Rattle.std.proofs.Common.{◌≡◌, ◌++◌, ◌*◌, ◌<◌, ◌^◌, List, ℕ, codes, drop, map}
+use Rattle.std.specs.List.{AllByRecursion, flat_map}
+use Rattle.graphql_core.specs.Parts.{text_of}
+use Rattle.graphql_values.specs.Printable.{most}
+use Rattle.graphql_values.specs.steps.Joined.{joined}
+use Rattle.graphql_schema_tree.proofs.print.counted.write_each_counted.Given as goal
+
+abbrev pub invariant-others : goal.invariant-others
+invariant-others g l =
+    let left = drop l.part-index l.others in
+    let lines = g.P.Pretty.lines l.style 0 in
+    record {
+      bound : most (g.P.Pretty.opens l.style) left * l.style.indent < 2 ^ 32;
+      wrote : (done : List ℕ) × g.S.Sink.took l.fn.out done l.out
+          × (done ++ flat_map (λ u. codes "\n" ++ u) (map (λ p. text_of (lines p)) left) ≡ joined (codes "\n") (map (λ p. text_of (lines p)) l.parts));
+      lawful : AllByRecursion g.P.Pretty.lawful left → AllByRecursion g.P.Pretty.lawful l.parts;
+    }

@@ -1,0 +1,17 @@
+use Rattle.std.proofs.Common.{arith, refl}
+use Rattle.graphql_core.specs.Style.{default_style}
+use Rattle.graphql_values.proofs.Narrow.{written_alone}
+use Rattle.graphql_schema_tree.specs.Views.{document_view}
+use Rattle.graphql_schema_tree.proofs.FewLevels.{levels_bounded, narrow_by_default}
+use Rattle.graphql_schema_tree.proofs.print.display.DocumentDisplay.fmt.Goals as goal
+
+pub write-requires : goal.write-requires
+write-requires g c =
+    let most = levels_bounded default_style refl (document_view g.N.Names.bytes c.args.self.now) in
+    rw c.default-style.ensures (omega (arith, most))
+
+pub returns-clause-writes : goal.returns-clause-writes
+returns-clause-writes g c = written_alone c.write.result (simp c.default-style.ensures at c.write.ensures)
+
+pub returns-clause-narrow : goal.returns-clause-narrow
+returns-clause-narrow g c = narrow_by_default c.write.result (document_view g.N.Names.bytes c.args.self.now)
