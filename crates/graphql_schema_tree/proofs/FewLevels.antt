@@ -1,5 +1,5 @@
 -- Where arguments stand in one line, a document opens two levels at most: a block, and in it a string in block form.
-use Rattle.std.proofs.Common.{◌≡◌, ◌≤◌, ◌+◌, ◌*◌, ◌^◌, ℕ, max, Bool, true, false, if◌then◌else◌, List, [], ◌∷◌, Option, Some, None, Result, Ok, Err, OnOk}
+use Rattle.std.proofs.Common.{◌≡◌, ◌≤◌, ◌+◌, ℕ, Bool, true, false, if◌then◌else◌, List, [], ◌∷◌, Option, Some, None, Result, Ok, Err, OnOk}
 use Rattle.std.proofs.Common.{arith, refl}
 use Rattle.std.proofs.Math.Nat.{mul-le-mul_left}
 use Rattle.graphql_core.specs.Style.{Layout, default_style}
@@ -10,7 +10,7 @@ use Rattle.graphql_values.specs.ValueLayout.{directives_levels, IsNarrow}
 use Rattle.graphql_values.specs.ValueLayout as values
 use Rattle.graphql_values.specs.Lines.{default_levels}
 use Rattle.graphql_values.specs.Printable.{most}
-use Rattle.graphql_schema_tree.specs.Layout.{description_levels, block_levels, input_value_levels, field_levels, enum_value_levels, schema_levels, parts_levels}
+use Rattle.graphql_schema_tree.specs.Layout.{description_levels, block_levels, input_value_levels, field_levels, enum_value_levels, parts_levels}
 use Rattle.graphql_schema_tree.specs.Layout.{body_levels, definition_levels, levels, IsTooWide}
 use Rattle.graphql_schema_tree.specs.Tree as trees
 use Rattle.graphql_schema_tree.specs.Tree.{InputValueTree, FieldTree, EnumValueTree, PartsTree, BodyTree, DefinitionTree, DocumentTree}

@@ -1,4 +1,3 @@
-use Rattle.std.proofs.Common.{◌*◌, ◌<◌, ◌^◌, map}
 use Rattle.std.proofs.lemmas.Result.{on_ok_weaker}
 use Rattle.graphql_values.proofs.Appending.{and_alone}
 use Rattle.graphql_values.proofs.Seen.{most_seen, all_seen, separated_seen}

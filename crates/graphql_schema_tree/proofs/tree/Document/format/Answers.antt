@@ -1,4 +1,4 @@
-use Rattle.std.proofs.Common.{◌≡◌, rules, refl, sym, subst, string_bytes}
+use Rattle.std.proofs.Common.{◌≡◌, rules, sym, subst, string_bytes}
 use Rattle.graphql_schema_tree.specs.Language.{IsReadBack}
 use Rattle.graphql_schema_tree.specs.Layout.{layout}
 use Rattle.graphql_schema_tree.specs.Views.{document_view}
