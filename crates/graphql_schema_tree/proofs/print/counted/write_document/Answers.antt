@@ -8,7 +8,8 @@ use Rattle.graphql_schema_tree.proofs.print.counted.write_document.Goals as goal
 
 pub write_each_counted-requires : goal.write_each_counted-requires
 write_each_counted-requires g c =
-    rw (c.deref.ensures.value, most_seen (definition_view g.N.Names.bytes) (definition_levels c.args.style.now) c.args.document.now.definitions.items) c.requires
+    let seen = most_seen (definition_view g.N.Names.bytes) (definition_levels c.args.style.now) c.args.document.now.definitions.items in
+    rw (c.deref.ensures.value, seen) c.requires
 
 pub returns-clause-text : goal.returns-clause-text
 returns-clause-text g c =
