@@ -408,7 +408,7 @@ impl<'a> TokenStream<'a> {
         self.openers as isize - self.closers as isize
     }
 
-    /// How many times `next_token` was called; the count stops at `usize::MAX`.
+    /// How many times `next_token` was called or `near_token` answered a token; the count stops at `usize::MAX`.
     pub fn cuts(&self) -> usize
         ensures { result ≡ self.now.cuts }
     {
