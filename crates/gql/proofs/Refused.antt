@@ -1,9 +1,8 @@
--- Texts that have no document, and documents that are not laid out.
+-- Texts that have no document or no first definition, and what is not laid out.
 use Rattle.std.proofs.Common.{◌≡◌, ◌≤◌, ℕ, List, length, inl, inr, refl}
 use Rattle.std.proofs.lemmas.Bool.{cases_lt}
 use Rattle.graphql_core.specs.Refusal.{Refusal, no_memory, max_length}
 use Rattle.graphql_values.specs.Language.{Language}
-use Rattle.graphql_values.specs.Document.{IsDocumentOf}
 use Rattle.graphql_values.specs.Faults.{IsRefusalOf}
 use Rattle.graphql_core.specs.Style.{Layout}
 use Rattle.graphql_core.specs.declared.format.error.FormatError.{FormatError}
@@ -11,14 +10,14 @@ use Rattle.graphql_core.specs.declared.format.error.FormatError.TheVariants.{Too
 use Rattle.gql.specs.declared.command.Command.{Command}
 use Rattle.gql.specs.Output.{IsRefused, HasNoLayout, RefusesLayout}
 
--- a text within the bound that has a document is answered, unless memory runs out
-pub no_document : {D : Type 0} (l : Language D) (text : List ℕ) (e : Refusal) → IsRefusalOf l text e
-    → ((d : D) → length text ≤ max_length → IsDocumentOf l text d → e ≡ no_memory) → IsRefused l text e
-no_document l text e refused complete = (
+-- what a text within the bound has is answered, unless memory runs out
+pub has_none : {D T : Type 0} (Has : List ℕ → T → Type 0) (l : Language D) (text : List ℕ) (e : Refusal) → IsRefusalOf l text e
+    → ((t : T) → length text ≤ max_length → Has text t → e ≡ no_memory) → IsRefused Has l text e
+has_none Has l text e refused complete = (
   refused,
   λ other. elim (cases_lt max_length (length text)) [
     | inl long ↦ inl long
-    | inr short ↦ inr (λ d is. other (complete d short is))
+    | inr short ↦ inr (λ t is. other (complete t short is))
   ],
 )
 

@@ -7,7 +7,7 @@ use Rattle.std.specs.Char.{is_ascii_digit}
 use Rattle.std.specs.Str.Parse.{digits_value}
 use Rattle.graphql_core.specs.Style.{Layout, default_style, with_indent, with_multiline}
 use Rattle.gql.specs.declared.command.Command.{Command}
-use Rattle.gql.specs.declared.command.Command.TheVariants.{Query, Schema, Minify}
+use Rattle.gql.specs.declared.command.Command.TheVariants.{Query, Schema, Minify, First}
 
 -- one to ten digits, of at most 4294967295
 abbrev pub is_number : List ℕ → Bool
@@ -44,6 +44,7 @@ abbrev pub styled_command : List ℕ → Option Command
 styled_command w =
     if pointwise nat_eq w (codes "query") then Some Query
     else if pointwise nat_eq w (codes "schema") then Some Schema
+    else if pointwise nat_eq w (codes "first") then Some First
     else None
 
 -- the words, each by its bytes, and the command and the style that they say; `minify` takes no options

@@ -19,6 +19,8 @@ pub enum Command {
     Schema,
     /// Writes the tokens with no more spaces between them than keep them apart.
     Minify,
+    /// Lays out the first definition of a query text, and leaves the rest as it is.
+    First,
 }
 
 /// The style with the settings that were said, and the default ones for the others.
@@ -95,6 +97,8 @@ fn styled_command(word: &str) -> Option<Command>
         Some(Command::Query)
     } else if word == "schema" {
         Some(Command::Schema)
+    } else if word == "first" {
+        Some(Command::First)
     } else {
         None
     }

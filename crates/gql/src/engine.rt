@@ -10,6 +10,7 @@ ghost use Rattle.gql.specs.Output.{ReadsAll, EndsReading, EndsEngine, WritesPart
 use crate::command::Command;
 use crate::counted::Counted;
 use crate::error::RunError;
+use graphql_parser::query::consume_definition;
 use graphql_parser::{FormatError, Style, minify_query, parse_query, parse_schema, query, schema};
 use std::alloc::Global;
 use std::io::{Read, Write};
@@ -99,6 +100,28 @@ fn minified(alloc: Global, style: &Style, text: String) -> Result<String, RunErr
     }
 }
 
+/// The first definition of a text, laid out as a document of its own, and then the rest as it is.
+fn first_laid_out(alloc: Global, style: &Style, text: &str) -> Result<String, RunError>
+    ensures ok { IfOk result (λ s. IsOutputOf Command.First style.now text.now (string_bytes s)) }
+    ensures err { IfErr result (EndsEngine Command.First style.now text.now) }
+{
+    let first = match consume_definition::<&str>(alloc, text) {
+        Ok(first) => first,
+        Err(error) => return Err(RunError::Query(error)),
+    };
+    let (definition, rest) = first;
+    let Ok(definitions) = vec![in alloc; definition] else {
+        return Err(RunError::OutOfMemory);
+    };
+    let document: query::Document<'_, &str> = query::Document { definitions };
+    let mut output = match document.format(alloc, style) {
+        Ok(output) => output,
+        Err(error) => return Err(RunError::Format(error)),
+    };
+    output.push_str(rest)?;
+    Ok(output)
+}
+
 /// What a command makes of a text.
 fn output_of(
     alloc: Global,
@@ -113,6 +136,7 @@ fn output_of(
         Command::Query => query_laid_out(alloc, style, &text),
         Command::Schema => schema_laid_out(alloc, style, &text),
         Command::Minify => minified(alloc, style, text),
+        Command::First => first_laid_out(alloc, style, &text),
     }
 }
 

@@ -16,7 +16,7 @@ pub enum RunError {
     /// The input is not UTF-8. Nothing was written.
     #[error("gql: input is not UTF-8")]
     NotUtf8,
-    /// The input is no query document. Nothing was written.
+    /// The input is no query document, or begins with no definition of one. Nothing was written.
     #[error("{0}")]
     Query(query::ParseError),
     /// The input is no schema document. Nothing was written.
@@ -25,7 +25,7 @@ pub enum RunError {
     /// The input has a bad place, or is too long. Nothing was written.
     #[error("{0}")]
     Minify(MinifyError),
-    /// The document cannot be laid out. Nothing was written.
+    /// The document, or the first definition, cannot be laid out. Nothing was written.
     #[error("{0}")]
     Format(FormatError),
     /// A write or the last flush failed, or a write took nothing. A beginning of the output was written.

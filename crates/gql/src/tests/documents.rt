@@ -4,7 +4,7 @@ use crate::tests::{assert_ended, run_over};
 use std::test::Fail;
 
 /// Words, a text, what is written, what is told, and the status.
-const RUNS: [(&str, &str, &str, &str, u8); 9] = [
+const RUNS: [(&str, &str, &str, &str, u8); 20] = [
     ("query", "{ a } { b }", "{\n  a\n}\n\n{\n  b\n}\n", "", 0),
     (
         "query,--indent,3,--multiline",
@@ -61,6 +61,66 @@ const RUNS: [(&str, &str, &str, &str, u8); 9] = [
         "",
         "query minify error: Unexpected unsupported float \"1...\"",
         1,
+    ),
+    (
+        "first",
+        "where a > 1 => 10.0",
+        "",
+        "query parse error: Parse error at 1:1\nUnexpected `where[Name]`\n",
+        1,
+    ),
+    (
+        "first",
+        "{ a",
+        "",
+        "query parse error: Parse error at 1:4\nUnexpected end of input\n",
+        1,
+    ),
+    (
+        "first",
+        "{ a;}",
+        "",
+        "query parse error: Parse error at 1:4\nUnexpected unexpected character ';'\n",
+        1,
+    ),
+    (
+        "first,--indent,2147483648",
+        "{ a { b } } rest",
+        "",
+        "format error: indentation too wide",
+        1,
+    ),
+    (
+        "first",
+        "query { a } where a > 1 => 10.0\n",
+        "query {\n  a\n}\nwhere a > 1 => 10.0\n",
+        "",
+        0,
+    ),
+    ("first", "{ a }  # x\n", "{\n  a\n}\n", "", 0),
+    // a comment between two definitions goes with neither
+    ("first", "{ a } # c\n{ b }", "{\n  a\n}\n{ b }", "", 0),
+    ("first", "{ a } ;x", "{\n  a\n}\n;x", "", 0),
+    (
+        "first",
+        "query { a } \"unterminated",
+        "query {\n  a\n}\n\"unterminated",
+        "",
+        0,
+    ),
+    (
+        "first,--indent,4",
+        "{ a }{ b }",
+        "{\n    a\n}\n{ b }",
+        "",
+        0,
+    ),
+    (
+        "first,--multiline",
+        "{ a(b: 1) } }",
+        "{\n  a(\n    b: 1\n  )\n}\n}",
+        "",
+        0,
     ),
 ];
 

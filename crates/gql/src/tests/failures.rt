@@ -50,16 +50,18 @@ fn a_slow_reader_and_a_slow_writer_give_the_whole_output(rt: HostRuntime) -> Res
 #[test]
 fn a_write_that_fails_ends_the_run(rt: HostRuntime) -> Result<(), Fail> {
     let alloc = rt.alloc();
-    for (step, failing, flushes, written) in [
-        (1, 4, true, "{\n "),
-        (0, 0, true, ""),
-        (4096, 0, false, OUTPUT),
+    for (words, text, step, failing, flushes, written) in [
+        ("query", "{ a }", 1, 4, true, "{\n "),
+        ("query", "{ a }", 0, 0, true, ""),
+        ("query", "{ a }", 4096, 0, false, OUTPUT),
+        // in the rest
+        ("first", "{ a } ;x", 1, 10, true, "{\n  a\n}\n;"),
     ] {
         let mut sink = Sink::new(alloc);
         sink.step = step;
         sink.failing = failing;
         sink.flushes = flushes;
-        let ran = run_over(alloc, "query", Source::of(b"{ a }"), sink)?;
+        let ran = run_over(alloc, words, Source::of(text.as_bytes()), sink)?;
         assert!(rt; matches!(&ran.answer, Err(RunError::Write)), "{written}");
         assert_eq!(rt; ran.write_faults, 1);
         assert_ended(&rt, alloc, &ran, written.as_bytes(), "gql: write failed", 2)?;

@@ -10,6 +10,8 @@ fn right_words_say_a_command_and_a_style(rt: HostRuntime) -> Result<(), Fail> {
         ("query", Command::Query, 2, false),
         ("minify", Command::Minify, 2, false),
         ("schema", Command::Schema, 2, false),
+        ("first", Command::First, 2, false),
+        ("first,--multiline", Command::First, 2, true),
         ("schema,--indent,4", Command::Schema, 4, false),
         ("query,--multiline", Command::Query, 2, true),
         ("query,--indent,4", Command::Query, 4, false),
@@ -40,7 +42,8 @@ fn wrong_words_say_nothing(rt: HostRuntime) -> Result<(), Fail> {
     for words in [
         "",
         "minify,--multiline",
-        "first",
+        "first,--indent",
+        "first,minify",
         "query,--indent,",
         "query,--indent,+4",
         "query,--indent,-4",

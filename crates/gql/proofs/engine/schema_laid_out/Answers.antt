@@ -1,11 +1,12 @@
 use Rattle.std.proofs.Common.{Err, ap}
 use Rattle.graphql_schema_tree.specs.Language.{schemas}
+use Rattle.graphql_values.specs.Document.{IsDocumentOf}
 use Rattle.gql.specs.declared.command.Command.TheVariants.{Schema}
-use Rattle.gql.proofs.Refused.{no_document, no_layout}
+use Rattle.gql.proofs.Refused.{has_none, no_layout}
 use Rattle.gql.proofs.engine.schema_laid_out.Goals as goal
 
 pub returns-in-Err-clause-err : goal.returns-in-Err-clause-err
-returns-in-Err-clause-err c = no_document schemas _ _ c.in-Err.ensures.parses.refused c.in-Err.ensures.parses.complete
+returns-in-Err-clause-err c = has_none (IsDocumentOf schemas) schemas _ _ c.in-Err.ensures.parses.refused c.in-Err.ensures.parses.complete
 
 pub returns-clause-err : goal.returns-clause-err
 returns-clause-err c =
