@@ -13,11 +13,9 @@ returns-in-Err-clause-err c = has_none IsFirstDefinition one_definition _ _ c.in
 pub returns-in-Err-format-clause-err : goal.returns-in-Err-format-clause-err
 returns-in-Err-format-clause-err c =
     no_layout First c.args.style.now c.args.text.now c.in-Err-format.error
-    (λ wide. (
-      _,
-      c.in-Ok.ensures.first,
-      subst (λ ds. IsTooWide c.args.style.now (definitions_view names.ghosts.bytes ds)) c.in-Ok-vec.ensures.items (c.in-Err-format.ensures.too_wide.0 (ap Err wide)),
-    ))
+    (λ wide.
+    let too_wide = c.in-Err-format.ensures.too_wide.0 (ap Err wide) in
+    (_, c.in-Ok.ensures.first, subst (λ ds. IsTooWide c.args.style.now (definitions_view names.ghosts.bytes ds)) c.in-Ok-vec.ensures.items too_wide))
 
 pub returns-clause-ok : goal.returns-clause-ok
 returns-clause-ok c =
