@@ -152,7 +152,7 @@ fn cause_of(alloc: Global, bad: Bad<'_>) -> Result<Cause, AllocError>
 }
 
 /// The fault of a bad place.
-fn bad_place(alloc: Global, bad: Bad<'_>, position: Pos) -> Fault
+pub fn bad_place(alloc: Global, bad: Bad<'_>, position: Pos) -> Fault
     ensures { IsFaultOf (only_last (Wrong (place_of position) (no_token (bad_text bad.entry)))) result }
 {
     match cause_of(alloc, bad) {

@@ -3,49 +3,50 @@ ghost use Rattle.std.specs.Prelude.{◌≡◌, ◌≤◌, ◌/◌, ℕ, List, If
 ghost use Rattle.graphql_grammar.specs.Tokens.{Token};
 ghost use Rattle.graphql_core.specs.Causes.{kind_number};
 ghost use Rattle.graphql_lexer.specs.Items.{HasItems, Item};
-ghost use Rattle.graphql_core.specs.Source.{IsEnd, split, lexeme_token};
+ghost use Rattle.graphql_lexer.specs.declared.position.Pos.{Pos};
+ghost use Rattle.graphql_core.specs.Source.{IsEnd, split, token_of};
 ghost use Rattle.graphql_core.specs.Minified.{AreLexemes, spaced, is_spaced, IsMinified, HasTokens, IsBadPlaceOf};
 
 use crate::common::Fault;
 use crate::format::{Buffer, Sink};
-use crate::helpers::cursor::Cursor;
-use crate::helpers::source::{Lexeme, TokenSource};
-use graphql_lexer::tokenizer::Kind;
+use crate::helpers::cursor::bad_place;
+use graphql_lexer::tokenizer::{self, Kind, TokenStream};
 use std::alloc::Global;
 
 /// Whether a space stands between a token of this kind and the next token.
-fn is_spaced<S: TokenSource>(before: Kind, token: &Lexeme<S::Text>) -> bool
-    ensures { result ≡ is_spaced (kind_number before) (lexeme_token S.bytes token.now) }
+#[inline(always)]
+fn is_spaced(before: Kind, token: tokenizer::Token<'_>) -> bool
+    ensures { (at : Pos) → result ≡ is_spaced (kind_number before) (token_of at token.entry.kind token.entry.value.now) }
 {
     match before {
         Kind::Punctuator => false,
         Kind::IntValue | Kind::FloatValue => {
-            token.kind != Kind::Punctuator || S::as_str(&token.text) == "..."
+            token.kind != Kind::Punctuator || token.value == "..."
         }
         Kind::Name | Kind::StringValue | Kind::BlockString => token.kind != Kind::Punctuator,
     }
 }
 
-/// The tokens of a source up to its end, spaced.
-fn spaced<S: TokenSource>(alloc: Global, source: &mut S) -> Result<String, Fault>
-    ensures spaced { IfOk result (λ text. string_bytes text ≡ spaced (S.items source.old).tokens) }
-    ensures end { IfOk result (λ text. IsEnd (S.items source.old).last) }
-    ensures refused { IfErr result (IsBadPlaceOf (S.items source.old)) }
+/// The tokens of a stream up to its end, spaced.
+fn spaced(alloc: Global, stream: &mut TokenStream<'_>) -> Result<String, Fault>
+    ensures spaced { IfOk result (λ text. string_bytes text ≡ spaced (split stream.old.items).tokens) }
+    ensures end { IfOk result (λ text. IsEnd (split stream.old.items).last) }
+    ensures refused { IfErr result (IsBadPlaceOf (split stream.old.items)) }
 {
     let mut text = Buffer::new(alloc);
     let mut before = Kind::Punctuator;
-    'tokens: while let Some(token) = source.peek() {
-        if is_spaced::<S>(before, &token) {
-            text.push_str(" ")?;
+    'tokens: loop {
+        match stream.next_token() {
+            Ok(Some(token)) => {
+                if is_spaced(before, token) {
+                    text.push_str(" ")?;
+                }
+                text.push_str(token.value)?;
+                before = token.kind;
+            }
+            Ok(None) => return Ok(text.into_string()),
+            Err(bad) => return Err(bad_place(alloc, bad, stream.position())),
         }
-        text.push_str(S::as_str(&token.text))?;
-        before = token.kind;
-        source.advance();
-    }
-    if source.is_at_end() {
-        Ok(text.into_string())
-    } else {
-        Err(source.fault(alloc))
     }
 }
 
@@ -61,8 +62,8 @@ pub fn minified(alloc: Global, source: &str) -> Result<String, Fault>
     // A refusal is the bad place in which the items end.
     ensures refused { (items : List Item) → HasItems source.now items → IfErr result (IsBadPlaceOf (split items)) }
 {
-    let mut cursor: Cursor<'_, &str> = Cursor::new(source);
-    spaced(alloc, &mut cursor)
+    let mut stream = TokenStream::new(source);
+    spaced(alloc, &mut stream)
 }
 
 /// Tokens that are pieces, spaced, are the items of their text.

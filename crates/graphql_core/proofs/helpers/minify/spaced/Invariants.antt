@@ -1,14 +1,15 @@
 use Rattle.std.proofs.Common.{◌≡◌, ◌++◌, length}
 use Rattle.graphql_core.specs.Causes.{kind_number}
+use Rattle.graphql_core.specs.Source.{split}
 use Rattle.graphql_core.specs.Minified.{spaced, spaced_after}
 use Rattle.graphql_core.proofs.helpers.minify.spaced.Given as goal
 
 -- after what is written stand the tokens that are left
 abbrev pub invariant-tokens : goal.invariant-tokens
-invariant-tokens g l = record {
-  text : spaced (g.S.TokenSource.items l.fn.source).tokens ≡ l.text ++ spaced_after (kind_number l.before) (g.S.TokenSource.items l.source).tokens;
-  last : (g.S.TokenSource.items l.source).last ≡ (g.S.TokenSource.items l.fn.source).last;
+invariant-tokens l = record {
+  text : spaced (split l.fn.stream.items).tokens ≡ l.text ++ spaced_after (kind_number l.before) (split l.stream.items).tokens;
+  last : (split l.stream.items).last ≡ (split l.fn.stream.items).last;
 }
 
 abbrev pub decreases-tokens : goal.decreases-tokens
-decreases-tokens g l = length (g.S.TokenSource.items l.source).tokens
+decreases-tokens l = length l.stream.items
