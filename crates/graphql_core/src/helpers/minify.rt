@@ -5,7 +5,7 @@ ghost use Rattle.graphql_core.specs.Causes.{kind_number};
 ghost use Rattle.graphql_lexer.specs.Items.{HasItems, Item};
 ghost use Rattle.graphql_lexer.specs.declared.position.Pos.{Pos};
 ghost use Rattle.graphql_core.specs.Source.{IsEnd, split, token_of};
-ghost use Rattle.graphql_core.specs.Minified.{AreLexemes, spaced, is_spaced, IsMinified, HasTokens, IsBadPlaceOf};
+ghost use Rattle.graphql_core.specs.Minified.{AreLexemes, spaced, is_number, is_spaced, IsMinified, HasTokens, IsBadPlaceOf};
 
 use crate::common::Fault;
 use crate::format::{Buffer, Sink};
@@ -13,18 +13,21 @@ use crate::helpers::cursor::bad_place;
 use graphql_lexer::tokenizer::{self, Kind, TokenStream};
 use std::alloc::Global;
 
+/// Whether it is a number.
+#[inline(always)]
+fn is_number(kind: Kind) -> bool
+    ensures { result ≡ is_number (kind_number kind) }
+{
+    matches!(kind, Kind::IntValue | Kind::FloatValue)
+}
+
 /// Whether a space stands between a token of this kind and the next token.
 #[inline(always)]
 fn is_spaced(before: Kind, token: tokenizer::Token<'_>) -> bool
     ensures { (at : Pos) → result ≡ is_spaced (kind_number before) (token_of at token.entry.kind token.entry.value.now) }
 {
-    match before {
-        Kind::Punctuator => false,
-        Kind::IntValue | Kind::FloatValue => {
-            token.kind != Kind::Punctuator || token.value == "..."
-        }
-        Kind::Name | Kind::StringValue | Kind::BlockString => token.kind != Kind::Punctuator,
-    }
+    (before != Kind::Punctuator && token.kind != Kind::Punctuator)
+        || (is_number(before) && token.value == "...")
 }
 
 /// The tokens of a stream up to its end, spaced.
