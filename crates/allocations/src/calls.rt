@@ -2,7 +2,7 @@
 use crate::documents::{Refusal, read_documents, refuse, show_documents};
 use crate::schemas::use_schemas;
 use crate::tally::Tally;
-use graphql_parser::query::{Document, Value, minify_query};
+use graphql_parser::query::{Document, Value, consume_definition, minify_query};
 use std::alloc::{AllocError, Global};
 use std::borrow::CowStr;
 use std::collections::BTreeMap;
@@ -62,6 +62,26 @@ fn refuse_to_minify(alloc: Global, tally: &mut Tally) {
     }
 }
 
+/// A text that begins with a definition, the definition's layout in the default style, and what is left of the text.
+const FIRST: (&str, &str, &str) = (
+    "query Q($a: [Int] = [1]) @d(x: $a) { b: c(e: \"f\") ...G } # and\n{ c",
+    "query Q($a: [Int] = [1]) @d(x: $a) {\n  b: c(e: \"f\")\n  ...G\n}\n",
+    "{ c",
+);
+
+/// Takes the first definition of a text, with names that are owned.
+fn take_definition(alloc: Global, tally: &mut Tally) {
+    let (text, laid_out, left) = FIRST;
+    match consume_definition::<String>(alloc, text) {
+        Ok(first) => {
+            let (definition, rest) = first;
+            tally.add_text(&definition.to_string(alloc), laid_out, true);
+            tally.add(rest == left, false);
+        }
+        Err(error) => tally.add(false, Refusal::of_query(&error).ran_out),
+    }
+}
+
 /// A value with a field, an item and each kind of name, made static.
 fn static_value(alloc: Global) -> Result<Value<'static, String>, AllocError> {
     let mut fields: BTreeMap<&str, Value<'_, &str>> = BTreeMap::new(alloc);
@@ -90,6 +110,7 @@ pub fn make_calls(alloc: Global) -> Tally {
     refuse::<Document<'_, &str>>(alloc, &mut tally, &REFUSED);
     minify(alloc, &mut tally);
     refuse_to_minify(alloc, &mut tally);
+    take_definition(alloc, &mut tally);
     make_static(alloc, &mut tally);
     use_schemas(alloc, &mut tally);
     tally

@@ -23,7 +23,7 @@ impl Refusal {
     }
 
     /// Why a text is no query document.
-    fn of_query(error: &query::ParseError) -> Self {
+    pub fn of_query(error: &query::ParseError) -> Self {
         Refusal::new(error.cause(), error.position())
     }
 
