@@ -1,27 +1,24 @@
 -- What is written of the characters and lines of strings.
-use Rattle.std.proofs.Common.{◌≡◌, ◌≢◌, ◌∙◌, ap, sym, refl, ℕ, zero, suc, ◌-◌, ◌<◌, ◌≤◌, Bool, true, false, ◌==◌, ◌&&◌, inl, inr, map, Bor, Option, Some, None}
+use Rattle.std.proofs.Common.{◌≡◌, ◌≢◌, ◌∙◌, ap, sym, refl, subst, ℕ, zero, suc, ◌-◌, ◌<◌, ◌≤◌, Bool, true, false, ◌==◌, ◌&&◌, inl, inr, map, Bor, Option, Some, None}
 use Rattle.std.proofs.Common.{nat_lt, List, [], ◌∷◌, ◌++◌, length, get_or, take, drop, codes, arith, append-nil}
 use Rattle.std.specs.Iterator.{AlwaysYields, Drains}
-use Rattle.std.specs.List.{flat_map, last_or, slice_index}
+use Rattle.std.specs.List.{flat_map, last_or, slice_get, slice_index, prefix_len}
 use Rattle.std.specs.Option.{MatchOption}
-use Rattle.std.specs.Str.{IsUtf8, chars}
-use Rattle.std.proofs.Math.Utf8.{encode, encodes}
+use Rattle.std.specs.Str.{IsUtf8, IsCharBoundary}
+use Rattle.std.proofs.Math.Utf8.{encode}
 use Rattle.std.proofs.lemmas.Iterator.{YieldsList}
 use Rattle.std.proofs.lemmas.Iterator.Consumers.{YieldsList-end}
 use Rattle.std.proofs.lemmas.List.Splits.{length-slice_split}
-use Rattle.std.proofs.lemmas.List.Concat.{flat_map-append}
 use Rattle.std.proofs.lemmas.Bool.{cases_Bool, and_parts, eqb-true, false_from_ne_true, ne_eqb}
 use Rattle.std.proofs.lemmas.Bool.Decides.{nat_tests}
 use Rattle.std.proofs.lemmas.List.{take_all, drop_all}
-use Rattle.std.proofs.lemmas.Str.{encode_ascii, inside_one, encodes-chars}
+use Rattle.std.proofs.lemmas.Str.{encode_ascii, IsCharBoundary-before_ascii, IsCharBoundary-after_ascii, IsCharBoundary-end}
+use Rattle.std.proofs.lemmas.List.Sums.{prefix_len_stops, prefix_len-le-length}
+use Rattle.graphql_values.specs.steps.Unescaped.{is_unescaped}
 use Rattle.graphql_lexer.specs.Lexical.{begins_quotes}
 use Rattle.graphql_values.specs.ValueLayout.{hexadecimal_digit, unicode_escape, quoted_byte, escaped_quotes, lines_of, first_line, last_line, ends_in_return}
 
 -- ---- in quotes
-
-flat_over : (cs : List ℕ) → flat_map quoted_byte (encodes cs) ≡ flat_map (λ c. flat_map quoted_byte (encode c)) cs
-flat_over [] = refl
-flat_over (c ∷ cs) = flat_map-append quoted_byte (encode c) (encodes cs) ∙ ap (λ r. flat_map quoted_byte (encode c) ++ r) (flat_over cs)
 
 digit_small : (n : ℕ) → n < 16 → hexadecimal_digit n < 128
 digit_small n h = grind (arith, nat_tests)
@@ -43,43 +40,82 @@ plain_byte b h q s =
     rw (ne_eqb b 13 (λ e. omega arith), ne_eqb b 10 (λ e. omega arith), ne_eqb b 9 (λ e. omega arith), ne_eqb b 34 q, ne_eqb b 92 s)
     (let test : nat_lt b 32 ≡ false = grind (arith, nat_tests) in rw test refl)
 
-plain_bytes : (bs : List ℕ) → ((k : ℕ) → k < length bs → 128 ≤ get_or bs k 0) → flat_map quoted_byte bs ≡ bs
-plain_bytes [] h = refl
-plain_bytes (b ∷ bs) h =
-    let here : 128 ≤ b = h 0 (omega arith) in
-    rw (plain_byte b (omega arith) (λ e. omega arith) (λ e. omega arith)) (ap (λ r. b ∷ r) (plain_bytes bs (λ k l. h (suc k) (omega arith))))
-
--- a character past ASCII has no byte of ASCII
-past_ascii : (c : ℕ) → 128 ≤ c → (k : ℕ) → k < length (encode c) → 128 ≤ get_or (encode c) k 0
-past_ascii c h k l = elim (cases_Bool (nat_lt (get_or (encode c) k 0) 128)) [
-  | inl t ↦
-      let small : get_or (encode c) k 0 < 128 = grind (arith, nat_tests) in
-      let same = inside_one c [] (encode c) k (sym (append-nil (encode c))) l small in
-      absurd (omega arith)
-  | inr t ↦ grind (arith, nat_tests)
-]
-
--- a character that stands for itself
-pub plain_character : (c : ℕ) → 32 ≤ c → c ≢ 34 → c ≢ 92 → flat_map quoted_byte (encode c) ≡ encode c
-plain_character c h q s = elim (cases_Bool (nat_lt c 128)) [
-  | inl t ↦
-      let small : c < 128 = grind (arith, nat_tests) in
-      rw (encode_ascii c small, plain_byte c h q s) refl
-  | inr t ↦
-      let large : 128 ≤ c = grind (arith, nat_tests) in
-      plain_bytes (encode c) (past_ascii c large)
-]
-
 -- a control character that has no short escape
-pub control_character : (c : ℕ) → c < 32 → c ≢ 13 → c ≢ 10 → c ≢ 9 → unicode_escape c ≡ flat_map quoted_byte (encode c)
-control_character c h r n t =
-    let test : nat_lt c 32 ≡ true = grind (arith, nat_tests) in
-    sym (rw (encode_ascii c (omega arith), ne_eqb c 13 r, ne_eqb c 10 n, ne_eqb c 9 t, ne_eqb c 34 (λ e. omega arith), ne_eqb c 92 (λ e. omega arith), test)
-    (append-nil (unicode_escape c)))
+pub control_byte : (b : ℕ) → b < 32 → b ≢ 13 → b ≢ 10 → b ≢ 9 → unicode_escape b ≡ quoted_byte b
+control_byte b h r n t =
+    let test : nat_lt b 32 ≡ true = grind (arith, nat_tests) in
+    sym (rw (ne_eqb b 13 r, ne_eqb b 10 n, ne_eqb b 9 t, ne_eqb b 34 (λ e. omega arith), ne_eqb b 92 (λ e. omega arith), test) refl)
 
--- the bytes that are written of the characters are those of the text
-pub quoted_characters : (text : List ℕ) → IsUtf8 text → flat_map (λ c. flat_map quoted_byte (encode c)) (chars text) ≡ flat_map quoted_byte text
-quoted_characters text u = sym (flat_over (chars text)) ∙ ap (flat_map quoted_byte) (encodes-chars text u)
+-- a byte that is escaped is one of ASCII
+pub escaped_ascii : (b : ℕ) → is_unescaped b ≡ false → b < 128
+escaped_ascii b h = grind (arith, nat_tests)
+
+-- a text may be cut after the bytes that stand as they are
+pub unescaped_boundary : (text : List ℕ) (n : ℕ) → IsUtf8 text → n ≡ prefix_len is_unescaped text → IsCharBoundary text n
+unescaped_boundary text n u e =
+    subst (IsCharBoundary text) (sym e)
+    (elim (cases_Bool (nat_lt (prefix_len is_unescaped text) (length text))) [
+      | inl t ↦
+          let some : prefix_len is_unescaped text < length text = grind (arith, nat_tests) in
+          IsCharBoundary-before_ascii text _ some (escaped_ascii _ (prefix_len_stops is_unescaped text 0 some))
+      | inr t ↦
+          let all : prefix_len is_unescaped text ≡ length text = grind (arith, nat_tests, prefix_len-le-length is_unescaped text) in
+          subst (IsCharBoundary text) (sym all) (IsCharBoundary-end text)
+    ])
+
+-- the bytes at the front that stand as they are, and what is left
+quoted_run : (text : List ℕ) (n : ℕ) → n ≡ prefix_len is_unescaped text → flat_map quoted_byte text ≡ take n text ++ flat_map quoted_byte (drop n text)
+quoted_run text zero e = refl
+quoted_run [] (suc n) e = absurd (omega (arith, e))
+quoted_run (b ∷ bs) (suc n) e = elim (cases_Bool (is_unescaped b)) [
+  | inl stands ↦
+      let large : 32 ≤ b = grind (arith, nat_tests) in
+      let quote : b ≢ 34 = λ f. grind (arith, nat_tests) in
+      let slash : b ≢ 92 = λ f. grind (arith, nat_tests) in
+      let more : n ≡ prefix_len is_unescaped bs = omega (arith, rw stands at e) in
+      rw (plain_byte b large quote slash) (ap (λ r. b ∷ r) (quoted_run bs n more))
+  | inr escaped ↦ absurd (omega (arith, rw escaped at e))
+]
+
+pub run_parts : (text run more : List ℕ) (n : ℕ) → n ≡ prefix_len is_unescaped text → run ≡ take n text → more ≡ drop n text
+    → flat_map quoted_byte text ≡ run ++ flat_map quoted_byte more
+run_parts text run more n e front back =
+    quoted_run text n e ∙ ap (λ r. r ++ flat_map quoted_byte (drop n text)) (sym front) ∙ ap (λ r. run ++ flat_map quoted_byte r) (sym back)
+
+-- the byte after them is escaped
+pub escaped_next : (text : List ℕ) (n b : ℕ) (bs : List ℕ) → n ≡ prefix_len is_unescaped text → drop n text ≡ b ∷ bs → is_unescaped b ≡ false
+escaped_next [] zero b bs e next = absurd cc
+escaped_next [] (suc n) b bs e next = absurd (omega (arith, e))
+escaped_next (x ∷ xs) zero b bs e next = elim (cases_Bool (is_unescaped x)) [
+  | inl stands ↦ absurd (omega (arith, rw stands at e))
+  | inr escaped ↦
+      let same : b ≡ x = cc in
+      ap is_unescaped same ∙ escaped
+]
+escaped_next (x ∷ xs) (suc n) b bs e next = elim (cases_Bool (is_unescaped x)) [
+  | inl stands ↦
+      let more : n ≡ prefix_len is_unescaped xs = omega (arith, rw stands at e) in
+      escaped_next xs n b bs more next
+  | inr escaped ↦ absurd (omega (arith, rw escaped at e))
+]
+
+-- and a text may be cut after it
+pub escaped_boundary : (text more : List ℕ) (n b : ℕ) → IsUtf8 more → n ≡ prefix_len is_unescaped text → more ≡ drop n text → more ≡ b ∷ drop 1 more
+    → IsCharBoundary more 1
+escaped_boundary text more n b u e back first =
+    let small = escaped_ascii b (escaped_next text n b (drop 1 more) e (sym back ∙ first)) in
+    let byte : get_or more 0 0 ≡ b = ap (λ l. get_or l 0 0) first in
+    IsCharBoundary-after_ascii more 0 u (omega (arith, ap length first)) (omega (arith, byte, small))
+
+pub first_of : (text : List ℕ) (b : ℕ) → Some b ≡ slice_get text 0 → text ≡ b ∷ drop 1 text
+first_of [] b e = absurd cc
+first_of (x ∷ xs) b e =
+    let same : x ≡ b = cc in
+    ap (λ y. y ∷ xs) same
+
+pub none_of : (text : List ℕ) → None ≡ slice_get text 0 → text ≡ []
+none_of [] e = refl
+none_of (x ∷ xs) e = absurd cc
 
 -- ---- in block form
 

@@ -2,3 +2,4 @@ pub mod Answers
 pub mod Constness
 pub mod Leaf
 pub mod Joined
+pub mod Unescaped

@@ -1,8 +1,9 @@
 //! Strings in quotes.
-ghost use Rattle.std.specs.Prelude.{◌≡◌, ◌<◌, OnOk};
-ghost use Rattle.std.specs.List.{flat_map};
-ghost use Rattle.std.proofs.Math.Utf8.{encode};
+ghost use Rattle.std.specs.Prelude.{◌≡◌, ◌<◌, ◌≤◌, false, length, OnOk};
+ghost use Rattle.std.specs.List.{prefix_len};
+ghost use Rattle.std.specs.Str.{IsCharBoundary};
 ghost use Rattle.graphql_values.specs.ValueLayout as spec;
+ghost use Rattle.graphql_values.specs.steps.Unescaped.{is_unescaped};
 
 use graphql_core::format::Sink;
 
@@ -28,18 +29,39 @@ fn write_control<S: Sink>(out: &mut S, control: u8) -> Result<(), S::Error>
     }
 }
 
-/// Appends a character as it stands in quotes.
-fn write_character<S: Sink>(out: &mut S, character: char) -> Result<(), S::Error>
-    ensures { OnOk result (S.took out.old (flat_map spec.quoted_byte (encode character)) out.new) }
+/// Whether a byte stands in quotes as it is.
+#[inline(always)]
+fn is_unescaped(byte: u8) -> bool
+    ensures { result ≡ is_unescaped byte }
 {
-    match character {
-        '\r' => out.push_str("\\r"),
-        '\n' => out.push_str("\\n"),
-        '\t' => out.push_str("\\t"),
-        '"' => out.push_str("\\\""),
-        '\\' => out.push_str("\\\\"),
-        '\0'..='\u{1f}' => write_control(out, character as u8),
-        _ => out.push_display(character),
+    byte >= 32 && byte != b'"' && byte != b'\\'
+}
+
+/// How many bytes at the front of a text stand in quotes as they are.
+#[tactic(auto, using(crate::proofs::QuotedText::unescaped_boundary))]
+fn unescaped_len(text: &str) -> usize
+    ensures len { result ≡ prefix_len is_unescaped text.now }
+    ensures within { result ≤ length text.now }
+    ensures cuts { IsCharBoundary text.now result }
+{
+    text.as_bytes()
+        .iter()
+        .take_while(|b| is_unescaped(**b))
+        .count()
+}
+
+/// Appends the escape of a byte.
+fn write_escape<S: Sink>(out: &mut S, byte: u8) -> Result<(), S::Error>
+    requires { is_unescaped byte ≡ false }
+    ensures { OnOk result (S.took out.old (spec.quoted_byte byte) out.new) }
+{
+    match byte {
+        b'\r' => out.push_str("\\r"),
+        b'\n' => out.push_str("\\n"),
+        b'\t' => out.push_str("\\t"),
+        b'"' => out.push_str("\\\""),
+        b'\\' => out.push_str("\\\\"),
+        _ => write_control(out, byte),
     }
 }
 
@@ -48,8 +70,14 @@ pub fn write_quoted<S: Sink>(out: &mut S, text: &str) -> Result<(), S::Error>
     ensures { OnOk result (S.took out.old (spec.quoted text.now) out.new) }
 {
     out.push_str("\"")?;
-    'characters: for character in text.chars() {
-        write_character(out, character)?;
+    let mut rest = text;
+    'runs: loop {
+        let (run, after) = rest.split_at(unescaped_len(rest));
+        out.push_str(run)?;
+        let Some(byte) = after.as_bytes().first() else {
+            return out.push_str("\"");
+        };
+        write_escape(out, *byte)?;
+        rest = after.split_at(1).1;
     }
-    out.push_str("\"")
 }

@@ -1,29 +1,47 @@
-use Rattle.std.proofs.Common.{◌≡◌, ◌∷◌, ◌++◌, ◌∙◌, [], List, ℕ, ap, sym}
-use Rattle.std.specs.List.{flat_map}
-use Rattle.std.specs.Str.{chars}
-use Rattle.std.proofs.Math.Utf8.{encode}
-use Rattle.std.proofs.lemmas.Iterator.{YieldsList-from_chars}
-use Rattle.std.proofs.lemmas.Iterator.Consumers.{YieldsList-at, YieldsList-end}
-use Rattle.std.proofs.lemmas.List.{flat_map_more, map-id}
+use Rattle.std.proofs.Common.{◌∷◌, ◌++◌, ◌∙◌, IsUtf8, ap, sym, subst, refl}
+use Rattle.std.proofs.lemmas.Str.{IsUtf8-drop}
+use Rattle.std.specs.List.{flat_map, slice_get}
 use Rattle.graphql_values.specs.ValueLayout.{quoted_byte}
-use Rattle.graphql_values.proofs.Appending.{alike, and_last}
-use Rattle.graphql_values.proofs.QuotedText.{quoted_characters}
+use Rattle.graphql_values.proofs.Appending.{and_last, and_part, all_done}
+use Rattle.graphql_values.proofs.QuotedText.{run_parts, escaped_next, escaped_boundary, first_of, none_of}
 use Rattle.graphql_values.proofs.print.quotes.write_quoted.Goals as goal
 
-abbrev written : ℕ → List ℕ
-written c = flat_map quoted_byte (encode c)
+pub returns-in_default : goal.returns-in_default
+returns-in_default g c =
+    let (now, took, whole) = c.runs.invariant.written in
+    let parts = run_parts c.runs.rest.now c.split_at.result.0.now c.split_at.result.1.now _ c.unescaped_len.ensures.len c.split_at.ensures.front
+    c.split_at.ensures.back in
+    let (all, now_took, same) = and_part g.S.Sink.took g.met.S.Sink.took_more _ _ _ now _ _ _ took c.in_ok-push_str-2.ensures
+    (ap (λ r. now ++ r) (sym parts) ∙ whole) in
+    let none = none_of c.split_at.result.1.now (c.in_default.ensures.value ∙ ap (λ l. slice_get l 0) c.as_bytes.ensures.value) in
+    and_last g.S.Sink.took g.met.S.Sink.took_more _ _ _ _ (34 ∷ flat_map quoted_byte c.args.text.now) _ _
+    (all_done g.S.Sink.took g.met.S.Sink.took_more _ _ all _ _ now_took same (ap (flat_map quoted_byte) none)) c.push_str-in_default.ensures refl
 
-pub characters-preserved : goal.characters-preserved
-characters-preserved g c =
-    alike g.S.Sink.took g.met.S.Sink.took_more _ _ _ _ (flat_map_more written (34 ∷ []) c.characters.yielded c.in-Some.character)
-    (g.met.S.Sink.took_more _ _ _ _ _ c.characters.invariant c.in_ok-write_character.ensures)
+pub write_escape-requires : goal.write_escape-requires
+write_escape-requires g c =
+    let first = first_of c.split_at.result.1.now c.in-Some.byte.now (c.in-Some.ensures.value ∙ ap (λ l. slice_get l 0) c.as_bytes.ensures.value) in
+    escaped_next c.runs.rest.now c.unescaped_len.result c.in-Some.byte.now _ c.unescaped_len.ensures.len (sym c.split_at.ensures.back ∙ first)
 
-pub returns : goal.returns
-returns g c =
-    let t = YieldsList-end
-    (YieldsList-at c.into_iter-character-iterator.ensures.into_iter_gives
-    (YieldsList-from_chars c.args.text.now c.utf8.text c.chars-character-items.ensures.rest)) c.characters.yielded _ c.characters.yielded_by _ _
-    c.in-None.is c.next.ensures.steps in
-    let all : c.characters.yielded ≡ chars c.args.text.now = sym (map-id c.characters.yielded) ∙ t.0 in
-    let same = ap (flat_map written) all ∙ quoted_characters c.args.text.now c.utf8.text in
-    and_last g.S.Sink.took g.met.S.Sink.took_more _ _ _ _ _ _ _ c.characters.invariant c.push_str-2.ensures (ap (λ r. 34 ∷ (r ++ 34 ∷ [])) same)
+pub split_at-requires-in-runs : goal.split_at-requires-in-runs
+split_at-requires-in-runs g c =
+    let first = first_of c.split_at.result.1.now c.in-Some.byte.now (c.in-Some.ensures.value ∙ ap (λ l. slice_get l 0) c.as_bytes.ensures.value) in
+    let utf8 = subst IsUtf8 c.as_bytes.ensures.value c.as_bytes.ensures.utf8 in
+    escaped_boundary c.runs.rest.now c.split_at.result.1.now _ c.in-Some.byte.now utf8 c.unescaped_len.ensures.len c.split_at.ensures.back first
+
+pub runs-preserved : goal.runs-preserved
+runs-preserved g c =
+    let (now, took, whole) = c.runs.invariant.written in
+    let after = c.split_at.result.1.now in
+    let first = first_of after c.in-Some.byte.now (c.in-Some.ensures.value ∙ ap (λ l. slice_get l 0) c.as_bytes.ensures.value) in
+    let parts = run_parts c.runs.rest.now c.split_at.result.0.now after _ c.unescaped_len.ensures.len c.split_at.ensures.front c.split_at.ensures.back in
+    let (all, now_took, same) = and_part g.S.Sink.took g.met.S.Sink.took_more _ _ _ now _ _ _ took c.in_ok-push_str-2.ensures
+    (ap (λ r. now ++ r) (sym parts) ∙ whole) in
+    let utf8 = subst IsUtf8 c.as_bytes.ensures.value c.as_bytes.ensures.utf8 in
+    let boundary = escaped_boundary c.runs.rest.now after _ c.in-Some.byte.now utf8 c.unescaped_len.ensures.len c.split_at.ensures.back first in
+    record {
+      written =
+          and_part g.S.Sink.took g.met.S.Sink.took_more _ _ _ all _ _ _ now_took c.in_ok-write_escape.ensures
+          (ap (λ r. all ++ (quoted_byte c.in-Some.byte.now ++ flat_map quoted_byte r)) c.split_at-in-runs.ensures.back ∙ ap (λ r. all ++ flat_map quoted_byte r) (sym first)
+          ∙ same);
+      utf8 = subst IsUtf8 (sym c.split_at-in-runs.ensures.back) (IsUtf8-drop after 1 utf8 boundary);
+    }

@@ -1,8 +1,16 @@
-use Rattle.std.proofs.Common.{◌∷◌}
+use denote.Shadow.{shadow}
+use denote.Text.{Utf8}
+use Rattle.std.proofs.Common.{◌≡◌, ℕ, List, ◌∷◌, ◌++◌, length}
 use Rattle.std.specs.List.{flat_map}
-use Rattle.std.proofs.Math.Utf8.{encode}
 use Rattle.graphql_values.specs.ValueLayout.{quoted_byte}
 use Rattle.graphql_values.proofs.print.quotes.write_quoted.Given as goal
 
-abbrev pub invariant-characters : goal.invariant-characters
-invariant-characters g l = g.S.Sink.took l.fn.out (34 ∷ flat_map (λ c. flat_map quoted_byte (encode c)) l.yielded) l.out
+-- with what is left this comes to the whole
+abbrev pub invariant-runs : goal.invariant-runs
+invariant-runs g l = record {
+  written : (now : List ℕ) × g.S.Sink.took l.fn.out now l.out × (now ++ flat_map quoted_byte l.rest ≡ 34 ∷ flat_map quoted_byte l.text);
+  utf8 : shadow (Utf8 l.rest);
+}
+
+abbrev pub decreases-runs : goal.decreases-runs
+decreases-runs g l = length l.rest
