@@ -38,10 +38,11 @@ runs-preserved g c =
     (ap (λ r. now ++ r) (sym parts) ∙ whole) in
     let utf8 = subst IsUtf8 c.as_bytes.ensures.value c.as_bytes.ensures.utf8 in
     let boundary = escaped_boundary c.runs.rest.now after _ c.in-Some.byte.now utf8 c.unescaped_len.ensures.len c.split_at.ensures.back first in
+    let left = flat_map quoted_byte in
     record {
       written =
           and_part g.S.Sink.took g.met.S.Sink.took_more _ _ _ all _ _ _ now_took c.in_ok-write_escape.ensures
-          (ap (λ r. all ++ (quoted_byte c.in-Some.byte.now ++ flat_map quoted_byte r)) c.split_at-in-runs.ensures.back ∙ ap (λ r. all ++ flat_map quoted_byte r) (sym first)
+          (ap (λ r. all ++ (quoted_byte c.in-Some.byte.now ++ left r)) c.split_at-in-runs.ensures.back ∙ ap (λ r. all ++ left r) (sym first)
           ∙ same);
       utf8 = subst IsUtf8 (sym c.split_at-in-runs.ensures.back) (IsUtf8-drop after 1 utf8 boundary);
     }
