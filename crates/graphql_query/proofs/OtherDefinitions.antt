@@ -41,22 +41,22 @@ deep_after Opens bytes v w e = omega (arith, e)
 deep_after Closes bytes v w e = omega (arith, e)
 
 -- their tokens are equal but for places, and where the ones have an end, the others have one
-abbrev AreAlike : List Item → List Item → Type 0
-AreAlike is js = Alike (split is).tokens (split js).tokens × (IsEnd (split js).last → IsEnd (split is).last)
+abbrev AreCutAlike : List Item → List Item → Type 0
+AreCutAlike is js = Alike (split is).tokens (split js).tokens × (IsEnd (split js).last → IsEnd (split is).last)
 
-token_alike : (b : Bool) (k : Kind) (bytes : List ℕ) (v w : Where) (is js : List Item) → AreAlike is js
-    → AreAlike (token_then b (item (Wrong too_deep) v) (item (Lexeme k bytes) v) is) (token_then b (item (Wrong too_deep) w) (item (Lexeme k bytes) w) js)
+token_alike : (b : Bool) (k : Kind) (bytes : List ℕ) (v w : Where) (is js : List Item) → AreCutAlike is js
+    → AreCutAlike (token_then b (item (Wrong too_deep) v) (item (Lexeme k bytes) v) is) (token_then b (item (Wrong too_deep) w) (item (Lexeme k bytes) w) js)
 token_alike true k bytes v w is js h = (refl, λ e. e)
 token_alike false k bytes v w is js (same, end) = (ap (λ (ts : List Token). unplaced (token_of w.position k bytes) ∷ ts) same, end)
 
 piece_alike : (m : Meaning) (bytes : List ℕ) (v w : Where) (more : Where → List Item) → AsDeep v w
-    → ((a b : Where) → AsDeep a b → AreAlike (more a) (more b)) → AreAlike (piece_then m more v bytes) (piece_then m more w bytes)
+    → ((a b : Where) → AsDeep a b → AreCutAlike (more a) (more b)) → AreCutAlike (piece_then m more v bytes) (piece_then m more w bytes)
 piece_alike (Ignored m) bytes v w more e h = h (past_ignored m (length bytes) v) (past_ignored m (length bytes) w) e
 piece_alike (Word k s) bytes v w more e h =
     rw (deep_alike s v w e)
     (token_alike (is_too_deep s w) k bytes v w (more (past_token s bytes v)) (more (past_token s bytes w)) (h _ _ (deep_after s bytes v w e)))
 
-cut_alike : (ps : List Piece) (stop : List ℕ) (v w : Where) → AsDeep v w → AreAlike (items_of v ps stop) (items_of w ps stop)
+cut_alike : (ps : List Piece) (stop : List ℕ) (v w : Where) → AsDeep v w → AreCutAlike (items_of v ps stop) (items_of w ps stop)
 unfolding items_of
 cut_alike [] [] v w e = (refl, λ h. h)
 cut_alike [] (b ∷ bs) v w e = (refl, λ h. h)
@@ -68,7 +68,7 @@ cut_alike (q ∷ qs) stop v w e = piece_alike q.meaning q.bytes v w (λ a. items
 record OfItsOwn (whole : List ℕ) (is : List Item) : Type 0 where
   items : List Item
   has : HasItems (drop (next_place is).offset whole) items
-  alike : AreAlike items is
+  alike : AreCutAlike items is
   empty : (split is).tokens ≡ [] → IsEnd (split is).last → drop (next_place is).offset whole ≡ []
 
 -- the next item stands where the pieces begin
@@ -79,7 +79,7 @@ from_here ps text stop whole w is cut there level same next empty =
     record {
       items = items_of start ps stop;
       has = (ps, stop, subst (λ (l : List ℕ). IsCutInto l ps stop) (sym begins) cut, refl);
-      alike = subst (AreAlike (items_of start ps stop)) (sym same) (cut_alike ps stop start w (omega (arith, level)));
+      alike = subst (AreCutAlike (items_of start ps stop)) (sym same) (cut_alike ps stop start w (omega (arith, level)));
       empty = λ none end. begins ∙ empty none end;
     }
 
