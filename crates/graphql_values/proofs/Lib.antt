@@ -14,6 +14,7 @@ pub mod Enclosed
 pub mod Leaves
 pub mod Printable
 pub mod LeavesBack
+pub mod BlockBytes
 pub mod BlockForm
 pub mod BlockValues
 pub mod TypesBack

@@ -1,3 +1,4 @@
+pub mod BlockBytes
 pub mod Answers
 pub mod Constness
 pub mod Leaf

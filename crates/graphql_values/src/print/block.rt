@@ -4,6 +4,7 @@ ghost use Rattle.std.specs.List.{list_all, list_any};
 ghost use Rattle.std.specs.Str.{chars};
 ghost use Rattle.graphql_core.specs.BlockStrings.{is_blank};
 ghost use Rattle.graphql_values.specs.ValueLayout as spec;
+ghost use Rattle.graphql_values.specs.steps.BlockBytes.{is_block_byte};
 
 use crate::print::spaces::write_spaces;
 use graphql_core::common::strings::{ESCAPED_QUOTES, QUOTES, is_blank, is_white};
@@ -13,21 +14,28 @@ use graphql_core::format::Sink;
 fn has_line_feed(text: &str) -> bool
     ensures { result ≡ list_any (λ b. b == 10) text.now }
 {
-    text.bytes().any(|byte| byte == b'\n')
+    text.as_bytes().contains(&b'\n')
 }
 
-/// Whether a character may stand in a block string.
-fn is_block_character(character: char) -> bool
-    ensures { result ≡ spec.is_block_character character }
+/// Whether a byte is one of a character that may stand in a block string: no other has such bytes alone.
+fn is_block_byte(byte: u8) -> bool
+    ensures { result ≡ is_block_byte byte }
 {
-    matches!(character, '\n' | '\r' | '\t' | ' '..='\u{ffff}')
+    matches!(byte, b'\n' | b'\r' | b'\t' | b' '..=0xef)
+}
+
+/// Whether each byte is one of such a character.
+fn has_block_bytes(text: &str) -> bool
+    ensures { result ≡ list_all is_block_byte text.now }
+{
+    text.bytes().all(is_block_byte)
 }
 
 /// Whether each character may stand in a block string.
 fn has_block_characters(text: &str) -> bool
     ensures { result ≡ list_all spec.is_block_character (chars text.now) }
 {
-    text.chars().all(is_block_character)
+    has_block_bytes(text)
 }
 
 /// Whether a line has anything but spaces and tabs.
