@@ -3,10 +3,10 @@
 
 mod work;
 
-use crate::work::{Document, Work, run};
-use graphql_parser::{minify_query, query, schema};
+use crate::work::{Document, Sample, Work, name, time};
+use graphql_parser::{query, schema};
 use std::process::ExitCode;
-use std::time::{Duration, Instant};
+use std::time::Duration;
 use std::{env, fs, io};
 
 /// What is told where the words are no language, no file and no number of rounds.
@@ -40,6 +40,13 @@ fn words(rt: &HostRuntime) -> Option<(Language, String, u32)> {
     Some((language, file, rounds))
 }
 
+/// Work, and the least time that it took so far.
+#[derive(Drop)]
+struct Measure {
+    work: Work,
+    least: Option<Duration>,
+}
+
 /// The lesser of the least time so far, where there is one, and another.
 fn lesser(least: Option<Duration>, elapsed: Duration) -> Option<Duration> {
     match least {
@@ -48,75 +55,48 @@ fn lesser(least: Option<Duration>, elapsed: Duration) -> Option<Duration> {
     }
 }
 
-/// The least time that the work takes; none where it does not come to its end.
-fn least<'a, B: Document<'a>, O: Document<'a>>(
+/// Does each kind of work once; whether all came to their end.
+fn measure_once<'a, B: Document<'a>, O: Document<'a>>(
     rt: &HostRuntime,
-    rounds: u32,
-    work: Work,
-    source: &'a str,
-    document: &B,
-) -> io::Result<Option<Duration>> {
-    let mut least = None;
-    'rounds: for _ in 0..rounds {
-        let start = Instant::now(rt)?;
-        let done = run::<B, O>(rt.alloc(), work, source, document);
-        let elapsed = start.elapsed(rt)?;
-        if !done {
-            return Ok(None);
-        }
-        least = lesser(least, elapsed);
+    measures: &mut [Measure],
+    sample: &Sample<'a, '_, B>,
+) -> io::Result<bool> {
+    'measures: for measure in measures {
+        let Some(elapsed) = time::<B, O>(rt, measure.work, sample)? else {
+            eprintln!(rt; "{}: not done", name(measure.work))?;
+            return Ok(false);
+        };
+        measure.least = lesser(measure.least, elapsed);
     }
-    Ok(least)
+    Ok(true)
 }
 
-/// The least times to parse and to drop what was parsed, each for itself; none where the text is refused.
-fn least_parts<'a, D: Document<'a>>(
-    rt: &HostRuntime,
-    rounds: u32,
-    source: &'a str,
-) -> io::Result<(Option<Duration>, Option<Duration>)> {
-    let mut parsing = None;
-    let mut dropping = None;
-    'rounds: for _ in 0..rounds {
-        let start = Instant::now(rt)?;
-        let parsed = D::parse(rt.alloc(), source);
-        parsing = lesser(parsing, start.elapsed(rt)?);
-        let Ok(document) = parsed else {
-            return Ok((None, None));
-        };
-        let end = Instant::now(rt)?;
-        drop(document);
-        dropping = lesser(dropping, end.elapsed(rt)?);
-    }
-    Ok((parsing, dropping))
-}
-
-/// The least time to minify the text, which drops the copy that it is handed; none where the text has a bad place.
-fn least_minifying(rt: &HostRuntime, rounds: u32, source: &str) -> io::Result<Option<Duration>> {
-    let mut least = None;
-    'rounds: for _ in 0..rounds {
-        let Ok(copy) = String::from_str(rt.alloc(), source) else {
-            return Ok(None);
-        };
-        let start = Instant::now(rt)?;
-        let minified = minify_query(rt.alloc(), copy);
-        least = lesser(least, start.elapsed(rt)?);
-        if minified.is_err() {
-            return Ok(None);
+/// Prints the least times in microseconds.
+fn print_times(rt: &HostRuntime, measures: &[Measure]) -> io::Result<()> {
+    'measures: for measure in measures {
+        if let Some(time) = measure.least {
+            println!(rt; "{}: {} us", name(measure.work), time.as_micros())?;
         }
     }
-    Ok(least)
+    Ok(())
 }
 
-/// Prints a least time in microseconds.
-fn print_time(rt: &HostRuntime, name: &str, least: Option<Duration>) -> io::Result<()> {
-    match least {
-        Some(time) => println!(rt; "{name}: {} us", time.as_micros()),
-        None => println!(rt; "{name}: not done"),
-    }
+/// The kinds of work, of which none has been done.
+fn measures() -> [Measure; 8] {
+    [
+        Work::Cut,
+        Work::ParseBorrowed,
+        Work::ParseOwned,
+        Work::Format,
+        Work::CutWritten,
+        Work::ParseAlone,
+        Work::DropAlone,
+        Work::Minify,
+    ]
+    .map(|work| Measure { work, least: None })
 }
 
-/// Measures every kind of work on one document, and prints its least time in microseconds.
+/// Measures every kind of work on one document, by turns, and prints its least time in microseconds.
 fn measure_all<'a, B: Document<'a>, O: Document<'a>>(
     rt: &HostRuntime,
     rounds: u32,
@@ -129,20 +109,27 @@ fn measure_all<'a, B: Document<'a>, O: Document<'a>>(
             return Ok(false);
         }
     };
-    println!(rt; "{} bytes, {rounds} rounds", source.len())?;
-    for (name, work) in [
-        ("cut", Work::Cut),
-        ("parse and drop (&str)", Work::ParseBorrowed),
-        ("parse and drop (String)", Work::ParseOwned),
-        ("format", Work::Format),
-    ] {
-        let least = least::<B, O>(rt, rounds, work, source, &document)?;
-        print_time(rt, name, least)?;
+    let Some(written) = document.lay_out(rt.alloc()) else {
+        eprintln!(rt; "no layout")?;
+        return Ok(false);
+    };
+    let sample = Sample {
+        source,
+        document: &document,
+        written: written.as_str(),
+    };
+    let mut measures = measures();
+    'rounds: for _ in 0..rounds {
+        if !measure_once::<B, O>(rt, &mut measures, &sample)? {
+            return Ok(false);
+        }
     }
-    let (parsing, dropping) = least_parts::<B>(rt, rounds, source)?;
-    print_time(rt, "parse alone (&str)", parsing)?;
-    print_time(rt, "drop (&str)", dropping)?;
-    print_time(rt, "minify", least_minifying(rt, rounds, source)?)?;
+    println!(rt;
+        "{} bytes, {} written, {rounds} rounds",
+        source.len(),
+        written.len()
+    )?;
+    print_times(rt, &measures)?;
     Ok(true)
 }
 
