@@ -36,22 +36,28 @@ encoded c = elim (cases_Bool (nat_lt c 128)) [
       let small : c < 128 = grind (arith, nat_tests) in
       rw one (rw (ascii c small) (and_true (is_block_character c)))
   | inr more ↦ elim (cases_Bool (nat_lt c 2048)) [
-      | inl two ↦
-          let low : 128 ≤ c = grind (arith, nat_tests) in
-          let high : c < 2048 = grind (arith, nat_tests) in
-          rw (more, two, stands (192 + c / 64) (omega arith) (omega arith), stands (128 + c % 64) (omega arith) (omega arith))
-          (sym (within c (omega arith) (omega arith)))
-      | inr later ↦ elim (cases_Bool (nat_lt c 65536)) [
-          | inl three ↦
-              let low : 2048 ≤ c = grind (arith, nat_tests) in
-              let high : c < 65536 = grind (arith, nat_tests) in
-              rw (more, later, three, stands (224 + c / 4096) (omega arith) (omega arith), stands (128 + c / 64 % 64) (omega arith) (omega arith),
-                  stands (128 + c % 64) (omega arith) (omega arith)) (sym (within c (omega arith) (omega arith)))
-          | inr four ↦
-              let low : 65536 ≤ c = grind (arith, nat_tests) in
-              rw (more, later, four, stops (240 + c / 262144) (omega arith)) (sym (past c low))
-        ]
+    | inl two ↦
+        let low : 128 ≤ c = grind (arith, nat_tests) in
+        let high : c < 2048 = grind (arith, nat_tests) in
+        rw (more, two, stands (192 + c / 64) (omega arith) (omega arith), stands (128 + c % 64) (omega arith) (omega arith))
+        (sym (within c (omega arith) (omega arith)))
+    | inr later ↦ elim (cases_Bool (nat_lt c 65536)) [
+      | inl three ↦
+          let low : 2048 ≤ c = grind (arith, nat_tests) in
+          let high : c < 65536 = grind (arith, nat_tests) in
+          rw (
+            more,
+            later,
+            three,
+            stands (224 + c / 4096) (omega arith) (omega arith),
+            stands (128 + c / 64 % 64) (omega arith) (omega arith),
+            stands (128 + c % 64) (omega arith) (omega arith),
+          ) (sym (within c (omega arith) (omega arith)))
+      | inr four ↦
+          let low : 65536 ≤ c = grind (arith, nat_tests) in
+          rw (more, later, four, stops (240 + c / 262144) (omega arith)) (sym (past c low))
     ]
+  ]
 ]
   where
     and_true : (b : Bool) → (b && true) ≡ b
