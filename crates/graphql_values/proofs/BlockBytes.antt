@@ -70,3 +70,18 @@ encoded_all (c ∷ cs) = list_all-append is_block_byte (encode c) (encodes cs) �
 
 pub block_bytes : (text : List ℕ) → IsUtf8 text → list_all is_block_byte text ≡ list_all is_block_character (chars text)
 block_bytes text u = ap (list_all is_block_byte) (sym (encodes-chars text u)) ∙ encoded_all (chars text)
+
+-- each passes both tests where each passes the one and each passes the other
+pub all_both : (p q : List ℕ → Bool) (xs : List (List ℕ)) → list_all (λ x. p x && q x) xs ≡ (list_all p xs && list_all q xs)
+all_both p q [] = refl
+all_both p q (x ∷ xs) = elim (cases_Bool (p x)) [
+  | inr fails ↦ rw fails refl
+  | inl holds ↦ elim (cases_Bool (q x)) [
+    | inl both ↦ rw (holds, both) (all_both p q xs)
+    | inr fails ↦ rw (holds, fails) (sym (and_false (list_all p xs)))
+  ]
+]
+  where
+    and_false : (b : Bool) → (b && false) ≡ false
+    and_false true = refl
+    and_false false = refl

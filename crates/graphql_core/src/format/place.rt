@@ -1,5 +1,5 @@
 //! Writing a text at a place in a buffer that has room. A short text is two copies of a fixed size that overlap.
-ghost use Rattle.std.specs.Prelude.{◌+◌, ◌≤◌, length, take};
+ghost use Rattle.std.specs.Prelude.{◌+◌, ◌<◌, ◌≤◌, length, take};
 ghost use Rattle.graphql_core.specs.steps.Placed.{Placed};
 
 use std::simd::Simd;
@@ -36,6 +36,23 @@ fn place_ends<const N: usize>(buffer: &mut [u8], at: usize, text: &[u8]) -> usiz
     place_front::<N>(buffer, at + last, &text[last..])
 }
 
+/// At most three bytes.
+#[inline(always)]
+fn place_few(buffer: &mut [u8], at: usize, text: &[u8]) -> usize
+    requires fits { at + length text.now ≤ length buffer.old }
+    requires few { length text.now < 4 }
+    ensures { Placed buffer.old buffer.new at text.now result }
+{
+    let len = text.len();
+    if len == 1 {
+        place_front::<1>(buffer, at, text)
+    } else if len == 0 {
+        at
+    } else {
+        place_ends::<2>(buffer, at, text)
+    }
+}
+
 /// Writes a text at a place, and answers where it ends.
 #[inline(always)]
 pub fn place_text(buffer: &mut [u8], at: usize, text: &[u8]) -> usize
@@ -43,19 +60,15 @@ pub fn place_text(buffer: &mut [u8], at: usize, text: &[u8]) -> usize
     ensures { Placed buffer.old buffer.new at text.now result }
 {
     let len = text.len();
-    if len > 32 {
-        place_slice(buffer, at, text)
-    } else if len >= 16 {
-        place_ends::<16>(buffer, at, text)
-    } else if len >= 8 {
-        place_ends::<8>(buffer, at, text)
-    } else if len >= 4 {
+    if len < 4 {
+        place_few(buffer, at, text)
+    } else if len <= 8 {
         place_ends::<4>(buffer, at, text)
-    } else if len >= 2 {
-        place_ends::<2>(buffer, at, text)
-    } else if len == 1 {
-        place_front::<1>(buffer, at, text)
+    } else if len <= 16 {
+        place_ends::<8>(buffer, at, text)
+    } else if len <= 32 {
+        place_ends::<16>(buffer, at, text)
     } else {
-        at
+        place_slice(buffer, at, text)
     }
 }

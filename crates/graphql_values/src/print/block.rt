@@ -83,18 +83,19 @@ fn has_text_in_last_line(text: &str) -> bool
     text.split('\n').last().is_some_and(has_text)
 }
 
-/// Whether no line is of spaces and tabs alone, unless it is empty.
-fn has_empty_lines_or_text(text: &str) -> bool
-    ensures { result ≡ list_all (λ l. not (is_blank l) || spec.is_empty l) (spec.lines_of text.now) }
+/// Whether a line is empty or has text, and doesn't end in a carriage return.
+fn is_whole_line(line: &str) -> bool
+    ensures { result ≡ ((not (is_blank line.now) || spec.is_empty line.now) && not (spec.ends_in_return line.now)) }
 {
-    text.split('\n').all(is_empty_or_text)
+    is_empty_or_text(line) && ends_in_no_return(line)
 }
 
-/// Whether no line ends in a carriage return.
-fn has_no_return_at_an_end(text: &str) -> bool
-    ensures { result ≡ list_all (λ l. not (spec.ends_in_return l)) (spec.lines_of text.now) }
+/// Whether each line is empty or has text, and doesn't end in a carriage return.
+fn has_whole_lines(text: &str) -> bool
+    ensures { result ≡ (list_all (λ l. not (is_blank l) || spec.is_empty l) (spec.lines_of text.now)
+        && list_all (λ l. not (spec.ends_in_return l)) (spec.lines_of text.now)) }
 {
-    text.split('\n').all(ends_in_no_return)
+    text.split('\n').all(is_whole_line)
 }
 
 /// Whether some line begins with anything but a space or a tab.
@@ -112,8 +113,7 @@ pub fn has_block_form(text: &str) -> bool
         && has_block_characters(text)
         && has_text_in_first_line(text)
         && has_text_in_last_line(text)
-        && has_empty_lines_or_text(text)
-        && has_no_return_at_an_end(text)
+        && has_whole_lines(text)
         && has_line_without_indent(text)
 }
 
