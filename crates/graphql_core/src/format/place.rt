@@ -1,5 +1,6 @@
 //! Writing a text at a place in a buffer that has room. A short text is two copies of a fixed size that overlap.
 ghost use Rattle.std.specs.Prelude.{◌+◌, ◌<◌, ◌≤◌, length, take};
+ghost use Rattle.graphql_core.specs.Minified.{space_if};
 ghost use Rattle.graphql_core.specs.steps.Placed.{Placed};
 
 use std::simd::Simd;
@@ -71,4 +72,14 @@ pub fn place_text(buffer: &mut [u8], at: usize, text: &[u8]) -> usize
     } else {
         place_slice(buffer, at, text)
     }
+}
+
+/// Writes a space at a place where one is asked for, with no branch on that, and answers where it ends.
+#[inline(always)]
+pub fn place_space(buffer: &mut [u8], at: usize, is_spaced: bool) -> usize
+    requires { at + 1 ≤ length buffer.old }
+    ensures { Placed buffer.old buffer.new at (space_if is_spaced) result }
+{
+    place_front::<1>(buffer, at, b" ");
+    at + is_spaced as usize
 }

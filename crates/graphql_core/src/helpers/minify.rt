@@ -41,10 +41,7 @@ fn spaced(alloc: Global, stream: &mut TokenStream<'_>) -> Result<String, Fault>
     'tokens: loop {
         match stream.next_token() {
             Ok(Some(token)) => {
-                if is_spaced(before, token) {
-                    text.push_str(" ")?;
-                }
-                text.push_str(token.value)?;
+                text.push_spaced(is_spaced(before, token), token.value)?;
                 before = token.kind;
             }
             Ok(None) => return Ok(text.into_string()),

@@ -1,4 +1,4 @@
-use Rattle.std.proofs.Common.{◌≡◌, ℕ, Bool, List, ◌∷◌, ◌++◌, Option, Some, Ok, subst, sym, ap, ◌∙◌, append_assoc, append-nil}
+use Rattle.std.proofs.Common.{◌≡◌, ℕ, Bool, List, ◌∷◌, ◌++◌, Option, Some, Ok, subst, sym, ap, ◌∙◌, append_assoc}
 use Rattle.graphql_grammar.specs.Tokens.{Token}
 use Rattle.graphql_lexer.specs.declared.tokenizer.token.Token.{Token as Cut}
 use Rattle.graphql_lexer.specs.Items.{Where, Item, item, Lexeme}
@@ -6,7 +6,6 @@ use Rattle.graphql_lexer.specs.Stream.{NextItem}
 use Rattle.graphql_core.specs.Causes.{kind_number}
 use Rattle.graphql_core.specs.Source.{split, token_of}
 use Rattle.graphql_core.specs.Minified.{is_spaced, space_if, spaced_after}
-use Rattle.graphql_core.proofs.helpers.minify.spaced.Goals.{then-is_spaced+in_ok-push_str-in-Ok-Some, else-is_spaced}
 use Rattle.graphql_core.proofs.helpers.minify.spaced.Goals as goal
 
 next_is : (old new : List Item) (o : Option Cut) (t : Cut) → NextItem old (Ok o) new → o ≡ Some t
@@ -14,13 +13,12 @@ next_is : (old new : List Item) (o : Option Cut) (t : Cut) → NextItem old (Ok 
 next_is old new o t h e = subst (λ (p : Option Cut). NextItem old (Ok p) new) e h
 
 -- a token is written after a space, or none
-written : (b : Bool) (before : ℕ) (t : Token) (ts : List Token) (text spaced all : List ℕ) → b ≡ is_spaced before t → spaced ≡ text ++ space_if b
-    → all ≡ spaced ++ t.spelling → text ++ spaced_after before (t ∷ ts) ≡ all ++ spaced_after t.kind ts
-written b before t ts text spaced all is one two =
+written : (b : Bool) (before : ℕ) (t : Token) (ts : List Token) (text all : List ℕ) → b ≡ is_spaced before t → all ≡ text ++ (space_if b ++ t.spelling)
+    → text ++ spaced_after before (t ∷ ts) ≡ all ++ spaced_after t.kind ts
+written b before t ts text all is appended =
     let more = spaced_after t.kind ts in
-    ap (λ (c : Bool). text ++ (space_if c ++ (t.spelling ++ more))) (sym is) ∙ sym (append_assoc text (space_if b) (t.spelling ++ more))
-    ∙ sym (append_assoc (text ++ space_if b) t.spelling more) ∙ ap (λ (l : List ℕ). (l ++ t.spelling) ++ more) (sym one)
-    ∙ ap (λ (l : List ℕ). l ++ more) (sym two)
+    ap (λ (c : Bool). text ++ (space_if c ++ (t.spelling ++ more))) (sym is) ∙ ap (λ (l : List ℕ). text ++ l) (sym (append_assoc (space_if b) t.spelling more))
+    ∙ sym (append_assoc text (space_if b ++ t.spelling) more) ∙ ap (λ (l : List ℕ). l ++ more) (sym appended)
 
 pub tokens-preserved : goal.tokens-preserved
 tokens-preserved c =
@@ -31,11 +29,6 @@ tokens-preserved c =
     record {
       text =
           c.tokens.invariant.text ∙ ap (λ items. c.tokens.text ++ spaced_after before (split items).tokens) is
-          ∙ written c.is_spaced.result before t after c.tokens.text c.if-is_spaced.text c.push_str-in-Ok-Some.new.self (c.is_spaced.ensures w.position) (
-          elim c.if-is_spaced.branch [
-            | then-is_spaced+in_ok-push_str-in-Ok-Some b ↦ rw b.if-is_spaced.true (b.text-is ∙ b.in_ok-push_str-in-Ok-Some.ensures)
-            | else-is_spaced b ↦ rw b.if-is_spaced.false (b.text-is ∙ sym (append-nil c.tokens.text))
-          ]
-          ) c.in_ok-push_str-in-Ok-Some-2.ensures;
+          ∙ written c.is_spaced.result before t after c.tokens.text _ (c.is_spaced.ensures w.position) c.in_ok-push_spaced-in-Ok-Some.ensures;
       last = sym (ap (λ items. (split items).last) is) ∙ c.tokens.invariant.last;
     }
