@@ -1,6 +1,6 @@
 -- A text has the characters of a block string exactly where it has their bytes.
 use Rattle.std.proofs.Common.{◌≡◌, ◌∙◌, ap, sym, refl, ℕ, ◌+◌, ◌/◌, ◌%◌, ◌<◌, ◌≤◌, Bool, true, false, ◌&&◌, inl, inr, List, [], ◌∷◌, nat_lt, nat_le, arith}
-use Rattle.std.specs.List.{list_all}
+use Rattle.std.specs.List.{fold, list_all}
 use Rattle.std.specs.Str.{IsUtf8, chars}
 use Rattle.std.proofs.Math.Utf8.{encode, encodes}
 use Rattle.std.proofs.lemmas.Bool.{cases_Bool}
@@ -70,6 +70,15 @@ encoded_all (c ∷ cs) = list_all-append is_block_byte (encode c) (encodes cs) �
 
 pub block_bytes : (text : List ℕ) → IsUtf8 text → list_all is_block_byte text ≡ list_all is_block_character (chars text)
 block_bytes text u = ap (list_all is_block_byte) (sym (encodes-chars text u)) ∙ encoded_all (chars text)
+
+folded_after : (p : ℕ → Bool) (xs : List ℕ) (all : Bool) → fold (λ a x. a && p x) all xs ≡ (all && list_all p xs)
+folded_after p [] true = refl
+folded_after p [] false = refl
+folded_after p (x ∷ xs) true = folded_after p xs (p x)
+folded_after p (x ∷ xs) false = folded_after p xs false
+
+pub all_folded : (p : ℕ → Bool) (xs : List ℕ) → fold (λ a x. a && p x) true xs ≡ list_all p xs
+all_folded p xs = folded_after p xs true
 
 -- each passes both tests where each passes the one and each passes the other
 pub all_both : (p q : List ℕ → Bool) (xs : List (List ℕ)) → list_all (λ x. p x && q x) xs ≡ (list_all p xs && list_all q xs)

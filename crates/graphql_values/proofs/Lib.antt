@@ -19,6 +19,7 @@ pub mod BlockForm
 pub mod BlockValues
 pub mod TypesBack
 pub mod Ordered
+pub mod OuterLines
 pub mod ValuesBack
 pub mod DirectivesBack
 pub mod LinesBack

@@ -1,14 +1,9 @@
 -- What is written of the characters and lines of strings.
-use Rattle.std.proofs.Common.{◌≡◌, ◌≢◌, ◌∙◌, ap, sym, refl, subst, ℕ, zero, suc, ◌-◌, ◌<◌, ◌≤◌, Bool, true, false, ◌==◌, ◌&&◌}
-use Rattle.std.proofs.Common.{inl, inr, map, Bor, Option, Some, None, nat_lt, List, [], ◌∷◌, ◌++◌, length, get_or, take, drop, codes, arith, append-nil}
-use Rattle.std.specs.Iterator.{AlwaysYields, Drains}
-use Rattle.std.specs.List.{flat_map, last_or, slice_get, slice_index, prefix_len}
-use Rattle.std.specs.Option.{MatchOption}
+use Rattle.std.proofs.Common.{◌≡◌, ◌≢◌, ◌∙◌, ap, sym, refl, subst, ℕ, zero, suc, ◌-◌, ◌<◌, ◌≤◌, true, false, ◌==◌, ◌&&◌}
+use Rattle.std.proofs.Common.{inl, inr, Some, None, nat_lt, List, [], ◌∷◌, ◌++◌, length, get_or, take, drop, codes, arith, append-nil}
+use Rattle.std.specs.List.{flat_map, slice_get, slice_index, prefix_len}
 use Rattle.std.specs.Str.{IsUtf8, IsCharBoundary}
 use Rattle.std.proofs.Math.Utf8.{encode}
-use Rattle.std.proofs.lemmas.Iterator.{YieldsList}
-use Rattle.std.proofs.lemmas.Iterator.Consumers.{YieldsList-end}
-use Rattle.std.proofs.lemmas.List.Splits.{length-slice_split}
 use Rattle.std.proofs.lemmas.Bool.{cases_Bool, and_parts, eqb-true, false_from_ne_true, ne_eqb}
 use Rattle.std.proofs.lemmas.Bool.Decides.{nat_tests}
 use Rattle.std.proofs.lemmas.List.{take_all, drop_all}
@@ -16,7 +11,7 @@ use Rattle.std.proofs.lemmas.Str.{encode_ascii, IsCharBoundary-before_ascii, IsC
 use Rattle.std.proofs.lemmas.List.Sums.{prefix_len_stops, prefix_len-le-length}
 use Rattle.graphql_values.specs.steps.Unescaped.{is_unescaped}
 use Rattle.graphql_lexer.specs.Lexical.{begins_quotes}
-use Rattle.graphql_values.specs.ValueLayout.{hexadecimal_digit, unicode_escape, quoted_byte, escaped_quotes, lines_of, first_line, last_line, ends_in_return}
+use Rattle.graphql_values.specs.ValueLayout.{hexadecimal_digit, unicode_escape, quoted_byte, escaped_quotes, ends_in_return}
 
 -- ---- in quotes
 
@@ -153,38 +148,6 @@ pub escaped_none : (s : List ℕ) → ((k : ℕ) → k ≤ length s → (rest : 
 escaped_none s none =
     plain_before s (length s) (omega arith) (λ k l. none k (omega arith))
     ∙ rw (drop_all (length s) s (omega arith), take_all (length s) s (omega arith)) (append-nil s)
-
--- ---- the first line and the last one
-
-module _ {S : Type 0} {steps : S → Option (Bor (List ℕ)) → S → Type 0} {s : S} (all : List (List ℕ)) (given : YieldsList steps (λ x. x.now) s all)
-    (test : List ℕ → Bool) (answer : Bool) (some : 0 < length all) where
-  first_at : (lines : List (List ℕ)) → AlwaysYields steps (λ x. x.now) s lines → 0 < length lines → (u : S) (r : Option (Bor (List ℕ))) → steps s r u
-      → MatchOption r (answer ≡ false) (λ x. answer ≡ test x.now) → answer ≡ test (first_line lines)
-  first_at [] runs h u r step is = absurd (omega arith)
-  first_at (l ∷ ls) runs h u None step is = absurd (runs.0 u step)
-  first_at (l ∷ ls) runs h u (Some x) step is = is ∙ ap test (runs.1 x u step).0
-
-  -- of the line that comes first
-  pub first_tested : (u : S) (r : Option (Bor (List ℕ))) → steps s r u → MatchOption r (answer ≡ false) (λ x. answer ≡ test x.now)
-      → answer ≡ test (first_line all)
-  first_tested u r = first_at all given.runs some u r
-
-  last_at : (xs : List (Bor (List ℕ))) → 0 < length xs → MatchOption (last_or None xs) (answer ≡ false) (λ x. answer ≡ test x.now)
-      → answer ≡ test (last_line (map (λ x. x.now) xs))
-  last_at [] h is = absurd (omega arith)
-  last_at (x ∷ []) h is = is
-  last_at (x ∷ y ∷ ys) h is = last_at (y ∷ ys) (omega arith) is
-
-  -- of the line that comes last
-  pub last_tested : (r : Option (Bor (List ℕ))) → (xs : List (Bor (List ℕ))) × Drains steps s xs × (r ≡ last_or None xs)
-      → MatchOption r (answer ≡ false) (λ x. answer ≡ test x.now) → answer ≡ test (last_line all)
-  last_tested r (xs, (u, (t, run, end)), which) is =
-      let whole = YieldsList-end given xs t run None u refl end in
-      last_at xs (omega (arith, some, whole.1)) (rw which at is) ∙ ap (λ ls. test (last_line ls)) whole.0
-
--- a text has a line
-pub some_line : (text : List ℕ) → 0 < length (lines_of text)
-some_line text = omega (arith, length-slice_split (λ b. b == 10) text)
 
 -- the last byte of a line
 pub ends_in_return_is : (line : List ℕ) → ends_in_return line ≡ (slice_index line (length line - 1) == 13)

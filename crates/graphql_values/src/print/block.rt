@@ -28,7 +28,8 @@ fn is_block_byte(byte: u8) -> bool
 fn has_block_bytes(text: &str) -> bool
     ensures { result ≡ list_all is_block_byte text.now }
 {
-    text.bytes().all(is_block_byte)
+    text.bytes()
+        .fold(true, |all, byte| all & is_block_byte(byte))
 }
 
 /// Whether each character may stand in a block string.
@@ -69,18 +70,24 @@ fn begins_with_text(line: &str) -> bool
     }
 }
 
-/// Whether the first line has text.
-fn has_text_in_first_line(text: &str) -> bool
-    ensures { result ≡ not (is_blank (spec.first_line (spec.lines_of text.now))) }
+/// Whether the first line isn't empty.
+fn begins_in_a_line(text: &str) -> bool
+    ensures { result ≡ not (spec.is_empty (spec.first_line (spec.lines_of text.now))) }
 {
-    text.split('\n').next().is_some_and(has_text)
+    match text.as_bytes().first() {
+        Some(byte) => *byte != b'\n',
+        None => false,
+    }
 }
 
-/// Whether the last line has text.
-fn has_text_in_last_line(text: &str) -> bool
-    ensures { result ≡ not (is_blank (spec.last_line (spec.lines_of text.now))) }
+/// Whether the last line isn't empty.
+fn ends_in_a_line(text: &str) -> bool
+    ensures { result ≡ not (spec.is_empty (spec.last_line (spec.lines_of text.now))) }
 {
-    text.split('\n').last().is_some_and(has_text)
+    match text.as_bytes().last() {
+        Some(byte) => *byte != b'\n',
+        None => false,
+    }
 }
 
 /// Whether a line is empty or has text, and doesn't end in a carriage return.
@@ -105,16 +112,34 @@ fn has_line_without_indent(text: &str) -> bool
     text.split('\n').any(begins_with_text)
 }
 
+/// Whether neither the first line nor the last one is empty, each is whole, and one begins with text.
+fn has_whole_lines_around(text: &str) -> bool
+    ensures { result ≡ (not (spec.is_empty (spec.first_line (spec.lines_of text.now))) && (not (spec.is_empty (spec.last_line (spec.lines_of text.now)))
+        && ((list_all (λ l. not (is_blank l) || spec.is_empty l) (spec.lines_of text.now)
+        && list_all (λ l. not (spec.ends_in_return l)) (spec.lines_of text.now))
+        && list_any (λ l. not (is_blank l) && not (spec.begins_white l)) (spec.lines_of text.now)))) }
+{
+    begins_in_a_line(text)
+        && ends_in_a_line(text)
+        && has_whole_lines(text)
+        && has_line_without_indent(text)
+}
+
+/// Whether the lines are those of a text that reads back from its block form.
+fn has_block_lines(text: &str) -> bool
+    ensures { result ≡ (not (is_blank (spec.first_line (spec.lines_of text.now))) && (not (is_blank (spec.last_line (spec.lines_of text.now)))
+        && (list_all (λ l. not (is_blank l) || spec.is_empty l) (spec.lines_of text.now)
+        && (list_all (λ l. not (spec.ends_in_return l)) (spec.lines_of text.now)
+        && list_any (λ l. not (is_blank l) && not (spec.begins_white l)) (spec.lines_of text.now))))) }
+{
+    has_whole_lines_around(text)
+}
+
 /// Whether a text reads back from its block form.
 pub fn has_block_form(text: &str) -> bool
     ensures { result ≡ spec.has_block_form text.now }
 {
-    has_line_feed(text)
-        && has_block_characters(text)
-        && has_text_in_first_line(text)
-        && has_text_in_last_line(text)
-        && has_whole_lines(text)
-        && has_line_without_indent(text)
+    has_line_feed(text) && has_block_characters(text) && has_block_lines(text)
 }
 
 /// Appends a line, with a backslash before each three quotes.
