@@ -14,6 +14,9 @@ use std::marker::Model;
 /// The least room of a buffer that has any.
 const LEAST_ROOM: usize = 512;
 
+/// The most bytes that are initialized ahead at once: so few that they are in the cache still when a text comes to them.
+const MOST_AHEAD: usize = 16384;
+
 static ZEROS: [u8; 1024] = [0; 1024];
 
 /// A text that grows at its end.
@@ -36,14 +39,15 @@ impl Model for Buffer {
     ghost invariant = { λ s. (s.len ≤ length s.bytes.items) × IsUtf8 (take s.len s.bytes.items) };
 }
 
-/// Makes the bytes so many, and twice as many as they are.
+/// Makes the bytes so many, and some more ahead.
 #[cold]
 #[inline(never)]
 fn make_room(bytes: &mut Vec<u8>, end: usize) -> Result<(), AllocError>
     ensures front { take (vec_len bytes.old) bytes.new.items ≡ bytes.old.items }
     ensures room { OnOk result (end ≤ vec_len bytes.new) }
 {
-    let wanted = end.max(bytes.len().saturating_mul(2)).max(LEAST_ROOM);
+    let ahead = bytes.len().min(MOST_AHEAD);
+    let wanted = end.max(bytes.len().saturating_add(ahead)).max(LEAST_ROOM);
     'blocks: while bytes.len() < wanted {
         let step = (wanted - bytes.len()).min(ZEROS.len());
         bytes.extend_from_slice(&ZEROS[..step])?;
