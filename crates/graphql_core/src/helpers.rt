@@ -4,6 +4,7 @@ mod cursor;
 mod mark;
 mod matching;
 mod minify;
+mod room;
 mod source;
 mod stop;
 
@@ -11,5 +12,6 @@ pub use cursor::Cursor;
 pub use mark::Mark;
 pub use matching::{keyword, name, sees_keyword, take_mark};
 pub use minify::{minified, spaced_tokens_are_cut};
+pub use room::give_back_room;
 pub use source::{Lexeme, TokenSource};
 pub use stop::{Stop, fault_of};

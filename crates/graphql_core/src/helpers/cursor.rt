@@ -16,6 +16,10 @@ use graphql_lexer::tokenizer::{Bad, Kind, Token, TokenStream, is_name_start};
 use std::alloc::{AllocError, Global};
 use std::marker::{Model, PhantomData};
 
+// How many bytes a long text has at least: 256 KB. The tree of a shorter one is small, so there the time to move its lists
+// would be spent for little memory.
+const LONG_TEXT: usize = 262144;
+
 /// Whether the next item is a token, and else what it is.
 #[derive(Clone, Copy)]
 pub enum Ending<'a> {
@@ -37,6 +41,8 @@ pub struct Cursor<'a, T: Text<'a>> {
     ending: Ending<'a>,
     // The first byte of the next token, 0 where there is none.
     front: u8,
+    // Whether the text has `LONG_TEXT` bytes or more.
+    is_long: bool,
     names: PhantomData<T>,
 }
 
@@ -98,6 +104,7 @@ impl<'a, T: Text<'a>> Cursor<'a, T> {
             token,
             ending,
             front: first_byte(token.value),
+            is_long: source.len() >= LONG_TEXT,
             names: PhantomData,
         }
     }
@@ -200,6 +207,11 @@ impl<'a, T: Text<'a>> TokenSource for Cursor<'a, T> {
     #[inline(always)]
     fn is_at_end(&self) -> bool {
         matches!(self.ending, Ending::End)
+    }
+
+    #[inline(always)]
+    fn is_long(&self) -> bool {
+        self.is_long
     }
 
     #[inline(never)]

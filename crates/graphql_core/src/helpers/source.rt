@@ -59,6 +59,9 @@ pub trait TokenSource {
     fn is_at_end(&self) -> bool
         ensures { IsTrue result ↔ IsAtEnd (items self.now) };
 
+    /// Whether lists that are read give back the room that they have to spare, since the text is long.
+    fn is_long(&self) -> bool;
+
     /// Goes past a token. The end and a bad place stay.
     fn advance(&mut self)
         ensures { items self.new ≡ after (items self.old) };

@@ -100,7 +100,8 @@ fn content_value(alloc: Global, content: &str) -> Result<String, AllocError>
     let width = common_indent(content);
     let first = blank_lines_before(content);
     let through = lines_through_last(content);
-    let mut value = String::new(alloc);
+    // The value is no longer than what stands between the quotes.
+    let mut value = String::with_capacity(alloc, content.len())?;
     'lines: for (index, line) in content.lines().enumerate().take(through).skip(first) {
         if index > first {
             value.push('\n')?;

@@ -66,8 +66,9 @@ pub fn unquote_string(alloc: Global, text: &str) -> Result<String, UnquoteError>
     ensures only { (body v : List ℕ) → IsInQuotes text.now body → HasValue body v → IfOk result (λ s. v ≡ string_bytes s) }
     ensures bad_escape { (body : List ℕ) → IsInQuotes text.now body → IsErrOf result BadEscape → HasNoValue body }
 {
-    let mut value = String::new(alloc);
     let mut rest = &text[1..text.len() - 1];
+    // Its value is no longer than what stands between the quotes.
+    let mut value = String::with_capacity(alloc, rest.len())?;
     'escapes: while let Some((plain, escaped)) = rest.split_once('\\') {
         let (character, after) = escape(escaped).ok_or(UnquoteError::BadEscape)?;
         value.push_str(plain)?;
