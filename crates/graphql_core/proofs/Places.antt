@@ -14,7 +14,7 @@ Placed-then {a} {b} {c} {xs} {ys} {i} p q = record {
 }
 
 -- only the first n bytes of a write are kept
-Placed-less : {a b xs : List ℕ} {i j : ℕ} (n : ℕ) → i ≤ length a → n ≤ length xs → Placed a b i xs j → Placed a b i (take n xs) (i + n)
+pub Placed-less : {a b xs : List ℕ} {i j : ℕ} (n : ℕ) → i ≤ length a → n ≤ length xs → Placed a b i xs j → Placed a b i (take n xs) (i + n)
 Placed-less {a} {b} {xs} {i} {j} n within few p =
     let front = length-take-le i a within in
     record {

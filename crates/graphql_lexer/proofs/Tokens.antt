@@ -1,7 +1,8 @@
 -- Tokens and plain ignored text at the front of a text.
-use Rattle.std.proofs.Common.{◌≡◌, ℕ, ◌+◌, ◌<◌, true, false, ◌||◌, ◌==◌, List, [], ◌∷◌, Option, Some, None, length, get_or, IsUtf8}
+use Rattle.std.proofs.Common.{◌≡◌, ℕ, ◌+◌, ◌<◌, Bool, true, false, ◌||◌, ◌==◌, List, [], ◌∷◌, Option, Some, None, length, take, drop, get_or, IsUtf8}
 use Rattle.std.proofs.Common.{refl, sym, ap, ◌∙◌, inl, inr, arith, eqb-true}
-use Rattle.std.proofs.lemmas.Bool.{cases_Bool}
+use Rattle.std.proofs.lemmas.Bool.{cases_Bool, false≢true}
+use Rattle.std.proofs.lemmas.List.{length-take, take_min}
 use Rattle.std.proofs.lemmas.Bool.Decides.{nat_tests}
 use Rattle.std.specs.Prelude.{IfSome}
 use Rattle.std.specs.Str.{IsCharBoundary}
@@ -14,11 +15,14 @@ use Rattle.graphql_lexer.specs.declared.tokenizer.piece.Nesting.TheVariants.{Lev
 use Rattle.graphql_lexer.specs.declared.tokenizer.piece.Piece.{Piece}
 use Rattle.graphql_lexer.specs.declared.tokenizer.piece.Piece.TheVariants.{AtEnd, Skips, Takes, Stops}
 use Rattle.graphql_lexer.specs.Lexical.{is_name_start, is_name_continue, is_mark, nesting_of}
-use Rattle.graphql_lexer.specs.Items.{Where, is_too_deep}
+use Rattle.graphql_lexer.specs.BadTexts.{too_deep}
+use Rattle.graphql_lexer.specs.Items.{Where, Item, Content, item, Lexeme, End, Wrong, is_token, is_too_deep, past_token, token_then}
+use Rattle.graphql_lexer.specs.steps.Cut.{items, items_by}
+use Rattle.graphql_lexer.specs.Stream.{BeginsWithNext}
 use Rattle.graphql_lexer.specs.steps.Front.{front, token_of, FitsIn, IsItem}
 use Rattle.graphql_lexer.specs.steps.Ahead.{taken, FitsTaken, is_plain, plain_move, is_rare}
 use Rattle.graphql_lexer.proofs.Runs.{differs}
-use Rattle.graphql_lexer.proofs.FrontFits.{front_fits, front_within, Within}
+use Rattle.graphql_lexer.proofs.FrontFits.{front_fits, front_within, items_at, Within}
 use Rattle.graphql_lexer.proofs.Spaces.{no_front, item_first}
 
 -- ---- tokens
@@ -88,6 +92,48 @@ stops_by bytes (Takes n k t) h e item some = absurd cc
 
 pub stops_front : (bytes : List ℕ) → taken (front bytes) ≡ None → IsItem (front bytes) → 0 < length bytes → front bytes ≡ Stops
 stops_front bytes e item some = stops_by bytes (front bytes) (front_within bytes) e item some
+
+-- ---- the text from the next item on
+
+abbrev spelling_of : Content → List ℕ
+spelling_of (Lexeme k value) = value
+spelling_of End = []
+spelling_of (Wrong bad) = []
+
+-- the spelling of the first item, where that is a token
+abbrev spelling : List Item → List ℕ
+spelling [] = []
+spelling (i ∷ is) = spelling_of i.content
+
+abbrev begins : List Item → Bool
+begins [] = false
+begins (i ∷ is) = is_token i.content
+
+other_first : (items : List Item) (k : Kind) (value : List ℕ) (place : Where) (more : List Item) → begins items ≡ false
+    → items ≡ item (Lexeme k value) place ∷ more → ⊥
+other_first items k value place more none e = false≢true (sym none ∙ ap begins e)
+
+take_length_take : (n : ℕ) (xs : List ℕ) → take (length (take n xs)) xs ≡ take n xs
+take_length_take n xs = rw (length-take n xs) (take_min n xs)
+
+begins_token : (w : Where) (bytes : List ℕ) (n : ℕ) (k : Kind) (t : Nesting) (deep : Bool) (next : List Item)
+    → BeginsWithNext (token_then deep (item (Wrong too_deep) w) (item (Lexeme k (take n bytes)) w) next) bytes
+begins_token w bytes n k t true next kind value place more e = absurd (other_first _ kind value place more refl e)
+begins_token w bytes n k t false next kind value place more e =
+    let is : value ≡ take n bytes = sym (ap spelling e) in
+    rw is (take_length_take n bytes)
+
+begins_by : (w : Where) (bytes : List ℕ) (x : Piece) → IsItem x → BeginsWithNext (items_by items w bytes x) bytes
+begins_by w bytes AtEnd h k value place more e = absurd (other_first _ k value place more refl e)
+begins_by w [] Stops h k value place more e = absurd (other_first _ k value place more refl e)
+begins_by w (b ∷ bs) Stops h k value place more e = absurd (other_first _ k value place more refl e)
+begins_by w bytes (Skips n m) h k value place more e = absurd h
+begins_by w bytes (Takes n k t) h kind value place more e =
+    begins_token w bytes n k t (is_too_deep t w) (items (past_token t (take n bytes) w) (drop n bytes)) kind value place more e
+
+pub begins_with_next : (w : Where) (bytes : List ℕ) → IsItem (front bytes) → BeginsWithNext (items w bytes) bytes
+begins_with_next w bytes h =
+    rw (items_at w bytes (front bytes) refl) (begins_by w bytes (front bytes) h)
 
 -- what opens no bracket is not too deep
 pub not_too_deep : (n : Nesting) (w : Where) → (n ≡ Opens → ⊥) → is_too_deep n w ≡ false

@@ -1,6 +1,7 @@
 -- What the calls of a token stream answer.
-use Rattle.std.specs.Prelude.{◌≡◌, ℕ, ◌+◌, ◌-◌, ◌^◌, min, List, [], ◌∷◌, Option, Some, None, Result, Ok, Err}
+use Rattle.std.specs.Prelude.{◌≡◌, ℕ, ◌+◌, ◌-◌, ◌^◌, min, List, [], ◌∷◌, length, take, Option, Some, None, Result, Ok, Err}
 use Rattle.graphql_lexer.specs.declared.position.Pos.{Pos}
+use Rattle.graphql_lexer.specs.declared.tokenizer.token.Kind.{Kind}
 use Rattle.graphql_lexer.specs.declared.tokenizer.token.Token.{Token}
 use Rattle.graphql_lexer.specs.declared.tokenizer.token.Bad.{Bad}
 use Rattle.graphql_lexer.specs.BadTexts.{bad_text}
@@ -24,3 +25,7 @@ abbrev pub NextItem : List Item → Result (Option Token) Bad → List Item → 
 NextItem old (Ok (Some t)) new = (w : Where) × (old ≡ item (Lexeme t.kind t.value.now) w ∷ new)
 NextItem old (Ok None) new = (w : Where) × (old ≡ item End w ∷ []) × (new ≡ old)
 NextItem old (Err bad) new = (w : Where) × (old ≡ item (Wrong (bad_text bad)) w ∷ []) × (new ≡ old)
+
+-- Where the next item is a token, the text begins with its spelling.
+abbrev pub BeginsWithNext : List Item → List ℕ → Type 0
+BeginsWithNext items text = (k : Kind) (value : List ℕ) (w : Where) (more : List Item) → items ≡ item (Lexeme k value) w ∷ more → take (length value) text ≡ value

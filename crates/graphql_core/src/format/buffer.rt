@@ -5,7 +5,7 @@ ghost use Rattle.std.specs.Str.{IsUtf8};
 ghost use Rattle.graphql_core.specs.Minified.{space_if};
 ghost use Rattle.graphql_core.specs.steps.StringSink.{list_nil, list_more};
 
-use crate::format::place::{place_space, place_text};
+use crate::format::place::{WIDE, place_space, place_start, place_text};
 use crate::format::sink::Sink;
 use std::alloc::{AllocError, Global};
 use std::fmt::Display;
@@ -83,42 +83,48 @@ fn append(bytes: &mut Vec<u8>, len: usize, text: &str) -> Result<usize, AllocErr
     Ok(end)
 }
 
-/// Puts some bytes after the first ones, and a space before them where one is asked for; answers how many count then.
+/// Puts some bytes, with which others begin, after the first ones, and a space before them where one is asked for; answers
+/// how many count then.
 #[inline(always)]
 fn append_spaced_bytes(
     bytes: &mut Vec<u8>,
     len: usize,
     is_spaced: bool,
     more: &[u8],
+    from: &[u8],
 ) -> Result<usize, AllocError>
-    requires { len ≤ vec_len bytes.old }
+    requires within { len ≤ vec_len bytes.old }
+    requires begins { take (length more.now) from.now ≡ more.now }
     ensures text { IfOk result (λ end. take end bytes.new.items ≡ take len bytes.old.items ++ (space_if is_spaced ++ more.now)) }
     ensures within { IfOk result (λ end. end ≤ length bytes.new.items) }
     ensures kept { OnErr result ((take len bytes.new.items ≡ take len bytes.old.items) × (len ≤ length bytes.new.items)) }
 {
-    let most = len + more.len() + 1;
+    let most = len + more.len().max(WIDE) + 1;
     if most > bytes.len() {
         make_room(bytes, most)?;
     }
     let start = place_space(bytes.as_mut_slice(), len, is_spaced);
-    Ok(place_text(bytes.as_mut_slice(), start, more))
+    Ok(place_start(bytes.as_mut_slice(), start, more, from))
 }
 
-/// Puts a text after the first bytes, and a space before it where one is asked for; answers how many count then.
+/// Puts a text, with which another begins, after the first bytes, and a space before it where one is asked for; answers how
+/// many count then.
 #[inline(always)]
 fn append_spaced(
     bytes: &mut Vec<u8>,
     len: usize,
     is_spaced: bool,
     text: &str,
+    from: &str,
 ) -> Result<usize, AllocError>
-    requires { len ≤ vec_len bytes.old }
+    requires within { len ≤ vec_len bytes.old }
+    requires begins { take (length text.now) from.now ≡ text.now }
     ensures text { IfOk result (λ end. take end bytes.new.items ≡ take len bytes.old.items ++ (space_if is_spaced ++ text.now)) }
     ensures within { IfOk result (λ end. end ≤ length bytes.new.items) }
     ensures utf8 { IfOk result (λ end. IsUtf8 (take len bytes.old.items) → IsUtf8 (take end bytes.new.items)) }
     ensures kept { OnErr result ((take len bytes.new.items ≡ take len bytes.old.items) × (len ≤ length bytes.new.items)) }
 {
-    let end = append_spaced_bytes(bytes, len, is_spaced, text.as_bytes())?;
+    let end = append_spaced_bytes(bytes, len, is_spaced, text.as_bytes(), from.as_bytes())?;
     Ok(end)
 }
 
@@ -134,12 +140,13 @@ impl Buffer {
         }
     }
 
-    /// Appends a text, and a space before it where one is asked for.
+    /// Appends a text, with which another begins, and a space before it where one is asked for.
     #[inline(always)]
-    pub fn push_spaced(&mut self, is_spaced: bool, text: &str) -> Result<(), AllocError>
+    pub fn push_spaced(&mut self, is_spaced: bool, text: &str, from: &str) -> Result<(), AllocError>
+        requires { take (length text.now) from.now ≡ text.now }
         ensures { OnOk result (self.new ≡ self.old ++ (space_if is_spaced ++ text.now)) }
     {
-        self.len = append_spaced(&mut self.bytes, self.len, is_spaced, text)?;
+        self.len = append_spaced(&mut self.bytes, self.len, is_spaced, text, from)?;
         Ok(())
     }
 

@@ -1,5 +1,5 @@
 //! Writing a text at a place in a buffer that has room. A short text is two copies of a fixed size that overlap.
-ghost use Rattle.std.specs.Prelude.{◌+◌, ◌<◌, ◌≤◌, length, take};
+ghost use Rattle.std.specs.Prelude.{◌≡◌, ◌+◌, ◌<◌, ◌≤◌, length, take};
 ghost use Rattle.graphql_core.specs.Minified.{space_if};
 ghost use Rattle.graphql_core.specs.steps.Placed.{Placed};
 
@@ -71,6 +71,26 @@ pub fn place_text(buffer: &mut [u8], at: usize, text: &[u8]) -> usize
         place_ends::<16>(buffer, at, text)
     } else {
         place_slice(buffer, at, text)
+    }
+}
+
+/// The bytes that are stored at once where a text is followed by more than is wanted of it.
+pub const WIDE: usize = 16;
+
+/// Writes at a place a text with which another begins, and answers where it ends. A short one is one load from the other
+/// and one store, whatever its length.
+#[inline(always)]
+pub fn place_start(buffer: &mut [u8], at: usize, text: &[u8], from: &[u8]) -> usize
+    requires fits { at + length text.now ≤ length buffer.old }
+    requires wide { at + 16 ≤ length buffer.old }
+    requires begins { take (length text.now) from.now ≡ text.now }
+    ensures { Placed buffer.old buffer.new at text.now result }
+{
+    if text.len() <= WIDE && from.len() >= WIDE {
+        place_front::<WIDE>(buffer, at, from);
+        at + text.len()
+    } else {
+        place_text(buffer, at, text)
     }
 }
 

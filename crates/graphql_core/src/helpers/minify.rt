@@ -39,9 +39,10 @@ fn spaced(alloc: Global, stream: &mut TokenStream<'_>) -> Result<String, Fault>
     let mut text = Buffer::new(alloc);
     let mut before = Kind::Punctuator;
     'tokens: loop {
+        let from = stream.rest();
         match stream.next_token() {
             Ok(Some(token)) => {
-                text.push_spaced(is_spaced(before, token), token.value)?;
+                text.push_spaced(is_spaced(before, token), token.value, from)?;
                 before = token.kind;
             }
             Ok(None) => return Ok(text.into_string()),

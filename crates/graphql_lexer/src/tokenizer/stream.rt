@@ -2,7 +2,7 @@
 ghost use Rattle.std.specs.Prelude.{◌≡◌, ℕ, List, ◌+◌, ◌-◌, ◌*◌, ◌/◌, ◌<◌, ◌≤◌, ◌^◌, length, slice_index, IfSome, Ok, Some, None, true};
 ghost use Rattle.graphql_lexer.specs.Lexical.{steps_over};
 ghost use Rattle.graphql_lexer.specs.Items.{Where, Item, moved, past, past_character, HasItems, depth_of, openers_after, closers_after, is_full, is_too_deep};
-ghost use Rattle.graphql_lexer.specs.Stream.{NextItem, further, next_place, one_more};
+ghost use Rattle.graphql_lexer.specs.Stream.{NextItem, BeginsWithNext, further, next_place, one_more};
 ghost use Rattle.graphql_lexer.specs.steps.Front.{front, IsItem, IsFlat, is_quoted};
 ghost use Rattle.graphql_lexer.specs.steps.Cut.{items};
 ghost use Rattle.graphql_lexer.specs.steps.Ahead.{is_plain, plain_move};
@@ -399,6 +399,14 @@ impl<'a> TokenStream<'a> {
         ensures { result ≡ (next_place self.now.items).offset }
     {
         self.size - self.rest.len()
+    }
+
+    /// What is left of the text, from the next item on. Where that is a token, it begins with its spelling.
+    #[inline(always)]
+    pub fn rest(&self) -> &'a str
+        ensures { BeginsWithNext self.now.items result.now }
+    {
+        self.rest
     }
 
     /// The opening brackets before the next item, less the closing ones.

@@ -1,0 +1,10 @@
+use Rattle.std.proofs.Common.{◌∙◌, length, take-take, length-take-le, arith}
+use Rattle.graphql_core.proofs.Places.{Placed-less}
+use Rattle.graphql_core.proofs.format.place.place_start.Goals as goal
+
+pub returns-then-from-ge-WIDE : goal.returns-then-from-ge-WIDE
+returns-then-from-ge-WIDE c =
+    let text = c.args.text.now in
+    let from = c.args.from.now in
+    let is = take-take (length text) 16 from (omega arith) ∙ c.requires.begins in
+    rw is at (Placed-less (length text) (omega arith) (omega (arith, length-take-le 16 from (omega arith))) c.place_front.ensures)
