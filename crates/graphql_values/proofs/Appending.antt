@@ -1,5 +1,5 @@
 -- Texts appended to a sink one after the other, and the text of parts.
-use Rattle.std.proofs.Common.{◌≡◌, ◌++◌, ◌∙◌, ap, sym, refl, subst, ℕ, List, [], ◌∷◌, codes, Result, OnOk, append_assoc, append-nil}
+use Rattle.std.proofs.Common.{◌≡◌, ◌++◌, ◌∙◌, ap, sym, refl, subst, ℕ, List, [], ◌∷◌, codes, Result, Ok, Err, OnOk, append_assoc, append-nil}
 use Rattle.std.proofs.lemmas.Result.{on_ok_weaker}
 use Rattle.graphql_core.specs.Parts.{Part, part_text, text_of, mark}
 use Rattle.graphql_values.specs.Values.{TypeTree, list_of, non_null}
@@ -19,6 +19,11 @@ pub non_null_text : (t : TypeTree) → text_of (type_layout t) ++ codes "!" ≡ 
 non_null_text t = sym (text_append (type_layout t) (mark (codes "!")))
 
 -- ---- sinks
+
+-- what holds anyhow holds of a success
+pub on_ok : {A E P : Type 0} (r : Result A E) → P → OnOk r P
+on_ok (Ok x) p = p
+on_ok (Err e) p = tt
 
 module _ {S : Type 0} (took : S → List ℕ → S → Type 0)
     (more : (s : S) (a : List ℕ) (t : S) (b : List ℕ) (u : S) → took s a t → took t b u → took s (a ++ b) u) where

@@ -2,14 +2,17 @@
 use Rattle.std.proofs.Common.{◌≡◌, ◌∙◌, ◌≤◌, ◌<◌, ◌+◌, ℕ, List, [], ◌∷◌, length, drop, get_or, max, min, ap, subst, sym, arith}
 use Rattle.std.proofs.lemmas.List.{at_drop_all, at_drop_more}
 
--- once all were seen, the count so far is that of all, and all are lawful
-pub all_counted : {X T : Type 0} (view : List X → T) (levels : T → ℕ) (AreLawful : T → Type 0) (xs all : List X) (i most bound : ℕ) → length xs ≤ i → xs ≡ all
-    → levels (view []) ≡ 0 → AreLawful (view []) → max most (min (levels (view (drop i xs))) bound) ≡ min (levels (view xs)) bound
-    → (AreLawful (view (drop i xs)) → AreLawful (view xs)) → (most ≡ min (levels (view all)) bound) × AreLawful (view all)
-all_counted view levels AreLawful xs all i most bound seen same none lawful count law =
-    let end = at_drop_all view xs i seen in
-    let left = rw (end, none, same) at count in
-    (omega (arith, left), subst (λ ys. AreLawful (view ys)) same (law (subst AreLawful (sym end) lawful)))
+module _ {X T : Type 0} (view : List X → T) (xs all : List X) (i : ℕ) (seen : length xs ≤ i) (same : xs ≡ all) where
+  -- once all were seen, the count so far is that of all
+  pub all_counted : (levels : T → ℕ) (most bound : ℕ) → levels (view []) ≡ 0 → max most (min (levels (view (drop i xs))) bound) ≡ min (levels (view xs)) bound
+      → most ≡ min (levels (view all)) bound
+  all_counted levels most bound none count =
+      let left = rw (at_drop_all view xs i seen, none, same) at count in
+      omega (arith, left)
+
+  -- once all were seen, what the seen ones give holds of all
+  pub all_hold : (P : T → Type 0) → P (view []) → (P (view (drop i xs)) → P (view xs)) → P (view all)
+  all_hold P none law = subst (λ ys. P (view ys)) same (law (subst P (sym (at_drop_all view xs i seen)) none))
 
 -- the item at i, and those after it
 pub item_here : {X : Type 0} (xs : List X) (i : ℕ) (x : X) → i < length xs → x ≡ get_or xs i x → drop i xs ≡ x ∷ drop (i + 1) xs

@@ -1,8 +1,9 @@
 -- What Display writes once the width was checked: it fits, and it is the text in the default style.
-use Rattle.std.proofs.Common.{◌≡◌, ◌+◌, ◌-◌, ◌*◌, ◌^◌, ◌<◌, ◌↔◌, ℕ, Result, Ok, Err, IsOk, OnOk, false, true, min, subst, sym, arith}
+use Rattle.std.proofs.Common.{◌≡◌, ◌+◌, ◌-◌, ◌*◌, ◌^◌, ◌<◌, ◌↔◌, ℕ, Result, Ok, Err, IsOk, OnOk, false, true, min, subst, arith}
 use Rattle.std.proofs.lemmas.Bool.{false≢true}
 use Rattle.graphql_core.specs.Style.{Layout, default_style}
 use Rattle.graphql_values.specs.ValueLayout.{IsTooWide, IsNarrow}
+use Rattle.graphql_values.proofs.Appending.{on_ok}
 
 -- what a check says that let so many levels through
 abbrev pub LetThrough : Layout → ℕ → Type 0
@@ -17,10 +18,6 @@ fits style levels n counted through =
 -- the same of what stands at the outside, with no margin
 pub fits_outside : (style : Layout) (levels n : ℕ) → levels ≡ min n (2 ^ 64 - 1) → LetThrough style levels → 0 + n * style.indent < 2 ^ 32
 fits_outside style levels n counted through = omega (arith, fits style levels n counted through)
-
-on_ok : {A E P : Type 0} (r : Result A E) → P → OnOk r P
-on_ok (Ok x) p = p
-on_ok (Err e) p = tt
 
 -- it is not too wide in the default style
 pub narrow : {A E : Type 0} (r : Result A E) (levels n : ℕ) → levels ≡ min n (2 ^ 64 - 1) → LetThrough default_style levels → OnOk r (IsNarrow n)

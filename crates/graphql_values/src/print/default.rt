@@ -14,8 +14,7 @@ use graphql_core::format::{Sink, Style};
 
 /// How many levels a default value opens at once, saturating at `usize::MAX`; none where there is none.
 pub fn levels_in_default<N: Names>(value: &Option<Value<N>>, style: &Style) -> usize
-    ensures levels { result ≡ min (default_levels style.now (option_map (value_view N.bytes) value.now)) (2 ^ 64 - 1) }
-    ensures lawful { IfSome (option_map (value_view N.bytes) value.now) IsLawful }
+    ensures { result ≡ min (default_levels style.now (option_map (value_view N.bytes) value.now)) (2 ^ 64 - 1) }
 {
     match value {
         Some(value) => levels_in_value(value, style),
@@ -31,7 +30,8 @@ pub fn write_default<S: Sink, N: Names>(
     margin: usize,
 ) -> Result<(), S::Error>
     requires { margin + default_levels style.now (option_map (value_view N.bytes) value.now) * style.now.indent < 2 ^ 32 }
-    ensures { OnOk result (S.took out.old (text_of (default_layout style.now margin (option_map (value_view N.bytes) value.now))) out.new) }
+    ensures text { OnOk result (S.took out.old (text_of (default_layout style.now margin (option_map (value_view N.bytes) value.now))) out.new) }
+    ensures lawful { OnOk result (IfSome (option_map (value_view N.bytes) value.now) IsLawful) }
 {
     let Some(value) = value else {
         return Ok(());

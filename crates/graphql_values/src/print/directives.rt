@@ -1,6 +1,7 @@
 //! Arguments and directives.
 ghost use Rattle.std.specs.Prelude.{◌+◌, ◌*◌, ◌^◌, ◌<◌, OnOk};
 ghost use Rattle.graphql_core.specs.Parts.{text_of};
+ghost use Rattle.graphql_values.specs.Lawful.{AreLawfulArguments, AreLawfulDirectives};
 ghost use Rattle.graphql_values.specs.ValueViews.{arguments_view, directive_view, directives_view};
 ghost use Rattle.graphql_values.specs.ValueLayout.{arguments_layout, arguments_levels, directive_layout, directives_layout, directives_levels};
 
@@ -18,7 +19,8 @@ pub fn write_arguments<S: Sink, N: Names>(
     margin: usize,
 ) -> Result<(), S::Error>
     requires { margin + arguments_levels style.now (arguments_view N.bytes arguments.now.items) * style.now.indent < 2 ^ 32 }
-    ensures { OnOk result (S.took out.old (text_of (arguments_layout style.now margin (arguments_view N.bytes arguments.now.items))) out.new) }
+    ensures text { OnOk result (S.took out.old (text_of (arguments_layout style.now margin (arguments_view N.bytes arguments.now.items))) out.new) }
+    ensures lawful { OnOk result (AreLawfulArguments (arguments_view N.bytes arguments.now.items)) }
 {
     if arguments.is_empty() {
         return Ok(());
@@ -43,7 +45,8 @@ pub fn write_directive<S: Sink, N: Names>(
     margin: usize,
 ) -> Result<(), S::Error>
     requires { margin + arguments_levels style.now (directive_view N.bytes directive.now).arguments * style.now.indent < 2 ^ 32 }
-    ensures { OnOk result (S.took out.old (text_of (directive_layout style.now margin (directive_view N.bytes directive.now))) out.new) }
+    ensures text { OnOk result (S.took out.old (text_of (directive_layout style.now margin (directive_view N.bytes directive.now))) out.new) }
+    ensures lawful { OnOk result (AreLawfulArguments (directive_view N.bytes directive.now).arguments) }
 {
     out.push_str("@")?;
     out.push_str(N::view(&directive.name))?;
@@ -58,7 +61,8 @@ pub fn write_directives<S: Sink, N: Names>(
     margin: usize,
 ) -> Result<(), S::Error>
     requires { margin + directives_levels style.now (directives_view N.bytes directives.now.items) * style.now.indent < 2 ^ 32 }
-    ensures { OnOk result (S.took out.old (text_of (directives_layout style.now margin (directives_view N.bytes directives.now.items))) out.new) }
+    ensures text { OnOk result (S.took out.old (text_of (directives_layout style.now margin (directives_view N.bytes directives.now.items))) out.new) }
+    ensures lawful { OnOk result (AreLawfulDirectives (directives_view N.bytes directives.now.items)) }
 {
     'directives: for directive in directives {
         out.push_str(" ")?;

@@ -1,13 +1,12 @@
 //! How many levels a layout opens at once, and whether it is too wide.
 ghost use Rattle.std.specs.Prelude.{◌≡◌, ◌-◌, ◌^◌, ◌↔◌, ℕ, IsTrue, IsErr, min};
-ghost use Rattle.graphql_values.specs.Lawful.{IsLawful, AreLawful, AreLawfulArguments, AreLawfulDirectives};
-ghost use Rattle.graphql_values.specs.Values.{int, float, list, object};
+ghost use Rattle.graphql_values.specs.Values.{list, object};
 ghost use Rattle.graphql_values.specs.ValueViews.{value_view, items_view, members_view, arguments_view, directives_view};
 ghost use Rattle.graphql_values.specs.ValueLayout.{IsTooWide, arguments_levels, directives_levels, opened, string_levels, value_levels};
 
 use crate::print::block::has_block_form;
 use crate::tree::{Directive, Value};
-use graphql_core::common::{FloatLiteral, Names, Number};
+use graphql_core::common::Names;
 use graphql_core::format::Style;
 use std::collections::BTreeMap;
 use std::fmt;
@@ -26,35 +25,14 @@ fn levels_around(style: &Style, levels: usize) -> usize
 /// How many levels a value opens at once, saturating at `usize::MAX`.
 #[cycle(levels)]
 pub fn levels_in_value<N: Names>(value: &Value<N>, style: &Style) -> usize
-    ensures levels { result ≡ min (value_levels style.now (value_view N.bytes value.now)) (2 ^ 64 - 1) }
-    ensures lawful { IsLawful (value_view N.bytes value.now) }
+    ensures { result ≡ min (value_levels style.now (value_view N.bytes value.now)) (2 ^ 64 - 1) }
 {
     match value {
         Value::String(text) => levels_in_string(text.as_str()),
         Value::List(items) => levels_in_list(items, style),
         Value::Object(members) => levels_in_object(members, style),
-        Value::Int(number) => levels_in_number(number),
-        Value::Float(literal) => levels_in_float(literal),
         _ => 0,
     }
-}
-
-/// A number opens none.
-fn levels_in_number(number: &Number) -> usize
-    ensures none { result ≡ 0 }
-    ensures lawful { IsLawful (int number.now) }
-{
-    let _value = number.as_i64();
-    0
-}
-
-/// A float opens none.
-fn levels_in_float(literal: &FloatLiteral) -> usize
-    ensures none { result ≡ 0 }
-    ensures lawful { IsLawful (float literal.now) }
-{
-    let _text = literal.as_str();
-    0
 }
 
 /// How many levels a string opens.
@@ -66,8 +44,7 @@ pub fn levels_in_string(text: &str) -> usize
 
 #[cycle(levels)]
 fn levels_in_list<N: Names>(items: &Vec<Value<N>>, style: &Style) -> usize
-    ensures levels { result ≡ min (value_levels style.now (list (items_view N.bytes items.now.items))) (2 ^ 64 - 1) }
-    ensures lawful { AreLawful (items_view N.bytes items.now.items) }
+    ensures { result ≡ min (value_levels style.now (list (items_view N.bytes items.now.items))) (2 ^ 64 - 1) }
 {
     let mut most = 0;
     'items: for item in items {
@@ -78,8 +55,7 @@ fn levels_in_list<N: Names>(items: &Vec<Value<N>>, style: &Style) -> usize
 
 #[cycle(levels)]
 fn levels_in_object<N: Names>(members: &BTreeMap<N::Value, Value<N>>, style: &Style) -> usize
-    ensures levels { result ≡ min (value_levels style.now (object (members_view N.bytes members.now.entries))) (2 ^ 64 - 1) }
-    ensures lawful { IsLawful (object (members_view N.bytes members.now.entries)) }
+    ensures { result ≡ min (value_levels style.now (object (members_view N.bytes members.now.entries))) (2 ^ 64 - 1) }
 {
     let mut most = 0;
     'members: for (_name, member) in members.iter() {
@@ -90,8 +66,7 @@ fn levels_in_object<N: Names>(members: &BTreeMap<N::Value, Value<N>>, style: &St
 
 /// How many levels arguments open at once, saturating at `usize::MAX`.
 pub fn levels_in_arguments<N: Names>(arguments: &Vec<(N::Value, Value<N>)>, style: &Style) -> usize
-    ensures levels { result ≡ min (arguments_levels style.now (arguments_view N.bytes arguments.now.items)) (2 ^ 64 - 1) }
-    ensures lawful { AreLawfulArguments (arguments_view N.bytes arguments.now.items) }
+    ensures { result ≡ min (arguments_levels style.now (arguments_view N.bytes arguments.now.items)) (2 ^ 64 - 1) }
 {
     if arguments.is_empty() {
         return 0;
@@ -105,8 +80,7 @@ pub fn levels_in_arguments<N: Names>(arguments: &Vec<(N::Value, Value<N>)>, styl
 
 /// How many levels directives open at once, saturating at `usize::MAX`.
 pub fn levels_in_directives<N: Names>(directives: &Vec<Directive<N>>, style: &Style) -> usize
-    ensures levels { result ≡ min (directives_levels style.now (directives_view N.bytes directives.now.items)) (2 ^ 64 - 1) }
-    ensures lawful { AreLawfulDirectives (directives_view N.bytes directives.now.items) }
+    ensures { result ≡ min (directives_levels style.now (directives_view N.bytes directives.now.items)) (2 ^ 64 - 1) }
 {
     let mut most = 0;
     'directives: for directive in directives {

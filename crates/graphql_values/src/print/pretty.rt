@@ -25,13 +25,13 @@ pub trait Pretty {
 
     /// How many levels it opens at once, saturating at `usize::MAX`.
     fn levels(&self, style: &Style) -> usize
-        ensures levels { result ≡ min (opens style.now self.now) (2 ^ 64 - 1) }
-        ensures lawful { lawful self.now };
+        ensures { result ≡ min (opens style.now self.now) (2 ^ 64 - 1) };
 
     /// Appends its text in a style, at a margin.
     fn write<S: Sink>(&self, out: &mut S, style: &Style, margin: usize) -> Result<(), S::Error>
         requires { margin + opens style.now self.now * style.now.indent < 2 ^ 32 }
-        ensures { OnOk result (S.took out.old (text_of (lines style.now margin self.now)) out.new) };
+        ensures text { OnOk result (S.took out.old (text_of (lines style.now margin self.now)) out.new) }
+        ensures lawful { OnOk result (lawful self.now) };
 }
 
 /// Displays a tree in the default style, unless that is too wide.
@@ -50,8 +50,7 @@ pub fn fmt_in_default_style<P: Pretty, W: fmt::Write>(
 
 /// How many levels the most that one of some trees opens is, saturating at `usize::MAX`.
 pub fn levels_in_each<P: Pretty>(parts: &[P], style: &Style) -> usize
-    ensures levels { result ≡ min (most (P.opens style.now) parts.now) (2 ^ 64 - 1) }
-    ensures lawful { AllByRecursion P.lawful parts.now }
+    ensures { result ≡ min (most (P.opens style.now) parts.now) (2 ^ 64 - 1) }
 {
     let mut most = 0;
     'parts: for part in parts {
@@ -68,7 +67,8 @@ pub fn write_each<S: Sink, P: Pretty>(
     margin: usize,
 ) -> Result<(), S::Error>
     requires { margin + most (P.opens style.now) parts.now * style.now.indent < 2 ^ 32 }
-    ensures { OnOk result (S.took out.old (text_of (flat_map (P.lines style.now margin) parts.now)) out.new) }
+    ensures text { OnOk result (S.took out.old (text_of (flat_map (P.lines style.now margin) parts.now)) out.new) }
+    ensures lawful { OnOk result (AllByRecursion P.lawful parts.now) }
 {
     'parts: for part in parts {
         part.write(out, style, margin)?;
@@ -85,7 +85,8 @@ pub fn write_joined<S: Sink, P: Pretty>(
     margin: usize,
 ) -> Result<(), S::Error>
     requires { margin + most (P.opens style.now) parts.now * style.now.indent < 2 ^ 32 }
-    ensures { OnOk result (S.took out.old (joined separator.now (map (λ p. text_of (P.lines style.now margin p)) parts.now)) out.new) }
+    ensures text { OnOk result (S.took out.old (joined separator.now (map (λ p. text_of (P.lines style.now margin p)) parts.now)) out.new) }
+    ensures lawful { OnOk result (AllByRecursion P.lawful parts.now) }
 {
     let Some((first, others)) = parts.split_first() else {
         return Ok(());

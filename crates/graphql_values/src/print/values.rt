@@ -1,6 +1,7 @@
 //! Values.
 ghost use Rattle.std.specs.Prelude.{◌+◌, ◌*◌, ◌^◌, ◌<◌, OnOk};
 ghost use Rattle.graphql_core.specs.Parts.{text_of};
+ghost use Rattle.graphql_values.specs.Lawful.{IsLawful, AreLawful};
 ghost use Rattle.graphql_values.specs.Values.{list, object};
 ghost use Rattle.graphql_values.specs.ValueViews.{value_view, items_view, members_view};
 ghost use Rattle.graphql_values.specs.ValueLayout.{value_layout, value_levels};
@@ -21,7 +22,8 @@ pub fn write_value<S: Sink, N: Names>(
     margin: usize,
 ) -> Result<(), S::Error>
     requires { margin + value_levels style.now (value_view N.bytes value.now) * style.now.indent < 2 ^ 32 }
-    ensures { OnOk result (S.took out.old (text_of (value_layout style.now margin (value_view N.bytes value.now))) out.new) }
+    ensures text { OnOk result (S.took out.old (text_of (value_layout style.now margin (value_view N.bytes value.now))) out.new) }
+    ensures lawful { OnOk result (IsLawful (value_view N.bytes value.now)) }
 {
     match value {
         Value::Variable(name) => {
@@ -48,7 +50,8 @@ fn write_list<S: Sink, N: Names>(
     margin: usize,
 ) -> Result<(), S::Error>
     requires { margin + value_levels style.now (list (items_view N.bytes items.now.items)) * style.now.indent < 2 ^ 32 }
-    ensures { OnOk result (S.took out.old (text_of (value_layout style.now margin (list (items_view N.bytes items.now.items)))) out.new) }
+    ensures text { OnOk result (S.took out.old (text_of (value_layout style.now margin (list (items_view N.bytes items.now.items)))) out.new) }
+    ensures lawful { OnOk result (AreLawful (items_view N.bytes items.now.items)) }
 {
     out.push_str("[")?;
     let indented = inside(style, margin);
@@ -70,7 +73,8 @@ fn write_object<S: Sink, N: Names>(
     margin: usize,
 ) -> Result<(), S::Error>
     requires { margin + value_levels style.now (object (members_view N.bytes members.now.entries)) * style.now.indent < 2 ^ 32 }
-    ensures { OnOk result (S.took out.old (text_of (value_layout style.now margin (object (members_view N.bytes members.now.entries)))) out.new) }
+    ensures text { OnOk result (S.took out.old (text_of (value_layout style.now margin (object (members_view N.bytes members.now.entries)))) out.new) }
+    ensures lawful { OnOk result (IsLawful (object (members_view N.bytes members.now.entries))) }
 {
     out.push_str("{")?;
     let indented = inside(style, margin);

@@ -1,10 +1,12 @@
 use Rattle.std.proofs.Common.{arith, ◌∙◌, ◌++◌, ◌^◌, ap, sym, refl, codes}
 use Rattle.std.proofs.lemmas.List.{at_drop_all}
 use Rattle.graphql_core.specs.Parts.{text_of}
+use Rattle.graphql_values.specs.Lawful.{AreLawfulArguments}
 use Rattle.graphql_values.specs.ValueViews.{value_view, arguments_view}
 use Rattle.graphql_values.specs.ValueLayout.{parts, value_layout, pair_layout, each_argument}
 use Rattle.graphql_values.proofs.Views.{argument_here}
-use Rattle.graphql_values.proofs.Appending.{alike, and_last, all_done}
+use Rattle.graphql_values.proofs.Appending.{alike, and_last, all_done, on_ok}
+use Rattle.graphql_values.proofs.Counting.{all_hold}
 use Rattle.graphql_values.proofs.Enclosed.{narrower, pair_text, enclosed_text, and_next, some_items, arguments_fit, filled_layout}
 use Rattle.graphql_values.proofs.print.directives.write_arguments.Goals as goal
 
@@ -22,7 +24,7 @@ arguments-init g c =
     let xs = c.args.arguments.now.items in
     let some = some_items _ xs c.args.arguments.now.ok.0 (sym c.is_empty.ensures ∙ c.if-is_empty.false) in
     let fits = arguments_fit (λ a. (bytes a.0, value_view bytes a.1)) c.args.style.now c.args.margin (2 ^ 32) xs some c.requires in
-    record { bound = rw (c.deref-argument-items.ensures.value, c.inside-indented.ensures) fits; wrote = (codes "(", c.in_ok-push_str.ensures, refl) }
+    record { bound = rw (c.deref-argument-items.ensures.value, c.inside-indented.ensures) fits; wrote = (codes "(", c.in_ok-push_str.ensures, refl); lawful = λ h. h }
 
 pub write_value-requires : goal.write_value-requires
 write_value-requires g c =
@@ -47,16 +49,17 @@ arguments-preserved g c =
     let value = value_layout style margin (value_view bytes c.argument-item.result.1) in
     let pair : g.S.Sink.took c.write_before_part.new.out (text_of (pair_layout name value)) c.write_value.new.out =
     alike g.S.Sink.took more _ _ _ _ (ap (λ n. (n ++ codes ": ") ++ text_of value) c.view.ensures ∙ pair_text name value)
-    (more _ _ _ _ _ c.in_ok-write_label.ensures c.in_ok-write_value.ensures) in
+    (more _ _ _ _ _ c.in_ok-write_label.ensures c.in_ok-write_value.ensures.text) in
     record {
       bound = fits.1;
       wrote = and_next g.S.Sink.took more style margin c.arguments.is_later
           (pair_layout name value) _ _ _ _ _ done _ wrote c.in_ok-write_before_part.ensures pair
           (ap (λ r. done ++ text_of (parts style margin c.arguments.is_later (each_argument style margin r))) (sym here) ∙ rest);
+      lawful = λ h. c.arguments.invariant.lawful (rw here (c.in_ok-write_value.ensures.lawful, h));
     }
 
-pub returns : goal.returns
-returns g c =
+pub returns-clause-text : goal.returns-clause-text
+returns-clause-text g c =
     let bytes = g.N.Names.bytes in
     let style = c.args.style.now in
     let margin = c.inside-indented.result in
@@ -71,3 +74,9 @@ returns g c =
     (rw c.deref-argument-items.ensures.value
     (enclosed_text style c.args.margin margin (codes "(") (codes ")") (λ m. each_argument style m (arguments_view bytes xs)) c.inside-indented.ensures
     ∙ ap text_of (filled_layout (λ a. (bytes a.0, value_view bytes a.1)) style c.args.margin xs some)))
+
+pub returns-clause-lawful : goal.returns-clause-lawful
+returns-clause-lawful g c =
+    on_ok c.write_closer.result
+    (all_hold (arguments_view g.N.Names.bytes) c.deref-argument-items.result.now c.args.arguments.now.items c.arguments.argument-index (omega arith)
+    c.deref-argument-items.ensures.value AreLawfulArguments tt c.arguments.invariant.lawful)

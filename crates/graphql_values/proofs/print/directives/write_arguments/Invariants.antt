@@ -1,5 +1,6 @@
 use Rattle.std.proofs.Common.{◌≡◌, ◌++◌, ◌+◌, ◌*◌, ◌<◌, ◌^◌, List, ℕ, drop, false, codes}
 use Rattle.graphql_core.specs.Parts.{text_of}
+use Rattle.graphql_values.specs.Lawful.{AreLawfulArguments}
 use Rattle.graphql_values.specs.ValueViews.{arguments_view}
 use Rattle.graphql_values.specs.ValueLayout.{parts, each_argument, most_levels}
 use Rattle.graphql_values.proofs.print.directives.write_arguments.Given as goal
@@ -13,4 +14,5 @@ invariant-arguments g l =
       wrote : (done : List ℕ) × g.S.Sink.took l.fn.out done l.out
           × (done ++ text_of (parts l.style l.indented l.is_later (each_argument l.style l.indented left)) ≡ codes "("
           ++ text_of (parts l.style l.indented false (each_argument l.style l.indented whole)));
+      lawful : AreLawfulArguments left → AreLawfulArguments whole;
     }

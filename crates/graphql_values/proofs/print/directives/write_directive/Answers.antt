@@ -6,12 +6,12 @@ use Rattle.graphql_values.proofs.Appending.{and_last}
 use Rattle.graphql_values.proofs.Enclosed.{directive_text}
 use Rattle.graphql_values.proofs.print.directives.write_directive.Goals as goal
 
-pub returns : goal.returns
-returns g c =
+pub returns-clause-text : goal.returns-clause-text
+returns-clause-text g c =
     let bytes = g.N.Names.bytes in
     let style = c.args.style.now in
     let margin = c.args.margin in
     and_last g.S.Sink.took g.met.S.Sink.took_more _ _ _ _ _ _ _
-    (g.met.S.Sink.took_more _ _ _ _ _ c.in_ok-push_str.ensures c.in_ok-push_str-2.ensures) c.write_arguments.ensures
+    (g.met.S.Sink.took_more _ _ _ _ _ c.in_ok-push_str.ensures c.in_ok-push_str-2.ensures) c.write_arguments.ensures.text
     (ap (λ n. (codes "@" ++ n) ++ text_of (arguments_layout style margin (arguments_view bytes c.args.directive.now.arguments.items))) c.view.ensures
     ∙ directive_text style margin (directive_view bytes c.args.directive.now))

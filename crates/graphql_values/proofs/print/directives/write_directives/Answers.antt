@@ -1,14 +1,16 @@
 use Rattle.std.proofs.Common.{arith, ◌∙◌, ◌++◌, ◌^◌, ap, sym, refl, []}
 use Rattle.graphql_core.specs.Parts.{text_of}
-use Rattle.graphql_values.specs.ValueViews.{directive_view}
+use Rattle.graphql_values.specs.Lawful.{AreLawfulDirectives}
+use Rattle.graphql_values.specs.ValueViews.{directive_view, directives_view}
 use Rattle.graphql_values.specs.ValueLayout.{directives_layout}
 use Rattle.graphql_values.proofs.Views.{directive_here}
 use Rattle.graphql_values.proofs.Appending.{and_part}
+use Rattle.graphql_values.proofs.Counting.{all_hold}
 use Rattle.graphql_values.proofs.Enclosed.{narrower, directives_more}
 use Rattle.graphql_values.proofs.print.directives.write_directives.Goals as goal
 
 pub directives-init : goal.directives-init
-directives-init g c = record { bound = rw c.deref-directive-items.ensures.value c.requires; wrote = ([], g.met.S.Sink.took_nil _, refl) }
+directives-init g c = record { bound = rw c.deref-directive-items.ensures.value c.requires; wrote = ([], g.met.S.Sink.took_nil _, refl); lawful = λ h. h }
 
 pub write_directive-requires : goal.write_directive-requires
 write_directive-requires g c =
@@ -31,8 +33,14 @@ directives-preserved g c =
     let (done, wrote, rest) = c.directives.invariant.wrote in
     record {
       bound = fits.1;
-      wrote = and_part g.S.Sink.took more _ _ _ done _ _ _ wrote (more _ _ _ _ _ c.in_ok-push_str.ensures c.in_ok-write_directive.ensures)
+      wrote = and_part g.S.Sink.took more _ _ _ done _ _ _ wrote (more _ _ _ _ _ c.in_ok-push_str.ensures c.in_ok-write_directive.ensures.text)
           (ap (λ r. done ++ r)
           (directives_more style margin (directive_view bytes c.directive-item.result) _
           ∙ ap (λ ds. text_of (directives_layout style margin ds)) (sym here)) ∙ rest);
+      lawful = λ h. c.directives.invariant.lawful (rw here (c.in_ok-write_directive.ensures.lawful, h));
     }
+
+pub returns-clause-lawful : goal.returns-clause-lawful
+returns-clause-lawful g c =
+    all_hold (directives_view g.N.Names.bytes) c.deref-directive-items.result.now c.args.directives.now.items c.directives.directive-index (omega arith)
+    c.deref-directive-items.ensures.value AreLawfulDirectives tt c.directives.invariant.lawful

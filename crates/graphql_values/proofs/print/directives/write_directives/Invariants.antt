@@ -1,5 +1,6 @@
 use Rattle.std.proofs.Common.{◌≡◌, ◌++◌, ◌+◌, ◌*◌, ◌<◌, ◌^◌, List, ℕ, drop}
 use Rattle.graphql_core.specs.Parts.{text_of}
+use Rattle.graphql_values.specs.Lawful.{AreLawfulDirectives}
 use Rattle.graphql_values.specs.ValueViews.{directives_view}
 use Rattle.graphql_values.specs.ValueLayout.{directives_layout, directives_levels}
 use Rattle.graphql_values.proofs.print.directives.write_directives.Given as goal
@@ -12,4 +13,5 @@ invariant-directives g l =
       bound : l.margin + directives_levels l.style left * l.style.indent < 2 ^ 32;
       wrote : (done : List ℕ) × g.S.Sink.took l.fn.out done l.out
           × (done ++ text_of (directives_layout l.style l.margin left) ≡ text_of (directives_layout l.style l.margin whole));
+      lawful : AreLawfulDirectives left → AreLawfulDirectives whole;
     }

@@ -1,7 +1,6 @@
 use Rattle.std.proofs.Common.{◌≡◌, ◌-◌, ◌^◌, min, max, drop}
 use Rattle.graphql_values.specs.ValueViews.{items_view, members_view}
 use Rattle.graphql_values.specs.ValueLayout.{items_levels, members_levels}
-use Rattle.graphql_values.specs.Lawful.{AreLawful, HoldLawful}
 use Rattle.graphql_values.proofs.print.levels.+levels.Given as goal
 
 abbrev pub invariant-levels_in_list-items : goal.invariant-levels_in_list-items
@@ -9,7 +8,6 @@ invariant-levels_in_list-items g l =
     let left = items_levels l.style (items_view g.N.Names.bytes (drop l.item-index l.item-items)) in
     record {
       levels : max l.most (min left (2 ^ 64 - 1)) ≡ min (items_levels l.style (items_view g.N.Names.bytes l.item-items)) (2 ^ 64 - 1);
-      lawful : AreLawful (items_view g.N.Names.bytes (drop l.item-index l.item-items)) → AreLawful (items_view g.N.Names.bytes l.item-items);
     }
 
 abbrev pub invariant-levels_in_object-members : goal.invariant-levels_in_object-members
@@ -17,5 +15,4 @@ invariant-levels_in_object-members g l =
     let left = members_levels l.style (members_view g.N.Names.bytes l._name-iterator) in
     record {
       levels : max l.most (min left (2 ^ 64 - 1)) ≡ min (members_levels l.style (members_view g.N.Names.bytes l.members.entries)) (2 ^ 64 - 1);
-      lawful : HoldLawful (members_view g.N.Names.bytes l._name-iterator) → HoldLawful (members_view g.N.Names.bytes l.members.entries);
     }

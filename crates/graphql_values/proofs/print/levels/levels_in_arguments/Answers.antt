@@ -1,7 +1,6 @@
 use Rattle.std.proofs.Common.{◌-◌, ◌^◌, ◌∙◌, arith, refl, sym, ap, min}
 use Rattle.graphql_values.specs.ValueViews.{value_view, arguments_view}
 use Rattle.graphql_values.specs.ValueLayout.{most_levels}
-use Rattle.graphql_values.specs.Lawful.{AreLawfulArguments}
 use Rattle.graphql_values.proofs.Counting.{all_counted}
 use Rattle.graphql_values.proofs.Views.{argument_here}
 use Rattle.graphql_values.proofs.Enclosed.{some_items, filled_levels}
@@ -13,9 +12,7 @@ arguments-preserved g c =
     let here = argument_here _ _ bytes c.deref-argument-items.result.now c.arguments.argument-index c.argument-item.result (omega arith) c.argument-item.is in
     let before = rw here at c.arguments.invariant.levels in
     record {
-      levels = omega (arith, before, c.levels_in_value.ensures.levels);
-      lawful = λ h. c.arguments.invariant.lawful
-          (rw here (c.levels_in_value.ensures.lawful, h));
+      levels = omega (arith, before, c.levels_in_value.ensures);
     }
 
 pub returns : goal.returns
@@ -25,13 +22,9 @@ returns g c =
     let xs = c.args.arguments.now.items in
     let some = some_items _ xs c.args.arguments.now.ok.0 (sym c.is_empty.ensures ∙ c.if-is_empty.false) in
     let l = c.arguments in
-    let (most, lawful) =
-    all_counted (arguments_view bytes) (most_levels style) AreLawfulArguments c.deref-argument-items.result.now xs l.argument-index l.most (2 ^ 64 - 1)
-    (omega arith) c.deref-argument-items.ensures.value refl tt l.invariant.levels l.invariant.lawful
+    let most =
+    all_counted (arguments_view bytes) c.deref-argument-items.result.now xs l.argument-index (omega arith) c.deref-argument-items.ensures.value
+    (most_levels style) l.most (2 ^ 64 - 1) refl l.invariant.levels
     in
-    record {
-      levels =
-          c.levels_around.ensures (most_levels style (arguments_view bytes xs)) most
-          ∙ ap (λ n. min n (2 ^ 64 - 1)) (sym (filled_levels (λ a. (bytes a.0, value_view bytes a.1)) style xs some));
-      lawful = lawful;
-    }
+    c.levels_around.ensures (most_levels style (arguments_view bytes xs)) most
+    ∙ ap (λ n. min n (2 ^ 64 - 1)) (sym (filled_levels (λ a. (bytes a.0, value_view bytes a.1)) style xs some))

@@ -1,7 +1,6 @@
 use Rattle.std.proofs.Common.{◌≡◌, ◌-◌, ◌^◌, min, max, drop}
 use Rattle.graphql_values.specs.ValueViews.{arguments_view}
 use Rattle.graphql_values.specs.ValueLayout.{most_levels}
-use Rattle.graphql_values.specs.Lawful.{AreLawfulArguments}
 use Rattle.graphql_values.proofs.print.levels.levels_in_arguments.Given as goal
 
 abbrev pub invariant-arguments : goal.invariant-arguments
@@ -9,6 +8,4 @@ invariant-arguments g l =
     let left = most_levels l.style (arguments_view g.N.Names.bytes (drop l.argument-index l.argument-items)) in
     record {
       levels : max l.most (min left (2 ^ 64 - 1)) ≡ min (most_levels l.style (arguments_view g.N.Names.bytes l.argument-items)) (2 ^ 64 - 1);
-      lawful : AreLawfulArguments (arguments_view g.N.Names.bytes (drop l.argument-index l.argument-items))
-          → AreLawfulArguments (arguments_view g.N.Names.bytes l.argument-items);
     }

@@ -1,7 +1,6 @@
 use Rattle.std.proofs.Common.{◌-◌, ◌^◌, arith, refl}
 use Rattle.graphql_values.specs.ValueViews.{directives_view}
 use Rattle.graphql_values.specs.ValueLayout.{directives_levels}
-use Rattle.graphql_values.specs.Lawful.{AreLawfulDirectives}
 use Rattle.graphql_values.proofs.Counting.{all_counted}
 use Rattle.graphql_values.proofs.Views.{directive_here}
 use Rattle.graphql_values.proofs.print.levels.levels_in_directives.Goals as goal
@@ -13,17 +12,11 @@ directives-preserved g c =
     let here = directive_here _ _ g.N.Names.bytes ds l.directive-index c.directive-item.result (omega arith) c.directive-item.is in
     let before = rw here at l.invariant.levels in
     record {
-      levels = omega (arith, before, c.levels_in_arguments.ensures.levels, c.max-most.ensures);
-      lawful = λ h. l.invariant.lawful
-          (rw here (c.levels_in_arguments.ensures.lawful, h));
+      levels = omega (arith, before, c.levels_in_arguments.ensures, c.max-most.ensures);
     }
 
 pub returns : goal.returns
 returns g c =
     let l = c.directives in
-    let (most, lawful) =
-    all_counted (directives_view g.N.Names.bytes) (directives_levels c.args.style.now) AreLawfulDirectives c.deref-directive-items.result.now
-    c.args.directives.now.items l.directive-index l.most (2 ^ 64 - 1) (omega arith) c.deref-directive-items.ensures.value refl tt l.invariant.levels
-    l.invariant.lawful
-    in
-    record { levels = most; lawful = lawful }
+    all_counted (directives_view g.N.Names.bytes) c.deref-directive-items.result.now c.args.directives.now.items l.directive-index (omega arith)
+    c.deref-directive-items.ensures.value (directives_levels c.args.style.now) l.most (2 ^ 64 - 1) refl l.invariant.levels

@@ -1,7 +1,6 @@
 use Rattle.std.proofs.Common.{◌≡◌, ◌-◌, ◌^◌, min, max, drop}
 use Rattle.graphql_values.specs.ValueViews.{directives_view}
 use Rattle.graphql_values.specs.ValueLayout.{directives_levels}
-use Rattle.graphql_values.specs.Lawful.{AreLawfulDirectives}
 use Rattle.graphql_values.proofs.print.levels.levels_in_directives.Given as goal
 
 abbrev pub invariant-directives : goal.invariant-directives
@@ -9,6 +8,4 @@ invariant-directives g l =
     let left = directives_levels l.style (directives_view g.N.Names.bytes (drop l.directive-index l.directive-items)) in
     record {
       levels : max l.most (min left (2 ^ 64 - 1)) ≡ min (directives_levels l.style (directives_view g.N.Names.bytes l.directive-items)) (2 ^ 64 - 1);
-      lawful : AreLawfulDirectives (directives_view g.N.Names.bytes (drop l.directive-index l.directive-items))
-          → AreLawfulDirectives (directives_view g.N.Names.bytes l.directive-items);
     }

@@ -1,5 +1,4 @@
 use Rattle.std.proofs.Common.{◌≡◌, ◌-◌, ◌^◌, min, max, drop}
-use Rattle.std.specs.List.{AllByRecursion}
 use Rattle.graphql_values.specs.Printable.{most}
 use Rattle.graphql_values.proofs.print.pretty.levels_in_each.Given as goal
 
@@ -9,5 +8,4 @@ invariant-parts g l =
     let left = drop l.part-index l.parts in
     record {
       levels : max l.most (min (most opens left) (2 ^ 64 - 1)) ≡ min (most opens l.parts) (2 ^ 64 - 1);
-      lawful : AllByRecursion g.P.Pretty.lawful left → AllByRecursion g.P.Pretty.lawful l.parts;
     }

@@ -20,6 +20,7 @@ parts-preserved g c =
     let (done, wrote, rest) = l.invariant.wrote in
     record {
       bound = (narrower _ _ _ c.args.style.now.indent (2 ^ 32) (rw here at l.invariant.bound)).1;
-      wrote = and_part g.S.Sink.took g.met.S.Sink.took_more _ _ _ done _ _ _ wrote c.in_ok-write.ensures
+      wrote = and_part g.S.Sink.took g.met.S.Sink.took_more _ _ _ done _ _ _ wrote c.in_ok-write.ensures.text
           (ap (λ r. done ++ r) (sym (ap (λ ps. text_of (flat_map lines ps)) here ∙ text_append (lines c.part-item.result) _)) ∙ rest);
+      lawful = λ h. l.invariant.lawful (rw here (c.in_ok-write.ensures.lawful, h));
     }

@@ -1,5 +1,5 @@
 use Rattle.std.proofs.Common.{◌≡◌, ◌++◌, ◌+◌, ◌*◌, ◌<◌, ◌^◌, List, ℕ, drop}
-use Rattle.std.specs.List.{flat_map}
+use Rattle.std.specs.List.{AllByRecursion, flat_map}
 use Rattle.graphql_core.specs.Parts.{text_of}
 use Rattle.graphql_values.specs.Printable.{most}
 use Rattle.graphql_values.proofs.print.pretty.write_each.Given as goal
@@ -11,4 +11,5 @@ invariant-parts g l =
     record {
       bound : l.margin + most (g.P.Pretty.opens l.style) left * l.style.indent < 2 ^ 32;
       wrote : (done : List ℕ) × g.S.Sink.took l.fn.out done l.out × (done ++ text_of (flat_map lines left) ≡ text_of (flat_map lines l.parts));
+      lawful : AllByRecursion g.P.Pretty.lawful left → AllByRecursion g.P.Pretty.lawful l.parts;
     }

@@ -16,6 +16,7 @@ others-preserved g c =
     record {
       bound = (narrower _ _ _ c.args.style.now.indent (2 ^ 32) (rw here at l.invariant.bound)).1;
       wrote = and_part g.S.Sink.took g.met.S.Sink.took_more _ _ _ done _ _ _ wrote
-          (g.met.S.Sink.took_more _ _ _ _ _ c.in_ok-push_str.ensures c.in_ok-write-2.ensures)
+          (g.met.S.Sink.took_more _ _ _ _ _ c.in_ok-push_str.ensures c.in_ok-write-2.ensures.text)
           (ap (λ r. done ++ r) (sym (ap (λ ps. flat_map (λ (u : List ℕ). separator ++ u) (map (λ p. text_of (lines p)) ps)) here)) ∙ rest);
+      lawful = λ h. l.invariant.lawful (rw here (c.in_ok-write-2.ensures.lawful, h));
     }

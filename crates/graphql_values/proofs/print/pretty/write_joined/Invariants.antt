@@ -1,5 +1,5 @@
 use Rattle.std.proofs.Common.{◌≡◌, ◌++◌, ◌+◌, ◌*◌, ◌<◌, ◌^◌, List, ℕ, drop, map}
-use Rattle.std.specs.List.{flat_map}
+use Rattle.std.specs.List.{AllByRecursion, flat_map}
 use Rattle.graphql_core.specs.Parts.{text_of}
 use Rattle.graphql_values.specs.Printable.{most}
 use Rattle.graphql_values.specs.steps.Joined.{joined}
@@ -13,4 +13,5 @@ invariant-others g l =
       wrote : (done : List ℕ) × g.S.Sink.took l.fn.out done l.out
           × (done ++ flat_map (λ u. l.separator ++ u) (map (λ p. text_of (g.P.Pretty.lines l.style l.margin p)) left)
           ≡ joined l.separator (map (λ p. text_of (g.P.Pretty.lines l.style l.margin p)) l.parts));
+      lawful : AllByRecursion g.P.Pretty.lawful left → AllByRecursion g.P.Pretty.lawful l.parts;
     }

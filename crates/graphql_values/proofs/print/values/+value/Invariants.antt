@@ -1,5 +1,6 @@
 use Rattle.std.proofs.Common.{◌≡◌, ◌++◌, ◌+◌, ◌*◌, ◌<◌, ◌^◌, List, ℕ, drop, false, codes}
 use Rattle.graphql_core.specs.Parts.{text_of}
+use Rattle.graphql_values.specs.Lawful.{AreLawful, HoldLawful}
 use Rattle.graphql_values.specs.ValueViews.{items_view, members_view}
 use Rattle.graphql_values.specs.ValueLayout.{parts, items_layout, members_layout, items_levels, members_levels}
 use Rattle.graphql_values.proofs.print.values.+value.Given as goal
@@ -13,6 +14,7 @@ invariant-write_list-items g l =
       wrote : (done : List ℕ) × g.S.Sink.took l.fn.out done l.out
           × (done ++ text_of (parts l.style l.indented l.is_later (items_layout l.style l.indented left)) ≡ codes "["
           ++ text_of (parts l.style l.indented false (items_layout l.style l.indented whole)));
+      lawful : AreLawful left → AreLawful whole;
     }
 
 abbrev pub invariant-write_object-members : goal.invariant-write_object-members
@@ -24,4 +26,5 @@ invariant-write_object-members g l =
       wrote : (done : List ℕ) × g.S.Sink.took l.fn.out done l.out
           × (done ++ text_of (parts l.style l.indented l.is_later (members_layout l.style l.indented left)) ≡ codes "{"
           ++ text_of (parts l.style l.indented false (members_layout l.style l.indented whole)));
+      lawful : HoldLawful left → HoldLawful whole;
     }

@@ -8,15 +8,15 @@ use Rattle.graphql_values.proofs.print.display.DirectiveDisplay.fmt.Goals as goa
 
 pub write_directive-requires : goal.write_directive-requires
 write_directive-requires g c =
-    fits_outside c.default-style.result c.levels_in_arguments.result _ c.levels_in_arguments.ensures.levels c.in_ok-check_width.ensures
+    fits_outside c.default-style.result c.levels_in_arguments.result _ c.levels_in_arguments.ensures c.in_ok-check_width.ensures
 
 pub returns-clause-writes : goal.returns-clause-writes
 returns-clause-writes g c =
     let text = λ (style : Layout). text_of (directive_layout style 0 (directive_view g.N.Names.bytes c.args.self.now)) in
     written c.write_directive.result c.default-style.result (λ style. HasWritten g.W.Write.write_str_gives c.args.f.now (text style) c.write_directive.new.out)
-    c.default-style.ensures c.write_directive.ensures
+    c.default-style.ensures c.write_directive.ensures.text
 
 pub returns-clause-narrow : goal.returns-clause-narrow
 returns-clause-narrow g c =
-    narrow c.write_directive.result _ _ (rw c.default-style.ensures at c.levels_in_arguments.ensures.levels)
+    narrow c.write_directive.result _ _ (rw c.default-style.ensures at c.levels_in_arguments.ensures)
     (rw c.default-style.ensures at c.in_ok-check_width.ensures)
