@@ -1,7 +1,6 @@
 //! The text of schemas.
 mod block;
 mod body;
-mod counted;
 mod definition;
 mod description;
 mod display;
@@ -17,11 +16,11 @@ ghost use Rattle.graphql_schema_tree.specs.Layout.{layout, IsTooWide};
 ghost use Rattle.graphql_schema_tree.specs.Printable.{IsPrintable};
 ghost use Rattle.graphql_schema_tree.specs.Views.{document_view};
 
-use crate::print::counted::write_document;
 use crate::print::width::is_document_too_wide;
 use crate::tree::Document;
 use graphql_core::common::Names;
 use graphql_core::format::{Buffer, FormatError, Style};
+use graphql_values::print::Pretty;
 use std::alloc::Global;
 
 impl<N: Names> Document<N> {
@@ -40,7 +39,7 @@ impl<N: Names> Document<N> {
             return Err(FormatError::TooWide);
         }
         let mut text = Buffer::new(alloc);
-        write_document(&mut text, self, style)?;
+        self.write(&mut text, style, 0)?;
         Ok(text.into_string())
     }
 }

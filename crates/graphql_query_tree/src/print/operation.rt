@@ -4,7 +4,7 @@ ghost use Rattle.graphql_core.specs.Parts.{text_of};
 ghost use Rattle.graphql_values.specs.ValueViews.{directives_view};
 ghost use Rattle.graphql_query_tree.specs.Tree.{variable_definition_view, variable_definitions_view, selection_set_view, query_view, mutation_view};
 ghost use Rattle.graphql_query_tree.specs.Tree.{subscription_view, operation};
-ghost use Rattle.graphql_query_tree.specs.Lawful.{IsLawfulVariable, AreLawfulParts, IsLawfulDefinition};
+ghost use Rattle.graphql_query_tree.specs.Lawful.{IsLawfulVariable, AreLawfulVariables, AreLawfulParts, IsLawfulDefinition};
 ghost use Rattle.graphql_query_tree.specs.Layout.{operation_name_layout, variable_definition_layout, variable_definitions_layout, operation_of};
 ghost use Rattle.graphql_query_tree.specs.Layout.{operation_layout};
 ghost use Rattle.graphql_query_tree.specs.Layout.{variable_definition_levels, variable_definitions_levels, operation_levels_of, operation_levels};
@@ -62,7 +62,8 @@ fn write_variable_definitions<S: Sink, N: Names>(
     style: &Style,
 ) -> Result<(), S::Error>
     requires { variable_definitions_levels style.now (variable_definitions_view N.bytes variables.now.items) * style.now.indent < 2 ^ 32 }
-    ensures { OnOk result (S.took out.old (text_of (variable_definitions_layout style.now (variable_definitions_view N.bytes variables.now.items))) out.new) }
+    ensures text { OnOk result (S.took out.old (text_of (variable_definitions_layout style.now (variable_definitions_view N.bytes variables.now.items))) out.new) }
+    ensures lawful { OnOk result (AreLawfulVariables (variable_definitions_view N.bytes variables.now.items)) }
 {
     if variables.is_empty() {
         return Ok(());
@@ -79,11 +80,9 @@ fn levels_in_operation<N: Names>(
     set: &SelectionSet<N>,
     style: &Style,
 ) -> usize
-    ensures levels { result ≡ min
+    ensures { result ≡ min
         (operation_levels_of style.now (variable_definitions_view N.bytes variables.now.items) (directives_view N.bytes directives.now.items)
         (selection_set_view N.bytes set.now)) (2 ^ 64 - 1) }
-    ensures lawful { AreLawfulParts (variable_definitions_view N.bytes variables.now.items) (directives_view N.bytes directives.now.items)
-        (selection_set_view N.bytes set.now) }
 {
     let around = levels_in_each(variables, style).max(levels_in_directives(directives, style));
     around.max(levels_in_selection_set(set, style))
@@ -101,10 +100,13 @@ fn write_operation<S: Sink, N: Names>(
 ) -> Result<(), S::Error>
     requires { operation_levels_of style.now (variable_definitions_view N.bytes variables.now.items) (directives_view N.bytes directives.now.items)
         (selection_set_view N.bytes set.now) * style.now.indent < 2 ^ 32 }
-    ensures { OnOk result
+    ensures text { OnOk result
         (S.took out.old (text_of
         (operation_of style.now keyword.now (option_map N.bytes name.now) (variable_definitions_view N.bytes variables.now.items)
         (directives_view N.bytes directives.now.items) (selection_set_view N.bytes set.now))) out.new) }
+    ensures lawful { OnOk result
+        (AreLawfulParts (variable_definitions_view N.bytes variables.now.items) (directives_view N.bytes directives.now.items)
+        (selection_set_view N.bytes set.now)) }
 {
     out.push_str(keyword)?;
     write_operation_name::<S, N>(out, name)?;

@@ -3,7 +3,7 @@ ghost use Rattle.std.specs.Prelude.{◌≡◌, ◌+◌, ◌*◌, ◌^◌, ◌<�
 ghost use Rattle.graphql_core.specs.Parts.{text_of};
 ghost use Rattle.graphql_query_tree.specs.Tree.{type_condition_view, fragment_spread_view, field_view, inline_fragment_view, selection_view, selections_view};
 ghost use Rattle.graphql_query_tree.specs.Tree.{selection_set_view};
-ghost use Rattle.graphql_query_tree.specs.Lawful.{IsLawfulSelection, IsLawfulSet};
+ghost use Rattle.graphql_query_tree.specs.Lawful.{IsLawfulSelection, IsLawfulSet, AreLawfulSelections};
 ghost use Rattle.graphql_query_tree.specs.Layout.{alias_layout, type_condition_layout, on_layout, selection_layout, selected_layout, selections_layout};
 ghost use Rattle.graphql_query_tree.specs.Layout.{selection_set_layout};
 ghost use Rattle.graphql_query_tree.specs.Layout.{selection_levels, selected_levels, selections_levels, selection_set_levels};
@@ -64,7 +64,8 @@ fn write_fragment_spread<S: Sink, N: Names>(
     margin: usize,
 ) -> Result<(), S::Error>
     requires { margin + selection_levels style.now (fragment_spread_view N.bytes spread.now) * style.now.indent < 2 ^ 32 }
-    ensures { OnOk result (S.took out.old (text_of (selection_layout style.now margin (fragment_spread_view N.bytes spread.now))) out.new) }
+    ensures text { OnOk result (S.took out.old (text_of (selection_layout style.now margin (fragment_spread_view N.bytes spread.now))) out.new) }
+    ensures lawful { OnOk result (IsLawfulSelection (fragment_spread_view N.bytes spread.now)) }
 {
     write_spaces(out, margin)?;
     out.push_str("...")?;
@@ -82,7 +83,8 @@ pub fn write_selection_set<S: Sink, N: Names>(
     margin: usize,
 ) -> Result<(), S::Error>
     requires { margin + selection_set_levels style.now (selection_set_view N.bytes set.now) * style.now.indent < 2 ^ 32 }
-    ensures { OnOk result (S.took out.old (text_of (selection_set_layout style.now margin (selection_set_view N.bytes set.now))) out.new) }
+    ensures text { OnOk result (S.took out.old (text_of (selection_set_layout style.now margin (selection_set_view N.bytes set.now))) out.new) }
+    ensures lawful { OnOk result (IsLawfulSet (selection_set_view N.bytes set.now)) }
 {
     out.push_str("{\n")?;
     let inside = margin + style.indentation() as usize;
@@ -100,7 +102,8 @@ fn write_selections<S: Sink, N: Names>(
     margin: usize,
 ) -> Result<(), S::Error>
     requires { margin + selections_levels style.now (selections_view N.bytes items.now.items) * style.now.indent < 2 ^ 32 }
-    ensures { OnOk result (S.took out.old (text_of (selections_layout style.now margin (selections_view N.bytes items.now.items))) out.new) }
+    ensures text { OnOk result (S.took out.old (text_of (selections_layout style.now margin (selections_view N.bytes items.now.items))) out.new) }
+    ensures lawful { OnOk result (AreLawfulSelections (selections_view N.bytes items.now.items)) }
 {
     'items: for item in items {
         write_selection(out, item, style, margin)?;
@@ -117,7 +120,8 @@ fn write_selection<S: Sink, N: Names>(
     margin: usize,
 ) -> Result<(), S::Error>
     requires { margin + selection_levels style.now (selection_view N.bytes selection.now) * style.now.indent < 2 ^ 32 }
-    ensures { OnOk result (S.took out.old (text_of (selection_layout style.now margin (selection_view N.bytes selection.now))) out.new) }
+    ensures text { OnOk result (S.took out.old (text_of (selection_layout style.now margin (selection_view N.bytes selection.now))) out.new) }
+    ensures lawful { OnOk result (IsLawfulSelection (selection_view N.bytes selection.now)) }
 {
     match selection {
         Selection::Field(field) => write_field(out, field, style, margin),
@@ -135,7 +139,8 @@ fn write_field<S: Sink, N: Names>(
     margin: usize,
 ) -> Result<(), S::Error>
     requires { margin + selection_levels style.now (field_view N.bytes field.now) * style.now.indent < 2 ^ 32 }
-    ensures { OnOk result (S.took out.old (text_of (selection_layout style.now margin (field_view N.bytes field.now))) out.new) }
+    ensures text { OnOk result (S.took out.old (text_of (selection_layout style.now margin (field_view N.bytes field.now))) out.new) }
+    ensures lawful { OnOk result (IsLawfulSelection (field_view N.bytes field.now)) }
 {
     write_spaces(out, margin)?;
     write_alias::<S, N>(out, &field.alias)?;
@@ -154,7 +159,8 @@ fn write_selected<S: Sink, N: Names>(
     margin: usize,
 ) -> Result<(), S::Error>
     requires { margin + selected_levels style.now (selection_set_view N.bytes set.now) * style.now.indent < 2 ^ 32 }
-    ensures { OnOk result (S.took out.old (text_of (selected_layout style.now margin (selection_set_view N.bytes set.now))) out.new) }
+    ensures text { OnOk result (S.took out.old (text_of (selected_layout style.now margin (selection_set_view N.bytes set.now))) out.new) }
+    ensures lawful { OnOk result (IsLawfulSet (selection_set_view N.bytes set.now)) }
 {
     if set.items.is_empty() {
         return out.push_str("\n");
@@ -172,7 +178,8 @@ fn write_inline_fragment<S: Sink, N: Names>(
     margin: usize,
 ) -> Result<(), S::Error>
     requires { margin + selection_levels style.now (inline_fragment_view N.bytes fragment.now) * style.now.indent < 2 ^ 32 }
-    ensures { OnOk result (S.took out.old (text_of (selection_layout style.now margin (inline_fragment_view N.bytes fragment.now))) out.new) }
+    ensures text { OnOk result (S.took out.old (text_of (selection_layout style.now margin (inline_fragment_view N.bytes fragment.now))) out.new) }
+    ensures lawful { OnOk result (IsLawfulSelection (inline_fragment_view N.bytes fragment.now)) }
 {
     write_spaces(out, margin)?;
     out.push_str("...")?;

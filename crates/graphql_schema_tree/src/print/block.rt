@@ -9,8 +9,7 @@ use graphql_values::print::{Pretty, levels_in_each, write_each, write_spaces};
 
 /// How many levels trees in braces open at once, saturating at `usize::MAX`; none where there are none.
 pub fn levels_in_block<P: Pretty>(parts: &[P], style: &Style) -> usize
-    ensures levels { result ≡ min (block_levels (P.opens style.now) parts.now) (2 ^ 64 - 1) }
-    ensures lawful { AllByRecursion P.lawful parts.now }
+    ensures { result ≡ min (block_levels (P.opens style.now) parts.now) (2 ^ 64 - 1) }
 {
     if parts.is_empty() {
         return 0;
@@ -26,7 +25,8 @@ pub fn write_block<S: Sink, P: Pretty>(
     margin: usize,
 ) -> Result<(), S::Error>
     requires { margin + block_levels (P.opens style.now) parts.now * style.now.indent < 2 ^ 32 }
-    ensures { OnOk result (S.took out.old (text_of (block_layout margin (P.lines style.now (margin + style.now.indent)) parts.now)) out.new) }
+    ensures text { OnOk result (S.took out.old (text_of (block_layout margin (P.lines style.now (margin + style.now.indent)) parts.now)) out.new) }
+    ensures lawful { OnOk result (AllByRecursion P.lawful parts.now) }
 {
     if parts.is_empty() {
         return out.push_str("\n");

@@ -1,9 +1,10 @@
 //! What a type and its extension both have: the keyword, the name, and the parts.
 ghost use Rattle.std.specs.Prelude.{◌≡◌, ◌+◌, ◌*◌, ◌^◌, ◌<◌, OnOk, List, map};
-ghost use Rattle.std.specs.List.{flat_map};
+ghost use Rattle.std.specs.List.{AllByRecursion, flat_map};
 ghost use Rattle.graphql_core.specs.Parts.{text_of};
 ghost use Rattle.graphql_values.specs.Printable.{most};
 ghost use Rattle.graphql_values.specs.ValueViews.{directives_view};
+ghost use Rattle.graphql_schema_tree.specs.Lawful.{IsLawfulBody, IsLawfulInputValue};
 ghost use Rattle.graphql_schema_tree.specs.Layout.{body_layout, parts_layout, body_levels, input_field_layout, input_value_levels};
 ghost use Rattle.graphql_schema_tree.specs.Tree.{scalar, object, union, enum, input};
 ghost use Rattle.graphql_schema_tree.specs.Views.{input_value_view, field_view, enum_value_view};
@@ -25,8 +26,9 @@ pub fn write_scalar<S: Sink, N: Names>(
     style: &Style,
 ) -> Result<(), S::Error>
     requires { body_levels style.now (body (N.bytes name.now) (directives_view N.bytes directives.now.items) scalar) * style.now.indent < 2 ^ 32 }
-    ensures { OnOk result (S.took out.old (text_of (body_layout style.now
+    ensures text { OnOk result (S.took out.old (text_of (body_layout style.now
         (body (N.bytes name.now) (directives_view N.bytes directives.now.items) scalar))) out.new) }
+    ensures lawful { OnOk result (IsLawfulBody (body (N.bytes name.now) (directives_view N.bytes directives.now.items) scalar)) }
 {
     out.push_str("scalar ")?;
     out.push_str(N::view(name))?;
@@ -46,8 +48,10 @@ pub fn write_implementer<S: Sink, N: Names>(
 ) -> Result<(), S::Error>
     requires { body_levels style.now (body (N.bytes name.now) (directives_view N.bytes directives.now.items)
         (object (map N.bytes interfaces.now) (map (field_view N.bytes) fields.now))) * style.now.indent < 2 ^ 32 }
-    ensures { OnOk result (S.took out.old (text_of (named keyword.now (N.bytes name.now) (parts_layout style.now
+    ensures text { OnOk result (S.took out.old (text_of (named keyword.now (N.bytes name.now) (parts_layout style.now
         (directives_view N.bytes directives.now.items) (object (map N.bytes interfaces.now) (map (field_view N.bytes) fields.now))))) out.new) }
+    ensures lawful { OnOk result (IsLawfulBody (body (N.bytes name.now) (directives_view N.bytes directives.now.items)
+        (object (map N.bytes interfaces.now) (map (field_view N.bytes) fields.now)))) }
 {
     out.push_str(keyword)?;
     out.push_str(" ")?;
@@ -67,8 +71,9 @@ pub fn write_union<S: Sink, N: Names>(
 ) -> Result<(), S::Error>
     requires { body_levels style.now (body (N.bytes name.now) (directives_view N.bytes directives.now.items) (union (map N.bytes types.now)))
         * style.now.indent < 2 ^ 32 }
-    ensures { OnOk result (S.took out.old (text_of (body_layout style.now
+    ensures text { OnOk result (S.took out.old (text_of (body_layout style.now
         (body (N.bytes name.now) (directives_view N.bytes directives.now.items) (union (map N.bytes types.now))))) out.new) }
+    ensures lawful { OnOk result (IsLawfulBody (body (N.bytes name.now) (directives_view N.bytes directives.now.items) (union (map N.bytes types.now)))) }
 {
     out.push_str("union ")?;
     out.push_str(N::view(name))?;
@@ -87,8 +92,10 @@ pub fn write_enum<S: Sink, N: Names>(
 ) -> Result<(), S::Error>
     requires { body_levels style.now (body (N.bytes name.now) (directives_view N.bytes directives.now.items)
         (enum (map (enum_value_view N.bytes) values.now))) * style.now.indent < 2 ^ 32 }
-    ensures { OnOk result (S.took out.old (text_of (body_layout style.now (body (N.bytes name.now) (directives_view N.bytes directives.now.items)
+    ensures text { OnOk result (S.took out.old (text_of (body_layout style.now (body (N.bytes name.now) (directives_view N.bytes directives.now.items)
         (enum (map (enum_value_view N.bytes) values.now))))) out.new) }
+    ensures lawful { OnOk result (IsLawfulBody (body (N.bytes name.now) (directives_view N.bytes directives.now.items)
+        (enum (map (enum_value_view N.bytes) values.now)))) }
 {
     out.push_str("enum ")?;
     out.push_str(N::view(name))?;
@@ -104,8 +111,9 @@ fn write_input_fields<S: Sink, N: Names>(
     margin: usize,
 ) -> Result<(), S::Error>
     requires { margin + most (input_value_levels style.now) (map (input_value_view N.bytes) fields.now) * style.now.indent < 2 ^ 32 }
-    ensures { OnOk result (S.took out.old (text_of
+    ensures text { OnOk result (S.took out.old (text_of
         (flat_map (input_field_layout style.now margin) (map (input_value_view N.bytes) fields.now))) out.new) }
+    ensures lawful { OnOk result (AllByRecursion IsLawfulInputValue (map (input_value_view N.bytes) fields.now)) }
 {
     'fields: for field in fields {
         write_spaces(out, margin)?;
@@ -125,8 +133,10 @@ pub fn write_input_object<S: Sink, N: Names>(
 ) -> Result<(), S::Error>
     requires { body_levels style.now (body (N.bytes name.now) (directives_view N.bytes directives.now.items)
         (input (map (input_value_view N.bytes) fields.now))) * style.now.indent < 2 ^ 32 }
-    ensures { OnOk result (S.took out.old (text_of (body_layout style.now (body (N.bytes name.now) (directives_view N.bytes directives.now.items)
+    ensures text { OnOk result (S.took out.old (text_of (body_layout style.now (body (N.bytes name.now) (directives_view N.bytes directives.now.items)
         (input (map (input_value_view N.bytes) fields.now))))) out.new) }
+    ensures lawful { OnOk result (IsLawfulBody (body (N.bytes name.now) (directives_view N.bytes directives.now.items)
+        (input (map (input_value_view N.bytes) fields.now)))) }
 {
     out.push_str("input ")?;
     out.push_str(N::view(name))?;

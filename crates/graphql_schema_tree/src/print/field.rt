@@ -1,5 +1,6 @@
 //! Fields, arguments, and the values of enums.
 ghost use Rattle.std.specs.Prelude.{◌≡◌, ◌+◌, ◌*◌, ◌^◌, ◌<◌, OnOk, map};
+ghost use Rattle.std.specs.List.{AllByRecursion};
 ghost use Rattle.graphql_core.specs.Parts.{text_of};
 ghost use Rattle.graphql_schema_tree.specs.Lawful.{IsLawfulInputValue, IsLawfulField, IsLawfulEnumValue};
 ghost use Rattle.graphql_schema_tree.specs.Layout.{arguments_layout, input_value_layout, field_layout, enum_value_layout};
@@ -51,7 +52,8 @@ pub fn write_arguments<S: Sink, N: Names>(
     margin: usize,
 ) -> Result<(), S::Error>
     requires { margin + most (input_value_levels style.now) (map (input_value_view N.bytes) arguments.now) * style.now.indent < 2 ^ 32 }
-    ensures { OnOk result (S.took out.old (text_of (arguments_layout style.now margin (map (input_value_view N.bytes) arguments.now))) out.new) }
+    ensures text { OnOk result (S.took out.old (text_of (arguments_layout style.now margin (map (input_value_view N.bytes) arguments.now))) out.new) }
+    ensures lawful { OnOk result (AllByRecursion IsLawfulInputValue (map (input_value_view N.bytes) arguments.now)) }
 {
     if arguments.is_empty() {
         return Ok(());

@@ -2,31 +2,25 @@ use Rattle.std.proofs.Common.{◌-◌, ◌^◌, ◌∙◌, arith, refl, sym}
 use Rattle.graphql_values.proofs.Counting.{all_counted}
 use Rattle.graphql_query_tree.specs.Tree.{selections_view}
 use Rattle.graphql_query_tree.specs.Layout.{selections_levels}
-use Rattle.graphql_query_tree.specs.Lawful.{AreLawfulSelections}
-use Rattle.graphql_query_tree.proofs.LayoutTexts.{selection_set_parts, no_items, some_items, nothing_levels, nothing_lawful, some_levels, selection_here}
+use Rattle.graphql_query_tree.proofs.LayoutTexts.{selection_set_parts, no_items, some_items, nothing_levels, some_levels, selection_here}
 use Rattle.graphql_query_tree.proofs.print.levels.+levels.Goals as goal
 
 pub levels_in_selection_set-returns : goal.levels_in_selection_set-returns
 levels_in_selection_set-returns g t c =
-    let parts = selection_set_parts g.N.Names.bytes c.args.set.now in
-    record {
-      levels = rw parts (omega (arith, c.levels_in_selections.ensures.levels, c.saturating_add.ensures));
-      lawful = rw parts c.levels_in_selections.ensures.lawful;
-    }
+    rw (selection_set_parts g.N.Names.bytes c.args.set.now) (omega (arith, c.levels_in_selections.ensures, c.saturating_add.ensures))
 
 pub levels_in_selected-returns : goal.levels_in_selected-returns
 levels_in_selected-returns g t c =
     let bytes = g.N.Names.bytes in
     let s = c.args.set.now in
-    let same = some_levels bytes s c.args.style.now (some_items bytes s (sym c.is_empty.ensures ∙ c.if-is_empty.false)) in
-    record { levels = rw same c.levels_in_selection_set.ensures.levels; lawful = c.levels_in_selection_set.ensures.lawful }
+    rw (some_levels bytes s c.args.style.now (some_items bytes s (sym c.is_empty.ensures ∙ c.if-is_empty.false))) c.levels_in_selection_set.ensures
 
 pub levels_in_selected-returns-then-is_empty : goal.levels_in_selected-returns-then-is_empty
 levels_in_selected-returns-then-is_empty g t c =
     let bytes = g.N.Names.bytes in
     let s = c.args.set.now in
     let none = nothing_levels bytes s c.args.style.now (no_items bytes s (sym c.is_empty.ensures ∙ c.if-is_empty.true)) in
-    record { levels = omega (arith, none); lawful = nothing_lawful bytes s (no_items bytes s (sym c.is_empty.ensures ∙ c.if-is_empty.true)) }
+    omega (arith, none)
 
 pub levels_in_selections-items-preserved : goal.levels_in_selections-items-preserved
 levels_in_selections-items-preserved g t c =
@@ -34,17 +28,10 @@ levels_in_selections-items-preserved g t c =
     let l = c.items in
     let here = selection_here bytes c.deref-item-items.result.now l.item-index c.item-item.result (omega arith) c.item-item.is in
     let left = rw here at l.invariant.levels in
-    record {
-      levels = omega (arith, left, c.levels_in_selection.ensures.levels, c.max-most.ensures);
-      lawful = λ h. l.invariant.lawful
-          (rw here (c.levels_in_selection.ensures.lawful, h));
-    }
+    record { levels = omega (arith, left, c.levels_in_selection.ensures, c.max-most.ensures) }
 
 pub levels_in_selections-returns : goal.levels_in_selections-returns
 levels_in_selections-returns g t c =
     let l = c.items in
-    let (most, lawful) =
-    all_counted (selections_view g.N.Names.bytes) (selections_levels c.args.style.now) AreLawfulSelections c.deref-item-items.result.now c.args.items.now.items
-    l.item-index l.most (2 ^ 64 - 1) (omega arith) c.deref-item-items.ensures.value refl tt l.invariant.levels l.invariant.lawful
-    in
-    record { levels = most; lawful = lawful }
+    all_counted (selections_view g.N.Names.bytes) c.deref-item-items.result.now c.args.items.now.items l.item-index (omega arith)
+    c.deref-item-items.ensures.value (selections_levels c.args.style.now) l.most (2 ^ 64 - 1) refl l.invariant.levels

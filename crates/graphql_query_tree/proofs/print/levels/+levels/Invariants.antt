@@ -1,7 +1,6 @@
 use Rattle.std.proofs.Common.{◌≡◌, ◌-◌, ◌^◌, min, max, drop}
 use Rattle.graphql_query_tree.specs.Tree.{selections_view}
 use Rattle.graphql_query_tree.specs.Layout.{selections_levels}
-use Rattle.graphql_query_tree.specs.Lawful.{AreLawfulSelections}
 use Rattle.graphql_query_tree.proofs.print.levels.+levels.Given as goal
 
 abbrev pub invariant-levels_in_selections-items : goal.invariant-levels_in_selections-items
@@ -9,6 +8,4 @@ invariant-levels_in_selections-items g l =
     let left = selections_levels l.style (selections_view g.N.Names.bytes (drop l.item-index l.item-items)) in
     record {
       levels : max l.most (min left (2 ^ 64 - 1)) ≡ min (selections_levels l.style (selections_view g.N.Names.bytes l.item-items)) (2 ^ 64 - 1);
-      lawful : AreLawfulSelections (selections_view g.N.Names.bytes (drop l.item-index l.item-items))
-          → AreLawfulSelections (selections_view g.N.Names.bytes l.item-items);
     }

@@ -1,21 +1,12 @@
 use Rattle.std.proofs.Common.{◌-◌, arith}
-use Rattle.graphql_values.proofs.Seen.{most_seen, all_seen}
-use Rattle.graphql_query_tree.specs.Lawful.{IsLawfulVariable}
+use Rattle.graphql_values.proofs.Seen.{most_seen}
 use Rattle.graphql_query_tree.specs.Layout.{variable_definition_levels}
 use Rattle.graphql_query_tree.specs.Tree.{variable_definition_view}
 use Rattle.graphql_query_tree.proofs.print.operation.levels_in_operation.Goals as goal
 
-pub returns-clause-levels : goal.returns-clause-levels
-returns-clause-levels g c =
+pub returns : goal.returns
+returns g c =
     let view = variable_definition_view g.N.Names.bytes in
     let same = most_seen view (variable_definition_levels c.args.style.now) c.args.variables.now.items in
-    let each = rw (c.deref.ensures.value, same) at c.levels_in_each.ensures.levels in
-    omega (arith, each, c.levels_in_directives.ensures.levels, c.levels_in_selection_set.ensures.levels, c.max.ensures, c.max-around.ensures)
-
-pub returns-clause-lawful : goal.returns-clause-lawful
-returns-clause-lawful g c = (
-  all_seen (variable_definition_view g.N.Names.bytes) IsLawfulVariable c.args.variables.now.items
-      (rw c.deref.ensures.value at c.levels_in_each.ensures.lawful),
-  c.levels_in_directives.ensures.lawful,
-  c.levels_in_selection_set.ensures.lawful,
-)
+    let each = rw (c.deref.ensures.value, same) at c.levels_in_each.ensures in
+    omega (arith, each, c.levels_in_directives.ensures, c.levels_in_selection_set.ensures, c.max.ensures, c.max-around.ensures)

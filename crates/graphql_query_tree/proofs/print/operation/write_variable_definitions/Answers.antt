@@ -1,11 +1,12 @@
 use Rattle.std.proofs.Common.{◌≡◌, ◌∙◌, ◌<◌, ◌++◌, ◌∷◌, ◌*◌, ◌^◌, [], List, length, codes, map, arith, ap, refl, sym, append_assoc}
 use Rattle.graphql_core.specs.Parts.{text_of}
 use Rattle.graphql_core.specs.Style.{Layout}
-use Rattle.graphql_values.proofs.Appending.{text_append, and_last}
+use Rattle.graphql_values.proofs.Appending.{text_append, and_last, on_ok}
 use Rattle.graphql_values.proofs.Enclosed.{some_items, first_text}
-use Rattle.graphql_values.proofs.Seen.{most_seen, joined_seen}
+use Rattle.graphql_values.proofs.Seen.{most_seen, all_seen, joined_seen}
 use Rattle.graphql_values.specs.Printable.{most}
 use Rattle.graphql_values.specs.steps.Joined.{joined}
+use Rattle.graphql_query_tree.specs.Lawful.{IsLawfulVariable}
 use Rattle.graphql_query_tree.specs.Layout.{variable_definition_layout, later_variable_definitions, variable_definitions_layout, variable_definition_levels}
 use Rattle.graphql_query_tree.specs.Tree.{VariableDefinitionTree, variable_definition_view}
 use Rattle.graphql_query_tree.proofs.print.operation.write_variable_definitions.Goals as goal
@@ -31,9 +32,15 @@ write_joined-requires g c =
     let fits : most levels (map view c.args.variables.now.items) * c.args.style.now.indent < 2 ^ 32 = c.requires in
     rw (c.deref.ensures.value, most_seen view levels c.args.variables.now.items) (omega (arith, fits))
 
-pub returns : goal.returns
-returns g c =
+pub returns-clause-text : goal.returns-clause-text
+returns-clause-text g c =
     let more = g.met.S.Sink.took_more in
     let some = some_items _ c.args.variables.now.items c.args.variables.now.ok.0 (sym c.is_empty.ensures ∙ c.if-is_empty.false) in
-    and_last g.S.Sink.took more _ _ _ _ _ _ _ (more _ _ _ _ _ c.in_ok-push_str.ensures c.in_ok-write_joined.ensures) c.push_str-2.ensures
+    and_last g.S.Sink.took more _ _ _ _ _ _ _ (more _ _ _ _ _ c.in_ok-push_str.ensures c.in_ok-write_joined.ensures.text) c.push_str-2.ensures
     (rw c.deref.ensures.value (in_parentheses (variable_definition_view g.N.Names.bytes) c.args.style.now c.args.variables.now.items some))
+
+pub returns-clause-lawful : goal.returns-clause-lawful
+returns-clause-lawful g c =
+    on_ok c.push_str-2.result
+    (all_seen (variable_definition_view g.N.Names.bytes) IsLawfulVariable c.args.variables.now.items
+    (rw c.deref.ensures.value at c.in_ok-write_joined.ensures.lawful))

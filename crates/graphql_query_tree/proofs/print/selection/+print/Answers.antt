@@ -1,23 +1,30 @@
 use Rattle.std.proofs.Common.{rules, arith, ◌∙◌, ◌+◌, ◌*◌, ◌++◌, ◌<◌, ◌^◌, append_assoc, ap, sym, refl, []}
+use Rattle.std.proofs.lemmas.Result.{on_ok_weaker}
 use Rattle.graphql_core.specs.Parts.{text_of}
 use Rattle.graphql_query_tree.specs.declared.tree.SelectionSet.{the_lemmas}
 use Rattle.graphql_query_tree.specs.Tree.{selection_set_view, selection_view, selections_view}
+use Rattle.graphql_query_tree.specs.Lawful.{AreLawfulSelections}
 use Rattle.graphql_query_tree.specs.Layout.{selection_layout, selections_layout, selection_set_levels}
 use Rattle.graphql_query_tree.proofs.LayoutTexts.{items_of, selection_set_parts, field_parts, inline_fragment_parts, selection_here, no_items, some_items}
-use Rattle.graphql_query_tree.proofs.LayoutTexts.{nothing_layout, some_levels, some_layout}
+use Rattle.graphql_query_tree.proofs.LayoutTexts.{nothing_layout, nothing_lawful, some_levels, some_layout}
 use Rattle.graphql_values.proofs.Enclosed.{narrower, braces_text}
-use Rattle.graphql_values.proofs.Appending.{text_append, and_last, and_part}
+use Rattle.graphql_values.proofs.Appending.{text_append, and_last, and_part, on_ok}
+use Rattle.graphql_values.proofs.Counting.{all_hold}
 use Rattle.graphql_query_tree.proofs.print.selection.+print.Goals as goal
 
-pub write_selection_set-returns : goal.write_selection_set-returns
-write_selection_set-returns g t c =
+pub write_selection_set-returns-clause-text : goal.write_selection_set-returns-clause-text
+write_selection_set-returns-clause-text g t c =
     let bytes = g.N.Names.bytes in
     let more = g.met.S.Sink.took_more in
-    let written = more _ _ _ _ _ (more _ _ _ _ _ c.in_ok-push_str.ensures c.in_ok-write_selections.ensures) c.in_ok-write_spaces.ensures in
+    let written = more _ _ _ _ _ (more _ _ _ _ _ c.in_ok-push_str.ensures c.in_ok-write_selections.ensures.text) c.in_ok-write_spaces.ensures in
     and_last g.S.Sink.took more _ _ _ _ _ _ _ written c.push_str-2.ensures
     (rw (selection_set_parts bytes c.args.set.now, c.indentation.ensures)
     (braces_text c.args.margin
     (selections_layout c.args.style.now (c.args.margin + c.args.style.now.indent) (selections_view bytes (items_of bytes c.args.set.now)))))
+
+pub write_selection_set-returns-clause-lawful : goal.write_selection_set-returns-clause-lawful
+write_selection_set-returns-clause-lawful g t c =
+    on_ok c.push_str-2.result (rw (selection_set_parts g.N.Names.bytes c.args.set.now) c.in_ok-write_selections.ensures.lawful)
 
 pub write_selections-write_selection-requires : goal.write_selections-write_selection-requires
 write_selections-write_selection-requires g t c κs within = (
@@ -30,7 +37,7 @@ write_selections-write_selection-requires g t c κs within = (
 )
 
 pub write_selections-items-init : goal.write_selections-items-init
-write_selections-items-init g t c = record { bound = rw c.deref-item-items.ensures.value c.requires; wrote = ([], g.met.S.Sink.took_nil _, refl) }
+write_selections-items-init g t c = record { bound = rw c.deref-item-items.ensures.value c.requires; wrote = ([], g.met.S.Sink.took_nil _, refl); lawful = λ h. h }
 
 pub write_selections-items-preserved : goal.write_selections-items-preserved
 write_selections-items-preserved g t c =
@@ -42,29 +49,46 @@ write_selections-items-preserved g t c =
     let (done, wrote, rest) = l.invariant.wrote in
     record {
       bound = fits.1;
-      wrote = and_part g.S.Sink.took g.met.S.Sink.took_more _ _ _ done _ _ _ wrote c.in_ok-write_selection.ensures
+      wrote = and_part g.S.Sink.took g.met.S.Sink.took_more _ _ _ done _ _ _ wrote c.in_ok-write_selection.ensures.text
           (ap (λ r. done ++ r)
           (sym (ap (λ r. text_of (selections_layout c.args.style.now c.args.margin r)) here
           ∙ text_append (selection_layout c.args.style.now c.args.margin (selection_view bytes c.item-item.result)) _)) ∙ rest);
+      lawful = λ h. l.invariant.lawful (rw here (c.in_ok-write_selection.ensures.lawful, h));
     }
 
-pub write_field-returns : goal.write_field-returns
-write_field-returns g t c =
+pub write_selections-returns-clause-lawful : goal.write_selections-returns-clause-lawful
+write_selections-returns-clause-lawful g t c =
+    all_hold (selections_view g.N.Names.bytes) c.deref-item-items.result.now c.args.items.now.items c.items.item-index (omega arith)
+    c.deref-item-items.ensures.value AreLawfulSelections tt c.items.invariant.lawful
+
+pub write_field-returns-clause-text : goal.write_field-returns-clause-text
+write_field-returns-clause-text g t c =
     let bytes = g.N.Names.bytes in
     let more = g.met.S.Sink.took_more in
     let named = more _ _ _ _ _ (more _ _ _ _ _ c.in_ok-write_spaces.ensures c.in_ok-write_alias.ensures) c.in_ok-push_str.ensures in
-    let written = more _ _ _ _ _ (more _ _ _ _ _ named c.in_ok-write_arguments.ensures) c.in_ok-write_directives.ensures in
-    and_last g.S.Sink.took more _ _ _ _ _ _ _ written c.write_selected.ensures
+    let written = more _ _ _ _ _ (more _ _ _ _ _ named c.in_ok-write_arguments.ensures.text) c.in_ok-write_directives.ensures.text in
+    and_last g.S.Sink.took more _ _ _ _ _ _ _ written c.write_selected.ensures.text
     (rw (field_parts bytes c.args.field.now, c.view.ensures) (simp (text_append, append_assoc)))
 
-pub write_inline_fragment-returns : goal.write_inline_fragment-returns
-write_inline_fragment-returns g t c =
+pub write_field-returns-clause-lawful : goal.write_field-returns-clause-lawful
+write_field-returns-clause-lawful g t c =
+    rw (field_parts g.N.Names.bytes c.args.field.now)
+    (on_ok_weaker c.write_selected.result (λ set. (c.in_ok-write_arguments.ensures.lawful, c.in_ok-write_directives.ensures.lawful, set))
+    c.write_selected.ensures.lawful)
+
+pub write_inline_fragment-returns-clause-text : goal.write_inline_fragment-returns-clause-text
+write_inline_fragment-returns-clause-text g t c =
     let bytes = g.N.Names.bytes in
     let more = g.met.S.Sink.took_more in
     let on = more _ _ _ _ _ (more _ _ _ _ _ c.in_ok-write_spaces.ensures c.in_ok-push_str.ensures) c.in_ok-write_on.ensures in
-    let written = more _ _ _ _ _ (more _ _ _ _ _ on c.in_ok-write_directives.ensures) c.in_ok-push_str-2.ensures in
-    and_last g.S.Sink.took more _ _ _ _ _ _ _ written c.write_selection_set.ensures
+    let written = more _ _ _ _ _ (more _ _ _ _ _ on c.in_ok-write_directives.ensures.text) c.in_ok-push_str-2.ensures in
+    and_last g.S.Sink.took more _ _ _ _ _ _ _ written c.write_selection_set.ensures.text
     (rw (inline_fragment_parts bytes c.args.fragment.now) (simp (text_append, append_assoc)))
+
+pub write_inline_fragment-returns-clause-lawful : goal.write_inline_fragment-returns-clause-lawful
+write_inline_fragment-returns-clause-lawful g t c =
+    rw (inline_fragment_parts g.N.Names.bytes c.args.fragment.now)
+    (on_ok_weaker c.write_selection_set.result (λ set. (c.in_ok-write_directives.ensures.lawful, set)) c.write_selection_set.ensures.lawful)
 
 pub write_selected-write_selection_set-requires : goal.write_selected-write_selection_set-requires
 write_selected-write_selection_set-requires g t c κs within =
@@ -74,16 +98,22 @@ write_selected-write_selection_set-requires g t c κs within =
     let fits : c.args.margin + selection_set_levels c.args.style.now (selection_set_view bytes s) * c.args.style.now.indent < 2 ^ 32 = rw (← same) c.requires in
     search (rules, the_lemmas, fits)
 
-pub write_selected-returns : goal.write_selected-returns
-write_selected-returns g t c =
+pub write_selected-returns-clause-text : goal.write_selected-returns-clause-text
+write_selected-returns-clause-text g t c =
     let bytes = g.N.Names.bytes in
     let s = c.args.set.now in
     let some = some_layout bytes s c.args.style.now c.args.margin (some_items bytes s (sym c.is_empty.ensures ∙ c.if-is_empty.false)) in
-    and_last g.S.Sink.took g.met.S.Sink.took_more _ _ _ _ _ _ _ c.in_ok-push_str.ensures c.write_selection_set.ensures (sym (ap text_of some))
+    and_last g.S.Sink.took g.met.S.Sink.took_more _ _ _ _ _ _ _ c.in_ok-push_str.ensures c.write_selection_set.ensures.text (sym (ap text_of some))
 
-pub write_selected-returns-then-is_empty : goal.write_selected-returns-then-is_empty
-write_selected-returns-then-is_empty g t c =
+pub write_selected-returns-then-is_empty-clause-text : goal.write_selected-returns-then-is_empty-clause-text
+write_selected-returns-then-is_empty-clause-text g t c =
     let bytes = g.N.Names.bytes in
     let s = c.args.set.now in
     rw (nothing_layout bytes s c.args.style.now c.args.margin (no_items bytes s (sym c.is_empty.ensures ∙ c.if-is_empty.true)))
     c.push_str.ensures
+
+pub write_selected-returns-then-is_empty-clause-lawful : goal.write_selected-returns-then-is_empty-clause-lawful
+write_selected-returns-then-is_empty-clause-lawful g t c =
+    let bytes = g.N.Names.bytes in
+    let s = c.args.set.now in
+    on_ok c.push_str.result (nothing_lawful bytes s (no_items bytes s (sym c.is_empty.ensures ∙ c.if-is_empty.true)))

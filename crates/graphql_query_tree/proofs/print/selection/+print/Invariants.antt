@@ -1,6 +1,7 @@
 use Rattle.std.proofs.Common.{◌≡◌, ◌++◌, ◌+◌, ◌*◌, ◌<◌, ◌^◌, List, ℕ, drop}
 use Rattle.graphql_core.specs.Parts.{text_of}
 use Rattle.graphql_query_tree.specs.Tree.{selections_view}
+use Rattle.graphql_query_tree.specs.Lawful.{AreLawfulSelections}
 use Rattle.graphql_query_tree.specs.Layout.{selections_layout, selections_levels}
 use Rattle.graphql_query_tree.proofs.print.selection.+print.Given as goal
 
@@ -12,4 +13,5 @@ invariant-write_selections-items g l =
       bound : l.margin + selections_levels l.style left * l.style.indent < 2 ^ 32;
       wrote : (done : List ℕ) × g.S.Sink.took l.initial.out done l.out
           × (done ++ text_of (selections_layout l.style l.margin left) ≡ text_of (selections_layout l.style l.margin whole));
+      lawful : AreLawfulSelections left → AreLawfulSelections whole;
     }

@@ -16,7 +16,7 @@ write-requires g c =
     (narrower _ _ _ c.args.style.now.indent (2 ^ 32) (rw here at l.invariant.bound)).0
 
 pub fields-init : goal.fields-init
-fields-init g c = record { bound = c.requires; wrote = ([], g.met.S.Sink.took_nil _, refl) }
+fields-init g c = record { bound = c.requires; wrote = ([], g.met.S.Sink.took_nil _, refl); lawful = λ h. h }
 
 pub fields-preserved : goal.fields-preserved
 fields-preserved g c =
@@ -29,8 +29,9 @@ fields-preserved g c =
     let one = input_field_text c.args.style.now c.args.margin (view c.field-item.result) in
     let next = ap (λ fs. text_of (flat_map lines (map view fs))) here ∙ text_append (lines (view c.field-item.result)) later in
     let (done, wrote, rest) = l.invariant.wrote in
-    let written = more _ _ _ _ _ (more _ _ _ _ _ c.in_ok-write_spaces.ensures c.in_ok-write.ensures) c.in_ok-push_str.ensures in
+    let written = more _ _ _ _ _ (more _ _ _ _ _ c.in_ok-write_spaces.ensures c.in_ok-write.ensures.text) c.in_ok-push_str.ensures in
     record {
       bound = (narrower _ _ _ c.args.style.now.indent (2 ^ 32) (rw here at l.invariant.bound)).1;
       wrote = and_part g.S.Sink.took more _ _ _ done _ _ _ wrote written (ap (λ r. done ++ r) (ap (λ r. r ++ text_of later) one ∙ sym next) ∙ rest);
+      lawful = λ h. l.invariant.lawful (rw here (c.in_ok-write.ensures.lawful, h));
     }

@@ -22,8 +22,8 @@ write_input_fields-requires g c =
     rw c.indentation.ensures
     (lines_fit (input_value_levels style) (map view c.args.fields.now) style.indent (2 ^ 32) seen (both_fit _ _ style.indent (2 ^ 32) c.requires).1)
 
-pub returns : goal.returns
-returns g c =
+pub returns-clause-text : goal.returns-clause-text
+returns-clause-text g c =
     let more = g.met.S.Sink.took_more in
     let style = c.args.style.now in
     let fields = map (input_value_view g.N.Names.bytes) c.args.fields.now in
@@ -32,19 +32,19 @@ returns g c =
     let n = g.N.Names.bytes c.args.name.now in
     let directives = directives_layout style 0 (directives_view g.N.Names.bytes c.args.directives.now.items) in
     let lines = input_field_layout style style.indent in
-    let before = more _ _ _ _ _ (more _ _ _ _ _ c.in_ok-push_str.ensures c.in_ok-push_str-2.ensures) c.in_ok-write_directives.ensures in
-    let inside = rw c.indentation.ensures at c.in_ok-write_input_fields.ensures in
+    let before = more _ _ _ _ _ (more _ _ _ _ _ c.in_ok-push_str.ensures c.in_ok-push_str-2.ensures) c.in_ok-write_directives.ensures.text in
+    let inside = rw c.indentation.ensures at c.in_ok-write_input_fields.ensures.text in
     let written = more _ _ _ _ _ (more _ _ _ _ _ before c.in_ok-push_str-3.ensures) inside in
     let text = braces_after (codes "input") n directives (flat_map lines fields)
     ∙ ap (λ b. text_of (named (codes "input") n (directives ++ b))) (filled_block 0 lines fields seen) in
     and_last g.S.Sink.took more _ _ _ _ _ _ _ written c.push_str-4.ensures (rw c.view.ensures text)
 
-pub returns-then-is_empty : goal.returns-then-is_empty
-returns-then-is_empty g c =
+pub returns-then-is_empty-clause-text : goal.returns-then-is_empty-clause-text
+returns-then-is_empty-clause-text g c =
     let more = g.met.S.Sink.took_more in
     let none : c.args.fields.now ≡ [] = nil_from_length _ (eqb-true _ _ (sym c.is_empty.ensures ∙ c.if-is_empty.true)) in
     let directives = directives_layout c.args.style.now 0 (directives_view g.N.Names.bytes c.args.directives.now.items) in
-    let before = more _ _ _ _ _ (more _ _ _ _ _ c.in_ok-push_str.ensures c.in_ok-push_str-2.ensures) c.in_ok-write_directives.ensures in
+    let before = more _ _ _ _ _ (more _ _ _ _ _ c.in_ok-push_str.ensures c.in_ok-push_str-2.ensures) c.in_ok-write_directives.ensures.text in
     rw none
     (and_last g.S.Sink.took more _ _ _ _ _ _ _ before c.push_str-then-is_empty.ensures
     (rw c.view.ensures (two_after (codes "input") (g.N.Names.bytes c.args.name.now) directives (gap (codes "\n")))))

@@ -7,12 +7,12 @@ use Rattle.graphql_schema_tree.specs.Layout.{members_layout}
 use Rattle.graphql_schema_tree.proofs.PrintedTexts.{three_after}
 use Rattle.graphql_schema_tree.proofs.print.body.write_union.Goals as goal
 
-pub returns : goal.returns
-returns g c =
+pub returns-clause-text : goal.returns-clause-text
+returns-clause-text g c =
     let bytes = g.N.Names.bytes in
     let more = g.met.S.Sink.took_more in
     let named = more _ _ _ _ _ c.in_ok-push_str.ensures c.in_ok-push_str-2.ensures in
-    let written = more _ _ _ _ _ (more _ _ _ _ _ named c.in_ok-write_directives.ensures) c.in_ok-write_members.ensures in
+    let written = more _ _ _ _ _ (more _ _ _ _ _ named c.in_ok-write_directives.ensures.text) c.in_ok-write_members.ensures in
     let text = three_after (codes "union") (bytes c.args.name.now) (directives_layout c.args.style.now 0 (directives_view bytes c.args.directives.now.items))
     (members_layout (map bytes c.args.types.now)) (gap (codes "\n")) in
     and_last g.S.Sink.took more _ _ _ _ _ _ _ written c.push_str-3.ensures (rw c.view.ensures text)

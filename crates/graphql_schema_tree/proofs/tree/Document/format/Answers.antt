@@ -9,4 +9,4 @@ pub returns-clause-read_back : goal.returns-clause-read_back
 returns-clause-read_back g c printable =
     let d = document_view g.N.Names.bytes c.args.self.now in
     let printed : string_bytes c.into_string.result ≡ layout c.args.style.now d = search rules in
-    subst (λ text. IsReadBack text d) (sym printed) (way_back c.args.style.now d printable c.in_ok-write_document.ensures.lawful)
+    subst (λ text. IsReadBack text d) (sym printed) (way_back c.args.style.now d printable c.in_ok-write.ensures.lawful)

@@ -1,16 +1,10 @@
 use Rattle.std.proofs.Common.{◌-◌, sym}
-use Rattle.graphql_values.proofs.Seen.{most_seen, all_seen}
-use Rattle.graphql_query_tree.specs.Lawful.{IsLawfulDefinition}
+use Rattle.graphql_values.proofs.Seen.{most_seen}
 use Rattle.graphql_query_tree.specs.Layout.{definition_levels}
 use Rattle.graphql_query_tree.specs.Tree.{definition_view}
 use Rattle.graphql_query_tree.proofs.print.definition.DocumentPretty.levels.Goals as goal
 
-pub returns-clause-levels : goal.returns-clause-levels
-returns-clause-levels g c =
+pub returns : goal.returns
+returns g c =
     let same = most_seen (definition_view g.N.Names.bytes) (definition_levels c.args.style.now) c.args.self.now.definitions.items in
-    rw (sym same) (rw c.deref.ensures.value at c.levels_in_each.ensures.levels)
-
-pub returns-clause-lawful : goal.returns-clause-lawful
-returns-clause-lawful g c =
-    all_seen (definition_view g.N.Names.bytes) IsLawfulDefinition c.args.self.now.definitions.items
-    (rw c.deref.ensures.value at c.levels_in_each.ensures.lawful)
+    rw (sym same) (rw c.deref.ensures.value at c.levels_in_each.ensures)

@@ -1,6 +1,8 @@
 use Rattle.std.proofs.Common.{arith}
+use Rattle.std.proofs.lemmas.Result.{on_ok_weaker}
 use Rattle.graphql_values.proofs.Appending.{and_alone}
-use Rattle.graphql_values.proofs.Seen.{most_seen, separated_seen}
+use Rattle.graphql_values.proofs.Seen.{most_seen, all_seen, separated_seen}
+use Rattle.graphql_query_tree.specs.Lawful.{IsLawfulDefinition}
 use Rattle.graphql_query_tree.specs.Layout.{definition_layout, definition_levels}
 use Rattle.graphql_query_tree.specs.Tree.{definition_view}
 use Rattle.graphql_query_tree.proofs.print.definition.DocumentPretty.write.Goals as goal
@@ -10,6 +12,11 @@ write_joined-requires g c =
     rw (c.deref.ensures.value, most_seen (definition_view g.N.Names.bytes) (definition_levels c.args.style.now) c.args.self.now.definitions.items)
     (omega (arith, c.requires))
 
-pub returns : goal.returns
-returns g c = and_alone g.S.Sink.took g.met.S.Sink.took_more _ _ _ _ _ c.write_joined.ensures
+pub returns-clause-text : goal.returns-clause-text
+returns-clause-text g c = and_alone g.S.Sink.took g.met.S.Sink.took_more _ _ _ _ _ c.write_joined.ensures.text
     (rw c.deref.ensures.value (separated_seen (definition_view g.N.Names.bytes) (definition_layout c.args.style.now) c.args.self.now.definitions.items))
+
+pub returns-clause-lawful : goal.returns-clause-lawful
+returns-clause-lawful g c =
+    on_ok_weaker c.write_joined.result (all_seen (definition_view g.N.Names.bytes) IsLawfulDefinition c.args.self.now.definitions.items)
+    (rw c.deref.ensures.value at c.write_joined.ensures.lawful)

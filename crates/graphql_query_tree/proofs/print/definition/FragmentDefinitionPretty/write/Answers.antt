@@ -1,3 +1,4 @@
+use Rattle.std.proofs.lemmas.Result.{on_ok_weaker}
 use Rattle.graphql_values.specs.ValueLayout.{directives_layout}
 use Rattle.graphql_values.specs.ValueViews.{directives_view}
 use Rattle.graphql_values.proofs.Appending.{and_last}
@@ -6,14 +7,18 @@ use Rattle.graphql_query_tree.specs.Layout.{type_condition_layout, selection_set
 use Rattle.graphql_query_tree.proofs.LayoutTexts.{fragment_definition_text}
 use Rattle.graphql_query_tree.proofs.print.definition.FragmentDefinitionPretty.write.Goals as goal
 
-pub returns : goal.returns
-returns g c =
+pub returns-clause-text : goal.returns-clause-text
+returns-clause-text g c =
     let bytes = g.N.Names.bytes in
     let more = g.met.S.Sink.took_more in
     let f = c.args.self.now in
     let style = c.args.style.now in
     let named = more _ _ _ _ _ (more _ _ _ _ _ c.in_ok-push_str.ensures c.in_ok-push_str-2.ensures) c.in_ok-push_str-3.ensures in
-    let on = more _ _ _ _ _ (more _ _ _ _ _ named c.in_ok-write_type_condition.ensures) c.in_ok-write_directives.ensures in
+    let on = more _ _ _ _ _ (more _ _ _ _ _ named c.in_ok-write_type_condition.ensures) c.in_ok-write_directives.ensures.text in
     let text = fragment_definition_text (bytes f.name) (type_condition_layout (type_condition_view bytes f.type_condition))
     (directives_layout style 0 (directives_view bytes f.directives.items)) (selection_set_layout style 0 (selection_set_view bytes f.selection_set)) in
-    and_last g.S.Sink.took more _ _ _ _ _ _ _ (more _ _ _ _ _ on c.in_ok-push_str-4.ensures) c.write_selection_set.ensures (rw c.view.ensures text)
+    and_last g.S.Sink.took more _ _ _ _ _ _ _ (more _ _ _ _ _ on c.in_ok-push_str-4.ensures) c.write_selection_set.ensures.text (rw c.view.ensures text)
+
+pub returns-clause-lawful : goal.returns-clause-lawful
+returns-clause-lawful g c =
+    on_ok_weaker c.write_selection_set.result (λ set. (c.in_ok-write_directives.ensures.lawful, set)) c.write_selection_set.ensures.lawful

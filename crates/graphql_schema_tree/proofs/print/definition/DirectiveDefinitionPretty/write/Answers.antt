@@ -9,10 +9,10 @@ write_arguments-requires g c =
     let fits = latter_fits c.args._margin _ _ c.args.style.now.indent (2 ^ 32) c.requires in
     rw c.deref.ensures.value (omega (arith, fits))
 
-pub returns : goal.returns
-returns g c =
+pub returns-clause-text : goal.returns-clause-text
+returns-clause-text g c =
     let more = g.met.S.Sink.took_more in
-    let arguments = rw c.deref.ensures.value at c.in_ok-write_arguments.ensures in
+    let arguments = rw c.deref.ensures.value at c.in_ok-write_arguments.ensures.text in
     let locations = rw c.deref-2.ensures.value at c.in_ok-write_locations.ensures in
     let named = more _ _ _ _ _ (more _ _ _ _ _ c.in_ok-write_description.ensures c.in_ok-push_str.ensures) c.in_ok-push_str-2.ensures in
     let written = more _ _ _ _ _ (more _ _ _ _ _ (more _ _ _ _ _ named arguments) c.in_ok-write_repeatable.ensures) locations in

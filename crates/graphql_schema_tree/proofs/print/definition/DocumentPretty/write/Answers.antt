@@ -1,9 +1,11 @@
 use Rattle.std.proofs.Common.{◌+◌, ◌*◌, ◌<◌, ◌^◌, arith, map}
+use Rattle.std.proofs.lemmas.Result.{on_ok_weaker}
 use Rattle.graphql_values.specs.Printable.{most}
 use Rattle.graphql_values.proofs.Appending.{and_alone}
+use Rattle.graphql_schema_tree.specs.Lawful.{IsLawfulDefinition}
 use Rattle.graphql_schema_tree.specs.Layout.{definition_layout, definition_levels}
 use Rattle.graphql_schema_tree.specs.Views.{definition_view}
-use Rattle.graphql_values.proofs.Seen.{most_seen, separated_seen}
+use Rattle.graphql_values.proofs.Seen.{most_seen, all_seen, separated_seen}
 use Rattle.graphql_schema_tree.proofs.print.definition.DocumentPretty.write.Goals as goal
 
 pub write_joined-requires : goal.write_joined-requires
@@ -14,8 +16,13 @@ write_joined-requires g c =
     let fits : c.args._margin + most (definition_levels style) (map view definitions) * style.indent < 2 ^ 32 = c.requires in
     rw (c.deref.ensures.value, most_seen view (definition_levels style) definitions) (omega (arith, fits))
 
-pub returns : goal.returns
-returns g c =
+pub returns-clause-text : goal.returns-clause-text
+returns-clause-text g c =
     let definitions = c.args.self.now.definitions.items in
-    and_alone g.S.Sink.took g.met.S.Sink.took_more _ _ _ _ _ (rw c.deref.ensures.value at c.write_joined.ensures)
+    and_alone g.S.Sink.took g.met.S.Sink.took_more _ _ _ _ _ (rw c.deref.ensures.value at c.write_joined.ensures.text)
     (separated_seen (definition_view g.N.Names.bytes) (definition_layout c.args.style.now) definitions)
+
+pub returns-clause-lawful : goal.returns-clause-lawful
+returns-clause-lawful g c =
+    on_ok_weaker c.write_joined.result (all_seen (definition_view g.N.Names.bytes) IsLawfulDefinition c.args.self.now.definitions.items)
+    (rw c.deref.ensures.value at c.write_joined.ensures.lawful)

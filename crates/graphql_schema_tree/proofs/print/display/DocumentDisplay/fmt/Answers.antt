@@ -11,7 +11,7 @@ write-requires g c =
     rw c.default-style.ensures (omega (arith, most))
 
 pub returns-clause-writes : goal.returns-clause-writes
-returns-clause-writes g c = written_alone c.write.result (simp c.default-style.ensures at c.write.ensures)
+returns-clause-writes g c = written_alone c.write.result (simp c.default-style.ensures at c.write.ensures.text)
 
 pub returns-clause-narrow : goal.returns-clause-narrow
 returns-clause-narrow g c = narrow_by_default c.write.result (document_view g.N.Names.bytes c.args.self.now)

@@ -2,5 +2,5 @@ use Rattle.std.proofs.Common.{refl}
 use Rattle.graphql_values.proofs.Appending.{and_last}
 use Rattle.graphql_schema_tree.proofs.print.extensions.ScalarTypeExtensionPretty.write.Goals as goal
 
-pub returns : goal.returns
-returns g c = and_last g.S.Sink.took g.met.S.Sink.took_more _ _ _ _ _ _ _ c.in_ok-push_str.ensures c.write_scalar.ensures refl
+pub returns-clause-text : goal.returns-clause-text
+returns-clause-text g c = and_last g.S.Sink.took g.met.S.Sink.took_more _ _ _ _ _ _ _ c.in_ok-push_str.ensures c.write_scalar.ensures.text refl

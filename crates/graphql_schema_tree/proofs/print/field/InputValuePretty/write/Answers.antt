@@ -11,10 +11,10 @@ write_default-requires g c =
     let after = (narrower c.args.margin _ _ style.indent (2 ^ 32) c.requires).1 in
     (narrower c.args.margin _ _ style.indent (2 ^ 32) after).0
 
-pub returns : goal.returns
-returns g c =
+pub returns-clause-text : goal.returns-clause-text
+returns-clause-text g c =
     let more = g.met.S.Sink.took_more in
     let named = more _ _ _ _ _ (more _ _ _ _ _ c.in_ok-write_inline_description.ensures c.in_ok-push_str.ensures) c.in_ok-push_str-2.ensures in
     let typed = more _ _ _ _ _ named c.in_ok-write_type.ensures in
-    and_last g.S.Sink.took more _ _ _ _ _ _ _ (more _ _ _ _ _ typed c.in_ok-write_default.ensures) c.write_directives.ensures
+    and_last g.S.Sink.took more _ _ _ _ _ _ _ (more _ _ _ _ _ typed c.in_ok-write_default.ensures.text) c.write_directives.ensures.text
     (rw c.view.ensures (input_value_text c.args.style.now c.args.margin (input_value_view g.N.Names.bytes c.args.self.now)))

@@ -1,17 +1,10 @@
 use Rattle.std.proofs.Common.{rules}
 use Rattle.graphql_schema_tree.specs.Layout.{input_value_levels}
-use Rattle.graphql_schema_tree.specs.Lawful.{IsLawfulInputValue}
 use Rattle.graphql_schema_tree.specs.Views.{input_value_view}
-use Rattle.graphql_values.proofs.Seen.{all_seen}
 use Rattle.graphql_schema_tree.proofs.PrintedTexts.{block_levels_seen}
 use Rattle.graphql_schema_tree.proofs.print.types.InputObjectTypePretty.levels.Goals as goal
 
-pub returns-clause-levels : goal.returns-clause-levels
-returns-clause-levels g c =
+pub returns : goal.returns
+returns g c =
     let seen = block_levels_seen (input_value_view g.N.Names.bytes) (input_value_levels c.args.style.now) c.args.self.now.fields.items in
     rw (← seen, ← c.deref.ensures.value) (search rules)
-
-pub returns-clause-lawful : goal.returns-clause-lawful
-returns-clause-lawful g c =
-    let each = rw c.deref.ensures.value at c.levels_in_block-fields.ensures.lawful in
-    (c.levels_in_directives.ensures.lawful, all_seen (input_value_view g.N.Names.bytes) IsLawfulInputValue c.args.self.now.fields.items each)
