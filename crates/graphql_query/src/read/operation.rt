@@ -16,7 +16,9 @@ ghost use Rattle.graphql_query.specs.steps.Reads.{Reads};
 
 use crate::read::selection::selection_set;
 use graphql_core::common::Names;
-use graphql_core::helpers::{Mark, Stop, TokenSource, keyword, name, sees_keyword, take_mark};
+use graphql_core::helpers::{
+    Mark, Stop, TokenSource, give_back_room, keyword, name, sees_keyword, take_mark,
+};
 use graphql_query_tree::tree::{
     Mutation, OperationDefinition, Query, SelectionSet, Subscription, VariableDefinition,
 };
@@ -99,6 +101,7 @@ fn variable_definitions<S: TokenSource>(
         variable_definition(alloc, source, definitions)?;
     }
     take_mark(source, Mark::CloseParen)?;
+    give_back_room(source, definitions);
     Ok(())
 }
 

@@ -13,7 +13,7 @@ ghost use Rattle.graphql_query.specs.steps.Reads.{Reads, AddsSet, after_dots_of}
 
 use crate::read::alias::alias;
 use crate::read::fragment::{fragment_spread, optional_type_condition, sees_spread_name};
-use graphql_core::helpers::{Mark, Stop, TokenSource, name, take_mark};
+use graphql_core::helpers::{Mark, Stop, TokenSource, give_back_room, name, take_mark};
 use graphql_core::position::Pos;
 use graphql_query_tree::tree::{Field, InlineFragment, Selection, SelectionSet};
 use graphql_values::read::directives::{self, optional_arguments};
@@ -171,5 +171,6 @@ pub fn selection_set<S: TokenSource>(
         selection(alloc, source, items)?;
     }
     let end = take_mark(source, Mark::CloseBrace)?;
+    give_back_room(source, items);
     Ok((start, end))
 }

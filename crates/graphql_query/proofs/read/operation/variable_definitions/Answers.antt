@@ -90,6 +90,6 @@ returns-clause-reads g c =
     (begins_variable_definition _ ∙ sym c.sees_mark.ensures ∙ c.more-test.false) in (
       Node variable_definitions_symbol (Both (Leaf o) (Both (Both first r.0) (Leaf e))),
       takes_node (takes_both (takes_one reading _ _ _ o refl opens) (takes_both (takes_both takes r.1) (takes_one reading _ _ _ e refl ends))) refl,
-      adds_more view_one _ _ _ _ items view views
+      ap (map view_one) c.give_back_room.ensures ∙ adds_more view_one _ _ _ _ items view views
           ∙ ap (λ l. map view_one c.args.definitions.now.items ++ (read_variable_definition first ∷ l)) (sym (each_variable_definition_means r.1 ∙ r.2)),
     )

@@ -274,6 +274,7 @@ selection_set-returns-in_err-end-clause-reads g t c =
 
 pub selection_set-returns-clause-reads : goal.selection_set-returns-clause-reads
 selection_set-returns-clause-reads g t c =
+    let view_one = selection_view g.S.Names.Names.bytes in
     let (o, opens, at) = c.in_ok-start.ensures in
     let (e, ends, until) = c.in_ok-end.ensures in
     let (items, turns, views) = c.more.invariant.turns in
@@ -284,5 +285,9 @@ selection_set-returns-clause-reads g t c =
     ap (more (selection_at x)) (sym (selections_mean r.1 ∙ ap trees_of r.2)) in (
       Node selection_set_symbol (Both (Leaf o) (Both (Both x r.0) (Leaf e))),
       takes_node (takes_both (takes_one reading _ _ _ o refl opens) (takes_both (takes_both takes r.1) (takes_one reading _ _ _ e refl ends))) refl,
-      (selection_at x ∷ items, adds_more (selection_view g.S.Names.Names.bytes) _ _ _ _ items view views, rw (at, until, all) refl),
+      (
+        selection_at x ∷ items,
+        ap (map view_one) c.give_back_room.ensures ∙ adds_more view_one _ _ _ _ items view views,
+        rw (at, until, all) refl,
+      ),
     )
