@@ -11,7 +11,9 @@ ghost use Rattle.graphql_schema.specs.steps.Reads.{Reads};
 
 use crate::read::input::optional_argument_definitions;
 use crate::read::names::optional_mark;
-use graphql_core::helpers::{Mark, Stop, TokenSource, keyword, name, sees_keyword, take_mark};
+use graphql_core::helpers::{
+    Mark, Stop, TokenSource, give_back_room, keyword, name, sees_keyword, take_mark,
+};
 use graphql_core::tokenizer::Kind;
 use graphql_schema_tree::DirectiveLocation;
 use graphql_schema_tree::tree::DirectiveDefinition;
@@ -66,6 +68,7 @@ fn locations<S: TokenSource>(
     'more: while source.sees_mark(Mark::Pipe) {
         marked_location(source, locations)?;
     }
+    give_back_room(source, locations);
     Ok(())
 }
 

@@ -9,7 +9,7 @@ ghost use Rattle.graphql_schema_tree.specs.Views.{enum_value_view};
 ghost use Rattle.graphql_schema.specs.steps.Reads.{Reads};
 
 use crate::read::description::{optional_description, sees_described_name};
-use graphql_core::helpers::{Mark, Stop, TokenSource, name, take_mark};
+use graphql_core::helpers::{Mark, Stop, TokenSource, give_back_room, name, take_mark};
 use graphql_schema_tree::tree::EnumValue;
 use graphql_values::read::directives;
 use std::alloc::Global;
@@ -58,6 +58,7 @@ fn enum_values<S: TokenSource>(
         enum_value(alloc, source, values)?;
     }
     take_mark(source, Mark::CloseBrace)?;
+    give_back_room(source, values);
     Ok(())
 }
 

@@ -10,7 +10,7 @@ ghost use Rattle.graphql_schema.specs.steps.Reads.{Reads};
 
 use crate::read::description::{optional_description, sees_described_name};
 use crate::read::input::optional_argument_definitions;
-use graphql_core::helpers::{Mark, Stop, TokenSource, name, take_mark};
+use graphql_core::helpers::{Mark, Stop, TokenSource, give_back_room, name, take_mark};
 use graphql_schema_tree::tree::Field;
 use graphql_values::read::directives;
 use graphql_values::read::types::parse_type;
@@ -66,6 +66,7 @@ fn fields<S: TokenSource>(
         field(alloc, source, fields)?;
     }
     take_mark(source, Mark::CloseBrace)?;
+    give_back_room(source, fields);
     Ok(())
 }
 

@@ -9,7 +9,7 @@ ghost use Rattle.graphql_schema_tree.specs.Views.{input_value_view};
 ghost use Rattle.graphql_schema.specs.steps.Reads.{Reads};
 
 use crate::read::description::{optional_description, sees_described_name};
-use graphql_core::helpers::{Mark, Stop, TokenSource, name, take_mark};
+use graphql_core::helpers::{Mark, Stop, TokenSource, give_back_room, name, take_mark};
 use graphql_schema_tree::tree::InputValue;
 use graphql_values::read::directives::{self, optional_default};
 use graphql_values::read::types::parse_type;
@@ -62,6 +62,7 @@ fn input_values<S: TokenSource>(
     'more: while sees_described_name(source) {
         input_value(alloc, source, values)?;
     }
+    give_back_room(source, values);
     Ok(())
 }
 

@@ -12,7 +12,9 @@ ghost use Rattle.graphql_schema_tree.specs.Meanings.{joined_of, marked_of, inter
 ghost use Rattle.graphql_schema.specs.steps.Reads.{Reads};
 
 use graphql_core::common::Names;
-use graphql_core::helpers::{Mark, Stop, TokenSource, keyword, name, sees_keyword, take_mark};
+use graphql_core::helpers::{
+    Mark, Stop, TokenSource, give_back_room, keyword, name, sees_keyword, take_mark,
+};
 use std::alloc::Global;
 
 /// A mark, where it comes next.
@@ -65,6 +67,7 @@ fn joined_names<S: TokenSource>(
     'more: while source.sees_mark(mark) {
         marked_name(alloc, source, mark, names)?;
     }
+    give_back_room(source, names);
     Ok(())
 }
 

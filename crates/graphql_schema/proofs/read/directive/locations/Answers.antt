@@ -66,7 +66,7 @@ returns-clause-reads g c =
     (x, takes, adds_one Some _ _ _ _ c.in_ok-push.ensures.items is) c.more.invariant.comes (sym c.sees_mark.ensures ∙ c.more-test.false) in (
       Node locations_symbol xs,
       (starts locations_symbol old.tokens (λ x. refl)).takes now.tokens xs joined,
-      adds_present _ c.more.locations.items (joined_of location_at None (written changes xs)) adds,
+      c.give_back_room.ensures ∙ adds_present _ c.more.locations.items (joined_of location_at None (written changes xs)) adds,
     )
 
 pub returns-clause-kept : goal.returns-clause-kept

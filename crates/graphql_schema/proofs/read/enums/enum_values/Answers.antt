@@ -74,6 +74,7 @@ returns-clause-reads g c =
     let view = enum_value_view g.S.Names.Names.bytes in
     let (o, opens, at) = c.in_ok-take_mark.ensures in
     let (e, ends, until) = c.in_ok-take_mark-2.ensures in
-    enclosed_taken enum_values_enclosed enum_value_of view old mid now new _ _ o e opens
+    rw c.give_back_room.ensures
+    (enclosed_taken enum_values_enclosed enum_value_of view old mid now new _ _ o e opens
     (some_taken (Sym enum_value_symbol) enum_value_of view mid start now _ _ _ c.in_ok-enum_value.ensures.reads c.more.invariant.comes
-    (enum_value_begins now ∙ sym c.sees_described_name.ensures ∙ c.more-test.false)) ends
+    (enum_value_begins now ∙ sym c.sees_described_name.ensures ∙ c.more-test.false)) ends)

@@ -74,6 +74,7 @@ returns-clause-reads g c =
     let view = field_view g.S.Names.Names.bytes in
     let (o, opens, at) = c.in_ok-take_mark.ensures in
     let (e, ends, until) = c.in_ok-take_mark-2.ensures in
-    enclosed_taken fields_enclosed field_of view old mid now new _ _ o e opens
+    rw c.give_back_room.ensures
+    (enclosed_taken fields_enclosed field_of view old mid now new _ _ o e opens
     (some_taken (Sym field_symbol) field_of view mid start now _ _ _ c.in_ok-field.ensures.reads c.more.invariant.comes
-    (field_begins now ∙ sym c.sees_described_name.ensures ∙ c.more-test.false)) ends
+    (field_begins now ∙ sym c.sees_described_name.ensures ∙ c.more-test.false)) ends)

@@ -60,9 +60,10 @@ returns-clause-reads g c =
     let bytes = g.S.Names.Names.bytes in
     let (m, mark, none) = c.in_ok-optional_mark.ensures.reads in
     let (t, named, spelled) = c.in_ok-name.ensures in
-    joined_taken (spelling_of c.args.mark) shared.name spelling_at [] bytes old mid start now _ _ _ m mark
+    rw c.give_back_room.ensures
+    (joined_taken (spelling_of c.args.mark) shared.name spelling_at [] bytes old mid start now _ _ _ m mark
     (Leaf t, takes_one reading _ _ _ t refl named, adds_one bytes _ _ _ t.spelling c.in_ok-push.ensures.items (sym spelled))
-    c.more.invariant.comes (sym c.sees_mark.ensures ∙ c.more-test.false)
+    c.more.invariant.comes (sym c.sees_mark.ensures ∙ c.more-test.false))
 
 pub returns-clause-kept : goal.returns-clause-kept
 returns-clause-kept g c = c.more.invariant.kept ∙ c.in_ok-name.ensures.1.kept ∙ c.in_ok-optional_mark.ensures.kept
