@@ -28,4 +28,5 @@ NextItem old (Err bad) new = (w : Where) × (old ≡ item (Wrong (bad_text bad))
 
 -- Where the next item is a token, the text begins with its spelling.
 abbrev pub BeginsWithNext : List Item → List ℕ → Type 0
-BeginsWithNext items text = (k : Kind) (value : List ℕ) (w : Where) (more : List Item) → items ≡ item (Lexeme k value) w ∷ more → take (length value) text ≡ value
+BeginsWithNext items text =
+    (k : Kind) (value : List ℕ) (w : Where) (more : List Item) → items ≡ item (Lexeme k value) w ∷ more → take (length value) text ≡ value

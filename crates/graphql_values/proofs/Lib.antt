@@ -25,6 +25,7 @@ pub mod DirectivesBack
 pub mod LinesBack
 pub mod Margins
 pub mod Narrow
+pub mod FewLevels
 pub mod Counting
 pub mod Depths
 pub mod Steps

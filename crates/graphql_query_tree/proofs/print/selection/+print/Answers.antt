@@ -37,7 +37,11 @@ write_selections-write_selection-requires g t c κs within = (
 )
 
 pub write_selections-items-init : goal.write_selections-items-init
-write_selections-items-init g t c = record { bound = rw c.deref-item-items.ensures.value c.requires; wrote = ([], g.met.S.Sink.took_nil _, refl); lawful = λ h. h }
+write_selections-items-init g t c = record {
+  bound = rw c.deref-item-items.ensures.value c.requires;
+  wrote = ([], g.met.S.Sink.took_nil _, refl);
+  lawful = λ h. h;
+}
 
 pub write_selections-items-preserved : goal.write_selections-items-preserved
 write_selections-items-preserved g t c =

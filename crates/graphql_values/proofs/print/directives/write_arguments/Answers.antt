@@ -24,7 +24,11 @@ arguments-init g c =
     let xs = c.args.arguments.now.items in
     let some = some_items _ xs c.args.arguments.now.ok.0 (sym c.is_empty.ensures ∙ c.if-is_empty.false) in
     let fits = arguments_fit (λ a. (bytes a.0, value_view bytes a.1)) c.args.style.now c.args.margin (2 ^ 32) xs some c.requires in
-    record { bound = rw (c.deref-argument-items.ensures.value, c.inside-indented.ensures) fits; wrote = (codes "(", c.in_ok-push_str.ensures, refl); lawful = λ h. h }
+    record {
+      bound = rw (c.deref-argument-items.ensures.value, c.inside-indented.ensures) fits;
+      wrote = (codes "(", c.in_ok-push_str.ensures, refl);
+      lawful = λ h. h;
+    }
 
 pub write_value-requires : goal.write_value-requires
 write_value-requires g c =

@@ -25,7 +25,11 @@ pub write_list-items-init : goal.write_list-items-init
 write_list-items-init g t c =
     let fits = inside_fits c.args.style.now c.args.margin (items_levels c.args.style.now (items_view g.N.Names.bytes c.args.items.now.items))
     (2 ^ 32) c.requires in
-    record { bound = rw (c.deref-item-items.ensures.value, c.inside-indented.ensures) fits; wrote = (codes "[", c.in_ok-push_str.ensures, refl); lawful = λ h. h }
+    record {
+      bound = rw (c.deref-item-items.ensures.value, c.inside-indented.ensures) fits;
+      wrote = (codes "[", c.in_ok-push_str.ensures, refl);
+      lawful = λ h. h;
+    }
 
 pub write_list-write_value-requires : goal.write_list-write_value-requires
 write_list-write_value-requires g t c κs within =
@@ -134,8 +138,10 @@ write_object-returns-clause-text g t c =
 pub write_object-returns-clause-lawful : goal.write_object-returns-clause-lawful
 write_object-returns-clause-lawful g t c =
     let entries = c.args.members.now.entries in
-    on_ok c.write_closer.result
-    (in_key_order g.N.Names.bytes g.N.Value.Ord.cmp g.met.N.Names.cmp_by_bytes entries c.iter-name-items.ensures.ordered, c.members.invariant.lawful (search rules))
+    on_ok c.write_closer.result (
+      in_key_order g.N.Names.bytes g.N.Value.Ord.cmp g.met.N.Names.cmp_by_bytes entries c.iter-name-items.ensures.ordered,
+      c.members.invariant.lawful (search rules),
+    )
 
 -- ---- values
 
