@@ -10,9 +10,12 @@ use Rattle.graphql_values.proofs.Appending.{text_append}
 use Rattle.graphql_values.specs.ValueViews.{arguments_view, directives_view}
 use Rattle.graphql_query_tree.specs.declared.tree.Selection.{Selection}
 use Rattle.graphql_query_tree.specs.declared.tree.Field.{Field}
+use Rattle.graphql_query_tree.specs.declared.tree.Selection.TheVariants as selections
+use Rattle.graphql_query_tree.specs.declared.tree.FragmentSpread.{FragmentSpread}
 use Rattle.graphql_query_tree.specs.declared.tree.InlineFragment.{InlineFragment}
 use Rattle.graphql_query_tree.specs.declared.tree.SelectionSet.{SelectionSet, out-SelectionSet, the_lemmas}
-use Rattle.graphql_query_tree.specs.Tree.{field, inline, set, more, type_condition_view, selection_view, selections_view, field_view, inline_fragment_view}
+use Rattle.graphql_query_tree.specs.Tree.{field, inline, set, more, type_condition_view, selection_view, selections_view, field_view, fragment_spread_view}
+use Rattle.graphql_query_tree.specs.Tree.{inline_fragment_view}
 use Rattle.graphql_query_tree.specs.Tree.{selection_set_view}
 use Rattle.graphql_query_tree.specs.Lawful.{IsLawfulSet}
 use Rattle.graphql_query_tree.specs.Layout.{selected_layout, selection_set_layout, selected_levels, selection_set_levels}
@@ -38,6 +41,16 @@ module _ {N T : Type 0} (bytes : T → List ℕ) where
       → inline_fragment_view bytes f ≡ inline (place_of f.position) (option_map (type_condition_view {N = N} bytes) f.type_condition)
       (directives_view bytes f.directives.items) (selection_set_view bytes f.selection_set)
   inline_fragment_parts f = search (rules, the_lemmas)
+
+  -- what is seen of a selection
+  pub seen_field : (f : Field N T) → selection_view bytes (selections.Field f) ≡ field_view bytes f
+  seen_field f = search (rules, the_lemmas)
+
+  pub seen_spread : (f : FragmentSpread N T) → selection_view bytes (selections.FragmentSpread f) ≡ fragment_spread_view bytes f
+  seen_spread f = search (rules, the_lemmas)
+
+  pub seen_inline_fragment : (f : InlineFragment N T) → selection_view bytes (selections.InlineFragment f) ≡ inline_fragment_view bytes f
+  seen_inline_fragment f = search (rules, the_lemmas)
 
   -- the selection at i, and what is left after it; and so on
   pub selection_here : (xs : List (Selection N T)) (i : ℕ) (x : Selection N T) → i < length xs → x ≡ get_or xs i x

@@ -1,4 +1,5 @@
 pub mod Depths
+pub mod SetsTell
 pub mod LayoutTexts
 pub mod NoPositions
 pub mod Readable

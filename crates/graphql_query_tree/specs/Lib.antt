@@ -6,3 +6,4 @@ pub mod Layout
 pub mod Meanings
 pub mod Printable
 pub mod Tree
+pub mod steps

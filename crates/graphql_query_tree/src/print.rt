@@ -4,6 +4,7 @@ mod display;
 mod levels;
 mod operation;
 mod selection;
+mod width;
 
 ghost use Rattle.std.specs.Prelude.{◌≡◌, ◌↔◌, IfOk, IsErrOf, string_bytes};
 ghost use Rattle.graphql_query_tree.specs.Document.{IsReadBack};
@@ -11,10 +12,11 @@ ghost use Rattle.graphql_query_tree.specs.Printable.{IsPrintable};
 ghost use Rattle.graphql_query_tree.specs.Tree.{document_view};
 ghost use Rattle.graphql_query_tree.specs.Layout.{layout, IsTooWide};
 
+use crate::print::width::is_document_too_wide;
 use crate::tree::Document;
 use graphql_core::common::Names;
 use graphql_core::format::{Buffer, FormatError, Style};
-use graphql_values::print::{Pretty, is_too_wide};
+use graphql_values::print::Pretty;
 use std::alloc::Global;
 
 impl<N: Names> Document<N> {
@@ -29,7 +31,7 @@ impl<N: Names> Document<N> {
             → IsReadBack (string_bytes text) (document_view N.bytes self.now)) }
         ensures too_wide { IsErrOf result FormatError.TooWide ↔ IsTooWide style.now (document_view N.bytes self.now) }
     {
-        if is_too_wide(self.levels(style), style) {
+        if is_document_too_wide(self, style) {
             return Err(FormatError::TooWide);
         }
         let mut text = Buffer::new(alloc);

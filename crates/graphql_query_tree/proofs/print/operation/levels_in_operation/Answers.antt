@@ -1,4 +1,4 @@
-use Rattle.std.proofs.Common.{◌-◌, arith}
+use Rattle.std.proofs.Common.{arith}
 use Rattle.graphql_values.proofs.Seen.{most_seen}
 use Rattle.graphql_query_tree.specs.Layout.{variable_definition_levels}
 use Rattle.graphql_query_tree.specs.Tree.{variable_definition_view}

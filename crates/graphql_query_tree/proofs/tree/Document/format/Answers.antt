@@ -10,7 +10,3 @@ returns-clause-read_back g c printable =
     let d = document_view g.N.Names.bytes c.args.self.now in
     let printed : string_bytes c.into_string.result ≡ layout c.args.style.now d = search rules in
     subst (λ text. IsReadBack text d) (sym printed) (way_back c.args.style.now d printable c.in_ok-write.ensures.lawful)
-
-pub returns-then-is_too_wide-clause-too_wide : goal.returns-then-is_too_wide-clause-too_wide
-returns-then-is_too_wide-clause-too_wide g c =
-    (λ _. (c.is_too_wide.ensures _ c.levels.ensures).0 c.if-is_too_wide.true, λ _. refl)

@@ -1,4 +1,4 @@
-use Rattle.std.proofs.Common.{◌-◌, sym}
+use Rattle.std.proofs.Common.{sym}
 use Rattle.graphql_values.proofs.Seen.{most_seen}
 use Rattle.graphql_query_tree.specs.Layout.{definition_levels}
 use Rattle.graphql_query_tree.specs.Tree.{definition_view}

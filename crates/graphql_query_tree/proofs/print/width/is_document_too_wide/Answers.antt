@@ -1,0 +1,5 @@
+use Rattle.std.proofs.lemmas.Bool.{false≢true}
+use Rattle.graphql_query_tree.proofs.print.width.is_document_too_wide.Goals as goal
+
+pub returns-then-leaves_room : goal.returns-then-leaves_room
+returns-then-leaves_room g c = (λ h. absurd (false≢true h), λ wide. absurd (c.leaves_room.ensures c.if-leaves_room.true wide))
