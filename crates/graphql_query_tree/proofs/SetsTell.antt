@@ -11,7 +11,8 @@ use Rattle.graphql_query_tree.specs.Layout.{selected_levels, selection_set_level
 use Rattle.graphql_query_tree.specs.steps.Sets.{BoundsLevels}
 
 pub field_bounded : (n : ℕ) (arguments : List (List ℕ × ValueTree)) (ds : List DirectiveTree) (s : SelectionSetTree)
-    → BoundsLevels n (λ style. selected_levels style s) → BoundsLevels n (λ style. max (arguments_levels style arguments) (max (directives_levels style ds) (selected_levels style s)))
+    → BoundsLevels n (λ style. selected_levels style s)
+    → BoundsLevels n (λ style. max (arguments_levels style arguments) (max (directives_levels style ds) (selected_levels style s)))
 field_bounded n arguments ds s inside style one_line =
     let given = arguments_bounded style one_line arguments in
     let directives = directives_bounded style one_line ds in
