@@ -10,7 +10,7 @@ ghost use Rattle.graphql_values.specs.steps.Answers.{Gives, Adds, Shortens};
 use crate::read::values::{argument, constant};
 use crate::tree::{Directive, Value};
 use graphql_core::common::Names;
-use graphql_core::helpers::{Mark, Stop, TokenSource, give_back_room, name, take_mark};
+use graphql_core::helpers::{Mark, Stop, TokenSource, name, take_mark};
 use std::alloc::Global;
 
 /// `Arguments = "(" Argument+ ")"`
@@ -31,7 +31,6 @@ pub fn arguments<S: TokenSource>(
         argument(alloc, source, items)?;
     }
     take_mark(source, Mark::CloseParen)?;
-    give_back_room(source, items);
     Ok(())
 }
 
@@ -92,7 +91,6 @@ pub fn directives<S: TokenSource>(
     'more: while source.sees_mark(Mark::At) {
         directive(alloc, source, items)?;
     }
-    give_back_room(source, items);
     Ok(())
 }
 

@@ -13,7 +13,7 @@ ghost use Rattle.graphql_values.specs.steps.Answers.{Gives, Adds, Shortens};
 use crate::read::leaf::plain_value;
 use crate::tree::Value;
 use graphql_core::common::Names;
-use graphql_core::helpers::{Mark, Stop, TokenSource, give_back_room, name, take_mark};
+use graphql_core::helpers::{Mark, Stop, TokenSource, name, take_mark};
 use std::alloc::Global;
 use std::collections::BTreeMap;
 
@@ -127,7 +127,6 @@ fn list<S: TokenSource>(alloc: Global, source: &mut S, sort: Sort) -> Result<Val
         items.push(value_of_sort(alloc, source, sort)?)?;
     }
     take_mark(source, Mark::CloseBracket)?;
-    give_back_room(source, &mut items);
     Ok(Value::List(items))
 }
 

@@ -79,6 +79,5 @@ returns-clause-reads g c =
     let others = sym (pairs_means Value r.1 ∙ r.2) in (
       Node arguments_symbol (Both (Leaf o) (Both (Both first r.0) (Leaf e))),
       takes_node (takes_both (takes_one shared _ _ _ o refl opens) (takes_both (takes_both takes r.1) (takes_one shared _ _ _ e refl ends))) refl,
-      ap (map view_one) c.give_back_room.ensures ∙ adds_more view_one _ _ _ _ items view views
-          ∙ ap (λ l. map view_one c.args.items.now.items ++ (argument_of first ∷ l)) others,
+      adds_more view_one _ _ _ _ items view views ∙ ap (λ l. map view_one c.args.items.now.items ++ (argument_of first ∷ l)) others,
     )

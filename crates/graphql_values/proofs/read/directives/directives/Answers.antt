@@ -38,10 +38,9 @@ returns-in_err-directive-clause-reads g c =
 
 pub returns-clause-reads : goal.returns-clause-reads
 returns-clause-reads g c =
-    let view_one = directive_view g.S.Names.Names.bytes in
     let (items, turns, views) = c.more.invariant.turns in
     let r = Turns-stop shared _ (one_of directive_of) _ _ items turns (begins_directive _ ∙ sym c.sees_mark.ensures ∙ c.more-test.false) in (
       Node directives_symbol r.0,
       takes_node r.1 refl,
-      ap (map view_one) c.give_back_room.ensures ∙ views ∙ ap (λ l. map view_one c.args.items.now.items ++ l) (sym (each_directive_means r.1 ∙ r.2)),
+      views ∙ ap (λ l. map (directive_view g.S.Names.Names.bytes) c.args.items.now.items ++ l) (sym (each_directive_means r.1 ∙ r.2)),
     )

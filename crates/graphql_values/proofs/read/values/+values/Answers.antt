@@ -1,4 +1,4 @@
-use Rattle.std.proofs.Common.{refl, sym, ap, ap₂, ◌∙◌, [], ◌++◌, map, arith, append-nil, codes}
+use Rattle.std.proofs.Common.{refl, sym, ap, ap₂, ◌∙◌, [], ◌++◌, arith, append-nil, codes}
 use Rattle.graphql_grammar.specs.Trees.{Leaf, Both, Node}
 use Rattle.graphql_grammar.specs.Reading.{takes_both}
 use Rattle.graphql_grammar.proofs.ReaderSteps.{Stops-before, Stops-after, Stops-turn, Turns-start, Turns-more, Turns-stop}
@@ -87,11 +87,10 @@ list-returns-clause-reads g t c =
     let (o, opens, at) = c.in_ok-take_mark.ensures in
     let (e, ends, until) = c.in_ok-take_mark-2.ensures in
     let (items, turns, views) = c.more.invariant.turns in
-    let r = Turns-stop shared _ (one_of f) _ _ items turns (ends_list s _ (sym c.sees_mark.ensures ∙ c.more-test.false)) in
-    let held = ap (map (value_view bytes)) c.give_back_room.ensures ∙ fills (value_view bytes) _ _ items c.new-items.ensures.items views in (
+    let r = Turns-stop shared _ (one_of f) _ _ items turns (ends_list s _ (sym c.sees_mark.ensures ∙ c.more-test.false)) in (
       Both (Leaf o) (Both r.0 (Leaf e)),
       takes_both (takes_one shared _ _ _ o refl opens) (takes_both r.1 (takes_one shared _ _ _ e refl ends)),
-      list_made _ _ bytes _ ∙ ap list (ap items_of (held ∙ sym r.2) ∙ sym (trees_means s r.1))
+      list_made _ _ bytes _ ∙ ap list (ap items_of (fills (value_view bytes) _ _ items c.new-items.ensures.items views ∙ sym r.2) ∙ sym (trees_means s r.1))
           ∙ sym (list_means s (Leaf o) r.0 (Leaf e)),
     )
 
