@@ -11,9 +11,9 @@ use Rattle.graphql_lexer.specs.declared.tokenizer.piece.Piece.{Piece as Ahead}
 use Rattle.graphql_lexer.specs.declared.tokenizer.piece.Piece.TheVariants.{Skips, Takes}
 use Rattle.graphql_lexer.specs.declared.tokenizer.piece.Nesting.TheVariants.{Level}
 use Rattle.graphql_lexer.specs.steps.Front.{front, front_of, token_of, comment, line_end}
-use Rattle.graphql_lexer.specs.steps.Numbers.{number}
+use Rattle.graphql_lexer.specs.steps.Numbers.{starts_number, number}
 use Rattle.graphql_lexer.proofs.Runs.{run, run_all, not_equal, differs}
-use Rattle.graphql_lexer.proofs.Numbers.{starts_number, NumberRun, integer_run, float_run, integer_front, float_front}
+use Rattle.graphql_lexer.proofs.Numbers.{NumberRun, integer_run, float_run, integer_front, float_front}
 use Rattle.graphql_lexer.proofs.Strings.{string_front, block_front}
 use Rattle.graphql_lexer.specs.Lexical.{is_name_start, is_name_continue, is_in_line, is_mark, nesting_of, Meaning, Ignored, Word, Stands, tab, line_feed}
 use Rattle.graphql_lexer.specs.Lexical.{carriage_return, space, comma, byte_order_mark, comment_at_end, comment_feed, comment_return_feed, comment_return, name}
@@ -44,7 +44,7 @@ number_no_name b h = grind (arith, nat_tests)
 number_no_mark : (b : ℕ) → starts_number b ≡ true → is_mark b ≡ false
 number_no_mark b h = grind (arith, nat_tests)
 
-number_first : (b : ℕ) (bs : List ℕ) → starts_number b ≡ true → front_of b bs ≡ number (b ∷ bs)
+pub number_first : (b : ℕ) (bs : List ℕ) → starts_number b ≡ true → front_of b bs ≡ number (b ∷ bs)
 unfolding token_of
 number_first b bs h =
     let d = λ (k : ℕ) (other : starts_number k ≡ false). differs starts_number b k h other in

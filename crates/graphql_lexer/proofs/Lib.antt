@@ -2,8 +2,10 @@ pub mod Ending
 pub mod FrontFits
 pub mod FrontIsPiece
 pub mod Lanes
+pub mod Near
 pub mod Numbers
 pub mod OneCut
+pub mod PlainNumbers
 pub mod Positions
 pub mod Runs
 pub mod Spaces

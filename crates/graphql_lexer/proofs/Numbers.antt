@@ -16,7 +16,7 @@ use Rattle.graphql_lexer.specs.Lexical.{is_in_run, is_delimiter, is_natural, is_
 use Rattle.graphql_lexer.specs.Lexical.{with_exponent, with_both}
 use Rattle.graphql_lexer.specs.Items.{run_at}
 use Rattle.graphql_lexer.specs.steps.Front.{is_flat}
-use Rattle.graphql_lexer.specs.steps.Numbers.{digits_len, is_exponent_or_none, is_after_dot, is_after_integer, is_unsigned, is_float, number_of, number}
+use Rattle.graphql_lexer.specs.steps.Numbers.{starts_number, digits_len, is_exponent_or_none, is_after_dot, is_after_integer, is_unsigned, is_float, number_of, number}
 use Rattle.graphql_lexer.proofs.Runs.{run, run_all, run_of, all_weaken, all_append}
 
 ends_run_ascii : (b : ℕ) → is_in_run b ≡ false → b < 128
@@ -257,10 +257,6 @@ float_bytes (with_exponent integer exponent i e) = all_append is_number_byte int
 float_bytes (with_both integer fraction exponent i f e) =
     all_append is_number_byte integer (fraction ++ exponent) (integer_bytes integer i)
     (all_append is_number_byte fraction exponent (fraction_bytes fraction f) (exponent_bytes exponent e))
-
--- a number begins with a digit or a sign
-abbrev pub starts_number : ℕ → Bool
-starts_number b = b == 45 || is_ascii_digit b
 
 integer_first : (b : ℕ) (bs : List ℕ) → is_integer (b ∷ bs) ≡ true → starts_number b ≡ true
 integer_first b bs h =

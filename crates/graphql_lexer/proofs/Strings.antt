@@ -1,11 +1,14 @@
 -- Strings, block strings, and where they end.
-use Rattle.std.proofs.Common.{◌≡◌, ◌≢◌, ℕ, zero, suc, ◌+◌, ◌<◌, ◌≤◌, Bool, true, false, not, cond, ◌&&◌, ◌==◌, List, [], ◌∷◌, ◌++◌, length, get_or, drop, Some}
+use Rattle.std.proofs.Common.{◌≡◌, ◌≢◌, ℕ, zero, suc, ◌+◌, ◌<◌, ◌≤◌, Bool, true, false, not, cond, ◌&&◌, ◌==◌, List, [], ◌∷◌, ◌++◌, length, get_or, take, drop, Some}
 use Rattle.std.proofs.Common.{None, refl, sym, ap, ◌∙◌, subst, inl, inr, arith, le_refl}
 use Rattle.std.proofs.lemmas.Bool.{cases_eq, cases_Bool}
 use Rattle.std.proofs.lemmas.Bool.Decides.{nat_tests}
 use Rattle.std.proofs.lemmas.List.{at_drop_more, at_drop_all, drop-drop, length-drop}
 use Rattle.graphql_lexer.specs.Lexical.{begins_quotes, begins_escape, IsStringBody, empty, plain, escaped, ClosesBlock, closing, escape, unit}
 use Rattle.graphql_lexer.proofs.Runs.{not_equal}
+use Rattle.std.specs.List.{prefix_len, list_all}
+use Rattle.graphql_lexer.specs.steps.Front.{is_flat}
+use Rattle.graphql_lexer.specs.steps.Ahead.{is_plain_in_string}
 use Rattle.graphql_lexer.specs.steps.Quoted.{string_end, block_end, quoted}
 use Rattle.graphql_lexer.specs.declared.tokenizer.token.Kind.TheVariants.{StringValue, BlockString}
 use Rattle.graphql_lexer.specs.declared.tokenizer.piece.Nesting.TheVariants.{Level}
@@ -266,3 +269,56 @@ string_front {body} valid rest h =
 pub block_front : {body : List ℕ} → ClosesBlock body → (rest : List ℕ) → quoted (34 ∷ 34 ∷ 34 ∷ (body ++ rest)) ≡ Takes (length body + 3) BlockString Level
 unfolding quoted
 block_front {body} closes rest = rw (block_closed closes 0 rest) (ap (λ n. Takes n BlockString Level) (omega arith))
+
+-- ---- strings in ASCII with no escape
+
+plain_parts : (b : ℕ) → is_plain_in_string b ≡ true → ((b == 10) ≡ false) × ((b == 34) ≡ false) × ((b == 92) ≡ false) × (is_flat b ≡ true)
+plain_parts b h = (grind (arith, nat_tests), grind (arith, nat_tests), grind (arith, nat_tests), grind (arith, nat_tests))
+
+plain_end : (bs : List ℕ) (n k : ℕ) → k ≡ prefix_len is_plain_in_string bs → get_or bs k 0 ≡ 34 → string_end n false bs ≡ Some (n + k + 1)
+unfolding string_end
+plain_end [] n k e h = absurd (omega arith)
+plain_end (b ∷ bs) n k e h =
+    elim (cases_Bool (is_plain_in_string b)) [
+      | inl pass ↦
+          let p = plain_parts b pass in
+          let len : k ≡ suc (prefix_len is_plain_in_string bs) = omega (arith, rw pass at e) in
+          let last : get_or bs (prefix_len is_plain_in_string bs) 0 ≡ 34 = rw len at h in
+          rw (p.0, p.1, p.2) (plain_end bs (n + 1) (prefix_len is_plain_in_string bs) refl last ∙ ap Some (omega arith))
+      | inr stop ↦
+          let len : k ≡ 0 = rw stop at e in
+          let quote : b ≡ 34 = rw len at h in
+          rw quote (ap Some (omega arith))
+    ]
+
+plain_quotes : (bs : List ℕ) (k : ℕ) → k ≡ prefix_len is_plain_in_string bs → k ≢ 0 → begins_quotes (34 ∷ bs) ≡ false
+plain_quotes [] k e some = refl
+plain_quotes (b ∷ bs) k e some =
+    elim (cases_Bool (is_plain_in_string b)) [
+      | inl pass ↦ let other = (plain_parts b pass).1 in no_quotes 34 b bs (λ quote. absurd (let same = rw quote at other in cc))
+      | inr stop ↦ absurd (some (rw stop at e))
+    ]
+
+pub plain_string : (bs : List ℕ) (k : ℕ) → k ≡ prefix_len is_plain_in_string bs → get_or bs k 0 ≡ 34 → k ≢ 0 → quoted (34 ∷ bs) ≡ Takes (k + 1 + 1) StringValue Level
+unfolding quoted
+plain_string bs k e last some = rw (plain_quotes bs k e some, plain_end bs 0 k e last) (ap (λ n. Takes n StringValue Level) (omega arith))
+
+all_flat : (bs : List ℕ) (k : ℕ) → k ≡ prefix_len is_plain_in_string bs → get_or bs k 0 ≡ 34 → list_all is_flat (take (suc k) bs) ≡ true
+all_flat [] k e h = refl
+all_flat (b ∷ bs) k e h =
+    elim (cases_Bool (is_plain_in_string b)) [
+      | inl pass ↦
+          let len : k ≡ suc (prefix_len is_plain_in_string bs) = omega (arith, rw pass at e) in
+          let last : get_or bs (prefix_len is_plain_in_string bs) 0 ≡ 34 = rw len at h in
+          let more = all_flat bs (prefix_len is_plain_in_string bs) refl last in
+          subst (λ n. list_all is_flat (take (suc n) (b ∷ bs)) ≡ true) (sym len) (rw ((plain_parts b pass).3, more) refl)
+      | inr stop ↦
+          let len : k ≡ 0 = rw stop at e in
+          let quote : b ≡ 34 = rw len at h in
+          rw (len, quote) refl
+    ]
+
+pub plain_flat : (bs : List ℕ) (k : ℕ) → k ≡ prefix_len is_plain_in_string bs → get_or bs k 0 ≡ 34 → list_all is_flat (take (k + 1) bs) ≡ true
+plain_flat bs k e h =
+    let one : suc k ≡ k + 1 = omega arith in
+    subst (λ n. list_all is_flat (take n bs) ≡ true) one (all_flat bs k e h)

@@ -5,6 +5,7 @@ mod laws;
 pub mod number;
 mod piece;
 mod quoted;
+mod run;
 mod stop;
 mod stream;
 mod token;

@@ -1,5 +1,5 @@
 -- What the quick tests of the tokenizer look for.
-use Rattle.std.specs.Prelude.{ℕ, ◌≤◌, Bool, ◌==◌, ◌&&◌, ◌||◌, List, slice_index, if◌then◌else◌, Option, Some, None}
+use Rattle.std.specs.Prelude.{ℕ, ◌≤◌, Bool, not, nat_lt, ◌==◌, ◌&&◌, ◌||◌, List, slice_index, if◌then◌else◌, Option, Some, None}
 use Rattle.std.specs.Int.{w64, trailing_zeros}
 use Rattle.graphql_lexer.specs.steps.Front.{Cuts}
 use Rattle.graphql_lexer.specs.Lexical.{steps_over}
@@ -12,6 +12,10 @@ use Rattle.graphql_lexer.specs.declared.tokenizer.piece.Piece.TheVariants.{AtEnd
 
 abbrev pub is_space : ℕ → Bool
 is_space b = b == 32
+
+-- what a string goes on with, in ASCII with no escape
+abbrev pub is_plain_in_string : ℕ → Bool
+is_plain_in_string b = nat_lt b 128 && not (b == 34 || b == 92 || b == 10)
 
 abbrev pub is_blank : ℕ → Bool
 is_blank b = b == 32 || b == 44
@@ -42,6 +46,11 @@ taken AtEnd = None
 taken Stops = None
 taken (Skips n m) = None
 taken (Takes n k t) = Some (n, k, t)
+
+-- a token without the word whether it is flat
+abbrev pub without_flat : Option (ℕ × Kind × Nesting × Bool) → Option (ℕ × Kind × Nesting)
+without_flat None = None
+without_flat (Some (n, k, t, flat)) = Some (n, k, t)
 
 -- a token is some whole characters
 abbrev pub FitsTaken : List ℕ → Option (ℕ × Kind × Nesting) → Type 0

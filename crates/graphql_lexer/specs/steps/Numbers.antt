@@ -1,5 +1,5 @@
 -- Whether a run is a float, from left to right, and the number at the front of a text. `IsFloat` says what floats are.
-use Rattle.std.specs.Prelude.{ℕ, Bool, true, false, not, ◌&&◌, ◌==◌, if◌then◌else◌, List, [], ◌∷◌, take, drop}
+use Rattle.std.specs.Prelude.{ℕ, Bool, true, false, not, ◌&&◌, ◌||◌, ◌==◌, if◌then◌else◌, List, [], ◌∷◌, take, drop}
 use Rattle.std.specs.List.{prefix_len}
 use Rattle.std.specs.Char.{is_ascii_digit}
 use Rattle.graphql_lexer.specs.declared.tokenizer.token.Kind.TheVariants.{IntValue, FloatValue}
@@ -8,6 +8,10 @@ use Rattle.graphql_lexer.specs.declared.tokenizer.piece.Piece.{Piece}
 use Rattle.graphql_lexer.specs.declared.tokenizer.piece.Piece.TheVariants.{Takes, Stops}
 use Rattle.graphql_lexer.specs.Lexical.{is_natural, is_integer, is_exponent, is_in_run}
 use Rattle.graphql_lexer.specs.Items.{run_at}
+
+-- a number begins with a digit or a sign
+abbrev pub starts_number : ℕ → Bool
+starts_number b = b == 45 || is_ascii_digit b
 
 abbrev pub digits_len : List ℕ → ℕ
 digits_len bytes = prefix_len is_ascii_digit bytes

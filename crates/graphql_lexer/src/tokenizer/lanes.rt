@@ -2,7 +2,7 @@
 ghost use Rattle.std.specs.Prelude.{◌≡◌, ◌≤◌, length, take};
 ghost use Rattle.std.specs.List.{prefix_len};
 ghost use Rattle.graphql_lexer.specs.Lexical.{is_name_continue};
-ghost use Rattle.graphql_lexer.specs.steps.Ahead.{is_space, first_set};
+ghost use Rattle.graphql_lexer.specs.steps.Ahead.{is_space, is_plain_in_string, first_set};
 
 use std::simd::prelude::*;
 
@@ -42,5 +42,19 @@ pub fn space_lanes(bytes: &[u8]) -> usize
     ensures { result ≡ prefix_len is_space (take 16 bytes.now) }
 {
     let stops = u8x16::from_slice(bytes).simd_ne(u8x16::splat(b' '));
+    first_set(stops.to_bitmask())
+}
+
+/// How many of the first 16 bytes a string goes on, in ASCII with no escape.
+#[inline(always)]
+pub fn string_lanes(bytes: &[u8]) -> usize
+    requires { 16 ≤ length bytes.now }
+    ensures { result ≡ prefix_len is_plain_in_string (take 16 bytes.now) }
+{
+    let v = u8x16::from_slice(bytes);
+    let stops = v.simd_eq(u8x16::splat(b'"'))
+        | v.simd_eq(u8x16::splat(b'\\'))
+        | v.simd_eq(u8x16::splat(b'\n'))
+        | v.simd_ge(u8x16::splat(0x80));
     first_set(stops.to_bitmask())
 }

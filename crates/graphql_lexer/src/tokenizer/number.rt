@@ -1,11 +1,14 @@
 //! Numbers: the run at the front of a text, and whether it is one.
-ghost use Rattle.std.specs.Prelude.{◌≡◌, ◌≤◌, length};
+ghost use Rattle.std.specs.Prelude.{◌≡◌, ◌≤◌, true, false, length, take, IfSome};
 ghost use Rattle.std.specs.Char as char;
 ghost use Rattle.std.specs.List.{prefix_len, list_all};
 ghost use Rattle.graphql_lexer.specs.Lexical as lexical;
+ghost use Rattle.graphql_lexer.specs.steps.Front.{is_quoted};
 ghost use Rattle.graphql_lexer.specs.steps.Numbers as spec;
+ghost use Rattle.graphql_lexer.specs.declared.tokenizer.piece.Nesting.TheVariants.{Level};
+ghost use Rattle.graphql_lexer.specs.declared.tokenizer.piece.Piece.TheVariants.{Takes};
 
-use crate::tokenizer::piece::{Nesting, Piece, is_mark};
+use crate::tokenizer::piece::{Nesting, Piece, byte_at, is_mark};
 use crate::tokenizer::token::Kind;
 
 #[inline(always)]
@@ -19,6 +22,14 @@ fn is_in_run(byte: u8) -> bool
         || byte == b','
         || byte == b'#'
         || is_mark(byte))
+}
+
+/// Whether a number begins with this byte.
+#[inline(always)]
+pub fn starts_number(byte: u8) -> bool
+    ensures { result ≡ spec.starts_number byte }
+{
+    byte == b'-' || byte.is_ascii_digit()
 }
 
 /// How many bytes the run at the front has.
@@ -143,10 +154,82 @@ pub fn is_float(run: &[u8]) -> bool
     }
 }
 
+/// How many digits stand at the front, where they are a natural number.
+fn natural_len(bytes: &[u8]) -> Option<usize>
+    ensures is { IfSome result (λ n. lexical.is_natural (take n bytes.now) ≡ true) }
+    ensures within { IfSome result (λ n. n ≤ length bytes.now) }
+{
+    let len = digits_len(bytes);
+    if len == 0 {
+        return None;
+    }
+    if len > 1 && byte_at(bytes, 0) == b'0' {
+        return None;
+    }
+    Some(len)
+}
+
+/// How many bytes the integer at the front has.
+fn integer_len(bytes: &[u8]) -> Option<usize>
+    ensures is { IfSome result (λ n. lexical.is_integer (take n bytes.now) ≡ true) }
+    ensures within { IfSome result (λ n. n ≤ length bytes.now) }
+{
+    let (byte, rest) = bytes.split_first()?;
+    if *byte == b'-' {
+        let len = natural_len(rest)?;
+        Some(len + 1)
+    } else {
+        natural_len(bytes)
+    }
+}
+
+/// How many bytes the fraction at the front has.
+fn fraction_len(bytes: &[u8]) -> Option<usize>
+    ensures is { IfSome result (λ n. lexical.is_fraction (take n bytes.now) ≡ true) }
+    ensures within { IfSome result (λ n. n ≤ length bytes.now) }
+{
+    let (byte, rest) = bytes.split_first()?;
+    if *byte != b'.' {
+        return None;
+    }
+    let len = digits_len(rest);
+    if len == 0 {
+        return None;
+    }
+    Some(len + 1)
+}
+
+/// Whether a run ends before these bytes.
+fn ends_run(bytes: &[u8]) -> bool
+    ensures { result ≡ true → lexical.EndsRun bytes.now }
+{
+    match bytes.first() {
+        None => true,
+        Some(byte) => !is_in_run(*byte),
+    }
+}
+
+/// The number at the front, its length and its kind, where it has no exponent.
+#[inline(never)]
+pub fn plain_number(bytes: &[u8]) -> Option<(usize, Kind)>
+    ensures is { IfSome result (λ t. spec.number bytes.now ≡ Takes t.0 t.1 Level) }
+    ensures kind { IfSome result (λ t. is_quoted t.1 ≡ false) }
+{
+    let whole = integer_len(bytes)?;
+    let rest = &bytes[whole..];
+    if ends_run(rest) {
+        return Some((whole, Kind::IntValue));
+    }
+    let fraction = fraction_len(rest)?;
+    if ends_run(&rest[fraction..]) {
+        return Some((whole + fraction, Kind::FloatValue));
+    }
+    None
+}
+
 /// The number at the front, if its run is one.
 #[tactic(auto, unfolding(crate::specs::steps::Numbers::number))]
-#[inline(never)]
-pub fn number(bytes: &[u8]) -> Piece
+fn number_of_run(bytes: &[u8]) -> Piece
     ensures { result ≡ spec.number bytes.now }
 {
     let len = run_len(bytes);
@@ -157,5 +240,16 @@ pub fn number(bytes: &[u8]) -> Piece
         Piece::Takes(len, Kind::FloatValue, Nesting::Level)
     } else {
         Piece::Stops
+    }
+}
+
+/// The number at the front, if there is one.
+#[inline(never)]
+pub fn number(bytes: &[u8]) -> Piece
+    ensures { result ≡ spec.number bytes.now }
+{
+    match plain_number(bytes) {
+        Some((len, kind)) => Piece::Takes(len, kind, Nesting::Level),
+        None => number_of_run(bytes),
     }
 }

@@ -1,14 +1,16 @@
 //! What stands at the front of a text.
-ghost use Rattle.std.specs.Prelude.{◌≡◌, ◌<◌, ◌≤◌, ◌^◌, length, slice_index, IfSome, Some};
-ghost use Rattle.std.specs.List.{prefix_len};
+ghost use Rattle.std.specs.Prelude.{◌≡◌, ◌<◌, ◌≤◌, ◌^◌, ◌∷◌, true, length, take, slice_index, IfSome, Some};
+ghost use Rattle.std.specs.List.{prefix_len, list_all};
 ghost use Rattle.std.specs.Str.{IsCharBoundary};
 ghost use Rattle.graphql_lexer.specs.steps.Front as spec;
 ghost use Rattle.graphql_lexer.specs.Lexical as lexical;
-ghost use Rattle.graphql_lexer.specs.steps.Ahead.{is_space, is_blank, is_order_mark, ignored, FitsIgnored, taken, FitsTaken, is_plain, is_rare};
+ghost use Rattle.graphql_lexer.specs.declared.tokenizer.piece.Nesting.TheVariants.{Level};
+ghost use Rattle.graphql_lexer.specs.declared.tokenizer.piece.Piece.TheVariants.{Takes};
+ghost use Rattle.graphql_lexer.specs.steps.Ahead.{is_space, is_blank, is_order_mark, ignored, FitsIgnored, taken, without_flat, FitsTaken, is_plain, is_rare};
 
-use crate::tokenizer::lanes::{LANES, name_lanes, space_lanes};
-use crate::tokenizer::number::number;
-use crate::tokenizer::quoted::quoted;
+use crate::tokenizer::number::{number, plain_number, starts_number};
+use crate::tokenizer::quoted::{plain_string_len, quoted};
+use crate::tokenizer::run::{NameContinue, Space, near_len, run_len};
 use crate::tokenizer::token::Kind;
 
 /// How ignored text moves the position.
@@ -52,13 +54,6 @@ pub fn is_name_start(byte: u8) -> bool
     ensures { result ≡ lexical.is_name_start byte }
 {
     byte.is_ascii_alphabetic() || byte == b'_'
-}
-
-#[inline(always)]
-fn is_name_continue(byte: u8) -> bool
-    ensures { result ≡ lexical.is_name_continue byte }
-{
-    byte.is_ascii_alphanumeric() || byte == b'_'
 }
 
 #[inline(always)]
@@ -109,112 +104,6 @@ fn is_in_line(byte: u8) -> bool
     ensures { result ≡ lexical.is_in_line byte }
 {
     byte != b'\n' && byte != b'\r'
-}
-
-/// How many bytes a name goes on, one byte after another.
-#[inline]
-fn short_name_len(bytes: &[u8]) -> usize
-    ensures len { result ≡ prefix_len lexical.is_name_continue bytes.now }
-    ensures within { result ≤ length bytes.now }
-{
-    bytes.iter().take_while(|b| is_name_continue(**b)).count()
-}
-
-/// How many bytes a name goes on, for what is long or near the end of the text.
-#[inline(never)]
-fn long_name_len(bytes: &[u8]) -> usize
-    ensures len { result ≡ prefix_len lexical.is_name_continue bytes.now }
-    ensures within { result ≤ length bytes.now }
-{
-    let mut rest = bytes;
-    'loads: while rest.len() >= LANES {
-        let run = name_lanes(rest);
-        if run < LANES {
-            return bytes.len() - rest.len() + run;
-        }
-        rest = rest.split_at(LANES).1;
-    }
-    bytes.len() - rest.len() + short_name_len(rest)
-}
-
-/// How many bytes a name goes on, where one load shows its end.
-#[inline(always)]
-fn near_name_len(bytes: &[u8]) -> Option<usize>
-    ensures len { IfSome result (λ n. n ≡ prefix_len lexical.is_name_continue bytes.now) }
-    ensures within { IfSome result (λ n. n ≤ length bytes.now) }
-{
-    if bytes.len() >= LANES {
-        let run = name_lanes(bytes);
-        if run < LANES {
-            return Some(run);
-        }
-    }
-    None
-}
-
-/// How many bytes a name goes on.
-#[inline(always)]
-fn name_len(bytes: &[u8]) -> usize
-    ensures len { result ≡ prefix_len lexical.is_name_continue bytes.now }
-    ensures within { result ≤ length bytes.now }
-{
-    match near_name_len(bytes) {
-        Some(len) => len,
-        None => long_name_len(bytes),
-    }
-}
-
-/// How many spaces stand at the front, one byte after another.
-#[inline]
-fn short_spaces_len(bytes: &[u8]) -> usize
-    ensures len { result ≡ prefix_len is_space bytes.now }
-    ensures within { result ≤ length bytes.now }
-{
-    bytes.iter().take_while(|b| **b == b' ').count()
-}
-
-/// How many spaces stand at the front, for what is long or near the end of the text.
-#[inline(never)]
-fn long_spaces_len(bytes: &[u8]) -> usize
-    ensures len { result ≡ prefix_len is_space bytes.now }
-    ensures within { result ≤ length bytes.now }
-{
-    let mut rest = bytes;
-    'loads: while rest.len() >= LANES {
-        let run = space_lanes(rest);
-        if run < LANES {
-            return bytes.len() - rest.len() + run;
-        }
-        rest = rest.split_at(LANES).1;
-    }
-    bytes.len() - rest.len() + short_spaces_len(rest)
-}
-
-/// How many spaces stand at the front, where one load shows their end.
-#[inline(always)]
-fn near_spaces_len(bytes: &[u8]) -> Option<usize>
-    ensures len { IfSome result (λ n. n ≡ prefix_len is_space bytes.now) }
-    ensures within { IfSome result (λ n. n ≤ length bytes.now) }
-{
-    if bytes.len() >= LANES {
-        let run = space_lanes(bytes);
-        if run < LANES {
-            return Some(run);
-        }
-    }
-    None
-}
-
-/// How many spaces stand at the front.
-#[inline(always)]
-pub fn spaces_len(bytes: &[u8]) -> usize
-    ensures len { result ≡ prefix_len is_space bytes.now }
-    ensures within { result ≤ length bytes.now }
-{
-    match near_spaces_len(bytes) {
-        Some(len) => len,
-        None => long_spaces_len(bytes),
-    }
 }
 
 /// How many bytes a comment goes on in its line.
@@ -293,7 +182,7 @@ fn token_of(byte: u8, bytes: &[u8]) -> Piece
         quoted(bytes)
     } else if byte == b'.' {
         dots(bytes)
-    } else if byte == b'-' || byte.is_ascii_digit() {
+    } else if starts_number(byte) {
         number(bytes)
     } else {
         Piece::Stops
@@ -319,7 +208,11 @@ fn piece_of(bytes: &[u8]) -> Piece
             } else if *byte == b' ' || *byte == b',' {
                 Piece::Skips(1, Move::Over(1))
             } else if is_name_start(*byte) {
-                Piece::Takes(name_len(rest) + 1, Kind::Name, Nesting::Level)
+                Piece::Takes(
+                    run_len::<NameContinue>(rest) + 1,
+                    Kind::Name,
+                    Nesting::Level,
+                )
             } else if *byte == b'#' {
                 comment(rest)
             } else if *byte == 0xEF && (byte_at(rest, 0) == 0xBB && byte_at(rest, 1) == 0xBF) {
@@ -331,38 +224,65 @@ fn piece_of(bytes: &[u8]) -> Piece
     }
 }
 
-/// The token at the front of these bytes, where one look shows it: a short name, or a punctuator of one character.
+/// The string or number at the front, where it is plain: its length and its kind.
+#[inline(always)]
+fn near_value(byte: u8, rest: &[u8], bytes: &[u8]) -> Option<(usize, Kind)>
+    requires whole { bytes.now ≡ byte ∷ rest.now }
+    requires small { length bytes.now < 2 ^ 62 }
+    ensures is { IfSome result (λ t. spec.front bytes.now ≡ Takes t.0 t.1 Level) }
+    ensures flat { IfSome result (λ t. list_all spec.is_flat (take t.0 bytes.now) ≡ true) }
+{
+    if byte == b'"' {
+        let len = plain_string_len(rest)?;
+        return Some((len + 1, Kind::StringValue));
+    }
+    if starts_number(byte) {
+        return plain_number(bytes);
+    }
+    None
+}
+
+/// The token at the front of these bytes, where one look shows it and that it is ASCII in one line: a short name, a
+/// punctuator of one character, a string with no escape, or a number with no exponent.
 #[inline(always)]
 fn near_token_bytes(bytes: &[u8]) -> Option<(usize, Kind, Nesting)>
     requires { length bytes.now < 2 ^ 62 }
-    ensures { IfSome result (λ t. Some t ≡ taken (spec.front bytes.now)) }
+    ensures is { IfSome result (λ t. Some t ≡ taken (spec.front bytes.now)) }
+    ensures flat { IfSome result (λ t. list_all spec.is_flat (take t.0 bytes.now) ≡ true) }
 {
-    let Some((byte, rest)) = bytes.split_first() else {
-        return None;
-    };
+    let (byte, rest) = bytes.split_first()?;
     if is_name_start(*byte) {
-        let Some(len) = near_name_len(rest) else {
-            return None;
-        };
+        let len = near_len::<NameContinue>(rest)?;
         return Some((len + 1, Kind::Name, Nesting::Level));
     }
     if is_mark(*byte) {
         return Some((1, Kind::Punctuator, nesting_of(*byte)));
     }
-    None
+    let (len, kind) = near_value(*byte, rest, bytes)?;
+    Some((len, kind, Nesting::Level))
 }
 
-/// The token at the front of these bytes: its length, its kind, and how it changes the number of open brackets.
+/// Whether it is a string, which may have line ends and characters of several bytes.
 #[inline(always)]
-fn token_bytes(bytes: &[u8]) -> Option<(usize, Kind, Nesting)>
-    requires { length bytes.now < 2 ^ 62 }
-    ensures { result ≡ taken (spec.front bytes.now) }
+fn is_quoted(kind: Kind) -> bool
+    ensures { result ≡ spec.is_quoted kind }
 {
-    if let Some(token) = near_token_bytes(bytes) {
-        return Some(token);
+    matches!(kind, Kind::StringValue | Kind::BlockString)
+}
+
+/// The token at the front of these bytes: its length, its kind, how it changes the number of open brackets, and whether
+/// it is known to be ASCII in one line.
+#[inline(always)]
+fn token_bytes(bytes: &[u8]) -> Option<(usize, Kind, Nesting, bool)>
+    requires { length bytes.now < 2 ^ 62 }
+    ensures is { without_flat result ≡ taken (spec.front bytes.now) }
+    ensures flat { IfSome result (λ t. t.3 ≡ true → list_all spec.is_flat (take t.0 bytes.now) ≡ true) }
+{
+    if let Some((len, kind, nesting)) = near_token_bytes(bytes) {
+        return Some((len, kind, nesting, true));
     }
     match piece_of(bytes) {
-        Piece::Takes(len, kind, nesting) => Some((len, kind, nesting)),
+        Piece::Takes(len, kind, nesting) => Some((len, kind, nesting, !is_quoted(kind))),
         _ => None,
     }
 }
@@ -374,17 +294,19 @@ pub fn near_token_at(text: &str) -> Option<(usize, Kind, Nesting)>
     requires { length text.now < 2 ^ 62 }
     ensures is { IfSome result (λ t. Some t ≡ taken (spec.front text.now)) }
     ensures fits { FitsTaken text.now result }
+    ensures flat { IfSome result (λ t. list_all spec.is_flat (take t.0 text.now) ≡ true) }
 {
     near_token_bytes(text.as_bytes())
 }
 
-/// The token at the front of a text.
+/// The token at the front of a text, and whether it is known to be ASCII in one line.
 #[inline(always)]
 #[tactic(auto, using(crate::proofs::Tokens::taken_fits))]
-pub fn token_at(text: &str) -> Option<(usize, Kind, Nesting)>
+pub fn token_at(text: &str) -> Option<(usize, Kind, Nesting, bool)>
     requires { length text.now < 2 ^ 62 }
-    ensures is { result ≡ taken (spec.front text.now) }
-    ensures fits { FitsTaken text.now result }
+    ensures is { without_flat result ≡ taken (spec.front text.now) }
+    ensures fits { FitsTaken text.now (without_flat result) }
+    ensures flat { IfSome result (λ t. t.3 ≡ true → list_all spec.is_flat (take t.0 text.now) ≡ true) }
 {
     token_bytes(text.as_bytes())
 }
@@ -467,7 +389,7 @@ pub fn near_spaces_of(text: &str) -> Option<usize>
     ensures within { IfSome result (λ n. n ≤ length text.now) }
     ensures cuts { IfSome result (λ n. IsCharBoundary text.now n) }
 {
-    near_spaces_len(text.as_bytes())
+    near_len::<Space>(text.as_bytes())
 }
 
 /// How many spaces stand at the front of a text.
@@ -478,5 +400,5 @@ pub fn spaces_of(text: &str) -> usize
     ensures within { result ≤ length text.now }
     ensures cuts { IsCharBoundary text.now result }
 {
-    spaces_len(text.as_bytes())
+    run_len::<Space>(text.as_bytes())
 }

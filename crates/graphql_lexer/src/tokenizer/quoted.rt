@@ -1,9 +1,15 @@
 //! Strings and block strings.
-ghost use Rattle.std.specs.Prelude.{◌≡◌, ◌<◌, ◌≤◌, ◌^◌, false, length, IfSome};
+ghost use Rattle.std.specs.Prelude.{◌≡◌, ◌+◌, ◌<◌, ◌≤◌, ◌^◌, ◌∷◌, true, false, length, take, IfSome};
+ghost use Rattle.std.specs.List.{list_all};
 ghost use Rattle.graphql_lexer.specs.Lexical as lexical;
+ghost use Rattle.graphql_lexer.specs.steps.Front.{is_flat};
 ghost use Rattle.graphql_lexer.specs.steps.Quoted as spec;
+ghost use Rattle.graphql_lexer.specs.declared.tokenizer.token.Kind.TheVariants.{StringValue};
+ghost use Rattle.graphql_lexer.specs.declared.tokenizer.piece.Nesting.TheVariants.{Level};
+ghost use Rattle.graphql_lexer.specs.declared.tokenizer.piece.Piece.TheVariants.{Takes};
 
 use crate::tokenizer::piece::{Nesting, Piece, byte_at};
+use crate::tokenizer::run::{PlainInString, run_len};
 use crate::tokenizer::token::Kind;
 
 /// Whether three quotes stand at the front.
@@ -80,4 +86,22 @@ pub fn quoted(bytes: &[u8]) -> Piece
             None => Piece::Stops,
         }
     }
+}
+
+/// The bytes after its opening quote of the string at the front, where that is ASCII, has no escape and is not empty.
+#[inline(never)]
+pub fn plain_string_len(bytes: &[u8]) -> Option<usize>
+    requires { length bytes.now < 2 ^ 62 }
+    ensures is { IfSome result (λ n. spec.quoted (34 ∷ bytes.now) ≡ Takes (n + 1) StringValue Level) }
+    ensures flat { IfSome result (λ n. list_all is_flat (take n bytes.now) ≡ true) }
+    ensures within { IfSome result (λ n. n ≤ length bytes.now) }
+{
+    let len = run_len::<PlainInString>(bytes);
+    if len == 0 {
+        return None;
+    }
+    if byte_at(bytes, len) != b'"' {
+        return None;
+    }
+    Some(len + 1)
 }

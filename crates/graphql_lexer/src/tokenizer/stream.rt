@@ -1,9 +1,11 @@
 //! A text as a stream of tokens.
 ghost use Rattle.std.specs.Prelude.{◌≡◌, ℕ, List, ◌+◌, ◌-◌, ◌*◌, ◌/◌, ◌<◌, ◌≤◌, ◌^◌, length, slice_index, IfSome, Ok, Some, None, true};
+ghost use Rattle.std.specs.List.{list_all};
 ghost use Rattle.graphql_lexer.specs.Lexical.{steps_over};
 ghost use Rattle.graphql_lexer.specs.Items.{Where, Item, moved, past, past_character, HasItems, depth_of, openers_after, closers_after, is_full, is_too_deep};
 ghost use Rattle.graphql_lexer.specs.Stream.{NextItem, BeginsWithNext, further, next_place, one_more};
-ghost use Rattle.graphql_lexer.specs.steps.Front.{front, IsItem, IsFlat, is_quoted};
+ghost use Rattle.graphql_lexer.specs.steps.Front as steps;
+ghost use Rattle.graphql_lexer.specs.steps.Front.{front, IsItem};
 ghost use Rattle.graphql_lexer.specs.steps.Cut.{items};
 ghost use Rattle.graphql_lexer.specs.steps.Ahead.{is_plain, plain_move};
 ghost use Rattle.graphql_lexer.specs.declared.tokenizer.piece.Move.TheVariants.{Over};
@@ -88,31 +90,37 @@ fn past_characters(value: &str, at: Pos) -> Pos
     place
 }
 
-/// Whether it is a string, which may have line ends and characters of several bytes.
+/// The position after a token in ASCII and in one line.
 #[inline(always)]
-fn is_quoted(kind: Kind) -> bool
-    ensures { result ≡ is_quoted kind }
-{
-    matches!(kind, Kind::StringValue | Kind::BlockString)
-}
-
-/// The position after a token.
-#[inline(always)]
-fn past(kind: Kind, value: &str, at: Pos) -> Pos
+#[tactic(auto, using(crate::proofs::Positions::past_flat))]
+fn past_flat(value: &str, at: Pos) -> Pos
     requires line { at.line + length value.now < 2 ^ 62 }
     requires column { at.column + length value.now < 2 ^ 63 }
-    requires flat { IsFlat kind value.now }
+    requires flat { list_all steps.is_flat value.now ≡ true }
     ensures is { result ≡ past value.now at }
     ensures line { result.line ≤ at.line + length value.now }
     ensures column { result.column ≤ at.column + length value.now }
 {
-    if is_quoted(kind) {
-        past_characters(value, at)
+    Pos {
+        line: at.line,
+        column: at.column + value.len(),
+    }
+}
+
+/// The position after a token, which may be known to be ASCII in one line.
+#[inline(always)]
+fn past(is_flat: bool, value: &str, at: Pos) -> Pos
+    requires line { at.line + length value.now < 2 ^ 62 }
+    requires column { at.column + length value.now < 2 ^ 63 }
+    requires flat { is_flat ≡ true → list_all steps.is_flat value.now ≡ true }
+    ensures is { result ≡ past value.now at }
+    ensures line { result.line ≤ at.line + length value.now }
+    ensures column { result.column ≤ at.column + length value.now }
+{
+    if is_flat {
+        past_flat(value, at)
     } else {
-        Pos {
-            line: at.line,
-            column: at.column + value.len(),
-        }
+        past_characters(value, at)
     }
 }
 
@@ -332,7 +340,7 @@ impl<'a> TokenStream<'a> {
         ensures cuts { self.new.cuts ≡ one_more self.old.cuts }
     {
         self.cuts = one_more(self.cuts);
-        let Some((len, kind, nesting)) = token_at(self.rest) else {
+        let Some((len, kind, nesting, is_flat)) = token_at(self.rest) else {
             if self.rest.is_empty() {
                 return Ok(None);
             }
@@ -342,7 +350,7 @@ impl<'a> TokenStream<'a> {
             return Err(Bad::TooDeep);
         }
         let (value, after) = self.rest.split_at(len);
-        let end = past(kind, value, self.position);
+        let end = past(is_flat, value, self.position);
         let (rest, position) = skip_ignored(after, end);
         self.rest = rest;
         self.position = position;
@@ -351,8 +359,9 @@ impl<'a> TokenStream<'a> {
         Ok(Some(Token { kind, value }))
     }
 
-    /// The next token, where one look shows it and what follows it: it is a short name or a punctuator of one character,
-    /// and no tab, return, comment or long run of spaces comes after it.
+    /// The next token, where one look shows it and what follows it: it is a short name, a punctuator of one character, a
+    /// string of ASCII with no escape, or a number with no exponent; and no tab, return, comment or long run of spaces
+    /// comes after it.
     ///
     /// `None` says nothing of the next item. The stream then stays, and `next_token` answers.
     #[inline(always)]
@@ -370,7 +379,7 @@ impl<'a> TokenStream<'a> {
             }
         }
         let (value, after) = self.rest.split_at(len);
-        let end = past(kind, value, self.position);
+        let end = past_flat(value, self.position);
         let (rest, position, is_item) = skip_plain(after, end);
         if !is_item {
             return None;

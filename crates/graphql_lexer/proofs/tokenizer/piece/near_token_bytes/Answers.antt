@@ -1,14 +1,26 @@
-use Rattle.std.proofs.Common.{sym, ap}
+use Rattle.std.proofs.Common.{◌≡◌, ◌+◌, sym, ap, ◌∙◌, refl}
+use Rattle.graphql_lexer.specs.Lexical.{nesting_of}
+use Rattle.graphql_lexer.specs.steps.Front.{front}
 use Rattle.graphql_lexer.specs.steps.Ahead.{taken}
+use Rattle.graphql_lexer.specs.declared.tokenizer.token.Kind.TheVariants.{Punctuator, Name}
+use Rattle.graphql_lexer.specs.declared.tokenizer.piece.Nesting.TheVariants.{Level}
+use Rattle.graphql_lexer.specs.declared.tokenizer.piece.Piece.TheVariants.{Takes}
 use Rattle.graphql_lexer.proofs.Tokens.{name_front, mark_front}
+use Rattle.graphql_lexer.proofs.Positions.{token_flat}
 use Rattle.graphql_lexer.proofs.tokenizer.piece.near_token_bytes.Goals as goal
 
 pub returns-then-is_name_start : goal.returns-then-is_name_start
 returns-then-is_name_start c =
-    let name = name_front c.in-Some.byte.now c.in-Some.rest.now (sym c.if-is_name_start.ensures) in
-    rw (c.in-Some.ensures.cases.0, c.in-Some-near_name_len.ensures.len) (sym (ap taken name))
+    let bytes = c.args.bytes.now in
+    let len = c.in_ok-len.len in
+    let name : front bytes ≡ Takes (len + 1) Name Level = rw (c.in_ok-byte.ensures.cases.0, c.in_ok-len.ensures.len)
+    (name_front c.in_ok-byte.byte.now c.in_ok-byte.rest.now (sym c.is_name_start.ensures ∙ c.if-is_name_start.true)) in
+    record { is = sym (ap taken name); flat = token_flat bytes (len + 1) Name Level name refl }
 
 pub returns-then-is_mark : goal.returns-then-is_mark
 returns-then-is_mark c =
-    let mark = mark_front c.in-Some.byte.now c.in-Some.rest.now (sym c.if-is_mark.ensures) (sym c.if-is_name_start.ensures) in
-    rw (c.in-Some.ensures.cases.0, c.nesting_of.ensures) (sym (ap taken mark))
+    let bytes = c.args.bytes.now in
+    let nesting = nesting_of c.in_ok-byte.byte.now in
+    let mark : front bytes ≡ Takes 1 Punctuator nesting = rw c.in_ok-byte.ensures.cases.0
+    (mark_front c.in_ok-byte.byte.now c.in_ok-byte.rest.now (sym c.is_mark.ensures ∙ c.if-is_mark.true) (sym c.is_name_start.ensures ∙ c.if-is_name_start.false)) in
+    record { is = rw c.nesting_of.ensures (sym (ap taken mark)); flat = token_flat bytes 1 Punctuator nesting mark refl }

@@ -2,19 +2,15 @@ use Rattle.std.proofs.Common.{◌≡◌, ℕ, ◌+◌, ◌-◌, ◌∷◌, false
 use Rattle.graphql_lexer.specs.steps.Front.{front}
 use Rattle.graphql_lexer.specs.declared.tokenizer.piece.Piece.TheVariants.{Takes}
 use Rattle.graphql_lexer.specs.Items.{Where, Lexeme, item, is_too_deep, openers_after, closers_after, past, past_token}
-use Rattle.graphql_lexer.proofs.Positions.{token_flat}
 use Rattle.graphql_lexer.proofs.FrontFits.{items_at}
 use Rattle.graphql_lexer.proofs.Tokens.{takes_first, not_too_deep}
 use Rattle.graphql_lexer.specs.steps.Cut.{items}
 use Rattle.graphql_lexer.proofs.tokenizer.stream.TokenStream.near_token.Goals as goal
 use Rattle.graphql_lexer.proofs.tokenizer.stream.TokenStream.near_token.Goals.{in-Opens+else-is_full, in_default-nesting, in-Opens-nesting, in-Closes, in-Level}
 
-pub past-end-requires-clause-flat : goal.past-end-requires-clause-flat
-past-end-requires-clause-flat c =
-    let t = c.in-Some in
-    let rest = c.self.inside.rest.now in
-    let takes = takes_first (front rest) t.len t.kind t.nesting (sym t.ensures.is) in
-    rw c.split_at.ensures.front (token_flat rest t.len t.kind t.nesting takes)
+pub past_flat-end-requires-clause-flat : goal.past_flat-end-requires-clause-flat
+past_flat-end-requires-clause-flat c =
+    rw c.split_at.ensures.front c.in-Some.ensures.flat
 
 pub returns-clause-item : goal.returns-clause-item
 returns-clause-item c =
@@ -27,7 +23,7 @@ returns-clause-item c =
       | in_default-nesting b ↦ not_too_deep t.nesting w b.in_default-nesting.not-Opens
     ] in
     let value = take t.len s.rest.now in
-    let end = sym (c.past-end.ensures.is ∙ ap (λ v. past v s.position) c.split_at.ensures.front) in
+    let end = sym (c.past_flat-end.ensures.is ∙ ap (λ v. past v s.position) c.split_at.ensures.front) in
     let more = c.skip_plain-is_item.ensures.items (past_token t.nesting value w) end in
     let after = length c.split_at.result.1.now in
     let rest = length c.skip_plain-is_item.result.0.now in

@@ -3,17 +3,13 @@ use Rattle.std.proofs.lemmas.Bool.{eqb-false}
 use Rattle.graphql_lexer.specs.steps.Front.{front}
 use Rattle.graphql_lexer.specs.declared.tokenizer.piece.Piece.TheVariants.{AtEnd, Takes, Stops}
 use Rattle.graphql_lexer.specs.Items.{Where, Item, is_too_deep, past, past_token}
-use Rattle.graphql_lexer.proofs.Positions.{token_flat}
 use Rattle.graphql_lexer.proofs.FrontFits.{items_at, last_some}
 use Rattle.graphql_lexer.proofs.Tokens.{takes_first, end_front, stops_front}
 use Rattle.graphql_lexer.proofs.tokenizer.stream.TokenStream.next_token.Goals as goal
 
 pub past-end-requires-clause-flat : goal.past-end-requires-clause-flat
 past-end-requires-clause-flat c =
-    let t = c.in-Some in
-    let rest = c.self.inside.rest.now in
-    let takes = takes_first (front rest) t.len t.kind t.nesting (sym t.ensures.is) in
-    rw c.split_at.ensures.front (token_flat rest t.len t.kind t.nesting takes)
+    rw c.split_at.ensures.front c.in-Some.ensures.flat
 
 pub returns-then-is_empty-clause-item : goal.returns-then-is_empty-clause-item
 returns-then-is_empty-clause-item c =
