@@ -16,7 +16,8 @@ use Rattle.graphql_lexer.specs.Lexical.{is_name_start, is_mark, Word, Stands, na
 use Rattle.graphql_core.specs.steps.Marks.{spelling_of, class_of, first_byte, front_byte}
 use Rattle.graphql_core.specs.Source.{IsLexeme}
 use Rattle.graphql_lexer.proofs.Runs.{differs}
-use Rattle.graphql_lexer.proofs.Numbers.{starts_number, NumberRun, integer_run, float_run}
+use Rattle.graphql_lexer.specs.steps.Numbers.{starts_number}
+use Rattle.graphql_lexer.proofs.Numbers.{NumberRun, integer_run, float_run}
 
 byte_back : (x y : ℕ) → (x == y) ≡ (y == x)
 byte_back x y = grind (arith)

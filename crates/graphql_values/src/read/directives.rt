@@ -13,6 +13,9 @@ use graphql_core::common::Names;
 use graphql_core::helpers::{Mark, Stop, TokenSource, name, take_mark};
 use std::alloc::Global;
 
+/// Room for so many arguments is made at first: most lists have no more.
+const FEW_ARGUMENTS: usize = 2;
+
 /// `Arguments = "(" Argument+ ")"`
 #[tactic(auto, using(crate::proofs::Reading::reading))]
 pub fn arguments<S: TokenSource>(
@@ -47,6 +50,7 @@ pub fn optional_arguments<S: TokenSource>(
     ensures within { OnOk result (length (S.items source.new).tokens ≤ length (S.items source.old).tokens) }
 {
     if source.sees_mark(Mark::OpenParen) {
+        items.reserve_exact(FEW_ARGUMENTS)?;
         return arguments(alloc, source, items);
     }
     Ok(())

@@ -11,7 +11,8 @@ pub returns-then-sees_mark-clause-reads : goal.returns-then-sees_mark-clause-rea
 returns-then-sees_mark-clause-reads g c =
     let old = g.S.TokenSource.items c.args.source.now in
     let side = some_arguments old.tokens (sym c.sees_mark.ensures ∙ c.if-sees_mark.true) in
-    gives_side shared _ _ First old (g.S.TokenSource.items c.arguments.new.source) _ _ _ side (λ v x h. h) c.arguments.ensures.reads
+    gives_side shared _ _ First old (g.S.TokenSource.items c.arguments.new.source) _ _ _ side
+    (λ v x h. rw c.reserve_exact.ensures.items at h) c.arguments.ensures.reads
 
 pub returns-clause-reads : goal.returns-clause-reads
 returns-clause-reads g c =
