@@ -1,7 +1,7 @@
 -- Runs and numbers.
 use Rattle.std.proofs.Common.{◌≡◌, ℕ, suc, ◌<◌, ◌≤◌, Bool, true, false, not, ◌&&◌, ◌||◌, ◌==◌, List, [], ◌∷◌, ◌++◌, length, get_or, take, drop, refl, sym, ap}
 use Rattle.std.proofs.Common.{◌∙◌, subst, inl, inr, arith, eqb-true}
-use Rattle.std.proofs.lemmas.Bool.{cases_lt, cases_Bool, and_parts}
+use Rattle.std.proofs.lemmas.Bool.{cases_lt, cases_Bool, and_parts, not-true, not-false}
 use Rattle.std.proofs.lemmas.Bool.Decides.{nat_tests}
 use Rattle.std.proofs.lemmas.List.{take_at, drop_at, take-append-drop, append-nil}
 use Rattle.std.proofs.lemmas.List.Sums.{prefix_len-le-length, prefix_len_stops}
@@ -16,7 +16,8 @@ use Rattle.graphql_lexer.specs.Lexical.{is_in_run, is_delimiter, is_natural, is_
 use Rattle.graphql_lexer.specs.Lexical.{with_exponent, with_both}
 use Rattle.graphql_lexer.specs.Items.{run_at}
 use Rattle.graphql_lexer.specs.steps.Front.{is_flat}
-use Rattle.graphql_lexer.specs.steps.Numbers.{starts_number, digits_len, is_exponent_or_none, is_after_dot, is_after_integer, is_unsigned, is_float, number_of, number}
+use Rattle.graphql_lexer.specs.steps.Numbers.{starts_number, digits_len, is_exponent_or_none, is_after_dot, is_after_integer, is_unsigned, is_float}
+use Rattle.graphql_lexer.specs.steps.Numbers.{number_of, number}
 use Rattle.graphql_lexer.proofs.Runs.{run, run_all, run_of, all_weaken, all_append}
 
 ends_run_ascii : (b : ℕ) → is_in_run b ≡ false → b < 128
@@ -143,17 +144,13 @@ fraction_then b (c ∷ cs) [] e all some more =
 fraction_then b (c ∷ cs) (d ∷ ds) e all some more =
     λ integer i. with_both integer (b ∷ c ∷ cs) (d ∷ ds) i (rw (e, all) refl) more
 
-not_true : (b : Bool) → not b ≡ true → b ≡ false
-not_true true h = absurd cc
-not_true false h = refl
-
 goes_on_dot : (b : ℕ) (bs : List ℕ) → b ≡ 46 → is_after_dot bs ≡ true → GoesOn (b ∷ bs)
 unfolding is_after_dot
 goes_on_dot b bs e h =
     let r = run_of is_ascii_digit bs in
     let (some, more) = and_parts (not (digits_len bs == 0)) (is_exponent_or_none (drop (digits_len bs) bs)) h in
     let after : drop (digits_len bs) bs ≡ r.1 = ap (drop (digits_len bs)) r.2 ∙ drop_at r.0 r.1 (digits_len bs) (sym r.4) in
-    let nonzero : (length r.0 == 0) ≡ false = rw (← r.4) (not_true _ some) in
+    let nonzero : (length r.0 == 0) ≡ false = rw (← r.4) (not-true _ some) in
     subst (λ xs. GoesOn (b ∷ xs)) (sym r.2) (fraction_then b r.0 r.1 e r.3 nonzero (rw after at more))
 
 goes_on : (rest : List ℕ) → is_after_integer rest ≡ true → GoesOn rest
@@ -205,10 +202,6 @@ number_flat b h = grind (arith, nat_tests)
 
 number_in_run : (b : ℕ) → is_number_byte b ≡ true → is_in_run b ≡ true
 number_in_run b h = grind (arith, nat_tests)
-
-not_false : (b : Bool) → not b ≡ false → b ≡ true
-not_false true h = refl
-not_false false h = absurd cc
 
 sign_in : (b : ℕ) → (b == 45) ≡ true → is_number_byte b ≡ true
 sign_in b h = grind (arith, nat_tests)
@@ -323,7 +316,7 @@ float_front xs rest h ends =
 -- the run at the front, and what ends it
 ends_run : (rest : List ℕ) → (0 < length rest → is_in_run (get_or rest 0 0) ≡ false) → EndsRun rest
 ends_run [] h = tt
-ends_run (c ∷ cs) h = not_false _ (h (omega arith))
+ends_run (c ∷ cs) h = not-false _ (h (omega arith))
 
 pub run_parts : (xs : List ℕ) → (rest : List ℕ) × (xs ≡ run_at xs ++ rest) × EndsRun rest
 run_parts xs =

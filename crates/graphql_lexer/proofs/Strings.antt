@@ -1,11 +1,11 @@
 -- Strings, block strings, and where they end.
-use Rattle.std.proofs.Common.{◌≡◌, ◌≢◌, ℕ, zero, suc, ◌+◌, ◌<◌, ◌≤◌, Bool, true, false, not, cond, ◌&&◌, ◌==◌, List, [], ◌∷◌, ◌++◌, length, get_or, take, drop, Some}
-use Rattle.std.proofs.Common.{None, refl, sym, ap, ◌∙◌, subst, inl, inr, arith, le_refl}
-use Rattle.std.proofs.lemmas.Bool.{cases_eq, cases_Bool}
+use Rattle.std.proofs.Common.{◌≡◌, ◌≢◌, ℕ, zero, suc, ◌+◌, ◌<◌, ◌≤◌, Bool, true, false, not, cond, ◌&&◌, ◌||◌, ◌==◌, List, [], ◌∷◌, ◌++◌, length, get_or}
+use Rattle.std.proofs.Common.{take, drop, Some, None, refl, sym, ap, ◌∙◌, subst, inl, inr, arith, le_refl, append_assoc, length-append}
+use Rattle.std.proofs.lemmas.Bool.{cases_eq, cases_Bool, and_parts}
 use Rattle.std.proofs.lemmas.Bool.Decides.{nat_tests}
-use Rattle.std.proofs.lemmas.List.{at_drop_more, at_drop_all, drop-drop, length-drop}
+use Rattle.std.proofs.lemmas.List.{at_drop_more, at_drop_all, drop-drop, length-drop, take_at, get_or-append-add}
 use Rattle.graphql_lexer.specs.Lexical.{begins_quotes, begins_escape, IsStringBody, empty, plain, escaped, ClosesBlock, closing, escape, unit}
-use Rattle.graphql_lexer.proofs.Runs.{not_equal}
+use Rattle.graphql_lexer.proofs.Runs.{not_equal, run_of, all_weaken, all_append}
 use Rattle.std.specs.List.{prefix_len, list_all}
 use Rattle.graphql_lexer.specs.steps.Front.{is_flat}
 use Rattle.graphql_lexer.specs.steps.Ahead.{is_plain_in_string}
@@ -272,53 +272,50 @@ block_front {body} closes rest = rw (block_closed closes 0 rest) (ap (λ n. Take
 
 -- ---- strings in ASCII with no escape
 
-plain_parts : (b : ℕ) → is_plain_in_string b ≡ true → ((b == 10) ≡ false) × ((b == 34) ≡ false) × ((b == 92) ≡ false) × (is_flat b ≡ true)
-plain_parts b h = (grind (arith, nat_tests), grind (arith, nat_tests), grind (arith, nat_tests), grind (arith, nat_tests))
+plain_body : (run : List ℕ) → list_all is_plain_in_string run ≡ true → IsStringBody run
+plain_body [] all = empty
+plain_body (b ∷ bs) all =
+    let (here, more) = and_parts (is_plain_in_string b) (list_all is_plain_in_string bs) all in
+    let differs : (k : ℕ) → is_plain_in_string k ≡ false → b ≢ k = λ k stop e. absurd (let pass = rw e at here in cc) in
+    plain (differs 34 refl) (differs 92 refl) (differs 10 refl) (plain_body bs more)
 
-plain_end : (bs : List ℕ) (n k : ℕ) → k ≡ prefix_len is_plain_in_string bs → get_or bs k 0 ≡ 34 → string_end n false bs ≡ Some (n + k + 1)
-unfolding string_end
-plain_end [] n k e h = absurd (omega arith)
-plain_end (b ∷ bs) n k e h =
-    elim (cases_Bool (is_plain_in_string b)) [
-      | inl pass ↦
-          let p = plain_parts b pass in
-          let len : k ≡ suc (prefix_len is_plain_in_string bs) = omega (arith, rw pass at e) in
-          let last : get_or bs (prefix_len is_plain_in_string bs) 0 ≡ 34 = rw len at h in
-          rw (p.0, p.1, p.2) (plain_end bs (n + 1) (prefix_len is_plain_in_string bs) refl last ∙ ap Some (omega arith))
-      | inr stop ↦
-          let len : k ≡ 0 = rw stop at e in
-          let quote : b ≡ 34 = rw len at h in
-          rw quote (ap Some (omega arith))
-    ]
+flat_in_string : (b : ℕ) → is_plain_in_string b ≡ true → is_flat b ≡ true
+flat_in_string b h = (and_parts (is_flat b) (not (b == 34 || b == 92)) h).0
 
-plain_quotes : (bs : List ℕ) (k : ℕ) → k ≡ prefix_len is_plain_in_string bs → k ≢ 0 → begins_quotes (34 ∷ bs) ≡ false
-plain_quotes [] k e some = refl
-plain_quotes (b ∷ bs) k e some =
-    elim (cases_Bool (is_plain_in_string b)) [
-      | inl pass ↦ let other = (plain_parts b pass).1 in no_quotes 34 b bs (λ quote. absurd (let same = rw quote at other in cc))
-      | inr stop ↦ absurd (some (rw stop at e))
-    ]
+first_is : (c : ℕ) (xs : List ℕ) → 0 < c → get_or xs 0 0 ≡ c → (more : List ℕ) × (xs ≡ c ∷ more)
+first_is c [] some e = absurd (omega arith)
+first_is c (x ∷ xs) some e = (xs, ap (λ y. y ∷ xs) e)
 
-pub plain_string : (bs : List ℕ) (k : ℕ) → k ≡ prefix_len is_plain_in_string bs → get_or bs k 0 ≡ 34 → k ≢ 0 → quoted (34 ∷ bs) ≡ Takes (k + 1 + 1) StringValue Level
-unfolding quoted
-plain_string bs k e last some = rw (plain_quotes bs k e some, plain_end bs 0 k e last) (ap (λ n. Takes n StringValue Level) (omega arith))
+-- a run of such bytes before a quote
+record PlainRun (bs : List ℕ) (k : ℕ) : Type 0 where
+  run : List ℕ
+  rest : List ℕ
+  is : bs ≡ run ++ 34 ∷ rest
+  all : list_all is_plain_in_string run ≡ true
+  len : length run ≡ k
 
-all_flat : (bs : List ℕ) (k : ℕ) → k ≡ prefix_len is_plain_in_string bs → get_or bs k 0 ≡ 34 → list_all is_flat (take (suc k) bs) ≡ true
-all_flat [] k e h = refl
-all_flat (b ∷ bs) k e h =
-    elim (cases_Bool (is_plain_in_string b)) [
-      | inl pass ↦
-          let len : k ≡ suc (prefix_len is_plain_in_string bs) = omega (arith, rw pass at e) in
-          let last : get_or bs (prefix_len is_plain_in_string bs) 0 ≡ 34 = rw len at h in
-          let more = all_flat bs (prefix_len is_plain_in_string bs) refl last in
-          subst (λ n. list_all is_flat (take (suc n) (b ∷ bs)) ≡ true) (sym len) (rw ((plain_parts b pass).3, more) refl)
-      | inr stop ↦
-          let len : k ≡ 0 = rw stop at e in
-          let quote : b ≡ 34 = rw len at h in
-          rw (len, quote) refl
-    ]
+plain_run : (bs : List ℕ) (k : ℕ) → k ≡ prefix_len is_plain_in_string bs → get_or bs k 0 ≡ 34 → PlainRun bs k
+plain_run bs k e last =
+    let r = run_of is_plain_in_string bs in
+    let at : k ≡ length r.0 + 0 = omega (arith, r.4) in
+    let quote : get_or r.1 0 0 ≡ 34 = sym (get_or-append-add r.0 r.1 0 0) ∙ rw (← r.2, ← at) last in
+    let (rest, is) = first_is 34 r.1 (omega arith) quote in
+    record { run = r.0; rest = rest; is = r.2 ∙ ap (λ l. r.0 ++ l) is; all = r.3; len = sym (e ∙ r.4) }
+
+pub plain_string : (bs : List ℕ) (k : ℕ) → k ≡ prefix_len is_plain_in_string bs → get_or bs k 0 ≡ 34 → k ≢ 0
+    → quoted (34 ∷ bs) ≡ Takes (k + 1 + 1) StringValue Level
+plain_string bs k e last some =
+    let r = plain_run bs k e last in
+    ap (λ l. quoted (34 ∷ l)) r.is
+    ∙ string_front (plain_body r.run r.all) r.rest (λ none. absurd (some (sym r.len ∙ ap length none)))
+    ∙ ap (λ n. Takes n StringValue Level) (omega (arith, r.len))
 
 pub plain_flat : (bs : List ℕ) (k : ℕ) → k ≡ prefix_len is_plain_in_string bs → get_or bs k 0 ≡ 34 → list_all is_flat (take (k + 1) bs) ≡ true
-plain_flat bs k e h =
-    let one : suc k ≡ k + 1 = omega arith in
-    subst (λ n. list_all is_flat (take n bs) ≡ true) one (all_flat bs k e h)
+plain_flat bs k e last =
+    let r = plain_run bs k e last in
+    let body = r.run ++ 34 ∷ [] in
+    let whole : bs ≡ body ++ r.rest = r.is ∙ sym (append_assoc r.run (34 ∷ []) r.rest) in
+    let len : length body ≡ k + 1 = omega (arith, r.len, length-append r.run (34 ∷ [])) in
+    let taken : take (k + 1) bs ≡ body = ap (take (k + 1)) whole ∙ take_at body r.rest (k + 1) len in
+    let flat = all_weaken is_plain_in_string is_flat flat_in_string r.run r.all in
+    rw taken (all_append is_flat r.run (34 ∷ []) flat refl)

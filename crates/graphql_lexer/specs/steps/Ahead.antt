@@ -1,7 +1,7 @@
 -- What the quick tests of the tokenizer look for.
-use Rattle.std.specs.Prelude.{ℕ, ◌≤◌, Bool, not, nat_lt, ◌==◌, ◌&&◌, ◌||◌, List, slice_index, if◌then◌else◌, Option, Some, None}
+use Rattle.std.specs.Prelude.{ℕ, ◌≤◌, Bool, not, ◌==◌, ◌&&◌, ◌||◌, List, slice_index, if◌then◌else◌, Option, Some, None}
 use Rattle.std.specs.Int.{w64, trailing_zeros}
-use Rattle.graphql_lexer.specs.steps.Front.{Cuts}
+use Rattle.graphql_lexer.specs.steps.Front.{Cuts, is_flat}
 use Rattle.graphql_lexer.specs.Lexical.{steps_over}
 use Rattle.graphql_lexer.specs.declared.tokenizer.piece.Move.{Move}
 use Rattle.graphql_lexer.specs.declared.tokenizer.piece.Move.TheVariants.{Over, Down}
@@ -15,7 +15,7 @@ is_space b = b == 32
 
 -- what a string goes on with, in ASCII with no escape
 abbrev pub is_plain_in_string : ℕ → Bool
-is_plain_in_string b = nat_lt b 128 && not (b == 34 || b == 92 || b == 10)
+is_plain_in_string b = is_flat b && not (b == 34 || b == 92)
 
 abbrev pub is_blank : ℕ → Bool
 is_blank b = b == 32 || b == 44

@@ -9,7 +9,7 @@ ghost use Rattle.graphql_lexer.specs.declared.tokenizer.piece.Nesting.TheVariant
 ghost use Rattle.graphql_lexer.specs.declared.tokenizer.piece.Piece.TheVariants.{Takes};
 
 use crate::tokenizer::piece::{Nesting, Piece, byte_at};
-use crate::tokenizer::run::{PlainInString, run_len};
+use crate::tokenizer::run::{PlainInString, whole_len};
 use crate::tokenizer::token::Kind;
 
 /// Whether three quotes stand at the front.
@@ -96,7 +96,7 @@ pub fn plain_string_len(bytes: &[u8]) -> Option<usize>
     ensures flat { IfSome result (λ n. list_all is_flat (take n bytes.now) ≡ true) }
     ensures within { IfSome result (λ n. n ≤ length bytes.now) }
 {
-    let len = run_len::<PlainInString>(bytes);
+    let len = whole_len::<PlainInString>(bytes);
     if len == 0 {
         return None;
     }

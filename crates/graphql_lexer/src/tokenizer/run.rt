@@ -69,7 +69,7 @@ impl Class for PlainInString {
 
     #[inline(always)]
     fn has(byte: u8) -> bool {
-        byte < 0x80 && !(byte == b'"' || byte == b'\\' || byte == b'\n')
+        (byte < 0x80 && byte != b'\n') && !(byte == b'"' || byte == b'\\')
     }
 
     #[inline(always)]
@@ -121,7 +121,7 @@ pub fn near_len<C: Class>(bytes: &[u8]) -> Option<usize>
 
 /// How many bytes the run at the front has.
 #[inline(always)]
-pub fn run_len<C: Class>(bytes: &[u8]) -> usize
+pub fn whole_len<C: Class>(bytes: &[u8]) -> usize
     ensures len { result ≡ prefix_len C.has bytes.now }
     ensures within { result ≤ length bytes.now }
 {

@@ -13,7 +13,7 @@ use graphql_core::common::Names;
 use graphql_core::helpers::{Mark, Stop, TokenSource, name, take_mark};
 use std::alloc::Global;
 
-/// Room for so many arguments is made at first: most lists have no more.
+/// Room for so many arguments is made at first. A list of more grows.
 const FEW_ARGUMENTS: usize = 2;
 
 /// `Arguments = "(" Argument+ ")"`
