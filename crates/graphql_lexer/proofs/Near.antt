@@ -1,9 +1,11 @@
 -- Tokens that one look shows, and that they are ASCII in one line.
-use Rattle.std.proofs.Common.{◌≡◌, ℕ, suc, ◌+◌, Bool, true, not, List, ◌∷◌, take, refl, sym, ◌∙◌, subst, arith}
+use Rattle.std.proofs.Common.{◌≡◌, ℕ, Bool, true, false, not, List, ◌∷◌, Option, Some, None, take, refl, sym, ◌∙◌}
 use Rattle.std.proofs.lemmas.Bool.{not-true}
+use Rattle.std.specs.Prelude.{IfSome}
 use Rattle.std.specs.List.{list_all}
 use Rattle.graphql_lexer.specs.declared.tokenizer.token.Kind.{Kind}
 use Rattle.graphql_lexer.specs.declared.tokenizer.piece.Nesting.{Nesting}
+use Rattle.graphql_lexer.specs.declared.tokenizer.piece.Nesting.TheVariants.{Level}
 use Rattle.graphql_lexer.specs.declared.tokenizer.piece.Piece.TheVariants.{Takes}
 use Rattle.graphql_lexer.specs.steps.Front.{front, token_of, is_flat, is_quoted}
 use Rattle.graphql_lexer.specs.steps.Numbers.{starts_number, number}
@@ -19,13 +21,21 @@ pub number_begins : (b : ℕ) (bs : List ℕ) → starts_number b ≡ true → f
 unfolding front
 number_begins b bs h = number_first b bs h
 
+-- a number that may be there
+abbrev IsNumber : List ℕ → Option (ℕ × Kind) → Type 0
+IsNumber bytes x = IfSome x (λ t. number bytes ≡ Takes t.0 t.1 Level)
+
+pub number_is : (bytes : List ℕ) (x : Option (ℕ × Kind)) → front bytes ≡ number bytes → IsNumber bytes x
+    → IfSome x (λ t. front bytes ≡ Takes t.0 t.1 Level)
+number_is bytes None e h = tt
+number_is bytes (Some t) e h = e ∙ h
+
+pub number_flat : (bytes : List ℕ) (x : Option (ℕ × Kind)) → front bytes ≡ number bytes → IsNumber bytes x
+    → IfSome x (λ t. is_quoted t.1 ≡ false) → IfSome x (λ t. list_all is_flat (take t.0 bytes) ≡ true)
+number_flat bytes None e h k = tt
+number_flat bytes (Some t) e h k = token_flat bytes t.0 t.1 Level (e ∙ h) k
+
 -- a token that is no string
 pub other_flat : (bytes : List ℕ) (n : ℕ) (k : Kind) (t : Nesting) (q : Bool) → front bytes ≡ Takes n k t → q ≡ is_quoted k → not q ≡ true
     → list_all is_flat (take n bytes) ≡ true
 other_flat bytes n k t q e is h = token_flat bytes n k t e (sym is ∙ not-true q h)
-
--- a string
-pub string_flat : (b : ℕ) (bs : List ℕ) (n : ℕ) → b ≡ 34 → list_all is_flat (take n bs) ≡ true → list_all is_flat (take (n + 1) (b ∷ bs)) ≡ true
-string_flat b bs n e h =
-    let one : suc n ≡ n + 1 = omega arith in
-    subst (λ m. list_all is_flat (take m (b ∷ bs)) ≡ true) one (rw (e, h) refl)

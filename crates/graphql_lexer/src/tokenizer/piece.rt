@@ -1,9 +1,11 @@
 //! What stands at the front of a text.
-ghost use Rattle.std.specs.Prelude.{◌≡◌, ◌<◌, ◌≤◌, ◌^◌, true, length, take, slice_index, IfSome, Some};
+ghost use Rattle.std.specs.Prelude.{◌≡◌, ◌<◌, ◌≤◌, ◌^◌, ◌∷◌, true, length, take, slice_index, IfSome, Some};
 ghost use Rattle.std.specs.List.{prefix_len, list_all};
 ghost use Rattle.std.specs.Str.{IsCharBoundary};
 ghost use Rattle.graphql_lexer.specs.steps.Front as spec;
 ghost use Rattle.graphql_lexer.specs.Lexical as lexical;
+ghost use Rattle.graphql_lexer.specs.declared.tokenizer.piece.Nesting.TheVariants.{Level};
+ghost use Rattle.graphql_lexer.specs.declared.tokenizer.piece.Piece.TheVariants.{Takes};
 ghost use Rattle.graphql_lexer.specs.steps.Ahead.{is_space, is_blank, is_order_mark, ignored, FitsIgnored, taken, without_flat, FitsTaken, is_plain, is_rare};
 
 use crate::tokenizer::number::{number, plain_number, starts_number};
@@ -222,6 +224,25 @@ fn piece_of(bytes: &[u8]) -> Piece
     }
 }
 
+/// The string or number at the front, where it is plain: its length and its kind. It stands apart, since cutting is slower
+/// by a fifteenth where its parts stand in `near_token_bytes`.
+#[inline(always)]
+fn near_value(byte: u8, rest: &[u8], bytes: &[u8]) -> Option<(usize, Kind)>
+    requires whole { bytes.now ≡ byte ∷ rest.now }
+    requires small { length bytes.now < 2 ^ 62 }
+    ensures is { IfSome result (λ t. spec.front bytes.now ≡ Takes t.0 t.1 Level) }
+    ensures flat { IfSome result (λ t. list_all spec.is_flat (take t.0 bytes.now) ≡ true) }
+{
+    if byte == b'"' {
+        let len = plain_string_len(rest)?;
+        return Some((len + 1, Kind::StringValue));
+    }
+    if starts_number(byte) {
+        return plain_number(bytes);
+    }
+    None
+}
+
 /// The token at the front of these bytes, where one look shows it and that it is ASCII in one line: a short name, a
 /// punctuator of one character, a string that is not empty and has no escape, or a number with no exponent.
 #[inline(always)]
@@ -238,15 +259,8 @@ fn near_token_bytes(bytes: &[u8]) -> Option<(usize, Kind, Nesting)>
     if is_mark(*byte) {
         return Some((1, Kind::Punctuator, nesting_of(*byte)));
     }
-    if *byte == b'"' {
-        let len = plain_string_len(rest)?;
-        return Some((len + 1, Kind::StringValue, Nesting::Level));
-    }
-    if starts_number(*byte) {
-        let (len, kind) = plain_number(bytes)?;
-        return Some((len, kind, Nesting::Level));
-    }
-    None
+    let (len, kind) = near_value(*byte, rest, bytes)?;
+    Some((len, kind, Nesting::Level))
 }
 
 /// Whether it is a string, which may have line ends and characters of several bytes.

@@ -2,11 +2,10 @@ use Rattle.std.proofs.Common.{◌≡◌, ◌+◌, sym, ap, ◌∙◌, refl}
 use Rattle.graphql_lexer.specs.Lexical.{nesting_of}
 use Rattle.graphql_lexer.specs.steps.Front.{front}
 use Rattle.graphql_lexer.specs.steps.Ahead.{taken}
-use Rattle.graphql_lexer.specs.declared.tokenizer.token.Kind.TheVariants.{Punctuator, Name, StringValue}
+use Rattle.graphql_lexer.specs.declared.tokenizer.token.Kind.TheVariants.{Punctuator, Name}
 use Rattle.graphql_lexer.specs.declared.tokenizer.piece.Nesting.TheVariants.{Level}
 use Rattle.graphql_lexer.specs.declared.tokenizer.piece.Piece.TheVariants.{Takes}
 use Rattle.graphql_lexer.proofs.Tokens.{name_front, mark_front}
-use Rattle.graphql_lexer.proofs.Near.{string_begins, number_begins, string_flat}
 use Rattle.graphql_lexer.proofs.Positions.{token_flat}
 use Rattle.graphql_lexer.proofs.tokenizer.piece.near_token_bytes.Goals as goal
 
@@ -27,23 +26,3 @@ returns-then-is_mark c =
     let mark : front bytes ≡ Takes 1 Punctuator nesting = rw c.in_ok-byte.ensures.cases.0
     (mark_front c.in_ok-byte.byte.now c.in_ok-byte.rest.now first no_name) in
     record { is = rw c.nesting_of.ensures (sym (ap taken mark)); flat = token_flat bytes 1 Punctuator nesting mark refl }
-
-pub returns-then-byte-eq34 : goal.returns-then-byte-eq34
-returns-then-byte-eq34 c =
-    let rest = c.in_ok-byte.rest.now in
-    let len = c.in_ok-len-2.len in
-    let string : front c.args.bytes.now ≡ Takes (len + 1) StringValue Level = rw (c.in_ok-byte.ensures.cases.0, c.if-byte-eq34.true)
-    (string_begins rest ∙ c.in_ok-len-2.ensures.is) in
-    record {
-      is = sym (ap taken string);
-      flat = rw c.in_ok-byte.ensures.cases.0 (string_flat c.in_ok-byte.byte.now rest len c.if-byte-eq34.true c.in_ok-len-2.ensures.flat);
-    }
-
-pub returns-then-starts_number : goal.returns-then-starts_number
-returns-then-starts_number c =
-    let bytes = c.args.bytes.now in
-    let t = c.in_ok-len-3 in
-    let number : front bytes ≡ Takes t.len t.kind Level = rw c.in_ok-byte.ensures.cases.0
-    (number_begins c.in_ok-byte.byte.now c.in_ok-byte.rest.now (sym c.starts_number.ensures ∙ c.if-starts_number.true))
-    ∙ t.ensures.is in
-    record { is = sym (ap taken number); flat = token_flat bytes t.len t.kind Level number t.ensures.kind }
