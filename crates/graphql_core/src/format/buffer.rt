@@ -83,8 +83,30 @@ fn append(bytes: &mut Vec<u8>, len: usize, text: &str) -> Result<usize, AllocErr
     Ok(end)
 }
 
+/// Puts a space where one is asked for, and then some bytes, after the first ones; answers how many count then.
+#[cold]
+#[inline(never)]
+fn append_apart(
+    bytes: &mut Vec<u8>,
+    len: usize,
+    is_spaced: bool,
+    more: &[u8],
+) -> Result<usize, AllocError>
+    requires { len ≤ vec_len bytes.old }
+    ensures text { IfOk result (λ end. take end bytes.new.items ≡ take len bytes.old.items ++ (space_if is_spaced ++ more.now)) }
+    ensures within { IfOk result (λ end. end ≤ length bytes.new.items) }
+    ensures kept { OnErr result ((take len bytes.new.items ≡ take len bytes.old.items) × (len ≤ length bytes.new.items)) }
+{
+    let most = len + more.len() + 1;
+    if most > bytes.len() {
+        make_room(bytes, most)?;
+    }
+    let start = place_space(bytes.as_mut_slice(), len, is_spaced);
+    Ok(place_text(bytes.as_mut_slice(), start, more))
+}
+
 /// Puts some bytes, with which others begin, after the first ones, and a space before them where one is asked for; answers
-/// how many count then.
+/// how many count then. A few bytes are one load and one store, where there are others and there is room.
 #[inline(always)]
 fn append_spaced_bytes(
     bytes: &mut Vec<u8>,
@@ -99,9 +121,8 @@ fn append_spaced_bytes(
     ensures within { IfOk result (λ end. end ≤ length bytes.new.items) }
     ensures kept { OnErr result ((take len bytes.new.items ≡ take len bytes.old.items) × (len ≤ length bytes.new.items)) }
 {
-    let most = len + more.len().max(WIDE) + 1;
-    if most > bytes.len() {
-        make_room(bytes, most)?;
+    if more.len() > WIDE || from.len() < WIDE || bytes.len() - len <= WIDE {
+        return append_apart(bytes, len, is_spaced, more);
     }
     let start = place_space(bytes.as_mut_slice(), len, is_spaced);
     Ok(place_start(bytes.as_mut_slice(), start, more, from))

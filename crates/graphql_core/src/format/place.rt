@@ -77,21 +77,17 @@ pub fn place_text(buffer: &mut [u8], at: usize, text: &[u8]) -> usize
 /// The bytes that are stored at once where a text is followed by more than is wanted of it.
 pub const WIDE: usize = 16;
 
-/// Writes at a place a text with which another begins, and answers where it ends. A short one is one load from the other
-/// and one store, whatever its length.
+/// Writes at a place a short text with which a longer one begins, and answers where it ends: one load from the longer one
+/// and one store, whatever the length.
 #[inline(always)]
 pub fn place_start(buffer: &mut [u8], at: usize, text: &[u8], from: &[u8]) -> usize
-    requires fits { at + length text.now ≤ length buffer.old }
-    requires wide { at + 16 ≤ length buffer.old }
+    requires fits { at + 16 ≤ length buffer.old }
+    requires short { (length text.now ≤ 16) × (16 ≤ length from.now) }
     requires begins { take (length text.now) from.now ≡ text.now }
     ensures { Placed buffer.old buffer.new at text.now result }
 {
-    if text.len() <= WIDE && from.len() >= WIDE {
-        place_front::<WIDE>(buffer, at, from);
-        at + text.len()
-    } else {
-        place_text(buffer, at, text)
-    }
+    place_front::<WIDE>(buffer, at, from);
+    at + text.len()
 }
 
 /// Writes a space at a place where one is asked for, with no branch on that, and answers where it ends.

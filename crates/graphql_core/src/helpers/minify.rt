@@ -21,13 +21,13 @@ fn is_number(kind: Kind) -> bool
     matches!(kind, Kind::IntValue | Kind::FloatValue)
 }
 
-/// Whether a space stands between a token of this kind and the next token.
+/// Whether a space stands between a token of this kind and the next token. There is no branch on which of them are punctuators.
 #[inline(always)]
 fn is_spaced(before: Kind, token: tokenizer::Token<'_>) -> bool
     ensures { (at : Pos) → result ≡ is_spaced (kind_number before) (token_of at token.entry.kind token.entry.value.now) }
 {
-    (before != Kind::Punctuator && token.kind != Kind::Punctuator)
-        || (is_number(before) && token.value == "...")
+    let are_words = (before != Kind::Punctuator) & (token.kind != Kind::Punctuator);
+    are_words | (is_number(before) && token.value == "...")
 }
 
 /// The tokens of a stream up to its end, spaced.

@@ -2,8 +2,8 @@ use Rattle.std.proofs.Common.{◌∙◌, length, take-take, length-take-le, arit
 use Rattle.graphql_core.proofs.Places.{Placed-less}
 use Rattle.graphql_core.proofs.format.place.place_start.Goals as goal
 
-pub returns-then-from-ge-WIDE : goal.returns-then-from-ge-WIDE
-returns-then-from-ge-WIDE c =
+pub returns : goal.returns
+returns c =
     let text = c.args.text.now in
     let from = c.args.from.now in
     let is = take-take (length text) 16 from (omega arith) ∙ c.requires.begins in
