@@ -235,9 +235,17 @@ fn number_of_run(bytes: &[u8]) -> Piece
     let len = run_len(bytes);
     let run = &bytes[..len];
     if is_integer(run) {
-        Piece::Takes(len, Kind::IntValue, Nesting::Level)
+        Piece::Takes {
+            len,
+            kind: Kind::IntValue,
+            nesting: Nesting::Level,
+        }
     } else if is_float(run) {
-        Piece::Takes(len, Kind::FloatValue, Nesting::Level)
+        Piece::Takes {
+            len,
+            kind: Kind::FloatValue,
+            nesting: Nesting::Level,
+        }
     } else {
         Piece::Stops
     }
@@ -249,7 +257,11 @@ pub fn number(bytes: &[u8]) -> Piece
     ensures { result ≡ spec.number bytes.now }
 {
     match plain_number(bytes) {
-        Some((len, kind)) => Piece::Takes(len, kind, Nesting::Level),
+        Some((len, kind)) => Piece::Takes {
+            len,
+            kind,
+            nesting: Nesting::Level,
+        },
         None => number_of_run(bytes),
     }
 }

@@ -5,7 +5,7 @@ ghost use Rattle.std.specs.Str.{IsCharBoundary};
 ghost use Rattle.graphql_lexer.specs.steps.Front as spec;
 ghost use Rattle.graphql_lexer.specs.Lexical as lexical;
 ghost use Rattle.graphql_lexer.specs.declared.tokenizer.piece.Nesting.TheVariants.{Level};
-ghost use Rattle.graphql_lexer.specs.declared.tokenizer.piece.Piece.TheVariants.{Takes};
+ghost use Rattle.graphql_lexer.specs.declared.tokenizer.piece.Piece.TheVariants.{Skips, Takes};
 ghost use Rattle.graphql_lexer.specs.steps.Ahead.{is_space, is_blank, is_order_mark, ignored, FitsIgnored, taken, without_flat, FitsTaken, is_plain, is_rare};
 
 use crate::tokenizer::number::{number, plain_number, starts_number};
@@ -35,15 +35,27 @@ pub enum Nesting {
     Closes,
 }
 
-/// What stands at the front, with its length in bytes.
+/// What stands at the front. Lengths are in bytes.
 #[derive(Clone, Copy)]
 pub enum Piece {
     /// Nothing: the text is empty.
     AtEnd,
     /// Ignored text.
-    Skips(usize, Move),
+    Skips {
+        /// Its length.
+        len: usize,
+        /// How it moves the position.
+        by: Move,
+    },
     /// A token.
-    Takes(usize, Kind, Nesting),
+    Takes {
+        /// Its length.
+        len: usize,
+        /// Its kind.
+        kind: Kind,
+        /// How it changes the number of open brackets.
+        nesting: Nesting,
+    },
     /// No piece.
     Stops,
 }
@@ -123,6 +135,14 @@ pub fn byte_at(bytes: &[u8], index: usize) -> u8
     bytes.get(index).copied().unwrap_or(0)
 }
 
+/// A byte of ignored text.
+#[inline(always)]
+fn skips_one(by: Move) -> Piece
+    ensures { result ≡ Skips 1 by }
+{
+    Piece::Skips { len: 1, by }
+}
+
 /// What stands after the `#` of a comment.
 #[inline(never)]
 #[tactic(auto, unfolding(crate::specs::steps::Front::comment))]
@@ -132,12 +152,21 @@ fn comment(bytes: &[u8]) -> Piece
 {
     let len = line_len(bytes);
     match bytes[len..].split_first() {
-        None => Piece::Skips(len + 1, Move::Stay),
+        None => Piece::Skips {
+            len: len + 1,
+            by: Move::Stay,
+        },
         Some((byte, rest)) => {
             if *byte == b'\r' && byte_at(rest, 0) == b'\n' {
-                Piece::Skips(len + 3, Move::Down)
+                Piece::Skips {
+                    len: len + 3,
+                    by: Move::Down,
+                }
             } else {
-                Piece::Skips(len + 2, Move::Down)
+                Piece::Skips {
+                    len: len + 2,
+                    by: Move::Down,
+                }
             }
         }
     }
@@ -151,7 +180,7 @@ fn comment_at(bytes: &[u8]) -> Option<(usize, Move)>
     ensures { result ≡ ignored (spec.comment bytes.now) }
 {
     match comment(bytes) {
-        Piece::Skips(len, by) => Some((len, by)),
+        Piece::Skips { len, by } => Some((len, by)),
         _ => None,
     }
 }
@@ -162,7 +191,11 @@ fn dots(bytes: &[u8]) -> Piece
     ensures { result ≡ spec.dots bytes.now }
 {
     if byte_at(bytes, 1) == b'.' && byte_at(bytes, 2) == b'.' {
-        Piece::Takes(3, Kind::Punctuator, Nesting::Level)
+        Piece::Takes {
+            len: 3,
+            kind: Kind::Punctuator,
+            nesting: Nesting::Level,
+        }
     } else {
         Piece::Stops
     }
@@ -177,7 +210,11 @@ fn token_of(byte: u8, bytes: &[u8]) -> Piece
     ensures { result ≡ spec.token_of byte bytes.now }
 {
     if is_mark(byte) {
-        Piece::Takes(1, Kind::Punctuator, nesting_of(byte))
+        Piece::Takes {
+            len: 1,
+            kind: Kind::Punctuator,
+            nesting: nesting_of(byte),
+        }
     } else if byte == b'"' {
         quoted(bytes)
     } else if byte == b'.' {
@@ -200,23 +237,26 @@ fn piece_of(bytes: &[u8]) -> Piece
         None => Piece::AtEnd,
         Some((byte, rest)) => {
             if *byte == b'\t' {
-                Piece::Skips(1, Move::Over(8))
+                skips_one(Move::Over(8))
             } else if *byte == b'\n' {
-                Piece::Skips(1, Move::Down)
+                skips_one(Move::Down)
             } else if *byte == b'\r' {
-                Piece::Skips(1, Move::Stay)
+                skips_one(Move::Stay)
             } else if *byte == b' ' || *byte == b',' {
-                Piece::Skips(1, Move::Over(1))
+                skips_one(Move::Over(1))
             } else if is_name_start(*byte) {
-                Piece::Takes(
-                    whole_len::<NameContinue>(rest) + 1,
-                    Kind::Name,
-                    Nesting::Level,
-                )
+                Piece::Takes {
+                    len: whole_len::<NameContinue>(rest) + 1,
+                    kind: Kind::Name,
+                    nesting: Nesting::Level,
+                }
             } else if *byte == b'#' {
                 comment(rest)
             } else if *byte == 0xEF && (byte_at(rest, 0) == 0xBB && byte_at(rest, 1) == 0xBF) {
-                Piece::Skips(3, Move::Stay)
+                Piece::Skips {
+                    len: 3,
+                    by: Move::Stay,
+                }
             } else {
                 token_of(*byte, bytes)
             }
@@ -283,7 +323,7 @@ fn token_bytes(bytes: &[u8]) -> Option<(usize, Kind, Nesting, bool)>
         return Some((len, kind, nesting, true));
     }
     match piece_of(bytes) {
-        Piece::Takes(len, kind, nesting) => Some((len, kind, nesting, !is_quoted(kind))),
+        Piece::Takes { len, kind, nesting } => Some((len, kind, nesting, !is_quoted(kind))),
         _ => None,
     }
 }

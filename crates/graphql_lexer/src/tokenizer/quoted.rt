@@ -77,12 +77,20 @@ pub fn quoted(bytes: &[u8]) -> Piece
 {
     if begins_quotes(bytes) {
         match block_len(&bytes[3..]) {
-            Some(len) => Piece::Takes(len + 3, Kind::BlockString, Nesting::Level),
+            Some(len) => Piece::Takes {
+                len: len + 3,
+                kind: Kind::BlockString,
+                nesting: Nesting::Level,
+            },
             None => Piece::Stops,
         }
     } else {
         match string_len(&bytes[1..]) {
-            Some(len) => Piece::Takes(len + 1, Kind::StringValue, Nesting::Level),
+            Some(len) => Piece::Takes {
+                len: len + 1,
+                kind: Kind::StringValue,
+                nesting: Nesting::Level,
+            },
             None => Piece::Stops,
         }
     }

@@ -226,48 +226,54 @@ fn skip_ignored(text: &str, at: Pos) -> (&str, Pos)
     }
 }
 
-/// Whether so many brackets are open that no other may be.
-#[inline(always)]
-fn is_full(openers: usize, closers: usize) -> bool
-    requires { closers < 2 ^ 62 }
-    ensures { (w : Where) → w.openers ≡ openers → w.closers ≡ closers → result ≡ is_full w }
-{
-    openers == closers + MAX_DEPTH
+/// The opening and the closing brackets among the tokens before a place.
+#[derive(Clone, Copy)]
+struct Brackets {
+    openers: usize,
+    closers: usize,
 }
 
-/// Whether a token would open a bracket after 50 that are open.
-#[inline(always)]
-fn is_too_deep(nesting: Nesting, openers: usize, closers: usize) -> bool
-    requires { closers < 2 ^ 62 }
-    ensures { (w : Where) → w.openers ≡ openers → w.closers ≡ closers → result ≡ is_too_deep nesting w }
-{
-    match nesting {
-        Nesting::Opens => is_full(openers, closers),
-        Nesting::Level | Nesting::Closes => false,
+impl Brackets {
+    /// Whether so many brackets are open that no other may be.
+    #[inline(always)]
+    fn is_full(self) -> bool
+        requires { self.closers < 2 ^ 62 }
+        ensures { (w : Where) → w.openers ≡ self.openers → w.closers ≡ self.closers → result ≡ is_full w }
+    {
+        self.openers == self.closers + MAX_DEPTH
     }
-}
 
-/// The opening brackets up to and with a token.
-#[inline(always)]
-fn openers_after(nesting: Nesting, openers: usize) -> usize
-    requires { openers < 2 ^ 62 }
-    ensures { result ≡ openers_after nesting openers }
-{
-    match nesting {
-        Nesting::Opens => openers + 1,
-        Nesting::Level | Nesting::Closes => openers,
+    /// Whether a token would open a bracket after 50 that are open.
+    #[inline(always)]
+    fn is_too_deep(self, nesting: Nesting) -> bool
+        requires { self.closers < 2 ^ 62 }
+        ensures { (w : Where) → w.openers ≡ self.openers → w.closers ≡ self.closers → result ≡ is_too_deep nesting w }
+    {
+        match nesting {
+            Nesting::Opens => self.is_full(),
+            Nesting::Level | Nesting::Closes => false,
+        }
     }
-}
 
-/// The closing brackets up to and with a token.
-#[inline(always)]
-fn closers_after(nesting: Nesting, closers: usize) -> usize
-    requires { closers < 2 ^ 62 }
-    ensures { result ≡ closers_after nesting closers }
-{
-    match nesting {
-        Nesting::Closes => closers + 1,
-        Nesting::Level | Nesting::Opens => closers,
+    /// The brackets up to and with a token.
+    #[inline(always)]
+    fn after(self, nesting: Nesting) -> Brackets
+        requires openers { self.openers < 2 ^ 62 }
+        requires closers { self.closers < 2 ^ 62 }
+        ensures openers { result.openers ≡ openers_after nesting self.openers }
+        ensures closers { result.closers ≡ closers_after nesting self.closers }
+    {
+        match nesting {
+            Nesting::Opens => Brackets {
+                openers: self.openers + 1,
+                closers: self.closers,
+            },
+            Nesting::Closes => Brackets {
+                openers: self.openers,
+                closers: self.closers + 1,
+            },
+            Nesting::Level => self,
+        }
     }
 }
 
@@ -286,8 +292,7 @@ pub struct TokenStream<'a> {
     position: Pos,
     // The bytes of the whole text.
     size: usize,
-    openers: usize,
-    closers: usize,
+    brackets: Brackets,
     cuts: usize,
 }
 
@@ -300,13 +305,18 @@ impl<'a> Model for TokenStream<'a> {
     ghost Value = { Stream };
 
     ghost view = { λ s. record {
-      items = items (record { position = s.position; offset = s.size - length s.rest.now; openers = s.openers; closers = s.closers }) s.rest.now;
+      items = items (record {
+        position = s.position;
+        offset = s.size - length s.rest.now;
+        openers = s.brackets.openers;
+        closers = s.brackets.closers;
+      }) s.rest.now;
       cuts = s.cuts;
     } };
 
     ghost invariant = { λ s. (s.size < 2 ^ 62) × (s.position.line + length s.rest.now < 2 ^ 62)
-        × (s.position.column + 8 * length s.rest.now < 2 ^ 63) × (s.openers + length s.rest.now ≤ s.size)
-        × (s.closers + length s.rest.now ≤ s.size) × IsItem (front s.rest.now) };
+        × (s.position.column + 8 * length s.rest.now < 2 ^ 63) × (s.brackets.openers + length s.rest.now ≤ s.size)
+        × (s.brackets.closers + length s.rest.now ≤ s.size) × IsItem (front s.rest.now) };
 }
 
 impl<'a> TokenStream<'a> {
@@ -325,8 +335,10 @@ impl<'a> TokenStream<'a> {
             rest,
             position,
             size: source.len(),
-            openers: 0,
-            closers: 0,
+            brackets: Brackets {
+                openers: 0,
+                closers: 0,
+            },
             cuts: 0,
         }
     }
@@ -346,7 +358,7 @@ impl<'a> TokenStream<'a> {
             }
             return Err(bad_at(self.rest));
         };
-        if is_too_deep(nesting, self.openers, self.closers) {
+        if self.brackets.is_too_deep(nesting) {
             return Err(Bad::TooDeep);
         }
         let (value, after) = self.rest.split_at(len);
@@ -354,8 +366,7 @@ impl<'a> TokenStream<'a> {
         let (rest, position) = skip_ignored(after, end);
         self.rest = rest;
         self.position = position;
-        self.openers = openers_after(nesting, self.openers);
-        self.closers = closers_after(nesting, self.closers);
+        self.brackets = self.brackets.after(nesting);
         Ok(Some(Token { kind, value }))
     }
 
@@ -374,7 +385,7 @@ impl<'a> TokenStream<'a> {
             return None;
         };
         if let Nesting::Opens = nesting {
-            if is_full(self.openers, self.closers) {
+            if self.brackets.is_full() {
                 return None;
             }
         }
@@ -387,11 +398,7 @@ impl<'a> TokenStream<'a> {
         self.cuts = one_more(self.cuts);
         self.rest = rest;
         self.position = position;
-        match nesting {
-            Nesting::Opens => self.openers += 1,
-            Nesting::Closes => self.closers += 1,
-            Nesting::Level => {}
-        }
+        self.brackets = self.brackets.after(nesting);
         Some(Token { kind, value })
     }
 
@@ -422,7 +429,7 @@ impl<'a> TokenStream<'a> {
     pub fn depth(&self) -> isize
         ensures { result ≡ depth_of (next_place self.now.items) }
     {
-        self.openers as isize - self.closers as isize
+        self.brackets.openers as isize - self.brackets.closers as isize
     }
 
     /// How many times `next_token` was called or `near_token` answered a token; the count stops at `usize::MAX`.

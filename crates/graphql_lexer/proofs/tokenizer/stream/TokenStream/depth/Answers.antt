@@ -10,5 +10,6 @@ signed a b h k = omega (arith, ints)
 pub returns : goal.returns
 returns c =
     let s = c.self.inside in
-    let w : Where = record { position = s.position; offset = s.size - length s.rest.now; openers = s.openers; closers = s.closers } in
-    rw (← c.self.view_is) (signed s.openers s.closers (omega arith) (omega arith) ∙ ap depth_of (sym (next_place_items w s.rest.now c.self.invariant.5)))
+    let w : Where = record { position = s.position; offset = s.size - length s.rest.now; openers = s.brackets.openers; closers = s.brackets.closers } in
+    let less = signed s.brackets.openers s.brackets.closers (omega arith) (omega arith) in
+    rw (← c.self.view_is) (less ∙ ap depth_of (sym (next_place_items w s.rest.now c.self.invariant.5)))

@@ -1,12 +1,11 @@
-use Rattle.std.proofs.Common.{◌≡◌, ℕ, ◌+◌, ◌-◌, ◌∷◌, false, length, take, refl, sym, ◌∙◌, ap, arith}
+use Rattle.std.proofs.Common.{◌≡◌, ◌+◌, ◌-◌, false, length, take, refl, sym, ◌∙◌, ap, arith}
 use Rattle.graphql_lexer.specs.steps.Front.{front}
 use Rattle.graphql_lexer.specs.declared.tokenizer.piece.Piece.TheVariants.{Takes}
-use Rattle.graphql_lexer.specs.Items.{Where, Lexeme, item, is_too_deep, openers_after, closers_after, past, past_token}
+use Rattle.graphql_lexer.specs.Items.{Where, is_too_deep, past, past_token}
 use Rattle.graphql_lexer.proofs.FrontFits.{items_at}
 use Rattle.graphql_lexer.proofs.Tokens.{takes_first, not_too_deep}
-use Rattle.graphql_lexer.specs.steps.Cut.{items}
 use Rattle.graphql_lexer.proofs.tokenizer.stream.TokenStream.near_token.Goals as goal
-use Rattle.graphql_lexer.proofs.tokenizer.stream.TokenStream.near_token.Goals.{in-Opens+else-is_full, in_default-nesting, in-Opens-nesting, in-Closes, in-Level}
+use Rattle.graphql_lexer.proofs.tokenizer.stream.TokenStream.near_token.Goals.{in-Opens+else-is_full, in_default-nesting}
 
 pub past_flat-end-requires-clause-flat : goal.past_flat-end-requires-clause-flat
 past_flat-end-requires-clause-flat c =
@@ -15,7 +14,7 @@ past_flat-end-requires-clause-flat c =
 pub returns-clause-item : goal.returns-clause-item
 returns-clause-item c =
     let s = c.self.inside in
-    let w : Where = record { position = s.position; offset = s.size - length s.rest.now; openers = s.openers; closers = s.closers } in
+    let w : Where = record { position = s.position; offset = s.size - length s.rest.now; openers = s.brackets.openers; closers = s.brackets.closers } in
     let t = c.in-Some in
     let e = items_at w s.rest.now (Takes t.len t.kind t.nesting) (takes_first (front c.self.inside.rest.now) t.len t.kind t.nesting (sym t.ensures.is)) in
     let deep : is_too_deep t.nesting w ≡ false = elim c.match-nesting.branch [
@@ -29,16 +28,12 @@ returns-clause-item c =
     let rest = length c.skip_plain-is_item.result.0.now in
     let len = ap length c.split_at.ensures.front in
     let offset : s.size - length s.rest.now + length value + (after - rest) ≡ s.size - rest = omega (arith, c.skip_plain-is_item.ensures.within) in
-    let same : (o k : ℕ) → o ≡ openers_after t.nesting s.openers → k ≡ closers_after t.nesting s.closers
-    → (x : Where)
-    × (c.args.self.now.items
-    ≡ item (Lexeme t.kind c.split_at.result.0.now) x
-    ∷ items
-    (record { position = c.skip_plain-is_item.result.1; offset = s.size - rest; openers = o; closers = k })
-    c.skip_plain-is_item.result.0.now) = λ o k opened closed.
-    rw (← c.self.view_is, c.split_at.ensures.front, opened, closed, ← offset, more, c.split_at.ensures.back) (w, rw deep at e) in
-    elim c.match-nesting-2.branch [
-      | in-Opens-nesting b ↦ rw b.self-is (same (s.openers + 1) s.closers (rw b.in-Opens-nesting.is refl) (rw b.in-Opens-nesting.is refl))
-      | in-Closes b ↦ rw b.self-is (same s.openers (s.closers + 1) (rw b.in-Closes.is refl) (rw b.in-Closes.is refl))
-      | in-Level b ↦ rw b.self-is (same s.openers s.closers (rw b.in-Level.is refl) (rw b.in-Level.is refl))
-    ]
+    rw (
+      ← c.self.view_is,
+      c.split_at.ensures.front,
+      c.after-self-inside.ensures.openers,
+      c.after-self-inside.ensures.closers,
+      ← offset,
+      more,
+      c.split_at.ensures.back,
+    ) (w, rw deep at e)

@@ -14,14 +14,14 @@ past-end-requires-clause-flat c =
 pub returns-then-is_empty-clause-item : goal.returns-then-is_empty-clause-item
 returns-then-is_empty-clause-item c =
     let s = c.self.inside in
-    let w : Where = record { position = s.position; offset = s.size - length s.rest.now; openers = s.openers; closers = s.closers } in
+    let w : Where = record { position = s.position; offset = s.size - length s.rest.now; openers = s.brackets.openers; closers = s.brackets.closers } in
     let end = end_front s.rest.now (eqb-true (length s.rest.now) 0 (sym c.is_empty.ensures ∙ c.if-is_empty.true)) in
     rw (← c.self.view_is) (w, items_at w s.rest.now AtEnd end, refl)
 
 pub returns-in_default-clause-item : goal.returns-in_default-clause-item
 returns-in_default-clause-item c =
     let s = c.self.inside in
-    let w : Where = record { position = s.position; offset = s.size - length s.rest.now; openers = s.openers; closers = s.closers } in
+    let w : Where = record { position = s.position; offset = s.size - length s.rest.now; openers = s.brackets.openers; closers = s.brackets.closers } in
     let some : 0 < length s.rest.now = omega (arith, eqb-false (length s.rest.now) 0 (sym c.is_empty.ensures ∙ c.if-is_empty.false)) in
     let stops = stops_front s.rest.now (sym c.in_default.ensures.is) c.self.invariant.5 some in
     rw (← c.self.view_is, c.bad_at.ensures)
@@ -30,7 +30,7 @@ returns-in_default-clause-item c =
 pub returns-then-is_too_deep-clause-item : goal.returns-then-is_too_deep-clause-item
 returns-then-is_too_deep-clause-item c =
     let s = c.self.inside in
-    let w : Where = record { position = s.position; offset = s.size - length s.rest.now; openers = s.openers; closers = s.closers } in
+    let w : Where = record { position = s.position; offset = s.size - length s.rest.now; openers = s.brackets.openers; closers = s.brackets.closers } in
     let t = c.in-Some in
     let e = items_at w s.rest.now (Takes t.len t.kind t.nesting) (takes_first (front c.self.inside.rest.now) t.len t.kind t.nesting (sym t.ensures.is)) in
     let deep : is_too_deep t.nesting w ≡ true = sym (c.is_too_deep.ensures w refl refl) ∙ c.if-is_too_deep.true in
@@ -39,7 +39,7 @@ returns-then-is_too_deep-clause-item c =
 pub returns-clause-item : goal.returns-clause-item
 returns-clause-item c =
     let s = c.self.inside in
-    let w : Where = record { position = s.position; offset = s.size - length s.rest.now; openers = s.openers; closers = s.closers } in
+    let w : Where = record { position = s.position; offset = s.size - length s.rest.now; openers = s.brackets.openers; closers = s.brackets.closers } in
     let t = c.in-Some in
     let e = items_at w s.rest.now (Takes t.len t.kind t.nesting) (takes_first (front c.self.inside.rest.now) t.len t.kind t.nesting (sym t.ensures.is)) in
     let deep : is_too_deep t.nesting w ≡ false = sym (c.is_too_deep.ensures w refl refl) ∙ c.if-is_too_deep.false in
@@ -53,8 +53,8 @@ returns-clause-item c =
     rw (
       ← c.self.view_is,
       c.split_at.ensures.front,
-      c.openers_after-self-inside.ensures,
-      c.closers_after-self-inside.ensures,
+      c.after-self-inside.ensures.openers,
+      c.after-self-inside.ensures.closers,
       ← offset,
       more,
       c.split_at.ensures.back,

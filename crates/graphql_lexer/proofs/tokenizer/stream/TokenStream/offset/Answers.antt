@@ -6,5 +6,5 @@ use Rattle.graphql_lexer.proofs.tokenizer.stream.TokenStream.offset.Goals as goa
 pub returns : goal.returns
 returns c =
     let s = c.self.inside in
-    let w : Where = record { position = s.position; offset = s.size - length s.rest.now; openers = s.openers; closers = s.closers } in
+    let w : Where = record { position = s.position; offset = s.size - length s.rest.now; openers = s.brackets.openers; closers = s.brackets.closers } in
     rw (← c.self.view_is) (ap (λ (v : Where). v.offset) (sym (next_place_items w s.rest.now c.self.invariant.5)))
