@@ -7,6 +7,7 @@ use Rattle.graphql_lexer.specs.declared.tokenizer.piece.Move.{Move}
 use Rattle.graphql_lexer.specs.declared.tokenizer.piece.Move.TheVariants.{Over, Down}
 use Rattle.graphql_lexer.specs.declared.tokenizer.piece.Nesting.{Nesting}
 use Rattle.graphql_lexer.specs.declared.tokenizer.piece.Piece.{Piece}
+use Rattle.graphql_lexer.specs.declared.tokenizer.piece.Taken.{Taken}
 use Rattle.graphql_lexer.specs.declared.tokenizer.token.Kind.{Kind}
 use Rattle.graphql_lexer.specs.declared.tokenizer.piece.Piece.TheVariants.{AtEnd, Skips, Takes, Stops}
 
@@ -48,9 +49,9 @@ taken (Skips n m) = None
 taken (Takes n k t) = Some (n, k, t)
 
 -- a token without the word whether it is flat
-abbrev pub without_flat : Option (ℕ × Kind × Nesting × Bool) → Option (ℕ × Kind × Nesting)
+abbrev pub without_flat : Option Taken → Option (ℕ × Kind × Nesting)
 without_flat None = None
-without_flat (Some (n, k, t, flat)) = Some (n, k, t)
+without_flat (Some t) = Some (t.len, t.kind, t.nesting)
 
 -- a token is some whole characters
 abbrev pub FitsTaken : List ℕ → Option (ℕ × Kind × Nesting) → Type 0

@@ -60,6 +60,19 @@ pub enum Piece {
     Stops,
 }
 
+/// A token at the front.
+#[derive(Clone, Copy)]
+pub struct Taken {
+    /// Its length in bytes.
+    pub len: usize,
+    /// Its kind.
+    pub kind: Kind,
+    /// How it changes the number of open brackets.
+    pub nesting: Nesting,
+    /// Whether it is known to be ASCII in one line.
+    pub is_flat: bool,
+}
+
 /// Whether a name begins with this byte.
 #[inline(always)]
 pub fn is_name_start(byte: u8) -> bool
@@ -311,19 +324,28 @@ fn is_quoted(kind: Kind) -> bool
     matches!(kind, Kind::StringValue | Kind::BlockString)
 }
 
-/// The token at the front of these bytes: its length, its kind, how it changes the number of open brackets, and whether
-/// it is known to be ASCII in one line.
+/// The token at the front of these bytes.
 #[inline(always)]
-fn token_bytes(bytes: &[u8]) -> Option<(usize, Kind, Nesting, bool)>
+fn token_bytes(bytes: &[u8]) -> Option<Taken>
     requires { length bytes.now < 2 ^ 62 }
     ensures is { without_flat result ≡ taken (spec.front bytes.now) }
-    ensures flat { IfSome result (λ t. t.3 ≡ true → list_all spec.is_flat (take t.0 bytes.now) ≡ true) }
+    ensures flat { IfSome result (λ t. t.is_flat ≡ true → list_all spec.is_flat (take t.len bytes.now) ≡ true) }
 {
     if let Some((len, kind, nesting)) = near_token_bytes(bytes) {
-        return Some((len, kind, nesting, true));
+        return Some(Taken {
+            len,
+            kind,
+            nesting,
+            is_flat: true,
+        });
     }
     match piece_of(bytes) {
-        Piece::Takes { len, kind, nesting } => Some((len, kind, nesting, !is_quoted(kind))),
+        Piece::Takes { len, kind, nesting } => Some(Taken {
+            len,
+            kind,
+            nesting,
+            is_flat: !is_quoted(kind),
+        }),
         _ => None,
     }
 }
@@ -340,14 +362,14 @@ pub fn near_token_at(text: &str) -> Option<(usize, Kind, Nesting)>
     near_token_bytes(text.as_bytes())
 }
 
-/// The token at the front of a text, and whether it is known to be ASCII in one line.
+/// The token at the front of a text.
 #[inline(always)]
 #[tactic(auto, using(crate::proofs::Tokens::taken_fits))]
-pub fn token_at(text: &str) -> Option<(usize, Kind, Nesting, bool)>
+pub fn token_at(text: &str) -> Option<Taken>
     requires { length text.now < 2 ^ 62 }
     ensures is { without_flat result ≡ taken (spec.front text.now) }
     ensures fits { FitsTaken text.now (without_flat result) }
-    ensures flat { IfSome result (λ t. t.3 ≡ true → list_all spec.is_flat (take t.0 text.now) ≡ true) }
+    ensures flat { IfSome result (λ t. t.is_flat ≡ true → list_all spec.is_flat (take t.len text.now) ≡ true) }
 {
     token_bytes(text.as_bytes())
 }

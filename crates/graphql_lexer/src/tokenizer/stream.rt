@@ -352,22 +352,25 @@ impl<'a> TokenStream<'a> {
         ensures cuts { self.new.cuts ≡ one_more self.old.cuts }
     {
         self.cuts = one_more(self.cuts);
-        let Some((len, kind, nesting, is_flat)) = token_at(self.rest) else {
+        let Some(taken) = token_at(self.rest) else {
             if self.rest.is_empty() {
                 return Ok(None);
             }
             return Err(bad_at(self.rest));
         };
-        if self.brackets.is_too_deep(nesting) {
+        if self.brackets.is_too_deep(taken.nesting) {
             return Err(Bad::TooDeep);
         }
-        let (value, after) = self.rest.split_at(len);
-        let end = past(is_flat, value, self.position);
+        let (value, after) = self.rest.split_at(taken.len);
+        let end = past(taken.is_flat, value, self.position);
         let (rest, position) = skip_ignored(after, end);
         self.rest = rest;
         self.position = position;
-        self.brackets = self.brackets.after(nesting);
-        Ok(Some(Token { kind, value }))
+        self.brackets = self.brackets.after(taken.nesting);
+        Ok(Some(Token {
+            kind: taken.kind,
+            value,
+        }))
     }
 
     /// The next token, where one look shows it and what follows it: it is a short name, a punctuator of one character, a
