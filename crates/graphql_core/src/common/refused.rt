@@ -14,7 +14,9 @@ pub const MAX_LENGTH: usize = usize::MAX / 16;
 /// A cause, and the position at which it stands; none where an allocation failed.
 #[derive(Debug, Drop)]
 pub struct Refused {
+    /// Why the text is refused.
     pub cause: Cause,
+    /// Where the cause stands.
     pub position: Option<Pos>,
 }
 

@@ -39,15 +39,22 @@ impl Model for Buffer {
     ghost invariant = { λ s. (s.len ≤ length s.bytes.items) × IsUtf8 (take s.len s.bytes.items) };
 }
 
-/// Makes the bytes so many, and some more ahead.
+/// Makes the bytes so many, and some more ahead: no more than there is room for, where the others fit in it, so that they
+/// are not moved before they must be.
 #[cold]
 #[inline(never)]
 fn make_room(bytes: &mut Vec<u8>, end: usize) -> Result<(), AllocError>
     ensures front { take (vec_len bytes.old) bytes.new.items ≡ bytes.old.items }
     ensures room { OnOk result (end ≤ vec_len bytes.new) }
 {
-    let ahead = bytes.len().min(MOST_AHEAD);
-    let wanted = end.max(bytes.len().saturating_add(ahead)).max(LEAST_ROOM);
+    let capacity = bytes.capacity();
+    let room = if end <= capacity {
+        capacity
+    } else {
+        usize::MAX
+    };
+    let ahead = bytes.len().saturating_add(bytes.len().min(MOST_AHEAD));
+    let wanted = ahead.max(LEAST_ROOM).min(room).max(end);
     'blocks: while bytes.len() < wanted {
         let step = (wanted - bytes.len()).min(ZEROS.len());
         bytes.extend_from_slice(&ZEROS[..step])?;
@@ -159,6 +166,19 @@ impl Buffer {
             len: 0,
             written: String::new(alloc),
         }
+    }
+
+    /// The empty text, with room for so many bytes: as it grows to so many it is not moved. The room is not initialized yet.
+    pub fn with_capacity(alloc: Global, capacity: usize) -> Result<Buffer, AllocError>
+        ensures { IfOk result (λ b. b ≡ []) }
+    {
+        // The last short text is stored as `WIDE` bytes too, maybe after a space.
+        let bytes = Vec::with_capacity(alloc, capacity.saturating_add(WIDE + 1))?;
+        Ok(Buffer {
+            bytes,
+            len: 0,
+            written: String::new(alloc),
+        })
     }
 
     /// Appends a text, with which another begins, and a space before it where one is asked for.

@@ -31,12 +31,15 @@ fn is_spaced(before: Kind, token: tokenizer::Token<'_>) -> bool
 }
 
 /// The tokens of a stream up to its end, spaced.
+///
+/// What is left of the text is about the most that they take, since few texts get more spaces than they lose. So there is
+/// room for so many bytes from the start, and a long text is not copied as it grows.
 fn spaced(alloc: Global, stream: &mut TokenStream<'_>) -> Result<String, Fault>
     ensures spaced { IfOk result (λ text. string_bytes text ≡ spaced (split stream.old.items).tokens) }
     ensures end { IfOk result (λ text. IsEnd (split stream.old.items).last) }
     ensures refused { IfErr result (IsBadPlaceOf (split stream.old.items)) }
 {
-    let mut text = Buffer::new(alloc);
+    let mut text = Buffer::with_capacity(alloc, stream.rest().len())?;
     let mut before = Kind::Punctuator;
     'tokens: loop {
         let from = stream.rest();
