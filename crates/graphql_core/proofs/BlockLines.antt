@@ -117,7 +117,7 @@ through_blank ls k n l h e step blank =
 
 -- ---- escapes of three quotes
 
-no_quotes : (s : List ℕ) → ((rest : List ℕ) → s ≢ 34 ∷ 34 ∷ 34 ∷ rest) → begins_quotes s ≡ false
+pub no_quotes : (s : List ℕ) → ((rest : List ℕ) → s ≢ 34 ∷ 34 ∷ 34 ∷ rest) → begins_quotes s ≡ false
 no_quotes [] h = refl
 no_quotes (a ∷ []) h = refl
 no_quotes (a ∷ b ∷ []) h = refl

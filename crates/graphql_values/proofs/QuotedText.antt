@@ -1,16 +1,17 @@
 -- What is written of the characters and lines of strings.
-use Rattle.std.proofs.Common.{◌≡◌, ◌≢◌, ◌∙◌, ap, sym, refl, subst, ℕ, zero, suc, ◌-◌, ◌<◌, ◌≤◌, true, false, ◌==◌, ◌&&◌}
+use Rattle.std.proofs.Common.{◌≡◌, ◌≢◌, ◌∙◌, ap, sym, refl, subst, ℕ, zero, suc, ◌-◌, ◌<◌, ◌≤◌, true, false, ◌==◌}
 use Rattle.std.proofs.Common.{inl, inr, Some, None, nat_lt, List, [], ◌∷◌, ◌++◌, length, get_or, take, drop, codes, arith, append-nil}
 use Rattle.std.specs.List.{flat_map, slice_get, slice_index, prefix_len}
 use Rattle.std.specs.Str.{IsUtf8, IsCharBoundary}
 use Rattle.std.proofs.Math.Utf8.{encode}
-use Rattle.std.proofs.lemmas.Bool.{cases_Bool, and_parts, eqb-true, false_from_ne_true, ne_eqb}
+use Rattle.std.proofs.lemmas.Bool.{cases_Bool, ne_eqb}
 use Rattle.std.proofs.lemmas.Bool.Decides.{nat_tests}
 use Rattle.std.proofs.lemmas.List.{take_all, drop_all}
 use Rattle.std.proofs.lemmas.Str.{encode_ascii, IsCharBoundary-before_ascii, IsCharBoundary-after_ascii, IsCharBoundary-end}
 use Rattle.std.proofs.lemmas.List.Sums.{prefix_len_stops, prefix_len-le-length}
 use Rattle.graphql_values.specs.steps.Unescaped.{is_unescaped}
 use Rattle.graphql_lexer.specs.Lexical.{begins_quotes}
+use Rattle.graphql_core.proofs.BlockLines.{no_quotes}
 use Rattle.graphql_values.specs.ValueLayout.{hexadecimal_digit, unicode_escape, quoted_byte, escaped_quotes, ends_in_return}
 
 -- ---- in quotes
@@ -113,18 +114,6 @@ none_of [] e = refl
 none_of (x ∷ xs) e = absurd cc
 
 -- ---- in block form
-
-no_quotes : (s : List ℕ) → ((rest : List ℕ) → s ≢ 34 ∷ 34 ∷ 34 ∷ rest) → begins_quotes s ≡ false
-no_quotes [] h = refl
-no_quotes (a ∷ []) h = refl
-no_quotes (a ∷ b ∷ []) h = refl
-no_quotes (a ∷ b ∷ c ∷ s) h = false_from_ne_true (begins_quotes (a ∷ b ∷ c ∷ s)) (λ e.
-    let (first, more) = and_parts (a == 34) (b == 34 && c == 34) e in
-    let (second, third) = and_parts (b == 34) (c == 34) more in
-    let x = eqb-true a 34 first in
-    let y = eqb-true b 34 second in
-    let z = eqb-true c 34 third in
-    h s (cc))
 
 -- a byte that begins no three quotes stays
 stays : (b : ℕ) (s : List ℕ) → begins_quotes (b ∷ s) ≡ false → escaped_quotes (b ∷ s) ≡ b ∷ escaped_quotes s
