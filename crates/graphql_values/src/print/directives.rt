@@ -14,13 +14,13 @@ use graphql_core::format::{Sink, Style};
 /// Appends arguments in parentheses, or nothing where there are none.
 pub fn write_arguments<S: Sink, N: Names>(
     out: &mut S,
-    arguments: &Vec<(N::Value, Value<N>)>,
+    arguments: &[(N::Value, Value<N>)],
     style: &Style,
     margin: usize,
 ) -> Result<(), S::Error>
-    requires { margin + arguments_levels style.now (arguments_view N.bytes arguments.now.items) * style.now.indent < 2 ^ 32 }
-    ensures text { OnOk result (S.took out.old (text_of (arguments_layout style.now margin (arguments_view N.bytes arguments.now.items))) out.new) }
-    ensures lawful { OnOk result (AreLawfulArguments (arguments_view N.bytes arguments.now.items)) }
+    requires { margin + arguments_levels style.now (arguments_view N.bytes arguments.now) * style.now.indent < 2 ^ 32 }
+    ensures text { OnOk result (S.took out.old (text_of (arguments_layout style.now margin (arguments_view N.bytes arguments.now))) out.new) }
+    ensures lawful { OnOk result (AreLawfulArguments (arguments_view N.bytes arguments.now)) }
 {
     if arguments.is_empty() {
         return Ok(());
@@ -56,13 +56,13 @@ pub fn write_directive<S: Sink, N: Names>(
 /// Appends directives, each with a space before it.
 pub fn write_directives<S: Sink, N: Names>(
     out: &mut S,
-    directives: &Vec<Directive<N>>,
+    directives: &[Directive<N>],
     style: &Style,
     margin: usize,
 ) -> Result<(), S::Error>
-    requires { margin + directives_levels style.now (directives_view N.bytes directives.now.items) * style.now.indent < 2 ^ 32 }
-    ensures text { OnOk result (S.took out.old (text_of (directives_layout style.now margin (directives_view N.bytes directives.now.items))) out.new) }
-    ensures lawful { OnOk result (AreLawfulDirectives (directives_view N.bytes directives.now.items)) }
+    requires { margin + directives_levels style.now (directives_view N.bytes directives.now) * style.now.indent < 2 ^ 32 }
+    ensures text { OnOk result (S.took out.old (text_of (directives_layout style.now margin (directives_view N.bytes directives.now))) out.new) }
+    ensures lawful { OnOk result (AreLawfulDirectives (directives_view N.bytes directives.now)) }
 {
     'directives: for directive in directives {
         out.push_str(" ")?;

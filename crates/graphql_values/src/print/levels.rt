@@ -43,8 +43,8 @@ pub fn levels_in_string(text: &str) -> usize
 }
 
 #[cycle(levels)]
-fn levels_in_list<N: Names>(items: &Vec<Value<N>>, style: &Style) -> usize
-    ensures { result ≡ min (value_levels style.now (list (items_view N.bytes items.now.items))) (2 ^ 64 - 1) }
+fn levels_in_list<N: Names>(items: &[Value<N>], style: &Style) -> usize
+    ensures { result ≡ min (value_levels style.now (list (items_view N.bytes items.now))) (2 ^ 64 - 1) }
 {
     let mut most = 0;
     'items: for item in items {
@@ -65,8 +65,8 @@ fn levels_in_object<N: Names>(members: &BTreeMap<N::Value, Value<N>>, style: &St
 }
 
 /// How many levels arguments open at once, saturating at `usize::MAX`.
-pub fn levels_in_arguments<N: Names>(arguments: &Vec<(N::Value, Value<N>)>, style: &Style) -> usize
-    ensures { result ≡ min (arguments_levels style.now (arguments_view N.bytes arguments.now.items)) (2 ^ 64 - 1) }
+pub fn levels_in_arguments<N: Names>(arguments: &[(N::Value, Value<N>)], style: &Style) -> usize
+    ensures { result ≡ min (arguments_levels style.now (arguments_view N.bytes arguments.now)) (2 ^ 64 - 1) }
 {
     if arguments.is_empty() {
         return 0;
@@ -79,8 +79,8 @@ pub fn levels_in_arguments<N: Names>(arguments: &Vec<(N::Value, Value<N>)>, styl
 }
 
 /// How many levels directives open at once, saturating at `usize::MAX`.
-pub fn levels_in_directives<N: Names>(directives: &Vec<Directive<N>>, style: &Style) -> usize
-    ensures { result ≡ min (directives_levels style.now (directives_view N.bytes directives.now.items)) (2 ^ 64 - 1) }
+pub fn levels_in_directives<N: Names>(directives: &[Directive<N>], style: &Style) -> usize
+    ensures { result ≡ min (directives_levels style.now (directives_view N.bytes directives.now)) (2 ^ 64 - 1) }
 {
     let mut most = 0;
     'directives: for directive in directives {

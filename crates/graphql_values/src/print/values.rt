@@ -45,13 +45,13 @@ pub fn write_value<S: Sink, N: Names>(
 #[cycle(value)]
 fn write_list<S: Sink, N: Names>(
     out: &mut S,
-    items: &Vec<Value<N>>,
+    items: &[Value<N>],
     style: &Style,
     margin: usize,
 ) -> Result<(), S::Error>
-    requires { margin + value_levels style.now (list (items_view N.bytes items.now.items)) * style.now.indent < 2 ^ 32 }
-    ensures text { OnOk result (S.took out.old (text_of (value_layout style.now margin (list (items_view N.bytes items.now.items)))) out.new) }
-    ensures lawful { OnOk result (AreLawful (items_view N.bytes items.now.items)) }
+    requires { margin + value_levels style.now (list (items_view N.bytes items.now)) * style.now.indent < 2 ^ 32 }
+    ensures text { OnOk result (S.took out.old (text_of (value_layout style.now margin (list (items_view N.bytes items.now)))) out.new) }
+    ensures lawful { OnOk result (AreLawful (items_view N.bytes items.now)) }
 {
     out.push_str("[")?;
     let indented = inside(style, margin);

@@ -13,26 +13,26 @@ use Rattle.graphql_values.proofs.print.directives.write_arguments.Goals as goal
 pub inside-indented-requires : goal.inside-indented-requires
 inside-indented-requires g c =
     let bytes = g.N.Names.bytes in
-    let xs = c.args.arguments.now.items in
-    let some = some_items _ xs c.args.arguments.now.ok.0 (sym c.is_empty.ensures ∙ c.if-is_empty.false) in
+    let xs = c.args.arguments.now in
+    let some = some_items _ xs refl (sym c.is_empty.ensures ∙ c.if-is_empty.false) in
     let fits = arguments_fit (λ a. (bytes a.0, value_view bytes a.1)) c.args.style.now c.args.margin (2 ^ 32) xs some c.requires in
     omega arith
 
 pub arguments-init : goal.arguments-init
 arguments-init g c =
     let bytes = g.N.Names.bytes in
-    let xs = c.args.arguments.now.items in
-    let some = some_items _ xs c.args.arguments.now.ok.0 (sym c.is_empty.ensures ∙ c.if-is_empty.false) in
+    let xs = c.args.arguments.now in
+    let some = some_items _ xs refl (sym c.is_empty.ensures ∙ c.if-is_empty.false) in
     let fits = arguments_fit (λ a. (bytes a.0, value_view bytes a.1)) c.args.style.now c.args.margin (2 ^ 32) xs some c.requires in
     record {
-      bound = rw (c.deref-argument-items.ensures.value, c.inside-indented.ensures) fits;
+      bound = rw c.inside-indented.ensures fits;
       wrote = (codes "(", c.in_ok-push_str.ensures, refl);
       lawful = λ h. h;
     }
 
 pub write_value-requires : goal.write_value-requires
 write_value-requires g c =
-    let xs = c.deref-argument-items.result.now in
+    let xs = c.args.arguments.now in
     let here = argument_here _ _ g.N.Names.bytes xs c.arguments.argument-index c.argument-item.result (omega arith) c.argument-item.is in
     let bound = rw here at c.arguments.invariant.bound in
     let fits = narrower _ _ _ c.args.style.now.indent (2 ^ 32) bound in
@@ -44,7 +44,7 @@ arguments-preserved g c =
     let bytes = g.N.Names.bytes in
     let style = c.args.style.now in
     let margin = c.inside-indented.result in
-    let xs = c.deref-argument-items.result.now in
+    let xs = c.args.arguments.now in
     let here = argument_here _ _ bytes xs c.arguments.argument-index c.argument-item.result (omega arith) c.argument-item.is in
     let bound = rw here at c.arguments.invariant.bound in
     let fits = narrower _ _ _ style.indent (2 ^ 32) bound in
@@ -67,20 +67,19 @@ returns-clause-text g c =
     let bytes = g.N.Names.bytes in
     let style = c.args.style.now in
     let margin = c.inside-indented.result in
-    let xs = c.args.arguments.now.items in
-    let some = some_items _ xs c.args.arguments.now.ok.0 (sym c.is_empty.ensures ∙ c.if-is_empty.false) in
+    let xs = c.args.arguments.now in
+    let some = some_items _ xs refl (sym c.is_empty.ensures ∙ c.if-is_empty.false) in
     let (done, wrote, rest) = c.arguments.invariant.wrote in
     let left = at_drop_all
     (λ ys. text_of (parts style margin c.arguments.is_later
-    (each_argument style margin (arguments_view bytes ys)))) c.deref-argument-items.result.now c.arguments.argument-index (omega arith) in
+    (each_argument style margin (arguments_view bytes ys)))) xs c.arguments.argument-index (omega arith) in
     let all = all_done g.S.Sink.took g.met.S.Sink.took_more _ _ done _ _ wrote rest left in
     and_last g.S.Sink.took g.met.S.Sink.took_more _ _ _ _ _ _ _ all c.write_closer.ensures
-    (rw c.deref-argument-items.ensures.value
     (enclosed_text style c.args.margin margin (codes "(") (codes ")") (λ m. each_argument style m (arguments_view bytes xs)) c.inside-indented.ensures
-    ∙ ap text_of (filled_layout (λ a. (bytes a.0, value_view bytes a.1)) style c.args.margin xs some)))
+    ∙ ap text_of (filled_layout (λ a. (bytes a.0, value_view bytes a.1)) style c.args.margin xs some))
 
 pub returns-clause-lawful : goal.returns-clause-lawful
 returns-clause-lawful g c =
     on_ok c.write_closer.result
-    (all_hold (arguments_view g.N.Names.bytes) c.deref-argument-items.result.now c.args.arguments.now.items c.arguments.argument-index (omega arith)
-    c.deref-argument-items.ensures.value AreLawfulArguments tt c.arguments.invariant.lawful)
+    (all_hold (arguments_view g.N.Names.bytes) c.args.arguments.now c.args.arguments.now c.arguments.argument-index (omega arith) refl
+    AreLawfulArguments tt c.arguments.invariant.lawful)

@@ -7,8 +7,8 @@ use Rattle.graphql_values.proofs.print.directives.write_arguments.Given as goal
 
 abbrev pub invariant-arguments : goal.invariant-arguments
 invariant-arguments g l =
-    let left = arguments_view g.N.Names.bytes (drop l.argument-index l.argument-items) in
-    let whole = arguments_view g.N.Names.bytes l.argument-items in
+    let left = arguments_view g.N.Names.bytes (drop l.argument-index l.arguments) in
+    let whole = arguments_view g.N.Names.bytes l.arguments in
     record {
       bound : l.indented + most_levels l.style left * l.style.indent < 2 ^ 32;
       wrote : (done : List ℕ) × g.S.Sink.took l.fn.out done l.out

@@ -10,11 +10,11 @@ use Rattle.graphql_values.proofs.Enclosed.{narrower, directives_more}
 use Rattle.graphql_values.proofs.print.directives.write_directives.Goals as goal
 
 pub directives-init : goal.directives-init
-directives-init g c = record { bound = rw c.deref-directive-items.ensures.value c.requires; wrote = ([], g.met.S.Sink.took_nil _, refl); lawful = λ h. h }
+directives-init g c = record { bound = c.requires; wrote = ([], g.met.S.Sink.took_nil _, refl); lawful = λ h. h }
 
 pub write_directive-requires : goal.write_directive-requires
 write_directive-requires g c =
-    let here = directive_here _ _ g.N.Names.bytes c.deref-directive-items.result.now c.directives.directive-index c.directive-item.result
+    let here = directive_here _ _ g.N.Names.bytes c.args.directives.now c.directives.directive-index c.directive-item.result
     (omega arith) c.directive-item.is in
     let bound = rw here at c.directives.invariant.bound in
     let fits = narrower _ _ _ c.args.style.now.indent (2 ^ 32) bound in
@@ -26,7 +26,7 @@ directives-preserved g c =
     let bytes = g.N.Names.bytes in
     let style = c.args.style.now in
     let margin = c.args.margin in
-    let here = directive_here _ _ bytes c.deref-directive-items.result.now c.directives.directive-index c.directive-item.result
+    let here = directive_here _ _ bytes c.args.directives.now c.directives.directive-index c.directive-item.result
     (omega arith) c.directive-item.is in
     let bound = rw here at c.directives.invariant.bound in
     let fits = narrower _ _ _ style.indent (2 ^ 32) bound in
@@ -42,5 +42,5 @@ directives-preserved g c =
 
 pub returns-clause-lawful : goal.returns-clause-lawful
 returns-clause-lawful g c =
-    all_hold (directives_view g.N.Names.bytes) c.deref-directive-items.result.now c.args.directives.now.items c.directives.directive-index (omega arith)
-    c.deref-directive-items.ensures.value AreLawfulDirectives tt c.directives.invariant.lawful
+    all_hold (directives_view g.N.Names.bytes) c.args.directives.now c.args.directives.now c.directives.directive-index (omega arith) refl
+    AreLawfulDirectives tt c.directives.invariant.lawful

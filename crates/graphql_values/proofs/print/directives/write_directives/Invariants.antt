@@ -7,8 +7,8 @@ use Rattle.graphql_values.proofs.print.directives.write_directives.Given as goal
 
 abbrev pub invariant-directives : goal.invariant-directives
 invariant-directives g l =
-    let left = directives_view g.N.Names.bytes (drop l.directive-index l.directive-items) in
-    let whole = directives_view g.N.Names.bytes l.directive-items in
+    let left = directives_view g.N.Names.bytes (drop l.directive-index l.directives) in
+    let whole = directives_view g.N.Names.bytes l.directives in
     record {
       bound : l.margin + directives_levels l.style left * l.style.indent < 2 ^ 32;
       wrote : (done : List ℕ) × g.S.Sink.took l.fn.out done l.out

@@ -10,7 +10,7 @@ use Rattle.graphql_values.proofs.print.levels.+levels.Goals as goal
 pub levels_in_list-items-preserved : goal.levels_in_list-items-preserved
 levels_in_list-items-preserved g t c =
     let l = c.items in
-    let here = item_here _ _ g.N.Names.bytes c.deref-item-items.result.now l.item-index c.item-item.result (omega arith) c.item-item.is in
+    let here = item_here _ _ g.N.Names.bytes c.args.items.now l.item-index c.item-item.result (omega arith) c.item-item.is in
     let before = rw here at l.invariant.levels in
     record {
       levels = omega (arith, before, c.levels_in_value.ensures, c.max-most.ensures);
@@ -20,7 +20,7 @@ pub levels_in_list-returns : goal.levels_in_list-returns
 levels_in_list-returns g t c =
     let l = c.items in
     c.levels_around.ensures _
-    (all_counted (items_view g.N.Names.bytes) c.deref-item-items.result.now c.args.items.now.items l.item-index (omega arith) c.deref-item-items.ensures.value
+    (all_counted (items_view g.N.Names.bytes) c.args.items.now c.args.items.now l.item-index (omega arith) refl
     (items_levels c.args.style.now) l.most (2 ^ 64 - 1) refl l.invariant.levels)
 
 -- ---- objects

@@ -5,9 +5,9 @@ use Rattle.graphql_values.proofs.print.levels.+levels.Given as goal
 
 abbrev pub invariant-levels_in_list-items : goal.invariant-levels_in_list-items
 invariant-levels_in_list-items g l =
-    let left = items_levels l.style (items_view g.N.Names.bytes (drop l.item-index l.item-items)) in
+    let left = items_levels l.style (items_view g.N.Names.bytes (drop l.item-index l.items)) in
     record {
-      levels : max l.most (min left (2 ^ 64 - 1)) ≡ min (items_levels l.style (items_view g.N.Names.bytes l.item-items)) (2 ^ 64 - 1);
+      levels : max l.most (min left (2 ^ 64 - 1)) ≡ min (items_levels l.style (items_view g.N.Names.bytes l.items)) (2 ^ 64 - 1);
     }
 
 abbrev pub invariant-levels_in_object-members : goal.invariant-levels_in_object-members

@@ -9,7 +9,7 @@ use Rattle.graphql_values.proofs.print.levels.levels_in_arguments.Goals as goal
 pub arguments-preserved : goal.arguments-preserved
 arguments-preserved g c =
     let bytes = g.N.Names.bytes in
-    let here = argument_here _ _ bytes c.deref-argument-items.result.now c.arguments.argument-index c.argument-item.result (omega arith) c.argument-item.is in
+    let here = argument_here _ _ bytes c.args.arguments.now c.arguments.argument-index c.argument-item.result (omega arith) c.argument-item.is in
     let before = rw here at c.arguments.invariant.levels in
     record {
       levels = omega (arith, before, c.levels_in_value.ensures);
@@ -19,11 +19,11 @@ pub returns : goal.returns
 returns g c =
     let bytes = g.N.Names.bytes in
     let style = c.args.style.now in
-    let xs = c.args.arguments.now.items in
-    let some = some_items _ xs c.args.arguments.now.ok.0 (sym c.is_empty.ensures ∙ c.if-is_empty.false) in
+    let xs = c.args.arguments.now in
+    let some = some_items _ xs refl (sym c.is_empty.ensures ∙ c.if-is_empty.false) in
     let l = c.arguments in
     let most =
-    all_counted (arguments_view bytes) c.deref-argument-items.result.now xs l.argument-index (omega arith) c.deref-argument-items.ensures.value
+    all_counted (arguments_view bytes) xs xs l.argument-index (omega arith) refl
     (most_levels style) l.most (2 ^ 64 - 1) refl l.invariant.levels
     in
     c.levels_around.ensures (most_levels style (arguments_view bytes xs)) most

@@ -5,7 +5,7 @@ use Rattle.graphql_values.proofs.print.levels.levels_in_arguments.Given as goal
 
 abbrev pub invariant-arguments : goal.invariant-arguments
 invariant-arguments g l =
-    let left = most_levels l.style (arguments_view g.N.Names.bytes (drop l.argument-index l.argument-items)) in
+    let left = most_levels l.style (arguments_view g.N.Names.bytes (drop l.argument-index l.arguments)) in
     record {
-      levels : max l.most (min left (2 ^ 64 - 1)) ≡ min (most_levels l.style (arguments_view g.N.Names.bytes l.argument-items)) (2 ^ 64 - 1);
+      levels : max l.most (min left (2 ^ 64 - 1)) ≡ min (most_levels l.style (arguments_view g.N.Names.bytes l.arguments)) (2 ^ 64 - 1);
     }

@@ -17,23 +17,23 @@ use Rattle.graphql_values.proofs.print.values.+value.Goals as goal
 
 pub write_list-inside-indented-requires : goal.write_list-inside-indented-requires
 write_list-inside-indented-requires g t c =
-    let fits = inside_fits c.args.style.now c.args.margin (items_levels c.args.style.now (items_view g.N.Names.bytes c.args.items.now.items))
+    let fits = inside_fits c.args.style.now c.args.margin (items_levels c.args.style.now (items_view g.N.Names.bytes c.args.items.now))
     (2 ^ 32) c.requires in
     omega arith
 
 pub write_list-items-init : goal.write_list-items-init
 write_list-items-init g t c =
-    let fits = inside_fits c.args.style.now c.args.margin (items_levels c.args.style.now (items_view g.N.Names.bytes c.args.items.now.items))
+    let fits = inside_fits c.args.style.now c.args.margin (items_levels c.args.style.now (items_view g.N.Names.bytes c.args.items.now))
     (2 ^ 32) c.requires in
     record {
-      bound = rw (c.deref-item-items.ensures.value, c.inside-indented.ensures) fits;
+      bound = rw c.inside-indented.ensures fits;
       wrote = (codes "[", c.in_ok-push_str.ensures, refl);
       lawful = λ h. h;
     }
 
 pub write_list-write_value-requires : goal.write_list-write_value-requires
 write_list-write_value-requires g t c κs within =
-    let xs = c.deref-item-items.result.now in
+    let xs = c.args.items.now in
     let here = item_here _ _ g.N.Names.bytes xs c.items.item-index c.item-item.result (omega arith) c.item-item.is in
     let bound = rw here at c.items.invariant.bound in
     let fits = narrower _ _ _ c.args.style.now.indent (2 ^ 32) bound in
@@ -44,7 +44,7 @@ write_list-items-preserved g t c =
     let bytes = g.N.Names.bytes in
     let style = c.args.style.now in
     let margin = c.inside-indented.result in
-    let xs = c.deref-item-items.result.now in
+    let xs = c.args.items.now in
     let here = item_here _ _ bytes xs c.items.item-index c.item-item.result (omega arith) c.item-item.is in
     let bound = rw here at c.items.invariant.bound in
     let fits = narrower _ _ _ style.indent (2 ^ 32) bound in
@@ -65,18 +65,17 @@ write_list-returns-clause-text g t c =
     let (done, wrote, rest) = c.items.invariant.wrote in
     let left = at_drop_all
     (λ xs. text_of (parts style margin c.items.is_later
-    (items_layout style margin (items_view bytes xs)))) c.deref-item-items.result.now c.items.item-index (omega arith) in
+    (items_layout style margin (items_view bytes xs)))) c.args.items.now c.items.item-index (omega arith) in
     let all = all_done g.S.Sink.took g.met.S.Sink.took_more _ _ done _ _ wrote rest left in
     and_last g.S.Sink.took g.met.S.Sink.took_more _ _ _ _ _ _ _ all c.write_closer.ensures
-    (rw c.deref-item-items.ensures.value
     (enclosed_text style c.args.margin margin (codes "[") (codes "]")
-    (λ m. items_layout style m (items_view bytes c.args.items.now.items)) c.inside-indented.ensures))
+    (λ m. items_layout style m (items_view bytes c.args.items.now)) c.inside-indented.ensures)
 
 pub write_list-returns-clause-lawful : goal.write_list-returns-clause-lawful
 write_list-returns-clause-lawful g t c =
     on_ok c.write_closer.result
-    (all_hold (items_view g.N.Names.bytes) c.deref-item-items.result.now c.args.items.now.items c.items.item-index (omega arith)
-    c.deref-item-items.ensures.value AreLawful tt c.items.invariant.lawful)
+    (all_hold (items_view g.N.Names.bytes) c.args.items.now c.args.items.now c.items.item-index (omega arith) refl
+    AreLawful tt c.items.invariant.lawful)
 
 -- ---- objects
 

@@ -7,8 +7,8 @@ use Rattle.graphql_values.proofs.print.values.+value.Given as goal
 
 abbrev pub invariant-write_list-items : goal.invariant-write_list-items
 invariant-write_list-items g l =
-    let left = items_view g.N.Names.bytes (drop l.item-index l.item-items) in
-    let whole = items_view g.N.Names.bytes l.item-items in
+    let left = items_view g.N.Names.bytes (drop l.item-index l.items) in
+    let whole = items_view g.N.Names.bytes l.items in
     record {
       bound : l.indented + items_levels l.style left * l.style.indent < 2 ^ 32;
       wrote : (done : List ℕ) × g.S.Sink.took l.fn.out done l.out

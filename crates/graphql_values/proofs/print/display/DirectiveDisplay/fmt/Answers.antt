@@ -8,7 +8,8 @@ use Rattle.graphql_values.proofs.print.display.DirectiveDisplay.fmt.Goals as goa
 
 pub write_directive-requires : goal.write_directive-requires
 write_directive-requires g c =
-    fits_outside c.default-style.result c.levels_in_arguments.result _ c.levels_in_arguments.ensures c.in_ok-check_width.ensures
+    let levels = rw c.deref.ensures.value at c.levels_in_arguments.ensures in
+    fits_outside c.default-style.result c.levels_in_arguments.result _ levels c.in_ok-check_width.ensures
 
 pub returns-clause-writes : goal.returns-clause-writes
 returns-clause-writes g c =
@@ -18,5 +19,5 @@ returns-clause-writes g c =
 
 pub returns-clause-narrow : goal.returns-clause-narrow
 returns-clause-narrow g c =
-    narrow c.write_directive.result _ _ (rw c.default-style.ensures at c.levels_in_arguments.ensures)
+    narrow c.write_directive.result _ _ (rw (c.deref.ensures.value, c.default-style.ensures) at c.levels_in_arguments.ensures)
     (rw c.default-style.ensures at c.in_ok-check_width.ensures)
