@@ -5,7 +5,8 @@ use Rattle.graphql_core.specs.Style.{Layout}
 use Rattle.graphql_core.proofs.Depths.{Rises, rises_as, none_rise, flat_rise, gap_rises, level_rises, both_rise, closer_sinks, both_sink}
 use Rattle.graphql_core.proofs.Depths.{opener_rises}
 use Rattle.graphql_values.specs.Values.{ValueTree}
-use Rattle.graphql_values.specs.Printable.{most, value_brackets}
+use Rattle.graphql_values.specs.Printable.{value_brackets}
+use Rattle.graphql_values.specs.TreeDepth.{most}
 use Rattle.graphql_values.proofs.Depths.{value_rises, type_rises, arguments_rise, directives_rise, braces_rise, line_end_rises}
 use Rattle.graphql_query_tree.specs.Tree.{SelectionTree, field, spread, inline, SelectionSetTree, set, SelectionTrees, none, more, VariableDefinitionTree}
 use Rattle.graphql_query_tree.specs.Tree.{DefinitionTree, short, operation, fragment, DocumentTree}

@@ -7,7 +7,7 @@ use Rattle.graphql_values.specs.ValueLayout.{arguments_levels, directives_levels
 use Rattle.graphql_values.specs.ValueLayout as values
 use Rattle.graphql_values.proofs.FewLevels.{most_bounded, default_bounded, arguments_bounded, directives_bounded}
 use Rattle.graphql_query_tree.specs.Tree.{SelectionSetTree, VariableDefinitionTree}
-use Rattle.graphql_query_tree.specs.Layout.{selected_levels, selection_set_levels, variable_definition_levels, operation_levels_of}
+use Rattle.graphql_query_tree.specs.Layout.{selected_levels, selection_set_levels, variable_definition_levels, variable_definitions_levels, operation_levels_of}
 use Rattle.graphql_query_tree.specs.steps.Sets.{BoundsLevels}
 
 pub field_bounded : (n : ℕ) (arguments : List (List ℕ × ValueTree)) (ds : List DirectiveTree) (s : SelectionSetTree)
@@ -32,10 +32,13 @@ braces_bounded n ds s inside style one_line =
 pub operation_bounded : (n : ℕ) (vs : List VariableDefinitionTree) (ds : List DirectiveTree) (s : SelectionSetTree)
     → BoundsLevels n (λ style. selection_set_levels style s) → BoundsLevels n (λ style. operation_levels_of style vs ds s)
 operation_bounded n vs ds s inside style one_line =
-    let variables = most_bounded (variable_definition_levels style) 1 (λ v. default_bounded style one_line v.default_value) vs in
+    let variables : variable_definitions_levels style vs ≤ 1 =
+        most_bounded (variable_definition_levels style) 1 (λ v. default_bounded style one_line v.default_value) vs in
     let directives = directives_bounded style one_line ds in
     let selected = inside style one_line in
-    omega (arith, variables, directives, selected)
+    let others = max (directives_levels style ds) (selection_set_levels style s) in
+    let all : min (max (variable_definitions_levels style vs) others) (2 ^ 64 - 1) ≤ n + 1 = omega (arith, variables, directives, selected) in
+    all
 
 -- where one level more than those of the sets is not too wide, neither are the levels that they bound
 pub room_left : (style : Layout) (n levels : ℕ) → min levels (2 ^ 64 - 1) ≤ n + 1 → (values.IsTooWide style (n + 1) → ⊥) → values.IsTooWide style levels → ⊥

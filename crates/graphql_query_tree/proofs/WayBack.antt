@@ -14,7 +14,8 @@ use Rattle.graphql_values.specs.Values.{ValueTree, DirectiveTree, no_place, eras
 use Rattle.graphql_values.specs.ValueLayout.{arguments_layout, directives_layout}
 use Rattle.graphql_values.specs.Grammar.{shared, arguments_symbol, directives_symbol, default_symbol, shared_symbols, name as a_name}
 use Rattle.graphql_values.specs.Meanings.{place_at, first_place, optional_default_of, spelling_at, optional_arguments_of, directives_of}
-use Rattle.graphql_values.specs.Printable.{IsNameBut, IsPrintableArgument, IsPrintableDirective, IsPrintableDefault, most, arguments_brackets}
+use Rattle.graphql_values.specs.Printable.{IsNameBut, IsPrintableArgument, IsPrintableDirective, IsPrintableDefault, arguments_brackets}
+use Rattle.graphql_values.specs.TreeDepth.{most}
 use Rattle.graphql_values.specs.Printable.{directives_brackets, value_brackets}
 use Rattle.graphql_query_tree.specs.Tree.{SelectionTree, field, spread, inline, SelectionSetTree, set, SelectionTrees, none, more, OperationKind, query_kind}
 use Rattle.graphql_query_tree.specs.Tree.{mutation_kind}

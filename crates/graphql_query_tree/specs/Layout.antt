@@ -3,14 +3,16 @@ use Rattle.std.specs.Prelude.{ℕ, ◌+◌, max, List, [], ◌∷◌, ◌++◌, 
 use Rattle.graphql_core.specs.Style.{Layout, spaces}
 use Rattle.graphql_core.specs.Parts.{Part, text_of, name, mark, gap}
 use Rattle.graphql_values.specs.Values.{ValueTree, DirectiveTree}
-use Rattle.graphql_values.specs.ValueLayout.{type_layout, arguments_layout, directives_layout, arguments_levels, directives_levels}
+use Rattle.graphql_values.specs.ValueLayout.{type_layout, arguments_layout, directives_layout, in_levels}
 use Rattle.graphql_values.specs.ValueLayout as values
 use Rattle.graphql_values.specs.Lines as lines
-use Rattle.graphql_values.specs.Lines.{in_braces, default_levels}
-use Rattle.graphql_values.specs.Printable.{most}
+use Rattle.graphql_values.specs.Lines.{in_braces}
+use Rattle.graphql_values.specs.TreeDepth.{most}
 use Rattle.graphql_query_tree.specs.Tree.{SelectionTree, field, spread, inline, SelectionSetTree, set, SelectionTrees, none, more, OperationKind, query_kind}
 use Rattle.graphql_query_tree.specs.Tree.{mutation_kind, subscription_kind, VariableDefinitionTree, OperationTree, FragmentDefinitionTree, DefinitionTree}
 use Rattle.graphql_query_tree.specs.Tree.{short, operation, fragment, DocumentTree}
+use Rattle.graphql_query_tree.specs.TreeDepth.{selection_depth, selected_depth, selection_set_depth, selections_depth, variable_definition_depth}
+use Rattle.graphql_query_tree.specs.TreeDepth.{variable_definitions_depth, operation_depth_of, operation_depth, fragment_definition_depth, definition_depth}
 
 -- ---- selections
 
@@ -114,44 +116,35 @@ layout style d = text_of (document_layout style d)
 
 -- ---- levels that are open at once
 
-abbrev mutual
-  pub selection_levels : Layout → SelectionTree → ℕ
-  selection_levels style (field p alias n arguments ds s) = max (arguments_levels style arguments) (max (directives_levels style ds) (selected_levels style s))
-  selection_levels style (spread p n ds) = directives_levels style ds
-  selection_levels style (inline p condition ds s) = max (directives_levels style ds) (selection_set_levels style s)
-
-  -- a field without selections opens none
-  pub selected_levels : Layout → SelectionSetTree → ℕ
-  selected_levels style (set o c none) = 0
-  selected_levels style (set o c (more s ss)) = selections_levels style (more s ss) + 1
-
-  -- braces open one
-  pub selection_set_levels : Layout → SelectionSetTree → ℕ
-  selection_set_levels style (set o c ss) = selections_levels style ss + 1
-
-  pub selections_levels : Layout → SelectionTrees → ℕ
-  selections_levels style none = 0
-  selections_levels style (more s ss) = max (selection_levels style s) (selections_levels style ss)
+abbrev pub selection_set_levels : Layout → SelectionSetTree → ℕ
+selection_set_levels style = selection_set_depth (in_levels style)
 
 abbrev pub variable_definition_levels : Layout → VariableDefinitionTree → ℕ
-variable_definition_levels style v = default_levels style v.default_value
+variable_definition_levels style = variable_definition_depth (in_levels style)
+
+abbrev pub selection_levels : Layout → SelectionTree → ℕ
+selection_levels style = selection_depth (in_levels style)
+
+abbrev pub selected_levels : Layout → SelectionSetTree → ℕ
+selected_levels style = selected_depth (in_levels style)
+
+abbrev pub selections_levels : Layout → SelectionTrees → ℕ
+selections_levels style = selections_depth (in_levels style)
 
 abbrev pub variable_definitions_levels : Layout → List VariableDefinitionTree → ℕ
-variable_definitions_levels style = most (variable_definition_levels style)
+variable_definitions_levels style = variable_definitions_depth (in_levels style)
 
 abbrev pub operation_levels_of : Layout → List VariableDefinitionTree → List DirectiveTree → SelectionSetTree → ℕ
-operation_levels_of style vs ds s = max (variable_definitions_levels style vs) (max (directives_levels style ds) (selection_set_levels style s))
+operation_levels_of style = operation_depth_of (in_levels style)
 
 abbrev pub operation_levels : Layout → OperationTree → ℕ
-operation_levels style o = operation_levels_of style o.variables o.directives o.selected
+operation_levels style = operation_depth (in_levels style)
 
 abbrev pub fragment_definition_levels : Layout → FragmentDefinitionTree → ℕ
-fragment_definition_levels style f = max (directives_levels style f.directives) (selection_set_levels style f.selected)
+fragment_definition_levels style = fragment_definition_depth (in_levels style)
 
 abbrev pub definition_levels : Layout → DefinitionTree → ℕ
-definition_levels style (short s) = selection_set_levels style s
-definition_levels style (operation o) = operation_levels style o
-definition_levels style (fragment f) = fragment_definition_levels style f
+definition_levels style = definition_depth (in_levels style)
 
 abbrev pub levels : Layout → DocumentTree → ℕ
 levels style = most (definition_levels style)

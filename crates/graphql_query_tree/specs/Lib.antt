@@ -6,4 +6,5 @@ pub mod Layout
 pub mod Meanings
 pub mod Printable
 pub mod Tree
+pub mod TreeDepth
 pub mod steps

@@ -1,12 +1,15 @@
--- Documents whose layouts are documents again.
+-- Documents that are read from their layouts as what they are.
 use Rattle.std.specs.Prelude.{ℕ, ◌+◌, ◌≤◌, max, List, [], ◌∷◌, codes}
 use Rattle.std.specs.List.{AllByRecursion}
 use Rattle.std.specs.Option.{IfSome, option_map_or}
 use Rattle.graphql_lexer.specs.Lexical.{IsName}
-use Rattle.graphql_values.specs.Printable.{IsNameBut, IsPrintableArgument, IsPrintableDirective, IsPrintableType, IsPrintableDefault, most, in_parentheses}
-use Rattle.graphql_values.specs.Printable.{value_brackets, type_brackets, arguments_brackets, directives_brackets}
+use Rattle.graphql_values.specs.Printable.{IsNameBut, IsPrintableArgument, IsPrintableDirective, IsPrintableType, IsPrintableDefault}
+use Rattle.graphql_values.specs.Printable.{in_brackets}
+use Rattle.graphql_values.specs.TreeDepth.{most}
 use Rattle.graphql_query_tree.specs.Tree.{SelectionTree, field, spread, inline, SelectionSetTree, set, SelectionTrees, none, more, VariableDefinitionTree}
 use Rattle.graphql_query_tree.specs.Tree.{OperationTree, FragmentDefinitionTree, DefinitionTree, short, operation, fragment, DocumentTree}
+use Rattle.graphql_query_tree.specs.TreeDepth.{selection_depth, selected_depth, selection_set_depth, selections_depth, variable_definition_depth}
+use Rattle.graphql_query_tree.specs.TreeDepth.{variable_definitions_depth, definition_depth}
 
 -- ---- names, types and values
 
@@ -69,34 +72,26 @@ DefinitionSelects d = Selects (selection_set_of_definition d) × SelectInside (s
 
 -- ---- brackets that are open at once
 
-abbrev mutual
-  pub selection_brackets : SelectionTree → ℕ
-  selection_brackets (field p alias n arguments ds s) = max (arguments_brackets arguments) (max (directives_brackets ds) (selected_brackets s))
-  selection_brackets (spread p n ds) = directives_brackets ds
-  selection_brackets (inline p condition ds s) = max (directives_brackets ds) (selection_set_brackets s)
+abbrev pub selection_brackets : SelectionTree → ℕ
+selection_brackets = selection_depth in_brackets
 
-  -- a field without selections has no braces
-  pub selected_brackets : SelectionSetTree → ℕ
-  selected_brackets (set o c none) = 0
-  selected_brackets (set o c (more s ss)) = selections_brackets (more s ss) + 1
+abbrev pub selected_brackets : SelectionSetTree → ℕ
+selected_brackets = selected_depth in_brackets
 
-  pub selection_set_brackets : SelectionSetTree → ℕ
-  selection_set_brackets (set o c ss) = selections_brackets ss + 1
+abbrev pub selection_set_brackets : SelectionSetTree → ℕ
+selection_set_brackets = selection_set_depth in_brackets
 
-  pub selections_brackets : SelectionTrees → ℕ
-  selections_brackets none = 0
-  selections_brackets (more s ss) = max (selection_brackets s) (selections_brackets ss)
+abbrev pub selections_brackets : SelectionTrees → ℕ
+selections_brackets = selections_depth in_brackets
 
 abbrev pub variable_definition_brackets : VariableDefinitionTree → ℕ
-variable_definition_brackets v = max (type_brackets v.var_type) (option_map_or value_brackets v.default_value 0)
+variable_definition_brackets = variable_definition_depth in_brackets
 
 abbrev pub variable_definitions_brackets : List VariableDefinitionTree → ℕ
-variable_definitions_brackets = in_parentheses variable_definition_brackets
+variable_definitions_brackets = variable_definitions_depth in_brackets
 
 abbrev pub definition_brackets : DefinitionTree → ℕ
-definition_brackets (short s) = selection_set_brackets s
-definition_brackets (operation o) = max (variable_definitions_brackets o.variables) (max (directives_brackets o.directives) (selection_set_brackets o.selected))
-definition_brackets (fragment f) = max (directives_brackets f.directives) (selection_set_brackets f.selected)
+definition_brackets = definition_depth in_brackets
 
 -- ---- documents
 
@@ -104,7 +99,7 @@ abbrev pub HasDefinition : DocumentTree → Type 0
 HasDefinition [] = ⊥
 HasDefinition (d ∷ ds) = Unit {0}
 
--- a document whose layout is a document again
+-- a document that is read from its layout as what it is
 pub record IsPrintable (d : DocumentTree) : Type 0 where
   pub definition : HasDefinition d
   -- names, types and values

@@ -2,7 +2,7 @@
 ghost use Rattle.std.specs.Prelude.{◌≡◌};
 ghost use Rattle.graphql_core.specs.Depths.{deepest};
 ghost use Rattle.graphql_core.specs.Style.{Layout};
-ghost use Rattle.graphql_values.specs.Printable.{most};
+ghost use Rattle.graphql_values.specs.TreeDepth.{most};
 ghost use Rattle.graphql_query_tree.specs.Tree.{DocumentTree, erase};
 ghost use Rattle.graphql_query_tree.specs.Document.{IsDocumentOf};
 ghost use Rattle.graphql_query_tree.specs.Lawful.{IsLawfulDocument};

@@ -12,7 +12,9 @@ use Rattle.graphql_core.proofs.BracketRoom.{HasRoom, room_nothing, room_leaf, ro
 use Rattle.graphql_core.proofs.BracketRoom.{room_back, all_turns}
 use Rattle.graphql_values.specs.Grammar.{shared, name, punctuator, location_class, default_symbol, shared_symbols}
 use Rattle.graphql_values.specs.Meanings.{spelling_at, optional_default_of}
-use Rattle.graphql_values.specs.Printable.{IsPrintableDefault, value_brackets, most, in_parentheses}
+use Rattle.graphql_values.specs.Printable.{IsPrintableDefault, value_brackets}
+use Rattle.graphql_values.specs.TreeDepth.{most_enclosed}
+use Rattle.graphql_values.specs.TreeDepth.{most}
 use Rattle.graphql_values.proofs.Leaves.{leaf_name}
 use Rattle.graphql_values.proofs.Printable.{Within, all_within, directives_printable, type_printable, default_printable}
 use Rattle.graphql_schema_tree.specs.Grammar.{schema, is_good, document_symbol, item_symbol, schema_symbol, root_type_symbol, extension_symbol}
@@ -22,7 +24,8 @@ use Rattle.graphql_schema_tree.specs.Grammar.{argument_definitions_symbol, input
 use Rattle.graphql_schema_tree.specs.Grammar.{enum_value_symbol, input_symbol, input_fields_symbol, directive_definition_symbol, locations_symbol}
 use Rattle.graphql_schema_tree.specs.Grammar.{location_symbol}
 use Rattle.graphql_schema_tree.specs.Grammar.{joined_by}
-use Rattle.graphql_schema_tree.specs.Tree.{InputValueTree, BodyTree, DefinitionTree, DocumentTree, has_any}
+use Rattle.graphql_schema_tree.specs.Tree.{InputValueTree, BodyTree, DefinitionTree, DocumentTree}
+use Rattle.graphql_values.specs.TreeDepth.{has_any}
 use Rattle.graphql_schema_tree.specs.Meanings.{each_of, enclosed_of, optional_list_of, marked_of, joined_of, present, input_value_of, field_of, enum_value_of}
 use Rattle.graphql_schema_tree.specs.Meanings.{interfaces_of, members_of, root_of, scalar_of, object_of, interface_of, union_of, enum_of, input_of, body_of}
 use Rattle.graphql_schema_tree.specs.Meanings.{location_at, locations_of, extension_of, described_of, item_of, document_of}
@@ -90,7 +93,7 @@ input_value_printable n _ (room_node (room_both d (room_both called (room_both c
     ((leaf_name refl called, is, default, are), omega arith)
 
 abbrev ArePrintableInputValues : ℕ → List InputValueTree → Type 0
-ArePrintableInputValues = Within (AllByRecursion IsPrintableInputValue) (in_parentheses input_value_brackets)
+ArePrintableInputValues = Within (AllByRecursion IsPrintableInputValue) (most_enclosed input_value_brackets)
 
 arguments_printable : (n : ℕ) (x : Shape) → HasRoom schema n (Sym argument_definitions_symbol) x
     → ArePrintableInputValues n (enclosed_of input_value_of x)
@@ -106,7 +109,7 @@ input_fields_printable n _ (room_node (room_both (room_leaf a l d) (room_both (r
 
 optional_arguments_printable : {n : ℕ} {x : Shape} → HasRoom schema n (optional (Sym argument_definitions_symbol)) x
     → ArePrintableInputValues n (optional_list_of (enclosed_of input_value_of) x)
-optional_arguments_printable = optional_printable _ _ IsPrintableInputValue (in_parentheses input_value_brackets) refl arguments_printable
+optional_arguments_printable = optional_printable _ _ IsPrintableInputValue (most_enclosed input_value_brackets) refl arguments_printable
 
 field_printable : (n : ℕ) (x : Shape) → HasRoom schema n (Sym field_symbol) x → Within IsPrintableField field_brackets n (field_of x)
 field_printable n _ (room_node (room_both d (room_both called (room_both arguments (room_both colon (room_both t ds))))) c) =
@@ -116,7 +119,7 @@ field_printable n _ (room_node (room_both d (room_both called (room_both argumen
     ((leaf_name refl called, values, is, are), omega arith)
 
 fields_printable : (n : ℕ) (x : Shape) → HasRoom schema n (Sym fields_symbol) x
-    → Within (AllByRecursion IsPrintableField) (in_parentheses field_brackets) n (enclosed_of field_of x)
+    → Within (AllByRecursion IsPrintableField) (most_enclosed field_brackets) n (enclosed_of field_of x)
 fields_printable n _ (room_node (room_both (room_leaf a l d) (room_both (room_both f fs) e)) c) =
     let (are, b) = some_printable field_symbol field_of IsPrintableField field_brackets field_printable (room_both f fs) in
     (are, omega arith)
@@ -128,7 +131,7 @@ enum_value_printable n _ (room_node (room_both d (room_both called ds)) c) =
     ((leaf_name refl called, are), b)
 
 enum_values_printable : (n : ℕ) (x : Shape) → HasRoom schema n (Sym enum_values_symbol) x
-    → Within (AllByRecursion IsPrintableEnumValue) (in_parentheses enum_value_brackets) n (enclosed_of enum_value_of x)
+    → Within (AllByRecursion IsPrintableEnumValue) (most_enclosed enum_value_brackets) n (enclosed_of enum_value_of x)
 enum_values_printable n _ (room_node (room_both (room_leaf a l d) (room_both (room_both f fs) e)) c) =
     let (are, b) = some_printable enum_value_symbol enum_value_of IsPrintableEnumValue enum_value_brackets enum_value_printable (room_both f fs) in
     (are, omega arith)
@@ -147,14 +150,14 @@ object_printable : {n : ℕ} {x : Shape} → HasRoom schema n (Sym object_symbol
 object_printable (room_node (room_both w (room_both called (room_both is (room_both ds fs)))) c) =
     let (names, a) = optional_printable _ _ IsName no_brackets refl interfaces_printable is in
     let (are, b) = directives_printable (room_shared ds refl refl) in
-    let (fields, d) = optional_printable _ _ IsPrintableField (in_parentheses field_brackets) refl fields_printable fs in
+    let (fields, d) = optional_printable _ _ IsPrintableField (most_enclosed field_brackets) refl fields_printable fs in
     ((leaf_name refl called, are, (names, fields)), omega arith)
 
 interface_printable : {n : ℕ} {x : Shape} → HasRoom schema n (Sym interface_symbol) x → IsBody n (interface_of x)
 interface_printable (room_node (room_both w (room_both called (room_both is (room_both ds fs)))) c) =
     let (names, a) = optional_printable _ _ IsName no_brackets refl interfaces_printable is in
     let (are, b) = directives_printable (room_shared ds refl refl) in
-    let (fields, d) = optional_printable _ _ IsPrintableField (in_parentheses field_brackets) refl fields_printable fs in
+    let (fields, d) = optional_printable _ _ IsPrintableField (most_enclosed field_brackets) refl fields_printable fs in
     ((leaf_name refl called, are, (names, fields)), omega arith)
 
 union_printable : {n : ℕ} {x : Shape} → HasRoom schema n (Sym union_symbol) x → IsBody n (union_of x)
@@ -166,13 +169,13 @@ union_printable (room_node (room_both w (room_both called (room_both ds ms))) c)
 enum_printable : {n : ℕ} {x : Shape} → HasRoom schema n (Sym enum_symbol) x → IsBody n (enum_of x)
 enum_printable (room_node (room_both w (room_both called (room_both ds vs))) c) =
     let (are, b) = directives_printable (room_shared ds refl refl) in
-    let (values, d) = optional_printable _ _ IsPrintableEnumValue (in_parentheses enum_value_brackets) refl enum_values_printable vs in
+    let (values, d) = optional_printable _ _ IsPrintableEnumValue (most_enclosed enum_value_brackets) refl enum_values_printable vs in
     ((leaf_name refl called, are, values), omega arith)
 
 input_printable : {n : ℕ} {x : Shape} → HasRoom schema n (Sym input_symbol) x → IsBody n (input_of x)
 input_printable (room_node (room_both w (room_both called (room_both ds fs))) c) =
     let (are, b) = directives_printable (room_shared ds refl refl) in
-    let (fields, d) = optional_printable _ _ IsPrintableInputValue (in_parentheses input_value_brackets) refl input_fields_printable fs in
+    let (fields, d) = optional_printable _ _ IsPrintableInputValue (most_enclosed input_value_brackets) refl input_fields_printable fs in
     ((leaf_name refl called, are, fields), omega arith)
 
 body_printable : {n : ℕ} {x : Shape} → HasRoom schema n (Sym type_body_symbol) x → IsBody n (body_of x)

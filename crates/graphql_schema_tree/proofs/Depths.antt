@@ -7,7 +7,9 @@ use Rattle.graphql_core.specs.Parts.{Part}
 use Rattle.graphql_core.specs.Style.{Layout}
 use Rattle.graphql_core.proofs.Depths.{Rises, rises_as, none_rise, flat_rise, gap_rises, level_rises, both_rise, closer_sinks, both_sink}
 use Rattle.graphql_core.proofs.Depths.{opener_rises}
-use Rattle.graphql_values.specs.Printable.{most, in_parentheses, directives_brackets}
+use Rattle.graphql_values.specs.Printable.{directives_brackets}
+use Rattle.graphql_values.specs.TreeDepth.{most_enclosed}
+use Rattle.graphql_values.specs.TreeDepth.{most}
 use Rattle.graphql_values.specs.Values.{DirectiveTree}
 use Rattle.graphql_values.proofs.Depths.{string_rises, type_rises, directives_rise, braces_rise, line_end_rises, default_rises, lines_rise, separated_rise}
 use Rattle.graphql_schema_tree.specs.declared.location.DirectiveLocation.{DirectiveLocation}
@@ -22,7 +24,7 @@ use Rattle.graphql_schema_tree.specs.Tree.{DefinitionTree, schema, type_definiti
 -- ---- parts in braces
 
 block_rises : {A : Type 0} (lines : A → List Part) (brackets : A → ℕ) → ((x : A) → Rises (brackets x) (lines x)) → (margin : ℕ) (xs : List A)
-    → Rises (in_parentheses brackets xs) (block_layout margin lines xs)
+    → Rises (most_enclosed brackets xs) (block_layout margin lines xs)
 block_rises lines brackets rise margin [] = gap_rises _ none_rise
 block_rises lines brackets rise margin (x ∷ xs) = gap_rises _ (braces_rise margin (lines_rise lines brackets rise (x ∷ xs)))
 
@@ -68,7 +70,7 @@ module _ (style : Layout) where
   later_arguments_rise margin [] = none_rise
   later_arguments_rise margin (v ∷ vs) = gap_rises _ (both_rise (input_value_rises margin v) (later_arguments_rise margin vs))
 
-  arguments_rise : (margin : ℕ) (vs : List InputValueTree) → Rises (in_parentheses input_value_brackets vs) (arguments_layout style margin vs)
+  arguments_rise : (margin : ℕ) (vs : List InputValueTree) → Rises (most_enclosed input_value_brackets vs) (arguments_layout style margin vs)
   arguments_rise margin [] = none_rise
   arguments_rise margin (v ∷ vs) =
       let m = input_value_brackets v in
@@ -123,7 +125,7 @@ module _ (style : Layout) where
   definition_rises (type_definition t b) = flat_rise (description_rises style 0 t) (body_rises b)
   definition_rises (extension b) = level_rises refl (gap_rises _ (body_rises b))
   definition_rises (directive t) =
-      let n = in_parentheses input_value_brackets t.arguments in
+      let n = most_enclosed input_value_brackets t.arguments in
       flat_rise (description_rises style 0 t.description) (level_rises refl (gap_rises _ (level_rises refl (level_rises refl
       (rises_as {m = max n 0} {n = n} (omega arith) (both_rise (arguments_rise 0 t.arguments)
       (flat_rise (repeatable_rises t.repeatable) (line_end_rises _ (locations_rise t.locations)))))))))

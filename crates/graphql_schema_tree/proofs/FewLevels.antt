@@ -6,14 +6,16 @@ use Rattle.graphql_core.specs.Style.{Layout, default_style}
 use Rattle.graphql_values.specs.ValueLayout.{IsNarrow}
 use Rattle.graphql_values.specs.ValueLayout as values
 use Rattle.graphql_values.proofs.FewLevels.{most_bounded, string_bounded, default_bounded, directives_bounded}
-use Rattle.graphql_schema_tree.specs.Layout.{description_levels, block_levels, input_value_levels, field_levels, enum_value_levels, parts_levels}
+use Rattle.graphql_schema_tree.specs.Layout.{input_value_levels, field_levels, enum_value_levels, parts_levels}
+use Rattle.graphql_values.specs.ValueLayout.{description_levels}
+use Rattle.graphql_values.specs.TreeDepth.{most_enclosed}
 use Rattle.graphql_schema_tree.specs.Layout.{body_levels, definition_levels, levels, IsTooWide}
 use Rattle.graphql_schema_tree.specs.Tree as trees
 use Rattle.graphql_schema_tree.specs.Tree.{InputValueTree, FieldTree, EnumValueTree, PartsTree, BodyTree, DefinitionTree, DocumentTree}
 
 -- ---- lists of trees
 
-block_bounded : {A : Type 0} (f : A → ℕ) (bound : ℕ) → ((x : A) → f x ≤ bound) → (xs : List A) → block_levels f xs ≤ bound + 1
+block_bounded : {A : Type 0} (f : A → ℕ) (bound : ℕ) → ((x : A) → f x ≤ bound) → (xs : List A) → most_enclosed f xs ≤ bound + 1
 block_bounded f bound each [] = omega arith
 block_bounded f bound each (x ∷ xs) = let all = most_bounded f bound each (x ∷ xs) in omega (arith, all)
 

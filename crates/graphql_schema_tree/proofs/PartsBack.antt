@@ -16,7 +16,9 @@ use Rattle.graphql_values.specs.Lines.{in_braces}
 use Rattle.graphql_values.specs.Grammar.{shared, directives_symbol, shared_symbols, punctuator, name as a_name, mark as a_mark}
 use Rattle.graphql_values.specs.Leaves.{string_of, block_string_of}
 use Rattle.graphql_values.specs.Meanings.{spelling_at, directives_of}
-use Rattle.graphql_values.specs.Printable.{IsPrintableDirective, most, in_parentheses, directives_brackets}
+use Rattle.graphql_values.specs.Printable.{IsPrintableDirective, directives_brackets}
+use Rattle.graphql_values.specs.TreeDepth.{most_enclosed}
+use Rattle.graphql_values.specs.TreeDepth.{most}
 use Rattle.graphql_values.specs.Lawful.{AreLawfulDirectives}
 use Rattle.graphql_schema_tree.specs.Tree.{InputValueTree, FieldTree, EnumValueTree, PartsTree, scalar, object, interface, union, enum, input, BodyTree}
 use Rattle.graphql_schema_tree.specs.Tree.{erase_input_value, erase_field, erase_enum_value, erase_parts, erase_body}
@@ -110,7 +112,7 @@ module _ {A : Type 0} (one : Expr) (f : Shape → A) (erase : A → A) (lines : 
   -- the lines of a symbol in braces, where there are any
   block_back : (k : ℕ) → (row schema k).rule ≡ Then (punctuator (codes "{")) (Then (some_of one) (punctuator (codes "}")))
       → ((x : Shape) → schema.check k x ≡ true)
-      → (margin : ℕ) (vs : List A) (d : ℕ) → AllByRecursion P vs → AllByRecursion Q vs → d + in_parentheses brackets vs ≤ 50
+      → (margin : ℕ) (vs : List A) (d : ℕ) → AllByRecursion P vs → AllByRecursion Q vs → d + most_enclosed brackets vs ≤ 50
       → Back schema (optional (Sym k)) true d (block_layout margin lines vs) false d (λ x. map erase (optional_list_of (enclosed_of f) x) ≡ map erase vs)
   block_back k rule passes margin [] d is law deep = gap_back refl (second_back (nothing_back refl))
   block_back k rule passes margin (v ∷ vs) d (is, are) (law, laws) deep =
@@ -177,7 +179,7 @@ module _ (style : Layout) where
       (λ x y hx hy. ap₂ (λ t ts. t ∷ ts) hx hy))
 
   pub argument_definitions_back : (margin : ℕ) (vs : List InputValueTree) (d : ℕ) → AllByRecursion IsPrintableInputValue vs
-      → AllByRecursion IsLawfulInputValue vs → d + in_parentheses input_value_brackets vs ≤ 50
+      → AllByRecursion IsLawfulInputValue vs → d + most_enclosed input_value_brackets vs ≤ 50
       → Back schema (optional (Sym argument_definitions_symbol)) true d (arguments_layout style margin vs) true d
       (λ x. map erase_input_value (optional_list_of (enclosed_of input_value_of) x) ≡ map erase_input_value vs)
   argument_definitions_back margin [] d is law deep = second_back (nothing_back refl)
@@ -218,7 +220,7 @@ module _ (style : Layout) where
 
   -- ---- types
 
-  fields_back : (fs : List FieldTree) (d : ℕ) → AllByRecursion IsPrintableField fs → AllByRecursion IsLawfulField fs → d + in_parentheses field_brackets fs ≤ 50
+  fields_back : (fs : List FieldTree) (d : ℕ) → AllByRecursion IsPrintableField fs → AllByRecursion IsLawfulField fs → d + most_enclosed field_brackets fs ≤ 50
       → Back schema (optional (Sym fields_symbol)) true d (block_layout 0 (field_layout style style.indent) fs) false d
       (λ x. map erase_field (optional_list_of (enclosed_of field_of) x) ≡ map erase_field fs)
   fields_back fs d is law deep =
@@ -226,7 +228,7 @@ module _ (style : Layout) where
       (field_back style.indent) fields_symbol refl (λ x. refl) 0 fs d is law deep
 
   enum_values_back : (vs : List EnumValueTree) (d : ℕ) → AllByRecursion IsPrintableEnumValue vs → AllByRecursion IsLawfulEnumValue vs
-      → d + in_parentheses enum_value_brackets vs ≤ 50
+      → d + most_enclosed enum_value_brackets vs ≤ 50
       → Back schema (optional (Sym enum_values_symbol)) true d (block_layout 0 (enum_value_layout style style.indent) vs) false d
       (λ x. map erase_enum_value (optional_list_of (enclosed_of enum_value_of) x) ≡ map erase_enum_value vs)
   enum_values_back vs d is law deep =
@@ -234,7 +236,7 @@ module _ (style : Layout) where
       enum_value_brackets (enum_value_back style.indent) enum_values_symbol refl (λ x. refl) 0 vs d is law deep
 
   input_fields_back : (fs : List InputValueTree) (d : ℕ) → AllByRecursion IsPrintableInputValue fs → AllByRecursion IsLawfulInputValue fs
-      → d + in_parentheses input_value_brackets fs ≤ 50
+      → d + most_enclosed input_value_brackets fs ≤ 50
       → Back schema (optional (Sym input_fields_symbol)) true d (block_layout 0 (input_field_layout style style.indent) fs) false d
       (λ x. map erase_input_value (optional_list_of (enclosed_of input_value_of) x) ≡ map erase_input_value fs)
   input_fields_back fs d is law deep =

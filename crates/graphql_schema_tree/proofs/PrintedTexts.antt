@@ -7,7 +7,7 @@ use Rattle.std.proofs.lemmas.List.Folds.{flat_map-map}
 use Rattle.graphql_core.specs.Style.{Layout, spaces}
 use Rattle.graphql_core.specs.Parts.{Part, text_of, name, gap}
 use Rattle.graphql_values.specs.Lines.{in_braces, default_layout}
-use Rattle.graphql_values.specs.Printable.{most}
+use Rattle.graphql_values.specs.TreeDepth.{most}
 use Rattle.graphql_values.specs.ValueLayout.{type_layout, directives_layout}
 use Rattle.graphql_values.specs.Values.{DirectiveTree}
 use Rattle.graphql_values.specs.steps.Joined.{joined}
@@ -17,7 +17,8 @@ use Rattle.graphql_values.proofs.Seen.{most_seen, later_seen}
 use Rattle.graphql_schema_tree.specs.Tree.{InputValueTree, FieldTree, EnumValueTree, SchemaTree, PartsTree, DirectiveDefinitionTree, type_definition}
 use Rattle.graphql_schema_tree.specs.Layout.{description_layout, inline_layout, between, later_names, joined_names, interfaces_layout, members_layout}
 use Rattle.graphql_schema_tree.specs.Layout.{locations_layout, input_value_layout, later_arguments, arguments_layout, input_field_layout, field_layout}
-use Rattle.graphql_schema_tree.specs.Layout.{enum_value_layout, block_layout, block_levels, root_layout, schema_layout, body_layout, repeatable_layout}
+use Rattle.graphql_schema_tree.specs.Layout.{enum_value_layout, block_layout, root_layout, schema_layout, body_layout, repeatable_layout}
+use Rattle.graphql_values.specs.TreeDepth.{most_enclosed}
 use Rattle.graphql_schema_tree.specs.Layout.{directive_definition_layout, definition_layout}
 use Rattle.graphql_schema_tree.specs.steps.Body.{body, named}
 
@@ -110,7 +111,7 @@ filled_block margin lines (x ∷ xs) h = refl
 -- ---- trees, each of which is seen
 
 module _ {X T : Type 0} (view : X → T) where
-  pub block_levels_seen : (f : T → ℕ) (xs : List X) → block_levels (λ x. f (view x)) xs ≡ block_levels f (map view xs)
+  pub block_levels_seen : (f : T → ℕ) (xs : List X) → most_enclosed (λ x. f (view x)) xs ≡ most_enclosed f (map view xs)
   block_levels_seen f [] = refl
   block_levels_seen f (x ∷ xs) = ap (λ n. n + 1) (most_seen view f (x ∷ xs))
 
@@ -119,10 +120,10 @@ module _ {X T : Type 0} (view : X → T) where
   block_seen margin lines (x ∷ xs) = ap (λ ls. gap (codes " ") ++ in_braces margin ls) (sym (flat_map-map lines view (x ∷ xs)))
 
   -- what is in the braces of a definition fits where the definition does
-  pub block_fits : (f : T → ℕ) (xs : List X) (others indent width : ℕ) → max others (block_levels f (map view xs)) * indent < width
-      → 0 + block_levels (λ x. f (view x)) xs * indent < width
+  pub block_fits : (f : T → ℕ) (xs : List X) (others indent width : ℕ) → max others (most_enclosed f (map view xs)) * indent < width
+      → 0 + most_enclosed (λ x. f (view x)) xs * indent < width
   block_fits f xs others indent width h =
-      let fits = (both_fit others (block_levels f (map view xs)) indent width h).1 in
+      let fits = (both_fit others (most_enclosed f (map view xs)) indent width h).1 in
       rw (block_levels_seen f xs) (omega (arith, fits))
 
   -- and is what is written in them
@@ -147,7 +148,7 @@ arguments_seen view style margin (x ∷ xs) h =
 -- ---- levels
 
 -- what stands in the lines of braces fits where the braces do
-pub lines_fit : {A : Type 0} (f : A → ℕ) (xs : List A) (indent width : ℕ) → 0 < length xs → block_levels f xs * indent < width
+pub lines_fit : {A : Type 0} (f : A → ℕ) (xs : List A) (indent width : ℕ) → 0 < length xs → most_enclosed f xs * indent < width
     → indent + most f xs * indent < width
 lines_fit f [] indent width h fits = absurd (omega (arith, h))
 lines_fit f (x ∷ xs) indent width h fits = omega (arith, fits)

@@ -14,7 +14,8 @@ use Rattle.graphql_core.proofs.Back.{seven_back, read_back}
 use Rattle.graphql_values.specs.Grammar.{word}
 use Rattle.graphql_values.specs.Lines.{later}
 use Rattle.graphql_values.specs.Meanings.{spelling_at, directives_of}
-use Rattle.graphql_values.specs.Printable.{most, in_parentheses}
+use Rattle.graphql_values.specs.TreeDepth.{most_enclosed}
+use Rattle.graphql_values.specs.TreeDepth.{most}
 use Rattle.graphql_values.specs.Values.{DirectiveTree, no_place, erase as erase_one, erase_all}
 use Rattle.graphql_values.proofs.LeavesBack.{name_word}
 use Rattle.graphql_values.proofs.ValuesBack.{spaces_blank}
@@ -32,7 +33,8 @@ use Rattle.graphql_schema_tree.specs.Printable.{IsPrintable, IsPrintableSchema, 
 use Rattle.graphql_schema_tree.specs.Printable.{IsPrintableInputValue, input_value_brackets, body_brackets, definition_brackets}
 use Rattle.graphql_schema_tree.specs.Roots.{roots_of, RootFault, root_fault, root_fault_of}
 use Rattle.graphql_schema_tree.specs.Tree.{InputValueTree, SchemaTree, PartsTree, scalar, object, interface, union, enum, input, BodyTree}
-use Rattle.graphql_schema_tree.specs.Tree.{DirectiveDefinitionTree, DefinitionTree, schema, type_definition, extension, directive, DocumentTree, has_any, adds}
+use Rattle.graphql_schema_tree.specs.Tree.{DirectiveDefinitionTree, DefinitionTree, schema, type_definition, extension, directive, DocumentTree, adds}
+use Rattle.graphql_values.specs.TreeDepth.{has_any}
 use Rattle.graphql_schema_tree.specs.Tree.{erase_field, erase_enum_value, erase_input_value, erase_schema, erase_body, erase_directive, erase_definition, erase}
 use Rattle.graphql_schema_tree.proofs.LocationWords.{location_named, location_name}
 use Rattle.graphql_schema_tree.proofs.PartsBack.{named_back, joined_back, braces_back, directives_in, description_back, argument_definitions_back, body_back}
@@ -171,7 +173,7 @@ directive_tree s n vs b ls = record { position = no_place; description = s; name
 
 -- what stands after a directive's description
 directive_back : (style : Layout) (s : Option (List ℕ)) (n : List ℕ) (vs : List InputValueTree) (b : Bool) (ls : List DirectiveLocation) → IsName n
-    → AllByRecursion IsPrintableInputValue vs → has_any ls ≡ true → AllByRecursion IsLawfulInputValue vs → in_parentheses input_value_brackets vs ≤ 50
+    → AllByRecursion IsPrintableInputValue vs → has_any ls ≡ true → AllByRecursion IsLawfulInputValue vs → most_enclosed input_value_brackets vs ≤ 50
     → Back the_grammar (Sym directive_definition_symbol) false 0 (directive_definition_layout style (directive_tree None n vs b ls)) false 0
     (λ x. (t : Option (List ℕ)) → t ≡ s → erase_directive (directive_definition_of t x) ≡ erase_directive (directive_tree s n vs b ls))
 directive_back style s n vs b [] named are some law deep = absurd cc

@@ -5,10 +5,11 @@ use Rattle.std.specs.Option.{option_map_or}
 use Rattle.graphql_core.specs.Style.{Layout, spaces}
 use Rattle.graphql_core.specs.Parts.{Part, text_of, name, mark, gap}
 use Rattle.graphql_values.specs.Values.{DirectiveTree}
-use Rattle.graphql_values.specs.ValueLayout.{string_layout, type_layout, directives_layout, string_levels, directives_levels}
+use Rattle.graphql_values.specs.ValueLayout.{string_layout, type_layout, directives_layout, in_levels}
 use Rattle.graphql_values.specs.ValueLayout as values
-use Rattle.graphql_values.specs.Lines.{in_braces, separated, default_layout, default_levels}
-use Rattle.graphql_values.specs.Printable.{most}
+use Rattle.graphql_values.specs.Lines.{in_braces, separated, default_layout}
+use Rattle.graphql_values.specs.TreeDepth.{most}
+use Rattle.graphql_schema_tree.specs.TreeDepth.{input_value_depth, field_depth, enum_value_depth, schema_depth, parts_depth, body_depth, definition_depth}
 use Rattle.graphql_schema_tree.specs.declared.location.DirectiveLocation.{DirectiveLocation}
 use Rattle.graphql_schema_tree.specs.Locations.{word_of}
 use Rattle.graphql_schema_tree.specs.Tree.{InputValueTree, FieldTree, EnumValueTree, SchemaTree, PartsTree, scalar, object, interface, union, enum, input}
@@ -146,46 +147,26 @@ layout style d = text_of (document_layout style d)
 
 -- ---- levels that are open at once
 
--- a description in block form opens one
-abbrev pub description_levels : Option (List ℕ) → ℕ
-description_levels d = option_map_or string_levels d 0
-
--- braces open one, where there is anything in them
-abbrev pub block_levels : {A : Type 0} → (A → ℕ) → List A → ℕ
-block_levels f [] = 0
-block_levels f (x ∷ xs) = most f (x ∷ xs) + 1
-
 abbrev pub input_value_levels : Layout → InputValueTree → ℕ
-input_value_levels style v =
-    max (description_levels v.description) (max (default_levels style v.default_value) (directives_levels style v.directives))
+input_value_levels style = input_value_depth (in_levels style)
 
--- the parentheses of arguments open none
 abbrev pub field_levels : Layout → FieldTree → ℕ
-field_levels style f = max (description_levels f.description) (max (most (input_value_levels style) f.arguments) (directives_levels style f.directives))
+field_levels style = field_depth (in_levels style)
 
 abbrev pub enum_value_levels : Layout → EnumValueTree → ℕ
-enum_value_levels style v = max (description_levels v.description) (directives_levels style v.directives)
+enum_value_levels style = enum_value_depth (in_levels style)
 
--- a schema has its braces always
 abbrev pub schema_levels : Layout → SchemaTree → ℕ
-schema_levels style s = max (directives_levels style s.directives) 1
+schema_levels style = schema_depth (in_levels style)
 
 abbrev pub parts_levels : Layout → PartsTree → ℕ
-parts_levels style scalar = 0
-parts_levels style (object is fs) = block_levels (field_levels style) fs
-parts_levels style (interface is fs) = block_levels (field_levels style) fs
-parts_levels style (union ts) = 0
-parts_levels style (enum vs) = block_levels (enum_value_levels style) vs
-parts_levels style (input fs) = block_levels (input_value_levels style) fs
+parts_levels style = parts_depth (in_levels style)
 
 abbrev pub body_levels : Layout → BodyTree → ℕ
-body_levels style b = max (directives_levels style b.directives) (parts_levels style b.parts)
+body_levels style = body_depth (in_levels style)
 
 abbrev pub definition_levels : Layout → DefinitionTree → ℕ
-definition_levels style (schema s) = schema_levels style s
-definition_levels style (type_definition d b) = max (description_levels d) (body_levels style b)
-definition_levels style (extension b) = body_levels style b
-definition_levels style (directive d) = max (description_levels d.description) (most (input_value_levels style) d.arguments)
+definition_levels style = definition_depth (in_levels style)
 
 abbrev pub levels : Layout → DocumentTree → ℕ
 levels style d = most (definition_levels style) d

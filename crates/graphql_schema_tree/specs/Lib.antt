@@ -1,5 +1,6 @@
 pub mod Locations
 pub mod Tree
+pub mod TreeDepth
 pub mod Views
 pub mod Meanings
 pub mod Roots

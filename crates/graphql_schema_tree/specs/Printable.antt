@@ -1,12 +1,16 @@
--- Documents whose layouts are documents again.
+-- Documents that are read from their layouts as what they are.
 use Rattle.std.specs.Prelude.{◌≡◌, ℕ, ◌≤◌, max, true, List}
 use Rattle.std.specs.List.{AllByRecursion}
 use Rattle.std.specs.Option.{IfSome, option_map_or}
 use Rattle.graphql_lexer.specs.Lexical.{IsName}
-use Rattle.graphql_values.specs.Printable.{IsPrintableDirective, IsPrintableType, IsPrintableDefault, most, in_parentheses}
-use Rattle.graphql_values.specs.Printable.{value_brackets, type_brackets, directives_brackets}
+use Rattle.graphql_values.specs.Printable.{IsPrintableDirective, IsPrintableType, IsPrintableDefault}
+use Rattle.graphql_values.specs.TreeDepth.{most_enclosed}
+use Rattle.graphql_values.specs.TreeDepth.{most}
+use Rattle.graphql_values.specs.Printable.{in_brackets}
 use Rattle.graphql_schema_tree.specs.Tree.{InputValueTree, FieldTree, EnumValueTree, SchemaTree, PartsTree, scalar, object, interface, union, enum, input}
-use Rattle.graphql_schema_tree.specs.Tree.{BodyTree, DefinitionTree, schema, type_definition, extension, directive, DocumentTree, has_any, adds}
+use Rattle.graphql_schema_tree.specs.Tree.{BodyTree, DefinitionTree, schema, type_definition, extension, directive, DocumentTree, adds}
+use Rattle.graphql_values.specs.TreeDepth.{has_any}
+use Rattle.graphql_schema_tree.specs.TreeDepth.{input_value_depth, field_depth, enum_value_depth, parts_depth, body_depth, definition_depth}
 
 -- ---- names, types and values
 
@@ -53,36 +57,26 @@ IsWholeDefinition _ = Unit {0}
 -- ---- brackets that are open at once
 
 abbrev pub input_value_brackets : InputValueTree → ℕ
-input_value_brackets v = max (type_brackets v.value_type) (max (option_map_or value_brackets v.default_value 0) (directives_brackets v.directives))
+input_value_brackets = input_value_depth in_brackets
 
 abbrev pub field_brackets : FieldTree → ℕ
-field_brackets f = max (in_parentheses input_value_brackets f.arguments) (max (type_brackets f.field_type) (directives_brackets f.directives))
+field_brackets = field_depth in_brackets
 
 abbrev pub enum_value_brackets : EnumValueTree → ℕ
-enum_value_brackets v = directives_brackets v.directives
+enum_value_brackets = enum_value_depth in_brackets
 
--- braces, where there is anything in them
 abbrev pub parts_brackets : PartsTree → ℕ
-parts_brackets scalar = 0
-parts_brackets (object is fs) = in_parentheses field_brackets fs
-parts_brackets (interface is fs) = in_parentheses field_brackets fs
-parts_brackets (union ts) = 0
-parts_brackets (enum vs) = in_parentheses enum_value_brackets vs
-parts_brackets (input fs) = in_parentheses input_value_brackets fs
+parts_brackets = parts_depth in_brackets
 
 abbrev pub body_brackets : BodyTree → ℕ
-body_brackets b = max (directives_brackets b.directives) (parts_brackets b.parts)
+body_brackets = body_depth in_brackets
 
--- a schema has its braces always
 abbrev pub definition_brackets : DefinitionTree → ℕ
-definition_brackets (schema s) = max (directives_brackets s.directives) 1
-definition_brackets (type_definition d b) = body_brackets b
-definition_brackets (extension b) = body_brackets b
-definition_brackets (directive d) = in_parentheses input_value_brackets d.arguments
+definition_brackets = definition_depth in_brackets
 
 -- ---- documents
 
--- a document whose layout is a document again
+-- a document that is read from its layout as what it is
 pub record IsPrintable (d : DocumentTree) : Type 0 where
   pub definition : has_any d ≡ true
   -- names, types and values

@@ -2,6 +2,7 @@
 use Rattle.std.specs.Prelude.{ℕ, Bool, true, false, ◌||◌, List, [], ◌∷◌, Option, None, map}
 use Rattle.graphql_grammar.specs.Tokens.{Place}
 use Rattle.graphql_values.specs.Values.{ValueTree, TypeTree, DirectiveTree, no_place, erase_all}
+use Rattle.graphql_values.specs.TreeDepth.{has_any}
 use Rattle.graphql_schema_tree.specs.declared.location.DirectiveLocation.{DirectiveLocation}
 
 -- ---- parts of definitions
@@ -91,10 +92,6 @@ abbrev pub DocumentTree : Type 0
 DocumentTree = List DefinitionTree
 
 -- ---- what an extension adds
-
-abbrev pub has_any : {A : Type 0} → List A → Bool
-has_any [] = false
-has_any (x ∷ xs) = true
 
 -- a directive or a part of its own; for an object interfaces do too, for an interface they do not
 abbrev pub adds : BodyTree → Bool

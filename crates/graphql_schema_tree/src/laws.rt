@@ -2,7 +2,7 @@
 ghost use Rattle.std.specs.Prelude.{◌≡◌, ℕ, List, [], ◌∷◌, Some};
 ghost use Rattle.graphql_core.specs.Depths.{deepest};
 ghost use Rattle.graphql_core.specs.Style.{Layout};
-ghost use Rattle.graphql_values.specs.Printable.{most};
+ghost use Rattle.graphql_values.specs.TreeDepth.{most};
 ghost use Rattle.graphql_schema_tree.specs.Tree.{DocumentTree, erase};
 ghost use Rattle.graphql_schema_tree.specs.Language.{IsDocumentOf};
 ghost use Rattle.graphql_schema_tree.specs.Lawful.{IsLawfulDocument};

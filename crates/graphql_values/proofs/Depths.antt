@@ -15,7 +15,8 @@ use Rattle.graphql_values.specs.ValueLayout.{has_block_form, before_part, after_
 use Rattle.graphql_values.specs.ValueLayout.{items_layout, members_layout, type_layout, each_argument, arguments_layout, directive_layout, directives_layout}
 use Rattle.graphql_values.specs.Lines.{in_braces, later, separated, default_layout}
 use Rattle.graphql_values.specs.Printable.{value_brackets, items_brackets, members_brackets, type_brackets, argument_brackets, arguments_brackets}
-use Rattle.graphql_values.specs.Printable.{directive_brackets, directives_brackets, most}
+use Rattle.graphql_values.specs.Printable.{directive_brackets, directives_brackets}
+use Rattle.graphql_values.specs.TreeDepth.{most}
 
 -- ---- parts between brackets
 

@@ -11,7 +11,8 @@ use Rattle.graphql_values.specs.Lines.{default_layout}
 use Rattle.graphql_values.specs.Grammar.{shared, argument_symbol, arguments_symbol, directive_symbol, directives_symbol, default_symbol}
 use Rattle.graphql_values.specs.Meanings.{spelling_at, pairs_of, optional_arguments_of, directive_of, each_directive_of, directives_of, default_of}
 use Rattle.graphql_values.specs.Meanings.{optional_default_of}
-use Rattle.graphql_values.specs.Printable.{IsPrintableArgument, IsPrintableDirective, IsPrintableDefault, most, argument_brackets, arguments_brackets}
+use Rattle.graphql_values.specs.Printable.{IsPrintableArgument, IsPrintableDirective, IsPrintableDefault, argument_brackets, arguments_brackets}
+use Rattle.graphql_values.specs.TreeDepth.{most}
 use Rattle.graphql_values.specs.Printable.{directive_brackets, directives_brackets, value_brackets}
 use Rattle.graphql_values.specs.Lawful.{IsLawful, AreLawfulArguments, AreLawfulDirectives}
 use Rattle.graphql_values.specs.declared.read.values.Sort.TheVariants.{Value, Constant}

@@ -6,7 +6,7 @@ use Rattle.graphql_values.specs.Values.{no_members, member, DirectiveTree}
 use Rattle.graphql_values.specs.ValueLayout.{has_block_form, opened, string_levels, value_levels, items_levels, members_levels, most_levels, arguments_levels}
 use Rattle.graphql_values.specs.ValueLayout.{directives_levels}
 use Rattle.graphql_values.specs.Lines.{default_levels}
-use Rattle.graphql_values.specs.Printable.{most}
+use Rattle.graphql_values.specs.TreeDepth.{most}
 
 -- ---- lists of trees
 

@@ -13,7 +13,8 @@ use Rattle.graphql_values.specs.Meanings.{spelling_at, plain_of, put_all, value_
 use Rattle.graphql_values.specs.Meanings.{const_pairs_of, default_of, marked, type_of, arguments_of, optional_arguments_of, directive_of, each_directive_of}
 use Rattle.graphql_values.specs.Meanings.{directives_of}
 use Rattle.graphql_values.specs.Printable.{IsPrintableValue, ArePrintableItems, ArePrintableMembers, AreConstant, HoldConstants, AdmitsNull, IsPrintableType}
-use Rattle.graphql_values.specs.Printable.{IsPrintableArgument, IsPrintableDirective, IsPrintableDefault, most, value_brackets, items_brackets}
+use Rattle.graphql_values.specs.Printable.{IsPrintableArgument, IsPrintableDirective, IsPrintableDefault, value_brackets, items_brackets}
+use Rattle.graphql_values.specs.TreeDepth.{most}
 use Rattle.graphql_values.specs.Printable.{members_brackets, type_brackets, argument_brackets, arguments_brackets, directive_brackets, directives_brackets}
 use Rattle.graphql_values.proofs.Leaves.{leaf_name, leaf_except}
 

@@ -3,7 +3,7 @@ use Rattle.std.proofs.Common.{◌≡◌, ◌+◌, ◌++◌, ◌∙◌, [], ◌�
 use Rattle.std.specs.List.{AllByRecursion, flat_map}
 use Rattle.graphql_core.specs.Parts.{Part, text_of, gap}
 use Rattle.graphql_values.specs.Lines.{later, separated}
-use Rattle.graphql_values.specs.Printable.{most}
+use Rattle.graphql_values.specs.TreeDepth.{most}
 use Rattle.graphql_values.specs.steps.Joined.{joined}
 use Rattle.graphql_values.proofs.Appending.{text_append}
 use Rattle.graphql_values.proofs.Enclosed.{next_text}

@@ -1,4 +1,5 @@
 pub mod Values
+pub mod TreeDepth
 pub mod ValueViews
 pub mod Leaves
 pub mod Grammar

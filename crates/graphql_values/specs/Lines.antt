@@ -3,7 +3,8 @@ use Rattle.std.specs.Prelude.{ℕ, List, [], ◌∷◌, ◌++◌, Option, Some, 
 use Rattle.graphql_core.specs.Style.{Layout, spaces}
 use Rattle.graphql_core.specs.Parts.{Part, mark, gap}
 use Rattle.graphql_values.specs.Values.{ValueTree}
-use Rattle.graphql_values.specs.ValueLayout.{value_layout, value_levels}
+use Rattle.graphql_values.specs.TreeDepth.{default_depth}
+use Rattle.graphql_values.specs.ValueLayout.{value_layout, in_levels}
 
 -- lines in braces, of which the closing one stands at the margin
 abbrev pub in_braces : ℕ → List Part → List Part
@@ -25,5 +26,4 @@ default_layout style margin None = []
 default_layout style margin (Some v) = gap (codes " ") ++ (mark (codes "=") ++ (gap (codes " ") ++ value_layout style margin v))
 
 abbrev pub default_levels : Layout → Option ValueTree → ℕ
-default_levels style None = 0
-default_levels style (Some v) = value_levels style v
+default_levels style = default_depth (in_levels style)

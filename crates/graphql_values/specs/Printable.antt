@@ -4,6 +4,8 @@ use Rattle.std.specs.List.{AllByRecursion}
 use Rattle.graphql_lexer.specs.Lexical.{IsName}
 use Rattle.graphql_values.specs.Values.{ValueTree, variable, enum, list, object, ValueItems, no_items, item, ValueMembers, no_members, member, TypeTree, named}
 use Rattle.graphql_values.specs.Values.{list_of, non_null, DirectiveTree}
+use Rattle.graphql_values.specs.TreeDepth.{Weights, one_around, value_depth, items_depth, members_depth, argument_depth, arguments_depth, directive_depth}
+use Rattle.graphql_values.specs.TreeDepth.{directives_depth}
 
 -- ---- names
 
@@ -68,43 +70,38 @@ IsPrintableDefault v = IsPrintableValue v × IsConstant v
 
 -- ---- brackets that are open at once
 
--- the most brackets of a list's trees
-abbrev pub most : {A : Type 0} → (A → ℕ) → List A → ℕ
-most f [] = 0
-most f (x ∷ xs) = max (f x) (most f xs)
-
--- parentheses, where there is anything in them
-abbrev pub in_parentheses : {A : Type 0} → (A → ℕ) → List A → ℕ
-in_parentheses f [] = 0
-in_parentheses f (x ∷ xs) = most f (x ∷ xs) + 1
-
-abbrev mutual
-  pub value_brackets : ValueTree → ℕ
-  value_brackets (list vs) = items_brackets vs + 1
-  value_brackets (object ms) = members_brackets ms + 1
-  value_brackets _ = 0
-
-  pub items_brackets : ValueItems → ℕ
-  items_brackets no_items = 0
-  items_brackets (item v vs) = max (value_brackets v) (items_brackets vs)
-
-  pub members_brackets : ValueMembers → ℕ
-  members_brackets no_members = 0
-  members_brackets (member n v ms) = max (value_brackets v) (members_brackets ms)
-
 abbrev pub type_brackets : TypeTree → ℕ
 type_brackets (named n) = 0
 type_brackets (list_of t) = type_brackets t + 1
 type_brackets (non_null t) = type_brackets t
 
+-- lists, objects and all that stands in parentheses
+abbrev pub in_brackets : Weights
+in_brackets = record {
+  of_string = λ text. 0;
+  of_description = λ text. 0;
+  of_type = type_brackets;
+  around_values = λ n. n + 1;
+  around_definitions = one_around;
+}
+
+abbrev pub value_brackets : ValueTree → ℕ
+value_brackets = value_depth in_brackets
+
+abbrev pub items_brackets : ValueItems → ℕ
+items_brackets = items_depth in_brackets
+
+abbrev pub members_brackets : ValueMembers → ℕ
+members_brackets = members_depth in_brackets
+
 abbrev pub argument_brackets : List ℕ × ValueTree → ℕ
-argument_brackets a = value_brackets a.1
+argument_brackets = argument_depth in_brackets
 
 abbrev pub arguments_brackets : List (List ℕ × ValueTree) → ℕ
-arguments_brackets = in_parentheses argument_brackets
+arguments_brackets = arguments_depth in_brackets
 
 abbrev pub directive_brackets : DirectiveTree → ℕ
-directive_brackets d = arguments_brackets d.arguments
+directive_brackets = directive_depth in_brackets
 
 abbrev pub directives_brackets : List DirectiveTree → ℕ
-directives_brackets = most directive_brackets
+directives_brackets = directives_depth in_brackets

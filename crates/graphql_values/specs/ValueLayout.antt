@@ -1,6 +1,7 @@
 -- The layouts of values, types, arguments and directives, where a line begins with a margin of so many spaces.
 use Rattle.std.specs.Prelude.{ℕ, ◌+◌, ◌-◌, ◌*◌, ◌^◌, ◌≤◌, max, Bool, true, false, not, ◌&&◌, ◌||◌, ◌==◌, nat_lt, nat_le, if◌then◌else◌, List, [], ◌∷◌, ◌++◌}
-use Rattle.std.specs.Prelude.{codes, map}
+use Rattle.std.specs.Prelude.{Option, codes, map}
+use Rattle.std.specs.Option.{option_map_or}
 use Rattle.std.specs.Fmt.{signed_decimal}
 use Rattle.std.specs.List.{list_all, list_any, slice_split, flat_map}
 use Rattle.std.specs.Str.{chars}
@@ -11,6 +12,7 @@ use Rattle.graphql_core.specs.Style.{Layout, default_style, spaces}
 use Rattle.graphql_core.specs.Parts.{Part, token, name, mark, gap, new_line}
 use Rattle.graphql_values.specs.Values.{ValueTree, variable, int, float, string, boolean, null, enum, list, object, ValueItems, no_items, item, ValueMembers}
 use Rattle.graphql_values.specs.Values.{no_members, member, TypeTree, named, list_of, non_null, DirectiveTree}
+use Rattle.graphql_values.specs.TreeDepth.{Weights, most, value_depth, items_depth, members_depth, argument_depth, arguments_depth, directives_depth}
 
 -- ---- strings in quotes
 
@@ -184,32 +186,37 @@ opened style n = if style.multiline then n + 1 else n
 abbrev pub string_levels : List ℕ → ℕ
 string_levels text = if has_block_form text then 1 else 0
 
-abbrev mutual
-  pub value_levels : Layout → ValueTree → ℕ
-  value_levels style (string text) = string_levels text
-  value_levels style (list vs) = opened style (items_levels style vs)
-  value_levels style (object ms) = opened style (members_levels style ms)
-  value_levels style _ = 0
+-- a description in block form opens one
+abbrev pub description_levels : Option (List ℕ) → ℕ
+description_levels d = option_map_or string_levels d 0
 
-  pub items_levels : Layout → ValueItems → ℕ
-  items_levels style no_items = 0
-  items_levels style (item v vs) = max (value_levels style v) (items_levels style vs)
+-- types open none, nor do parentheses in one line
+abbrev pub in_levels : Layout → Weights
+in_levels style = record {
+  of_string = string_levels;
+  of_description = description_levels;
+  of_type = λ t. 0;
+  around_values = opened style;
+  around_definitions = λ any n. n;
+}
 
-  pub members_levels : Layout → ValueMembers → ℕ
-  members_levels style no_members = 0
-  members_levels style (member n v ms) = max (value_levels style v) (members_levels style ms)
+abbrev pub value_levels : Layout → ValueTree → ℕ
+value_levels style = value_depth (in_levels style)
+
+abbrev pub items_levels : Layout → ValueItems → ℕ
+items_levels style = items_depth (in_levels style)
+
+abbrev pub members_levels : Layout → ValueMembers → ℕ
+members_levels style = members_depth (in_levels style)
 
 abbrev pub most_levels : Layout → List (List ℕ × ValueTree) → ℕ
-most_levels style [] = 0
-most_levels style (a ∷ more) = max (value_levels style a.1) (most_levels style more)
+most_levels style = most (argument_depth (in_levels style))
 
 abbrev pub arguments_levels : Layout → List (List ℕ × ValueTree) → ℕ
-arguments_levels style [] = 0
-arguments_levels style (a ∷ more) = opened style (most_levels style (a ∷ more))
+arguments_levels style = arguments_depth (in_levels style)
 
 abbrev pub directives_levels : Layout → List DirectiveTree → ℕ
-directives_levels style [] = 0
-directives_levels style (d ∷ ds) = max (arguments_levels style d.arguments) (directives_levels style ds)
+directives_levels style = directives_depth (in_levels style)
 
 -- so many levels take more than `u32::MAX` spaces, whether a line stands in the last of them or not
 abbrev pub IsTooWide : Layout → ℕ → Type 0

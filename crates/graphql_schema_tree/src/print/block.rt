@@ -2,14 +2,15 @@
 ghost use Rattle.std.specs.Prelude.{◌≡◌, ◌+◌, ◌-◌, ◌*◌, ◌^◌, ◌<◌, OnOk, min};
 ghost use Rattle.std.specs.List.{AllByRecursion};
 ghost use Rattle.graphql_core.specs.Parts.{text_of};
-ghost use Rattle.graphql_schema_tree.specs.Layout.{block_layout, block_levels};
+ghost use Rattle.graphql_schema_tree.specs.Layout.{block_layout};
+ghost use Rattle.graphql_values.specs.TreeDepth.{most_enclosed};
 
 use graphql_core::format::{Sink, Style};
 use graphql_values::print::{Pretty, levels_in_each, write_each, write_spaces};
 
 /// How many levels trees in braces open at once, saturating at `usize::MAX`; none where there are none.
 pub fn levels_in_block<P: Pretty>(parts: &[P], style: &Style) -> usize
-    ensures { result ≡ min (block_levels (P.opens style.now) parts.now) (2 ^ 64 - 1) }
+    ensures { result ≡ min (most_enclosed (P.opens style.now) parts.now) (2 ^ 64 - 1) }
 {
     if parts.is_empty() {
         return 0;
@@ -24,7 +25,7 @@ pub fn write_block<S: Sink, P: Pretty>(
     style: &Style,
     margin: usize,
 ) -> Result<(), S::Error>
-    requires { margin + block_levels (P.opens style.now) parts.now * style.now.indent < 2 ^ 32 }
+    requires { margin + most_enclosed (P.opens style.now) parts.now * style.now.indent < 2 ^ 32 }
     ensures text { OnOk result (S.took out.old (text_of (block_layout margin (P.lines style.now (margin + style.now.indent)) parts.now)) out.new) }
     ensures lawful { OnOk result (AllByRecursion P.lawful parts.now) }
 {

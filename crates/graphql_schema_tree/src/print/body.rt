@@ -2,7 +2,7 @@
 ghost use Rattle.std.specs.Prelude.{◌≡◌, ◌+◌, ◌*◌, ◌^◌, ◌<◌, OnOk, List, map};
 ghost use Rattle.std.specs.List.{AllByRecursion, flat_map};
 ghost use Rattle.graphql_core.specs.Parts.{text_of};
-ghost use Rattle.graphql_values.specs.Printable.{most};
+ghost use Rattle.graphql_values.specs.TreeDepth.{most};
 ghost use Rattle.graphql_values.specs.ValueViews.{directives_view};
 ghost use Rattle.graphql_schema_tree.specs.Lawful.{IsLawfulBody, IsLawfulInputValue};
 ghost use Rattle.graphql_schema_tree.specs.Layout.{body_layout, parts_layout, body_levels, input_field_layout, input_value_levels};

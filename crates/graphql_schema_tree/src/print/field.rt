@@ -6,7 +6,7 @@ ghost use Rattle.graphql_schema_tree.specs.Lawful.{IsLawfulInputValue, IsLawfulF
 ghost use Rattle.graphql_schema_tree.specs.Layout.{arguments_layout, input_value_layout, field_layout, enum_value_layout};
 ghost use Rattle.graphql_schema_tree.specs.Layout.{input_value_levels, field_levels, enum_value_levels};
 ghost use Rattle.graphql_schema_tree.specs.Views.{input_value_view, field_view, enum_value_view};
-ghost use Rattle.graphql_values.specs.Printable.{most};
+ghost use Rattle.graphql_values.specs.TreeDepth.{most};
 
 use crate::print::description::{
     levels_in_description, write_description, write_inline_description,

@@ -4,7 +4,7 @@ ghost use Rattle.std.specs.Fmt.{DisplaysOnOk, DisplaysStyledOnOk};
 ghost use Rattle.std.specs.List.{AllByRecursion, flat_map};
 ghost use Rattle.graphql_core.specs.Parts.{Part, text_of};
 ghost use Rattle.graphql_core.specs.Style.{Layout, default_style};
-ghost use Rattle.graphql_values.specs.Printable.{most};
+ghost use Rattle.graphql_values.specs.TreeDepth.{most};
 ghost use Rattle.graphql_values.specs.ValueLayout.{IsNarrow};
 ghost use Rattle.graphql_values.specs.steps.Joined.{joined};
 

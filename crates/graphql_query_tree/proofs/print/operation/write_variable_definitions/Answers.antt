@@ -4,7 +4,7 @@ use Rattle.graphql_core.specs.Style.{Layout}
 use Rattle.graphql_values.proofs.Appending.{text_append, and_last, on_ok}
 use Rattle.graphql_values.proofs.Enclosed.{some_items, first_text}
 use Rattle.graphql_values.proofs.Seen.{most_seen, all_seen, joined_seen}
-use Rattle.graphql_values.specs.Printable.{most}
+use Rattle.graphql_values.specs.TreeDepth.{most}
 use Rattle.graphql_values.specs.steps.Joined.{joined}
 use Rattle.graphql_query_tree.specs.Lawful.{IsLawfulVariable}
 use Rattle.graphql_query_tree.specs.Layout.{variable_definition_layout, later_variable_definitions, variable_definitions_layout, variable_definition_levels}

@@ -1,7 +1,7 @@
 use Rattle.std.proofs.Common.{◌≡◌, ◌++◌, ◌+◌, ◌*◌, ◌<◌, ◌^◌, List, ℕ, drop, map}
 use Rattle.std.specs.List.{AllByRecursion, flat_map}
 use Rattle.graphql_core.specs.Parts.{text_of}
-use Rattle.graphql_values.specs.Printable.{most}
+use Rattle.graphql_values.specs.TreeDepth.{most}
 use Rattle.graphql_schema_tree.specs.Lawful.{IsLawfulInputValue}
 use Rattle.graphql_schema_tree.specs.Layout.{input_field_layout, input_value_levels}
 use Rattle.graphql_schema_tree.specs.Views.{input_value_view}

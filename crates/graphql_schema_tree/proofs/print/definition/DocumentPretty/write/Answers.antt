@@ -1,6 +1,6 @@
 use Rattle.std.proofs.Common.{◌+◌, ◌*◌, ◌<◌, ◌^◌, arith, map}
 use Rattle.std.proofs.lemmas.Result.{on_ok_weaker}
-use Rattle.graphql_values.specs.Printable.{most}
+use Rattle.graphql_values.specs.TreeDepth.{most}
 use Rattle.graphql_values.proofs.Appending.{and_alone}
 use Rattle.graphql_schema_tree.specs.Lawful.{IsLawfulDefinition}
 use Rattle.graphql_schema_tree.specs.Layout.{definition_layout, definition_levels}
