@@ -128,7 +128,7 @@ enum_value_printable : (n : ℕ) (x : Shape) → HasRoom schema n (Sym enum_valu
     → Within IsPrintableEnumValue enum_value_brackets n (enum_value_of x)
 enum_value_printable n _ (room_node (room_both d (room_both called ds)) c) =
     let (are, b) = directives_printable (room_shared ds refl refl) in
-    ((leaf_name refl called, are), b)
+    ((leaf_name refl called, are), omega arith)
 
 enum_values_printable : (n : ℕ) (x : Shape) → HasRoom schema n (Sym enum_values_symbol) x
     → Within (AllByRecursion IsPrintableEnumValue) (most_enclosed enum_value_brackets) n (enclosed_of enum_value_of x)
@@ -216,11 +216,11 @@ abbrev IsDefinition : ℕ → DefinitionTree → Type 0
 IsDefinition n d = IsPrintableDefinition d × IsWholeDefinition d × (definition_brackets d ≤ n)
 
 described_printable : {n : ℕ} {x : Shape} → HasRoom schema n (Sym described_symbol) x → IsDefinition n (described_of x)
-described_printable (room_node (room_first (room_both d f)) c) = let (is, b) = body_printable f in (is, tt, b)
+described_printable (room_node (room_first (room_both d f)) c) = let (is, b) = body_printable f in (is, tt, omega arith)
 described_printable (room_node (room_second (room_both d (room_node
     (room_both w (room_both at (room_both called (room_both arguments (room_both r (room_both o ls)))))) e))) c) =
     let (values, b) = optional_arguments_printable arguments in
-    ((leaf_name refl called, values), locations_there ls, b)
+    ((leaf_name refl called, values), locations_there ls, omega arith)
 
 item_printable : {n : ℕ} {x : Shape} → HasRoom schema n (Sym item_symbol) x → IsDefinition n (item_of x)
 item_printable (room_node (room_first (room_node (room_both w (room_both ds (room_both (room_leaf a l d) (room_both roots e)))) f)) c) =

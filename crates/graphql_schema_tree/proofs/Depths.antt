@@ -63,7 +63,7 @@ locations_rise (l ∷ ls) = gap_rises _ (level_rises refl (gap_rises _ (joined_r
 module _ (style : Layout) where
   input_value_rises : (margin : ℕ) (v : InputValueTree) → Rises (input_value_brackets v) (input_value_layout style margin v)
   input_value_rises margin v =
-      flat_rise (inline_rises style margin v.description) (level_rises refl (level_rises refl (gap_rises _ (both_rise (type_rises v.value_type)
+      both_rise (inline_rises style margin v.description) (level_rises refl (level_rises refl (gap_rises _ (both_rise (type_rises v.value_type)
       (both_rise (default_rises style margin v.default_value) (directives_rise style margin v.directives))))))
 
   later_arguments_rise : (margin : ℕ) (vs : List InputValueTree) → Rises (most input_value_brackets vs) (later_arguments style margin vs)
@@ -83,12 +83,12 @@ module _ (style : Layout) where
 
   field_rises : (margin : ℕ) (f : FieldTree) → Rises (field_brackets f) (field_layout style margin f)
   field_rises margin f =
-      flat_rise (description_rises style margin f.description) (gap_rises _ (level_rises refl (both_rise (arguments_rise margin f.arguments)
+      both_rise (description_rises style margin f.description) (gap_rises _ (level_rises refl (both_rise (arguments_rise margin f.arguments)
       (level_rises refl (gap_rises _ (both_rise (type_rises f.field_type) (line_end_rises _ (directives_rise style margin f.directives))))))))
 
   enum_value_rises : (margin : ℕ) (v : EnumValueTree) → Rises (enum_value_brackets v) (enum_value_layout style margin v)
   enum_value_rises margin v =
-      gap_rises _ (flat_rise (inline_rises style margin v.description)
+      gap_rises _ (both_rise (inline_rises style margin v.description)
       (level_rises refl (line_end_rises _ (directives_rise style margin v.directives))))
 
   -- ---- definitions
@@ -122,11 +122,11 @@ module _ (style : Layout) where
   definition_rises (schema s) =
       level_rises refl (both_rise (directives_rise style 0 s.directives) (gap_rises _ (braces_rise 0
       (flat_rise (root_rises style.indent _ s.query) (flat_rise (root_rises style.indent _ s.mutation) (root_rises style.indent _ s.subscription))))))
-  definition_rises (type_definition t b) = flat_rise (description_rises style 0 t) (body_rises b)
+  definition_rises (type_definition t b) = both_rise (description_rises style 0 t) (body_rises b)
   definition_rises (extension b) = level_rises refl (gap_rises _ (body_rises b))
   definition_rises (directive t) =
       let n = most_enclosed input_value_brackets t.arguments in
-      flat_rise (description_rises style 0 t.description) (level_rises refl (gap_rises _ (level_rises refl (level_rises refl
+      both_rise (description_rises style 0 t.description) (level_rises refl (gap_rises _ (level_rises refl (level_rises refl
       (rises_as {m = max n 0} {n = n} (omega arith) (both_rise (arguments_rise 0 t.arguments)
       (flat_rise (repeatable_rises t.repeatable) (line_end_rises _ (locations_rise t.locations)))))))))
 

@@ -215,7 +215,7 @@ module _ (style : Layout) where
       → Back schema (Sym enum_value_symbol) false d (enum_value_layout style margin v) false d (λ x. erase_enum_value (enum_value_of x) ≡ erase_enum_value v)
   enum_value_back margin v d (is, dir) dirlaw deep =
       margin_back (spaces_blank margin) (node_back (λ x. refl) (three_back
-      (inline_back margin v.description d) (named_back v.name d is) (then_gap 10 [] refl (directives_in margin v.directives d dir dirlaw deep))
+      (inline_back margin v.description d) (named_back v.name d is) (then_gap 10 [] refl (directives_in margin v.directives d dir dirlaw (omega arith)))
       (λ x y z hx hy hz. λ i. record { position = no_place; description = hx i; name = hy i; directives = hz i })))
 
   -- ---- types

@@ -234,7 +234,7 @@ definition_back style (extension b) is whole law deep =
 definition_back style (directive t) is whole law deep =
     node_back (λ x. refl) (second_back (second_back (node_back (λ x. refl) (second_back
     (both_back (description_back style 0 t.description 0) (directive_back style t.description t.name t.arguments t.repeatable
-    t.locations is.0 is.1 whole law deep) (λ x y hx hy. ap directive (hy _ hx)))))))
+    t.locations is.0 is.1 whole law (omega arith)) (λ x y hx hy. ap directive (hy _ hx)))))))
 
 -- ---- documents
 
