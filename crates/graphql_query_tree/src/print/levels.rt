@@ -24,8 +24,8 @@ pub fn levels_in_selection_set<N: Names>(set: &SelectionSet<N>, style: &Style) -
 }
 
 #[cycle(levels)]
-fn levels_in_selections<N: Names>(items: &Vec<Selection<N>>, style: &Style) -> usize
-    ensures { result ≡ min (selections_levels style.now (selections_view N.bytes items.now.items)) (2 ^ 64 - 1) }
+fn levels_in_selections<N: Names>(items: &[Selection<N>], style: &Style) -> usize
+    ensures { result ≡ min (selections_levels style.now (selections_view N.bytes items.now)) (2 ^ 64 - 1) }
 {
     let mut most = 0;
     'items: for item in items {

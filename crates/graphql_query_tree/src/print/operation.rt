@@ -58,13 +58,13 @@ impl<N: Names> Pretty for VariableDefinition<N> {
 /// Appends the variables of an operation in parentheses, where it has any.
 fn write_variable_definitions<S: Sink, N: Names>(
     out: &mut S,
-    variables: &Vec<VariableDefinition<N>>,
+    variables: &[VariableDefinition<N>],
     style: &Style,
 ) -> Result<(), S::Error>
-    requires { variable_definitions_levels style.now (variable_definitions_view N.bytes variables.now.items) * style.now.indent < 2 ^ 32 }
+    requires { variable_definitions_levels style.now (variable_definitions_view N.bytes variables.now) * style.now.indent < 2 ^ 32 }
     ensures text { OnOk result (S.took out.old
-        (text_of (variable_definitions_layout style.now (variable_definitions_view N.bytes variables.now.items))) out.new) }
-    ensures lawful { OnOk result (AreLawfulVariables (variable_definitions_view N.bytes variables.now.items)) }
+        (text_of (variable_definitions_layout style.now (variable_definitions_view N.bytes variables.now))) out.new) }
+    ensures lawful { OnOk result (AreLawfulVariables (variable_definitions_view N.bytes variables.now)) }
 {
     if variables.is_empty() {
         return Ok(());
@@ -76,13 +76,13 @@ fn write_variable_definitions<S: Sink, N: Names>(
 
 /// How many levels an operation with these parts opens at once.
 fn levels_in_operation<N: Names>(
-    variables: &Vec<VariableDefinition<N>>,
-    directives: &Vec<Directive<N>>,
+    variables: &[VariableDefinition<N>],
+    directives: &[Directive<N>],
     set: &SelectionSet<N>,
     style: &Style,
 ) -> usize
     ensures { result ≡ min
-        (operation_levels_of style.now (variable_definitions_view N.bytes variables.now.items) (directives_view N.bytes directives.now.items)
+        (operation_levels_of style.now (variable_definitions_view N.bytes variables.now) (directives_view N.bytes directives.now)
         (selection_set_view N.bytes set.now)) (2 ^ 64 - 1) }
 {
     let around = levels_in_each(variables, style).max(levels_in_directives(directives, style));
@@ -94,19 +94,19 @@ fn write_operation<S: Sink, N: Names>(
     out: &mut S,
     keyword: &str,
     name: &Option<N::Value>,
-    variables: &Vec<VariableDefinition<N>>,
-    directives: &Vec<Directive<N>>,
+    variables: &[VariableDefinition<N>],
+    directives: &[Directive<N>],
     set: &SelectionSet<N>,
     style: &Style,
 ) -> Result<(), S::Error>
-    requires { operation_levels_of style.now (variable_definitions_view N.bytes variables.now.items) (directives_view N.bytes directives.now.items)
+    requires { operation_levels_of style.now (variable_definitions_view N.bytes variables.now) (directives_view N.bytes directives.now)
         (selection_set_view N.bytes set.now) * style.now.indent < 2 ^ 32 }
     ensures text { OnOk result
         (S.took out.old (text_of
-        (operation_of style.now keyword.now (option_map N.bytes name.now) (variable_definitions_view N.bytes variables.now.items)
-        (directives_view N.bytes directives.now.items) (selection_set_view N.bytes set.now))) out.new) }
+        (operation_of style.now keyword.now (option_map N.bytes name.now) (variable_definitions_view N.bytes variables.now)
+        (directives_view N.bytes directives.now) (selection_set_view N.bytes set.now))) out.new) }
     ensures lawful { OnOk result
-        (AreLawfulParts (variable_definitions_view N.bytes variables.now.items) (directives_view N.bytes directives.now.items)
+        (AreLawfulParts (variable_definitions_view N.bytes variables.now) (directives_view N.bytes directives.now)
         (selection_set_view N.bytes set.now)) }
 {
     out.push_str(keyword)?;

@@ -97,13 +97,13 @@ pub fn write_selection_set<S: Sink, N: Names>(
 #[cycle(print)]
 fn write_selections<S: Sink, N: Names>(
     out: &mut S,
-    items: &Vec<Selection<N>>,
+    items: &[Selection<N>],
     style: &Style,
     margin: usize,
 ) -> Result<(), S::Error>
-    requires { margin + selections_levels style.now (selections_view N.bytes items.now.items) * style.now.indent < 2 ^ 32 }
-    ensures text { OnOk result (S.took out.old (text_of (selections_layout style.now margin (selections_view N.bytes items.now.items))) out.new) }
-    ensures lawful { OnOk result (AreLawfulSelections (selections_view N.bytes items.now.items)) }
+    requires { margin + selections_levels style.now (selections_view N.bytes items.now) * style.now.indent < 2 ^ 32 }
+    ensures text { OnOk result (S.took out.old (text_of (selections_layout style.now margin (selections_view N.bytes items.now))) out.new) }
+    ensures lawful { OnOk result (AreLawfulSelections (selections_view N.bytes items.now)) }
 {
     'items: for item in items {
         write_selection(out, item, style, margin)?;

@@ -23,8 +23,8 @@ fn sets_in_set<N: Names>(set: &SelectionSet<N>) -> usize
 }
 
 #[cycle(sets)]
-fn sets_in_selections<N: Names>(items: &Vec<Selection<N>>) -> usize
-    ensures { BoundsLevels result (λ style. selections_levels style (selections_view N.bytes items.now.items)) }
+fn sets_in_selections<N: Names>(items: &[Selection<N>]) -> usize
+    ensures { BoundsLevels result (λ style. selections_levels style (selections_view N.bytes items.now)) }
 {
     let mut most = 0;
     'items: for item in items {

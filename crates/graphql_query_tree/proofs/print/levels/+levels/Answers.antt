@@ -1,13 +1,18 @@
 use Rattle.std.proofs.Common.{◌-◌, ◌^◌, ◌∙◌, arith, refl, sym}
 use Rattle.graphql_values.proofs.Counting.{all_counted}
+use Rattle.graphql_query_tree.specs.declared.tree.SelectionSet.{the_lemmas}
 use Rattle.graphql_query_tree.specs.Tree.{selections_view}
 use Rattle.graphql_query_tree.specs.Layout.{selections_levels}
 use Rattle.graphql_query_tree.proofs.LayoutTexts.{selection_set_parts, no_items, some_items, nothing_levels, some_levels, selection_here}
 use Rattle.graphql_query_tree.proofs.print.levels.+levels.Goals as goal
 
+pub levels_in_selection_set-levels_in_selections-requires : goal.levels_in_selection_set-levels_in_selections-requires
+levels_in_selection_set-levels_in_selections-requires g t c κs within = (rw c.deref.ensures.value (grind (arith, the_lemmas)), within)
+
 pub levels_in_selection_set-returns : goal.levels_in_selection_set-returns
 levels_in_selection_set-returns g t c =
-    rw (selection_set_parts g.N.Names.bytes c.args.set.now) (omega (arith, c.levels_in_selections.ensures, c.saturating_add.ensures))
+    let inside = rw c.deref.ensures.value at c.levels_in_selections.ensures in
+    rw (selection_set_parts g.N.Names.bytes c.args.set.now) (omega (arith, inside, c.saturating_add.ensures))
 
 pub levels_in_selected-returns : goal.levels_in_selected-returns
 levels_in_selected-returns g t c =
@@ -26,12 +31,12 @@ pub levels_in_selections-items-preserved : goal.levels_in_selections-items-prese
 levels_in_selections-items-preserved g t c =
     let bytes = g.N.Names.bytes in
     let l = c.items in
-    let here = selection_here bytes c.deref-item-items.result.now l.item-index c.item-item.result (omega arith) c.item-item.is in
+    let here = selection_here bytes c.args.items.now l.item-index c.item-item.result (omega arith) c.item-item.is in
     let left = rw here at l.invariant.levels in
     record { levels = omega (arith, left, c.levels_in_selection.ensures, c.max-most.ensures) }
 
 pub levels_in_selections-returns : goal.levels_in_selections-returns
 levels_in_selections-returns g t c =
     let l = c.items in
-    all_counted (selections_view g.N.Names.bytes) c.deref-item-items.result.now c.args.items.now.items l.item-index (omega arith)
-    c.deref-item-items.ensures.value (selections_levels c.args.style.now) l.most (2 ^ 64 - 1) refl l.invariant.levels
+    all_counted (selections_view g.N.Names.bytes) c.args.items.now c.args.items.now l.item-index (omega arith) refl
+    (selections_levels c.args.style.now) l.most (2 ^ 64 - 1) refl l.invariant.levels

@@ -5,7 +5,7 @@ use Rattle.graphql_query_tree.proofs.print.levels.+levels.Given as goal
 
 abbrev pub invariant-levels_in_selections-items : goal.invariant-levels_in_selections-items
 invariant-levels_in_selections-items g l =
-    let left = selections_levels l.style (selections_view g.N.Names.bytes (drop l.item-index l.item-items)) in
+    let left = selections_levels l.style (selections_view g.N.Names.bytes (drop l.item-index l.items)) in
     record {
-      levels : max l.most (min left (2 ^ 64 - 1)) ≡ min (selections_levels l.style (selections_view g.N.Names.bytes l.item-items)) (2 ^ 64 - 1);
+      levels : max l.most (min left (2 ^ 64 - 1)) ≡ min (selections_levels l.style (selections_view g.N.Names.bytes l.items)) (2 ^ 64 - 1);
     }

@@ -12,11 +12,17 @@ use Rattle.graphql_values.proofs.Appending.{text_append, and_last, and_part, on_
 use Rattle.graphql_values.proofs.Counting.{all_hold}
 use Rattle.graphql_query_tree.proofs.print.selection.+print.Goals as goal
 
+pub write_selection_set-write_selections-requires : goal.write_selection_set-write_selections-requires
+write_selection_set-write_selections-requires g t c κs within =
+    let fits = rw (selection_set_parts g.N.Names.bytes c.args.set.now) at c.requires in
+    (rw c.deref.ensures.value (grind (arith, the_lemmas)), rw c.deref.ensures.value (search (rules, fits)))
+
 pub write_selection_set-returns-clause-text : goal.write_selection_set-returns-clause-text
 write_selection_set-returns-clause-text g t c =
     let bytes = g.N.Names.bytes in
     let more = g.met.S.Sink.took_more in
-    let written = more _ _ _ _ _ (more _ _ _ _ _ c.in_ok-push_str.ensures c.in_ok-write_selections.ensures.text) c.in_ok-write_spaces.ensures in
+    let selections = rw c.deref.ensures.value at c.in_ok-write_selections.ensures.text in
+    let written = more _ _ _ _ _ (more _ _ _ _ _ c.in_ok-push_str.ensures selections) c.in_ok-write_spaces.ensures in
     and_last g.S.Sink.took more _ _ _ _ _ _ _ written c.push_str-2.ensures
     (rw (selection_set_parts bytes c.args.set.now, c.indentation.ensures)
     (braces_text c.args.margin
@@ -24,13 +30,14 @@ write_selection_set-returns-clause-text g t c =
 
 pub write_selection_set-returns-clause-lawful : goal.write_selection_set-returns-clause-lawful
 write_selection_set-returns-clause-lawful g t c =
-    on_ok c.push_str-2.result (rw (selection_set_parts g.N.Names.bytes c.args.set.now) c.in_ok-write_selections.ensures.lawful)
+    let selections = rw c.deref.ensures.value at c.in_ok-write_selections.ensures.lawful in
+    on_ok c.push_str-2.result (rw (selection_set_parts g.N.Names.bytes c.args.set.now) selections)
 
 pub write_selections-write_selection-requires : goal.write_selections-write_selection-requires
 write_selections-write_selection-requires g t c κs within = (
   grind (arith, the_lemmas),
   let l = c.items in
-      let here = selection_here g.N.Names.bytes c.deref-item-items.result.now l.item-index c.item-item.result (omega arith) c.item-item.is in
+      let here = selection_here g.N.Names.bytes c.args.items.now l.item-index c.item-item.result (omega arith) c.item-item.is in
       let bound = rw here at l.invariant.bound in
       let fits = narrower c.args.margin _ _ c.args.style.now.indent (2 ^ 32) bound in
       search (rules, fits.0),
@@ -38,7 +45,7 @@ write_selections-write_selection-requires g t c κs within = (
 
 pub write_selections-items-init : goal.write_selections-items-init
 write_selections-items-init g t c = record {
-  bound = rw c.deref-item-items.ensures.value c.requires;
+  bound = c.requires;
   wrote = ([], g.met.S.Sink.took_nil _, refl);
   lawful = λ h. h;
 }
@@ -47,7 +54,7 @@ pub write_selections-items-preserved : goal.write_selections-items-preserved
 write_selections-items-preserved g t c =
     let bytes = g.N.Names.bytes in
     let l = c.items in
-    let here = selection_here bytes c.deref-item-items.result.now l.item-index c.item-item.result (omega arith) c.item-item.is in
+    let here = selection_here bytes c.args.items.now l.item-index c.item-item.result (omega arith) c.item-item.is in
     let bound = rw here at l.invariant.bound in
     let fits = narrower c.args.margin _ _ c.args.style.now.indent (2 ^ 32) bound in
     let (done, wrote, rest) = l.invariant.wrote in
@@ -62,37 +69,64 @@ write_selections-items-preserved g t c =
 
 pub write_selections-returns-clause-lawful : goal.write_selections-returns-clause-lawful
 write_selections-returns-clause-lawful g t c =
-    all_hold (selections_view g.N.Names.bytes) c.deref-item-items.result.now c.args.items.now.items c.items.item-index (omega arith)
-    c.deref-item-items.ensures.value AreLawfulSelections tt c.items.invariant.lawful
+    all_hold (selections_view g.N.Names.bytes) c.args.items.now c.args.items.now c.items.item-index (omega arith) refl
+    AreLawfulSelections tt c.items.invariant.lawful
+
+pub write_field-write_directives-requires : goal.write_field-write_directives-requires
+write_field-write_directives-requires g t c =
+    let indent = c.args.style.now.indent in
+    let fits = rw (field_parts g.N.Names.bytes c.args.field.now) at c.requires in
+    let later = (narrower c.args.margin _ _ indent (2 ^ 32) fits).1 in
+    rw c.deref-2.ensures.value (narrower c.args.margin _ _ indent (2 ^ 32) later).0
+
+pub write_field-write_selected-requires : goal.write_field-write_selected-requires
+write_field-write_selected-requires g t c κs within =
+    let indent = c.args.style.now.indent in
+    let fits = rw (field_parts g.N.Names.bytes c.args.field.now) at c.requires in
+    let later = (narrower c.args.margin _ _ indent (2 ^ 32) fits).1 in
+    let last = (narrower c.args.margin _ _ indent (2 ^ 32) later).1 in
+    (grind (arith, the_lemmas), search (rules, last))
 
 pub write_field-returns-clause-text : goal.write_field-returns-clause-text
 write_field-returns-clause-text g t c =
     let bytes = g.N.Names.bytes in
     let more = g.met.S.Sink.took_more in
     let named = more _ _ _ _ _ (more _ _ _ _ _ c.in_ok-write_spaces.ensures c.in_ok-write_alias.ensures) c.in_ok-push_str.ensures in
-    let written = more _ _ _ _ _ (more _ _ _ _ _ named c.in_ok-write_arguments.ensures.text) c.in_ok-write_directives.ensures.text in
+    let arguments = rw c.deref.ensures.value at c.in_ok-write_arguments.ensures.text in
+    let directives = rw c.deref-2.ensures.value at c.in_ok-write_directives.ensures.text in
+    let written = more _ _ _ _ _ (more _ _ _ _ _ named arguments) directives in
     and_last g.S.Sink.took more _ _ _ _ _ _ _ written c.write_selected.ensures.text
     (rw (field_parts bytes c.args.field.now, c.view.ensures) (simp (text_append, append_assoc)))
 
 pub write_field-returns-clause-lawful : goal.write_field-returns-clause-lawful
 write_field-returns-clause-lawful g t c =
+    let arguments = rw c.deref.ensures.value at c.in_ok-write_arguments.ensures.lawful in
+    let directives = rw c.deref-2.ensures.value at c.in_ok-write_directives.ensures.lawful in
     rw (field_parts g.N.Names.bytes c.args.field.now)
-    (on_ok_weaker c.write_selected.result (λ set. (c.in_ok-write_arguments.ensures.lawful, c.in_ok-write_directives.ensures.lawful, set))
+    (on_ok_weaker c.write_selected.result (λ set. (arguments, directives, set))
     c.write_selected.ensures.lawful)
+
+pub write_inline_fragment-write_selection_set-requires : goal.write_inline_fragment-write_selection_set-requires
+write_inline_fragment-write_selection_set-requires g t c κs within =
+    let fits = rw (inline_fragment_parts g.N.Names.bytes c.args.fragment.now) at c.requires in
+    let later = (narrower c.args.margin _ _ c.args.style.now.indent (2 ^ 32) fits).1 in
+    (grind (arith, the_lemmas), search (rules, later))
 
 pub write_inline_fragment-returns-clause-text : goal.write_inline_fragment-returns-clause-text
 write_inline_fragment-returns-clause-text g t c =
     let bytes = g.N.Names.bytes in
     let more = g.met.S.Sink.took_more in
     let on = more _ _ _ _ _ (more _ _ _ _ _ c.in_ok-write_spaces.ensures c.in_ok-push_str.ensures) c.in_ok-write_on.ensures in
-    let written = more _ _ _ _ _ (more _ _ _ _ _ on c.in_ok-write_directives.ensures.text) c.in_ok-push_str-2.ensures in
+    let directives = rw c.deref.ensures.value at c.in_ok-write_directives.ensures.text in
+    let written = more _ _ _ _ _ (more _ _ _ _ _ on directives) c.in_ok-push_str-2.ensures in
     and_last g.S.Sink.took more _ _ _ _ _ _ _ written c.write_selection_set.ensures.text
     (rw (inline_fragment_parts bytes c.args.fragment.now) (simp (text_append, append_assoc)))
 
 pub write_inline_fragment-returns-clause-lawful : goal.write_inline_fragment-returns-clause-lawful
 write_inline_fragment-returns-clause-lawful g t c =
+    let directives = rw c.deref.ensures.value at c.in_ok-write_directives.ensures.lawful in
     rw (inline_fragment_parts g.N.Names.bytes c.args.fragment.now)
-    (on_ok_weaker c.write_selection_set.result (λ set. (c.in_ok-write_directives.ensures.lawful, set)) c.write_selection_set.ensures.lawful)
+    (on_ok_weaker c.write_selection_set.result (λ set. (directives, set)) c.write_selection_set.ensures.lawful)
 
 pub write_selected-write_selection_set-requires : goal.write_selected-write_selection_set-requires
 write_selected-write_selection_set-requires g t c κs within =

@@ -7,8 +7,8 @@ use Rattle.graphql_query_tree.proofs.print.selection.+print.Given as goal
 
 abbrev pub invariant-write_selections-items : goal.invariant-write_selections-items
 invariant-write_selections-items g l =
-    let left = selections_view g.N.Names.bytes (drop l.item-index l.item-items) in
-    let whole = selections_view g.N.Names.bytes l.item-items in
+    let left = selections_view g.N.Names.bytes (drop l.item-index l.items) in
+    let whole = selections_view g.N.Names.bytes l.items in
     record {
       bound : l.margin + selections_levels l.style left * l.style.indent < 2 ^ 32;
       wrote : (done : List ℕ) × g.S.Sink.took l.initial.out done l.out

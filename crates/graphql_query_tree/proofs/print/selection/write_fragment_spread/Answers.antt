@@ -6,5 +6,6 @@ pub returns-clause-text : goal.returns-clause-text
 returns-clause-text g c =
     let more = g.met.S.Sink.took_more in
     let named = more _ _ _ _ _ (more _ _ _ _ _ c.in_ok-write_spaces.ensures c.in_ok-push_str.ensures) c.in_ok-push_str-2.ensures in
-    and_last g.S.Sink.took more _ _ _ _ _ _ _ (more _ _ _ _ _ named c.in_ok-write_directives.ensures.text) c.push_str-3.ensures
+    let directives = rw c.deref.ensures.value at c.in_ok-write_directives.ensures.text in
+    and_last g.S.Sink.took more _ _ _ _ _ _ _ (more _ _ _ _ _ named directives) c.push_str-3.ensures
     (rw c.view.ensures (simp (text_append, append_assoc)))

@@ -1,6 +1,7 @@
-use Rattle.std.proofs.Common.{◌-◌, ◌^◌, ◌∙◌, ◌+◌, ◌≤◌, min, arith, sym}
+use Rattle.std.proofs.Common.{◌∙◌, arith, sym}
 use Rattle.std.proofs.lemmas.List.{at_drop_all}
 use Rattle.graphql_values.specs.ValueViews.{arguments_view, directives_view}
+use Rattle.graphql_query_tree.specs.declared.tree.SelectionSet.{the_lemmas}
 use Rattle.graphql_query_tree.specs.Tree.{selections_view, selection_set_view}
 use Rattle.graphql_query_tree.specs.Layout.{selections_levels}
 use Rattle.graphql_query_tree.proofs.LayoutTexts.{selection_set_parts, field_parts, inline_fragment_parts, no_items, some_items, nothing_levels, some_levels}
@@ -8,9 +9,12 @@ use Rattle.graphql_query_tree.proofs.LayoutTexts.{seen_field, seen_spread, seen_
 use Rattle.graphql_query_tree.proofs.SetsTell.{field_bounded, braces_bounded}
 use Rattle.graphql_query_tree.proofs.print.width.+sets.Goals as goal
 
+pub sets_in_set-sets_in_selections-requires : goal.sets_in_set-sets_in_selections-requires
+sets_in_set-sets_in_selections-requires g t c κs within = (rw c.deref.ensures.value (grind (arith, the_lemmas)), within)
+
 pub sets_in_set-returns : goal.sets_in_set-returns
 sets_in_set-returns g t c style one_line =
-    let inside = c.sets_in_selections.ensures style one_line in
+    let inside = (rw c.deref.ensures.value at c.sets_in_selections.ensures) style one_line in
     rw (selection_set_parts g.N.Names.bytes c.args.set.now) (omega (arith, inside, c.saturating_add.ensures))
 
 pub sets_in_selected-returns : goal.sets_in_selected-returns
@@ -56,7 +60,7 @@ pub sets_in_selections-items-preserved : goal.sets_in_selections-items-preserved
 sets_in_selections-items-preserved g t c style one_line =
     let bytes = g.N.Names.bytes in
     let l = c.items in
-    let here = selection_here bytes c.deref-item-items.result.now l.item-index c.item-item.result (omega arith) c.item-item.is in
+    let here = selection_here bytes c.args.items.now l.item-index c.item-item.result (omega arith) c.item-item.is in
     let left = rw here at l.invariant style one_line in
     let first = c.sets_in_selection.ensures style one_line in
     omega (arith, left, first, c.max-most.ensures)
@@ -65,8 +69,6 @@ pub sets_in_selections-returns : goal.sets_in_selections-returns
 sets_in_selections-returns g t c style one_line =
     let bytes = g.N.Names.bytes in
     let l = c.items in
-    let xs = c.deref-item-items.result.now in
-    let left = at_drop_all (λ ys. selections_levels style (selections_view bytes ys)) xs l.item-index (omega arith) in
+    let left = at_drop_all (λ xs. selections_levels style (selections_view bytes xs)) c.args.items.now l.item-index (omega arith) in
     let seen = l.invariant style one_line in
-    let all : min (selections_levels style (selections_view bytes xs)) (2 ^ 64 - 1) ≤ l.most + 1 = omega (arith, seen, left) in
-    rw (← c.deref-item-items.ensures.value) all
+    omega (arith, seen, left)
