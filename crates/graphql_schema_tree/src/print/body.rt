@@ -22,13 +22,13 @@ use graphql_values::tree::Directive;
 pub fn write_scalar<S: Sink, N: Names>(
     out: &mut S,
     name: &N::Value,
-    directives: &Vec<Directive<N>>,
+    directives: &[Directive<N>],
     style: &Style,
 ) -> Result<(), S::Error>
-    requires { body_levels style.now (body (N.bytes name.now) (directives_view N.bytes directives.now.items) scalar) * style.now.indent < 2 ^ 32 }
+    requires { body_levels style.now (body (N.bytes name.now) (directives_view N.bytes directives.now) scalar) * style.now.indent < 2 ^ 32 }
     ensures text { OnOk result (S.took out.old (text_of (body_layout style.now
-        (body (N.bytes name.now) (directives_view N.bytes directives.now.items) scalar))) out.new) }
-    ensures lawful { OnOk result (IsLawfulBody (body (N.bytes name.now) (directives_view N.bytes directives.now.items) scalar)) }
+        (body (N.bytes name.now) (directives_view N.bytes directives.now) scalar))) out.new) }
+    ensures lawful { OnOk result (IsLawfulBody (body (N.bytes name.now) (directives_view N.bytes directives.now) scalar)) }
 {
     out.push_str("scalar ")?;
     out.push_str(N::view(name))?;
@@ -42,15 +42,15 @@ pub fn write_implementer<S: Sink, N: Names>(
     keyword: &str,
     name: &N::Value,
     interfaces: &[N::Value],
-    directives: &Vec<Directive<N>>,
+    directives: &[Directive<N>],
     fields: &[Field<N>],
     style: &Style,
 ) -> Result<(), S::Error>
-    requires { body_levels style.now (body (N.bytes name.now) (directives_view N.bytes directives.now.items)
+    requires { body_levels style.now (body (N.bytes name.now) (directives_view N.bytes directives.now)
         (object (map N.bytes interfaces.now) (map (field_view N.bytes) fields.now))) * style.now.indent < 2 ^ 32 }
     ensures text { OnOk result (S.took out.old (text_of (named keyword.now (N.bytes name.now) (parts_layout style.now
-        (directives_view N.bytes directives.now.items) (object (map N.bytes interfaces.now) (map (field_view N.bytes) fields.now))))) out.new) }
-    ensures lawful { OnOk result (IsLawfulBody (body (N.bytes name.now) (directives_view N.bytes directives.now.items)
+        (directives_view N.bytes directives.now) (object (map N.bytes interfaces.now) (map (field_view N.bytes) fields.now))))) out.new) }
+    ensures lawful { OnOk result (IsLawfulBody (body (N.bytes name.now) (directives_view N.bytes directives.now)
         (object (map N.bytes interfaces.now) (map (field_view N.bytes) fields.now)))) }
 {
     out.push_str(keyword)?;
@@ -65,15 +65,15 @@ pub fn write_implementer<S: Sink, N: Names>(
 pub fn write_union<S: Sink, N: Names>(
     out: &mut S,
     name: &N::Value,
-    directives: &Vec<Directive<N>>,
+    directives: &[Directive<N>],
     types: &[N::Value],
     style: &Style,
 ) -> Result<(), S::Error>
-    requires { body_levels style.now (body (N.bytes name.now) (directives_view N.bytes directives.now.items) (union (map N.bytes types.now)))
+    requires { body_levels style.now (body (N.bytes name.now) (directives_view N.bytes directives.now) (union (map N.bytes types.now)))
         * style.now.indent < 2 ^ 32 }
     ensures text { OnOk result (S.took out.old (text_of (body_layout style.now
-        (body (N.bytes name.now) (directives_view N.bytes directives.now.items) (union (map N.bytes types.now))))) out.new) }
-    ensures lawful { OnOk result (IsLawfulBody (body (N.bytes name.now) (directives_view N.bytes directives.now.items) (union (map N.bytes types.now)))) }
+        (body (N.bytes name.now) (directives_view N.bytes directives.now) (union (map N.bytes types.now))))) out.new) }
+    ensures lawful { OnOk result (IsLawfulBody (body (N.bytes name.now) (directives_view N.bytes directives.now) (union (map N.bytes types.now)))) }
 {
     out.push_str("union ")?;
     out.push_str(N::view(name))?;
@@ -86,15 +86,15 @@ pub fn write_union<S: Sink, N: Names>(
 pub fn write_enum<S: Sink, N: Names>(
     out: &mut S,
     name: &N::Value,
-    directives: &Vec<Directive<N>>,
+    directives: &[Directive<N>],
     values: &[EnumValue<N>],
     style: &Style,
 ) -> Result<(), S::Error>
-    requires { body_levels style.now (body (N.bytes name.now) (directives_view N.bytes directives.now.items)
+    requires { body_levels style.now (body (N.bytes name.now) (directives_view N.bytes directives.now)
         (enum (map (enum_value_view N.bytes) values.now))) * style.now.indent < 2 ^ 32 }
-    ensures text { OnOk result (S.took out.old (text_of (body_layout style.now (body (N.bytes name.now) (directives_view N.bytes directives.now.items)
+    ensures text { OnOk result (S.took out.old (text_of (body_layout style.now (body (N.bytes name.now) (directives_view N.bytes directives.now)
         (enum (map (enum_value_view N.bytes) values.now))))) out.new) }
-    ensures lawful { OnOk result (IsLawfulBody (body (N.bytes name.now) (directives_view N.bytes directives.now.items)
+    ensures lawful { OnOk result (IsLawfulBody (body (N.bytes name.now) (directives_view N.bytes directives.now)
         (enum (map (enum_value_view N.bytes) values.now)))) }
 {
     out.push_str("enum ")?;
@@ -127,15 +127,15 @@ fn write_input_fields<S: Sink, N: Names>(
 pub fn write_input_object<S: Sink, N: Names>(
     out: &mut S,
     name: &N::Value,
-    directives: &Vec<Directive<N>>,
+    directives: &[Directive<N>],
     fields: &[InputValue<N>],
     style: &Style,
 ) -> Result<(), S::Error>
-    requires { body_levels style.now (body (N.bytes name.now) (directives_view N.bytes directives.now.items)
+    requires { body_levels style.now (body (N.bytes name.now) (directives_view N.bytes directives.now)
         (input (map (input_value_view N.bytes) fields.now))) * style.now.indent < 2 ^ 32 }
-    ensures text { OnOk result (S.took out.old (text_of (body_layout style.now (body (N.bytes name.now) (directives_view N.bytes directives.now.items)
+    ensures text { OnOk result (S.took out.old (text_of (body_layout style.now (body (N.bytes name.now) (directives_view N.bytes directives.now)
         (input (map (input_value_view N.bytes) fields.now))))) out.new) }
-    ensures lawful { OnOk result (IsLawfulBody (body (N.bytes name.now) (directives_view N.bytes directives.now.items)
+    ensures lawful { OnOk result (IsLawfulBody (body (N.bytes name.now) (directives_view N.bytes directives.now)
         (input (map (input_value_view N.bytes) fields.now)))) }
 {
     out.push_str("input ")?;

@@ -30,7 +30,7 @@ returns-clause-text g c =
     let some = some_items _ c.args.fields.now refl (sym c.is_empty.ensures ∙ c.if-is_empty.false) in
     let seen : 0 < length fields = rw (length-map c.args.fields.now (input_value_view g.N.Names.bytes)) some in
     let n = g.N.Names.bytes c.args.name.now in
-    let directives = directives_layout style 0 (directives_view g.N.Names.bytes c.args.directives.now.items) in
+    let directives = directives_layout style 0 (directives_view g.N.Names.bytes c.args.directives.now) in
     let lines = input_field_layout style style.indent in
     let before = more _ _ _ _ _ (more _ _ _ _ _ c.in_ok-push_str.ensures c.in_ok-push_str-2.ensures) c.in_ok-write_directives.ensures.text in
     let inside = rw c.indentation.ensures at c.in_ok-write_input_fields.ensures.text in
@@ -43,7 +43,7 @@ pub returns-then-is_empty-clause-text : goal.returns-then-is_empty-clause-text
 returns-then-is_empty-clause-text g c =
     let more = g.met.S.Sink.took_more in
     let none : c.args.fields.now ≡ [] = nil_from_length _ (eqb-true _ _ (sym c.is_empty.ensures ∙ c.if-is_empty.true)) in
-    let directives = directives_layout c.args.style.now 0 (directives_view g.N.Names.bytes c.args.directives.now.items) in
+    let directives = directives_layout c.args.style.now 0 (directives_view g.N.Names.bytes c.args.directives.now) in
     let before = more _ _ _ _ _ (more _ _ _ _ _ c.in_ok-push_str.ensures c.in_ok-push_str-2.ensures) c.in_ok-write_directives.ensures.text in
     rw none
     (and_last g.S.Sink.took more _ _ _ _ _ _ _ before c.push_str-then-is_empty.ensures

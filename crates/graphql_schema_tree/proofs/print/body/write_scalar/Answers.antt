@@ -11,6 +11,6 @@ returns-clause-text g c =
     let bytes = g.N.Names.bytes in
     let more = g.met.S.Sink.took_more in
     let named = more _ _ _ _ _ c.in_ok-push_str.ensures c.in_ok-push_str-2.ensures in
-    let text = two_after (codes "scalar") (bytes c.args.name.now) (directives_layout c.args.style.now 0 (directives_view bytes c.args.directives.now.items))
+    let text = two_after (codes "scalar") (bytes c.args.name.now) (directives_layout c.args.style.now 0 (directives_view bytes c.args.directives.now))
     (gap (codes "\n")) in
     and_last g.S.Sink.took more _ _ _ _ _ _ _ (more _ _ _ _ _ named c.in_ok-write_directives.ensures.text) c.push_str-3.ensures (rw c.view.ensures text)

@@ -13,6 +13,6 @@ returns-clause-text g c =
     let more = g.met.S.Sink.took_more in
     let named = more _ _ _ _ _ c.in_ok-push_str.ensures c.in_ok-push_str-2.ensures in
     let written = more _ _ _ _ _ (more _ _ _ _ _ named c.in_ok-write_directives.ensures.text) c.in_ok-write_members.ensures in
-    let text = three_after (codes "union") (bytes c.args.name.now) (directives_layout c.args.style.now 0 (directives_view bytes c.args.directives.now.items))
+    let text = three_after (codes "union") (bytes c.args.name.now) (directives_layout c.args.style.now 0 (directives_view bytes c.args.directives.now))
     (members_layout (map bytes c.args.types.now)) (gap (codes "\n")) in
     and_last g.S.Sink.took more _ _ _ _ _ _ _ written c.push_str-3.ensures (rw c.view.ensures text)

@@ -4,5 +4,5 @@ use Rattle.graphql_schema_tree.proofs.print.extensions.InputObjectTypeExtensionP
 
 pub returns-clause-text : goal.returns-clause-text
 returns-clause-text g c =
-    let written = rw c.deref.ensures.value at c.write_input_object.ensures.text in
+    let written = rw (c.deref.ensures.value, c.deref-2.ensures.value) at c.write_input_object.ensures.text in
     and_last g.S.Sink.took g.met.S.Sink.took_more _ _ _ _ _ _ _ c.in_ok-push_str.ensures written refl

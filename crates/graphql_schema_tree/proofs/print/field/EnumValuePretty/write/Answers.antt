@@ -7,5 +7,6 @@ pub returns-clause-text : goal.returns-clause-text
 returns-clause-text g c =
     let more = g.met.S.Sink.took_more in
     let named = more _ _ _ _ _ (more _ _ _ _ _ c.in_ok-write_spaces.ensures c.in_ok-write_inline_description.ensures) c.in_ok-push_str.ensures in
-    and_last g.S.Sink.took more _ _ _ _ _ _ _ (more _ _ _ _ _ named c.in_ok-write_directives.ensures.text) c.push_str-2.ensures
+    let directives = rw c.deref.ensures.value at c.in_ok-write_directives.ensures.text in
+    and_last g.S.Sink.took more _ _ _ _ _ _ _ (more _ _ _ _ _ named directives) c.push_str-2.ensures
     (rw c.view.ensures (enum_value_text c.args.style.now c.args.margin (enum_value_view g.N.Names.bytes c.args.self.now)))

@@ -7,4 +7,4 @@ use Rattle.graphql_schema_tree.proofs.print.field.FieldPretty.levels.Goals as go
 pub returns : goal.returns
 returns g c =
     let seen = most_seen (input_value_view g.N.Names.bytes) (input_value_levels c.args.style.now) c.args.self.now.arguments.items in
-    rw (← seen, ← c.deref.ensures.value) (search rules)
+    rw (← seen, ← c.deref.ensures.value, ← c.deref-2.ensures.value) (search rules)

@@ -17,6 +17,7 @@ returns-clause-text g c =
     let arguments = rw c.deref.ensures.value at c.in_ok-write_arguments.ensures.text in
     let described = more _ _ _ _ _ c.in_ok-write_description.ensures c.in_ok-write_spaces.ensures in
     let named = more _ _ _ _ _ (more _ _ _ _ _ (more _ _ _ _ _ described c.in_ok-push_str.ensures) arguments) c.in_ok-push_str-2.ensures in
-    let written = more _ _ _ _ _ (more _ _ _ _ _ named c.in_ok-write_type.ensures) c.in_ok-write_directives.ensures.text in
+    let directives = rw c.deref-2.ensures.value at c.in_ok-write_directives.ensures.text in
+    let written = more _ _ _ _ _ (more _ _ _ _ _ named c.in_ok-write_type.ensures) directives in
     and_last g.S.Sink.took more _ _ _ _ _ _ _ written c.push_str-3.ensures
     (rw c.view.ensures (field_text c.args.style.now c.args.margin (field_view g.N.Names.bytes c.args.self.now)))

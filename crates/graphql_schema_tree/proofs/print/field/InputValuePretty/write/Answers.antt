@@ -8,13 +8,15 @@ use Rattle.graphql_schema_tree.proofs.print.field.InputValuePretty.write.Goals a
 pub write_default-requires : goal.write_default-requires
 write_default-requires g c =
     let style = c.args.style.now in
-    let after = (narrower c.args.margin _ _ style.indent (2 ^ 32) c.requires).1 in
-    (narrower c.args.margin _ _ style.indent (2 ^ 32) after).0
+    let described = (narrower c.args.margin _ _ style.indent (2 ^ 32) c.requires).1 in
+    let typed = (narrower c.args.margin _ _ style.indent (2 ^ 32) described).1 in
+    (narrower c.args.margin _ _ style.indent (2 ^ 32) typed).0
 
 pub returns-clause-text : goal.returns-clause-text
 returns-clause-text g c =
     let more = g.met.S.Sink.took_more in
     let named = more _ _ _ _ _ (more _ _ _ _ _ c.in_ok-write_inline_description.ensures c.in_ok-push_str.ensures) c.in_ok-push_str-2.ensures in
     let typed = more _ _ _ _ _ named c.in_ok-write_type.ensures in
-    and_last g.S.Sink.took more _ _ _ _ _ _ _ (more _ _ _ _ _ typed c.in_ok-write_default.ensures.text) c.write_directives.ensures.text
+    let directives = rw c.deref.ensures.value at c.write_directives.ensures.text in
+    and_last g.S.Sink.took more _ _ _ _ _ _ _ (more _ _ _ _ _ typed c.in_ok-write_default.ensures.text) directives
     (rw c.view.ensures (input_value_text c.args.style.now c.args.margin (input_value_view g.N.Names.bytes c.args.self.now)))

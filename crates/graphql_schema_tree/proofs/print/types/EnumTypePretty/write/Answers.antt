@@ -10,7 +10,7 @@ pub returns-clause-text : goal.returns-clause-text
 returns-clause-text g c =
     let bytes = g.N.Names.bytes in
     let t = c.args.self.now in
-    let written = rw c.deref.ensures.value at c.write_enum.ensures.text in
+    let written = rw (c.deref.ensures.value, c.deref-2.ensures.value) at c.write_enum.ensures.text in
     let text = type_text c.args.style.now (option_map string_bytes t.description) (bytes t.name) (directives_view bytes t.directives.items)
     (enum (map (enum_value_view bytes) t.values.items)) in
     and_last g.S.Sink.took g.met.S.Sink.took_more _ _ _ _ _ _ _ c.in_ok-write_description.ensures written text

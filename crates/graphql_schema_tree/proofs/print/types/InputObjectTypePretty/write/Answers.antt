@@ -7,13 +7,13 @@ use Rattle.graphql_schema_tree.proofs.PrintedTexts.{latter_fits, type_text}
 use Rattle.graphql_schema_tree.proofs.print.types.InputObjectTypePretty.write.Goals as goal
 
 pub write_input_object-requires : goal.write_input_object-requires
-write_input_object-requires g c = rw c.deref.ensures.value (latter_fits c.args._margin _ _ c.args.style.now.indent (2 ^ 32) c.requires)
+write_input_object-requires g c = rw (c.deref.ensures.value, c.deref-2.ensures.value) (latter_fits c.args._margin _ _ c.args.style.now.indent (2 ^ 32) c.requires)
 
 pub returns-clause-text : goal.returns-clause-text
 returns-clause-text g c =
     let bytes = g.N.Names.bytes in
     let t = c.args.self.now in
-    let written = rw c.deref.ensures.value at c.write_input_object.ensures.text in
+    let written = rw (c.deref.ensures.value, c.deref-2.ensures.value) at c.write_input_object.ensures.text in
     let text = type_text c.args.style.now (option_map string_bytes t.description) (bytes t.name) (directives_view bytes t.directives.items)
     (input (map (input_value_view bytes) t.fields.items)) in
     and_last g.S.Sink.took g.met.S.Sink.took_more _ _ _ _ _ _ _ c.in_ok-write_description.ensures written text

@@ -7,4 +7,4 @@ use Rattle.graphql_schema_tree.proofs.print.types.ObjectTypePretty.levels.Goals 
 pub returns : goal.returns
 returns g c =
     let seen = block_levels_seen (field_view g.N.Names.bytes) (field_levels c.args.style.now) c.args.self.now.fields.items in
-    rw (← seen, ← c.deref.ensures.value) (search rules)
+    rw (← seen, ← c.deref.ensures.value, ← c.deref-2.ensures.value) (search rules)
