@@ -6,7 +6,8 @@ ghost use Rattle.graphql_values.specs.steps.Answers.{Shortens};
 ghost use Rattle.graphql_schema_tree.specs.Grammar.{extension_symbol};
 ghost use Rattle.graphql_schema_tree.specs.Meanings.{extension_of};
 ghost use Rattle.graphql_schema_tree.specs.Tree.{BodyTree, type_definition, extension, adds};
-ghost use Rattle.graphql_schema_tree.specs.Views.{type_definition_view, type_extension_view};
+ghost use Rattle.graphql_schema_tree.specs.Views.{object_view, interface_view, type_definition_view};
+ghost use Rattle.graphql_schema_tree.specs.Views.{object_extension_view, interface_extension_view, type_extension_view};
 ghost use Rattle.graphql_schema.specs.steps.Refusals.{ReadsNode};
 
 use crate::read::refusal::Refusal;
@@ -15,11 +16,39 @@ use graphql_core::common::Names;
 use graphql_core::helpers::{TokenSource, keyword};
 use graphql_core::position::Pos;
 use graphql_schema_tree::tree::{
-    EnumTypeExtension, InputObjectTypeExtension, InterfaceTypeExtension, ObjectTypeExtension,
-    ScalarTypeExtension, TypeDefinition, TypeExtension, UnionTypeExtension,
+    EnumTypeExtension, InputObjectTypeExtension, InterfaceType, InterfaceTypeExtension, ObjectType,
+    ObjectTypeExtension, ScalarTypeExtension, TypeDefinition, TypeExtension, UnionTypeExtension,
 };
 use graphql_values::read::halt::Halt;
 use std::alloc::Global;
+
+/// The extension that has what a definition of an object has, but for its description.
+fn object_extension<N: Names>(object: ObjectType<N>) -> ObjectTypeExtension<N>
+    ensures { (d : Option (List ℕ)) (b : BodyTree) → object_view N.bytes object ≡ type_definition d b
+        → object_extension_view N.bytes result ≡ extension b }
+{
+    ObjectTypeExtension {
+        position: object.position,
+        name: object.name,
+        implements_interfaces: object.implements_interfaces,
+        directives: object.directives,
+        fields: object.fields,
+    }
+}
+
+/// The extension that has what a definition of an interface has, but for its description.
+fn interface_extension<N: Names>(interface: InterfaceType<N>) -> InterfaceTypeExtension<N>
+    ensures { (d : Option (List ℕ)) (b : BodyTree) → interface_view N.bytes interface ≡ type_definition d b
+        → interface_extension_view N.bytes result ≡ extension b }
+{
+    InterfaceTypeExtension {
+        position: interface.position,
+        name: interface.name,
+        implements_interfaces: interface.implements_interfaces,
+        directives: interface.directives,
+        fields: interface.fields,
+    }
+}
 
 /// The extension that has what a definition has, but for its description.
 fn without_description<N: Names>(definition: TypeDefinition<N>) -> TypeExtension<N>
@@ -32,21 +61,9 @@ fn without_description<N: Names>(definition: TypeDefinition<N>) -> TypeExtension
             name: scalar.name,
             directives: scalar.directives,
         }),
-        TypeDefinition::Object(object) => TypeExtension::Object(ObjectTypeExtension {
-            position: object.position,
-            name: object.name,
-            implements_interfaces: object.implements_interfaces,
-            directives: object.directives,
-            fields: object.fields,
-        }),
+        TypeDefinition::Object(object) => TypeExtension::Object(object_extension(object)),
         TypeDefinition::Interface(interface) => {
-            TypeExtension::Interface(InterfaceTypeExtension {
-                position: interface.position,
-                name: interface.name,
-                implements_interfaces: interface.implements_interfaces,
-                directives: interface.directives,
-                fields: interface.fields,
-            })
+            TypeExtension::Interface(interface_extension(interface))
         }
         TypeDefinition::Union(union) => TypeExtension::Union(UnionTypeExtension {
             position: union.position,

@@ -60,40 +60,20 @@ fn add_root<N: Names>(
     ensures { (rs : List Root) → HasRoots N.bytes roots.old rs
         → IfOk result (λ u. HasRoots N.bytes roots.new (rs ++ record { name = operation.now; type_name = N.bytes type_name } ∷ [])) }
 {
-    if roots.fault.is_some() {
+    let fault = &mut roots.fault;
+    if fault.is_some() {
         return Ok(());
     }
     if operation == "query" {
-        fill(
-            alloc,
-            &mut roots.query,
-            &mut roots.fault,
-            operation,
-            type_name,
-        )?;
-        return Ok(());
+        return fill(alloc, &mut roots.query, fault, operation, type_name);
     }
     if operation == "mutation" {
-        fill(
-            alloc,
-            &mut roots.mutation,
-            &mut roots.fault,
-            operation,
-            type_name,
-        )?;
-        return Ok(());
+        return fill(alloc, &mut roots.mutation, fault, operation, type_name);
     }
     if operation == "subscription" {
-        fill(
-            alloc,
-            &mut roots.subscription,
-            &mut roots.fault,
-            operation,
-            type_name,
-        )?;
-        return Ok(());
+        return fill(alloc, &mut roots.subscription, fault, operation, type_name);
     }
-    roots.fault = Some(Cause::UnknownOperation(String::from_str(alloc, operation)?));
+    *fault = Some(Cause::UnknownOperation(String::from_str(alloc, operation)?));
     Ok(())
 }
 
