@@ -33,7 +33,7 @@ fn run_command(rt: &HostRuntime, command: Command, style: &Style) -> Result<(), 
     run(rt.alloc(), command, style, &mut reader, &mut writer)
 }
 
-/// Tells why a run ended early. What standard error does not take is left out.
+/// Writes to standard error why a run ended early. A failure to write it is ignored.
 fn report(rt: &HostRuntime, error: &RunError) {
     let _ = if error.ends_its_line() {
         eprint!(rt; "{error}")

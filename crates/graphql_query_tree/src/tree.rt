@@ -49,7 +49,7 @@ pub enum OperationDefinition<N: Names> {
     Subscription(Subscription<N>),
 }
 
-/// A query, which reads (section 2.3).
+/// A query: an operation that only reads (section 2.3).
 #[derive_where(Debug, Clone, PartialEq)]
 #[derive(Drop)]
 pub struct Query<N: Names> {
@@ -65,7 +65,7 @@ pub struct Query<N: Names> {
     pub selection_set: SelectionSet<N>,
 }
 
-/// A mutation, which writes and then reads (section 2.3).
+/// A mutation: an operation that writes and then reads (section 2.3).
 #[derive_where(Debug, Clone, PartialEq)]
 #[derive(Drop)]
 pub struct Mutation<N: Names> {
@@ -81,7 +81,7 @@ pub struct Mutation<N: Names> {
     pub selection_set: SelectionSet<N>,
 }
 
-/// A subscription, which reads at each of many events (section 2.3).
+/// A subscription: an operation that reads at each of many events (section 2.3).
 #[derive_where(Debug, Clone, PartialEq)]
 #[derive(Drop)]
 pub struct Subscription<N: Names> {
@@ -166,7 +166,7 @@ pub enum Selection<N: Names> {
 pub struct Field<N: Names> {
     /// The position of the first token: of the alias where there is one, else of the name.
     pub position: Pos,
-    /// Under which name the answer is given (section 2.7).
+    /// The name under which the answer is given (section 2.7).
     pub alias: Option<N::Value>,
     /// The name.
     pub name: N::Value,
