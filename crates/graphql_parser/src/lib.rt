@@ -1,4 +1,4 @@
-//! Tokenizer, trees, parsers and printers for GraphQL documents.
+//! Tokenizer, trees, parsers and printers for GraphQL documents. `docs/CALLING.md` shows a caller for each task.
 #![tactic(auto)]
 
 pub use graphql_core::common::{BadToken, Cause};
