@@ -72,7 +72,7 @@ fn with_owned_names(alloc: Global, source: &str) -> Result<Document<'static, Own
     parse_query::<Owned>(alloc, source)
 }
 
-/// Any text type.
+/// The name of the first field of a document that begins with a selection set, at any text type.
 fn first_name<'a, 'd, T: Text<'a>>(document: &'d Document<'a, T>) -> Option<&'d str> {
     let Definition::Operation(OperationDefinition::SelectionSet(set)) = document
         .definitions
