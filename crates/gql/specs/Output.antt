@@ -31,7 +31,7 @@ module _ {T : Type 0} (Has : List ℕ → T → Type 0) where
   abbrev pub IsLaidOut : (T → List ℕ) → List ℕ → List ℕ → Type 0
   IsLaidOut written text output = (t : T) × Has text t × (output ≡ written t)
 
-  -- this is why the text is refused in this language, and, unless memory ran out, it is too long or has no such thing
+  -- this is why the text is refused in this language, and, unless an allocation failed, it is too long or has no such thing
   abbrev pub IsRefused : {D : Type 0} → Language D → List ℕ → Refusal → Type 0
   IsRefused l text e = IsRefusalOf l text e × (e ≢ no_memory → (max_length < length text) ⊎ ((t : T) → Has text t → ⊥))
 
@@ -70,7 +70,7 @@ HasNoSchema Schema text e = IsRefused (IsDocumentOf schemas) schemas text e
 HasNoSchema Minify text e = ⊥
 HasNoSchema First text e = ⊥
 
--- this is why the text is not minified: memory ran out, or it is too long, or its items end in a bad place
+-- this is why the text is not minified: an allocation failed, or it is too long, or its items end in a bad place
 abbrev pub HasBadPlace : Command → List ℕ → Refusal → Type 0
 HasBadPlace Query text e = ⊥
 HasBadPlace Schema text e = ⊥

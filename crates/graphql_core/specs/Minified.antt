@@ -72,7 +72,7 @@ AreLexemes o c (t ∷ ts) = (k : Kind) × (n : Nesting) × (rest : List ℕ) × 
 
 -- ---- refusals
 
--- memory ran out, or the items end in a bad place, and this is its cause and its position
+-- an allocation failed, or the items end in a bad place, and this is its cause and its position
 abbrev pub IsBadPlaceOf : Items → Fault → Type 0
 IsBadPlaceOf i OutOfMemory = Unit {0}
 IsBadPlaceOf i (At c p) = i.last ≡ Wrong (place_of p) (cause_text c)

@@ -102,7 +102,7 @@ fault_at i = fault_by i.tokens i.last
 abbrev pub place_next : Items → Place
 place_next i = (fault_at i).place
 
--- memory ran out, or it is the fault of the next item
+-- an allocation failed, or it is the fault of the next item
 abbrev pub IsFaultOf : Items → Fault → Type 0
 IsFaultOf i fault.OutOfMemory = Unit {0}
 IsFaultOf i (fault.At c p) = record { cause = cause_text c; place = place_of p } ≡ fault_at i

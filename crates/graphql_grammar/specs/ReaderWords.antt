@@ -8,7 +8,7 @@ use Rattle.graphql_grammar.specs.Reading.{Takes, Reason, Fails}
 abbrev pub TakesSome : Grammar → Expr → List Token → List Token → (Shape → Type 0) → Type 0
 TakesSome g e ts us P = (x : Shape) × Takes g e ts x us × P x
 
--- what an error says: nothing where memory ran out, else why and where reading stopped
+-- what an error says: nothing where an allocation failed, else why and where reading stopped
 abbrev pub Stops : Grammar → Expr → List Token → List Token → Option Reason → Type 0
 Stops g e ts us None = Unit {0}
 Stops g e ts us (Some why) = Fails g e ts why us

@@ -7,14 +7,14 @@ use Rattle.graphql_lexer.specs.Items.{Item, HasItems}
 use Rattle.graphql_core.specs.Source.{Wrong, split}
 use Rattle.graphql_core.specs.Refusal.{Refusal, no_memory, max_length, too_long}
 
--- Memory ran out, or the text is too long, or its items end in a bad place, with this cause there.
+-- An allocation failed, or the text is too long, or its items end in a bad place, with this cause there.
 pub data IsMinifyRefusalOf (text : List ℕ) : Refusal → Type 0 where
   ran_out : IsMinifyRefusalOf text no_memory
   past_bound : max_length < length text → IsMinifyRefusalOf text too_long
   bad_place : {items : List Item} {p : Place} {c : CauseText} → length text ≤ max_length → HasItems text items → (split items).last ≡ Wrong p c
       → IsMinifyRefusalOf text (record { cause = c; place = Some p })
 
--- the answer is this text, unless memory ran out
+-- the answer is this text, unless an allocation failed
 abbrev pub TellsUnlessMemory : List ℕ → Result (String Global) Refusal → Type 0
 TellsUnlessMemory text (Ok s) = string_bytes s ≡ text
 TellsUnlessMemory text (Err e) = e ≡ no_memory

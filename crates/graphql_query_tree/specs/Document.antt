@@ -41,7 +41,7 @@ IsReadBack = document.IsReadBack queries
 abbrev pub HasOneShape : List ℕ → Type 0
 HasOneShape = document.HasOneShape queries
 
--- the answer is seen as this document, unless memory ran out
+-- the answer is seen as this document, unless an allocation failed
 abbrev pub AnswersUnlessMemory : {V : Type 0} → (V → DocumentTree) → DocumentTree → Result V Refusal → Type 0
 AnswersUnlessMemory view = document.AnswersUnlessMemory view
 
@@ -49,7 +49,7 @@ AnswersUnlessMemory view = document.AnswersUnlessMemory view
 abbrev pub IsParsed : List ℕ → Result DocumentTree Refusal → Type 0
 IsParsed = document.IsParsed queries
 
--- both are documents that are equal but for positions, or both are refusals, unless memory ran out
+-- both are documents that are equal but for positions, or both are refusals, unless an allocation failed
 abbrev pub AreAlike : Result DocumentTree Refusal → Result DocumentTree Refusal → Type 0
 AreAlike = document.AreAlike queries
 
@@ -67,7 +67,7 @@ HasOneFaultEach = fault.HasOneFaultEach queries
 abbrev pub HasNoFault : List ℕ → DocumentTree → Type 0
 HasNoFault = fault.HasNoFault queries
 
--- memory ran out, or it is the fault of least index of the items
+-- an allocation failed, or it is the fault of least index of the items
 abbrev pub IsLeastOf : Items → Fault → Type 0
 IsLeastOf = fault.IsLeastOf queries
 
@@ -79,6 +79,6 @@ IsLeastFaultOf = fault.IsLeastFaultOf queries
 abbrev pub IsFirstFaultOf : List ℕ → FaultText → Type 0
 IsFirstFaultOf = fault.IsFirstFaultOf queries
 
--- why a text is refused: memory ran out, or it is too long, or it has no document, and this is its fault of least index
+-- why a text is refused: an allocation failed, or it is too long, or it has no document, and this is its fault of least index
 abbrev pub IsRefusalOf : List ℕ → Refusal → Type 0
 IsRefusalOf = fault.IsRefusalOf queries

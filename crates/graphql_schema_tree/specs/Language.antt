@@ -67,6 +67,6 @@ IsFaultOf = fault.IsFaultOf schemas
 abbrev pub IsLeastFaultOf : List ℕ → FaultText → Type 0
 IsLeastFaultOf = fault.IsLeastFaultOf schemas
 
--- why a text is refused: memory ran out, or it is too long, or it has no document, and this is its fault of least index
+-- why a text is refused: an allocation failed, or it is too long, or it has no document, and this is its fault of least index
 abbrev pub IsRefusalOf : List ℕ → Refusal → Type 0
 IsRefusalOf = fault.IsRefusalOf schemas

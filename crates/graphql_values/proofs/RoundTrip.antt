@@ -18,7 +18,7 @@ module _ {D : Type 0} (l : Language D) where
   same_document text d v complete past (e, has, same) =
       elim (cases_lt max_length (length text)) [ inl long ↦ absurd (past long) | inr within ↦ ap l.erase (complete e within has) ∙ same ]
 
-  -- a refusal, of which each document of the text within the bound tells that memory ran out
+  -- a refusal, of which each document of the text within the bound tells that an allocation failed
   pub memory_or_length : (text : List ℕ) (d : D) (f : Refusal) → ((e : D) → length text ≤ max_length → IsDocumentOf l text e → f ≡ no_memory)
       → IsReadBack l text d
       → (f ≡ no_memory) ⊎ (max_length < length text)

@@ -7,7 +7,7 @@ use Rattle.graphql_core.specs.Source.{Items, IsEnd, split}
 use Rattle.graphql_core.specs.Refusal.{Refusal, no_memory}
 use Rattle.graphql_values.specs.Language.{Language}
 
--- the answer is seen as this document, unless memory ran out
+-- the answer is seen as this document, unless an allocation failed
 abbrev pub AnswersUnlessMemory : {V D : Type 0} → (V → D) → D → Result V Refusal → Type 0
 AnswersUnlessMemory view d (Ok v) = view v ≡ d
 AnswersUnlessMemory view d (Err e) = e ≡ no_memory
@@ -36,7 +36,7 @@ module _ {D : Type 0} (l : Language D) where
   abbrev pub IsParsed : List ℕ → Result D Refusal → Type 0
   IsParsed text r = IfOk r (IsDocumentOf text) × ((d : D) → IsDocumentOf text d → AnswersUnlessMemory (λ (e : D). e) d r)
 
-  -- both are documents that are equal but for positions, or both are refusals, unless memory ran out
+  -- both are documents that are equal but for positions, or both are refusals, unless an allocation failed
   abbrev pub AreAlike : Result D Refusal → Result D Refusal → Type 0
   AreAlike (Ok d) (Ok e) = l.erase d ≡ l.erase e
   AreAlike (Ok d) (Err f) = f ≡ no_memory

@@ -66,7 +66,7 @@ module _ {D : Type 0} (l : Language D) where
   abbrev pub IsLeastFault : Items → FaultText → Type 0
   IsLeastFault i f = (n : ℕ) × (why : Reason) × IsLeast l.grammar (Sym l.document) (text_of i) why n × Says why i n f
 
-  -- memory ran out, or it is the least fault of the items
+  -- an allocation failed, or it is the least fault of the items
   abbrev pub IsLeastOf : Items → Fault → Type 0
   IsLeastOf i OutOfMemory = Unit {0}
   IsLeastOf i (At c p) = IsLeastFault i (record { cause = cause_text c; place = place_of p })
@@ -86,7 +86,7 @@ module _ {D : Type 0} (l : Language D) where
   abbrev pub HasNoFault : List ℕ → D → Type 0
   HasNoFault text d = IsDocumentOf l text d → (f : FaultText) (n : ℕ) → IsFaultOf text f n → ⊥
 
-  -- Why a text is refused: memory ran out, or it is too long, or it has no document, and this is its fault of least index.
+  -- Why a text is refused: an allocation failed, or it is too long, or it has no document, and this is its fault of least index.
   pub data IsRefusalOf (text : List ℕ) : Refusal → Type 0 where
     ran_out : IsRefusalOf text no_memory
     past_bound : max_length < length text → IsRefusalOf text too_long

@@ -17,7 +17,7 @@ pub record TakesToken (c : Class) (old new : Items) (t : Token) : Type 0 where
   pub tokens : old.tokens ≡ t ∷ new.tokens
   pub kept : kept new ≡ kept old
 
--- A token of the class is taken, of which P holds with what is answered; or the item stays, as memory ran out, or as it is
+-- A token of the class is taken, of which P holds with what is answered; or the item stays, as an allocation failed, or as it is
 -- none of the class.
 abbrev pub TakesOne : {A : Type 0} → Class → Items → Items → (A → Token → Type 0) → Result A Stop → Type 0
 TakesOne c old new P (Ok v) = (t : Token) × TakesToken c old new t × P v t

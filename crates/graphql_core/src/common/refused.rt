@@ -60,7 +60,7 @@ impl From<Fault> for Refused {
     }
 }
 
-/// As the message of a parse error ends: the position in a line of its own, and the cause in the next; where memory ran out, the cause alone.
+/// As the message of a parse error ends: the position in a line of its own, and the cause in the next; where an allocation failed, the cause alone.
 impl fmt::Display for Refused {
     fn fmt<W: fmt::Write>(&self, f: &mut fmt::Formatter<W>) -> fmt::Result {
         let cause = &self.cause;

@@ -9,7 +9,7 @@ use Rattle.graphql_lexer.specs.declared.tokenizer.token.Kind.TheVariants.{IntVal
 use Rattle.graphql_core.specs.Source.{Items}
 use Rattle.graphql_values.specs.Grammar.{any, location_class}
 
--- the theory's reason for which a reader stopped; none where memory ran out
+-- the theory's reason for which a reader stopped; none where an allocation failed
 abbrev pub reason_of : Stop → Option Reason
 reason_of Memory = None
 reason_of Item = Some Unexpected
@@ -23,7 +23,7 @@ abbrev pub GivesBy : {A E : Type 0} → (E → Option Reason) → Grammar → Ex
 GivesBy reason g e old new P (Ok v) = TakesSome g e old.tokens new.tokens (P v)
 GivesBy reason g e old new P (Err s) = Stops g e old.tokens new.tokens (reason s)
 
--- Some shape is taken, of which P holds with what is answered; or memory ran out; or the theory fails.
+-- Some shape is taken, of which P holds with what is answered; or an allocation failed; or the theory fails.
 abbrev pub Gives : {A : Type 0} → Grammar → Expr → Items → Items → (A → Shape → Type 0) → Result A Stop → Type 0
 Gives g e old new P r = GivesBy reason_of g e old new P r
 
