@@ -1,13 +1,10 @@
 -- The brackets of a document are those that its layout opens at once.
-use Rattle.std.proofs.Common.{ℕ, ◌+◌, max, List, [], ◌∷◌, Option, Some, None, refl, arith}
-use Rattle.std.specs.Option.{option_map_or}
+use Rattle.std.proofs.Common.{ℕ, ◌+◌, List, Option, Some, None, refl}
 use Rattle.graphql_core.specs.Style.{Layout}
-use Rattle.graphql_core.proofs.Depths.{Rises, rises_as, none_rise, flat_rise, gap_rises, level_rises, both_rise, closer_sinks, both_sink}
-use Rattle.graphql_core.proofs.Depths.{opener_rises}
-use Rattle.graphql_values.specs.Values.{ValueTree}
-use Rattle.graphql_values.specs.Printable.{value_brackets}
+use Rattle.graphql_core.proofs.Depths.{Rises, none_rise, flat_rise, gap_rises, level_rises, both_rise}
 use Rattle.graphql_values.specs.TreeDepth.{most}
-use Rattle.graphql_values.proofs.Depths.{value_rises, type_rises, arguments_rise, directives_rise, braces_rise, line_end_rises}
+use Rattle.graphql_values.proofs.Depths.{type_rises, arguments_rise, directives_rise, braces_rise, line_end_rises, default_rises, separated_rise}
+use Rattle.graphql_values.proofs.Depths.{in_parentheses_rise}
 use Rattle.graphql_query_tree.specs.Tree.{SelectionTree, field, spread, inline, SelectionSetTree, set, SelectionTrees, none, more, VariableDefinitionTree}
 use Rattle.graphql_query_tree.specs.Tree.{DefinitionTree, short, operation, fragment, DocumentTree}
 use Rattle.graphql_query_tree.specs.Printable.{selection_brackets, selected_brackets, selection_set_brackets, selections_brackets, variable_definition_brackets}
@@ -15,9 +12,7 @@ use Rattle.graphql_query_tree.specs.Printable.{variable_definitions_brackets}
 use Rattle.graphql_query_tree.specs.Printable.{definition_brackets}
 use Rattle.graphql_query_tree.specs.Layout.{alias_layout, type_condition_layout, on_layout, selection_layout, selected_layout, selection_set_layout}
 use Rattle.graphql_query_tree.specs.Layout.{selections_layout}
-use Rattle.graphql_query_tree.specs.Layout.{operation_name_layout, default_layout, variable_definition_layout, later_variable_definitions}
-use Rattle.graphql_query_tree.specs.Layout.{variable_definitions_layout}
-use Rattle.graphql_query_tree.specs.Layout.{definition_layout, later_definitions, document_layout}
+use Rattle.graphql_query_tree.specs.Layout.{operation_name_layout, variable_definition_layout, variable_definitions_layout, definition_layout, document_layout}
 
 -- ---- selections
 
@@ -55,26 +50,13 @@ mutual
 
 -- ---- definitions
 
-default_rises : (style : Layout) (v : Option ValueTree) → Rises (option_map_or value_brackets v 0) (default_layout style v)
-default_rises style None = none_rise
-default_rises style (Some v) = gap_rises _ (level_rises refl (gap_rises _ (value_rises style 0 v)))
-
 variable_definition_rises : (style : Layout) (v : VariableDefinitionTree) → Rises (variable_definition_brackets v) (variable_definition_layout style v)
 variable_definition_rises style v =
-    level_rises refl (level_rises refl (level_rises refl (gap_rises _ (both_rise (type_rises v.var_type) (default_rises style v.default_value)))))
-
-later_rise : (style : Layout) (vs : List VariableDefinitionTree) → Rises (most variable_definition_brackets vs) (later_variable_definitions style vs)
-later_rise style [] = none_rise
-later_rise style (v ∷ vs) = gap_rises _ (both_rise (variable_definition_rises style v) (later_rise style vs))
+    level_rises refl (level_rises refl (level_rises refl (gap_rises _ (both_rise (type_rises v.var_type) (default_rises style 0 v.default_value)))))
 
 variable_definitions_rise : (style : Layout) (vs : List VariableDefinitionTree)
     → Rises (variable_definitions_brackets vs) (variable_definitions_layout style vs)
-variable_definitions_rise style [] = none_rise
-variable_definitions_rise style (v ∷ vs) =
-    let m = variable_definition_brackets v in
-    let n = most variable_definition_brackets vs in
-    rises_as {m = max m (max n 0) + 1} {n = max m n + 1} (omega arith)
-    (opener_rises refl (both_sink (variable_definition_rises style v) (both_sink (later_rise style vs) (closer_sinks refl none_rise))))
+variable_definitions_rise style = in_parentheses_rise (variable_definition_layout style) variable_definition_brackets (variable_definition_rises style)
 
 name_rises : (n : Option (List ℕ)) → Rises 0 (operation_name_layout n)
 name_rises None = none_rise
@@ -91,10 +73,5 @@ definition_rises style (fragment f) =
     (gap_rises _ (flat_rise (type_condition_rises f.condition)
     (both_rise (directives_rise style 0 f.directives) (gap_rises _ (selection_set_rises style 0 f.selected)))))))
 
-later_definitions_rise : (style : Layout) (ds : DocumentTree) → Rises (most definition_brackets ds) (later_definitions style ds)
-later_definitions_rise style [] = none_rise
-later_definitions_rise style (d ∷ ds) = gap_rises _ (both_rise (definition_rises style d) (later_definitions_rise style ds))
-
 pub document_rises : (style : Layout) (d : DocumentTree) → Rises (most definition_brackets d) (document_layout style d)
-document_rises style [] = none_rise
-document_rises style (d ∷ ds) = both_rise (definition_rises style d) (later_definitions_rise style ds)
+document_rises style = separated_rise (definition_layout style) definition_brackets (definition_rises style)

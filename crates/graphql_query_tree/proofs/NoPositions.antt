@@ -1,15 +1,15 @@
 -- Layouts say nothing of positions.
-use Rattle.std.proofs.Common.{◌≡◌, ◌++◌, ◌+◌, ap, ap₂, refl, codes, ℕ, List, [], ◌∷◌, map}
+use Rattle.std.proofs.Common.{◌≡◌, ◌++◌, ◌+◌, ap, ap₂, refl, codes, ℕ, List, map}
 use Rattle.graphql_core.specs.Style.{Layout}
-use Rattle.graphql_core.specs.Parts.{text_of, mark, gap}
+use Rattle.graphql_core.specs.Parts.{text_of, gap}
 use Rattle.graphql_query_tree.specs.Tree.{SelectionTree, field, spread, inline, SelectionSetTree, set, SelectionTrees, none, more, VariableDefinitionTree}
 use Rattle.graphql_query_tree.specs.Tree.{OperationTree, FragmentDefinitionTree, DefinitionTree, short, operation, fragment, DocumentTree, erase_selection}
 use Rattle.graphql_query_tree.specs.Tree.{erase_selection_set, erase_selections, erase_variable_definition, erase_operation, erase_fragment_definition}
 use Rattle.graphql_query_tree.specs.Tree.{erase_definition, erase}
 use Rattle.graphql_values.specs.Lines.{in_braces}
-use Rattle.graphql_values.proofs.NoPositions.{directives_alike, separated_alike}
+use Rattle.graphql_values.proofs.NoPositions.{directives_alike, separated_alike, in_parentheses_alike}
 use Rattle.graphql_query_tree.specs.Layout.{selection_layout, selected_layout, selection_set_layout, selections_layout, variable_definition_layout}
-use Rattle.graphql_query_tree.specs.Layout.{later_variable_definitions, variable_definitions_layout, operation_layout, fragment_definition_layout}
+use Rattle.graphql_query_tree.specs.Layout.{variable_definitions_layout, operation_layout, fragment_definition_layout}
 use Rattle.graphql_query_tree.specs.Layout.{definition_layout, layout}
 
 mutual
@@ -32,17 +32,9 @@ mutual
   selections_alike style margin none = refl
   selections_alike style margin (more s ss) = ap₂ (λ a b. a ++ b) (selection_alike style margin s) (selections_alike style margin ss)
 
-later_variable_definitions_alike : (style : Layout) (vs : List VariableDefinitionTree)
-    → later_variable_definitions style (map erase_variable_definition vs) ≡ later_variable_definitions style vs
-later_variable_definitions_alike style [] = refl
-later_variable_definitions_alike style (v ∷ vs) = ap (λ r. gap (codes ", ") ++ (variable_definition_layout style v ++ r))
-    (later_variable_definitions_alike style vs)
-
 variable_definitions_alike : (style : Layout) (vs : List VariableDefinitionTree)
     → variable_definitions_layout style (map erase_variable_definition vs) ≡ variable_definitions_layout style vs
-variable_definitions_alike style [] = refl
-variable_definitions_alike style (v ∷ vs) = ap (λ r. mark (codes "(") ++ (variable_definition_layout style v ++ (r ++ mark (codes ")"))))
-    (later_variable_definitions_alike style vs)
+variable_definitions_alike style = in_parentheses_alike erase_variable_definition (variable_definition_layout style) (λ v. refl)
 
 operation_alike : (style : Layout) (o : OperationTree) → operation_layout style (erase_operation o) ≡ operation_layout style o
 operation_alike style o = rw (variable_definitions_alike style o.variables, directives_alike style 0 o.directives, selection_set_alike style 0 o.selected) refl

@@ -1,6 +1,5 @@
 -- The layouts of query documents are read back, up to positions.
-use Rattle.std.proofs.Common.{◌≡◌, ℕ, ◌+◌, ◌<◌, ◌≤◌, Bool, true, false, List, [], ◌∷◌, ◌++◌, Option, Some, None, codes, map, refl, sym, ap, ap₂, arith}
-use Rattle.std.proofs.Common.{append_assoc}
+use Rattle.std.proofs.Common.{◌≡◌, ℕ, ◌+◌, ◌<◌, ◌≤◌, Bool, true, false, List, [], ◌∷◌, ◌++◌, Option, Some, None, codes, map, refl, ap, ap₂, arith}
 use Rattle.std.specs.List.{AllByRecursion}
 use Rattle.std.specs.Option.{IfSome, option_map_or}
 use Rattle.graphql_grammar.specs.Tokens.{Place}
@@ -9,48 +8,47 @@ use Rattle.graphql_grammar.specs.Extended.{is_below}
 use Rattle.graphql_lexer.specs.declared.tokenizer.token.Kind.TheVariants.{Name}
 use Rattle.graphql_lexer.specs.Lexical.{IsName}
 use Rattle.graphql_core.specs.Style.{Layout}
-use Rattle.graphql_core.specs.Parts.{Part, name, mark, gap}
+use Rattle.graphql_core.specs.Parts.{Part, name, gap}
 use Rattle.graphql_values.specs.Values.{ValueTree, DirectiveTree, no_place, erase_all}
 use Rattle.graphql_values.specs.ValueLayout.{arguments_layout, directives_layout}
 use Rattle.graphql_values.specs.Grammar.{shared, arguments_symbol, directives_symbol, default_symbol, shared_symbols, name as a_name}
 use Rattle.graphql_values.specs.Meanings.{place_at, first_place, optional_default_of, spelling_at, optional_arguments_of, directives_of}
 use Rattle.graphql_values.specs.Printable.{IsNameBut, IsPrintableArgument, IsPrintableDirective, IsPrintableDefault, arguments_brackets}
-use Rattle.graphql_values.specs.TreeDepth.{most}
 use Rattle.graphql_values.specs.Printable.{directives_brackets, value_brackets}
 use Rattle.graphql_query_tree.specs.Tree.{SelectionTree, field, spread, inline, SelectionSetTree, set, SelectionTrees, none, more, OperationKind, query_kind}
 use Rattle.graphql_query_tree.specs.Tree.{mutation_kind}
 use Rattle.graphql_query_tree.specs.Tree.{subscription_kind, VariableDefinitionTree, OperationTree, DefinitionTree, short, operation, fragment, DocumentTree}
 use Rattle.graphql_query_tree.specs.Tree.{erase_selection}
-use Rattle.graphql_query_tree.specs.Tree.{erase_selection_set, erase_selections, erase_variable_definition, erase_operation, erase_definition, erase}
-use Rattle.graphql_query_tree.specs.Grammar.{query, spread_class, document_symbol, definition_symbol, operation_symbol, operation_body_symbol}
+use Rattle.graphql_query_tree.specs.Tree.{erase_selection_set, erase_selections, erase_variable_definition, erase_operation, erase_definition}
+use Rattle.graphql_query_tree.specs.Grammar.{query, spread_class, definition_symbol, operation_symbol, operation_body_symbol}
 use Rattle.graphql_query_tree.specs.Grammar.{variable_definitions_symbol}
 use Rattle.graphql_query_tree.specs.Grammar.{variable_definition_symbol, selection_set_symbol, selection_symbol, alias_symbol, type_condition_symbol}
 use Rattle.graphql_query_tree.specs.Meanings.{spread_name_of, alias_of, type_condition_of, optional_type_condition_of, selected_of, selection_of}
 use Rattle.graphql_query_tree.specs.Meanings.{selection_set_of}
 use Rattle.graphql_query_tree.specs.Meanings.{selections_of, variable_definition_of, each_variable_definition_of, optional_variable_definitions_of}
 use Rattle.graphql_query_tree.specs.Meanings.{optional_name_of, operation_body_of}
-use Rattle.graphql_query_tree.specs.Meanings.{operation_of, definition_of, definitions_of, document_of}
+use Rattle.graphql_query_tree.specs.Meanings.{operation_of, definition_of, definitions_of}
 use Rattle.graphql_values.specs.Lines.{in_braces}
 use Rattle.graphql_query_tree.specs.Layout.{alias_layout, type_condition_layout, on_layout, selection_layout, selected_layout, selection_set_layout}
 use Rattle.graphql_query_tree.specs.Layout.{selections_layout}
-use Rattle.graphql_query_tree.specs.Layout.{keyword, operation_name_layout, default_layout, variable_definition_layout, later_variable_definitions}
-use Rattle.graphql_query_tree.specs.Layout.{variable_definitions_layout, definition_layout}
-use Rattle.graphql_query_tree.specs.Layout.{later_definitions, document_layout, layout}
+use Rattle.graphql_query_tree.specs.Layout.{keyword, operation_name_layout, default_layout, variable_definition_layout}
+use Rattle.graphql_query_tree.specs.Layout.{variable_definitions_layout, definition_layout, layout}
 use Rattle.graphql_query_tree.specs.Printable.{IsPrintable, IsPrintableSelection, IsPrintableSet, ArePrintableSelections, IsPrintableVariable}
 use Rattle.graphql_query_tree.specs.Printable.{IsPrintableOperation}
 use Rattle.graphql_query_tree.specs.Printable.{IsPrintableDefinition, Selects, SelectsInside, SelectInside, AllSelectInside, DefinitionSelects}
 use Rattle.graphql_query_tree.specs.Printable.{selection_brackets}
 use Rattle.graphql_query_tree.specs.Printable.{selected_brackets, selection_set_brackets, selections_brackets, variable_definition_brackets}
 use Rattle.graphql_query_tree.specs.Printable.{variable_definitions_brackets, definition_brackets}
-use Rattle.graphql_query_tree.specs.Document.{IsDocumentOf}
+use Rattle.graphql_query_tree.specs.Document.{queries, IsReadBack}
 use Rattle.graphql_values.specs.Lawful.{IsLawful, AreLawfulArguments, AreLawfulDirectives}
 use Rattle.graphql_query_tree.specs.Lawful.{IsLawfulSelection, IsLawfulSet, AreLawfulSelections, IsLawfulVariable, IsLawfulDefinition, IsLawfulDocument}
 use Rattle.graphql_values.proofs.LeavesBack.{name_word, not_listed}
 use Rattle.graphql_values.proofs.TypesBack.{type_back}
-use Rattle.graphql_core.proofs.Back.{Back, Any, Takes, as_word_back, same_parts, means, margin_back, gap_back, then_gap, word_back, mark_back, open_back}
+use Rattle.graphql_core.proofs.Back.{Back, Any, Takes, as_word_back, means, margin_back, gap_back, then_gap, word_back, mark_back, open_back}
 use Rattle.graphql_core.proofs.Back.{close_back, dots_back, nothing_back, both_back, first_back, second_back, node_back, stop_back, more_back, three_back}
-use Rattle.graphql_core.proofs.Back.{four_back, five_back, lift_back, read_back}
+use Rattle.graphql_core.proofs.Back.{four_back, five_back, lift_back}
 use Rattle.graphql_values.proofs.ValuesBack.{spaces_blank}
+use Rattle.graphql_values.proofs.ListsBack.{both_of_each, some_back, in_parentheses_back, document_back}
 use Rattle.graphql_query_tree.proofs.Readable.{tested_alike, written_goes_on}
 use Rattle.graphql_values.proofs.DirectivesBack.{arguments_back, directives_back, optional_default_back}
 
@@ -173,31 +171,18 @@ module _ (style : Layout) where
       (gap_back refl (shared_back refl (type_back v.var_type d type (omega arith)))) (default_part v.default_value d default law (omega arith))
       (λ x y z w k hx hy hz hw hk. λ i. record { position = no_place; name = hy i; var_type = hw i; default_value = hk i }))
 
-  later_variable_definitions_back : (vs : List VariableDefinitionTree) (d : ℕ) → AllByRecursion IsPrintableVariable vs → AllByRecursion IsLawfulVariable vs
-      → d + most variable_definition_brackets vs ≤ 50
-      → Back query (Many (Sym variable_definition_symbol)) true d (later_variable_definitions style vs) true d
-      (λ x. map erase_variable_definition (each_variable_definition_of x) ≡ map erase_variable_definition vs)
-  later_variable_definitions_back [] d is law deep = stop_back refl
-  later_variable_definitions_back (v ∷ vs) d (is, are) (law, laws) deep =
-      gap_back refl (more_back (variable_definition_back v d is law (omega arith)) (later_variable_definitions_back vs d are laws (omega arith))
-      (λ x y hx hy. ap₂ (λ t ts. t ∷ ts) hx hy))
-
   variable_definitions_back : (vs : List VariableDefinitionTree) (d : ℕ) → AllByRecursion IsPrintableVariable vs → AllByRecursion IsLawfulVariable vs
       → d + variable_definitions_brackets vs ≤ 50
       → Back query (optional (Sym variable_definitions_symbol)) true d (variable_definitions_layout style vs) true d
       (λ x. map erase_variable_definition (optional_variable_definitions_of x) ≡ map erase_variable_definition vs)
   variable_definitions_back [] d is law deep = second_back (nothing_back refl)
-  variable_definitions_back (v ∷ vs) d (is, are) (law, laws) deep =
-      same_parts (mark (codes "(") ++ ((variable_definition_layout style v ++ later_variable_definitions style vs) ++ mark (codes ")"))) _
-      (ap (λ (l : List Part). mark (codes "(") ++ l)
-      (sym (append_assoc (variable_definition_layout style v) (later_variable_definitions style vs) (mark (codes ")")))))
-      (first_back (node_back (λ x. refl)
-      (as_word_back (three_back {Q = λ x. map erase_variable_definition (each_variable_definition_of x) ≡ map erase_variable_definition (v ∷ vs)}
-      (open_back (codes "(") (refl, refl) (omega arith) (λ p. refl))
-      (both_back (variable_definition_back v (d + 1) is law (omega arith)) (later_variable_definitions_back vs (d + 1) are laws (omega arith))
-      (λ x y hx hy. ap₂ (λ t ts. t ∷ ts) hx hy))
-      (close_back (codes ")") (refl, refl) (λ p. refl))
-      (λ o x c ho hx hc. hx)))))
+  variable_definitions_back (v ∷ vs) d is law deep =
+      in_parentheses_back (variable_definition_layout style) v vs refl (λ x. refl) (λ p. refl) (λ p. refl) (omega arith)
+      (some_back (d + 1) (Sym variable_definition_symbol) variable_definition_of each_variable_definition_of erase_variable_definition
+      (variable_definition_layout style) (λ t. IsPrintableVariable t × IsLawfulVariable t) variable_definition_brackets refl (λ x y. refl) (λ x y. refl)
+      (λ t h b. variable_definition_back t (d + 1) h.0 h.1 b) 44 (32 ∷ []) refl v vs
+      (both_of_each IsPrintableVariable IsLawfulVariable (v ∷ vs) is law) (omega arith))
+      (λ o x c h. h)
 
   -- ---- definitions
 
@@ -257,26 +242,12 @@ module _ (style : Layout) where
 
   -- ---- documents
 
-  later_back : (ts : DocumentTree) → AllByRecursion IsPrintableDefinition ts → AllByRecursion DefinitionSelects ts → IsLawfulDocument ts
-      → most definition_brackets ts ≤ 50
-      → Back query (Many (Sym definition_symbol)) false 0 (later_definitions style ts) false 0 (λ x. erase (definitions_of x) ≡ erase ts)
-  later_back [] is selects law deep = stop_back refl
-  later_back (t ∷ ts) (is, are) (selects, others) (law, laws) deep =
-      gap_back refl (more_back (definition_back t 0 is selects law (omega arith)) (later_back ts are others laws (omega arith))
-      (λ x y hx hy. ap₂ (λ u us. u ∷ us) hx hy))
-
-  document_back : (ts : DocumentTree) → IsPrintable ts → IsLawfulDocument ts
-      → Back query (Sym document_symbol) false 0 (document_layout style ts) false 0 (λ x. erase (document_of x) ≡ erase ts)
-  document_back [] is law = absurd is.definition
-  document_back (t ∷ ts) is (law, laws) =
-      let names = is.names in
-      let selects = is.selections in
-      let deep = is.depth in
-      node_back (λ x. refl) (both_back (definition_back t 0 names.0 selects.0 law (omega arith)) (later_back ts names.1 selects.1 laws (omega arith))
-      (λ x y hx hy. ap₂ (λ u us. u ∷ us) hx hy))
-
   -- the layout of a printable document is a document, equal up to positions
-  pub way_back : (ts : DocumentTree) → IsPrintable ts → IsLawfulDocument ts → (us : DocumentTree) × IsDocumentOf (layout style ts) us × (erase us ≡ erase ts)
-  way_back ts is law =
-      let (items, has, x, derives, end, same) = read_back (document_back ts is law) in
-      (document_of x, (items, has, (x, derives, end, refl)), same)
+  pub way_back : (ts : DocumentTree) → IsPrintable ts → IsLawfulDocument ts → IsReadBack (layout style ts) ts
+  way_back [] is law = absurd is.definition
+  way_back (t ∷ ts) is law =
+      document_back queries (t ∷ ts) (node_back (λ x. refl) (some_back 0 (Sym definition_symbol) definition_of definitions_of erase_definition
+      (definition_layout style) (λ u. IsPrintableDefinition u × (DefinitionSelects u × IsLawfulDefinition u)) definition_brackets
+      refl (λ x y. refl) (λ x y. refl) (λ u h b. definition_back u 0 h.0 h.1.0 h.1.1 b) 10 [] refl t ts
+      (both_of_each IsPrintableDefinition (λ u. DefinitionSelects u × IsLawfulDefinition u) (t ∷ ts) is.names
+      (both_of_each DefinitionSelects IsLawfulDefinition (t ∷ ts) is.selections law)) (omega (arith, is.depth))))

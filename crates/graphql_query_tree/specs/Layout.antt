@@ -1,5 +1,5 @@
 -- The text of a document in a style. A line begins with a margin of so many spaces.
-use Rattle.std.specs.Prelude.{ℕ, ◌+◌, max, List, [], ◌∷◌, ◌++◌, Option, Some, None, codes}
+use Rattle.std.specs.Prelude.{ℕ, ◌+◌, List, [], ◌++◌, Option, Some, None, codes}
 use Rattle.graphql_core.specs.Style.{Layout, spaces}
 use Rattle.graphql_core.specs.Parts.{Part, text_of, name, mark, gap}
 use Rattle.graphql_values.specs.Values.{ValueTree, DirectiveTree}
@@ -73,15 +73,8 @@ abbrev pub variable_definition_layout : Layout → VariableDefinitionTree → Li
 variable_definition_layout style v = mark (codes "$")
     ++ (name v.name ++ (mark (codes ":") ++ (gap (codes " ") ++ (type_layout v.var_type ++ default_layout style v.default_value))))
 
-abbrev pub later_variable_definitions : Layout → List VariableDefinitionTree → List Part
-later_variable_definitions style [] = []
-later_variable_definitions style (v ∷ vs) = gap (codes ", ") ++ (variable_definition_layout style v ++ later_variable_definitions style vs)
-
--- in parentheses, joined by a comma and a space
 abbrev pub variable_definitions_layout : Layout → List VariableDefinitionTree → List Part
-variable_definitions_layout style [] = []
-variable_definitions_layout style (v ∷ vs) = mark (codes "(")
-    ++ (variable_definition_layout style v ++ (later_variable_definitions style vs ++ mark (codes ")")))
+variable_definitions_layout style = lines.in_parentheses (variable_definition_layout style)
 
 -- an operation by its keyword and its parts
 abbrev pub operation_of : Layout → List ℕ → Option (List ℕ) → List VariableDefinitionTree → List DirectiveTree → SelectionSetTree → List Part
@@ -101,10 +94,6 @@ abbrev pub definition_layout : Layout → DefinitionTree → List Part
 definition_layout style (short s) = selection_set_layout style 0 s
 definition_layout style (operation o) = operation_layout style o
 definition_layout style (fragment f) = fragment_definition_layout style f
-
--- each with an empty line before it
-abbrev pub later_definitions : Layout → DocumentTree → List Part
-later_definitions style = lines.later (definition_layout style)
 
 -- the definitions, with an empty line between two
 abbrev pub document_layout : Layout → DocumentTree → List Part

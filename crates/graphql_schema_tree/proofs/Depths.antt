@@ -1,20 +1,20 @@
 -- The brackets of a document are those that its layout opens at once.
-use Rattle.std.proofs.Common.{◌≡◌, ℕ, ◌+◌, max, Bool, true, false, List, [], ◌∷◌, Option, Some, None, codes, map, refl, arith}
+use Rattle.std.proofs.Common.{◌≡◌, ℕ, max, Bool, true, false, List, [], ◌∷◌, Option, Some, None, codes, map, refl, arith}
 use Rattle.graphql_lexer.specs.declared.tokenizer.piece.Nesting.TheVariants.{Level}
 use Rattle.graphql_lexer.specs.declared.tokenizer.token.Kind.TheVariants.{Punctuator}
 use Rattle.graphql_core.specs.Depths.{bracket_of}
 use Rattle.graphql_core.specs.Parts.{Part}
 use Rattle.graphql_core.specs.Style.{Layout}
-use Rattle.graphql_core.proofs.Depths.{Rises, rises_as, none_rise, flat_rise, gap_rises, level_rises, both_rise, closer_sinks, both_sink}
-use Rattle.graphql_core.proofs.Depths.{opener_rises}
+use Rattle.graphql_core.proofs.Depths.{Rises, rises_as, none_rise, flat_rise, gap_rises, level_rises, both_rise}
 use Rattle.graphql_values.specs.Printable.{directives_brackets}
 use Rattle.graphql_values.specs.TreeDepth.{most_enclosed}
 use Rattle.graphql_values.specs.TreeDepth.{most}
 use Rattle.graphql_values.specs.Values.{DirectiveTree}
 use Rattle.graphql_values.proofs.Depths.{string_rises, type_rises, directives_rise, braces_rise, line_end_rises, default_rises, lines_rise, separated_rise}
+use Rattle.graphql_values.proofs.Depths.{in_parentheses_rise}
 use Rattle.graphql_schema_tree.specs.declared.location.DirectiveLocation.{DirectiveLocation}
 use Rattle.graphql_schema_tree.specs.Layout.{description_layout, inline_layout, later_names, joined_names, interfaces_layout, members_layout, locations_layout}
-use Rattle.graphql_schema_tree.specs.Layout.{block_layout, input_value_layout, later_arguments, arguments_layout, input_field_layout, field_layout}
+use Rattle.graphql_schema_tree.specs.Layout.{block_layout, input_value_layout, arguments_layout, input_field_layout, field_layout}
 use Rattle.graphql_schema_tree.specs.Layout.{enum_value_layout, root_layout, parts_layout, body_layout, repeatable_layout, definition_layout, document_layout}
 use Rattle.graphql_schema_tree.specs.Locations.{word_of}
 use Rattle.graphql_schema_tree.specs.Printable.{input_value_brackets, field_brackets, enum_value_brackets, parts_brackets, body_brackets, definition_brackets}
@@ -66,17 +66,8 @@ module _ (style : Layout) where
       both_rise (inline_rises style margin v.description) (level_rises refl (level_rises refl (gap_rises _ (both_rise (type_rises v.value_type)
       (both_rise (default_rises style margin v.default_value) (directives_rise style margin v.directives))))))
 
-  later_arguments_rise : (margin : ℕ) (vs : List InputValueTree) → Rises (most input_value_brackets vs) (later_arguments style margin vs)
-  later_arguments_rise margin [] = none_rise
-  later_arguments_rise margin (v ∷ vs) = gap_rises _ (both_rise (input_value_rises margin v) (later_arguments_rise margin vs))
-
   arguments_rise : (margin : ℕ) (vs : List InputValueTree) → Rises (most_enclosed input_value_brackets vs) (arguments_layout style margin vs)
-  arguments_rise margin [] = none_rise
-  arguments_rise margin (v ∷ vs) =
-      let m = input_value_brackets v in
-      let n = most input_value_brackets vs in
-      rises_as {m = max m (max n 0) + 1} {n = max m n + 1} (omega arith)
-      (opener_rises refl (both_sink (input_value_rises margin v) (both_sink (later_arguments_rise margin vs) (closer_sinks refl none_rise))))
+  arguments_rise margin = in_parentheses_rise (input_value_layout style margin) input_value_brackets (input_value_rises margin)
 
   input_field_rises : (margin : ℕ) (v : InputValueTree) → Rises (input_value_brackets v) (input_field_layout style margin v)
   input_field_rises margin v = gap_rises _ (line_end_rises _ (input_value_rises margin v))

@@ -2,14 +2,14 @@
 use Rattle.std.proofs.Common.{◌≡◌, ◌++◌, ap, ap₂, refl, codes, ℕ, List, [], ◌∷◌, map}
 use Rattle.std.specs.List.{flat_map}
 use Rattle.graphql_core.specs.Style.{Layout}
-use Rattle.graphql_core.specs.Parts.{Part, text_of, mark, gap, name}
+use Rattle.graphql_core.specs.Parts.{Part, text_of, gap, name}
 use Rattle.graphql_values.specs.Values.{DirectiveTree, erase_all}
 use Rattle.graphql_values.specs.Lines.{in_braces}
-use Rattle.graphql_values.proofs.NoPositions.{directives_alike, separated_alike}
+use Rattle.graphql_values.proofs.NoPositions.{directives_alike, separated_alike, in_parentheses_alike}
 use Rattle.graphql_schema_tree.specs.Tree.{InputValueTree, FieldTree, EnumValueTree, PartsTree, scalar, object, interface, union, enum, input, BodyTree}
 use Rattle.graphql_schema_tree.specs.Tree.{DefinitionTree, schema, type_definition, extension, directive, DocumentTree, erase_input_value, erase_field}
 use Rattle.graphql_schema_tree.specs.Tree.{erase_enum_value, erase_parts, erase_body, erase_definition, erase}
-use Rattle.graphql_schema_tree.specs.Layout.{block_layout, description_layout, input_value_layout, later_arguments, arguments_layout, input_field_layout}
+use Rattle.graphql_schema_tree.specs.Layout.{block_layout, description_layout, input_value_layout, arguments_layout, input_field_layout}
 use Rattle.graphql_schema_tree.specs.Layout.{field_layout, enum_value_layout, keyword, parts_layout, body_layout, definition_layout, layout}
 
 -- ---- parts in braces
@@ -29,16 +29,9 @@ input_value_alike : (style : Layout) (margin : ℕ) (v : InputValueTree)
     → input_value_layout style margin (erase_input_value v) ≡ input_value_layout style margin v
 input_value_alike style margin v = rw (directives_alike style margin v.directives) refl
 
-later_alike : (style : Layout) (margin : ℕ) (vs : List InputValueTree)
-    → later_arguments style margin (map erase_input_value vs) ≡ later_arguments style margin vs
-later_alike style margin [] = refl
-later_alike style margin (v ∷ vs) = ap₂ (λ a b. gap (codes ", ") ++ (a ++ b)) (input_value_alike style margin v) (later_alike style margin vs)
-
 arguments_alike : (style : Layout) (margin : ℕ) (vs : List InputValueTree)
     → arguments_layout style margin (map erase_input_value vs) ≡ arguments_layout style margin vs
-arguments_alike style margin [] = refl
-arguments_alike style margin (v ∷ vs) =
-    ap₂ (λ a b. mark (codes "(") ++ (a ++ (b ++ mark (codes ")")))) (input_value_alike style margin v) (later_alike style margin vs)
+arguments_alike style margin = in_parentheses_alike erase_input_value (input_value_layout style margin) (input_value_alike style margin)
 
 input_field_alike : (style : Layout) (margin : ℕ) (v : InputValueTree)
     → input_field_layout style margin (erase_input_value v) ≡ input_field_layout style margin v

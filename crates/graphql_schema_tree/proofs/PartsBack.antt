@@ -1,6 +1,6 @@
 -- The layouts of the parts of schema documents, and of types, are read back, up to positions.
 use Rattle.std.proofs.Common.{◌≡◌, ℕ, ◌+◌, ◌<◌, ◌≤◌, Bool, true, false, if◌then◌else◌, List, [], ◌∷◌, ◌++◌, Option, Some, None, codes, map, refl, sym}
-use Rattle.std.proofs.Common.{ap, ap₂, ◌∙◌, subst, arith, append_assoc}
+use Rattle.std.proofs.Common.{ap, ap₂, ◌∙◌, subst, arith}
 use Rattle.std.proofs.lemmas.List.{map-id}
 use Rattle.std.specs.List.{AllByRecursion, flat_map}
 use Rattle.graphql_grammar.specs.Trees.{Expr, Then, Many, Sym, Shape, Both, Node, optional, some_of, row}
@@ -9,7 +9,7 @@ use Rattle.graphql_lexer.specs.declared.tokenizer.token.Kind.TheVariants.{Punctu
 use Rattle.graphql_lexer.specs.declared.tokenizer.piece.Nesting.TheVariants.{Level}
 use Rattle.graphql_lexer.specs.Lexical.{IsName}
 use Rattle.graphql_core.specs.Style.{Layout}
-use Rattle.graphql_core.specs.Parts.{Part, token, name, mark, gap}
+use Rattle.graphql_core.specs.Parts.{Part, token, name, gap}
 use Rattle.graphql_values.specs.Values.{DirectiveTree, no_place, erase_all}
 use Rattle.graphql_values.specs.ValueLayout.{directives_layout, has_block_form, in_block_form, quoted, string_layout}
 use Rattle.graphql_values.specs.Lines.{in_braces}
@@ -28,19 +28,20 @@ use Rattle.graphql_schema_tree.specs.Grammar.{input_fields_symbol}
 use Rattle.graphql_schema_tree.specs.Meanings.{optional_of, optional_list_of, each_of, enclosed_of, marked_of, joined_of, description_of, input_value_of}
 use Rattle.graphql_schema_tree.specs.Meanings.{field_of, enum_value_of, interfaces_of, members_of, body_of}
 use Rattle.graphql_schema_tree.specs.Layout.{description_layout, inline_layout, later_names, joined_names, interfaces_layout, members_layout, block_layout}
-use Rattle.graphql_schema_tree.specs.Layout.{input_value_layout, later_arguments, arguments_layout, input_field_layout, field_layout, enum_value_layout}
+use Rattle.graphql_schema_tree.specs.Layout.{input_value_layout, arguments_layout, input_field_layout, field_layout, enum_value_layout}
 use Rattle.graphql_schema_tree.specs.Layout.{keyword, parts_layout, body_layout}
 use Rattle.graphql_schema_tree.specs.Printable.{IsPrintableInputValue, IsPrintableField, IsPrintableEnumValue, ArePrintableParts, IsPrintableBody}
 use Rattle.graphql_schema_tree.specs.Printable.{input_value_brackets, field_brackets, enum_value_brackets, parts_brackets, body_brackets}
 use Rattle.graphql_schema_tree.specs.Lawful.{IsLawfulInputValue, IsLawfulField, IsLawfulEnumValue, AreLawfulParts, IsLawfulBody}
-use Rattle.graphql_core.proofs.Back.{Back, Any, Takes, IsMark, as_word_back, same_parts, means, margin_back, gap_back, then_gap, word_back, mark_back}
-use Rattle.graphql_core.proofs.Back.{open_back, close_back, nothing_back, both_back, first_back, second_back, node_back, stop_back, more_back, three_back}
+use Rattle.graphql_core.proofs.Back.{Back, Any, Takes, IsMark, means, margin_back, gap_back, then_gap, word_back, mark_back}
+use Rattle.graphql_core.proofs.Back.{nothing_back, both_back, first_back, second_back, node_back, stop_back, more_back, three_back}
 use Rattle.graphql_core.proofs.Back.{four_back, five_back, six_back, lift_back}
 use Rattle.graphql_values.proofs.LeavesBack.{name_word, quoted_word, quoted_takes, quoted_means}
 use Rattle.graphql_values.proofs.BlockForm.{block_word}
 use Rattle.graphql_values.proofs.BlockValues.{block_means}
 use Rattle.graphql_values.proofs.ValuesBack.{spaces_blank}
 use Rattle.graphql_values.proofs.LinesBack.{in_braces_back}
+use Rattle.graphql_values.proofs.ListsBack.{both_of_each, some_back, in_parentheses_back}
 use Rattle.graphql_values.proofs.TypesBack.{type_back}
 use Rattle.graphql_values.proofs.DirectivesBack.{directives_back, optional_default_back}
 use Rattle.graphql_schema_tree.proofs.Readable.{shares, tested_alike, written_goes_on}
@@ -169,31 +170,18 @@ module _ (style : Layout) where
       (λ x y z w k l hx hy hz hw hk hl. λ i.
       record { position = no_place; description = hx i; name = hy i; value_type = hw i; default_value = hk i; directives = hl i }))
 
-  later_arguments_back : (margin : ℕ) (vs : List InputValueTree) (d : ℕ) → AllByRecursion IsPrintableInputValue vs → AllByRecursion IsLawfulInputValue vs
-      → d + most input_value_brackets vs ≤ 50
-      → Back schema (Many (Sym input_value_symbol)) true d (later_arguments style margin vs) true d
-      (λ x. map erase_input_value (each_of input_value_of x) ≡ map erase_input_value vs)
-  later_arguments_back margin [] d is law deep = stop_back refl
-  later_arguments_back margin (v ∷ vs) d (is, are) (law, laws) deep =
-      gap_back refl (more_back (input_value_back margin v d is law (omega arith)) (later_arguments_back margin vs d are laws (omega arith))
-      (λ x y hx hy. ap₂ (λ t ts. t ∷ ts) hx hy))
-
   pub argument_definitions_back : (margin : ℕ) (vs : List InputValueTree) (d : ℕ) → AllByRecursion IsPrintableInputValue vs
       → AllByRecursion IsLawfulInputValue vs → d + most_enclosed input_value_brackets vs ≤ 50
       → Back schema (optional (Sym argument_definitions_symbol)) true d (arguments_layout style margin vs) true d
       (λ x. map erase_input_value (optional_list_of (enclosed_of input_value_of) x) ≡ map erase_input_value vs)
   argument_definitions_back margin [] d is law deep = second_back (nothing_back refl)
-  argument_definitions_back margin (v ∷ vs) d (is, are) (law, laws) deep =
-      same_parts (mark (codes "(") ++ ((input_value_layout style margin v ++ later_arguments style margin vs) ++ mark (codes ")"))) _
-      (ap (λ (l : List Part). mark (codes "(") ++ l)
-      (sym (append_assoc (input_value_layout style margin v) (later_arguments style margin vs) (mark (codes ")")))))
-      (first_back (node_back (λ x. refl)
-      (as_word_back (three_back {Q = λ x. map erase_input_value (each_of input_value_of x) ≡ map erase_input_value (v ∷ vs)}
-      (open_back (codes "(") (refl, refl) (omega arith) (λ p. refl))
-      (both_back (input_value_back margin v (d + 1) is law (omega arith)) (later_arguments_back margin vs (d + 1) are laws (omega arith))
-      (λ x y hx hy. ap₂ (λ t ts. t ∷ ts) hx hy))
-      (close_back (codes ")") (refl, refl) (λ p. refl))
-      (λ o x c ho hx hc. hx)))))
+  argument_definitions_back margin (v ∷ vs) d is law deep =
+      in_parentheses_back (input_value_layout style margin) v vs refl (λ x. refl) (λ p. refl) (λ p. refl) (omega arith)
+      (some_back (d + 1) (Sym input_value_symbol) input_value_of (each_of input_value_of) erase_input_value
+      (input_value_layout style margin) (λ t. IsPrintableInputValue t × IsLawfulInputValue t) input_value_brackets refl (λ x y. refl) (λ x y. refl)
+      (λ t h b. input_value_back margin t (d + 1) h.0 h.1 b) 44 (32 ∷ []) refl v vs
+      (both_of_each IsPrintableInputValue IsLawfulInputValue (v ∷ vs) is law) (omega arith))
+      (λ o x c h. h)
 
   input_field_back : (margin : ℕ) (v : InputValueTree) (d : ℕ) → IsPrintableInputValue v → IsLawfulInputValue v → d + input_value_brackets v ≤ 50
       → Back schema (Sym input_value_symbol) false d (input_field_layout style margin v) false d

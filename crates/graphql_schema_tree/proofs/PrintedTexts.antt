@@ -10,13 +10,12 @@ use Rattle.graphql_values.specs.Lines.{in_braces, default_layout}
 use Rattle.graphql_values.specs.TreeDepth.{most}
 use Rattle.graphql_values.specs.ValueLayout.{type_layout, directives_layout}
 use Rattle.graphql_values.specs.Values.{DirectiveTree}
-use Rattle.graphql_values.specs.steps.Joined.{joined}
 use Rattle.graphql_values.proofs.Appending.{text_append}
-use Rattle.graphql_values.proofs.Enclosed.{first_text, narrower, both_fit}
-use Rattle.graphql_values.proofs.Seen.{most_seen, later_seen}
+use Rattle.graphql_values.proofs.Enclosed.{narrower, both_fit}
+use Rattle.graphql_values.proofs.Seen.{most_seen}
 use Rattle.graphql_schema_tree.specs.Tree.{InputValueTree, FieldTree, EnumValueTree, SchemaTree, PartsTree, DirectiveDefinitionTree, type_definition}
 use Rattle.graphql_schema_tree.specs.Layout.{description_layout, inline_layout, between, later_names, joined_names, interfaces_layout, members_layout}
-use Rattle.graphql_schema_tree.specs.Layout.{locations_layout, input_value_layout, later_arguments, arguments_layout, input_field_layout, field_layout}
+use Rattle.graphql_schema_tree.specs.Layout.{locations_layout, input_value_layout, arguments_layout, input_field_layout, field_layout}
 use Rattle.graphql_schema_tree.specs.Layout.{enum_value_layout, block_layout, root_layout, schema_layout, body_layout, repeatable_layout}
 use Rattle.graphql_values.specs.TreeDepth.{most_enclosed}
 use Rattle.graphql_schema_tree.specs.Layout.{directive_definition_layout, definition_layout}
@@ -132,18 +131,6 @@ module _ {X T : Type 0} (view : X → T) where
   block_written lines indent xs =
       let none : 0 + indent ≡ indent = omega arith in
       ap (λ n. text_of (block_layout 0 (λ x. lines n (view x)) xs)) none ∙ ap text_of (block_seen 0 (lines indent) xs)
-
--- arguments, of which there are some
-pub arguments_seen : {X : Type 0} (view : X → InputValueTree) (style : Layout) (margin : ℕ) (xs : List X) → 0 < length xs
-    → (codes "(" ++ joined (codes ", ") (map (λ x. text_of (input_value_layout style margin (view x))) xs))
-    ++ codes ")" ≡ text_of (arguments_layout style margin (map view xs))
-arguments_seen view style margin [] h = absurd (omega arith)
-arguments_seen view style margin (x ∷ xs) h =
-    let one = input_value_layout style margin (view x) in
-    let others = later_arguments style margin (map view xs) in
-    ap (λ r. (codes "(" ++ (text_of one ++ r)) ++ codes ")")
-    (later_seen view (codes ", ") (input_value_layout style margin) (later_arguments style margin) refl (λ _ _. refl) xs)
-    ∙ append_assoc (codes "(" ++ text_of one) (text_of others) (codes ")") ∙ first_text one others
 
 -- ---- levels
 

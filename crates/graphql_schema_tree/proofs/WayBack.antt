@@ -10,32 +10,31 @@ use Rattle.graphql_core.specs.Style.{Layout}
 use Rattle.graphql_core.specs.Parts.{Part, name}
 use Rattle.graphql_core.proofs.Back.{Back, Any, same_parts, means, margin_back, gap_back, then_gap, word_back, mark_back}
 use Rattle.graphql_core.proofs.Back.{nothing_back, both_back, first_back, second_back, node_back, checked_back, stop_back, more_back, three_back}
-use Rattle.graphql_core.proofs.Back.{seven_back, read_back}
+use Rattle.graphql_core.proofs.Back.{seven_back}
 use Rattle.graphql_values.specs.Grammar.{word}
-use Rattle.graphql_values.specs.Lines.{later}
 use Rattle.graphql_values.specs.Meanings.{spelling_at, directives_of}
 use Rattle.graphql_values.specs.TreeDepth.{most_enclosed}
-use Rattle.graphql_values.specs.TreeDepth.{most}
 use Rattle.graphql_values.specs.Values.{DirectiveTree, no_place, erase as erase_one, erase_all}
 use Rattle.graphql_values.proofs.LeavesBack.{name_word}
 use Rattle.graphql_values.proofs.ValuesBack.{spaces_blank}
+use Rattle.graphql_values.proofs.ListsBack.{both_of_each, some_back, document_back}
 use Rattle.graphql_schema_tree.specs.declared.location.DirectiveLocation.{DirectiveLocation}
-use Rattle.graphql_schema_tree.specs.Grammar.{schema as the_grammar, document_symbol, item_symbol, schema_symbol, root_type_symbol, extension_symbol}
+use Rattle.graphql_schema_tree.specs.Grammar.{schema as the_grammar, item_symbol, schema_symbol, root_type_symbol, extension_symbol}
 use Rattle.graphql_schema_tree.specs.Grammar.{directive_definition_symbol, locations_symbol, location_symbol}
-use Rattle.graphql_schema_tree.specs.Language.{IsReadBack}
+use Rattle.graphql_schema_tree.specs.Language.{schemas, IsReadBack}
 use Rattle.graphql_schema_tree.specs.Lawful.{IsLawfulInputValue, IsLawfulBody, IsLawfulDefinition, IsLawfulDocument}
 use Rattle.graphql_schema_tree.specs.Layout.{joined_names, root_layout, schema_layout, repeatable_layout}
-use Rattle.graphql_schema_tree.specs.Layout.{directive_definition_layout, definition_layout, document_layout, layout}
+use Rattle.graphql_schema_tree.specs.Layout.{directive_definition_layout, definition_layout, layout}
 use Rattle.graphql_schema_tree.specs.Locations.{word_of, location_of, is_location}
 use Rattle.graphql_schema_tree.specs.Meanings.{is_there, each_of, root_of, schema_of, location_at, present, locations_of}
-use Rattle.graphql_schema_tree.specs.Meanings.{directive_definition_of, extension_of, item_of, document_of}
+use Rattle.graphql_schema_tree.specs.Meanings.{directive_definition_of, extension_of, item_of}
 use Rattle.graphql_schema_tree.specs.Printable.{IsPrintable, IsPrintableSchema, IsPrintableBody, IsPrintableDefinition, IsWholeDefinition}
 use Rattle.graphql_schema_tree.specs.Printable.{IsPrintableInputValue, input_value_brackets, body_brackets, definition_brackets}
 use Rattle.graphql_schema_tree.specs.Roots.{roots_of, RootFault, root_fault, root_fault_of}
 use Rattle.graphql_schema_tree.specs.Tree.{InputValueTree, SchemaTree, PartsTree, scalar, object, interface, union, enum, input, BodyTree}
 use Rattle.graphql_schema_tree.specs.Tree.{DirectiveDefinitionTree, DefinitionTree, schema, type_definition, extension, directive, DocumentTree, adds}
 use Rattle.graphql_values.specs.TreeDepth.{has_any}
-use Rattle.graphql_schema_tree.specs.Tree.{erase_field, erase_enum_value, erase_input_value, erase_schema, erase_body, erase_directive, erase_definition, erase}
+use Rattle.graphql_schema_tree.specs.Tree.{erase_field, erase_enum_value, erase_input_value, erase_schema, erase_body, erase_directive, erase_definition}
 use Rattle.graphql_schema_tree.proofs.LocationWords.{location_named, location_name}
 use Rattle.graphql_schema_tree.proofs.PartsBack.{named_back, joined_back, braces_back, directives_in, description_back, argument_definitions_back, body_back}
 
@@ -238,27 +237,12 @@ definition_back style (directive t) is whole law deep =
 
 -- ---- documents
 
-module _ (style : Layout) where
-  later_back : (ts : DocumentTree) → AllByRecursion IsPrintableDefinition ts → AllByRecursion IsWholeDefinition ts → IsLawfulDocument ts
-      → most definition_brackets ts ≤ 50
-      → Back the_grammar (Many (Sym item_symbol)) false 0 (later (definition_layout style) ts) false 0 (λ x. erase (each_of item_of x) ≡ erase ts)
-  later_back [] is whole law deep = stop_back refl
-  later_back (t ∷ ts) (is, are) (whole, wholes) (law, laws) deep =
-      gap_back refl (more_back (definition_back style t is whole law (omega arith)) (later_back ts are wholes laws (omega arith))
-      (λ x y hx hy. ap₂ (λ u us. u ∷ us) hx hy))
-
-  document_back : (ts : DocumentTree) → IsPrintable ts → IsLawfulDocument ts
-      → Back the_grammar (Sym document_symbol) false 0 (document_layout style ts) false 0 (λ x. erase (document_of x) ≡ erase ts)
-  document_back [] is law = absurd cc
-  document_back (t ∷ ts) is (law, laws) =
-      let names = is.names in
-      let whole = is.definitions in
-      let deep = is.depth in
-      node_back (λ x. refl) (both_back (definition_back style t names.0 whole.0 law (omega arith)) (later_back ts names.1 whole.1 laws (omega arith))
-      (λ x y hx hy. ap₂ (λ u us. u ∷ us) hx hy))
-
-  -- the layout of a printable document is a document, equal up to positions
-  pub way_back : (ts : DocumentTree) → IsPrintable ts → IsLawfulDocument ts → IsReadBack (layout style ts) ts
-  way_back ts is law =
-      let (items, has, x, derives, end, same) = read_back (document_back ts is law) in
-      (document_of x, (items, has, (x, derives, end, refl)), same)
+-- the layout of a printable document is a document, equal up to positions
+pub way_back : (style : Layout) (ts : DocumentTree) → IsPrintable ts → IsLawfulDocument ts → IsReadBack (layout style ts) ts
+way_back style [] is law = absurd cc
+way_back style (t ∷ ts) is law =
+    document_back schemas (t ∷ ts) (node_back (λ x. refl) (some_back 0 (Sym item_symbol) item_of (each_of item_of) erase_definition
+    (definition_layout style) (λ u. IsPrintableDefinition u × (IsWholeDefinition u × IsLawfulDefinition u)) definition_brackets
+    refl (λ x y. refl) (λ x y. refl) (λ u h b. definition_back style u h.0 h.1.0 h.1.1 (omega (arith, b))) 10 [] refl t ts
+    (both_of_each IsPrintableDefinition (λ u. IsWholeDefinition u × IsLawfulDefinition u) (t ∷ ts) is.names
+    (both_of_each IsWholeDefinition IsLawfulDefinition (t ∷ ts) is.definitions law)) (omega (arith, is.depth))))

@@ -7,7 +7,7 @@ use Rattle.graphql_core.specs.Parts.{Part, text_of, name, mark, gap}
 use Rattle.graphql_values.specs.Values.{DirectiveTree}
 use Rattle.graphql_values.specs.ValueLayout.{string_layout, type_layout, directives_layout, in_levels}
 use Rattle.graphql_values.specs.ValueLayout as values
-use Rattle.graphql_values.specs.Lines.{in_braces, separated, default_layout}
+use Rattle.graphql_values.specs.Lines.{in_braces, separated, in_parentheses, default_layout}
 use Rattle.graphql_values.specs.TreeDepth.{most}
 use Rattle.graphql_schema_tree.specs.TreeDepth.{input_value_depth, field_depth, enum_value_depth, schema_depth, parts_depth, body_depth, definition_depth}
 use Rattle.graphql_schema_tree.specs.declared.location.DirectiveLocation.{DirectiveLocation}
@@ -67,14 +67,8 @@ input_value_layout style margin v =
     inline_layout style margin v.description ++ (name v.name ++ (mark (codes ":") ++ (gap (codes " ")
     ++ (type_layout v.value_type ++ (default_layout style margin v.default_value ++ directives_layout style margin v.directives)))))
 
-abbrev pub later_arguments : Layout → ℕ → List InputValueTree → List Part
-later_arguments style margin [] = []
-later_arguments style margin (v ∷ vs) = gap (codes ", ") ++ (input_value_layout style margin v ++ later_arguments style margin vs)
-
--- in parentheses, joined by a comma and a space, under every style
 abbrev pub arguments_layout : Layout → ℕ → List InputValueTree → List Part
-arguments_layout style margin [] = []
-arguments_layout style margin (v ∷ vs) = mark (codes "(") ++ (input_value_layout style margin v ++ (later_arguments style margin vs ++ mark (codes ")")))
+arguments_layout style margin = in_parentheses (input_value_layout style margin)
 
 -- the line of a field of an input object
 abbrev pub input_field_layout : Layout → ℕ → InputValueTree → List Part

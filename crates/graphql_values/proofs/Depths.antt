@@ -13,10 +13,10 @@ use Rattle.graphql_values.specs.Values.{ValueTree, variable, int, float, string,
 use Rattle.graphql_values.specs.Values.{no_members, member, TypeTree, named, list_of, non_null, DirectiveTree}
 use Rattle.graphql_values.specs.ValueLayout.{has_block_form, before_part, after_parts, parts, enclosed, inside, pair_layout, string_layout, value_layout}
 use Rattle.graphql_values.specs.ValueLayout.{items_layout, members_layout, type_layout, each_argument, arguments_layout, directive_layout, directives_layout}
-use Rattle.graphql_values.specs.Lines.{in_braces, later, separated, default_layout}
+use Rattle.graphql_values.specs.Lines.{in_braces, each_after, separated, in_parentheses, default_layout}
 use Rattle.graphql_values.specs.Printable.{value_brackets, items_brackets, members_brackets, type_brackets, argument_brackets, arguments_brackets}
 use Rattle.graphql_values.specs.Printable.{directive_brackets, directives_brackets}
-use Rattle.graphql_values.specs.TreeDepth.{most}
+use Rattle.graphql_values.specs.TreeDepth.{most, most_enclosed}
 
 -- ---- parts between brackets
 
@@ -119,10 +119,18 @@ module _ {A : Type 0} (lines : A → List Part) (brackets : A → ℕ) (rise : (
   lines_rise [] = none_rise
   lines_rise (x ∷ xs) = both_rise (rise x) (lines_rise xs)
 
-  later_rise : (xs : List A) → Rises (most brackets xs) (later lines xs)
-  later_rise [] = none_rise
-  later_rise (x ∷ xs) = gap_rises _ (both_rise (rise x) (later_rise xs))
+  each_after_rise : (text : List ℕ) (xs : List A) → Rises (most brackets xs) (each_after text lines xs)
+  each_after_rise text [] = none_rise
+  each_after_rise text (x ∷ xs) = gap_rises _ (both_rise (rise x) (each_after_rise text xs))
 
   pub separated_rise : (xs : List A) → Rises (most brackets xs) (separated lines xs)
   separated_rise [] = none_rise
-  separated_rise (x ∷ xs) = both_rise (rise x) (later_rise xs)
+  separated_rise (x ∷ xs) = both_rise (rise x) (each_after_rise (codes "\n") xs)
+
+  pub in_parentheses_rise : (xs : List A) → Rises (most_enclosed brackets xs) (in_parentheses lines xs)
+  in_parentheses_rise [] = none_rise
+  in_parentheses_rise (x ∷ xs) =
+      let m = brackets x in
+      let n = most brackets xs in
+      rises_as {m = max m (max n 0) + 1} {n = max m n + 1} (omega arith)
+      (opener_rises refl (both_sink (rise x) (both_sink (each_after_rise (codes ", ") xs) (closer_sinks refl none_rise))))

@@ -23,6 +23,7 @@ pub mod OuterLines
 pub mod ValuesBack
 pub mod DirectivesBack
 pub mod LinesBack
+pub mod ListsBack
 pub mod Margins
 pub mod Narrow
 pub mod FewLevels

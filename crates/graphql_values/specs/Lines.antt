@@ -10,15 +10,28 @@ use Rattle.graphql_values.specs.ValueLayout.{value_layout, in_levels}
 abbrev pub in_braces : ℕ → List Part → List Part
 in_braces margin lines = mark (codes "{") ++ (gap (codes "\n") ++ (lines ++ (gap (spaces margin) ++ (mark (codes "}") ++ gap (codes "\n")))))
 
+-- each with this white space before it
+abbrev pub each_after : {A : Type 0} → List ℕ → (A → List Part) → List A → List Part
+each_after text lines [] = []
+each_after text lines (x ∷ xs) = gap text ++ (lines x ++ each_after text lines xs)
+
 -- each with an empty line before it
 abbrev pub later : {A : Type 0} → (A → List Part) → List A → List Part
-later lines [] = []
-later lines (x ∷ xs) = gap (codes "\n") ++ (lines x ++ later lines xs)
+later = each_after (codes "\n")
 
 -- with an empty line between two
 abbrev pub separated : {A : Type 0} → (A → List Part) → List A → List Part
 separated lines [] = []
 separated lines (x ∷ xs) = lines x ++ later lines xs
+
+-- each with a comma and a space before it
+abbrev pub after_commas : {A : Type 0} → (A → List Part) → List A → List Part
+after_commas = each_after (codes ", ")
+
+-- in parentheses, joined by a comma and a space, under every style
+abbrev pub in_parentheses : {A : Type 0} → (A → List Part) → List A → List Part
+in_parentheses lines [] = []
+in_parentheses lines (x ∷ xs) = mark (codes "(") ++ (lines x ++ (after_commas lines xs ++ mark (codes ")")))
 
 -- a default value, where there is one
 abbrev pub default_layout : Layout → ℕ → Option ValueTree → List Part

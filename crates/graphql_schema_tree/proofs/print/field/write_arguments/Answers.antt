@@ -1,11 +1,10 @@
 use Rattle.std.proofs.Common.{◌∙◌, sym, refl}
 use Rattle.graphql_values.proofs.Appending.{and_last, on_ok}
 use Rattle.graphql_values.proofs.Enclosed.{some_items}
-use Rattle.graphql_schema_tree.specs.Layout.{input_value_levels}
+use Rattle.graphql_schema_tree.specs.Layout.{input_value_layout, input_value_levels}
 use Rattle.graphql_schema_tree.specs.Lawful.{IsLawfulInputValue}
 use Rattle.graphql_schema_tree.specs.Views.{input_value_view}
-use Rattle.graphql_values.proofs.Seen.{most_seen, all_seen}
-use Rattle.graphql_schema_tree.proofs.PrintedTexts.{arguments_seen}
+use Rattle.graphql_values.proofs.Seen.{most_seen, all_seen, in_parentheses_seen}
 use Rattle.graphql_schema_tree.proofs.print.field.write_arguments.Goals as goal
 
 pub write_joined-requires : goal.write_joined-requires
@@ -16,7 +15,7 @@ returns-clause-text g c =
     let more = g.met.S.Sink.took_more in
     let some = some_items _ c.args.arguments.now refl (sym c.is_empty.ensures ∙ c.if-is_empty.false) in
     and_last g.S.Sink.took more _ _ _ _ _ _ _ (more _ _ _ _ _ c.in_ok-push_str.ensures c.in_ok-write_joined.ensures.text) c.push_str-2.ensures
-    (arguments_seen (input_value_view g.N.Names.bytes) c.args.style.now c.args.margin c.args.arguments.now some)
+    (in_parentheses_seen (input_value_view g.N.Names.bytes) (input_value_layout c.args.style.now c.args.margin) c.args.arguments.now some)
 
 pub returns-clause-lawful : goal.returns-clause-lawful
 returns-clause-lawful g c =
