@@ -11,6 +11,13 @@ write_arguments-requires g c =
     let after = (narrower c.args.margin _ _ indent (2 ^ 32) c.requires).1 in
     rw c.deref.ensures.value ((narrower c.args.margin _ _ indent (2 ^ 32) after).0)
 
+pub write_directives-requires : goal.write_directives-requires
+write_directives-requires g c =
+    let indent = c.args.style.now.indent in
+    let described = (narrower c.args.margin _ _ indent (2 ^ 32) c.requires).1 in
+    let given = (narrower c.args.margin _ _ indent (2 ^ 32) described).1 in
+    rw c.deref-2.ensures.value ((narrower c.args.margin _ _ indent (2 ^ 32) given).1)
+
 pub returns-clause-text : goal.returns-clause-text
 returns-clause-text g c =
     let more = g.met.S.Sink.took_more in

@@ -12,6 +12,13 @@ write_default-requires g c =
     let typed = (narrower c.args.margin _ _ style.indent (2 ^ 32) described).1 in
     (narrower c.args.margin _ _ style.indent (2 ^ 32) typed).0
 
+pub write_directives-requires : goal.write_directives-requires
+write_directives-requires g c =
+    let style = c.args.style.now in
+    let described = (narrower c.args.margin _ _ style.indent (2 ^ 32) c.requires).1 in
+    let typed = (narrower c.args.margin _ _ style.indent (2 ^ 32) described).1 in
+    rw c.deref.ensures.value ((narrower c.args.margin _ _ style.indent (2 ^ 32) typed).1)
+
 pub returns-clause-text : goal.returns-clause-text
 returns-clause-text g c =
     let more = g.met.S.Sink.took_more in
