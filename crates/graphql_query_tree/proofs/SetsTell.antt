@@ -33,7 +33,7 @@ pub operation_bounded : (n : ℕ) (vs : List VariableDefinitionTree) (ds : List 
     → BoundsLevels n (λ style. selection_set_levels style s) → BoundsLevels n (λ style. operation_levels_of style vs ds s)
 operation_bounded n vs ds s inside style one_line =
     let variables : variable_definitions_levels style vs ≤ 1 =
-        most_bounded (variable_definition_levels style) 1 (λ v. let default = default_bounded style one_line v.default_value in omega (arith, default)) vs in
+    most_bounded (variable_definition_levels style) 1 (λ v. let default = default_bounded style one_line v.default_value in omega (arith, default)) vs in
     let directives = directives_bounded style one_line ds in
     let selected = inside style one_line in
     let others = max (directives_levels style ds) (selection_set_levels style s) in
