@@ -1,10 +1,13 @@
-use Rattle.std.proofs.Common.{map, option_map, string_bytes}
+use Rattle.std.proofs.Common.{◌^◌, map, option_map, string_bytes}
 use Rattle.graphql_values.specs.ValueViews.{directives_view}
 use Rattle.graphql_values.proofs.Appending.{and_last}
 use Rattle.graphql_schema_tree.specs.Tree.{enum}
 use Rattle.graphql_schema_tree.specs.Views.{enum_value_view}
-use Rattle.graphql_schema_tree.proofs.PrintedTexts.{type_text}
+use Rattle.graphql_schema_tree.proofs.PrintedTexts.{latter_fits, type_text}
 use Rattle.graphql_schema_tree.proofs.print.types.EnumTypePretty.write.Goals as goal
+
+pub write_enum-requires : goal.write_enum-requires
+write_enum-requires g c = rw (c.deref.ensures.value, c.deref-2.ensures.value) (latter_fits c.args._margin _ _ c.args.style.now.indent (2 ^ 32) c.requires)
 
 pub returns-clause-text : goal.returns-clause-text
 returns-clause-text g c =
