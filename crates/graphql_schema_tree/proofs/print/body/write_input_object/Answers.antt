@@ -1,17 +1,20 @@
-use Rattle.std.proofs.Common.{◌≡◌, ◌<◌, ◌^◌, ◌++◌, ◌∙◌, [], ap, codes, length, map, sym, refl}
+use Rattle.std.proofs.Common.{◌≡◌, ◌<◌, ◌^◌, ◌++◌, ◌∙◌, [], ap, arith, codes, length, map, sym, refl}
 use Rattle.std.specs.List.{flat_map}
 use Rattle.std.proofs.lemmas.Bool.{eqb-true}
 use Rattle.std.proofs.lemmas.List.{length-map, nil_from_length}
 use Rattle.graphql_core.specs.Parts.{text_of, gap}
 use Rattle.graphql_values.specs.ValueLayout.{directives_layout}
 use Rattle.graphql_values.specs.ValueViews.{directives_view}
-use Rattle.graphql_values.proofs.Appending.{and_last}
+use Rattle.graphql_values.proofs.Appending.{and_last, on_ok}
 use Rattle.graphql_values.proofs.Enclosed.{some_items, both_fit}
 use Rattle.graphql_schema_tree.specs.Layout.{input_field_layout, input_value_levels}
 use Rattle.graphql_schema_tree.specs.Views.{input_value_view}
 use Rattle.graphql_schema_tree.specs.steps.Body.{named}
 use Rattle.graphql_schema_tree.proofs.PrintedTexts.{two_after, braces_after, filled_block, lines_fit}
 use Rattle.graphql_schema_tree.proofs.print.body.write_input_object.Goals as goal
+
+pub write_directives-requires : goal.write_directives-requires
+write_directives-requires g c = let fits = (both_fit _ _ c.args.style.now.indent (2 ^ 32) c.requires).0 in omega (arith, fits)
 
 pub write_input_fields-requires : goal.write_input_fields-requires
 write_input_fields-requires g c =
@@ -48,3 +51,8 @@ returns-then-is_empty-clause-text g c =
     rw none
     (and_last g.S.Sink.took more _ _ _ _ _ _ _ before c.push_str-then-is_empty.ensures
     (rw c.view.ensures (two_after (codes "input") (g.N.Names.bytes c.args.name.now) directives (gap (codes "\n")))))
+
+pub returns-then-is_empty-clause-lawful : goal.returns-then-is_empty-clause-lawful
+returns-then-is_empty-clause-lawful g c =
+    let none : c.args.fields.now ≡ [] = nil_from_length _ (eqb-true _ _ (sym c.is_empty.ensures ∙ c.if-is_empty.true)) in
+    rw none (on_ok c.push_str-then-is_empty.result (c.in_ok-write_directives.ensures.lawful, tt))

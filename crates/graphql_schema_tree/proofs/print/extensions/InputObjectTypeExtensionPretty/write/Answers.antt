@@ -6,3 +6,6 @@ pub returns-clause-text : goal.returns-clause-text
 returns-clause-text g c =
     let written = rw (c.deref.ensures.value, c.deref-2.ensures.value) at c.write_input_object.ensures.text in
     and_last g.S.Sink.took g.met.S.Sink.took_more _ _ _ _ _ _ _ c.in_ok-push_str.ensures written refl
+
+pub returns-clause-lawful : goal.returns-clause-lawful
+returns-clause-lawful g c = rw (c.deref.ensures.value, c.deref-2.ensures.value) at c.write_input_object.ensures.lawful

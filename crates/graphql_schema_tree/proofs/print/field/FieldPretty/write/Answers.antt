@@ -1,5 +1,5 @@
 use Rattle.std.proofs.Common.{◌^◌}
-use Rattle.graphql_values.proofs.Appending.{and_last}
+use Rattle.graphql_values.proofs.Appending.{and_last, on_ok}
 use Rattle.graphql_values.proofs.Enclosed.{narrower}
 use Rattle.graphql_schema_tree.specs.Views.{field_view}
 use Rattle.graphql_schema_tree.proofs.PrintedTexts.{field_text}
@@ -28,3 +28,9 @@ returns-clause-text g c =
     let written = more _ _ _ _ _ (more _ _ _ _ _ named c.in_ok-write_type.ensures) directives in
     and_last g.S.Sink.took more _ _ _ _ _ _ _ written c.push_str-3.ensures
     (rw c.view.ensures (field_text c.args.style.now c.args.margin (field_view g.N.Names.bytes c.args.self.now)))
+
+pub returns-clause-lawful : goal.returns-clause-lawful
+returns-clause-lawful g c =
+    let arguments = rw c.deref.ensures.value at c.in_ok-write_arguments.ensures.lawful in
+    let directives = rw c.deref-2.ensures.value at c.in_ok-write_directives.ensures.lawful in
+    on_ok c.push_str-3.result (arguments, directives)
