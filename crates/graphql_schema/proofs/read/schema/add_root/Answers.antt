@@ -55,8 +55,8 @@ returns-then-eq-3 g c = λ rs h.
     IfOk-weaker c.fill-then-eq-3.result _ _
     (λ u fills.
     let (fault, type) =
-    filled_same bytes _ (codes "subscription") c.args.roots.now c.fill-then-eq-3.new.fault c.args.roots.now.subscription c.fill-then-eq-3.new.slot c.args.type_name
-    rs is refl refl none h (h.subscription no_fault) fills in
+    filled_same bytes _ (codes "subscription") c.args.roots.now c.fill-then-eq-3.new.fault c.args.roots.now.subscription c.fill-then-eq-3.new.slot
+    c.args.type_name rs is refl refl none h (h.subscription no_fault) fills in
     record {
       fault = fault;
       query = λ n. stays bytes (codes "query") rs _ _ (ap (same_spelling (codes "query")) is) (h.query no_fault);

@@ -32,7 +32,7 @@ returns-then-is_too_deep-clause-item c =
     let s = c.self.inside in
     let w : Where = record { position = s.position; offset = s.size - length s.rest.now; openers = s.brackets.openers; closers = s.brackets.closers } in
     let t = c.in-Some.taken in
-    let e = items_at w s.rest.now (Takes t.len t.kind t.nesting) (takes_first (front c.self.inside.rest.now) t.len t.kind t.nesting (sym c.in-Some.ensures.is)) in
+    let e = items_at w s.rest.now (Takes t.len t.kind t.nesting) (takes_first (front s.rest.now) t.len t.kind t.nesting (sym c.in-Some.ensures.is)) in
     let deep : is_too_deep t.nesting w ≡ true = sym (c.is_too_deep.ensures w refl refl) ∙ c.if-is_too_deep.true in
     rw (← c.self.view_is) (w, rw deep at e, refl)
 
@@ -41,7 +41,7 @@ returns-clause-item c =
     let s = c.self.inside in
     let w : Where = record { position = s.position; offset = s.size - length s.rest.now; openers = s.brackets.openers; closers = s.brackets.closers } in
     let t = c.in-Some.taken in
-    let e = items_at w s.rest.now (Takes t.len t.kind t.nesting) (takes_first (front c.self.inside.rest.now) t.len t.kind t.nesting (sym c.in-Some.ensures.is)) in
+    let e = items_at w s.rest.now (Takes t.len t.kind t.nesting) (takes_first (front s.rest.now) t.len t.kind t.nesting (sym c.in-Some.ensures.is)) in
     let deep : is_too_deep t.nesting w ≡ false = sym (c.is_too_deep.ensures w refl refl) ∙ c.if-is_too_deep.false in
     let value = take t.len s.rest.now in
     let end = sym (c.past-end.ensures.is ∙ ap (λ v. past v s.position) c.split_at.ensures.front) in

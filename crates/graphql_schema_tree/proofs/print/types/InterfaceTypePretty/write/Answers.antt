@@ -7,7 +7,9 @@ use Rattle.graphql_schema_tree.proofs.PrintedTexts.{latter_fits, type_text}
 use Rattle.graphql_schema_tree.proofs.print.types.InterfaceTypePretty.write.Goals as goal
 
 pub write_implementer-requires : goal.write_implementer-requires
-write_implementer-requires g c = rw (c.deref-2.ensures.value, c.deref-3.ensures.value) (latter_fits c.args._margin _ _ c.args.style.now.indent (2 ^ 32) c.requires)
+write_implementer-requires g c =
+    let fits = latter_fits c.args._margin _ _ c.args.style.now.indent (2 ^ 32) c.requires in
+    rw (c.deref-2.ensures.value, c.deref-3.ensures.value) fits
 
 pub returns-clause-text : goal.returns-clause-text
 returns-clause-text g c =
