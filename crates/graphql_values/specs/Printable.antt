@@ -75,7 +75,7 @@ type_brackets (named n) = 0
 type_brackets (list_of t) = type_brackets t + 1
 type_brackets (non_null t) = type_brackets t
 
--- lists, objects and all that stands in parentheses
+-- lists, objects, list types and all that stands in parentheses, where it is not none
 abbrev pub in_brackets : Weights
 in_brackets = record {
   of_string = λ text. 0;

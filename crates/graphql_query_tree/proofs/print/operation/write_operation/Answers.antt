@@ -1,25 +1,24 @@
-use Rattle.std.proofs.Common.{arith, ◌^◌, append_assoc}
+use Rattle.std.proofs.Common.{ℕ, ◌<◌, ◌*◌, ◌^◌, max, arith, append_assoc}
 use Rattle.std.proofs.lemmas.Result.{on_ok_weaker}
 use Rattle.graphql_values.proofs.Appending.{text_append, and_last}
 use Rattle.graphql_values.proofs.Enclosed.{both_fit}
 use Rattle.graphql_query_tree.proofs.print.operation.write_operation.Goals as goal
 
+-- the parts of an operation fit where it does
+parts_fit : (a b c indent : ℕ) → max a (max b c) * indent < 2 ^ 32 → (a * indent < 2 ^ 32) × (b * indent < 2 ^ 32) × (c * indent < 2 ^ 32)
+parts_fit a b c indent h =
+    let (first, others) = both_fit a (max b c) indent (2 ^ 32) h in
+    let (second, third) = both_fit b c indent (2 ^ 32) others in
+    (first, second, third)
+
 pub write_variable_definitions-requires : goal.write_variable_definitions-requires
-write_variable_definitions-requires g c = (both_fit _ _ c.args.style.now.indent (2 ^ 32) c.requires).0
+write_variable_definitions-requires g c = (parts_fit _ _ _ c.args.style.now.indent c.requires).0
 
 pub write_directives-requires : goal.write_directives-requires
-write_directives-requires g c =
-    let indent = c.args.style.now.indent in
-    let later = (both_fit _ _ indent (2 ^ 32) c.requires).1 in
-    let fits = (both_fit _ _ indent (2 ^ 32) later).0 in
-    omega (arith, fits)
+write_directives-requires g c = let fits = (parts_fit _ _ _ c.args.style.now.indent c.requires).1 in omega (arith, fits)
 
 pub write_selection_set-requires : goal.write_selection_set-requires
-write_selection_set-requires g c =
-    let indent = c.args.style.now.indent in
-    let later = (both_fit _ _ indent (2 ^ 32) c.requires).1 in
-    let fits = (both_fit _ _ indent (2 ^ 32) later).1 in
-    omega (arith, fits)
+write_selection_set-requires g c = let fits = (parts_fit _ _ _ c.args.style.now.indent c.requires).2 in omega (arith, fits)
 
 pub returns-clause-text : goal.returns-clause-text
 returns-clause-text g c =
