@@ -55,10 +55,7 @@ pub trait Document<'a>: Clone + PartialEq + Display + Drop {
 
 impl<'a, T: Text<'a>> Document<'a> for query::Document<'a, T> {
     fn parse(alloc: Global, source: &'a str) -> Result<Self, Refusal> {
-        match query::parse_query(alloc, source) {
-            Ok(document) => Ok(document),
-            Err(error) => Err(Refusal::of_query(&error)),
-        }
+        query::parse_query(alloc, source).map_err(|error| Refusal::of_query(&error))
     }
 
     fn laid_out(&self, alloc: Global) -> Result<String, FormatError> {
@@ -68,10 +65,7 @@ impl<'a, T: Text<'a>> Document<'a> for query::Document<'a, T> {
 
 impl<'a, T: Text<'a>> Document<'a> for schema::Document<'a, T> {
     fn parse(alloc: Global, source: &'a str) -> Result<Self, Refusal> {
-        match schema::parse_schema(alloc, source) {
-            Ok(document) => Ok(document),
-            Err(error) => Err(Refusal::of_schema(&error)),
-        }
+        schema::parse_schema(alloc, source).map_err(|error| Refusal::of_schema(&error))
     }
 
     fn laid_out(&self, alloc: Global) -> Result<String, FormatError> {

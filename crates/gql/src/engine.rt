@@ -25,10 +25,9 @@ fn read_all<R: Read>(alloc: Global, reader: &mut Counted<R>) -> Result<Vec<u8>, 
     let mut bytes = Vec::new(alloc);
     let mut piece = [0u8; 8192];
     'pieces: for _ in 0..u64::MAX {
-        match reader.read(&mut piece) {
-            Ok(0) => return Ok(bytes),
-            Ok(count) => bytes.extend_from_slice(&piece[..count])?,
-            Err(_) => return Err(RunError::Read),
+        match reader.read(&mut piece).map_err(|_| RunError::Read)? {
+            0 => return Ok(bytes),
+            count => bytes.extend_from_slice(&piece[..count])?,
         }
     }
     unreachable!()
@@ -44,15 +43,11 @@ fn write_all<W: Write>(writer: &mut Counted<W>, bytes: &[u8]) -> Result<(), RunE
     let mut rest = bytes;
     'pieces: for _ in 0..u64::MAX {
         if rest.is_empty() {
-            return match writer.flush() {
-                Ok(()) => Ok(()),
-                Err(_) => Err(RunError::Write),
-            };
+            return writer.flush().map_err(|_| RunError::Write);
         }
-        match writer.write(rest) {
-            Ok(0) => return Err(RunError::Write),
-            Ok(count) => rest = rest.split_at(count).1,
-            Err(_) => return Err(RunError::Write),
+        match writer.write(rest).map_err(|_| RunError::Write)? {
+            0 => return Err(RunError::Write),
+            count => rest = rest.split_at(count).1,
         }
     }
     unreachable!()
@@ -63,14 +58,8 @@ fn query_laid_out(alloc: Global, style: &Style, text: &str) -> Result<String, Ru
     ensures ok { IfOk result (λ s. IsOutputOf Command.Query style.now text.now (string_bytes s)) }
     ensures err { IfErr result (EndsEngine Command.Query style.now text.now) }
 {
-    let document: query::Document<'_, &str> = match parse_query(alloc, text) {
-        Ok(document) => document,
-        Err(error) => return Err(RunError::Query(error)),
-    };
-    match document.format(alloc, style) {
-        Ok(text) => Ok(text),
-        Err(error) => Err(RunError::Format(error)),
-    }
+    let document: query::Document<'_, &str> = parse_query(alloc, text).map_err(RunError::Query)?;
+    document.format(alloc, style).map_err(RunError::Format)
 }
 
 /// The schema document of a text, laid out.
@@ -78,14 +67,8 @@ fn schema_laid_out(alloc: Global, style: &Style, text: &str) -> Result<String, R
     ensures ok { IfOk result (λ s. IsOutputOf Command.Schema style.now text.now (string_bytes s)) }
     ensures err { IfErr result (EndsEngine Command.Schema style.now text.now) }
 {
-    let document: schema::Document<'_, &str> = match parse_schema(alloc, text) {
-        Ok(document) => document,
-        Err(error) => return Err(RunError::Schema(error)),
-    };
-    match document.format(alloc, style) {
-        Ok(text) => Ok(text),
-        Err(error) => Err(RunError::Format(error)),
-    }
+    let document: schema::Document<'_, &str> = parse_schema(alloc, text).map_err(RunError::Schema)?;
+    document.format(alloc, style).map_err(RunError::Format)
 }
 
 /// The tokens of a text, with no more spaces between them than keep them apart.
@@ -94,10 +77,7 @@ fn minified(alloc: Global, style: &Style, text: String) -> Result<String, RunErr
     ensures err { IfErr result (EndsEngine Command.Minify style.now (string_bytes text)) }
 {
     let _ = style;
-    match minify_query(alloc, text) {
-        Ok(text) => Ok(text),
-        Err(error) => Err(RunError::Minify(error)),
-    }
+    minify_query(alloc, text).map_err(RunError::Minify)
 }
 
 /// The first definition of a text, laid out as a document of its own, and then the rest as it is.
@@ -105,19 +85,12 @@ fn first_laid_out(alloc: Global, style: &Style, text: &str) -> Result<String, Ru
     ensures ok { IfOk result (λ s. IsOutputOf Command.First style.now text.now (string_bytes s)) }
     ensures err { IfErr result (EndsEngine Command.First style.now text.now) }
 {
-    let first = match consume_definition::<&str>(alloc, text) {
-        Ok(first) => first,
-        Err(error) => return Err(RunError::Query(error)),
-    };
-    let (definition, rest) = first;
+    let (definition, rest) = consume_definition::<&str>(alloc, text).map_err(RunError::Query)?;
     let Ok(definitions) = vec![in alloc; definition] else {
         return Err(RunError::OutOfMemory);
     };
     let document: query::Document<'_, &str> = query::Document { definitions };
-    let mut output = match document.format(alloc, style) {
-        Ok(output) => output,
-        Err(error) => return Err(RunError::Format(error)),
-    };
+    let mut output = document.format(alloc, style).map_err(RunError::Format)?;
     output.push_str(rest)?;
     Ok(output)
 }
@@ -173,9 +146,7 @@ pub fn run<R: Read, W: Write>(
         × WritesPart (W.contents writer.old.device) (W.contents writer.new.device) output) }
 {
     let bytes = read_all(alloc, reader)?;
-    let Ok(text) = String::from_utf8(bytes) else {
-        return Err(RunError::NotUtf8);
-    };
+    let text = String::from_utf8(bytes).map_err(|_| RunError::NotUtf8)?;
     let output = output_of(alloc, command, style, text)?;
     write_all(writer, output.as_bytes())
 }

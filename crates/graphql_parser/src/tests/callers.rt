@@ -172,14 +172,8 @@ fn formatted_and_parsed<N: Names>(
         → (e ≡ no_memory) ⊎ (max_length < length (layout style.now (document_view N.bytes document.now))) }
     ensures minified { (e : Refusal) → result ≡ Err (Lost.Minify e) → ⊥ }
 {
-    let text = match document.format(alloc, style) {
-        Ok(text) => text,
-        Err(error) => return Err(Lost::Format(error)),
-    };
-    match parse_query::<String>(alloc, &text) {
-        Ok(document) => Ok(document),
-        Err(error) => Err(Lost::Parse(error)),
-    }
+    let text = document.format(alloc, style).map_err(Lost::Format)?;
+    parse_query::<String>(alloc, &text).map_err(Lost::Parse)
 }
 
 /// A text minified and parsed: what the text itself is parsed to but for positions, unless an allocation fails, or a text is too long.
@@ -190,14 +184,8 @@ fn minified_and_parsed(alloc: Global, source: String) -> Result<Document<'static
     ensures parsed { (d : DocumentTree) (e : Refusal) → IsDocumentOf (string_bytes source) d → result ≡ Err (Lost.Parse e)
         → (e ≡ no_memory) ⊎ (e ≡ too_long) }
 {
-    let text = match minify_query(alloc, source) {
-        Ok(text) => text,
-        Err(error) => return Err(Lost::Minify(error)),
-    };
-    match parse_query::<String>(alloc, &text) {
-        Ok(document) => Ok(document),
-        Err(error) => Err(Lost::Parse(error)),
-    }
+    let text = minify_query(alloc, source).map_err(Lost::Minify)?;
+    parse_query::<String>(alloc, &text).map_err(Lost::Parse)
 }
 
 /// Where a text is refused, and whether a number is the cause.

@@ -59,14 +59,8 @@ fn formatted_and_parsed<N: Names>(
     ensures parsed { (e : Refusal) → result ≡ Err (Lost.Parse e)
         → (e ≡ no_memory) ⊎ (max_length < length (layout style.now (document_view N.bytes document.now))) }
 {
-    let text = match document.format(alloc, style) {
-        Ok(text) => text,
-        Err(error) => return Err(Lost::Format(error)),
-    };
-    match parse_schema::<String>(alloc, &text) {
-        Ok(document) => Ok(document),
-        Err(error) => Err(Lost::Parse(error)),
-    }
+    let text = document.format(alloc, style).map_err(Lost::Format)?;
+    parse_schema::<String>(alloc, &text).map_err(Lost::Parse)
 }
 
 /// `Display` shows a tree so.

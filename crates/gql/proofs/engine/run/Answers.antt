@@ -5,6 +5,7 @@ use Rattle.graphql_core.specs.Style.{Layout}
 use Rattle.gql.specs.declared.command.Command.{Command}
 use Rattle.gql.specs.declared.error.RunError.TheVariants as error
 use Rattle.gql.specs.Output.{IsOutputOf, HasNoQuery, HasNoSchema, HasBadPlace, EndsEngine, ReadsAll, WritesPart}
+use Rattle.graphql_parser.proofs.Mapped.{at_passed}
 use Rattle.gql.proofs.engine.run.Goals as goal
 
 -- what was read to its end is all that was left
@@ -25,7 +26,7 @@ reads_for_output command style old new text bytes made output P same_text same_o
 pub returns-in_err-output-clause-query : goal.returns-in_err-output-clause-query
 returns-in_err-output-clause-query g c = λ e is.
     let read = c.in_ok-bytes.ensures in
-    let same = ap (λ v. v.items) c.in-Ok.ensures.ok in
+    let same = ap (λ v. v.items) (at_passed _ _ _ _ c.map_err.ensures.cases c.map_err.ensures.variant c.in_ok-text.was c.from_utf8.ensures.ok) in
     let passed = err_from_is_err_and c.from_residual-in_err-output.result c.from_residual-in_err-output.ensures.1 in
     let why : c.in_err-output.field-0.0 ≡ error.Query e = cc (passed.1, passed.2) in
     let none = subst (EndsEngine c.args.command c.args.style.now _) why c.in_err-output.ensures.err in
@@ -34,7 +35,7 @@ returns-in_err-output-clause-query g c = λ e is.
 pub returns-in_err-output-clause-schema : goal.returns-in_err-output-clause-schema
 returns-in_err-output-clause-schema g c = λ e is.
     let read = c.in_ok-bytes.ensures in
-    let same = ap (λ v. v.items) c.in-Ok.ensures.ok in
+    let same = ap (λ v. v.items) (at_passed _ _ _ _ c.map_err.ensures.cases c.map_err.ensures.variant c.in_ok-text.was c.from_utf8.ensures.ok) in
     let passed = err_from_is_err_and c.from_residual-in_err-output.result c.from_residual-in_err-output.ensures.1 in
     let why : c.in_err-output.field-0.0 ≡ error.Schema e = cc (passed.1, passed.2) in
     let none = subst (EndsEngine c.args.command c.args.style.now _) why c.in_err-output.ensures.err in
@@ -43,7 +44,7 @@ returns-in_err-output-clause-schema g c = λ e is.
 pub returns-in_err-output-clause-minify : goal.returns-in_err-output-clause-minify
 returns-in_err-output-clause-minify g c = λ e is.
     let read = c.in_ok-bytes.ensures in
-    let same = ap (λ v. v.items) c.in-Ok.ensures.ok in
+    let same = ap (λ v. v.items) (at_passed _ _ _ _ c.map_err.ensures.cases c.map_err.ensures.variant c.in_ok-text.was c.from_utf8.ensures.ok) in
     let passed = err_from_is_err_and c.from_residual-in_err-output.result c.from_residual-in_err-output.ensures.1 in
     let why : c.in_err-output.field-0.0 ≡ error.Minify e = cc (passed.1, passed.2) in
     let none = subst (EndsEngine c.args.command c.args.style.now _) why c.in_err-output.ensures.err in
@@ -52,7 +53,7 @@ returns-in_err-output-clause-minify g c = λ e is.
 pub returns-clause-ok : goal.returns-clause-ok
 returns-clause-ok g c =
     let read = c.in_ok-bytes.ensures in
-    let same = ap (λ v. v.items) c.in-Ok.ensures.ok in
+    let same = ap (λ v. v.items) (at_passed _ _ _ _ c.map_err.ensures.cases c.map_err.ensures.variant c.in_ok-text.was c.from_utf8.ensures.ok) in
     on_ok_weaker c.write_all.result
     (reads_for_output c.args.command _ _ _ _ _ _ _
     (Appends _ _) same c.as_bytes.ensures.value read.bytes read.end c.in_ok-output.ensures.ok) c.write_all.ensures.ok
@@ -60,7 +61,7 @@ returns-clause-ok g c =
 pub returns-clause-write : goal.returns-clause-write
 returns-clause-write g c = λ is.
     let read = c.in_ok-bytes.ensures in
-    let same = ap (λ v. v.items) c.in-Ok.ensures.ok in
+    let same = ap (λ v. v.items) (at_passed _ _ _ _ c.map_err.ensures.cases c.map_err.ensures.variant c.in_ok-text.was c.from_utf8.ensures.ok) in
     let failed = IfErr-at_err _ is c.write_all.ensures.err in (
       failed.1,
       reads_for_output c.args.command _ _ _ _ _ _ _
