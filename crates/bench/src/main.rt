@@ -6,7 +6,7 @@ mod work;
 use crate::work::{Document, Sample, Work, name, time};
 use graphql_parser::{query, schema};
 use std::process::ExitCode;
-use std::time::Duration;
+use std::time::{Duration, Instant};
 use std::{env, fs, io};
 
 /// What is told where the words are no language, no file and no number of rounds.
@@ -96,18 +96,29 @@ fn measures() -> [Measure; 8] {
     .map(|work| Measure { work, least: None })
 }
 
+/// The document of a text, and the time that it takes to parse it for the first time.
+fn parse_cold<'a, B: Document<'a>>(
+    rt: &HostRuntime,
+    source: &'a str,
+) -> io::Result<Option<(B, Duration)>> {
+    let start = Instant::now(rt)?;
+    match B::parse(rt.alloc(), source) {
+        Ok(document) => Ok(Some((document, start.elapsed(rt)?))),
+        Err(error) => {
+            eprintln!(rt; "{error}")?;
+            Ok(None)
+        }
+    }
+}
+
 /// Measures every kind of work on one document, by turns, and prints its least time in microseconds.
 fn measure_all<'a, B: Document<'a>, O: Document<'a>>(
     rt: &HostRuntime,
     rounds: u32,
     source: &'a str,
 ) -> io::Result<bool> {
-    let document = match B::parse(rt.alloc(), source) {
-        Ok(document) => document,
-        Err(error) => {
-            eprintln!(rt; "{error}")?;
-            return Ok(false);
-        }
+    let Some((document, cold)) = parse_cold::<B>(rt, source)? else {
+        return Ok(false);
     };
     let Some(written) = document.lay_out(rt.alloc()) else {
         eprintln!(rt; "no layout")?;
@@ -129,6 +140,7 @@ fn measure_all<'a, B: Document<'a>, O: Document<'a>>(
         source.len(),
         written.len()
     )?;
+    println!(rt; "parse for the first time: {} us", cold.as_micros())?;
     print_times(rt, &measures)?;
     Ok(true)
 }
