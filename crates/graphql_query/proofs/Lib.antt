@@ -1,5 +1,6 @@
 pub mod FromShared
 pub mod SelectionAlternatives
+pub mod TakenOff
 pub mod Views
 pub mod EqualParts
 pub mod Keywords

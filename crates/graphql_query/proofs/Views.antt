@@ -1,5 +1,5 @@
 -- What is seen of selections as they are made.
-use Rattle.std.proofs.Common.{◌≡◌, ℕ, List, [], map, option_map, Option, Vec, Global, rules, ap, ◌∙◌}
+use Rattle.std.proofs.Common.{◌≡◌, ℕ, List, length, drop, map, option_map, Option, Vec, Global, rules, ap, ◌∙◌}
 use Rattle.graphql_lexer.specs.declared.position.Pos.{Pos}
 use Rattle.graphql_core.specs.Source.{place_of}
 use Rattle.graphql_values.specs.declared.tree.Value.{Value}
@@ -14,8 +14,8 @@ use Rattle.graphql_query_tree.specs.declared.tree.Selection.{Selection, the_lemm
 use Rattle.graphql_query_tree.specs.declared.tree.Selection.TheViews.{roll-Field, roll-InlineFragment, roll-SelectionSet}
 use Rattle.graphql_query_tree.specs.declared.tree.Selection.TheViews as made
 use Rattle.graphql_query_tree.specs.declared.tree.Selection.TheBlock as block
-use Rattle.graphql_values.proofs.Reading.{fills}
 use Rattle.graphql_query.specs.steps.Reads.{AddsSet}
+use Rattle.graphql_query.proofs.TakenOff.{taken_off}
 use Rattle.graphql_query_tree.specs.Tree.{field, inline, set, SelectionSetTree, trees_of, type_condition_view, field_view, fragment_spread_view}
 use Rattle.graphql_query_tree.specs.Tree.{inline_fragment_view, selection_view, selection_set_view}
 
@@ -44,9 +44,10 @@ module _ {N T : Type 0} (b : T → List ℕ) where
       (trees_of (map (selection_view b) ss.items))
   selection_set_made p q ss = search (rules, the_lemmas)
 
-  -- a set of selections that were read into an empty list
-  pub selection_set_filled : (span : Pos × Pos) (start : List (Selection N T)) (ss : Vec (Selection N T) Global) (tree : SelectionSetTree) → start ≡ []
-      → AddsSet b start ss.items span tree → selection_set_view b (roll-SelectionSet N T (record { span = span; items = ss })) ≡ tree
-  selection_set_filled span start ss tree none (xs, added, is) =
+  -- a set of selections that were read at the end of others, and taken off them
+  pub selection_set_taken : (start found : List (Selection N T)) (n : ℕ) → n ≡ length start → (span : Pos × Pos) (ss : Vec (Selection N T) Global)
+      (tree : SelectionSetTree) → ss.items ≡ drop n found → AddsSet b start found span tree
+      → selection_set_view b (roll-SelectionSet N T (record { span = span; items = ss })) ≡ tree
+  selection_set_taken start found n count span ss tree off (xs, added, is) =
       selection_set_made span.0 span.1 ss ∙ ap (λ l. set (place_of span.0) (place_of span.1) (trees_of l))
-      (fills (selection_view b) start ss.items xs none added) ∙ is
+      (taken_off (selection_view b) start found xs added n count ss.items off) ∙ is

@@ -20,19 +20,20 @@ use graphql_core::common::{Fault, MAX_LENGTH, Text};
 use graphql_core::helpers::{Cursor, TokenSource, fault_of};
 use graphql_core::position::Pos;
 use graphql_core::tokenizer::TokenStream;
-use graphql_query_tree::tree::Definition;
+use graphql_query_tree::tree::{Definition, Selection};
 use std::alloc::Global;
 
 /// The definition with which the items of a source begin.
 fn first_definition<S: TokenSource>(
     alloc: Global,
     source: &mut S,
+    scratch: &mut Vec<Selection<S::Names>>,
 ) -> Result<Definition<S::Names>, Fault>
     ensures takes { IfOk result (λ d. TakesDefinition (S.items source.old) (S.items source.new) (definition_view S.Names.bytes d)) }
     ensures complete { (x : Shape) (others : List Token) → BeginsWith (S.items source.old).tokens x others → IfErr result (λ e. e ≡ OutOfMemory) }
     ensures refused { IfErr result (IsLeastOf one_definition (S.items source.old)) }
 {
-    match definition(alloc, source) {
+    match definition(alloc, source, scratch) {
         Ok(definition) => Ok(definition),
         Err(stop) => Err(fault_of(alloc, source, stop)),
     }
@@ -93,7 +94,8 @@ pub fn consume_definition<'a, S: Text<'a>>(
         return Err(ParseError::text_too_long());
     }
     let mut cursor: Cursor<'a, S> = Cursor::new(source);
-    let definition = first_definition(alloc, &mut cursor)?;
+    let mut scratch = Vec::new(alloc);
+    let definition = first_definition(alloc, &mut cursor, &mut scratch)?;
     let rest = text_from(source, cursor.position());
     Ok((definition, rest))
 }

@@ -12,15 +12,16 @@ use crate::read::fragment::type_condition;
 use crate::read::operation::operation_definition;
 use crate::read::selection::selection_set;
 use graphql_core::helpers::{Mark, Stop, TokenSource, keyword, name, sees_keyword};
-use graphql_query_tree::tree::{Definition, FragmentDefinition, SelectionSet};
+use graphql_query_tree::tree::{Definition, FragmentDefinition, Selection};
 use graphql_values::read::directives;
 use std::alloc::Global;
 
-/// `FragmentDefinition = "fragment" Name TypeCondition Directives SelectionSet`
+/// `FragmentDefinition = "fragment" Name TypeCondition Directives SelectionSet`; selections are read at the end of `scratch`.
 #[tactic(auto, using(graphql_values::proofs::Reading::reading))]
 fn fragment_definition<S: TokenSource>(
     alloc: Global,
     source: &mut S,
+    scratch: &mut Vec<Selection<S::Names>>,
 ) -> Result<FragmentDefinition<S::Names>, Stop>
     ensures reads { Reads (Sym fragment_definition_symbol) (S.items source.old) (S.items source.new)
         (λ v x. fragment_definition_view S.Names.bytes v ≡ fragment_definition_of x) result }
@@ -32,22 +33,22 @@ fn fragment_definition<S: TokenSource>(
     let type_condition = type_condition(alloc, source)?;
     let mut directives = Vec::new(alloc);
     directives::directives(alloc, source, &mut directives)?;
-    let mut items = Vec::new(alloc);
-    let span = selection_set(alloc, source, &mut items)?;
+    let selection_set = selection_set(alloc, source, scratch)?;
     Ok(FragmentDefinition {
         position,
         name,
         type_condition,
         directives,
-        selection_set: SelectionSet { span, items },
+        selection_set,
     })
 }
 
-/// `Definition = OperationDefinition | FragmentDefinition`
+/// `Definition = OperationDefinition | FragmentDefinition`; selections are read at the end of `scratch`.
 #[tactic(auto, using(graphql_values::proofs::Reading::reading))]
 pub fn definition<S: TokenSource>(
     alloc: Global,
     source: &mut S,
+    scratch: &mut Vec<Selection<S::Names>>,
 ) -> Result<Definition<S::Names>, Stop>
     ensures reads { Reads (Sym definition_symbol) (S.items source.old) (S.items source.new)
         (λ v x. definition_view S.Names.bytes v ≡ definition_of x) result }
@@ -55,9 +56,9 @@ pub fn definition<S: TokenSource>(
     ensures shorter { Shortens (S.items source.old) (S.items source.new) result }
 {
     if sees_keyword(source, "fragment") {
-        return Ok(Definition::Fragment(fragment_definition(alloc, source)?));
+        return Ok(Definition::Fragment(fragment_definition(alloc, source, scratch)?));
     }
-    Ok(Definition::Operation(operation_definition(alloc, source)?))
+    Ok(Definition::Operation(operation_definition(alloc, source, scratch)?))
 }
 
 /// Whether a definition begins with the next item.
@@ -83,9 +84,11 @@ pub fn definitions<S: TokenSource>(
     ensures shorter { Shortens (S.items source.old) (S.items source.new) result }
 {
     let mut definitions = Vec::new(alloc);
-    definitions.push(definition(alloc, source)?)?;
+    // The selections of the sets that are open; a set takes its own off the end.
+    let mut scratch = Vec::new(alloc);
+    definitions.push(definition(alloc, source, &mut scratch)?)?;
     'more: while sees_definition(source) {
-        definitions.push(definition(alloc, source)?)?;
+        definitions.push(definition(alloc, source, &mut scratch)?)?;
     }
     Ok(definitions)
 }

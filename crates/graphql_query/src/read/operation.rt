@@ -20,7 +20,7 @@ use graphql_core::helpers::{
     Mark, Stop, TokenSource, give_back_room, keyword, name, sees_keyword, take_mark,
 };
 use graphql_query_tree::tree::{
-    Mutation, OperationDefinition, Query, SelectionSet, Subscription, VariableDefinition,
+    Mutation, OperationDefinition, Query, Selection, SelectionSet, Subscription, VariableDefinition,
 };
 use graphql_values::read::directives::{self, optional_default};
 use graphql_values::read::types::parse_type;
@@ -123,11 +123,12 @@ fn optional_variable_definitions<S: TokenSource>(
     variable_definitions(alloc, source, definitions)
 }
 
-/// `OperationBody = Name? VariableDefinitions? Directives SelectionSet`
+/// `OperationBody = Name? VariableDefinitions? Directives SelectionSet`; selections are read at the end of `scratch`.
 #[tactic(auto, using(graphql_values::proofs::Reading::reading))]
 fn operation_body<S: TokenSource>(
     alloc: Global,
     source: &mut S,
+    scratch: &mut Vec<Selection<S::Names>>,
 ) -> Result<OperationBody<S::Names>, Stop>
     ensures reads { Reads (Sym operation_body_symbol) (S.items source.old) (S.items source.new)
         (λ v x. operation_body_view S.Names.bytes v ≡ operation_body_of x) result }
@@ -139,26 +140,29 @@ fn operation_body<S: TokenSource>(
     optional_variable_definitions(alloc, source, &mut variable_definitions)?;
     let mut directives = Vec::new(alloc);
     directives::directives(alloc, source, &mut directives)?;
-    let mut items = Vec::new(alloc);
-    let span = selection_set(alloc, source, &mut items)?;
+    let selection_set = selection_set(alloc, source, scratch)?;
     Ok(OperationBody {
         name,
         variable_definitions,
         directives,
-        selection_set: SelectionSet { span, items },
+        selection_set,
     })
 }
 
 /// `"query" OperationBody`
 #[tactic(auto, using(graphql_values::proofs::Reading::reading))]
-fn query<S: TokenSource>(alloc: Global, source: &mut S) -> Result<Query<S::Names>, Stop>
+fn query<S: TokenSource>(
+    alloc: Global,
+    source: &mut S,
+    scratch: &mut Vec<Selection<S::Names>>,
+) -> Result<Query<S::Names>, Stop>
     ensures reads { Reads (Then (word (codes "query")) (Sym operation_body_symbol)) (S.items source.old) (S.items source.new)
         (λ v x. query_view S.Names.bytes v ≡ keyword_of query_kind x) result }
     ensures kept { kept (S.items source.new) ≡ kept (S.items source.old) }
     ensures shorter { Shortens (S.items source.old) (S.items source.new) result }
 {
     let position = keyword(source, "query")?;
-    let common = operation_body(alloc, source)?;
+    let common = operation_body(alloc, source, scratch)?;
     Ok(Query {
         position,
         name: common.name,
@@ -170,14 +174,18 @@ fn query<S: TokenSource>(alloc: Global, source: &mut S) -> Result<Query<S::Names
 
 /// `"mutation" OperationBody`
 #[tactic(auto, using(graphql_values::proofs::Reading::reading))]
-fn mutation<S: TokenSource>(alloc: Global, source: &mut S) -> Result<Mutation<S::Names>, Stop>
+fn mutation<S: TokenSource>(
+    alloc: Global,
+    source: &mut S,
+    scratch: &mut Vec<Selection<S::Names>>,
+) -> Result<Mutation<S::Names>, Stop>
     ensures reads { Reads (Then (word (codes "mutation")) (Sym operation_body_symbol)) (S.items source.old) (S.items source.new)
         (λ v x. mutation_view S.Names.bytes v ≡ keyword_of mutation_kind x) result }
     ensures kept { kept (S.items source.new) ≡ kept (S.items source.old) }
     ensures shorter { Shortens (S.items source.old) (S.items source.new) result }
 {
     let position = keyword(source, "mutation")?;
-    let common = operation_body(alloc, source)?;
+    let common = operation_body(alloc, source, scratch)?;
     Ok(Mutation {
         position,
         name: common.name,
@@ -192,6 +200,7 @@ fn mutation<S: TokenSource>(alloc: Global, source: &mut S) -> Result<Mutation<S:
 fn subscription<S: TokenSource>(
     alloc: Global,
     source: &mut S,
+    scratch: &mut Vec<Selection<S::Names>>,
 ) -> Result<Subscription<S::Names>, Stop>
     ensures reads { Reads (Then (word (codes "subscription")) (Sym operation_body_symbol)) (S.items source.old) (S.items source.new)
         (λ v x. subscription_view S.Names.bytes v ≡ keyword_of subscription_kind x) result }
@@ -199,7 +208,7 @@ fn subscription<S: TokenSource>(
     ensures shorter { Shortens (S.items source.old) (S.items source.new) result }
 {
     let position = keyword(source, "subscription")?;
-    let common = operation_body(alloc, source)?;
+    let common = operation_body(alloc, source, scratch)?;
     Ok(Subscription {
         position,
         name: common.name,
@@ -214,6 +223,7 @@ fn subscription<S: TokenSource>(
 pub fn operation_definition<S: TokenSource>(
     alloc: Global,
     source: &mut S,
+    scratch: &mut Vec<Selection<S::Names>>,
 ) -> Result<OperationDefinition<S::Names>, Stop>
     ensures reads { Reads (Sym operation_symbol) (S.items source.old) (S.items source.new)
         (λ v x. operation_view S.Names.bytes v ≡ operation_of x) result }
@@ -221,15 +231,13 @@ pub fn operation_definition<S: TokenSource>(
     ensures shorter { Shortens (S.items source.old) (S.items source.new) result }
 {
     if sees_keyword(source, "query") {
-        return Ok(OperationDefinition::Query(query(alloc, source)?));
+        return Ok(OperationDefinition::Query(query(alloc, source, scratch)?));
     }
     if sees_keyword(source, "mutation") {
-        return Ok(OperationDefinition::Mutation(mutation(alloc, source)?));
+        return Ok(OperationDefinition::Mutation(mutation(alloc, source, scratch)?));
     }
     if sees_keyword(source, "subscription") {
-        return Ok(OperationDefinition::Subscription(subscription(alloc, source)?));
+        return Ok(OperationDefinition::Subscription(subscription(alloc, source, scratch)?));
     }
-    let mut items = Vec::new(alloc);
-    let span = selection_set(alloc, source, &mut items)?;
-    Ok(OperationDefinition::SelectionSet(SelectionSet { span, items }))
+    Ok(OperationDefinition::SelectionSet(selection_set(alloc, source, scratch)?))
 }

@@ -6,14 +6,14 @@ ghost use Rattle.graphql_core.specs.Source.{kept, place_of};
 ghost use Rattle.graphql_core.specs.steps.Matching.{sees_class};
 ghost use Rattle.graphql_values.specs.Grammar.{punctuator, any, mark};
 ghost use Rattle.graphql_values.specs.steps.Answers.{Adds, Shortens};
-ghost use Rattle.graphql_query_tree.specs.Tree.{selection_view};
+ghost use Rattle.graphql_query_tree.specs.Tree.{selection_view, selection_set_view};
 ghost use Rattle.graphql_query_tree.specs.Grammar.{field_symbol, selection_set_symbol, selection_symbol, fragment_spread_rest, inline_fragment_rest};
 ghost use Rattle.graphql_query_tree.specs.Meanings.{field_of, selected_of, inline_fragment_rest_of, selection_of, selection_set_of};
 ghost use Rattle.graphql_query.specs.steps.Reads.{Reads, AddsSet, after_dots_of};
 
 use crate::read::alias::alias;
 use crate::read::fragment::{fragment_spread, optional_type_condition, sees_spread_name};
-use graphql_core::helpers::{Mark, Stop, TokenSource, give_back_room, name, take_mark};
+use graphql_core::helpers::{Mark, Stop, TokenSource, name, take_mark};
 use graphql_core::position::Pos;
 use graphql_query_tree::tree::{Field, InlineFragment, Selection, SelectionSet};
 use graphql_values::read::directives::{self, optional_arguments};
@@ -39,40 +39,41 @@ fn field<S: TokenSource>(
     optional_arguments(alloc, source, &mut arguments)?;
     let mut directives = Vec::new(alloc);
     directives::directives(alloc, source, &mut directives)?;
-    let mut selections = Vec::new(alloc);
-    let span = selected(alloc, source, position, &mut selections)?;
+    let selection_set = optional_selection_set(alloc, source, position, items)?;
     items.push(Selection::Field(Field {
         position,
         alias,
         name,
         arguments,
         directives,
-        selection_set: SelectionSet {
-            span,
-            items: selections,
-        },
+        selection_set,
     }))?;
     Ok(())
 }
 
-/// `SelectionSet?` of a field that stands at a position: its span, and its selections after those before them.
+/// `SelectionSet?` of a field that stands at a position, read at the end of other selections, which stay.
 #[cycle(reading)]
+#[inline(always)]
 #[tactic(auto, using(graphql_values::proofs::Reading::reading))]
-fn selected<S: TokenSource>(
+fn optional_selection_set<S: TokenSource>(
     alloc: Global,
     source: &mut S,
     position: Pos,
-    items: &mut Vec<Selection<S::Names>>,
-) -> Result<(Pos, Pos), Stop>
+    others: &mut Vec<Selection<S::Names>>,
+) -> Result<SelectionSet<S::Names>, Stop>
     ensures reads { Reads (optional (Sym selection_set_symbol)) (S.items source.old) (S.items source.new)
-        (λ v x. AddsSet S.Names.bytes items.old.items items.new.items v (selected_of (place_of position) x)) result }
+        (λ v x. selection_set_view S.Names.bytes v ≡ selected_of (place_of position) x) result }
+    ensures others { OnOk result (Adds (selection_view S.Names.bytes) others.old.items others.new.items []) }
     ensures kept { kept (S.items source.new) ≡ kept (S.items source.old) }
     ensures within { OnOk result (length (S.items source.new).tokens ≤ length (S.items source.old).tokens) }
 {
     if !source.sees_mark(Mark::OpenBrace) {
-        return Ok((position, position));
+        return Ok(SelectionSet {
+            span: (position, position),
+            items: Vec::new(alloc),
+        });
     }
-    selection_set(alloc, source, items)
+    selection_set(alloc, source, others)
 }
 
 /// `TypeCondition? Directives SelectionSet`, what stands after the dots of an inline fragment, after the selections before it.
@@ -92,16 +93,12 @@ fn inline_fragment<S: TokenSource>(
     let type_condition = optional_type_condition(alloc, source)?;
     let mut directives = Vec::new(alloc);
     directives::directives(alloc, source, &mut directives)?;
-    let mut selections = Vec::new(alloc);
-    let span = selection_set(alloc, source, &mut selections)?;
+    let selection_set = selection_set(alloc, source, items)?;
     items.push(Selection::InlineFragment(InlineFragment {
         position,
         type_condition,
         directives,
-        selection_set: SelectionSet {
-            span,
-            items: selections,
-        },
+        selection_set,
     }))?;
     Ok(())
 }
@@ -152,10 +149,10 @@ fn sees_selection<S: TokenSource>(source: &S) -> bool
     source.sees_name() || source.sees_mark(Mark::Dots)
 }
 
-/// `SelectionSet = "{" Selection+ "}"`: its span, and its selections after those before them.
+/// `"{" Selection+ "}"`: the span, and the selections after those before them.
 #[cycle(reading)]
 #[tactic(auto, using(graphql_values::proofs::Reading::reading))]
-pub fn selection_set<S: TokenSource>(
+fn selections<S: TokenSource>(
     alloc: Global,
     source: &mut S,
     items: &mut Vec<Selection<S::Names>>,
@@ -171,6 +168,27 @@ pub fn selection_set<S: TokenSource>(
         selection(alloc, source, items)?;
     }
     let end = take_mark(source, Mark::CloseBrace)?;
-    give_back_room(source, items);
     Ok((start, end))
+}
+
+/// `SelectionSet = "{" Selection+ "}"`, read at the end of other selections, which stay, and taken off them:
+/// so the list of a set is allocated once, as long as it is.
+#[cycle(reading)]
+#[inline(always)]
+#[tactic(auto, using(graphql_values::proofs::Reading::reading))]
+pub fn selection_set<S: TokenSource>(
+    alloc: Global,
+    source: &mut S,
+    others: &mut Vec<Selection<S::Names>>,
+) -> Result<SelectionSet<S::Names>, Stop>
+    ensures reads { Reads (Sym selection_set_symbol) (S.items source.old) (S.items source.new)
+        (λ v x. selection_set_view S.Names.bytes v ≡ selection_set_of x) result }
+    ensures others { OnOk result (Adds (selection_view S.Names.bytes) others.old.items others.new.items []) }
+    ensures kept { kept (S.items source.new) ≡ kept (S.items source.old) }
+    ensures shorter { Shortens (S.items source.old) (S.items source.new) result }
+{
+    let count = others.len();
+    let span = selections(alloc, source, others)?;
+    let items = others.split_off(count)?;
+    Ok(SelectionSet { span, items })
 }

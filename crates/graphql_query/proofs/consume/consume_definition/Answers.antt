@@ -1,9 +1,10 @@
 use Rattle.std.proofs.Common.{sym, subst, arith}
 use Rattle.graphql_core.specs.Refusal.{Refusal, refusal_of}
+use Rattle.graphql_core.specs.Source.{Items}
 use Rattle.graphql_values.specs.Faults.{IsRefusalOf, past_bound}
-use Rattle.graphql_values.proofs.Whole.{exit, refusal}
+use Rattle.graphql_values.proofs.Whole.{exit, refusal, answers_unless_memory}
 use Rattle.graphql_values.proofs.Faults.{one_each}
-use Rattle.graphql_query.specs.FirstDefinition.{one_definition}
+use Rattle.graphql_query.specs.FirstDefinition.{one_definition, BeginsWith}
 use Rattle.graphql_query.proofs.FirstDefinition.{readable_one}
 use Rattle.graphql_query.proofs.Consuming.{found, one_first}
 use Rattle.graphql_query.proofs.OtherRest.{other_rest, shorter}
@@ -26,6 +27,11 @@ returns-then-source-gt-MAX_LENGTH-clause-one_fault g c = one_each one_definition
 
 pub returns-in_err-definition-clause-one : goal.returns-in_err-definition-clause-one
 returns-in_err-definition-clause-one g c = one_first c.args.source.now
+
+pub returns-in_err-definition-clause-complete : goal.returns-in_err-definition-clause-complete
+returns-in_err-definition-clause-complete g c r bound (items, has, x, others, begins, means, rest) =
+    answers_unless_memory _ r _ _ c.from_residual.ensures.1 (c.in_err-definition.ensures.complete x others
+    (subst (λ (i : Items). BeginsWith i.tokens x others) (sym (c.new-cursor.ensures items has)) begins))
 
 pub returns-in_err-definition-clause-refused : goal.returns-in_err-definition-clause-refused
 returns-in_err-definition-clause-refused g c =

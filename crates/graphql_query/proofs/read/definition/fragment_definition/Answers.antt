@@ -6,7 +6,6 @@ use Rattle.graphql_values.proofs.Reading.{takes_one, fills}
 use Rattle.graphql_query_tree.specs.Grammar.{reading, fragment_definition_symbol}
 use Rattle.graphql_query.proofs.FromShared.{starts, takes_lifted, some_lifted, stops_lifted}
 use Rattle.graphql_query.proofs.EqualParts.{same_fragment_definition}
-use Rattle.graphql_query.proofs.Views.{selection_set_filled}
 use Rattle.graphql_values.proofs.Steps.{past, before, error_in, error_one}
 use Rattle.graphql_query.proofs.read.definition.fragment_definition.Goals as goal
 
@@ -44,8 +43,8 @@ returns-in_err-directives-clause-reads g c =
     error_in old mid new _ _ _ (before (past named on))
     (stops_lifted _ refl _ _ _ c.in_err-directives.ensures.reads) c.from_residual-in_err-directives.ensures.1
 
-pub returns-in_err-span-clause-reads : goal.returns-in_err-span-clause-reads
-returns-in_err-span-clause-reads g c =
+pub returns-in_err-selection_set-clause-reads : goal.returns-in_err-selection_set-clause-reads
+returns-in_err-selection_set-clause-reads g c =
     let old = g.S.TokenSource.items c.args.source.now in
     let mid = g.S.TokenSource.items c.directives.new.source in
     let new = g.S.TokenSource.items c.selection_set.new.source in
@@ -54,7 +53,7 @@ returns-in_err-span-clause-reads g c =
     let (o, on, applies) = c.in_ok-type_condition.ensures.reads in
     let (d, directed, directs) = c.in_ok-directives.ensures.reads in
     error_in old mid new _ _ _
-    (past (past named on) (takes_lifted _ refl _ _ _ directed)).stops c.in_err-span.ensures.reads c.from_residual-in_err-span.ensures.1
+    (past (past named on) (takes_lifted _ refl _ _ _ directed)).stops c.in_err-selection_set.ensures.reads c.from_residual-in_err-selection_set.ensures.1
 
 pub returns-clause-reads : goal.returns-clause-reads
 returns-clause-reads g c =
@@ -62,15 +61,14 @@ returns-clause-reads g c =
     let (n, named, spelled) = c.in_ok-name.ensures in
     let (o, on, applies) = c.in_ok-type_condition.ensures.reads in
     let (d, directed, directs) = some_lifted _ refl _ _ _ c.in_ok-directives.ensures.reads in
-    let (s, selected, selects) = c.in_ok-span.ensures.reads in (
+    let (s, selected, selects) = c.in_ok-selection_set.ensures.reads in (
       Node fragment_definition_symbol (Both (Leaf w) (Both (Leaf n) (Both o (Both d s)))),
       takes_node (takes_both (takes_one reading _ _ _ w refl begins)
           (takes_both (takes_one reading _ _ _ n refl named) (takes_both on (takes_both directed selected)))) refl,
-      same_fragment_definition at spelled applies (fills (directive_view g.S.Names.Names.bytes) _ _ _ c.new-directives.ensures.items directs)
-          (selection_set_filled g.S.Names.Names.bytes _ _ _ _ c.new-items.ensures.items selects),
+      same_fragment_definition at spelled applies (fills (directive_view g.S.Names.Names.bytes) _ _ _ c.new-directives.ensures.items directs) selects,
     )
 
 pub returns-clause-kept : goal.returns-clause-kept
 returns-clause-kept g c =
-    c.in_ok-span.ensures.kept ∙ c.in_ok-directives.ensures.kept ∙ c.in_ok-type_condition.ensures.kept
+    c.in_ok-selection_set.ensures.kept ∙ c.in_ok-directives.ensures.kept ∙ c.in_ok-type_condition.ensures.kept
     ∙ c.in_ok-name.ensures.1.kept ∙ c.in_ok-position.ensures.1.kept

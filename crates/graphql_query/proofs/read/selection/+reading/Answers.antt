@@ -3,17 +3,19 @@ use Rattle.graphql_grammar.specs.Trees.{Sym, Leaf, Both, First, Second, Nothing,
 use Rattle.graphql_grammar.specs.Reading.{takes_node, takes_both}
 use Rattle.graphql_grammar.specs.Factored.{written}
 use Rattle.graphql_grammar.proofs.ReaderSteps.{Stops-node, Stops-before, Stops-after, Stops-turn, Turns-start, Turns-more, Turns-stop}
+use Rattle.graphql_core.specs.Source.{place_of}
 use Rattle.graphql_values.specs.ValueViews.{argument_view, directive_view}
 use Rattle.graphql_values.specs.Grammar.{arguments_symbol, directives_symbol}
 use Rattle.graphql_values.proofs.Reading.{placed, takes_one, stops_one, stops_some, gives_then, gives_error, one_of, adds_none, adds_one, adds_more, fills}
 use Rattle.graphql_values.proofs.Alternatives.{gives_side}
 use Rattle.graphql_query_tree.specs.Grammar.{reading, changes, selection_set_symbol, selection_symbol, field_symbol, inline_fragment_rest}
 use Rattle.graphql_query_tree.specs.Meanings.{selections_of}
-use Rattle.graphql_query_tree.specs.Tree.{more, trees_of, selection_view}
+use Rattle.graphql_query_tree.specs.Tree.{more, set, trees_of, selection_view}
 use Rattle.graphql_query.proofs.FromShared.{some_lifted, stops_lifted, begins_at}
 use Rattle.graphql_query.proofs.SelectionAlternatives.{some_selection_set, no_selection_set, field_side, dots_side, fragment_spread_side, inline_fragment_side}
 use Rattle.graphql_query.proofs.SelectionAlternatives.{begins_selection, field_means, inline_fragment_means, dots_mean, selection_at, selections_mean}
-use Rattle.graphql_query.proofs.Views.{field_made, inline_fragment_made, selection_set_filled, field_selected, inline_fragment_selected}
+use Rattle.graphql_query.proofs.TakenOff.{no_fewer, stays}
+use Rattle.graphql_query.proofs.Views.{field_made, inline_fragment_made, selection_set_made, selection_set_taken, field_selected, inline_fragment_selected}
 use Rattle.graphql_query.proofs.read.selection.+reading.Goals as goal
 
 -- ---- field
@@ -57,19 +59,19 @@ field-returns-in_err-directives-clause-reads g t c =
     (Stops-after reading _ _ _ _ _ _ _ renames (Stops-after reading _ _ _ _ _ _ _ given (Stops-before reading _ _ _ _ _ stops)))))
     c.from_residual-in_err-directives.ensures.1
 
-pub field-returns-in_err-span-clause-reads : goal.field-returns-in_err-span-clause-reads
-field-returns-in_err-span-clause-reads g t c =
+pub field-returns-in_err-selection_set-clause-reads : goal.field-returns-in_err-selection_set-clause-reads
+field-returns-in_err-selection_set-clause-reads g t c =
     let items = g.S.TokenSource.items in
     let named = takes_one reading _ _ _ _ refl c.in_ok-name.ensures.1 in
     let renames = c.in_ok-alias.ensures.reads.1 in
     let given = (some_lifted (optional (Sym arguments_symbol)) refl _ _ _ c.in_ok-optional_arguments.ensures.reads).1 in
     let listed = (some_lifted (Sym directives_symbol) refl _ _ _ c.in_ok-directives.ensures.reads).1 in
-    gives_error reading _ (items c.args.source.now) (items c.selected.new.source) _ _ _
+    gives_error reading _ (items c.args.source.now) (items c.optional_selection_set.new.source) _ _ _
     (Stops-node reading field_symbol _ _ _
     (Stops-after reading _ _ _ _ _ _ _ named
     (Stops-after reading _ _ _ _ _ _ _ renames
-    (Stops-after reading _ _ _ _ _ _ _ given (Stops-after reading _ _ _ _ _ _ _ listed c.in_err-span.ensures.reads)))))
-    c.from_residual-in_err-span.ensures.1
+    (Stops-after reading _ _ _ _ _ _ _ given (Stops-after reading _ _ _ _ _ _ _ listed c.in_err-selection_set.ensures.reads)))))
+    c.from_residual-in_err-selection_set.ensures.1
 
 pub field-returns-clause-reads : goal.field-returns-clause-reads
 field-returns-clause-reads g t c =
@@ -79,46 +81,57 @@ field-returns-clause-reads g t c =
     let (a, renames, names) = c.in_ok-alias.ensures.reads in
     let (x, given, arguments) = some_lifted (optional (Sym arguments_symbol)) refl _ _ _ c.in_ok-optional_arguments.ensures.reads in
     let (y, listed, directives) = some_lifted (Sym directives_symbol) refl _ _ _ c.in_ok-directives.ensures.reads in
-    let (s, selects, selected) = c.in_ok-span.ensures.reads in
+    let (s, selects, chosen) = c.in_ok-selection_set.ensures.reads in
     let gave = fills (argument_view bytes) _ _ _ c.new-arguments.ensures.items arguments in
-    let marked = fills (directive_view bytes) _ _ _ c.new-directives.ensures.items directives in
-    let chosen = selection_set_filled bytes _ _ _ _ c.new-selections.ensures.items selected in (
+    let marked = fills (directive_view bytes) _ _ _ c.new-directives.ensures.items directives in (
       Node field_symbol (Both (Leaf n) (Both a (Both x (Both y s)))),
       takes_node (takes_both (takes_one reading _ _ _ n refl named) (takes_both renames (takes_both given (takes_both listed selects)))) refl,
-      adds_one (selection_view bytes) _ _ _ _ c.in_ok-push.ensures.items
-          (field_selected bytes _ ∙ field_made bytes _ _ _ _ _ _ ∙ field_means n a x y s renames _ _ _ _ _ _ at spelled names gave marked chosen),
+      adds_more (selection_view bytes) _ _ _ [] _ c.in_ok-selection_set.ensures.others
+          (adds_one (selection_view bytes) _ _ _ _ c.in_ok-push.ensures.items
+          (field_selected bytes _ ∙ field_made bytes _ _ _ _ _ _ ∙ field_means n a x y s renames _ _ _ _ _ _ at spelled names gave marked chosen)),
     )
 
-pub field-returns-in_err-span-clause-kept : goal.field-returns-in_err-span-clause-kept
-field-returns-in_err-span-clause-kept g t c =
-    c.in_err-span.ensures.kept ∙ c.in_ok-directives.ensures.kept ∙ c.in_ok-optional_arguments.ensures.kept ∙ c.in_ok-alias.ensures.kept
+pub field-returns-in_err-selection_set-clause-kept : goal.field-returns-in_err-selection_set-clause-kept
+field-returns-in_err-selection_set-clause-kept g t c =
+    c.in_err-selection_set.ensures.kept ∙ c.in_ok-directives.ensures.kept ∙ c.in_ok-optional_arguments.ensures.kept ∙ c.in_ok-alias.ensures.kept
     ∙ c.in_ok-name.ensures.1.kept
 
 pub field-returns-in_err-push-clause-kept : goal.field-returns-in_err-push-clause-kept
 field-returns-in_err-push-clause-kept g t c =
-    c.in_ok-span.ensures.kept ∙ c.in_ok-directives.ensures.kept ∙ c.in_ok-optional_arguments.ensures.kept ∙ c.in_ok-alias.ensures.kept
+    c.in_ok-selection_set.ensures.kept ∙ c.in_ok-directives.ensures.kept ∙ c.in_ok-optional_arguments.ensures.kept ∙ c.in_ok-alias.ensures.kept
     ∙ c.in_ok-name.ensures.1.kept
 
 pub field-returns-clause-kept : goal.field-returns-clause-kept
 field-returns-clause-kept g t c =
-    c.in_ok-span.ensures.kept ∙ c.in_ok-directives.ensures.kept ∙ c.in_ok-optional_arguments.ensures.kept ∙ c.in_ok-alias.ensures.kept
+    c.in_ok-selection_set.ensures.kept ∙ c.in_ok-directives.ensures.kept ∙ c.in_ok-optional_arguments.ensures.kept ∙ c.in_ok-alias.ensures.kept
     ∙ c.in_ok-name.ensures.1.kept
 
 pub field-returns-clause-shorter : goal.field-returns-clause-shorter
 field-returns-clause-shorter g t c =
     let named = ap length c.in_ok-name.ensures.1.tokens in
-    omega
-    (arith, named, c.in_ok-alias.ensures.within, c.in_ok-optional_arguments.ensures.within, c.in_ok-directives.ensures.within, c.in_ok-span.ensures.within)
+    omega (
+      arith,
+      named,
+      c.in_ok-alias.ensures.within,
+      c.in_ok-optional_arguments.ensures.within,
+      c.in_ok-directives.ensures.within,
+      c.in_ok-selection_set.ensures.within,
+    )
 
--- ---- selected
+-- ---- selections of a field
 
-pub selected-returns-then-not-sees_mark-clause-reads : goal.selected-returns-then-not-sees_mark-clause-reads
-selected-returns-then-not-sees_mark-clause-reads g t c =
+pub optional_selection_set-returns-then-not-sees_mark-clause-reads : goal.optional_selection_set-returns-then-not-sees_mark-clause-reads
+optional_selection_set-returns-then-not-sees_mark-clause-reads g t c =
+    let bytes = g.S.Names.Names.bytes in
+    let here = place_of c.args.position in
     let none = no_selection_set (g.S.TokenSource.items c.args.source.now).tokens (sym c.sees_mark.ensures ∙ c.if-not-sees_mark.true) in
-    (Second Nothing, none, ([], adds_none (selection_view g.S.Names.Names.bytes) _, refl))
+    (Second Nothing, none, selection_set_made bytes _ _ _ ∙ ap (λ l. set here here (trees_of (map (selection_view bytes) l))) c.new.ensures.items)
 
-pub selected-returns-clause-reads : goal.selected-returns-clause-reads
-selected-returns-clause-reads g t c =
+pub optional_selection_set-returns-then-not-sees_mark-clause-others : goal.optional_selection_set-returns-then-not-sees_mark-clause-others
+optional_selection_set-returns-then-not-sees_mark-clause-others g t c = adds_none (selection_view g.S.Names.Names.bytes) _
+
+pub optional_selection_set-returns-clause-reads : goal.optional_selection_set-returns-clause-reads
+optional_selection_set-returns-clause-reads g t c =
     let old = g.S.TokenSource.items c.args.source.now in
     let side = some_selection_set old.tokens (sym c.sees_mark.ensures ∙ c.if-not-sees_mark.false) in
     gives_side reading _ _ First old (g.S.TokenSource.items c.selection_set.new.source) _ _ _ side (λ v x h. h) c.selection_set.ensures.reads
@@ -133,13 +146,14 @@ inline_fragment-returns-in_err-directives-clause-reads g t c =
     gives_error reading _ (items c.args.source.now) (items c.directives.new.source) _ _ _
     (Stops-after reading _ _ _ _ _ _ _ named (Stops-before reading _ _ _ _ _ stops)) c.from_residual-in_err-directives.ensures.1
 
-pub inline_fragment-returns-in_err-span-clause-reads : goal.inline_fragment-returns-in_err-span-clause-reads
-inline_fragment-returns-in_err-span-clause-reads g t c =
+pub inline_fragment-returns-in_err-selection_set-clause-reads : goal.inline_fragment-returns-in_err-selection_set-clause-reads
+inline_fragment-returns-in_err-selection_set-clause-reads g t c =
     let items = g.S.TokenSource.items in
     let named = c.in_ok-type_condition.ensures.reads.1 in
     let listed = (some_lifted (Sym directives_symbol) refl _ _ _ c.in_ok-directives.ensures.reads).1 in
     gives_error reading _ (items c.args.source.now) (items c.selection_set.new.source) _ _ _
-    (Stops-after reading _ _ _ _ _ _ _ named (Stops-after reading _ _ _ _ _ _ _ listed c.in_err-span.ensures.reads)) c.from_residual-in_err-span.ensures.1
+    (Stops-after reading _ _ _ _ _ _ _ named (Stops-after reading _ _ _ _ _ _ _ listed c.in_err-selection_set.ensures.reads))
+    c.from_residual-in_err-selection_set.ensures.1
 
 pub inline_fragment-returns-clause-reads : goal.inline_fragment-returns-clause-reads
 inline_fragment-returns-clause-reads g t c =
@@ -148,17 +162,17 @@ inline_fragment-returns-clause-reads g t c =
     let new = g.S.TokenSource.items c.selection_set.new.source in
     let (x, named, condition) = c.in_ok-type_condition.ensures.reads in
     let (y, listed, directives) = some_lifted (Sym directives_symbol) refl _ _ _ c.in_ok-directives.ensures.reads in
-    let (s, selects, selected) = c.in_ok-span.ensures.reads in
+    let (s, selects, chosen) = c.in_ok-selection_set.ensures.reads in
     let takes = takes_both named (takes_both listed selects) in
     let fewer : length new.tokens < length old.tokens = omega
-    (arith, c.in_ok-type_condition.ensures.within, c.in_ok-directives.ensures.within, c.in_ok-span.ensures.shorter) in
+    (arith, c.in_ok-type_condition.ensures.within, c.in_ok-directives.ensures.within, c.in_ok-selection_set.ensures.shorter) in
     let place = c.position-position.ensures ∙ sym (begins_at inline_fragment_rest old new (Both x (Both y s)) takes fewer) in
-    let marked = fills (directive_view bytes) _ _ _ c.new-directives.ensures.items directives in
-    let chosen = selection_set_filled bytes _ _ _ _ c.new-selections.ensures.items selected in (
+    let marked = fills (directive_view bytes) _ _ _ c.new-directives.ensures.items directives in (
       Both x (Both y s),
       takes,
-      adds_one (selection_view bytes) _ _ _ _ c.in_ok-push.ensures.items
-          (inline_fragment_selected bytes _ ∙ inline_fragment_made bytes _ _ _ _ ∙ inline_fragment_means _ _ _ _ _ _ _ _ place condition marked chosen),
+      adds_more (selection_view bytes) _ _ _ [] _ c.in_ok-selection_set.ensures.others
+          (adds_one (selection_view bytes) _ _ _ _ c.in_ok-push.ensures.items
+          (inline_fragment_selected bytes _ ∙ inline_fragment_made bytes _ _ _ _ ∙ inline_fragment_means _ _ _ _ _ _ _ _ place condition marked chosen)),
     )
 
 -- ---- spread or inline fragment
@@ -207,18 +221,18 @@ selection-returns-clause-reads g t c =
     let side = field_side old.tokens (sym c.sees_mark.ensures ∙ c.if-sees_mark.false) in
     gives_side reading _ _ (λ x. Node selection_symbol (First x)) old (g.S.TokenSource.items c.field.new.source) _ _ _ side (λ v x h. h) c.field.ensures.reads
 
--- ---- selections in braces
+-- ---- selections in braces, after others
 
-pub selection_set-returns-in_err-start-clause-reads : goal.selection_set-returns-in_err-start-clause-reads
-selection_set-returns-in_err-start-clause-reads g t c =
+pub selections-returns-in_err-start-clause-reads : goal.selections-returns-in_err-start-clause-reads
+selections-returns-in_err-start-clause-reads g t c =
     let old = g.S.TokenSource.items c.args.source.now in
     let new = g.S.TokenSource.items c.take_mark.new.source in
     gives_error reading _ old new _ _ _
     (Stops-node reading selection_set_symbol _ _ _
     (Stops-before reading _ _ _ _ _ (stops_one reading _ old new _ c.in_err-start.ensures))) c.from_residual.ensures.1
 
-pub selection_set-returns-in_err-selection-clause-reads : goal.selection_set-returns-in_err-selection-clause-reads
-selection_set-returns-in_err-selection-clause-reads g t c =
+pub selections-returns-in_err-selection-clause-reads : goal.selections-returns-in_err-selection-clause-reads
+selections-returns-in_err-selection-clause-reads g t c =
     let items = g.S.TokenSource.items in
     let before = takes_one reading _ _ _ _ refl c.in_ok-start.ensures.1 in
     gives_error reading _ (items c.args.source.now) (items c.selection.new.source) _ _ _
@@ -226,12 +240,12 @@ selection_set-returns-in_err-selection-clause-reads g t c =
     (Stops-after reading _ _ _ _ _ _ _ before (Stops-before reading _ _ _ _ _ (Stops-before reading _ _ _ _ _ c.in_err-selection.ensures.reads))))
     c.from_residual-in_err-selection.ensures.1
 
-pub selection_set-more-init : goal.selection_set-more-init
-selection_set-more-init g t c = record
+pub selections-more-init : goal.selections-more-init
+selections-more-init g t c = record
     { turns = ([], Turns-start reading _ (one_of selection_at) _, adds_none (selection_view g.S.Names.Names.bytes) _); kept = refl; within = omega arith }
 
-pub selection_set-more-preserved : goal.selection_set-more-preserved
-selection_set-more-preserved g t c =
+pub selections-more-preserved : goal.selections-more-preserved
+selections-more-preserved g t c =
     let (items, turns, views) = c.more.invariant.turns in
     let (x, takes, view) = c.in_ok-selection-2.ensures.reads in
     let seen = begins_selection (peek (g.S.TokenSource.items c.more.source).tokens) ∙ sym c.sees_selection.ensures ∙ c.more-test.true in
@@ -245,8 +259,8 @@ selection_set-more-preserved g t c =
       within = omega (arith, c.more.invariant.within, c.in_ok-selection-2.ensures.shorter);
     }
 
-pub selection_set-returns-in_err-selection-2-clause-reads : goal.selection_set-returns-in_err-selection-2-clause-reads
-selection_set-returns-in_err-selection-2-clause-reads g t c =
+pub selections-returns-in_err-selection-2-clause-reads : goal.selections-returns-in_err-selection-2-clause-reads
+selections-returns-in_err-selection-2-clause-reads g t c =
     let sources = g.S.TokenSource.items in
     let before = takes_one reading _ _ _ _ refl c.in_ok-start.ensures.1 in
     let first = c.in_ok-selection.ensures.reads.1 in
@@ -257,8 +271,8 @@ selection_set-returns-in_err-selection-2-clause-reads g t c =
     (Stops-after reading _ _ _ _ _ _ _ first (Stops-turn reading _ (one_of selection_at) _ _ _ items _ turns seen c.in_err-selection-2.ensures.reads)))))
     c.from_residual-in_err-selection-2.ensures.1
 
-pub selection_set-returns-in_err-end-clause-reads : goal.selection_set-returns-in_err-end-clause-reads
-selection_set-returns-in_err-end-clause-reads g t c =
+pub selections-returns-in_err-end-clause-reads : goal.selections-returns-in_err-end-clause-reads
+selections-returns-in_err-end-clause-reads g t c =
     let sources = g.S.TokenSource.items in
     let now = sources c.more.source in
     let new = sources c.take_mark-2.new.source in
@@ -272,8 +286,8 @@ selection_set-returns-in_err-end-clause-reads g t c =
     (stops_one reading _ now new _ c.in_err-end.ensures))))
     c.from_residual-in_err-end.ensures.1
 
-pub selection_set-returns-clause-reads : goal.selection_set-returns-clause-reads
-selection_set-returns-clause-reads g t c =
+pub selections-returns-clause-reads : goal.selections-returns-clause-reads
+selections-returns-clause-reads g t c =
     let view_one = selection_view g.S.Names.Names.bytes in
     let (o, opens, at) = c.in_ok-start.ensures in
     let (e, ends, until) = c.in_ok-end.ensures in
@@ -287,7 +301,32 @@ selection_set-returns-clause-reads g t c =
       takes_node (takes_both (takes_one reading _ _ _ o refl opens) (takes_both (takes_both takes r.1) (takes_one reading _ _ _ e refl ends))) refl,
       (
         selection_at x ∷ items,
-        ap (map view_one) c.give_back_room.ensures ∙ adds_more view_one _ _ _ _ items view views,
+        adds_more view_one _ _ _ _ items view views,
         rw (at, until, all) refl,
       ),
     )
+
+-- ---- selections in braces, alone
+
+pub selection_set-returns-in_err-span-clause-reads : goal.selection_set-returns-in_err-span-clause-reads
+selection_set-returns-in_err-span-clause-reads g t c =
+    let items = g.S.TokenSource.items in
+    gives_error reading _ (items c.args.source.now) (items c.selections.new.source) _ _ _ c.in_err-span.ensures.reads c.from_residual.ensures.1
+
+pub selection_set-split_off-requires : goal.selection_set-split_off-requires
+selection_set-split_off-requires g t c =
+    let (x, takes, (xs, added, is)) = c.in_ok-span.ensures.reads in
+    let fewer = no_fewer (selection_view g.S.Names.Names.bytes) _ _ xs added in
+    omega (arith, fewer, c.len-count.ensures, c.selections.new.items.ok.0, c.args.others.now.ok.0)
+
+pub selection_set-returns-clause-reads : goal.selection_set-returns-clause-reads
+selection_set-returns-clause-reads g t c =
+    let (x, takes, added) = c.in_ok-span.ensures.reads in
+    let count : c.len-count.result ≡ length c.args.others.now.items = omega (arith, c.len-count.ensures, c.args.others.now.ok.0) in
+    (x, takes, selection_set_taken g.S.Names.Names.bytes _ _ _ count _ _ _ c.in_ok-items.ensures.tail added)
+
+pub selection_set-returns-clause-others : goal.selection_set-returns-clause-others
+selection_set-returns-clause-others g t c =
+    let (x, takes, (xs, added, is)) = c.in_ok-span.ensures.reads in
+    let count : c.len-count.result ≡ length c.args.others.now.items = omega (arith, c.len-count.ensures, c.args.others.now.ok.0) in
+    stays (selection_view g.S.Names.Names.bytes) _ _ xs added _ count _ c.in_ok-items.ensures.items

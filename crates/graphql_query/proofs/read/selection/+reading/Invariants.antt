@@ -11,25 +11,28 @@ use Rattle.graphql_query.proofs.read.selection.+reading.Given as goal
 
 -- one that takes a token before it calls another has less to do than one that calls it at once
 abbrev pub decreases-field : goal.decreases-field
-decreases-field g l = 2 * length (g.S.TokenSource.items l.source.now).tokens
+decreases-field g l = 3 * length (g.S.TokenSource.items l.source.now).tokens
 
 abbrev pub decreases-spread_or_inline : goal.decreases-spread_or_inline
-decreases-spread_or_inline g l = 2 * length (g.S.TokenSource.items l.source.now).tokens
+decreases-spread_or_inline g l = 3 * length (g.S.TokenSource.items l.source.now).tokens
 
-abbrev pub decreases-selection_set : goal.decreases-selection_set
-decreases-selection_set g l = 2 * length (g.S.TokenSource.items l.source.now).tokens
-
-abbrev pub decreases-selected : goal.decreases-selected
-decreases-selected g l = 2 * length (g.S.TokenSource.items l.source.now).tokens + 1
-
-abbrev pub decreases-inline_fragment : goal.decreases-inline_fragment
-decreases-inline_fragment g l = 2 * length (g.S.TokenSource.items l.source.now).tokens + 1
+abbrev pub decreases-selections : goal.decreases-selections
+decreases-selections g l = 3 * length (g.S.TokenSource.items l.source.now).tokens
 
 abbrev pub decreases-selection : goal.decreases-selection
-decreases-selection g l = 2 * length (g.S.TokenSource.items l.source.now).tokens + 1
+decreases-selection g l = 3 * length (g.S.TokenSource.items l.source.now).tokens + 1
 
-abbrev pub invariant-selection_set-more : goal.invariant-selection_set-more
-invariant-selection_set-more g l = record {
+abbrev pub decreases-selection_set : goal.decreases-selection_set
+decreases-selection_set g l = 3 * length (g.S.TokenSource.items l.source.now).tokens + 1
+
+abbrev pub decreases-optional_selection_set : goal.decreases-optional_selection_set
+decreases-optional_selection_set g l = 3 * length (g.S.TokenSource.items l.source.now).tokens + 2
+
+abbrev pub decreases-inline_fragment : goal.decreases-inline_fragment
+decreases-inline_fragment g l = 3 * length (g.S.TokenSource.items l.source.now).tokens + 2
+
+abbrev pub invariant-selections-more : goal.invariant-selections-more
+invariant-selections-more g l = record {
   turns : (items : List SelectionTree)
       × Turns reading (Sym selection_symbol) (one_of selection_at) (g.S.TokenSource.items l.initial.source).tokens (g.S.TokenSource.items l.source).tokens items
       × Adds (selection_view g.S.Names.Names.bytes) l.initial.items.items l.items.items items;
@@ -37,5 +40,5 @@ invariant-selection_set-more g l = record {
   within : length (g.S.TokenSource.items l.source).tokens ≤ length (g.S.TokenSource.items l.initial.source).tokens;
 }
 
-abbrev pub decreases-selection_set-more : goal.decreases-selection_set-more
-decreases-selection_set-more g l = length (g.S.TokenSource.items l.source).tokens
+abbrev pub decreases-selections-more : goal.decreases-selections-more
+decreases-selections-more g l = length (g.S.TokenSource.items l.source).tokens
