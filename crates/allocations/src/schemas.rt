@@ -52,8 +52,9 @@ const REFUSED: [(&str, usize); 10] = [
 
 /// Makes each call for schemas that allocates.
 pub fn use_schemas(alloc: Global, tally: &mut Tally) {
-    read_documents::<Document<'_, &str>>(alloc, tally, &SCHEMAS);
-    read_documents::<Document<'_, String>>(alloc, tally, &SCHEMAS);
-    show_documents::<Document<'_, &str>>(alloc, tally, &SCHEMAS);
+    let schemas = SCHEMAS;
+    read_documents::<Document<'_, &str>>(alloc, tally, &schemas);
+    read_documents::<Document<'_, String>>(alloc, tally, &schemas);
+    show_documents::<Document<'_, &str>>(alloc, tally, &schemas);
     refuse::<Document<'_, &str>>(alloc, tally, &REFUSED);
 }
