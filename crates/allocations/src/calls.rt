@@ -102,11 +102,11 @@ fn make_static(alloc: Global, tally: &mut Tally) {
 
 /// Makes each call.
 pub fn make_calls(alloc: Global) -> Tally {
-    let (mut tally, documents) = (Tally::default(), DOCUMENTS);
-    read_documents::<Document<'_, &str>>(alloc, &mut tally, &documents);
-    read_documents::<Document<'_, String>>(alloc, &mut tally, &documents);
-    read_documents::<Document<'_, CowStr<'_>>>(alloc, &mut tally, &documents);
-    show_documents::<Document<'_, &str>>(alloc, &mut tally, &documents);
+    let mut tally = Tally::default();
+    read_documents::<Document<'_, &str>>(alloc, &mut tally, &DOCUMENTS);
+    read_documents::<Document<'_, String>>(alloc, &mut tally, &DOCUMENTS);
+    read_documents::<Document<'_, CowStr<'_>>>(alloc, &mut tally, &DOCUMENTS);
+    show_documents::<Document<'_, &str>>(alloc, &mut tally, &DOCUMENTS);
     refuse::<Document<'_, &str>>(alloc, &mut tally, &REFUSED);
     minify(alloc, &mut tally);
     refuse_to_minify(alloc, &mut tally);

@@ -52,9 +52,8 @@ const REFUSED: [(&str, usize); 10] = [
 
 /// Makes each call for schemas that allocates.
 pub fn use_schemas(alloc: Global, tally: &mut Tally) {
-    let schemas = SCHEMAS;
-    read_documents::<Document<'_, &str>>(alloc, tally, &schemas);
-    read_documents::<Document<'_, String>>(alloc, tally, &schemas);
-    show_documents::<Document<'_, &str>>(alloc, tally, &schemas);
+    read_documents::<Document<'_, &str>>(alloc, tally, &SCHEMAS);
+    read_documents::<Document<'_, String>>(alloc, tally, &SCHEMAS);
+    show_documents::<Document<'_, &str>>(alloc, tally, &SCHEMAS);
     refuse::<Document<'_, &str>>(alloc, tally, &REFUSED);
 }
