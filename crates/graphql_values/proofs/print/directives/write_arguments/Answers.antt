@@ -1,5 +1,6 @@
 use Rattle.std.proofs.Common.{arith, ◌∙◌, ◌++◌, ◌^◌, ap, sym, refl, codes}
 use Rattle.std.proofs.lemmas.List.{at_drop_all}
+use Rattle.std.proofs.lemmas.Grind.{common_steps}
 use Rattle.graphql_core.specs.Parts.{text_of}
 use Rattle.graphql_values.specs.Lawful.{AreLawfulArguments}
 use Rattle.graphql_values.specs.ValueViews.{value_view, arguments_view}
@@ -83,3 +84,9 @@ returns-clause-lawful g c =
     on_ok c.write_closer.result
     (all_hold (arguments_view g.N.Names.bytes) c.args.arguments.now c.args.arguments.now c.arguments.argument-index (omega arith) refl
     AreLawfulArguments tt c.arguments.invariant.lawful)
+
+pub returns-then-is_empty-clause-text : goal.returns-then-is_empty-clause-text
+returns-then-is_empty-clause-text g c = grind (arith, common_steps)
+
+pub returns-then-is_empty-clause-lawful : goal.returns-then-is_empty-clause-lawful
+returns-then-is_empty-clause-lawful g c = grind (arith, common_steps)

@@ -1,4 +1,5 @@
 use Rattle.std.proofs.Common.{◌-◌, ◌^◌, ◌∙◌, arith, refl, sym, ap, min}
+use Rattle.std.proofs.lemmas.Grind.{common_steps}
 use Rattle.graphql_values.specs.ValueViews.{value_view, arguments_view}
 use Rattle.graphql_values.specs.ValueLayout.{most_levels}
 use Rattle.graphql_values.proofs.Counting.{all_counted}
@@ -28,3 +29,6 @@ returns g c =
     in
     c.levels_around.ensures (most_levels style (arguments_view bytes xs)) most
     ∙ ap (λ n. min n (2 ^ 64 - 1)) (sym (filled_levels (λ a. (bytes a.0, value_view bytes a.1)) style xs some))
+
+pub returns-then-is_empty : goal.returns-then-is_empty
+returns-then-is_empty g c = grind (arith, common_steps)
