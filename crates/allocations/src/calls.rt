@@ -1,7 +1,8 @@
 //! The calls, and what is right.
-use crate::documents::{Refusal, read_documents, refuse, show_documents};
+use crate::documents::{Refusal, Texts, use_texts};
 use crate::schemas::use_schemas;
 use crate::tally::Tally;
+use graphql_parser::common::Text;
 use graphql_parser::query::{Document, Value, consume_definition, minify_query};
 use std::alloc::{AllocError, Global};
 use std::borrow::CowStr;
@@ -100,14 +101,32 @@ fn make_static(alloc: Global, tally: &mut Tally) {
     }
 }
 
+/// Uses texts as query documents with names of a text type.
+fn use_as_queries<'a, T: Text<'a>>(alloc: Global, tally: &mut Tally, texts: &Texts<'a, '_>) {
+    use_texts::<Document<'a, T>>(alloc, tally, texts);
+}
+
+/// Uses texts as query documents with names of each text type.
+fn use_queries(alloc: Global, tally: &mut Tally) {
+    let read = Texts {
+        read: &DOCUMENTS,
+        shown: &[],
+        refused: &[],
+    };
+    let all = Texts {
+        shown: &DOCUMENTS,
+        refused: &REFUSED,
+        ..read
+    };
+    use_as_queries::<&str>(alloc, tally, &all);
+    use_as_queries::<String>(alloc, tally, &read);
+    use_as_queries::<CowStr<'_>>(alloc, tally, &read);
+}
+
 /// Makes each call.
 pub fn make_calls(alloc: Global) -> Tally {
     let mut tally = Tally::default();
-    read_documents::<Document<'_, &str>>(alloc, &mut tally, &DOCUMENTS);
-    read_documents::<Document<'_, String>>(alloc, &mut tally, &DOCUMENTS);
-    read_documents::<Document<'_, CowStr<'_>>>(alloc, &mut tally, &DOCUMENTS);
-    show_documents::<Document<'_, &str>>(alloc, &mut tally, &DOCUMENTS);
-    refuse::<Document<'_, &str>>(alloc, &mut tally, &REFUSED);
+    use_queries(alloc, &mut tally);
     minify(alloc, &mut tally);
     refuse_to_minify(alloc, &mut tally);
     take_definition(alloc, &mut tally);

@@ -73,8 +73,26 @@ impl<'a, T: Text<'a>> Document<'a> for schema::Document<'a, T> {
     }
 }
 
+/// Texts that are used in three ways.
+#[derive(Clone, Copy)]
+pub struct Texts<'a, 'b> {
+    /// Those that are read, laid out and cloned, each with its layout.
+    pub read: &'b [(&'a str, &'b str)],
+    /// Those whose documents are shown, each with its layout.
+    pub shown: &'b [(&'a str, &'b str)],
+    /// Those that are no documents, each with the column at which it is refused.
+    pub refused: &'b [(&'a str, usize)],
+}
+
+/// Uses texts as documents.
+pub fn use_texts<'a, D: Document<'a>>(alloc: Global, tally: &mut Tally, texts: &Texts<'a, '_>) {
+    read_documents::<D>(alloc, tally, texts.read);
+    show_documents::<D>(alloc, tally, texts.shown);
+    refuse::<D>(alloc, tally, texts.refused);
+}
+
 /// Reads texts, each with its layout, lays their documents out and clones them.
-pub fn read_documents<'a, D: Document<'a>>(
+fn read_documents<'a, D: Document<'a>>(
     alloc: Global,
     tally: &mut Tally,
     texts: &[(&'a str, &str)],
@@ -94,7 +112,7 @@ pub fn read_documents<'a, D: Document<'a>>(
 }
 
 /// Shows the documents of texts as `Display` has them.
-pub fn show_documents<'a, D: Document<'a>>(
+fn show_documents<'a, D: Document<'a>>(
     alloc: Global,
     tally: &mut Tally,
     texts: &[(&'a str, &str)],
@@ -108,7 +126,7 @@ pub fn show_documents<'a, D: Document<'a>>(
 }
 
 /// Reads texts that are no documents, each with the column at which it is refused.
-pub fn refuse<'a, D: Document<'a>>(alloc: Global, tally: &mut Tally, texts: &[(&'a str, usize)]) {
+fn refuse<'a, D: Document<'a>>(alloc: Global, tally: &mut Tally, texts: &[(&'a str, usize)]) {
     for (text, column) in texts {
         match D::parse(alloc, *text) {
             Ok(_) => tally.add(false, false),

@@ -1,6 +1,7 @@
 //! Schema documents.
-use crate::documents::{read_documents, refuse, show_documents};
+use crate::documents::{Texts, use_texts};
 use crate::tally::Tally;
+use graphql_parser::common::Text;
 use graphql_parser::schema::Document;
 use std::alloc::Global;
 
@@ -50,10 +51,23 @@ const REFUSED: [(&str, usize); 10] = [
     ("enum A { B @c(d: 1e+) }", 18),
 ];
 
+/// Uses texts as schema documents with names of a text type.
+fn use_as_schemas<'a, T: Text<'a>>(alloc: Global, tally: &mut Tally, texts: &Texts<'a, '_>) {
+    use_texts::<Document<'a, T>>(alloc, tally, texts);
+}
+
 /// Makes each call for schemas that allocates.
 pub fn use_schemas(alloc: Global, tally: &mut Tally) {
-    read_documents::<Document<'_, &str>>(alloc, tally, &SCHEMAS);
-    read_documents::<Document<'_, String>>(alloc, tally, &SCHEMAS);
-    show_documents::<Document<'_, &str>>(alloc, tally, &SCHEMAS);
-    refuse::<Document<'_, &str>>(alloc, tally, &REFUSED);
+    let read = Texts {
+        read: &SCHEMAS,
+        shown: &[],
+        refused: &[],
+    };
+    let all = Texts {
+        shown: &SCHEMAS,
+        refused: &REFUSED,
+        ..read
+    };
+    use_as_schemas::<&str>(alloc, tally, &all);
+    use_as_schemas::<String>(alloc, tally, &read);
 }
