@@ -108,16 +108,7 @@ fn use_as_queries<'a, T: Text<'a>>(alloc: Global, tally: &mut Tally, texts: &Tex
 
 /// Uses texts as query documents with names of each text type.
 fn use_queries(alloc: Global, tally: &mut Tally) {
-    let read = Texts {
-        read: &DOCUMENTS,
-        shown: &[],
-        refused: &[],
-    };
-    let all = Texts {
-        shown: &DOCUMENTS,
-        refused: &REFUSED,
-        ..read
-    };
+    let (read, all) = (Texts::read(&DOCUMENTS), Texts::all(&DOCUMENTS, &REFUSED));
     use_as_queries::<&str>(alloc, tally, &all);
     use_as_queries::<String>(alloc, tally, &read);
     use_as_queries::<CowStr<'_>>(alloc, tally, &read);

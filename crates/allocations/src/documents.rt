@@ -84,6 +84,29 @@ pub struct Texts<'a, 'b> {
     pub refused: &'b [(&'a str, usize)],
 }
 
+impl<'a, 'b> Texts<'a, 'b> {
+    /// Texts that are read alone.
+    pub fn read(documents: &'b [(&'a str, &'b str)]) -> Texts<'a, 'b> {
+        Texts {
+            read: documents,
+            shown: &[],
+            refused: &[],
+        }
+    }
+
+    /// Texts that are read and shown, and those that are no documents.
+    pub fn all(
+        documents: &'b [(&'a str, &'b str)],
+        refused: &'b [(&'a str, usize)],
+    ) -> Texts<'a, 'b> {
+        Texts {
+            read: documents,
+            shown: documents,
+            refused,
+        }
+    }
+}
+
 /// Uses texts as documents.
 pub fn use_texts<'a, D: Document<'a>>(alloc: Global, tally: &mut Tally, texts: &Texts<'a, '_>) {
     read_documents::<D>(alloc, tally, texts.read);

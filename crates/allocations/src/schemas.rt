@@ -58,16 +58,7 @@ fn use_as_schemas<'a, T: Text<'a>>(alloc: Global, tally: &mut Tally, texts: &Tex
 
 /// Makes each call for schemas that allocates.
 pub fn use_schemas(alloc: Global, tally: &mut Tally) {
-    let read = Texts {
-        read: &SCHEMAS,
-        shown: &[],
-        refused: &[],
-    };
-    let all = Texts {
-        shown: &SCHEMAS,
-        refused: &REFUSED,
-        ..read
-    };
+    let (read, all) = (Texts::read(&SCHEMAS), Texts::all(&SCHEMAS, &REFUSED));
     use_as_schemas::<&str>(alloc, tally, &all);
     use_as_schemas::<String>(alloc, tally, &read);
 }
