@@ -1,16 +1,18 @@
 //! `bench`: how long the library takes to cut, parse, lay out and minify a document in memory.
+//!
+//! It does all kinds of work by turns, or one kind alone, named by the last word as the output names it.
 #![tactic(auto)]
 
 mod work;
 
-use crate::work::{Document, Sample, Work, name, time};
+use crate::work::{ALL, Document, Sample, Work, name, time, work_named};
 use graphql_parser::{query, schema};
 use std::process::ExitCode;
 use std::time::{Duration, Instant};
 use std::{env, fs, io};
 
-/// What is told where the words are no language, no file and no number of rounds.
-const USAGE: &str = "usage: bench query|schema FILE ROUNDS";
+/// What is told where the words are no language, no file and no number of rounds, or the last one is no kind of work.
+const USAGE: &str = "usage: bench query|schema FILE ROUNDS [WORK]";
 
 /// The languages of documents.
 #[derive(Clone, Copy)]
@@ -28,16 +30,35 @@ fn read_language(word: &str) -> Option<Language> {
     }
 }
 
-/// The language, the file and the number of rounds that the words name.
-fn words(rt: &HostRuntime) -> Option<(Language, String, u32)> {
+/// What the words ask for.
+#[derive(Drop)]
+struct Order {
+    language: Language,
+    file: String,
+    rounds: u32,
+    /// The only kind of work to be done; none where all are.
+    only: Option<Work>,
+}
+
+/// What the words ask for, where they are right.
+fn read_order(rt: &HostRuntime) -> Option<Order> {
     let mut args = env::args(rt).ok()?.skip(1);
     let language = read_language(args.next()?.as_str())?;
     let file = args.next()?;
     let rounds: u32 = args.next()?.as_str().parse().ok()?;
+    let only = match args.next() {
+        Some(word) => Some(work_named(word.as_str())?),
+        None => None,
+    };
     if rounds == 0 || args.next().is_some() {
         return None;
     }
-    Some((language, file, rounds))
+    Some(Order {
+        language,
+        file,
+        rounds,
+        only,
+    })
 }
 
 /// Work, and the least time that it took so far.
@@ -55,13 +76,25 @@ fn lesser(least: Option<Duration>, elapsed: Duration) -> Option<Duration> {
     }
 }
 
-/// Does each kind of work once; whether all came to their end.
+/// Whether this kind of work is left out where another is the only one.
+fn is_left_out(work: Work, only: Option<Work>) -> bool {
+    match only {
+        Some(only) => only != work,
+        None => false,
+    }
+}
+
+/// Does each kind of work once, or the only one; whether all came to their end.
 fn measure_once<'a, B: Document<'a>, O: Document<'a>>(
     rt: &HostRuntime,
     measures: &mut [Measure],
+    only: Option<Work>,
     sample: &Sample<'a, '_, B>,
 ) -> io::Result<bool> {
     'measures: for measure in measures {
+        if is_left_out(measure.work, only) {
+            continue;
+        }
         let Some(elapsed) = time::<B, O>(rt, measure.work, sample)? else {
             eprintln!(rt; "{}: not done", name(measure.work))?;
             return Ok(false);
@@ -83,17 +116,7 @@ fn print_times(rt: &HostRuntime, measures: &[Measure]) -> io::Result<()> {
 
 /// The kinds of work, of which none has been done.
 fn measures() -> [Measure; 8] {
-    [
-        Work::Cut,
-        Work::ParseBorrowed,
-        Work::ParseOwned,
-        Work::Format,
-        Work::CutWritten,
-        Work::ParseAlone,
-        Work::DropAlone,
-        Work::Minify,
-    ]
-    .map(|work| Measure { work, least: None })
+    ALL.map(|work| Measure { work, least: None })
 }
 
 /// The document of a text, and the time that it takes to parse it for the first time.
@@ -111,10 +134,11 @@ fn parse_cold<'a, B: Document<'a>>(
     }
 }
 
-/// Measures every kind of work on one document, by turns, and prints its least time in microseconds.
+/// Measures every kind of work on one document, by turns, or the only one, and prints its least time in microseconds.
 fn measure_all<'a, B: Document<'a>, O: Document<'a>>(
     rt: &HostRuntime,
     rounds: u32,
+    only: Option<Work>,
     source: &'a str,
 ) -> io::Result<bool> {
     let Some((document, cold)) = parse_cold::<B>(rt, source)? else {
@@ -131,7 +155,7 @@ fn measure_all<'a, B: Document<'a>, O: Document<'a>>(
     };
     let mut measures = measures();
     'rounds: for _ in 0..rounds {
-        if !measure_once::<B, O>(rt, &mut measures, &sample)? {
+        if !measure_once::<B, O>(rt, &mut measures, only, &sample)? {
             return Ok(false);
         }
     }
@@ -146,33 +170,39 @@ fn measure_all<'a, B: Document<'a>, O: Document<'a>>(
 }
 
 /// Reads the file and measures.
-fn bench(rt: &HostRuntime, language: Language, file: &str, rounds: u32) -> io::Result<bool> {
-    let text = fs::read_to_string(rt, file)?;
+fn bench(rt: &HostRuntime, order: &Order) -> io::Result<bool> {
+    let text = fs::read_to_string(rt, order.file.as_str())?;
     let source = text.as_str();
-    match language {
+    match order.language {
         Language::Query => {
             measure_all::<query::Document<'_, &str>, query::Document<'_, String>>(
-                rt, rounds, source,
+                rt,
+                order.rounds,
+                order.only,
+                source,
             )
         }
         Language::Schema => {
             measure_all::<schema::Document<'_, &str>, schema::Document<'_, String>>(
-                rt, rounds, source,
+                rt,
+                order.rounds,
+                order.only,
+                source,
             )
         }
     }
 }
 
 fn main(rt: HostRuntime) -> ExitCode {
-    let Some((language, file, rounds)) = words(&rt) else {
+    let Some(order) = read_order(&rt) else {
         let _ = println!(rt; "{USAGE}");
         return ExitCode::from(2);
     };
-    match bench(&rt, language, file.as_str(), rounds) {
+    match bench(&rt, &order) {
         Ok(true) => ExitCode::from(0),
         Ok(false) => ExitCode::from(1),
         Err(_) => {
-            let _ = eprintln!(rt; "bench: cannot read {file}, or the clock");
+            let _ = eprintln!(rt; "bench: cannot read {}, or the clock", order.file);
             ExitCode::from(2)
         }
     }

@@ -44,7 +44,7 @@ impl<'a, T: Text<'a>> Document<'a> for schema::Document<'a, T> {
 }
 
 /// Work whose time is taken.
-#[derive(Clone, Copy)]
+#[derive(Clone, Copy, PartialEq)]
 pub enum Work {
     /// Cutting the text into its tokens.
     Cut,
@@ -64,6 +64,18 @@ pub enum Work {
     Minify,
 }
 
+/// All kinds of work, in the order of a round.
+pub const ALL: [Work; 8] = [
+    Work::Cut,
+    Work::ParseBorrowed,
+    Work::ParseOwned,
+    Work::Format,
+    Work::CutWritten,
+    Work::ParseAlone,
+    Work::DropAlone,
+    Work::Minify,
+];
+
 /// What a kind of work is called.
 pub fn name(work: Work) -> &'static str {
     match work {
@@ -76,6 +88,16 @@ pub fn name(work: Work) -> &'static str {
         Work::CutWritten => "cut what format writes",
         Work::Minify => "minify",
     }
+}
+
+/// The kind of work that a word names.
+pub fn work_named(word: &str) -> Option<Work> {
+    'works: for work in ALL {
+        if name(work) == word {
+            return Some(work);
+        }
+    }
+    None
 }
 
 /// What the work is done on.

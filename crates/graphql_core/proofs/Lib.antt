@@ -1,6 +1,8 @@
 pub mod Matches
 pub mod Fronts
 pub mod CursorItems
+pub mod TokenPlaces
+pub mod SpanItems
 pub mod NestingDepth
 pub mod BracketRoom
 pub mod Escapes

@@ -1,6 +1,8 @@
 -- What the tokens of a text are, and how deep their brackets are nested.
-use Rattle.std.proofs.Common.{◌≡◌, ℕ, zero, suc, ◌+◌, Bool, true, false, cond, ◌||◌, ◌&&◌, ◌==◌, List, [], ◌∷◌, ◌++◌, length, drop, All}
+use Rattle.std.proofs.Common.{◌≡◌, ◌≤◌, ℕ, zero, suc, ◌+◌, ◌-◌, Bool, true, false, cond, ◌||◌, ◌&&◌, ◌==◌, List, [], ◌∷◌, ◌++◌, length, drop, All}
 use Rattle.std.proofs.Common.{refl, append-nil, sym, ap, ap₂, ◌∙◌, subst, arith, inl, inr, codes, eqb-true}
+use Rattle.std.specs.Prelude.{replicate, pos, ◌≤ℤ◌}
+use Rattle.std.proofs.lemmas.Int.{ints}
 use Rattle.std.proofs.lemmas.Bool.Decides.{nat_tests}
 use Rattle.std.proofs.lemmas.List.Elements.{All-nil, All-cons}
 use Rattle.std.proofs.lemmas.Bool.{cases_Bool, and_parts, or_cases, false_from_ne_true, eq-eqb, both_ways}
@@ -14,9 +16,10 @@ use Rattle.graphql_lexer.specs.declared.tokenizer.piece.Nesting.TheVariants.{Lev
 use Rattle.graphql_core.specs.Causes.{kind_number}
 use Rattle.graphql_lexer.specs.Lexical.{IsName, Meaning, Ignored, Word, Stands, name, mark, spread, integer, float, string, block_string, Piece, IsCutInto}
 use Rattle.graphql_lexer.specs.Lexical.{is_opener, is_closer}
-use Rattle.graphql_lexer.specs.Items.{Where, Item, item, Lexeme, HasItems, start, past_ignored, past_token, is_full, last_item, piece_then, items_of}
+use Rattle.graphql_lexer.specs.Items.{Where, Item, item, Lexeme, HasItemsFrom, HasItems, start, depth_of, past_ignored, past_token, is_full, last_item, piece_then, items_of}
 use Rattle.graphql_core.specs.Source.{Last, split, place_of, token_of, IsLexeme}
-use Rattle.std.proofs.lemmas.List.{drop_at, drop-drop}
+use Rattle.std.proofs.lemmas.List.{drop_at, drop-drop, length-replicate}
+use Rattle.graphql_lexer.specs.Stream.{AreItemsOfRest, next_place}
 
 -- ---- what a token does to the depth
 
@@ -190,6 +193,16 @@ pub nests : (text : List ℕ) (items : List Item) → HasItems text items → Ne
 nests text items has =
     nests_map (split items).tokens 50 _ Anything (λ m h. tt) (nests_before text items has (split items).tokens [] (sym (append-nil (split items).tokens)))
 
+-- the same of a text that begins at a place where n brackets may be opened
+nests_from : (w : Where) (n : ℕ) (text : List ℕ) (items : List Item) → IsRoom w n → HasItemsFrom w text items → Nests (split items).tokens n Anything
+nests_from w n text items room (ps, stop, cut, e) =
+    let before : List ℕ = replicate w.offset 0 in
+    let there : drop w.offset (before ++ text) ≡ text = drop_at before text w.offset (length-replicate w.offset 0) in
+    let cut_items = split (items_of w ps stop) in
+    let found : Nests cut_items.tokens n Anything = nests_map cut_items.tokens n _ Anything (λ m h. tt)
+    (leaves_items (before ++ text) stop cut_items.last [] ps text cut w n room there cut_items.tokens (sym (append-nil cut_items.tokens)) refl) in
+    subst (λ (is : List Item). Nests (split is).tokens n Anything) (sym e) found
+
 past_inside : (s : Nesting) (n : ℕ) (P : ℕ → Type 0) → Past s n P → (m : ℕ) × P m
 past_inside Level n P h = (n, h)
 past_inside Opens n P (m, e, h) = (m, h)
@@ -202,6 +215,35 @@ nests-lexemes (t ∷ ts) n P (l, h) = let (m, more) = past_inside (nesting_of t)
 -- the tokens of a text are of the lexical grammar
 pub lexemes : (text : List ℕ) (items : List Item) → HasItems text items → All IsLexeme (split items).tokens
 lexemes text items has = nests-lexemes _ 50 Anything (nests text items has)
+
+-- ---- the tokens of the rest of a text
+
+abbrev left_open : List Item → ℕ
+left_open items = (next_place items).closers + 50 - (next_place items).openers
+
+nests_rest : (items : List Item) (text : List ℕ) → AreItemsOfRest items text → Nests (split items).tokens (left_open items) Anything
+nests_rest items text (has, few) = nests_from (next_place items) (left_open items) text items (omega (arith, few)) has
+
+pub rest_lexemes : (items : List Item) (text : List ℕ) → AreItemsOfRest items text → All IsLexeme (split items).tokens
+rest_lexemes items text are = nests-lexemes _ _ Anything (nests_rest items text are)
+
+past_more : (s : Nesting) (n k : ℕ) (P Q : ℕ → Type 0) → ((m : ℕ) → P m → Q (m + k)) → Past s n P → Past s (n + k) Q
+past_more Level n k P Q f h = f n h
+past_more Opens n k P Q f (m, e, h) = (m + k, omega (arith, e), f m h)
+past_more Closes n k P Q f h = subst Q (omega arith) (f (suc n) h)
+
+-- where more brackets may be opened than are, k more may be
+nests_more : (ts : List Token) (n k : ℕ) → Nests ts n Anything → Nests ts (n + k) Anything
+nests_more [] n k h = tt
+nests_more (t ∷ ts) n k (l, h) = (l, past_more (nesting_of t) n k _ _ (λ m. nests_more ts m k) h)
+
+-- where no bracket was closed that was not opened, at most 50 are open among the tokens that are left
+pub nests_open : (items : List Item) (text : List ℕ) → AreItemsOfRest items text → pos 0 ≤ℤ depth_of (next_place items)
+    → Nests (split items).tokens 50 Anything
+nests_open items text are none =
+    let closed : (next_place items).closers ≤ (next_place items).openers = omega (arith, ints, none) in
+    subst (λ (n : ℕ). Nests (split items).tokens n Anything) (omega (arith, closed, are.1))
+    (nests_more (split items).tokens (left_open items) (50 - left_open items) (nests_rest items text are))
 
 -- ---- from a list of tokens to its tree
 

@@ -1,5 +1,5 @@
 -- Causes of faults, with texts as their bytes.
-use Rattle.std.specs.Prelude.{ℕ, List, string_bytes}
+use Rattle.std.specs.Prelude.{ℕ, Bool, true, false, List, string_bytes}
 use Rattle.graphql_lexer.specs.declared.tokenizer.token.Kind.{Kind}
 use Rattle.graphql_lexer.specs.declared.tokenizer.token.Kind.TheVariants.{Punctuator, Name, IntValue, FloatValue, StringValue, BlockString}
 use Rattle.graphql_lexer.specs.BadTexts.{BadText, bad_character, bare_dot, bad_integer, bad_float, unterminated_string, unterminated_block_string, too_deep}
@@ -53,3 +53,9 @@ cause_text (cause.UnknownOperation name) = unknown_operation (string_bytes name)
 cause_text cause.EmptyExtension = empty_extension
 cause_text cause.TextTooLong = text_too_long
 cause_text cause.OutOfMemory = out_of_memory
+
+-- an item where it may not stand
+abbrev pub is_unexpected : CauseText → Bool
+is_unexpected (unexpected_token kind spelling) = true
+is_unexpected unexpected_end = true
+is_unexpected other = false

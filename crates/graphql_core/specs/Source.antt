@@ -10,7 +10,8 @@ use Rattle.graphql_core.specs.declared.common.fault.Fault.TheVariants as fault
 use Rattle.graphql_core.specs.declared.helpers.source.Lexeme.{Lexeme}
 use Rattle.graphql_lexer.specs.declared.tokenizer.piece.Nesting.{Nesting}
 use Rattle.graphql_lexer.specs.Lexical.{Stands, Word}
-use Rattle.graphql_lexer.specs.Items.{Item, Content}
+use Rattle.graphql_lexer.specs.Items.{Item, Content, Stream}
+use Rattle.graphql_lexer.specs.Stream.{asked_once}
 use Rattle.graphql_lexer.specs.Items as items
 use Rattle.graphql_core.specs.Causes.{CauseText, no_token, kind_number, cause_text}
 use Rattle.graphql_lexer.specs.BadTexts.{bad_text}
@@ -24,6 +25,8 @@ pub data Last : Type 0 where
 pub record Items : Type 0 where
   pub tokens : List Token
   pub last : Last
+  -- what the stream that they are read of is once all of them are taken; where none is, the empty one
+  pub spent : Stream
 
 abbrev pub place_of : Pos → Place
 place_of p = record { line = p.line; column = p.column }
@@ -32,10 +35,14 @@ abbrev pub token_of : Pos → Kind → List ℕ → Token
 token_of p k bytes = record { kind = kind_number k; spelling = bytes; place = place_of p }
 
 abbrev pub then_items : Token → Items → Items
-then_items t i = record { tokens = t ∷ i.tokens; last = i.last }
+then_items t i = record { tokens = t ∷ i.tokens; last = i.last; spent = i.spent }
+
+-- these tokens and this last item, read of no stream
+abbrev pub tokens_then : List Token → Last → Items
+tokens_then ts l = record { tokens = ts; last = l; spent = record { items = []; cuts = 0 } }
 
 abbrev pub only_last : Last → Items
-only_last l = record { tokens = []; last = l }
+only_last l = tokens_then [] l
 
 abbrev pub split_by : Content → Pos → Items → Items
 split_by (items.Lexeme k bytes) p more = then_items (token_of p k bytes) more
@@ -47,13 +54,25 @@ abbrev pub split : List Item → Items
 split [] = only_last (End (record { line = 0; column = 0 }))
 split (i ∷ is) = split_by i.content i.place.position (split is)
 
+-- the same items, read of a stream that is this once all of them are taken
+abbrev pub spending : Stream → Items → Items
+spending s i = record { tokens = i.tokens; last = i.last; spent = s }
+
+-- the items of a stream, read of it with one item of lookahead
+abbrev pub items_of_stream : Stream → Items
+items_of_stream s = spending (asked_once s) (split s.items)
+
+-- the items of a text, read of a stream of it
+abbrev pub items_of_text : List Item → Items
+items_of_text items = items_of_stream (record { items = items; cuts = 0 })
+
 -- what a reader leaves as it is, whatever it takes
-abbrev pub kept : Items → Last
-kept i = i.last
+abbrev pub kept : Items → Last × Stream
+kept i = (i.last, i.spent)
 
 -- past a token. The end and a bad place stay
 abbrev pub after : Items → Items
-after i = record { tokens = drop 1 i.tokens; last = i.last }
+after i = record { tokens = drop 1 i.tokens; last = i.last; spent = i.spent }
 
 -- a token of a source
 abbrev pub lexeme_token : {T : Type 0} → (T → List ℕ) → Lexeme T → Token
@@ -76,11 +95,11 @@ IsEnd (Wrong p b) = ⊥
 abbrev pub IsAtEnd : Items → Type 0
 IsAtEnd i = (i.tokens ≡ []) × IsEnd i.last
 
--- what a source has where a call of a stream answered this, and these items stand after it
-abbrev pub held : Pos → Result (Option Cut) Bad → Items → Items
-held p (Ok (Some t)) following = then_items (token_of p t.kind t.value.now) following
-held p (Ok None) following = only_last (End (place_of p))
-held p (Err b) following = only_last (Wrong (place_of p) (no_token (bad_text b)))
+-- what a source has where a call of a stream answered this and left the stream so
+abbrev pub held : Pos → Result (Option Cut) Bad → Stream → Items
+held p (Ok (Some t)) s = then_items (token_of p t.kind t.value.now) (items_of_stream s)
+held p (Ok None) s = spending s (only_last (End (place_of p)))
+held p (Err b) s = spending s (only_last (Wrong (place_of p) (no_token (bad_text b))))
 
 -- ---- faults
 

@@ -4,3 +4,4 @@ pub mod Matching
 pub mod Stops
 pub mod StringSink
 pub mod Placed
+pub mod Spans

@@ -3,17 +3,12 @@ use Rattle.std.proofs.Common.{◌≡◌, ℕ, zero, suc, Bool, true, false, ◌&
 use Rattle.std.proofs.lemmas.Bool.{eqb-true, and_parts}
 use Rattle.graphql_grammar.specs.Tokens.{Class, Spelled, AnyOf, Except, same_spelling, same_spellings}
 use Rattle.graphql_grammar.specs.Trees.{Expr, Empty, One, Then, Either, Many, Sym, Row, Grammar}
+use Rattle.graphql_grammar.specs.Grown.{same_class, same_rule}
 use Rattle.graphql_grammar.specs.Factored.{Change, unchanged, IsSecond, AreSecond}
 use Rattle.graphql_grammar.proofs.Classes.{same_spelling-true, same_spellings-true}
 use Rattle.graphql_grammar.proofs.SecondRules.{IsSecond-unchanged}
 
--- ---- a test that two expressions are the same
-
-abbrev same_class : Class → Class → Bool
-same_class (Spelled k s) (Spelled j u) = eqb k j && same_spelling s u
-same_class (AnyOf k) (AnyOf j) = eqb k j
-same_class (Except k ss) (Except j us) = eqb k j && same_spellings ss us
-same_class _ _ = false
+-- ---- the test that two expressions are the same
 
 same_class-true : (c d : Class) → same_class c d ≡ true → c ≡ d
 same_class-true (Spelled k s) (Spelled j u) h =
@@ -25,16 +20,7 @@ same_class-true (Except k ss) (Except j us) h =
     ap₂ Except (eqb-true k j p.0) (same_spellings-true ss us p.1)
 same_class-true _ _ h = absurd cc
 
-abbrev same_rule : Expr → Expr → Bool
-same_rule Empty Empty = true
-same_rule (One c) (One d) = same_class c d
-same_rule (Then a b) (Then c d) = same_rule a c && same_rule b d
-same_rule (Either a b) (Either c d) = same_rule a c && same_rule b d
-same_rule (Many a) (Many b) = same_rule a b
-same_rule (Sym j) (Sym k) = eqb j k
-same_rule _ _ = false
-
-same_rule-true : (a b : Expr) → same_rule a b ≡ true → a ≡ b
+pub same_rule-true : (a b : Expr) → same_rule a b ≡ true → a ≡ b
 same_rule-true Empty Empty h = refl
 same_rule-true (One c) (One d) h = ap One (same_class-true c d h)
 same_rule-true (Then a b) (Then c d) h =

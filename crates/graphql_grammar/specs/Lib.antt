@@ -10,3 +10,4 @@ pub mod Texts
 pub mod Extended
 pub mod Leads
 pub mod Faults
+pub mod Grown

@@ -3,13 +3,14 @@
 //! The crate has no code: its functions are its theorems.
 #![tactic(auto)]
 
-ghost use Rattle.std.specs.Prelude.{◌≡◌, ℕ, List, true};
+ghost use Rattle.std.specs.Prelude.{◌≡◌, ℕ, List, Option, length, true};
 ghost use Rattle.graphql_grammar.specs.Trees.{Expr, Empty, Then, Either, Sym, Shape, Row, Grammar, Fits, row_at};
 ghost use Rattle.graphql_grammar.specs.Tables.{is_ll1, is_tight, is_productive, decides, has_samples};
 ghost use Rattle.graphql_grammar.specs.Reading.{unchecked, lax};
 ghost use Rattle.graphql_grammar.specs.Theorems.{IsExact, ReadsAlike};
 ghost use Rattle.graphql_grammar.specs.Texts.{IsWhole, IsWholeFor};
 ghost use Rattle.graphql_grammar.specs.Extended.{Extends, TestsAlike, ReadsOn, LeavesAlone, is_below};
+ghost use Rattle.graphql_grammar.specs.Grown.{Growth, Grows, DerivesOn};
 ghost use Rattle.graphql_grammar.specs.Faults.{AnswersLeast, RefusesTokens};
 ghost use Rattle.graphql_grammar.specs.Factored.{Change, change_at, unchanged, out_of_head, in_second, out_of_prefix, out_of_symbols, written, with_rows};
 ghost use Rattle.graphql_grammar.specs.Factored.{IsSecond, AreSecond, EachIsSecond, IsExactFor};
@@ -68,4 +69,9 @@ pub fn extended()
     ensures on { (n : ℕ) (g h : Grammar) → Extends n g h → (e : Expr) → is_below n e ≡ true → TestsAlike g h e → ReadsOn g h e }
     ensures alone { (n : ℕ) (g : Grammar) (cs : List Change) → LeavesAlone n g cs → (e : Expr) → is_below n e ≡ true
         → (x : Shape) → Fits g e x → written cs x ≡ x }
+{}
+
+/// What a grammar derives, a grammar that has new parts in its rules derives too, with those parts empty.
+pub fn growing()
+    ensures on { (ps : List (Option Growth)) (g h : Grammar) → Grows ps g h → (e : Expr) → is_below (length g.rows) e ≡ true → DerivesOn ps g h e }
 {}

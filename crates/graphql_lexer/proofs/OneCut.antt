@@ -14,7 +14,7 @@ use Rattle.graphql_lexer.specs.declared.tokenizer.piece.Piece.TheVariants.{AtEnd
 use Rattle.graphql_lexer.specs.steps.Front.{front, token_of, comment, line_end}
 use Rattle.graphql_lexer.specs.steps.Numbers.{is_float, number}
 use Rattle.graphql_lexer.specs.steps.Quoted.{string_end, block_end, closed, quoted}
-use Rattle.graphql_lexer.specs.Items.{Where, Item, HasItems, start, past_ignored, past_token, last_item, piece_then, items_of, run_at}
+use Rattle.graphql_lexer.specs.Items.{Where, Item, HasItemsFrom, HasItems, start, past_ignored, past_token, last_item, piece_then, items_of, run_at}
 use Rattle.graphql_lexer.specs.steps.Cut.{items_by, items}
 use Rattle.graphql_lexer.specs.Lexical.{is_name_start, is_name_continue, is_in_line, is_mark, nesting_of, is_integer, begins_quotes, Meaning, Ignored, Word}
 use Rattle.graphql_lexer.specs.Lexical.{Stands, tab, line_feed, carriage_return, space, comma, byte_order_mark, comment_at_end, comment_feed}
@@ -275,9 +275,12 @@ cut_by (suc n) text (Takes i k t) e s h =
 pub cut_of : (text : List ℕ) → Cut text
 cut_of text = cut_by (length text) text (front text) refl (front_sees text) (le_refl (length text))
 
--- the items that the step function finds are the items of the text
+-- the items that the step function finds are the items of the text, wherever it begins
+pub has_items_from : (w : Where) (text : List ℕ) → HasItemsFrom w text (items w text)
+has_items_from w text = let c = cut_of text in (c.0, c.1, c.2, items_cut c.0 text c.1 c.2 w)
+
 pub has_items : (text : List ℕ) → HasItems text (items start text)
-has_items text = let c = cut_of text in (c.0, c.1, c.2, items_cut c.0 text c.1 c.2 start)
+has_items text = has_items_from start text
 
 -- and the only ones
 pub items_only : (text : List ℕ) (found : List Item) → HasItems text found → found ≡ items start text

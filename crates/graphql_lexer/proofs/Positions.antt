@@ -1,12 +1,13 @@
 -- The position after a token.
-use Rattle.std.proofs.Common.{◌≡◌, ℕ, ◌+◌, ◌<◌, ◌≤◌, true, false, ◌==◌, List, [], ◌∷◌, zero, suc, length, get_or, take, drop, IsUtf8, refl, sym, ap, ◌∙◌, subst}
+use Rattle.std.proofs.Common.{◌≡◌, ℕ, ◌+◌, ◌<◌, ◌≤◌, true, false, ◌==◌, List, [], ◌∷◌, ◌++◌, zero, suc, length, get_or, take, drop, IsUtf8, refl, sym, ap, ◌∙◌, subst}
 use Rattle.std.proofs.Common.{inl, inr, arith}
 use Rattle.std.proofs.lemmas.Bool.{and_parts, cases_Bool}
 use Rattle.std.proofs.lemmas.Bool.Decides.{nat_tests}
-use Rattle.std.proofs.lemmas.List.{take_at, at_drop_more}
-use Rattle.std.proofs.lemmas.Str.{chars-IsAscii, encodes-chars, length-le-encodes}
+use Rattle.std.proofs.lemmas.List.{take_at, take-append-drop, at_drop_more}
+use Rattle.std.proofs.lemmas.Str.{chars-IsAscii, chars-append, chars_past_char, encodes-chars, length-le-encodes, IsUtf8-take}
 use Rattle.std.specs.List.{list_all}
-use Rattle.std.specs.Str.{chars, IsAscii}
+use Rattle.std.specs.Str.{chars, IsAscii, IsCharBoundary}
+use Rattle.std.specs.Char.{encode_utf8}
 use Rattle.graphql_lexer.specs.declared.position.Pos.{Pos}
 use Rattle.graphql_lexer.specs.declared.tokenizer.token.Kind.{Kind}
 use Rattle.graphql_lexer.specs.declared.tokenizer.piece.Nesting.{Nesting}
@@ -47,6 +48,20 @@ flat_characters (b ∷ bs) p all =
 
 pub past_flat : (bytes : List ℕ) (p : Pos) → list_all is_flat bytes ≡ true → past bytes p ≡ record { line = p.line; column = p.column + length bytes }
 past_flat bytes p all = ap (λ cs. past_characters cs p) (chars-IsAscii bytes (flat_ascii bytes all)) ∙ flat_characters bytes p all
+
+past_more : (cs ds : List ℕ) (p : Pos) → past_characters (cs ++ ds) p ≡ past_characters ds (past_characters cs p)
+past_more [] ds p = refl
+past_more (c ∷ cs) ds p = past_more cs ds (past_character c p)
+
+-- the position after a text whose front is flat
+pub past_front : (text : List ℕ) (n : ℕ) (p : Pos) → IsUtf8 text → IsCharBoundary text n → past text p ≡ past (drop n text) (past (take n text) p)
+past_front text n p utf8 cut =
+    ap (λ l. past l p) (sym (take-append-drop n text)) ∙ ap (λ cs. past_characters cs p) (chars-append (take n text) (drop n text) (IsUtf8-take text n utf8 cut))
+    ∙ past_more (chars (take n text)) (chars (drop n text)) p
+
+-- the position after a text that begins with a character
+pub past_first : (text rest : List ℕ) (c : ℕ) (p : Pos) → IsUtf8 text → text ≡ encode_utf8 c ++ rest → past text p ≡ past rest (past_character c p)
+past_first text rest c p utf8 is = ap (λ cs. past_characters cs p) (chars_past_char text rest c utf8 is)
 
 -- ---- which tokens are flat
 

@@ -1,7 +1,8 @@
 -- The bytes at the front of a text that pass a test.
-use Rattle.std.proofs.Common.{◌≡◌, ◌≢◌, ℕ, ◌<◌, Bool, true, false, ◌==◌, List, [], ◌∷◌, ◌++◌, length, get_or, refl, ap, inl, inr, arith}
+use Rattle.std.proofs.Common.{◌≡◌, ◌≢◌, ℕ, ◌<◌, Bool, true, false, ◌==◌, List, [], ◌∷◌, ◌++◌, length, get_or, take, refl, sym, ap, ◌∙◌, inl, inr, arith}
 use Rattle.std.proofs.lemmas.Bool.{cases_Bool, cases_eq, and_parts}
 use Rattle.std.proofs.lemmas.Bool.Decides.{nat_tests}
+use Rattle.std.proofs.lemmas.List.{take_at}
 use Rattle.std.specs.List.{prefix_len, list_all}
 
 -- a run is found again in front of a byte that does not pass
@@ -29,6 +30,13 @@ run_of p (x ∷ xs) =
           (x ∷ r.0, r.1, ap (λ l. x ∷ l) r.2, rw (pass, r.3) refl, rw (pass, r.4) (omega arith), r.5)
       | inr stop ↦ ([], x ∷ xs, refl, refl, rw stop refl, λ _. stop)
     ]
+
+-- each byte of the run at the front passes
+pub run_passes : (p : ℕ → Bool) (xs : List ℕ) (n : ℕ) → n ≡ prefix_len p xs → list_all p (take n xs) ≡ true
+run_passes p xs n e =
+    let r = run_of p xs in
+    let run : take n xs ≡ r.0 = ap (take n) r.2 ∙ take_at r.0 r.1 n (sym (e ∙ r.4)) in
+    rw run r.3
 
 pub all_weaken : (p q : ℕ → Bool) → ((b : ℕ) → p b ≡ true → q b ≡ true) → (xs : List ℕ) → list_all p xs ≡ true → list_all q xs ≡ true
 all_weaken p q h [] all = refl

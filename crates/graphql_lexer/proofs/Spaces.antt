@@ -1,7 +1,8 @@
 -- Spaces at the front of a text, and the quick test for ignored text.
-use Rattle.std.proofs.Common.{◌≡◌, ℕ, zero, suc, ◌+◌, ◌≤◌, Bool, true, false, cond, ◌&&◌, ◌||◌, ◌==◌, List, [], ◌∷◌, Option, Some, None, get_or, drop, IsUtf8}
+use Rattle.std.proofs.Common.{◌≡◌, ℕ, zero, suc, ◌+◌, ◌<◌, ◌≤◌, Bool, true, false, cond, ◌&&◌, ◌||◌, ◌==◌, List, [], ◌∷◌, Option, Some, None, get_or, drop, IsUtf8}
 use Rattle.std.proofs.Common.{refl, ap, ◌∙◌, subst, inl, inr, arith, add-zero, eqb-true}
 use Rattle.std.proofs.lemmas.Bool.{cases_Bool}
+use Rattle.std.proofs.lemmas.Bool.Decides.{nat_tests}
 use Rattle.std.proofs.lemmas.List.Sums.{prefix_len-le-length, prefix_len_passes}
 use Rattle.std.proofs.lemmas.Str.{IsCharBoundary-start, IsCharBoundary-after_ascii}
 use Rattle.std.specs.Prelude.{IfSome}
@@ -17,7 +18,7 @@ use Rattle.graphql_lexer.specs.declared.tokenizer.piece.Piece.TheVariants.{AtEnd
 use Rattle.graphql_lexer.specs.Lexical.{is_name_start, is_mark, is_integer, begins_quotes}
 use Rattle.graphql_lexer.specs.steps.Numbers.{is_float, number}
 use Rattle.graphql_lexer.specs.steps.Quoted.{closed, quoted}
-use Rattle.graphql_lexer.specs.steps.Front.{front, token_of, FitsIn, IsItem}
+use Rattle.graphql_lexer.specs.steps.Front.{front, token_of, FitsIn, IsItem, is_flat}
 use Rattle.graphql_lexer.specs.Items.{Where, run_at}
 use Rattle.graphql_lexer.specs.Stream.{further}
 use Rattle.graphql_lexer.specs.steps.Cut.{items}
@@ -49,6 +50,9 @@ further_spaces w place passed (b ∷ bs) (suc n) h =
       | inr other ↦ absurd (omega (arith, rw other at h))
     ]
 
+flat_below : (b : ℕ) → is_flat b ≡ true → b < 128
+flat_below b h = grind (arith, nat_tests)
+
 -- spaces end before a character
 pub spaces_boundary : (bytes : List ℕ) (n : ℕ) → IsUtf8 bytes → n ≡ prefix_len is_space bytes → IsCharBoundary bytes n
 spaces_boundary bytes zero utf8 e = IsCharBoundary-start bytes utf8
@@ -60,6 +64,14 @@ spaces_boundary bytes (suc n) utf8 e =
 pub near_boundary : (bytes : List ℕ) (x : Option ℕ) → IsUtf8 bytes → IfSome x (λ n. n ≡ prefix_len is_space bytes) → IfSome x (λ n. IsCharBoundary bytes n)
 near_boundary bytes None utf8 e = tt
 near_boundary bytes (Some n) utf8 e = spaces_boundary bytes n utf8 e
+
+-- what is flat ends before a character
+pub flat_boundary : (bytes : List ℕ) (n : ℕ) → IsUtf8 bytes → n ≡ prefix_len is_flat bytes → IsCharBoundary bytes n
+flat_boundary bytes zero utf8 e = IsCharBoundary-start bytes utf8
+flat_boundary bytes (suc n) utf8 e =
+    let last : get_or bytes n 0 < 128 = flat_below _ (prefix_len_passes is_flat bytes n 0 (omega arith)) in
+    let more : n + 1 ≡ suc n = omega arith in
+    subst (IsCharBoundary bytes) more (IsCharBoundary-after_ascii bytes n utf8 (omega (arith, prefix_len-le-length is_flat bytes)) last)
 
 -- ---- the quick test
 

@@ -8,7 +8,7 @@ use Rattle.graphql_lexer.specs.Lexical.{begins_quotes, begins_escape, IsStringBo
 use Rattle.graphql_lexer.proofs.Runs.{not_equal, run_of, all_weaken, all_append}
 use Rattle.std.specs.List.{prefix_len, list_all}
 use Rattle.graphql_lexer.specs.steps.Front.{is_flat}
-use Rattle.graphql_lexer.specs.steps.Ahead.{is_plain_in_string}
+use Rattle.graphql_lexer.specs.steps.Ahead.{is_plain_in_string, is_plain_in_block}
 use Rattle.graphql_lexer.specs.steps.Quoted.{string_end, block_end, quoted}
 use Rattle.graphql_lexer.specs.declared.tokenizer.token.Kind.TheVariants.{StringValue, BlockString}
 use Rattle.graphql_lexer.specs.declared.tokenizer.piece.Nesting.TheVariants.{Level}
@@ -39,7 +39,7 @@ pub block_closes : (i : ℕ) (bs : List ℕ) → begins_quotes (drop i bs) ≡ t
 block_closes i bs h = closes_at i (drop i bs) h
 
 -- an escape of three quotes goes by as one unit
-skips_escape : (n : ℕ) (bs : List ℕ) → begins_quotes bs ≡ false → begins_escape bs ≡ true → block_end n 0 bs ≡ block_end (n + 4) 0 (drop 4 bs)
+pub skips_escape : (n : ℕ) (bs : List ℕ) → begins_quotes bs ≡ false → begins_escape bs ≡ true → block_end n 0 bs ≡ block_end (n + 4) 0 (drop 4 bs)
 unfolding block_end
 skips_escape n [] q e = absurd cc
 skips_escape n (b ∷ []) q e = absurd (grind (arith, nat_tests))
@@ -64,7 +64,7 @@ quotes_some (b ∷ []) e = absurd cc
 quotes_some (b ∷ x ∷ []) e = absurd cc
 quotes_some (b ∷ x ∷ y ∷ more) e = omega arith
 
-skips_unit : (n : ℕ) (bs : List ℕ) → 0 < length bs → begins_quotes bs ≡ false → begins_escape bs ≡ false → block_end n 0 bs ≡ block_end (n + 1) 0 (drop 1 bs)
+pub skips_unit : (n : ℕ) (bs : List ℕ) → 0 < length bs → begins_quotes bs ≡ false → begins_escape bs ≡ false → block_end n 0 bs ≡ block_end (n + 1) 0 (drop 1 bs)
 unfolding block_end
 skips_unit n [] h q e = absurd (omega arith)
 skips_unit n (b ∷ bs) h q e = rw (q, e) refl
@@ -72,6 +72,28 @@ skips_unit n (b ∷ bs) h q e = rw (q, e) refl
 pub block_unit : (i : ℕ) (bs : List ℕ) → i < length bs → begins_quotes (drop i bs) ≡ false → begins_escape (drop i bs) ≡ false
     → block_end i 0 (drop i bs) ≡ block_end (i + 1) 0 (drop (i + 1) bs)
 block_unit i bs h q e = skips_unit i (drop i bs) (omega (arith, length-drop i bs)) q e ∙ ap (block_end (i + 1) 0) (drop-drop 1 i bs)
+
+plain_quotes : (b : ℕ) (bs : List ℕ) → is_plain_in_block b ≡ true → begins_quotes (b ∷ bs) ≡ false
+plain_quotes b [] h = refl
+plain_quotes b (x ∷ []) h = refl
+plain_quotes b (x ∷ y ∷ more) h = grind (arith, nat_tests)
+
+plain_escape : (b : ℕ) (bs : List ℕ) → is_plain_in_block b ≡ true → begins_escape (b ∷ bs) ≡ false
+plain_escape b bs h = grind (arith, nat_tests)
+
+-- bytes that are neither quotes nor backslashes go by one after another
+pub skips_plain : (n k : ℕ) (bs : List ℕ) → k ≤ prefix_len is_plain_in_block bs → block_end n 0 bs ≡ block_end (n + k) 0 (drop k bs)
+unfolding block_end
+skips_plain n zero bs h = ap (λ m. block_end m 0 bs) (omega arith)
+skips_plain n (suc k) [] h = absurd (omega arith)
+skips_plain n (suc k) (b ∷ bs) h =
+    elim (cases_Bool (is_plain_in_block b)) [
+      | inl pass ↦
+          let more : k ≤ prefix_len is_plain_in_block bs = omega (arith, rw pass at h) in
+          skips_unit n (b ∷ bs) (omega arith) (plain_quotes b bs pass) (plain_escape b bs pass) ∙ skips_plain (n + 1) k bs more
+          ∙ ap (λ m. block_end m 0 (drop k bs)) (omega arith)
+      | inr stop ↦ absurd (omega (arith, rw stop at h))
+    ]
 
 -- ---- strings
 

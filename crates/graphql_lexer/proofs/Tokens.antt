@@ -1,7 +1,7 @@
 -- Tokens and plain ignored text at the front of a text.
-use Rattle.std.proofs.Common.{◌≡◌, ℕ, ◌+◌, ◌<◌, Bool, true, false, ◌||◌, ◌==◌, List, [], ◌∷◌, Option, Some, None, length, take, drop, get_or, IsUtf8}
+use Rattle.std.proofs.Common.{◌≡◌, ℕ, ◌+◌, ◌<◌, ◌≤◌, Bool, true, false, ◌||◌, ◌==◌, List, [], ◌∷◌, Option, Some, None, length, take, drop, get_or, IsUtf8}
 use Rattle.std.proofs.Common.{refl, sym, ap, ◌∙◌, inl, inr, arith, eqb-true}
-use Rattle.std.proofs.lemmas.Bool.{cases_Bool, false≢true}
+use Rattle.std.proofs.lemmas.Bool.{cases_Bool, false≢true, eqb-false}
 use Rattle.std.proofs.lemmas.List.{length-take, take_min}
 use Rattle.std.proofs.lemmas.Bool.Decides.{nat_tests}
 use Rattle.std.specs.Prelude.{IfSome}
@@ -16,13 +16,14 @@ use Rattle.graphql_lexer.specs.declared.tokenizer.piece.Piece.{Piece}
 use Rattle.graphql_lexer.specs.declared.tokenizer.piece.Piece.TheVariants.{AtEnd, Skips, Takes, Stops}
 use Rattle.graphql_lexer.specs.Lexical.{is_name_start, is_name_continue, is_mark, nesting_of}
 use Rattle.graphql_lexer.specs.BadTexts.{too_deep}
-use Rattle.graphql_lexer.specs.Items.{Where, Item, Content, item, Lexeme, End, Wrong, is_token, is_too_deep, past_token, token_then}
+use Rattle.graphql_lexer.specs.Items.{Where, Item, Content, item, Lexeme, End, Wrong, is_token, is_too_deep, openers_after, closers_after, past_token, token_then}
 use Rattle.graphql_lexer.specs.steps.Cut.{items, items_by}
-use Rattle.graphql_lexer.specs.Stream.{BeginsWithNext}
+use Rattle.graphql_lexer.specs.Stream.{BeginsWithNext, AreItemsOfRest}
 use Rattle.graphql_lexer.specs.steps.Front.{front, token_of, FitsIn, IsItem}
 use Rattle.graphql_lexer.specs.steps.Ahead.{taken, FitsTaken, is_plain, plain_move, is_rare}
 use Rattle.graphql_lexer.proofs.Runs.{differs}
-use Rattle.graphql_lexer.proofs.FrontFits.{front_fits, front_within, items_at, Within}
+use Rattle.graphql_lexer.proofs.FrontFits.{front_fits, front_within, items_at, next_place_items, Within}
+use Rattle.graphql_lexer.proofs.OneCut.{has_items_from}
 use Rattle.graphql_lexer.proofs.Spaces.{no_front, item_first}
 
 -- ---- tokens
@@ -134,6 +135,23 @@ begins_by w bytes (Takes n k t) h kind value place more e =
 pub begins_with_next : (w : Where) (bytes : List ℕ) → IsItem (front bytes) → BeginsWithNext (items w bytes) bytes
 begins_with_next w bytes h =
     rw (items_at w bytes (front bytes) refl) (begins_by w bytes (front bytes) h)
+
+-- a text from a place on where an item stands, and no more brackets are open than may be
+pub items_of_rest : (w : Where) (bytes : List ℕ) → IsItem (front bytes) → w.openers ≤ w.closers + 50 → AreItemsOfRest (items w bytes) bytes
+items_of_rest w bytes h few = rw (next_place_items w bytes h) (has_items_from w bytes, few)
+
+-- a token opens and closes one bracket at most
+pub one_bracket : (n : Nesting) (k : ℕ) → (openers_after n k ≤ k + 1) × (closers_after n k ≤ k + 1)
+one_bracket Level k = (omega arith, omega arith)
+one_bracket Opens k = (omega arith, omega arith)
+one_bracket Closes k = (omega arith, omega arith)
+
+-- what is not too deep leaves no more open
+pub few_open : (n : Nesting) (w : Where) → is_too_deep n w ≡ false → w.openers ≤ w.closers + 50
+    → openers_after n w.openers ≤ closers_after n w.closers + 50
+few_open Level w deep few = few
+few_open Opens w deep few = omega (arith, eqb-false w.openers (w.closers + 50) deep)
+few_open Closes w deep few = omega (arith, few)
 
 -- what opens no bracket is not too deep
 pub not_too_deep : (n : Nesting) (w : Where) → (n ≡ Opens → ⊥) → is_too_deep n w ≡ false

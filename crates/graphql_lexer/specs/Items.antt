@@ -146,9 +146,13 @@ pub record EndsOnce (items : List Item) : Type 0 where
   pub before : list_all (λ i. is_token i.content) tokens ≡ true
   pub ends : is_token last.content ≡ false
 
+-- these are the items of the text, which begins at this place
+abbrev pub HasItemsFrom : Where → List ℕ → List Item → Type 0
+HasItemsFrom w text items = (pieces : List Piece) × (stop : List ℕ) × IsCutInto text pieces stop × (items ≡ items_of w pieces stop)
+
 -- these are the items of the text
 abbrev pub HasItems : List ℕ → List Item → Type 0
-HasItems text items = (pieces : List Piece) × (stop : List ℕ) × IsCutInto text pieces stop × (items ≡ items_of start pieces stop)
+HasItems text items = HasItemsFrom start text items
 
 -- the items of a text, as contracts of a stream name them
 

@@ -1,11 +1,11 @@
 //! A text cut into its tokens.
 
-mod lanes;
+pub mod lanes;
 mod laws;
 pub mod number;
 mod piece;
 mod quoted;
-mod run;
+pub mod run;
 mod stop;
 mod stream;
 mod token;

@@ -27,7 +27,7 @@ pub mod query {
         Definition, Document, Field, FragmentDefinition, FragmentSpread, InlineFragment,
         MinifyError, Mutation, Names, OperationDefinition, ParseError, Query, Selection,
         SelectionSet, Subscription, Text, TypeCondition, VariableDefinition, consume_definition,
-        minify_query, parse_query,
+        minify_query, parse_query, parse_query_from,
     };
     pub use graphql_values::{Directive, Type, Value};
 }
@@ -39,7 +39,7 @@ pub mod schema {
         EnumValue, Field, InputObjectType, InputObjectTypeExtension, InputValue, InterfaceType,
         InterfaceTypeExtension, InvalidDirectiveLocation, Names, ObjectType, ObjectTypeExtension,
         ParseError, ScalarType, ScalarTypeExtension, SchemaDefinition, Text, TypeDefinition,
-        TypeExtension, UnionType, UnionTypeExtension, parse_schema,
+        TypeExtension, UnionType, UnionTypeExtension, parse_schema, parse_schema_from,
     };
     pub use graphql_values::{Directive, Type, Value};
 }

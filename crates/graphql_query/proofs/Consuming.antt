@@ -9,11 +9,11 @@ use Rattle.graphql_lexer.specs.BadTexts.{too_deep}
 use Rattle.graphql_lexer.specs.Lexical.{Meaning, Ignored, Word, Piece}
 use Rattle.graphql_lexer.specs.Items.{Where, Item, item, Content, Lexeme, End, Wrong, HasItems, start}
 use Rattle.graphql_lexer.specs.Items.{past_ignored, past_token, is_too_deep, token_then, piece_then}
-use Rattle.graphql_lexer.specs.Items.{items_of}
+use Rattle.graphql_lexer.specs.Items.{items_of, Stream}
 use Rattle.graphql_lexer.specs.Stream.{next_place}
 use Rattle.graphql_lexer.specs.steps.Cut.{items}
 use Rattle.graphql_lexer.proofs.OneCut.{has_items, items_unique}
-use Rattle.graphql_core.specs.Source.{Items, Last, split, place_of, place_next}
+use Rattle.graphql_core.specs.Source.{Items, Last, split, tokens_then, place_of, place_next}
 use Rattle.graphql_values.proofs.Whole.{AreItems}
 use Rattle.graphql_query_tree.specs.Tree.{DefinitionTree}
 use Rattle.graphql_query_tree.specs.Grammar.{reading, changes, definition_symbol}
@@ -52,22 +52,19 @@ first_place (Lexeme k bytes) w is = refl
 first_place End w is = refl
 first_place (Wrong b) w is = refl
 
-abbrev left : List Token → Last → Items
-left ts last = record { tokens = ts; last = last }
-
 -- an item before which stands a token
 past_first : (c : Content) (w : Where) (is : List Item) (t : Token) (ts others : List Token) (p : Place) → (split (item c w ∷ is)).tokens ≡ t ∷ ts
-    → ((split is).tokens ≡ ts → place_next (left others (split is).last) ≡ p) → place_next (left others (split (item c w ∷ is)).last) ≡ p
+    → ((split is).tokens ≡ ts → place_next (tokens_then others (split is).last) ≡ p) → place_next (tokens_then others (split (item c w ∷ is)).last) ≡ p
 past_first (Lexeme k bytes) w is t ts others p e f = f (ap (drop 1) e)
 past_first End w is t ts others p e f = absurd cc
 past_first (Wrong b) w is t ts others p e f = absurd cc
 
 -- and where the item begins that stands after some tokens
 place_after : (is : List Item) (front others : List Token) → (split is).tokens ≡ front ++ others → length front < length is
-    → place_next (left others (split is).last) ≡ place_of (next_place (drop (length front) is)).position
+    → place_next (tokens_then others (split is).last) ≡ place_of (next_place (drop (length front) is)).position
 place_after [] front others e some = absurd (omega (arith, some))
 place_after (i ∷ is) [] others e some =
-    ap (λ (ts : List Token). place_next (left ts (split (i ∷ is)).last)) (sym e) ∙ first_place i.content i.place is
+    ap (λ (ts : List Token). place_next (tokens_then ts (split (i ∷ is)).last)) (sym e) ∙ first_place i.content i.place is
 place_after (i ∷ is) (t ∷ front) others e some =
     past_first i.content i.place is t (front ++ others) others _ e (λ parts. place_after is front others parts (omega (arith, some)))
 
@@ -89,15 +86,15 @@ module _ (text : List ℕ) (i j : Items) (d : DefinitionTree) (p : Pos) (are : A
 
   begins_here : BeginsWith (split cut).tokens shape j.tokens
   begins_here = begins (split cut).tokens j.tokens h.0
-      (subst (λ (k : Items). Takes reading (Sym definition_symbol) k.tokens h.0 j.tokens) (are cut (has_items text)) h.1)
+      (subst (λ (k : Items). Takes reading (Sym definition_symbol) k.tokens h.0 j.tokens) (are cut (has_items text)).1 h.1)
 
   within : length (leaves shape) < length cut
   within = omega (arith, more_items text cut (has_items text), ap length begins_here.1, length-append (leaves shape) j.tokens)
 
   position : (next_place (drop (length (leaves shape)) cut)).position ≡ p
   position =
-      let last : j.last ≡ (split cut).last = h.3 ∙ ap (λ (k : Items). k.last) (are cut (has_items text)) in
-      sym (one_position p _ (at ∙ ap (λ (l : Last). place_next (left j.tokens l)) last
+      let last : j.last ≡ (split cut).last = ap (λ (k : Last × Stream). k.0) h.3 ∙ ap (λ (k : Items). k.last) (are cut (has_items text)).1 in
+      sym (one_position p _ (at ∙ ap (λ (l : Last). place_next (tokens_then j.tokens l)) last
       ∙ place_after cut (leaves shape) j.tokens begins_here.1 within))
 
   pub found : (rest : List ℕ)

@@ -5,12 +5,12 @@ use Rattle.graphql_values.specs.Values.{ValueTree, TypeTree, DirectiveTree}
 use Rattle.graphql_query_tree.specs.Tree.{SelectionSetTree, OperationKind, VariableDefinitionTree, OperationTree, FragmentDefinitionTree}
 use Rattle.graphql_query_tree.specs.Meanings.{OperationBodyTree}
 
-abbrev variable : Place → List ℕ → TypeTree → Option ValueTree → VariableDefinitionTree
-variable p n t v = record { position = p; name = n; var_type = t; default_value = v }
+abbrev variable : Place → List ℕ → TypeTree → Option ValueTree → List DirectiveTree → VariableDefinitionTree
+variable p n t v ds = record { position = p; name = n; var_type = t; default_value = v; directives = ds }
 
-pub same_variable_definition : {p q : Place} {n m : List ℕ} {t u : TypeTree} {v w : Option ValueTree} → q ≡ p → m ≡ n → t ≡ u → v ≡ w
-    → variable p n t v ≡ variable q m u w
-same_variable_definition a b c d = rw (a, b, c, d) refl
+pub same_variable_definition : {p q : Place} {n m : List ℕ} {t u : TypeTree} {v w : Option ValueTree} {ds es : List DirectiveTree} → q ≡ p → m ≡ n
+    → t ≡ u → v ≡ w → ds ≡ es → variable p n t v ds ≡ variable q m u w es
+same_variable_definition a b c d e = rw (a, b, c, d, e) refl
 
 abbrev common : Option (List ℕ) → List VariableDefinitionTree → List DirectiveTree → SelectionSetTree → OperationBodyTree
 common n vs ds s = record { name = n; variables = vs; directives = ds; selected = s }

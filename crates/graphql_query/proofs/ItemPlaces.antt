@@ -1,10 +1,10 @@
 -- Where the items of a text stand: their positions rise, and each begins a character of the text.
 use Rattle.std.proofs.Common.{◌≡◌, ℕ, zero, suc, ◌+◌, ◌<◌, ◌≤◌, Bool, true, false, not, ◌==◌, ◌&&◌, List, [], ◌∷◌}
 use Rattle.std.proofs.Common.{◌++◌, length, drop, IsUtf8, refl, sym, ap, ◌∙◌, subst}
-use Rattle.std.proofs.Common.{Option, Some, None, Result, Ok, Err, ◌⊎◌, inl, inr, arith, length-append, length-drop}
+use Rattle.std.proofs.Common.{Option, Some, None, Result, Ok, Err, ◌⊎◌, inl, inr, arith}
 use Rattle.std.proofs.lemmas.Bool.Decides.{nat_tests}
-use Rattle.std.proofs.lemmas.List.{drop_at, take_at, drop-drop}
-use Rattle.std.proofs.lemmas.Str.{encodes-chars, IsUtf8-take, IsUtf8-drop, IsCharBoundary-start, IsCharBoundary-from_drop}
+use Rattle.std.proofs.lemmas.List.{take_at}
+use Rattle.std.proofs.lemmas.Str.{encodes-chars, IsUtf8-take, IsCharBoundary-start, IsCharBoundary-from_drop}
 use Rattle.std.specs.Str.{chars, IsCharBoundary}
 use Rattle.graphql_lexer.specs.declared.position.Pos.{Pos}
 use Rattle.graphql_lexer.specs.declared.tokenizer.piece.Move.{Move}
@@ -18,8 +18,7 @@ use Rattle.graphql_lexer.specs.Items.{past_token, is_too_deep, token_then, piece
 use Rattle.graphql_lexer.specs.Stream.{NextItem, next_place}
 use Rattle.graphql_lexer.specs.declared.tokenizer.token.Token.{Token}
 use Rattle.graphql_lexer.specs.declared.tokenizer.token.Bad.{Bad}
-use Rattle.graphql_lexer.proofs.FrontFits.{Part, Within, front_within}
-use Rattle.graphql_lexer.proofs.FrontIsPiece.{stands_front}
+use Rattle.graphql_core.proofs.TokenPlaces.{IsAt, part, rest_at}
 
 -- ---- the order of positions
 
@@ -115,25 +114,6 @@ all_from p q (i ∷ is) b h = (then_not_after p q i.place.position b h.0, all_fr
 
 abbrev From : List ℕ → Where → List Item → Type 0
 From whole w is = AllFrom w.position is × Rise whole is
-
--- the text goes on like this there
-abbrev IsAt : List ℕ → Where → List ℕ → Type 0
-IsAt whole w text = (w.offset ≤ length whole) × (drop w.offset whole ≡ text) × IsUtf8 text
-
--- a piece is some bytes, and ends at a seam
-pub part : (m : Meaning) (bytes rest : List ℕ) → Stands bytes m rest → Part (bytes ++ rest) (length bytes)
-part (Ignored m) bytes rest st = (subst (Within (bytes ++ rest)) (stands_front st) (front_within (bytes ++ rest))).0
-part (Word k t) bytes rest st = subst (Within (bytes ++ rest)) (stands_front st) (front_within (bytes ++ rest))
-
-rest_at : (m : Meaning) (bytes rest whole : List ℕ) (w v : Where) → Stands bytes m rest → IsAt whole w (bytes ++ rest) → v.offset ≡ w.offset + length bytes
-    → IsAt whole v rest
-rest_at m bytes rest whole w v st (within, is, utf8) moves =
-    let p = part m bytes rest st in
-    let n = length bytes in (
-      omega (arith, moves, p.1, ap length is, length-drop w.offset whole, length-append bytes rest),
-      ap (λ (k : ℕ). drop k whole) moves ∙ sym (drop-drop n w.offset whole) ∙ ap (drop n) is ∙ drop_at bytes rest n refl,
-      subst IsUtf8 (drop_at bytes rest n refl) (IsUtf8-drop (bytes ++ rest) n utf8 (p.2 utf8)),
-    )
 
 -- a token takes some place
 some_characters : (cs bytes : List ℕ) (p : Pos) → chars bytes ≡ cs → IsUtf8 bytes → 0 < length bytes → Before p (past_characters cs p)

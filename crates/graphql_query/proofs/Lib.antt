@@ -13,3 +13,4 @@ pub mod ItemPlaces
 pub mod Consuming
 pub mod OtherRest
 pub mod OtherDefinitions
+pub mod Earlier

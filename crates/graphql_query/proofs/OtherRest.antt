@@ -24,7 +24,7 @@ use Rattle.graphql_query_tree.specs.Grammar.{query, definition_symbol, operation
 use Rattle.graphql_query_tree.specs.Grammar.{selection_set_symbol, fragment_definition_symbol}
 use Rattle.graphql_query_tree.specs.Tree.{DefinitionTree}
 use Rattle.graphql_query.specs.FirstDefinition.{text_after, BeginsWith, IsFirstDefinition, BeginsWithDefinition}
-use Rattle.graphql_query.proofs.ItemPlaces.{part}
+use Rattle.graphql_core.proofs.TokenPlaces.{part}
 
 -- ---- what a piece may stand before
 

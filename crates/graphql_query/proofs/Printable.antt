@@ -6,6 +6,7 @@ use Rattle.graphql_grammar.specs.Tokens.{Token, Place}
 use Rattle.graphql_grammar.specs.Trees.{Expr, Many, Sym, Shape, Both, leaves, optional}
 use Rattle.graphql_grammar.specs.Extended.{is_below}
 use Rattle.graphql_lexer.specs.Lexical.{IsName}
+use Rattle.graphql_core.specs.Source.{Items, split}
 use Rattle.graphql_core.proofs.NestingDepth.{Nests, Anything, nests, nests_tree}
 use Rattle.graphql_core.proofs.BracketRoom.{HasRoom, room_nothing, room_leaf, room_both, room_first, room_second, room_stop, room_more, room_node, has_room}
 use Rattle.graphql_core.proofs.BracketRoom.{room_back, all_turns}
@@ -25,7 +26,7 @@ use Rattle.graphql_query_tree.specs.Meanings.{inline_fragment_of, selection_of, 
 use Rattle.graphql_query_tree.specs.Meanings.{selections_of, variable_definition_of, each_variable_definition_of, variable_definitions_of}
 use Rattle.graphql_query_tree.specs.Meanings.{optional_variable_definitions_of, optional_name_of, keyword_of}
 use Rattle.graphql_query_tree.specs.Meanings.{operation_of, definition_of, definitions_of, document_of}
-use Rattle.graphql_query_tree.specs.Document.{IsDocumentOf}
+use Rattle.graphql_query_tree.specs.Document.{IsDocument, IsDocumentOf}
 use Rattle.graphql_query_tree.proofs.Readable.{tested_alike, written_goes_on}
 use Rattle.graphql_query_tree.specs.Printable.{IsPrintable, IsPrintableSelection, IsPrintableSet, ArePrintableSelections, IsPrintableVariable}
 use Rattle.graphql_query_tree.specs.Printable.{IsPrintableDefinition, Selects, SelectsInside, SelectInside, AllSelectInside, DefinitionSelects}
@@ -116,10 +117,11 @@ optional_default_printable (room_second room_nothing) = (tt, omega arith)
 
 variable_definition_printable : {n : ℕ} (x : Shape) → HasRoom query n (Sym variable_definition_symbol) x
     → Within IsPrintableVariable variable_definition_brackets n (variable_definition_of x)
-variable_definition_printable _ (room_node (room_both sign (room_both called (room_both colon (room_both t v)))) c) =
+variable_definition_printable _ (room_node (room_both sign (room_both called (room_both colon (room_both t (room_both v ds))))) c) =
     let (is, b) = type_printable (room_shared t refl) in
     let (default, d) = optional_default_printable v in
-    ((leaf_name refl called, is, default), omega arith)
+    let (are, e) = directives_printable (room_shared ds refl) in
+    ((leaf_name refl called, is, default, are), omega arith)
 
 variable_definitions_printable : {n : ℕ} {x : Shape} → HasRoom query n (Sym variable_definitions_symbol) x
     → Within (AllByRecursion IsPrintableVariable) variable_definitions_brackets n (variable_definitions_of x)
@@ -180,7 +182,10 @@ document_printable (room_node (room_both {x = x} {y = xs} f fs) c) =
     let select = all_turns DefinitionSelects definition_of definitions_of refl (λ x y. refl) definition_selects fs in
     record { definition = tt; names = are; selections = (definition_selects x f, select); depth = b }
 
-pub printable : (text : List ℕ) (d : DocumentTree) → IsDocumentOf text d → IsPrintable d
-printable text d (items, has, (x, (fits, is), end, e)) =
-    let room = nests_tree x 50 Anything (subst (λ (ts : List Token). Nests ts 50 Anything) is (nests text items has)) in
+pub items_printable : (i : Items) (d : DocumentTree) → Nests i.tokens 50 Anything → IsDocument i d → IsPrintable d
+items_printable i d nested (x, (fits, is), end, e) =
+    let room = nests_tree x 50 Anything (subst (λ (ts : List Token). Nests ts 50 Anything) is nested) in
     subst IsPrintable (sym e) (document_printable (has_room query refl fits 50 Anything room))
+
+pub printable : (text : List ℕ) (d : DocumentTree) → IsDocumentOf text d → IsPrintable d
+printable text d (items, has, document) = items_printable (split items) d (nests text items has) document

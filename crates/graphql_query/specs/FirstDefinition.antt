@@ -7,36 +7,51 @@ use Rattle.graphql_lexer.specs.Items.{Item, HasItems}
 use Rattle.graphql_lexer.specs.Stream.{next_place}
 use Rattle.graphql_values.specs.Language.{Language}
 use Rattle.graphql_query_tree.specs.Document.{queries, IsReadBack}
-use Rattle.graphql_query_tree.specs.Tree.{DefinitionTree, erase_definition}
-use Rattle.graphql_query_tree.specs.Grammar.{query, definition_symbol}
+use Rattle.graphql_query_tree.specs.Earlier.{queries_0_4_1}
+use Rattle.graphql_query_tree.specs.Tree.{DefinitionTree, DocumentTree, erase_definition}
+use Rattle.graphql_query_tree.specs.Grammar.{definition_symbol}
 use Rattle.graphql_query_tree.specs.Meanings.{definition_of}
 
--- The language of one definition: as that of queries, but that a text of it is one definition.
-abbrev pub one_definition : Language DefinitionTree
-one_definition = record {
-  grammar = queries.grammar;
+-- The language of one definition: as that of documents, but that a text of it is one definition.
+abbrev pub one_definition_of : Language DocumentTree → Language DefinitionTree
+one_definition_of l = record {
+  grammar = l.grammar;
   document = definition_symbol;
   means = definition_of;
   erase = erase_definition;
-  lacks = queries.lacks;
-  refuses = queries.refuses;
-  second_rows = queries.second_rows;
-  changes = queries.changes;
+  lacks = l.lacks;
+  refuses = l.refuses;
+  second_rows = l.second_rows;
+  changes = l.changes;
 }
+
+abbrev pub one_definition : Language DefinitionTree
+one_definition = one_definition_of queries
 
 -- the text from the item after the first n tokens on: after those tokens and the ignored text that follows the last of them
 abbrev pub text_after : ℕ → List Item → List ℕ → List ℕ
 text_after n items text = drop (next_place (drop n items)).offset text
 
--- these tokens begin with a definition of this shape, and then these are left
-abbrev pub BeginsWith : List Token → Shape → List Token → Type 0
-BeginsWith tokens x others = Fits query (Sym definition_symbol) x × (tokens ≡ leaves x ++ others)
+module _ (l : Language DefinitionTree) where
+  -- these tokens begin with a definition of this shape, and then these are left
+  abbrev pub BeginsWithIn : List Token → Shape → List Token → Type 0
+  BeginsWithIn tokens x others = Fits l.grammar (Sym l.document) x × (tokens ≡ leaves x ++ others)
 
--- The tokens of the text begin with a definition that means d, and the rest is the text from the item after its last token on.
+  -- The tokens of the text begin with a definition that means d, and the rest is the text from the item after its last token on.
+  abbrev pub IsFirstIn : List ℕ → DefinitionTree × List ℕ → Type 0
+  IsFirstIn text (d, rest) =
+      (items : List Item) × HasItems text items × (x : Shape) × (others : List Token) × BeginsWithIn (split items).tokens x others
+      × (d ≡ l.means x) × (rest ≡ text_after (length (leaves x)) items text)
+
+abbrev pub BeginsWith : List Token → Shape → List Token → Type 0
+BeginsWith = BeginsWithIn one_definition
+
 abbrev pub IsFirstDefinition : List ℕ → DefinitionTree × List ℕ → Type 0
-IsFirstDefinition text (d, rest) =
-    (items : List Item) × HasItems text items × (x : Shape) × (others : List Token) × BeginsWith (split items).tokens x others
-    × (d ≡ definition_of x) × (rest ≡ text_after (length (leaves x)) items text)
+IsFirstDefinition = IsFirstIn one_definition
+
+-- the same of version 0.4.1
+abbrev pub IsFirstDefinition_0_4_1 : List ℕ → DefinitionTree × List ℕ → Type 0
+IsFirstDefinition_0_4_1 = IsFirstIn (one_definition_of queries_0_4_1)
 
 -- the first definition of the text means d, whatever stands after it
 abbrev pub BeginsWithDefinition : List ℕ → DefinitionTree → Type 0

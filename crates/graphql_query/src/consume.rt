@@ -9,9 +9,10 @@ ghost use Rattle.graphql_lexer.specs.Stream.{next_place};
 ghost use Rattle.graphql_values.specs.Document.{AnswersUnlessMemory};
 ghost use Rattle.graphql_values.specs.Faults.{IsLeastOf, IsRefusalOf, HasOneFaultEach};
 ghost use Rattle.graphql_query_tree.specs.Document.{IsDocumentOf};
+ghost use Rattle.graphql_query_tree.specs.Earlier.{HasNoNewPart};
 ghost use Rattle.graphql_query_tree.specs.Tree.{DefinitionTree, definition_view};
 ghost use Rattle.graphql_query.specs.FirstDefinition.{one_definition, text_after, BeginsWith, IsFirstDefinition, BeginsWithDefinition};
-ghost use Rattle.graphql_query.specs.FirstDefinition.{HasDefinitions};
+ghost use Rattle.graphql_query.specs.FirstDefinition.{IsFirstDefinition_0_4_1, HasDefinitions};
 ghost use Rattle.graphql_query.specs.steps.Reads.{TakesDefinition};
 
 use crate::error::ParseError;
@@ -71,6 +72,11 @@ pub fn consume_definition<'a, S: Text<'a>>(
     // A text that begins with a definition is answered it, unless an allocation fails.
     ensures complete { (r : DefinitionTree × List ℕ) → length source.now ≤ max_length → IsFirstDefinition source.now r
         → AnswersUnlessMemory (λ a. (definition_view S.Names.bytes a.0, a.1.now)) r result }
+
+    // The first definition of version 0.4.1 is answered as it was there, with the same rest, unless an allocation fails, and has none of the
+    // parts that are new since then.
+    ensures earlier { (r : DefinitionTree × List ℕ) → length source.now ≤ max_length → IsFirstDefinition_0_4_1 source.now r
+        → HasNoNewPart r.0 × AnswersUnlessMemory (λ a. (definition_view S.Names.bytes a.0, a.1.now)) r result }
 
     // A text has at most one first definition, and one rest after it.
     ensures one { (q r : DefinitionTree × List ℕ) → IsFirstDefinition source.now q → IsFirstDefinition source.now r → q ≡ r }

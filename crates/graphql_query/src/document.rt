@@ -1,18 +1,25 @@
 //! Whole documents.
-ghost use Rattle.std.specs.Prelude.{◌≡◌, ◌<◌, ◌≤◌, length, IfOk, IfErr, IsErrOf};
+ghost use Rattle.std.specs.Prelude.{◌≡◌, ◌*◌, ◌/◌, ◌<◌, ◌≤◌, ◌≤ℤ◌, pos, List, length, IfOk, IfErr, IsErrOf};
+ghost use Rattle.graphql_lexer.specs.Items.{HasItems, Item, depth_of};
+ghost use Rattle.graphql_lexer.specs.Stream.{next_place};
 ghost use Rattle.graphql_core.specs.declared.common.fault.Fault.TheVariants.{OutOfMemory};
 ghost use Rattle.graphql_query_tree.specs.Tree.{DocumentTree, document_view};
 ghost use Rattle.graphql_core.specs.Refusal.{max_length, too_long};
-ghost use Rattle.graphql_query_tree.specs.Document.{IsDocument, IsDocumentOf, IsRefusalOf};
+ghost use Rattle.graphql_core.specs.Source.{IsAtEnd, kept, split};
+ghost use Rattle.graphql_values.specs.Parsing.{ReadsDocument, ParsesStream};
+ghost use Rattle.graphql_query_tree.specs.Document.{queries, IsDocument, IsDocumentOf, IsRefusalOf};
 ghost use Rattle.graphql_query_tree.specs.Document.{AnswersUnlessMemory, IsLeastOf, HasNoFault, HasOneFaultEach, HasOneShape};
+ghost use Rattle.graphql_query_tree.specs.Earlier.{IsDocumentOf_0_4_1, HasNoNewParts};
 ghost use Rattle.graphql_query_tree.specs.Printable.{IsPrintable};
 
 use crate::error::ParseError;
 use crate::read::definitions;
 use graphql_core::common::{Fault, MAX_LENGTH, Text};
-use graphql_core::helpers::{Cursor, TokenSource, fault_of};
+use graphql_core::helpers::{Cursor, SpanSource, Spans, TokenSource, WIDE_TEXT, Width, fault_of};
+use graphql_core::tokenizer::TokenStream;
 use graphql_query_tree::tree::Document;
 use std::alloc::Global;
+use std::mem;
 
 /// The document that all items of a source are.
 pub fn read_document<S: TokenSource>(
@@ -27,6 +34,9 @@ pub fn read_document<S: TokenSource>(
         → IfErr result (λ e. e ≡ OutOfMemory) }
     // A refusal is the fault of least index of the items.
     ensures refused { IfErr result (IsLeastOf (S.items source.old)) }
+    // After a document the source is at its end. What else it has stays as it is.
+    ensures end { IfOk result (λ d. IsAtEnd (S.items source.new)) }
+    ensures kept { kept (S.items source.new) ≡ kept (S.items source.old) }
 {
     let definitions = match definitions(alloc, source) {
         Ok(definitions) => definitions,
@@ -36,6 +46,32 @@ pub fn read_document<S: TokenSource>(
         Ok(Document { definitions })
     } else {
         Err(source.fault(alloc))
+    }
+}
+
+/// The document of a text whose positions are of this width.
+fn read_spans<'a, S: Text<'a>, W: Width>(
+    alloc: Global,
+    source: &'a str,
+) -> Result<Document<S>, Fault>
+    requires small { length source.now ≤ usize.MAX / 16 }
+    requires narrow { 8 * length source.now < W.most }
+    ensures { (items : List Item) → HasItems source.now items → ReadsDocument queries (document_view S.Names.bytes) (split items) result }
+{
+    let spans: Spans<'a, W> = Spans::new(alloc, source)?;
+    let mut tokens: SpanSource<'a, '_, S, W> = spans.source();
+    read_document(alloc, &mut tokens)
+}
+
+/// The document of a text.
+fn read_text<'a, S: Text<'a>>(alloc: Global, source: &'a str) -> Result<Document<S>, Fault>
+    requires { length source.now ≤ usize.MAX / 16 }
+    ensures { (items : List Item) → HasItems source.now items → ReadsDocument queries (document_view S.Names.bytes) (split items) result }
+{
+    if source.len() < WIDE_TEXT {
+        read_spans::<S, u32>(alloc, source)
+    } else {
+        read_spans::<S, usize>(alloc, source)
     }
 }
 
@@ -58,6 +94,10 @@ pub fn parse_query<'a, S: Text<'a>>(
     ensures complete { (d : DocumentTree) → length source.now ≤ max_length → IsDocumentOf source.now d
         → AnswersUnlessMemory (document_view S.Names.bytes) d result }
 
+    // A document of version 0.4.1 is answered as it was there, unless an allocation fails, and has none of the parts that are new since then.
+    ensures earlier { (d : DocumentTree) → length source.now ≤ max_length → IsDocumentOf_0_4_1 source.now d
+        → HasNoNewParts d × AnswersUnlessMemory (document_view S.Names.bytes) d result }
+
     // The list of its tokens has at most one shape.
     ensures one_shape { HasOneShape source.now }
 
@@ -72,6 +112,27 @@ pub fn parse_query<'a, S: Text<'a>>(
     if source.len() > MAX_LENGTH {
         return Err(ParseError::text_too_long());
     }
-    let mut cursor: Cursor<'a, S> = Cursor::new(source);
-    Ok(read_document(alloc, &mut cursor)?)
+    Ok(read_text(alloc, source)?)
+}
+
+/// Parses what is left of a stream as a query document, from the item at which it stands on. As many brackets have to be
+/// closed before that item as were opened, or fewer.
+///
+/// The stream is asked for each item once at most. After a document it stands at its end; after an error it stands
+/// somewhere, and only its `cuts` is known. The errors are those of `parse_query`, but for `TextTooLong`.
+pub fn parse_query_from<'a, S: Text<'a>>(
+    alloc: Global,
+    stream: &mut TokenStream<'a>,
+) -> Result<Document<S>, ParseError>
+    requires { pos 0 ≤ℤ depth_of (next_place stream.old.items) }
+    // what is answered is derived, and what is derived is answered; a refusal is the fault of least index; each item is cut
+    // once; and more: `specs/Parsing.antt` of graphql_values says each
+    ensures parses { ParsesStream queries (document_view S.Names.bytes) stream.old stream.new result }
+    // what is answered can be printed
+    ensures printable { IfOk result (λ d. IsPrintable (document_view S.Names.bytes d)) }
+{
+    let mut cursor: Cursor<'a, S> = Cursor::over(mem::replace(stream, TokenStream::new("")));
+    let read = read_document(alloc, &mut cursor);
+    *stream = cursor.into_stream();
+    Ok(read?)
 }

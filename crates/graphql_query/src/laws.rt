@@ -1,9 +1,13 @@
 //! Laws of the definitions alone.
-ghost use Rattle.std.specs.Prelude.{◌≡◌, ℕ, List, Result};
+ghost use Rattle.std.specs.Prelude.{◌≡◌, ℕ, true, List, Result};
+ghost use Rattle.graphql_lexer.specs.Items.{Item};
+ghost use Rattle.graphql_core.specs.Causes.{is_unexpected};
 ghost use Rattle.graphql_core.specs.Minified.{IsMinified};
 ghost use Rattle.graphql_query_tree.specs.Tree.{DocumentTree};
-ghost use Rattle.graphql_core.specs.Source.{FaultText};
-ghost use Rattle.graphql_query_tree.specs.Document.{IsParsed, AreAlike, IsFirstFaultOf, IsLeastFaultOf};
+ghost use Rattle.graphql_core.specs.Source.{FaultText, split};
+ghost use Rattle.graphql_values.specs.Faults.{IsLeastFault, NoneGoesOn};
+ghost use Rattle.graphql_query.specs.FirstDefinition.{one_definition};
+ghost use Rattle.graphql_query_tree.specs.Document.{queries, IsParsed, AreAlike, IsFirstFaultOf, IsLeastFaultOf};
 ghost use Rattle.graphql_core.specs.Refusal.{Refusal};
 
 /// The fault of least index of a text is one, and it is the first: some document begins with the items before it, were
@@ -11,6 +15,16 @@ ghost use Rattle.graphql_core.specs.Refusal.{Refusal};
 pub fn least_faults_are_first()
     ensures one { (text : List ℕ) (f g : FaultText) → IsLeastFaultOf text f → IsLeastFaultOf text g → f ≡ g }
     ensures first { (text : List ℕ) (f : FaultText) → IsLeastFaultOf text f → IsFirstFaultOf text f }
+{}
+
+/// Where the fault of least index is an unexpected token or end, some list that the plain grammar derives begins with the
+/// items before it, and none with them and it. The plain grammar tests no leaf; the items are those of a text, or of what
+/// is left of a stream.
+pub fn none_goes_on_with_an_unexpected_item()
+    ensures documents { (items : List Item) (f : FaultText) → IsLeastFault queries (split items) f → is_unexpected f.cause ≡ true
+        → NoneGoesOn queries (split items) f }
+    ensures definitions { (items : List Item) (f : FaultText) → IsLeastFault one_definition (split items) f → is_unexpected f.cause ≡ true
+        → NoneGoesOn one_definition (split items) f }
 {}
 
 /// A minified text is parsed as its source is, but for positions: a document for a document, a refusal for a refusal.

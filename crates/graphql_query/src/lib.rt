@@ -9,14 +9,16 @@ mod minify;
 mod read;
 
 pub use consume::consume_definition;
-pub use document::parse_query;
+pub use document::{parse_query, parse_query_from};
 pub use error::ParseError;
 pub use graphql_core::common::{Names, Text};
 pub use graphql_query_tree::{
     brackets_are_those_of_the_layout, printed_documents_are_read_back, text_has_no_positions, tree,
     worked_examples,
 };
-pub use laws::{least_faults_are_first, minified_texts_are_parsed_alike};
+pub use laws::{
+    least_faults_are_first, minified_texts_are_parsed_alike, none_goes_on_with_an_unexpected_item,
+};
 pub use minify::{MinifyError, minify_query};
 
 /// A query document (October 2021, section 2.2).

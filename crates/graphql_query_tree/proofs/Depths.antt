@@ -52,7 +52,8 @@ mutual
 
 variable_definition_rises : (style : Layout) (v : VariableDefinitionTree) → Rises (variable_definition_brackets v) (variable_definition_layout style v)
 variable_definition_rises style v =
-    level_rises refl (level_rises refl (level_rises refl (gap_rises _ (both_rise (type_rises v.var_type) (default_rises style 0 v.default_value)))))
+    level_rises refl (level_rises refl (level_rises refl (gap_rises _ (both_rise (type_rises v.var_type)
+    (both_rise (default_rises style 0 v.default_value) (directives_rise style 0 v.directives))))))
 
 variable_definitions_rise : (style : Layout) (vs : List VariableDefinitionTree)
     → Rises (variable_definitions_brackets vs) (variable_definitions_layout style vs)

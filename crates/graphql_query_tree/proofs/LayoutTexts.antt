@@ -97,9 +97,10 @@ module _ {N T : Type 0} (bytes : T → List ℕ) where
 
 -- ---- layouts in the pieces that are written
 
-pub variable_definition_text : (n : List ℕ) (declared rest : List Part) → (((codes "$" ++ n) ++ codes ": ") ++ text_of declared)
-    ++ text_of rest ≡ text_of (mark (codes "$") ++ (name n ++ (mark (codes ":") ++ (gap (codes " ") ++ (declared ++ rest)))))
-variable_definition_text n declared rest = simp (text_append, append_assoc)
+pub variable_definition_text : (n : List ℕ) (declared default directives : List Part)
+    → ((((codes "$" ++ n) ++ codes ": ") ++ text_of declared) ++ text_of default) ++ text_of directives
+    ≡ text_of (mark (codes "$") ++ (name n ++ (mark (codes ":") ++ (gap (codes " ") ++ (declared ++ (default ++ directives))))))
+variable_definition_text n declared default directives = simp (text_append, append_assoc)
 
 pub fragment_definition_text : (n : List ℕ) (condition directives selected : List Part)
     → (((((codes "fragment " ++ n) ++ codes " ") ++ text_of condition) ++ text_of directives) ++ codes " ") ++ text_of selected

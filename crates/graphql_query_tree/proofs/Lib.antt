@@ -5,3 +5,5 @@ pub mod NoPositions
 pub mod Readable
 pub mod Unplaced
 pub mod WayBack
+pub mod OneText
+pub mod Earlier

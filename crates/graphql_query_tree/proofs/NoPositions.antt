@@ -32,9 +32,13 @@ mutual
   selections_alike style margin none = refl
   selections_alike style margin (more s ss) = ap₂ (λ a b. a ++ b) (selection_alike style margin s) (selections_alike style margin ss)
 
+variable_definition_alike : (style : Layout) (v : VariableDefinitionTree)
+    → variable_definition_layout style (erase_variable_definition v) ≡ variable_definition_layout style v
+variable_definition_alike style v = rw (directives_alike style 0 v.directives) refl
+
 variable_definitions_alike : (style : Layout) (vs : List VariableDefinitionTree)
     → variable_definitions_layout style (map erase_variable_definition vs) ≡ variable_definitions_layout style vs
-variable_definitions_alike style = in_parentheses_alike erase_variable_definition (variable_definition_layout style) (λ v. refl)
+variable_definitions_alike style = in_parentheses_alike erase_variable_definition (variable_definition_layout style) (variable_definition_alike style)
 
 operation_alike : (style : Layout) (o : OperationTree) → operation_layout style (erase_operation o) ≡ operation_layout style o
 operation_alike style o = rw (variable_definitions_alike style o.variables, directives_alike style 0 o.directives, selection_set_alike style 0 o.selected) refl

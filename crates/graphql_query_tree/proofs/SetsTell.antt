@@ -1,5 +1,5 @@
 -- What selection sets tell of the levels that are open, where arguments stand in one line: the rest opens one more at most.
-use Rattle.std.proofs.Common.{◌≡◌, ◌≤◌, ◌<◌, ◌+◌, ◌-◌, ◌*◌, ◌^◌, ℕ, zero, suc, min, max, refl, List, arith}
+use Rattle.std.proofs.Common.{◌≡◌, ◌≤◌, ◌<◌, ◌+◌, ◌-◌, ◌*◌, ◌^◌, ℕ, zero, suc, false, min, max, refl, List, arith}
 use Rattle.std.proofs.Math.Nat.{mul-le-mul_left, mul-le-mul_right}
 use Rattle.graphql_core.specs.Style.{Layout}
 use Rattle.graphql_values.specs.Values.{ValueTree, DirectiveTree}
@@ -29,11 +29,17 @@ braces_bounded n ds s inside style one_line =
     let selected = inside style one_line in
     omega (arith, directives, selected)
 
+variable_definition_bounded : (style : Layout) → style.multiline ≡ false → (v : VariableDefinitionTree) → variable_definition_levels style v ≤ 1
+variable_definition_bounded style one_line v =
+    let given = default_bounded style one_line v.default_value in
+    let directives = directives_bounded style one_line v.directives in
+    omega (arith, given, directives)
+
 pub operation_bounded : (n : ℕ) (vs : List VariableDefinitionTree) (ds : List DirectiveTree) (s : SelectionSetTree)
     → BoundsLevels n (λ style. selection_set_levels style s) → BoundsLevels n (λ style. operation_levels_of style vs ds s)
 operation_bounded n vs ds s inside style one_line =
     let variables : variable_definitions_levels style vs ≤ 1 =
-    most_bounded (variable_definition_levels style) 1 (λ v. let default = default_bounded style one_line v.default_value in omega (arith, default)) vs in
+    most_bounded (variable_definition_levels style) 1 (variable_definition_bounded style one_line) vs in
     let directives = directives_bounded style one_line ds in
     let selected = inside style one_line in
     let others = max (directives_levels style ds) (selection_set_levels style s) in

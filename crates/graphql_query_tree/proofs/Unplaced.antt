@@ -1,5 +1,5 @@
 -- What queries mean but for positions does not hang on places.
-use Rattle.std.proofs.Common.{◌≡◌, ◌∷◌, map, Some, refl, ap}
+use Rattle.std.proofs.Common.{◌≡◌, [], ◌∷◌, map, Some, refl, ap}
 use Rattle.graphql_grammar.specs.Tokens.{Token, Class, Spelled, AnyOf, Except, Place}
 use Rattle.graphql_grammar.specs.Trees.{Shape, Both, First, Second, More, Node, leaves, accepts}
 use Rattle.graphql_core.specs.Minified.{unplaced}
@@ -85,8 +85,16 @@ mutual
 -- ---- what definitions mean
 
 variable_definition_bare : (x : Shape) → erase_variable_definition (variable_definition_of (bare x)) ≡ erase_variable_definition (variable_definition_of x)
+variable_definition_bare (Node k (Both d (Both n (Both c (Both t (Both v ds)))))) =
+    λ i. record {
+      position = no_place;
+      name = spelling_bare n i;
+      var_type = type_bare t i;
+      default_value = optional_default_bare v i;
+      directives = directives_bare ds i;
+    }
 variable_definition_bare (Node k (Both d (Both n (Both c (Both t v))))) =
-    λ i. record { position = no_place; name = spelling_bare n i; var_type = type_bare t i; default_value = optional_default_bare v i }
+    λ i. record { position = no_place; name = spelling_bare n i; var_type = type_bare t i; default_value = optional_default_bare v i; directives = [] }
 variable_definition_bare _ = refl
 
 each_variable_definition_bare : (x : Shape)

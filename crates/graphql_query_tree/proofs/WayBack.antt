@@ -46,7 +46,7 @@ use Rattle.graphql_values.proofs.LeavesBack.{name_word, not_listed}
 use Rattle.graphql_values.proofs.TypesBack.{type_back}
 use Rattle.graphql_core.proofs.Back.{Back, Any, Takes, as_word_back, means, margin_back, gap_back, then_gap, word_back, mark_back, open_back}
 use Rattle.graphql_core.proofs.Back.{close_back, dots_back, nothing_back, both_back, first_back, second_back, node_back, stop_back, more_back, three_back}
-use Rattle.graphql_core.proofs.Back.{four_back, five_back, lift_back}
+use Rattle.graphql_core.proofs.Back.{four_back, five_back, six_back, lift_back}
 use Rattle.graphql_values.proofs.ValuesBack.{spaces_blank}
 use Rattle.graphql_values.proofs.ListsBack.{both_of_each, some_back, in_parentheses_back, document_back}
 use Rattle.graphql_query_tree.proofs.Readable.{tested_alike, written_goes_on}
@@ -165,11 +165,13 @@ module _ (style : Layout) where
   variable_definition_back : (v : VariableDefinitionTree) (d : ℕ) → IsPrintableVariable v → IsLawfulVariable v → d + variable_definition_brackets v ≤ 50
       → Back query (Sym variable_definition_symbol) false d (variable_definition_layout style v) true d
       (λ x. erase_variable_definition (variable_definition_of x) ≡ erase_variable_definition v)
-  variable_definition_back v d (is, type, default) law deep =
-      node_back (λ x. refl) (five_back
+  variable_definition_back v d (is, type, default, dir) (defaultlaw, dirlaw) deep =
+      node_back (λ x. refl) (six_back
       (mark_back (codes "$") (refl, refl) (λ p. refl)) (named_back v.name d is) (mark_back (codes ":") (refl, refl) (λ p. refl))
-      (gap_back refl (shared_back refl (type_back v.var_type d type (omega arith)))) (default_part v.default_value d default law (omega arith))
-      (λ x y z w k hx hy hz hw hk. λ i. record { position = no_place; name = hy i; var_type = hw i; default_value = hk i }))
+      (gap_back refl (shared_back refl (type_back v.var_type d type (omega arith)))) (default_part v.default_value d default defaultlaw (omega arith))
+      (dirs 0 v.directives d dir dirlaw (omega arith))
+      (λ x y z w k l hx hy hz hw hk hl. λ i.
+      record { position = no_place; name = hy i; var_type = hw i; default_value = hk i; directives = hl i }))
 
   variable_definitions_back : (vs : List VariableDefinitionTree) (d : ℕ) → AllByRecursion IsPrintableVariable vs → AllByRecursion IsLawfulVariable vs
       → d + variable_definitions_brackets vs ≤ 50

@@ -87,9 +87,10 @@ operation_body_rule = Then (optional name) (Then (optional (Sym variable_definit
 abbrev pub variable_definitions_rule : Expr
 variable_definitions_rule = Then (punctuator (codes "(")) (Then (some_of (Sym variable_definition_symbol)) (punctuator (codes ")")))
 
--- VariableDefinition = "$" Name ":" Type Default?
+-- VariableDefinition = "$" Name ":" Type Default? Directives
 abbrev pub variable_definition_rule : Expr
-variable_definition_rule = Then (punctuator (codes "$")) (Then name (Then (punctuator (codes ":")) (Then (Sym type_symbol) (optional (Sym default_symbol)))))
+variable_definition_rule = Then (punctuator (codes "$")) (Then name (Then (punctuator (codes ":"))
+    (Then (Sym type_symbol) (Then (optional (Sym default_symbol)) (Sym directives_symbol)))))
 
 -- SelectionSet = "{" Selection+ "}"
 abbrev pub selection_set_rule : Expr

@@ -22,7 +22,7 @@ abbrev mutual
   AreLawfulSelections (more s ss) = IsLawfulSelection s × AreLawfulSelections ss
 
 abbrev pub IsLawfulVariable : VariableDefinitionTree → Type 0
-IsLawfulVariable v = IfSome v.default_value IsLawful
+IsLawfulVariable v = IfSome v.default_value IsLawful × AreLawfulDirectives v.directives
 
 abbrev pub AreLawfulVariables : List VariableDefinitionTree → Type 0
 AreLawfulVariables = AllByRecursion IsLawfulVariable

@@ -71,7 +71,8 @@ default_layout style = lines.default_layout style 0
 
 abbrev pub variable_definition_layout : Layout → VariableDefinitionTree → List Part
 variable_definition_layout style v = mark (codes "$")
-    ++ (name v.name ++ (mark (codes ":") ++ (gap (codes " ") ++ (type_layout v.var_type ++ default_layout style v.default_value))))
+    ++ (name v.name ++ (mark (codes ":") ++ (gap (codes " ")
+    ++ (type_layout v.var_type ++ (default_layout style v.default_value ++ directives_layout style 0 v.directives)))))
 
 abbrev pub variable_definitions_layout : Layout → List VariableDefinitionTree → List Part
 variable_definitions_layout style = lines.in_parentheses (variable_definition_layout style)

@@ -1,4 +1,5 @@
 pub mod Document
+pub mod Earlier
 pub mod Examples
 pub mod Grammar
 pub mod Lawful

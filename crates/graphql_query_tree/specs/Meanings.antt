@@ -80,9 +80,12 @@ abbrev mutual
 
 -- a variable stands at its `$`
 abbrev pub variable_definition_of : Shape → VariableDefinitionTree
+variable_definition_of (Node k (Both d (Both n (Both c (Both t (Both v ds)))))) =
+    record { position = place_at d; name = spelling_at n; var_type = type_of t; default_value = optional_default_of v; directives = directives_of ds }
+-- as version 0.4.1 writes it, without directives
 variable_definition_of (Node k (Both d (Both n (Both c (Both t v))))) =
-    record { position = place_at d; name = spelling_at n; var_type = type_of t; default_value = optional_default_of v }
-variable_definition_of _ = record { position = nowhere; name = []; var_type = named []; default_value = None }
+    record { position = place_at d; name = spelling_at n; var_type = type_of t; default_value = optional_default_of v; directives = [] }
+variable_definition_of _ = record { position = nowhere; name = []; var_type = named []; default_value = None; directives = [] }
 
 abbrev pub each_variable_definition_of : Shape → List VariableDefinitionTree
 each_variable_definition_of (Both x xs) = variable_definition_of x ∷ each_variable_definition_of xs

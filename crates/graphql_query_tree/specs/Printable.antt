@@ -29,6 +29,7 @@ abbrev mutual
 
 abbrev pub IsPrintableVariable : VariableDefinitionTree → Type 0
 IsPrintableVariable v = IsName v.name × IsPrintableType v.var_type × IfSome v.default_value IsPrintableDefault
+    × AllByRecursion IsPrintableDirective v.directives
 
 abbrev pub IsPrintableOperation : OperationTree → Type 0
 IsPrintableOperation o = IfSome o.name IsName × AllByRecursion IsPrintableVariable o.variables × AllByRecursion IsPrintableDirective o.directives

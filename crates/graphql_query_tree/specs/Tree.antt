@@ -65,6 +65,7 @@ pub record VariableDefinitionTree : Type 0 where
   pub name : List ℕ
   pub var_type : TypeTree
   pub default_value : Option ValueTree
+  pub directives : List DirectiveTree
 
 pub record OperationTree : Type 0 where
   pub kind : OperationKind
@@ -140,6 +141,7 @@ module _ {N T : Type 0} (bytes : T → List ℕ) where
     name = bytes v.name;
     var_type = type_view bytes v.var_type;
     default_value = option_map (value_view bytes) v.default_value;
+    directives = directives_view bytes v.directives.items;
   }
 
   abbrev pub variable_definitions_view : List (VariableDefinition N T) → List VariableDefinitionTree
@@ -216,7 +218,13 @@ abbrev mutual
   erase_selections (more s ss) = more (erase_selection s) (erase_selections ss)
 
 abbrev pub erase_variable_definition : VariableDefinitionTree → VariableDefinitionTree
-erase_variable_definition v = record { position = no_place; name = v.name; var_type = v.var_type; default_value = v.default_value }
+erase_variable_definition v = record {
+  position = no_place;
+  name = v.name;
+  var_type = v.var_type;
+  default_value = v.default_value;
+  directives = erase_all v.directives;
+}
 
 abbrev pub erase_operation : OperationTree → OperationTree
 erase_operation o = record {

@@ -29,7 +29,7 @@ abbrev mutual
 -- ---- definitions
 
 abbrev pub variable_definition_depth : Weights → VariableDefinitionTree → ℕ
-variable_definition_depth w v = max (w.of_type v.var_type) (default_depth w v.default_value)
+variable_definition_depth w v = max (w.of_type v.var_type) (max (default_depth w v.default_value) (directives_depth w v.directives))
 
 abbrev pub variable_definitions_depth : Weights → List VariableDefinitionTree → ℕ
 variable_definitions_depth w = most_around w.around_definitions (variable_definition_depth w)

@@ -6,10 +6,11 @@ mod operation;
 mod selection;
 mod width;
 
-ghost use Rattle.std.specs.Prelude.{◌≡◌, ◌↔◌, IfOk, IsErrOf, string_bytes};
+ghost use Rattle.std.specs.Prelude.{◌≡◌, ◌↔◌, IfOk, OnOk, IsErrOf, string_bytes};
 ghost use Rattle.graphql_query_tree.specs.Document.{IsReadBack};
 ghost use Rattle.graphql_query_tree.specs.Printable.{IsPrintable};
-ghost use Rattle.graphql_query_tree.specs.Tree.{document_view};
+ghost use Rattle.graphql_query_tree.specs.Lawful.{IsLawfulDocument};
+ghost use Rattle.graphql_query_tree.specs.Tree.{DocumentTree, document_view, erase};
 ghost use Rattle.graphql_query_tree.specs.Layout.{layout, IsTooWide};
 
 use crate::print::width::is_document_too_wide;
@@ -29,6 +30,12 @@ impl<N: Names> Document<N> {
         // What can be printed is read back, but for positions.
         ensures read_back { IfOk result (λ text. IsPrintable (document_view N.bytes self.now)
             → IsReadBack (string_bytes text) (document_view N.bytes self.now)) }
+        // Each document that can be printed and has this text is this one, but for positions.
+        ensures one_document { IfOk result (λ text. IsPrintable (document_view N.bytes self.now)
+            → (e : DocumentTree) → IsPrintable e → IsLawfulDocument e → layout style.now e ≡ string_bytes text
+            → erase e ≡ erase (document_view N.bytes self.now)) }
+        // Its values are what their types say, so that laws of such documents speak of it.
+        ensures lawful { OnOk result (IsLawfulDocument (document_view N.bytes self.now)) }
         ensures too_wide { IsErrOf result FormatError.TooWide ↔ IsTooWide style.now (document_view N.bytes self.now) }
     {
         if is_document_too_wide(self, style) {

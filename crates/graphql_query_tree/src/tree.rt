@@ -109,6 +109,8 @@ pub struct VariableDefinition<N: Names> {
     pub var_type: Type<N>,
     /// The value where none is given.
     pub default_value: Option<Value<N>>,
+    /// The directives in order.
+    pub directives: Vec<Directive<N>>,
 }
 
 /// A fragment: selections under a name, of a type (section 2.8).

@@ -7,6 +7,7 @@ use Rattle.graphql_grammar.specs.Tokens.{Token, matches}
 use Rattle.graphql_grammar.specs.Trees.{Expr, Then, Many, Sym, Shape, Both, Node, optional, some_of}
 use Rattle.graphql_grammar.specs.Extended.{is_below}
 use Rattle.graphql_lexer.specs.Lexical.{IsName}
+use Rattle.graphql_core.specs.Source.{Items, split}
 use Rattle.graphql_core.proofs.NestingDepth.{Nests, Anything, nests, nests_tree}
 use Rattle.graphql_core.proofs.BracketRoom.{HasRoom, room_nothing, room_leaf, room_both, room_first, room_second, room_stop, room_more, room_node, has_room}
 use Rattle.graphql_core.proofs.BracketRoom.{room_back, all_turns}
@@ -29,7 +30,8 @@ use Rattle.graphql_values.specs.TreeDepth.{has_any}
 use Rattle.graphql_schema_tree.specs.Meanings.{each_of, enclosed_of, optional_list_of, marked_of, joined_of, present, input_value_of, field_of, enum_value_of}
 use Rattle.graphql_schema_tree.specs.Meanings.{interfaces_of, members_of, root_of, scalar_of, object_of, interface_of, union_of, enum_of, input_of, body_of}
 use Rattle.graphql_schema_tree.specs.Meanings.{location_at, locations_of, extension_of, described_of, item_of, document_of}
-use Rattle.graphql_schema_tree.specs.Language.{IsDocumentOf}
+use Rattle.graphql_values.specs.Document.{IsDocument}
+use Rattle.graphql_schema_tree.specs.Language.{schemas, IsDocumentOf}
 use Rattle.graphql_schema_tree.specs.Locations.{location_of}
 use Rattle.graphql_schema_tree.specs.Printable.{IsPrintableInputValue, IsPrintableField, IsPrintableEnumValue, IsPrintableBody, IsPrintableDefinition}
 use Rattle.graphql_schema_tree.specs.Printable.{IsWholeDefinition, input_value_brackets, field_brackets, enum_value_brackets, body_brackets}
@@ -246,7 +248,10 @@ document_printable (room_node (room_both f fs) c) =
     let (whole, d) = some_printable item_symbol item_of IsWholeDefinition nothing_open item_whole (room_both f fs) in
     record { definition = refl; names = are; definitions = whole; depth = b }
 
-pub printable : (text : List ℕ) (d : DocumentTree) → IsDocumentOf text d → IsPrintable d
-printable text d (items, has, (x, (fits, is), end, e)) =
-    let room = nests_tree x 50 Anything (subst (λ (ts : List Token). Nests ts 50 Anything) is (nests text items has)) in
+pub items_printable : (i : Items) (d : DocumentTree) → Nests i.tokens 50 Anything → IsDocument schemas i d → IsPrintable d
+items_printable i d nested (x, (fits, is), end, e) =
+    let room = nests_tree x 50 Anything (subst (λ (ts : List Token). Nests ts 50 Anything) is nested) in
     subst IsPrintable (sym e) (document_printable (has_room schema refl fits 50 Anything room))
+
+pub printable : (text : List ℕ) (d : DocumentTree) → IsDocumentOf text d → IsPrintable d
+printable text d (items, has, document) = items_printable (split items) d (nests text items has) document

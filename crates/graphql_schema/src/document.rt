@@ -1,21 +1,29 @@
 //! Whole documents.
-ghost use Rattle.std.specs.Prelude.{IfOk};
+ghost use Rattle.std.specs.Prelude.{◌≡◌, ◌*◌, ◌/◌, ◌<◌, ◌≤◌, ◌≤ℤ◌, pos, List, length, IfOk};
+ghost use Rattle.graphql_lexer.specs.Items.{HasItems, Item, depth_of};
+ghost use Rattle.graphql_lexer.specs.Stream.{next_place};
+ghost use Rattle.graphql_core.specs.Source.{IsAtEnd, kept, split};
 ghost use Rattle.graphql_schema_tree.specs.Views.{document_view};
 ghost use Rattle.graphql_schema_tree.specs.Printable.{IsPrintable};
 ghost use Rattle.graphql_schema_tree.specs.Language.{schemas};
-ghost use Rattle.graphql_values.specs.Parsing.{ReadsDocument, ParsesDocument};
+ghost use Rattle.graphql_values.specs.Parsing.{ReadsDocument, ParsesDocument, ParsesStream};
 
 use crate::error::ParseError;
 use crate::read::{Refusal, definitions};
 use graphql_core::common::{Cause, Fault, MAX_LENGTH, Text};
-use graphql_core::helpers::{Cursor, TokenSource, fault_of};
+use graphql_core::helpers::{Cursor, SpanSource, Spans, TokenSource, WIDE_TEXT, Width, fault_of};
+use graphql_core::tokenizer::TokenStream;
 use graphql_schema_tree::tree::Document;
 use graphql_values::read::halt::Halt;
 use std::alloc::Global;
+use std::mem;
 
 /// The document that all items of a source are.
 fn read_document<S: TokenSource>(alloc: Global, source: &mut S) -> Result<Document<S::Names>, Fault>
-    ensures { ReadsDocument schemas (document_view S.Names.bytes) (S.items source.old) result }
+    ensures reads { ReadsDocument schemas (document_view S.Names.bytes) (S.items source.old) result }
+    // After a document the source is at its end. What else it has stays as it is.
+    ensures end { IfOk result (λ d. IsAtEnd (S.items source.new)) }
+    ensures kept { kept (S.items source.new) ≡ kept (S.items source.old) }
 {
     let definitions = match definitions(alloc, source) {
         Ok(definitions) => definitions,
@@ -31,6 +39,32 @@ fn read_document<S: TokenSource>(alloc: Global, source: &mut S) -> Result<Docume
         Ok(Document { definitions })
     } else {
         Err(source.fault(alloc))
+    }
+}
+
+/// The document of a text whose positions are of this width.
+fn read_spans<'a, S: Text<'a>, W: Width>(
+    alloc: Global,
+    source: &'a str,
+) -> Result<Document<S>, Fault>
+    requires small { length source.now ≤ usize.MAX / 16 }
+    requires narrow { 8 * length source.now < W.most }
+    ensures { (items : List Item) → HasItems source.now items → ReadsDocument schemas (document_view S.Names.bytes) (split items) result }
+{
+    let spans: Spans<'a, W> = Spans::new(alloc, source)?;
+    let mut tokens: SpanSource<'a, '_, S, W> = spans.source();
+    read_document(alloc, &mut tokens)
+}
+
+/// The document of a text.
+fn read_text<'a, S: Text<'a>>(alloc: Global, source: &'a str) -> Result<Document<S>, Fault>
+    requires { length source.now ≤ usize.MAX / 16 }
+    ensures { (items : List Item) → HasItems source.now items → ReadsDocument schemas (document_view S.Names.bytes) (split items) result }
+{
+    if source.len() < WIDE_TEXT {
+        read_spans::<S, u32>(alloc, source)
+    } else {
+        read_spans::<S, usize>(alloc, source)
     }
 }
 
@@ -56,6 +90,27 @@ pub fn parse_schema<'a, S: Text<'a>>(
     if source.len() > MAX_LENGTH {
         return Err(ParseError::text_too_long());
     }
-    let mut cursor: Cursor<'a, S> = Cursor::new(source);
-    Ok(read_document(alloc, &mut cursor)?)
+    Ok(read_text(alloc, source)?)
+}
+
+/// Parses what is left of a stream as a schema document, from the item at which it stands on. As many brackets have to be
+/// closed before that item as were opened, or fewer.
+///
+/// The stream is asked for each item once at most. After a document it stands at its end; after an error it stands
+/// somewhere, and only its `cuts` is known. The errors are those of `parse_schema`, but for `TextTooLong`.
+pub fn parse_schema_from<'a, S: Text<'a>>(
+    alloc: Global,
+    stream: &mut TokenStream<'a>,
+) -> Result<Document<S>, ParseError>
+    requires { pos 0 ≤ℤ depth_of (next_place stream.old.items) }
+    // what is answered is derived, and what is derived is answered; a refusal is the fault of least index; each item is cut
+    // once; and more: `specs/Parsing.antt` of graphql_values says each
+    ensures parses { ParsesStream schemas (document_view S.Names.bytes) stream.old stream.new result }
+    // what is answered can be printed
+    ensures printable { IfOk result (λ d. IsPrintable (document_view S.Names.bytes d)) }
+{
+    let mut cursor: Cursor<'a, S> = Cursor::over(mem::replace(stream, TokenStream::new("")));
+    let read = read_document(alloc, &mut cursor);
+    *stream = cursor.into_stream();
+    Ok(read?)
 }

@@ -3,9 +3,10 @@
 
 mod document;
 mod error;
+mod laws;
 mod read;
 
-pub use document::parse_schema;
+pub use document::{parse_schema, parse_schema_from};
 pub use error::ParseError;
 pub use graphql_core::common::{Names, Text};
 pub use graphql_schema_tree::{
@@ -17,3 +18,4 @@ pub use graphql_schema_tree::{
     one_symbol_has_a_second_rule, printed_documents_are_read_back, text_has_no_positions, tree,
     worked_examples, worked_layouts, worked_refusals,
 };
+pub use laws::none_goes_on_with_an_unexpected_item;

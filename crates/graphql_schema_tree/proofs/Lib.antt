@@ -9,3 +9,4 @@ pub mod PartsBack
 pub mod WayBack
 pub mod PrintedTexts
 pub mod FewLevels
+pub mod OneText

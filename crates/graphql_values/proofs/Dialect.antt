@@ -8,6 +8,7 @@ pub use Rattle.graphql_grammar.specs.Factored.{written}
 pub use Rattle.graphql_grammar.proofs.SecondRules.{IsSecond-unchanged, IsSecond-head}
 pub use Rattle.graphql_lexer.specs.declared.tokenizer.token.Kind.TheVariants.{Name}
 pub use Rattle.graphql_core.specs.Causes.{empty_extension}
+pub use Rattle.graphql_core.specs.Source.{items_of_stream}
 pub use Rattle.graphql_values.specs.Grammar.{any, name}
 pub use Rattle.graphql_values.specs.Language.{reading}
 pub use Rattle.graphql_values.proofs.Readable.{IsReadable}
@@ -15,5 +16,6 @@ pub use Rattle.graphql_values.proofs.Reading.{takes_one, placed}
 pub use Rattle.graphql_values.proofs.Steps.{after_left, after_right, here, before, Pushes, pushes_none}
 pub use Rattle.graphql_values.proofs.Told.{IsTold, read_alike}
 pub use Rattle.graphql_values.proofs.Lifted.{some_lifted, stops_lifted}
-pub use Rattle.graphql_values.proofs.Parsing.{unread, parsed, unparsed, read_whole, read_stopped, read_refused, read_left}
+pub use Rattle.graphql_values.proofs.Whole.{from_stream}
+pub use Rattle.graphql_values.proofs.Parsing.{unread, parsed, unparsed, stream_parsed, stream_unparsed, read_whole, read_stopped, read_refused, read_left}
 pub use Rattle.graphql_values.proofs.Refusing.{node_stops, node_lacks, node_passes, node_refused, turn_done, turn_halts, turns_all}

@@ -1,7 +1,7 @@
 -- What a refusal says of the item at the index of a fault, and what follows of a text's faults.
-use Rattle.std.proofs.Common.{◌≡◌, ℕ, suc, Bool, true, false, List, [], ◌∷◌, ◌++◌, length, take, drop, Option, Some, None, is_some, refl, sym, ap, subst, ◌∙◌}
-use Rattle.std.proofs.Common.{arith}
-use Rattle.std.proofs.lemmas.List.{drop_at}
+use Rattle.std.proofs.Common.{◌≡◌, ℕ, suc, true, false, List, [], ◌∷◌, ◌++◌, length, take, drop, Option, Some, None, is_some, refl, sym, ap, subst, ◌∙◌}
+use Rattle.std.proofs.Common.{le_refl, arith}
+use Rattle.std.proofs.lemmas.List.{drop_at, drop_all}
 use Rattle.std.proofs.lemmas.Bool.{and_parts, both_ways}
 use Rattle.std.proofs.lemmas.Bool.Decides.{nat_tests}
 use Rattle.graphql_grammar.specs.Tokens.{Token, Class, AnyOf, matches}
@@ -9,20 +9,22 @@ use Rattle.graphql_grammar.specs.Trees.{Sym, Shape, Node, Grammar, Begins}
 use Rattle.graphql_grammar.specs.Reading.{Reason, Unexpected, Improper, Refused, unchecked, lax}
 use Rattle.graphql_grammar.specs.Texts as texts
 use Rattle.graphql_grammar.specs.Texts.{Answers, Answer}
-use Rattle.graphql_grammar.specs.Faults.{IsFault, leaf_refused, node_refused, IsLeast, index_of}
+use Rattle.graphql_grammar.specs.Faults.{IsFault, bad_place, leaf_refused, node_refused, IsLeast, index_of}
+use Rattle.graphql_grammar.specs.Faults.{unexpected as unexpected_item}
 use Rattle.graphql_grammar.proofs.FaultedFor.{one_node_for}
 use Rattle.graphql_lexer.specs.declared.tokenizer.token.Kind.TheVariants.{IntValue, FloatValue, StringValue}
 use Rattle.graphql_core.specs.Source.{Items, Last, End, Wrong, IsEnd, FaultText, fault_by, fault_at, place_next, split}
-use Rattle.graphql_core.specs.Causes.{CauseText, int_out_of_range, malformed_float, bad_escape}
-use Rattle.graphql_lexer.specs.Items.{Item}
+use Rattle.graphql_core.specs.Causes.{CauseText, int_out_of_range, malformed_float, bad_escape, is_unexpected}
+use Rattle.graphql_lexer.specs.Items.{Where, Item, item, Content, Lexeme}
+use Rattle.graphql_lexer.specs.Items as items_of
 use Rattle.graphql_lexer.proofs.OneCut.{items_unique}
 use Rattle.graphql_core.proofs.FloatLiterals.{literal_is_float}
 use Rattle.graphql_values.specs.Grammar.{any}
 use Rattle.graphql_values.specs.Leaves.{is_good, unquoted, without_ends}
 use Rattle.graphql_values.specs.Language.{Language, reading}
 use Rattle.graphql_values.specs.Document.{IsDocument}
-use Rattle.graphql_values.specs.Faults.{ending_of, text_of, HasNoValue, out_of_range, malformed, escaped_badly, Says, IsFaultAt, IsLeastFault}
-use Rattle.graphql_values.specs.Faults.{IsFaultOf, IsLeastFaultOf, HasOneFaultEach, HasNoFault, IsFaultAfter, unexpected, no_value, IsFirstFault}
+use Rattle.graphql_values.specs.Faults.{ending_of, text_of, HasNoValue, out_of_range, malformed, escaped_badly, Says, IsFaultAt, IsLeastFault, NoneGoesOn}
+use Rattle.graphql_values.specs.Faults.{IsFaultOf, IsLeastFaultOf, HasOneFaultAt, HasOneFaultEach, HasNoFault, IsFaultAfter, unexpected, no_value, IsFirstFault}
 use Rattle.graphql_values.specs.Faults.{IsFirstFaultOf}
 use Rattle.graphql_values.proofs.StringValues.{has_unquoted}
 use Rattle.graphql_values.proofs.LeafValues.{in_range, whole_exponent, in_quotes}
@@ -56,6 +58,25 @@ no_string t m h = escaped_badly (kind_is _ t m) (λ body is v value.
     let there : unquoted (without_ends 1 t.spelling) ≡ Some v = ap unquoted (in_quotes t.spelling body is) ∙ (has_unquoted body v).1 value in
     let none = none_there (unquoted (without_ends 1 t.spelling)) h in
     cc)
+
+-- a bad place is no unexpected item
+abbrev NotUnexpected : List Item → Type 0
+NotUnexpected is = ending_of (split is).last ≡ texts.Bad → is_unexpected (fault_by [] (split is).last).cause ≡ false
+
+last_not_by : (c : Content) (w : Where) (is : List Item) → NotUnexpected is → NotUnexpected (item c w ∷ is)
+last_not_by (Lexeme k bytes) w is h bad = h bad
+last_not_by items_of.End w is h bad = absurd cc
+last_not_by (items_of.Wrong b) w is h bad = refl
+
+last_not : (items : List Item) → NotUnexpected items
+last_not [] bad = absurd cc
+last_not (i ∷ is) bad = last_not_by i.content i.place is (last_not is) bad
+
+-- nor is a token without a value
+pub valueless_not : (t : Token) (k : CauseText) → HasNoValue t k → is_unexpected k ≡ false
+valueless_not t k (out_of_range e r) = refl
+valueless_not t k (malformed e r) = refl
+valueless_not t k (escaped_badly e r) = refl
 
 head_is : (t u : Token) (ts us : List Token) → t ∷ ts ≡ u ∷ us → u ≡ t
 head_is t u ts us h = cc
@@ -104,12 +125,14 @@ module _ {D : Type 0} (l : Language D) (r : IsReadable l) where
       i.tokens before us before' us' k x y refused refused' (sym at ∙ at') in
       r.one_said (Node k x) f g said (subst (λ (z : Shape). l.refuses (Node k z) g) (sym same) said')
 
+  pub one_at : (i : Items) → HasOneFaultAt l i
+  one_at i f g n (why, x, said) (other, y, said') =
+      let reason = (least l r).one_index (text_of i) why other n x y in
+      one_said why i n f g x said (subst (λ (q : Reason). Says l q i n g) (sym reason) said')
+
   pub one_each : (text : List ℕ) → HasOneFaultEach l text
-  one_each text f g n (items, has, (why, x, said)) (others, has', (other, y, said')) =
-      let same = subst (λ (is : List Item). IsFault l.grammar (Sym l.document) (text_of (split is)) other n) (items_unique text others items has' has) y in
-      let said_same = subst (λ (is : List Item). Says l other (split is) n g) (items_unique text others items has' has) said' in
-      let reason = (least l r).one_index (text_of (split items)) why other n x same in
-      one_said why (split items) n f g x said (subst (λ (q : Reason). Says l q (split items) n g) (sym reason) said_same)
+  one_each text f g n (items, has, fault) (others, has', other) =
+      one_at (split items) f g n fault (subst (λ (is : List Item). IsFaultAt l (split is) g n) (items_unique text others items has' has) other)
 
   pub one_least : (text : List ℕ) (f g : FaultText) → IsLeastFaultOf l text f → IsLeastFaultOf l text g → f ≡ g
   one_least text f g (items, has, (n, why, x, said)) (others, has', (m, other, y, said')) =
@@ -120,7 +143,7 @@ module _ {D : Type 0} (l : Language D) (r : IsReadable l) where
 
   -- ---- documents
 
-  no_fault_in : (i : Items) (d : D) (f : FaultText) (n : ℕ) → IsDocument l i d → IsFaultAt l i f n → ⊥
+  pub no_fault_in : (i : Items) (d : D) (f : FaultText) (n : ℕ) → IsDocument l i d → IsFaultAt l i f n → ⊥
   no_fault_in i d f n (x, derived, at_end, means) (why, fault, said) =
       let c = (whole l r).complete (text_of i) x derived (ends i.last at_end) in
       (least l r).tree (text_of i) c.0 c.1 why n fault
@@ -128,6 +151,32 @@ module _ {D : Type 0} (l : Language D) (r : IsReadable l) where
   pub no_fault : (text : List ℕ) (d : D) → HasNoFault l text d
   no_fault text d (items, has, document) f n (others, has', fault) =
       no_fault_in (split items) d f n document (subst (λ (is : List Item). IsFaultAt l (split is) f n) (items_unique text others items has' has) fault)
+
+  -- ---- an unexpected item
+
+  -- where no other fault has the cause of an unexpected item
+  module _
+      (leaves_not : (c : Class) (t : Token) (k : CauseText) → l.lacks c t k → is_unexpected k ≡ false)
+      (nodes_not : (node : Shape) (f : FaultText) → l.refuses node f → is_unexpected f.cause ≡ false)
+    where
+      none_at : (items : List Item) (f : FaultText) (n : ℕ) → is_unexpected f.cause ≡ true
+          → IsFault l.grammar (Sym l.document) (text_of (split items)) Unexpected n → Says l Unexpected (split items) n f → NoneGoesOn l (split items) f
+      none_at items f _ cause (bad_place bad) said =
+          let none : drop (length (split items).tokens) (split items).tokens ≡ [] = drop_all (length (split items).tokens) _ (le_refl _) in
+          let at_last : f ≡ fault_by [] (split items).last = said ∙ ap (λ (ts : List Token). fault_by ts (split items).last) none in
+          absurd (both_ways _ (ap (λ (g : FaultText). is_unexpected g.cause) at_last ∙ last_not items bad) cause)
+      none_at items f _ cause (unexpected_item front us parts end begins stops) said =
+          let here : drop (length front) (split items).tokens ≡ us = ap (drop (length front)) parts ∙ drop_at front us (length front) refl in
+          (front, us, parts, said ∙ ap (λ (ts : List Token). fault_by ts (split items).last) here, begins, stops)
+
+      none_by : (items : List Item) (f : FaultText) (n : ℕ) (why : Reason) → is_unexpected f.cause ≡ true
+          → IsFault l.grammar (Sym l.document) (text_of (split items)) why n → Says l why (split items) n f → NoneGoesOn l (split items) f
+      none_by items f n Unexpected cause fault said = none_at items f n cause fault said
+      none_by items f n (Improper c) cause fault (t, rest, is, lacks, at) = absurd (both_ways _ (leaves_not c t f.cause lacks) cause)
+      none_by items f n (Refused k) cause fault (before, us, x, refused, at, said) = absurd (both_ways _ (nodes_not (Node k x) f said) cause)
+
+      pub none_goes_on : (items : List Item) (f : FaultText) → IsLeastFault l (split items) f → is_unexpected f.cause ≡ true → NoneGoesOn l (split items) f
+      none_goes_on items f (n, why, least_one, said) cause = none_by items f n why cause least_one.0 said
 
   -- ---- the least is the first, where no node is refused
 

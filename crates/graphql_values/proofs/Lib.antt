@@ -43,3 +43,4 @@ pub mod Refusing
 pub mod Dialect
 pub mod NoPositions
 pub mod Seen
+pub mod Growing

@@ -1,5 +1,5 @@
 -- What functions answer that read a whole document, by what their readers give.
-use Rattle.std.proofs.Common.{◌≡◌, ◌<◌, ◌≤◌, ◌↔◌, ℕ, Bool, true, false, List, [], length, Result, Ok, Err, IsErrAnd, refl, sym, ap, subst, ◌∙◌, arith}
+use Rattle.std.proofs.Common.{◌≡◌, ◌<◌, ◌≤◌, ◌↔◌, ℕ, Bool, true, false, List, [], ◌∷◌, length, Result, Ok, Err, IsErrAnd, refl, sym, ap, subst, ◌∙◌, arith}
 use Rattle.std.proofs.lemmas.Bool.{false≢true}
 use Rattle.std.specs.Prelude.{IsTrue}
 use Rattle.graphql_grammar.specs.Trees.{Shape, Node}
@@ -10,17 +10,20 @@ use Rattle.graphql_core.specs.declared.common.cause.Cause.{Cause}
 use Rattle.graphql_core.specs.declared.helpers.stop.Stop.{Stop}
 use Rattle.graphql_lexer.specs.declared.position.Pos.{Pos}
 use Rattle.graphql_core.specs.Causes.{cause_text}
-use Rattle.graphql_core.specs.Source.{Items, IsAtEnd, IsFaultOf, kept, place_of}
+use Rattle.graphql_lexer.specs.Items.{Content, Lexeme, End, Wrong, Where, Item, item, Stream}
+use Rattle.graphql_lexer.specs.Stream.{last_alone, asked_once}
+use Rattle.graphql_core.specs.Source.{Items, Last, IsEnd, IsAtEnd, IsFaultOf, split, only_last, items_of_stream, kept, place_of}
 use Rattle.graphql_core.specs.steps.Stops.{IsFaultFor}
 use Rattle.graphql_core.specs.Refusal.{Refusal, refusal_of, max_length, too_long}
 use Rattle.graphql_values.specs.declared.read.halt.Halt.TheVariants.{Stopped, Refused}
 use Rattle.graphql_values.specs.Language.{Language, document_rule}
-use Rattle.graphql_values.specs.Faults.{IsLeastFault, IsRefusalOf, past_bound}
-use Rattle.graphql_values.specs.Parsing.{ReadsDocument, ParsesDocument}
+use Rattle.graphql_values.specs.Document.{IsDocument}
+use Rattle.graphql_values.specs.Faults.{IsLeastFault, IsRefusalFor, IsRefusalOf, past_bound}
+use Rattle.graphql_values.specs.Parsing.{ReadsDocument, ParsesDocument, ParsesStream}
 use Rattle.graphql_values.specs.Refusing.{Refusals, Reads}
-use Rattle.graphql_values.proofs.Faults.{one_each, no_fault}
+use Rattle.graphql_values.proofs.Faults.{one_at, one_each, no_fault_in, no_fault}
 use Rattle.graphql_values.proofs.Readable.{IsReadable}
-use Rattle.graphql_values.proofs.Whole.{AreItems, one_document, one_shape, text_document, items_document, refusal, answers_unless_memory, exit}
+use Rattle.graphql_values.proofs.Whole.{AreItems, one_document, one_shape_for, one_shape, text_document, items_document, refusal_for, refusal, answers_unless_memory, exit}
 use Rattle.graphql_values.proofs.Whole.{found, memory_only, least_stop, none_refused, least_refused, none_rest, least_left}
 
 module _ {D V : Type 0} (l : Language D) (r : IsReadable l) (view : V → D) (text : List ℕ) where
@@ -59,6 +62,78 @@ module _ {D V : Type 0} (l : Language D) (r : IsReadable l) (view : V → D) (te
       one_fault = one_each l r text;
       no_fault = no_fault l r text;
     }
+
+-- ---- of what is left of a stream
+
+-- the last item alone has no token, and is the last
+abbrev HasOnlyLast : List Item → Type 0
+HasOnlyLast is = split (last_alone is) ≡ only_last (split is).last
+
+alone_by : (c : Content) (w : Where) (is : List Item) → HasOnlyLast is → HasOnlyLast (item c w ∷ is)
+alone_by (Lexeme k bytes) w is h = h
+alone_by End w is h = refl
+alone_by (Wrong b) w is h = refl
+
+alone : (items : List Item) → HasOnlyLast items
+alone [] = refl
+alone (i ∷ is) = alone_by i.content i.place is (alone is)
+
+-- old is the stream before and new after; its source had i, and had j left
+module _
+    {D V : Type 0}
+    (l : Language D)
+    (r : IsReadable l)
+    (view : V → D)
+    (old new : Stream)
+    (i j : Items)
+    (from : i ≡ items_of_stream old)
+    (last : kept j ≡ kept i)
+    (within : new.cuts ≤ j.spent.cuts)
+  where
+    kept_of : kept j ≡ kept (items_of_stream old)
+    kept_of = last ∙ ap kept from
+
+    spent : j.spent ≡ asked_once old
+    spent = ap (λ (k : Last × Stream). k.1) kept_of
+
+    cut_within : new.cuts ≤ (asked_once old).cuts
+    cut_within = subst (λ (s : Stream). new.cuts ≤ s.cuts) spent within
+
+    pub stream_parsed : (v : V) → ReadsDocument l view i (Ok v) → (j.tokens ≡ [] → new ≡ j.spent) → IsAtEnd j → ParsesStream l view old new (Ok v)
+    stream_parsed v h all (none, end) =
+        let derived : IsDocument l (split old.items) (view v) = subst (λ (k : Items). IsDocument l k (view v)) from h.derived in
+        let same : new ≡ asked_once old = all none ∙ spent in
+        let at_end : IsEnd (split old.items).last = subst IsEnd (ap (λ (k : Last × Stream). k.0) kept_of) end in
+        let items : split new.items ≡ only_last (split old.items).last = ap (λ (s : Stream). split s.items) same ∙ alone old.items in
+        record {
+          derived = derived;
+          complete = λ d k. one_document l r (split old.items) (view v) d derived k;
+          one_shape = one_shape_for l r (split old.items);
+          refused = tt;
+          one_fault = one_at l r (split old.items);
+          no_fault = λ d k f n. no_fault_in l r (split old.items) d f n k;
+          cut_once = cut_within;
+          cut_all = same;
+          ended = subst IsAtEnd (sym items) (refl, at_end);
+        }
+
+    pub stream_unparsed : (e : Fault) (x : Result V Refusal) → ReadsDocument l view i (Err e) → IsErrAnd x (λ y. y ≡ refusal_of e)
+        → ParsesStream l view old new x
+    stream_unparsed e (Ok v) h up = absurd up
+    stream_unparsed e (Err y) h up =
+        let known : ReadsDocument l view (items_of_stream old) (Err e) = subst (λ (k : Items). ReadsDocument l view k (Err e)) from h in
+        record {
+          derived = tt;
+          complete = λ d k. answers_unless_memory view d (Err y) e up (known.complete d k);
+          one_shape = one_shape_for l r (split old.items);
+          refused = exit {D = V} (Err y) (refusal_of e) (IsRefusalFor l (split old.items)) up
+              (refusal_for l (asked_once old) (split old.items) e known.refused);
+          one_fault = one_at l r (split old.items);
+          no_fault = λ d k f n. no_fault_in l r (split old.items) d f n k;
+          cut_once = cut_within;
+          cut_all = tt;
+          ended = tt;
+        }
 
 -- of a source that a reader left at j
 module _ {D V A R : Type 0} (l : Language D) (r : IsReadable l) (w : Refusals R) (view : V → D) (i j : Items) (P : A → Shape → Type 0) where

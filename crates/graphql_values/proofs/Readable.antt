@@ -3,11 +3,11 @@ use Rattle.std.proofs.Common.{◌≡◌, ℕ, true, false, List, [], ◌∷◌, 
 use Rattle.graphql_grammar.specs.Tokens.{Token, Class, AnyOf}
 use Rattle.graphql_grammar.specs.Trees.{Expr, Sym, Shape, Row, Grammar, peek}
 use Rattle.graphql_grammar.specs.Tables.{nullable, first, is_ll1, is_tight, is_productive, decides, has_samples}
-use Rattle.graphql_grammar.specs.Reading.{sees, Unexpected, Refused, Fails, unchecked, lax}
+use Rattle.graphql_grammar.specs.Reading.{sees, Unexpected, Fails, unchecked, lax}
 use Rattle.graphql_grammar.specs.Theorems.{IsExact}
 use Rattle.graphql_grammar.specs.Factored.{Change, unchanged, AreSecond, EachIsSecond, with_rows, IsExactFor}
 use Rattle.graphql_grammar.specs.Texts.{IsWhole, IsWholeFor}
-use Rattle.graphql_grammar.specs.Faults.{IsFault, AnswersLeast, RefusesTokens}
+use Rattle.graphql_grammar.specs.Faults.{AnswersLeast, RefusesTokens}
 use Rattle.graphql_grammar.specs.Extended.{Extends, LeavesAlone}
 use Rattle.graphql_grammar.proofs.SecondRules.{IsSecond-unchanged, exact_for, whole_for}
 use Rattle.graphql_grammar.proofs.FaultedFor.{least_for, refuses_tokens_for}
@@ -15,11 +15,11 @@ use Rattle.graphql_grammar.proofs.Exact as theory
 use Rattle.graphql_grammar.proofs.WholeTexts as whole_theory
 use Rattle.graphql_grammar.proofs.Unseen as theory_of_unseen
 use Rattle.graphql_core.specs.Causes.{CauseText, unknown_location}
-use Rattle.graphql_core.specs.Source.{Items, FaultText}
+use Rattle.graphql_core.specs.Source.{FaultText}
 use Rattle.graphql_values.specs.Leaves.{is_good}
 use Rattle.graphql_values.specs.Grammar.{shared, shared_symbols, location_class}
 use Rattle.graphql_values.specs.Language.{Language, reading}
-use Rattle.graphql_values.specs.Faults.{text_of, HasNoValue, out_of_range, malformed, escaped_badly}
+use Rattle.graphql_values.specs.Faults.{HasNoValue, out_of_range, malformed, escaped_badly}
 
 -- ---- tokens without a value
 

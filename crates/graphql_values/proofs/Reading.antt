@@ -168,6 +168,10 @@ module _ {V A : Type 0} (f : V → A) where
   pub adds_one : (found next : List V) (v : V) (x : A) → next ≡ found ++ v ∷ [] → f v ≡ x → Adds f found next (x ∷ [])
   adds_one found next v x push one = ap (map f) push ∙ map_push f found v ∙ ap (λ (t : A). map f found ++ t ∷ []) one
 
+  -- room is made first
+  pub adds_reserved : (found spare next : List V) (v : V) (x : A) → spare ≡ found → next ≡ spare ++ v ∷ [] → f v ≡ x → Adds f found next (x ∷ [])
+  adds_reserved found spare next v x same push one = adds_one found next v x (push ∙ ap (λ l. l ++ v ∷ []) same) one
+
   pub adds_more : (start found next : List V) (xs ys : List A) → Adds f start found xs → Adds f found next ys → Adds f start next (xs ++ ys)
   adds_more start found next xs ys so_far more = more ∙ ap (λ (l : List A). l ++ ys) so_far ∙ append_assoc (map f start) xs ys
 

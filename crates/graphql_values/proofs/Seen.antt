@@ -1,5 +1,5 @@
 -- Lists of trees, each of which is seen as another.
-use Rattle.std.proofs.Common.{◌≡◌, ◌+◌, ◌<◌, ◌++◌, ◌∙◌, [], ◌∷◌, ap, sym, refl, codes, ℕ, List, length, map, max, append_assoc, arith}
+use Rattle.std.proofs.Common.{◌≡◌, ◌<◌, ◌++◌, ◌∙◌, [], ◌∷◌, ap, sym, refl, codes, ℕ, List, length, map, max, append_assoc, arith}
 use Rattle.std.specs.List.{AllByRecursion, flat_map}
 use Rattle.graphql_core.specs.Parts.{Part, text_of}
 use Rattle.graphql_values.specs.Lines.{each_after, later, separated, after_commas, in_parentheses}

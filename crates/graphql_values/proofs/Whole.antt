@@ -16,18 +16,19 @@ use Rattle.graphql_core.specs.declared.common.fault.Fault.TheVariants.{OutOfMemo
 use Rattle.graphql_core.specs.declared.helpers.stop.Stop.{Stop}
 use Rattle.graphql_core.specs.declared.helpers.stop.Stop.TheVariants.{Memory, Item, Integer, Float, Escape, Location}
 use Rattle.graphql_core.specs.Source.{Items, Last, End, Wrong, IsEnd, IsAtEnd, IsFaultOf, FaultText, kept, fault_at, place_of, place_next, split}
+use Rattle.graphql_core.specs.Source.{items_of_text, spending, tokens_then}
 use Rattle.graphql_core.specs.steps.Stops.{IsCauseHere, IsFaultFor}
 use Rattle.graphql_core.specs.Causes.{CauseText, cause_text}
 use Rattle.graphql_lexer.specs.Items.{HasItems, start}
 use Rattle.graphql_lexer.specs.Items as items_of
+use Rattle.graphql_lexer.specs.Stream.{asked_once}
 use Rattle.graphql_lexer.specs.steps.Cut.{items}
-use Rattle.graphql_lexer.proofs.OneCut.{has_items}
+use Rattle.graphql_lexer.proofs.OneCut.{has_items, items_unique}
 use Rattle.graphql_core.specs.Refusal.{Refusal, max_length, refusal_of}
 use Rattle.graphql_values.specs.steps.Answers.{reason_of}
-use Rattle.graphql_values.specs.Leaves.{is_good}
 use Rattle.graphql_values.specs.Language.{Language, reading, document_rule}
-use Rattle.graphql_values.specs.Document.{IsDocument, IsDocumentOf, AnswersUnlessMemory, HasOneShape}
-use Rattle.graphql_values.specs.Faults.{ending_of, text_of, IsLeastFault, IsLeastOf, IsRefusalOf, ran_out, faulty}
+use Rattle.graphql_values.specs.Document.{IsDocument, IsDocumentOf, AnswersUnlessMemory, HasOneShape, HaveOneShape}
+use Rattle.graphql_values.specs.Faults.{ending_of, text_of, Says, IsLeastFault, IsLeastOf, IsRefusalFor, none_left, shown, IsRefusalOf, ran_out, faulty}
 use Rattle.graphql_values.proofs.Readable.{IsReadable, exact, exact_lax, whole, least, exact_reading, whole_reading}
 use Rattle.graphql_values.proofs.Faults.{ends, Lacks, Misses, no_integer, no_float, no_string, unexpected_here, no_value_here}
 
@@ -49,9 +50,21 @@ pub answers_unless_memory : {V D : Type 0} (view : V → D) (d : D) (r : Result 
 answers_unless_memory view d (Ok v) e h m = absurd h
 answers_unless_memory view d (Err y) e h m = h ∙ ap refusal_of m
 
--- these are the items of the text
+-- these are the items of the text, whatever stream they are read of
 abbrev pub AreItems : List ℕ → Items → Type 0
-AreItems text i = (items : List items_of.Item) → HasItems text items → i ≡ split items
+AreItems text i = (items : List items_of.Item) → HasItems text items → (s : items_of.Stream) × (i ≡ spending s (split items))
+
+-- those that are read of a stream of it
+pub from_stream : (text : List ℕ) (i : Items) → ((items : List items_of.Item) → HasItems text items → i ≡ items_of_text items) → AreItems text i
+from_stream text i are found has = (asked_once (record { items = found; cuts = 0 }), are found has)
+
+-- those that are cut before they are read
+pub cut_first : (text : List ℕ) → AreItems text (split (items start text))
+cut_first text found has = ((split found).spent, ap split (items_unique text _ _ (has_items text) has))
+
+-- what is kept has the last item
+last_kept : (i j : Items) → kept j ≡ kept i → j.last ≡ i.last
+last_kept i j h = ap (λ (k : Last × items_of.Stream). k.0) h
 
 module _ {D : Type 0} (l : Language D) (r : IsReadable l) where
   -- the answer to i is a fault at its item where j is left
@@ -69,8 +82,7 @@ module _ {D : Type 0} (l : Language D) (r : IsReadable l) where
 
   -- a reader that is done before the end
   at_rest : (i : Items) (us : List Token) (last : Last) (x : Shape) → Takes (reading l) (document_rule l) i.tokens x us → last ≡ i.last
-      → (IsAtEnd (record { tokens = us; last = last }) → ⊥)
-      → IsWrong Unexpected i (record { tokens = us; last = last })
+      → (IsAtEnd (tokens_then us last) → ⊥) → IsWrong Unexpected i (tokens_then us last)
   at_rest i (u ∷ us) last x h e other = (Done (Node l.document x) (u ∷ us), node_taken h, refl)
   at_rest i [] (End p) x h e other = absurd (other (refl, tt))
   at_rest i [] (Wrong p b) x h e other = (Done (Node l.document x) [], node_taken h, bad (ending_of i.last) (ap ending_of e))
@@ -88,12 +100,12 @@ module _ {D : Type 0} (l : Language D) (r : IsReadable l) where
     left = dropped front i.tokens j.tokens parts
 
     unexpected_left : IsWrong Unexpected i j → f ≡ fault_at j → IsLeastFault l i f
-    unexpected_left a h = unexpected_here l r i j _ left (sym last) f ((least l r).wrong (text_of i) Unexpected _ a) h
+    unexpected_left a h = unexpected_here l r i j _ left (sym (last_kept i j last)) f ((least l r).wrong (text_of i) Unexpected _ a) h
 
     no_value_left : (c : Class) (k : CauseText) → Misses l r c k → IsWrong (Improper c) i j → f.cause ≡ k → f.place ≡ place_next j
         → IsLeastFault l i f
     no_value_left c k lacks a cause place =
-        no_value_here l r i j _ left (sym last) f c k lacks ((least l r).wrong (text_of i) (Improper c) _ a) cause place
+        no_value_here l r i j _ left (sym (last_kept i j last)) f c k lacks ((least l r).wrong (text_of i) (Improper c) _ a) cause place
 
   -- ---- no document is refused
 
@@ -174,23 +186,23 @@ module _ {D : Type 0} (l : Language D) (r : IsReadable l) where
         ),
       )
 
-  pub none_rest : (i j : Items) (d : D) (x : Shape) → Takes (reading l) (document_rule l) i.tokens x j.tokens → j.last ≡ i.last → (IsAtEnd j → ⊥)
+  pub none_rest : (i j : Items) (d : D) (x : Shape) → Takes (reading l) (document_rule l) i.tokens x j.tokens → kept j ≡ kept i → (IsAtEnd j → ⊥)
       → IsDocument l i d → ⊥
-  none_rest i j d x h last other = none_wrong Unexpected i j d (at_rest i j.tokens j.last x h last other)
+  none_rest i j d x h last other = none_wrong Unexpected i j d (at_rest i j.tokens j.last x h (last_kept i j last) other)
 
   pub least_left : (i j : Items) (e : Fault) (x : Shape) → Takes (reading l) (document_rule l) i.tokens x j.tokens → kept j ≡ kept i → (IsAtEnd j → ⊥)
       → IsFaultOf j e → IsLeastOf l i e
   least_left i j OutOfMemory x h last other s = tt
   least_left i j (At c p) x h last other s =
       let first = (exact_reading l r).sound i.tokens j.tokens (Node l.document x) (node_taken h) in
-      unexpected_left i j _ first.1 last _ (at_rest i j.tokens j.last x h last other) s
+      unexpected_left i j _ first.1 last _ (at_rest i j.tokens j.last x h (last_kept i j last) other) s
 
   -- ---- what is answered
 
-  pub found : (i j : Items) (d : D) (x : Shape) → Takes (reading l) (document_rule l) i.tokens x j.tokens → j.last ≡ i.last → IsAtEnd j
+  pub found : (i j : Items) (d : D) (x : Shape) → Takes (reading l) (document_rule l) i.tokens x j.tokens → kept j ≡ kept i → IsAtEnd j
       → d ≡ l.means (written l.changes (Node l.document x)) → IsDocument l i d
   found i j d x h last at_end means =
-      let e = sym (ap ending_of (sym last) ∙ ends j.last at_end.1) in
+      let e = sym (ap ending_of (sym (last_kept i j last)) ∙ ends j.last at_end.1) in
       let taken = node_taken (subst (λ (us : List Token). Takes (reading l) (document_rule l) i.tokens x us) at_end.0 h) in
       let s = (whole l r).sound (text_of i) (Node l.document x) (Done (Node l.document x) [], taken, answer (ending_of i.last) e) in
       (written l.changes (Node l.document x), s.0, ended i.last s.1, means)
@@ -204,25 +216,45 @@ module _ {D : Type 0} (l : Language D) (r : IsReadable l) where
   one_document i d e (x, derived, at_end, means) (y, derived', at_end', means') =
       means ∙ ap l.means ((exact l r).unambiguous i.tokens x y derived derived') ∙ sym means'
 
+  pub one_shape_for : (i : Items) → HaveOneShape l i
+  one_shape_for i x y = (exact_lax l r).unambiguous i.tokens x y
+
   -- ---- of texts
 
   pub one_shape : (text : List ℕ) → HasOneShape l text
-  one_shape text items x y h = (exact_lax l r).unambiguous (split items).tokens x y
+  one_shape text items x y h = one_shape_for (split items) x y
 
 -- ---- from the items of a text to the text
 
 module _ {D : Type 0} (l : Language D) where
+  -- of which stream the items are read plays no part
+  said_spent : (why : Reason) (s : items_of.Stream) (i : Items) (n : ℕ) (f : FaultText) → Says l why (spending s i) n f → Says l why i n f
+  said_spent Unexpected s i n f h = h
+  said_spent (Improper c) s i n f h = h
+  said_spent (Refused k) s i n f h = h
+
+  least_spent : (s : items_of.Stream) (i : Items) (f : FaultText) → IsLeastFault l (spending s i) f → IsLeastFault l i f
+  least_spent s i f (n, why, least_one, said) = (n, why, least_one, said_spent why s i n f said)
+
+  pub refusal_for : (s : items_of.Stream) (i : Items) (e : Fault) → IsLeastOf l (spending s i) e → IsRefusalFor l i (refusal_of e)
+  refusal_for s i OutOfMemory h = none_left
+  refusal_for s i (At c p) h =
+      let f : FaultText = record { cause = cause_text c; place = place_of p } in
+      shown f (least_spent s i f h)
+
   pub text_document : (text : List ℕ) (i : Items) (d : D) → AreItems text i → IsDocument l i d → IsDocumentOf l text d
   text_document text i d are h =
       let has = has_items text in
-      (items start text, has, subst (λ (j : Items). IsDocument l j d) (are (items start text) has) h)
+      (items start text, has, subst (λ (j : Items). IsDocument l j d) (are (items start text) has).1 h)
 
   pub items_document : (text : List ℕ) (i : Items) (d : D) → AreItems text i → IsDocumentOf l text d → IsDocument l i d
-  items_document text i d are (items, has, h) = subst (λ (j : Items). IsDocument l j d) (sym (are items has)) h
+  items_document text i d are (items, has, h) = subst (λ (j : Items). IsDocument l j d) (sym (are items has).1) h
 
   pub refusal : (text : List ℕ) (i : Items) (e : Fault) → length text ≤ max_length → AreItems text i → IsLeastOf l i e → IsRefusalOf l text (refusal_of e)
   refusal text i OutOfMemory bound are h = ran_out
   refusal text i (At c p) bound are h =
       let has = has_items text in
       let f : FaultText = record { cause = cause_text c; place = place_of p } in
-      faulty f bound (items start text, has, subst (λ (j : Items). IsLeastFault l j f) (are (items start text) has) h)
+      let cut = items start text in
+      let (s, is) = are cut has in
+      faulty f bound (cut, has, least_spent s (split cut) f (subst (λ (j : Items). IsLeastFault l j f) is h))

@@ -30,6 +30,11 @@ module _ {D : Type 0} (l : Language D) where
   HasOneShape text = (items : List Item) (x y : Shape) → HasItems text items
       → Derives (lax l.grammar) (Sym l.document) (split items).tokens x → Derives (lax l.grammar) (Sym l.document) (split items).tokens y → x ≡ y
 
+  -- the tokens of the items have at most one shape, also where such leaves are let through
+  abbrev pub HaveOneShape : Items → Type 0
+  HaveOneShape i =
+      (x y : Shape) → Derives (lax l.grammar) (Sym l.document) i.tokens x → Derives (lax l.grammar) (Sym l.document) i.tokens y → x ≡ y
+
   -- ---- answers of a parser
 
   -- what the contract of a parser says of an answer for a text within the bound

@@ -3,7 +3,7 @@ use Rattle.std.specs.Prelude.{◌≡◌, ◌≤◌, ◌<◌, ℕ, zero, suc, Lis
 use Rattle.std.specs.Int.RustNames.{FitsSigned}
 use mir.Syntax.{w64}
 use Rattle.graphql_grammar.specs.Tokens.{Token, Class}
-use Rattle.graphql_grammar.specs.Trees.{Sym, Shape, Node, leaves, Begins}
+use Rattle.graphql_grammar.specs.Trees.{Sym, Shape, Node, leaves, peek, Begins, Ends}
 use Rattle.graphql_grammar.specs.Reading.{Reason, Unexpected, Improper, Refused, lax}
 use Rattle.graphql_grammar.specs.Texts as texts
 use Rattle.graphql_grammar.specs.Faults.{IsFault, IsLeast, IsRefused}
@@ -12,7 +12,7 @@ use Rattle.graphql_core.specs.declared.common.fault.Fault.TheVariants.{OutOfMemo
 use Rattle.graphql_lexer.specs.declared.tokenizer.token.Kind.TheVariants.{IntValue, FloatValue, StringValue}
 use Rattle.graphql_lexer.specs.Items.{Item, HasItems}
 use Rattle.graphql_core.specs.Causes.{CauseText, cause_text, kind_number, int_out_of_range, malformed_float, bad_escape}
-use Rattle.graphql_core.specs.Source.{Items, Last, End, Wrong, split, place_of, fault_by, fault_at, FaultText}
+use Rattle.graphql_core.specs.Source.{Items, Last, End, Wrong, split, place_of, fault_by, FaultText}
 use Rattle.graphql_core.specs.Literals.{IsFloatLiteral}
 use Rattle.graphql_core.specs.Strings as strings
 use Rattle.graphql_core.specs.Strings.{IsInQuotes}
@@ -31,10 +31,10 @@ ending_of (Wrong p b) = texts.Bad
 abbrev pub text_of : Items → texts.Text
 text_of i = record { tokens = i.tokens; ending = ending_of i.last }
 
--- the items from the n-th on; they are numbered from 1
-abbrev pub from_item : ℕ → Items → Items
-from_item zero i = i
-from_item (suc n) i = record { tokens = drop n i.tokens; last = i.last }
+-- the tokens from the n-th item on; items are numbered from 1
+abbrev pub from_item : ℕ → List Token → List Token
+from_item zero ts = ts
+from_item (suc n) ts = drop n ts
 
 -- a token has no value as a leaf of a value, for this cause
 pub data HasNoValue : Token → CauseText → Type 0 where
@@ -52,8 +52,8 @@ module _ {D : Type 0} (l : Language D) where
   -- What is said of the item with this index, for this reason: that it may not stand there, that it is a token without a
   -- value, or that it is the last token of a node that is refused.
   abbrev pub Says : Reason → Items → ℕ → FaultText → Type 0
-  Says Unexpected i n f = f ≡ fault_at (from_item n i)
-  Says (Improper c) i n f = (t : Token) × (rest : List Token) × ((from_item n i).tokens ≡ t ∷ rest) × l.lacks c t f.cause × (f.place ≡ t.place)
+  Says Unexpected i n f = f ≡ fault_by (from_item n i.tokens) i.last
+  Says (Improper c) i n f = (t : Token) × (rest : List Token) × (from_item n i.tokens ≡ t ∷ rest) × l.lacks c t f.cause × (f.place ≡ t.place)
   Says (Refused k) i n f =
       (before us : List Token) × (x : Shape) × IsRefused l.grammar (Sym l.document) i.tokens k x before us × (n ≡ length (before ++ leaves x))
       × l.refuses (Node k x) f
@@ -70,6 +70,22 @@ module _ {D : Type 0} (l : Language D) where
   abbrev pub IsLeastOf : Items → Fault → Type 0
   IsLeastOf i OutOfMemory = Unit {0}
   IsLeastOf i (At c p) = IsLeastFault i (record { cause = cause_text c; place = place_of p })
+
+  -- The fault is that of the item after some of the tokens. Some list that the plain grammar derives begins with those tokens, and none
+  -- with them and that item.
+  abbrev pub NoneGoesOn : Items → FaultText → Type 0
+  NoneGoesOn i f =
+      (front others : List Token) × (i.tokens ≡ front ++ others) × (f ≡ fault_by others i.last)
+      × Begins (lax l.grammar) (Sym l.document) front × Ends (lax l.grammar) (Sym l.document) front (peek others)
+
+  -- Why items are refused: an allocation failed, or they are no document, and this is their fault of least index.
+  pub data IsRefusalFor (i : Items) : Refusal → Type 0 where
+    none_left : IsRefusalFor i no_memory
+    shown : (f : FaultText) → IsLeastFault i f → IsRefusalFor i (at f)
+
+  -- no two faults of the items have one index
+  abbrev pub HasOneFaultAt : Items → Type 0
+  HasOneFaultAt i = (f g : FaultText) (n : ℕ) → IsFaultAt i f n → IsFaultAt i g n → f ≡ g
 
   -- the same of a text
   abbrev pub IsFaultOf : List ℕ → FaultText → ℕ → Type 0

@@ -1,5 +1,5 @@
 -- Values, types and directives whose layouts are read as what they are, and how many brackets those open at once.
-use Rattle.std.specs.Prelude.{◌≡◌, ℕ, ◌+◌, max, List, [], ◌∷◌, codes}
+use Rattle.std.specs.Prelude.{◌≡◌, ℕ, ◌+◌, List, [], ◌∷◌, codes}
 use Rattle.std.specs.List.{AllByRecursion}
 use Rattle.graphql_lexer.specs.Lexical.{IsName}
 use Rattle.graphql_values.specs.Values.{ValueTree, variable, enum, list, object, ValueItems, no_items, item, ValueMembers, no_members, member, TypeTree, named}

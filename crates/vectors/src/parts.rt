@@ -43,7 +43,7 @@ fn tell_set<N: Names>(told: &mut Told, set: &SelectionSet<'_, N>) {
     }
 }
 
-/// Each variable, its type, and its default value.
+/// Each variable, its type, its default value, and its directives.
 fn tell_variables<N: Names>(told: &mut Told, variables: &[VariableDefinition<'_, N>]) {
     for variable in variables {
         told.show_line(variable);
@@ -51,6 +51,7 @@ fn tell_variables<N: Names>(told: &mut Told, variables: &[VariableDefinition<'_,
         if let Some(value) = &variable.default_value {
             told.show_line(value);
         }
+        tell_directives(told, &variable.directives);
     }
 }
 

@@ -1,5 +1,6 @@
 //! Whole documents.
-ghost use Rattle.graphql_values.specs.Dialect.{map, ReadsDocument, ParsesDocument};
+ghost use Rattle.std.specs.Prelude.{◌≡◌};
+ghost use Rattle.graphql_values.specs.Dialect.{map, IfOk, IsAtEnd, kept, ReadsDocument, ParsesDocument, ParsesStream};
 ghost use Rattle.worked_language.specs.Meanings.{extension_view};
 ghost use Rattle.worked_language.specs.Language.{worked};
 
@@ -7,15 +8,20 @@ use crate::read::extensions;
 use crate::tree::Extension;
 use graphql_core::common::{Cause, Fault, MAX_LENGTH, Refused, Text};
 use graphql_core::helpers::{Cursor, TokenSource, fault_of};
+use graphql_core::tokenizer::TokenStream;
 use graphql_values::read::halt::Halt;
 use std::alloc::Global;
+use std::mem;
 
 /// The document that all items of a source are.
 fn read_document<S: TokenSource>(
     alloc: Global,
     source: &mut S,
 ) -> Result<Vec<Extension<S::Names>>, Fault>
-    ensures { ReadsDocument worked (λ d. map (extension_view S.Names.bytes) d.items) (S.items source.old) result }
+    ensures reads { ReadsDocument worked (λ d. map (extension_view S.Names.bytes) d.items) (S.items source.old) result }
+    // After a document the source is at its end. What else it has stays as it is.
+    ensures end { IfOk result (λ d. IsAtEnd (S.items source.new)) }
+    ensures kept { kept (S.items source.new) ≡ kept (S.items source.old) }
 {
     let extensions = match extensions(alloc, source) {
         Ok(extensions) => extensions,
@@ -40,4 +46,18 @@ pub fn parse<'a, S: Text<'a>>(alloc: Global, source: &'a str) -> Result<Vec<Exte
     }
     let mut cursor: Cursor<'a, S> = Cursor::new(source);
     Ok(read_document(alloc, &mut cursor)?)
+}
+
+/// Parses what is left of a stream as extensions. The stream is asked for each item once at most.
+pub fn parse_from<'a, S: Text<'a>>(
+    alloc: Global,
+    stream: &mut TokenStream<'a>,
+) -> Result<Vec<Extension<S>>, Refused>
+    // the same of the items from where the stream stood on, and each was cut once: `specs/Parsing.antt` of graphql_values
+    ensures { ParsesStream worked (λ d. map (extension_view S.Names.bytes) d.items) stream.old stream.new result }
+{
+    let mut cursor: Cursor<'a, S> = Cursor::over(mem::replace(stream, TokenStream::new("")));
+    let read = read_document(alloc, &mut cursor);
+    *stream = cursor.into_stream();
+    Ok(read?)
 }

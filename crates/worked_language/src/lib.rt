@@ -5,5 +5,5 @@ mod document;
 mod read;
 mod tree;
 
-pub use document::parse;
+pub use document::{parse, parse_from};
 pub use tree::Extension;

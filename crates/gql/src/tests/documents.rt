@@ -4,7 +4,7 @@ use crate::tests::{assert_ended, run_over};
 use std::test::Fail;
 
 /// Words, a text, what is written, what is told, and the status.
-const RUNS: [(&str, &str, &str, &str, u8); 20] = [
+const RUNS: [(&str, &str, &str, &str, u8); 22] = [
     ("query", "{ a } { b }", "{\n  a\n}\n\n{\n  b\n}\n", "", 0),
     (
         "query,--indent,3,--multiline",
@@ -17,6 +17,20 @@ const RUNS: [(&str, &str, &str, &str, u8); 20] = [
         "minify",
         "query Q { a ... on B { c } } # d\n",
         "query Q{a...on B{c}}",
+        "",
+        0,
+    ),
+    (
+        "query",
+        "query ($a: Int = 1 @d(x: 2), $b: T! @e) { c }",
+        "query($a: Int = 1 @d(x: 2), $b: T! @e) {\n  c\n}\n",
+        "",
+        0,
+    ),
+    (
+        "minify",
+        "query ($a: Int = 1 @d(x: 2), $b: T! @e) { c }",
+        "query($a:Int=1@d(x:2)$b:T!@e){c}",
         "",
         0,
     ),

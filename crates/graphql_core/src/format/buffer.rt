@@ -220,6 +220,11 @@ impl Sink for Buffer {
         Ok(())
     }
 
+    #[inline(always)]
+    fn push_start(&mut self, text: &str, from: &str) -> Result<(), AllocError> {
+        self.push_spaced(false, text, from)
+    }
+
     fn push_display<D: Display + Drop>(&mut self, value: D) -> Result<(), AllocError> {
         self.written.clear();
         self.written.write(value)?;

@@ -1,5 +1,5 @@
 //! What text is written to.
-ghost use Rattle.std.specs.Prelude.{◌≡◌, ℕ, List, [], ◌++◌, IsOk, OnOk, IfSome, Option, string_bytes, refl};
+ghost use Rattle.std.specs.Prelude.{◌≡◌, ℕ, List, [], ◌++◌, IsOk, OnOk, IfSome, Option, string_bytes, refl, length, take};
 ghost use Rattle.std.specs.Fmt.{HasWritten, IsPlainFormatter, WritesText};
 ghost use Rattle.graphql_core.specs.steps.StringSink.{string_nil, string_more};
 ghost use Rattle.std.proofs.lemmas.Grind.{put_two};
@@ -20,6 +20,15 @@ pub trait Sink {
     /// what was appended by then is not said.
     fn push_str(&mut self, text: &str) -> Result<(), Self::Error>
         ensures { OnOk result (took self.old text.now self.new) };
+
+    /// Appends a text with which another begins, byte for byte. It errs as `push_str` does. The other's bytes past the text
+    /// may be read too, so that a short text is one load and one store.
+    fn push_start(&mut self, text: &str, from: &str) -> Result<(), Self::Error>
+        requires { take (length text.now) from.now ≡ text.now }
+        ensures { OnOk result (took self.old text.now self.new) }
+    {
+        self.push_str(text)
+    }
 
     /// Appends what `Display` writes of a value. It errs as `push_str` does, or where the value's `Display` errs.
     fn push_display<D: Display + Drop>(&mut self, value: D) -> Result<(), Self::Error>

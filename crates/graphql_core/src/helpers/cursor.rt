@@ -1,24 +1,22 @@
 //! A token stream as a source.
-ghost use Rattle.std.specs.Prelude.{◌≡◌, ◌≤◌, ◌/◌, List, IfOk, length};
-ghost use Rattle.graphql_lexer.specs.Items.{HasItems, Item};
+ghost use Rattle.std.specs.Prelude.{◌≡◌, ◌≤◌, ◌/◌, ℕ, List, [], IfOk, length};
+ghost use Rattle.graphql_lexer.specs.Items.{HasItems, Item, Stream};
+ghost use Rattle.graphql_lexer.specs.Stream.{AreItemsOfRest};
 ghost use Rattle.graphql_core.specs.Causes.{no_token, cause_text};
 ghost use Rattle.graphql_lexer.specs.BadTexts.{bad_text};
 ghost use Rattle.graphql_core.specs.steps.Marks.{first_byte, front_byte};
 ghost use Rattle.graphql_core.specs.steps.Endings.{shown};
 ghost use Rattle.graphql_lexer.specs.declared.position.Pos.{Pos};
-ghost use Rattle.graphql_core.specs.Source.{Items, Wrong, IsFaultOf, after, held, split, then_items, token_of, only_last, place_of};
+ghost use Rattle.graphql_core.specs.Source.{Items, Wrong, IsFaultOf, after, held, items_of_stream, items_of_text, then_items, token_of, only_last, place_of};
 
 use crate::common::{BadToken, Cause, Fault, Names, Text};
 use crate::helpers::mark::Mark;
+use crate::helpers::room::is_long;
 use crate::helpers::source::{Lexeme, TokenSource};
 use graphql_lexer::position::Pos;
 use graphql_lexer::tokenizer::{Bad, Kind, Token, TokenStream, is_name_start};
 use std::alloc::{AllocError, Global};
 use std::marker::{Model, PhantomData};
-
-// How many bytes a long text has at least: 256 KB. The tree of a shorter one is small, so there the time to move its lists
-// would be spent for little memory.
-const LONG_TEXT: usize = 262144;
 
 /// Whether the next item is a token, and else what it is.
 #[derive(Clone, Copy)]
@@ -41,28 +39,28 @@ pub struct Cursor<'a, T: Text<'a>> {
     ending: Ending<'a>,
     // The first byte of the next token, 0 where there is none.
     front: u8,
-    // Whether the text has `LONG_TEXT` bytes or more.
+    // Whether the text was long from the first of the items on.
     is_long: bool,
     names: PhantomData<T>,
 }
 
 impl<'a, T: Text<'a>> Model for Cursor<'a, T> {
-    ghost use Rattle.std.specs.Prelude.{All, ◌≡◌};
+    ghost use Rattle.std.specs.Prelude.{All, ◌≡◌, ◌-◌, ◌≤◌, ◌^◌};
     ghost use Rattle.graphql_core.specs.steps.Marks.{front_byte};
     ghost use Rattle.graphql_core.specs.steps.Endings.{shown};
-    ghost use Rattle.graphql_core.specs.Source.{Items, IsLexeme, split};
+    ghost use Rattle.graphql_core.specs.Source.{Items, IsLexeme};
 
     ghost Value = { Items };
 
-    ghost view = { λ c. shown c.position c.token c.ending (split c.stream.items) };
+    ghost view = { λ c. shown c.position c.token c.ending c.stream };
 
-    ghost invariant = { λ c. All IsLexeme (shown c.position c.token c.ending (split c.stream.items)).tokens
-        × (c.front ≡ front_byte (shown c.position c.token c.ending (split c.stream.items)).tokens) };
+    ghost invariant = { λ c. All IsLexeme (shown c.position c.token c.ending c.stream).tokens
+        × (c.front ≡ front_byte (shown c.position c.token c.ending c.stream).tokens) × (c.stream.cuts ≤ 2 ^ 64 - 1) };
 }
 
 /// The first byte of a text, 0 where there is none.
 #[inline(always)]
-fn first_byte(text: &str) -> u8
+pub fn first_byte(text: &str) -> u8
     ensures { result ≡ first_byte text.now }
 {
     match text.as_bytes().first() {
@@ -74,8 +72,8 @@ fn first_byte(text: &str) -> u8
 /// What a cursor keeps of an answer of its stream.
 #[inline(always)]
 fn kept_of<'a>(answer: Result<Option<Token<'a>>, Bad<'a>>) -> (Token<'a>, Ending<'a>)
-    ensures items { (place : Pos) (after : Items) → shown place result.0 result.1 after ≡ held place answer.entry after }
-    ensures front { (place : Pos) (after : Items) → first_byte result.0.value.now ≡ front_byte (held place answer.entry after).tokens }
+    ensures items { (place : Pos) (left : Stream) → shown place result.0 result.1 left ≡ held place answer.entry left }
+    ensures front { (place : Pos) (left : Stream) → first_byte result.0.value.now ≡ front_byte (held place answer.entry left).tokens }
 {
     let none = Token {
         kind: Kind::Punctuator,
@@ -92,9 +90,17 @@ impl<'a, T: Text<'a>> Cursor<'a, T> {
     /// The items of a text of at most `usize::MAX / 16` bytes.
     pub fn new(source: &'a str) -> Self
         requires { length source.now ≤ usize.MAX / 16 }
-        ensures { (items : List Item) → HasItems source.now items → result ≡ split items }
+        ensures { (items : List Item) → HasItems source.now items → result ≡ items_of_text items }
     {
-        let mut stream = TokenStream::new(source);
+        Cursor::over(TokenStream::new(source))
+    }
+
+    /// The items of a stream, from the one at which it stands.
+    pub fn over(mut stream: TokenStream<'a>) -> Self
+        ensures items { result ≡ items_of_stream stream.entry }
+        ensures rest { (text : List ℕ) × AreItemsOfRest stream.entry.items text }
+    {
+        let is_long = is_long(stream.rest());
         let position = stream.position();
         let next = stream.next_token();
         let (token, ending) = kept_of(next);
@@ -104,9 +110,17 @@ impl<'a, T: Text<'a>> Cursor<'a, T> {
             token,
             ending,
             front: first_byte(token.value),
-            is_long: source.len() >= LONG_TEXT,
+            is_long,
             names: PhantomData,
         }
+    }
+
+    /// The stream, which was asked for each item that was taken, and for the one after them.
+    pub fn into_stream(self) -> TokenStream<'a>
+        ensures within { result.cuts ≤ self.entry.spent.cuts }
+        ensures all { self.entry.tokens ≡ [] → result ≡ self.entry.spent }
+    {
+        self.stream
     }
 
     /// Goes past a token, whatever comes next. The end and a bad place stay.
@@ -127,7 +141,7 @@ impl<'a, T: Text<'a>> Cursor<'a, T> {
 }
 
 /// A token where it may not stand.
-fn unexpected(alloc: Global, token: Token<'_>, position: Pos) -> Fault
+pub fn unexpected(alloc: Global, token: Token<'_>, position: Pos) -> Fault
     ensures { (after : Items) → IsFaultOf (then_items (token_of position token.entry.kind token.entry.value.now) after) result }
 {
     match String::from_str(alloc, token.value) {

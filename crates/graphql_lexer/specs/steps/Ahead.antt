@@ -18,6 +18,10 @@ is_space b = b == 32
 abbrev pub is_plain_in_string : ℕ → Bool
 is_plain_in_string b = is_flat b && not (b == 34 || b == 92)
 
+-- neither a quote nor a backslash
+abbrev pub is_plain_in_block : ℕ → Bool
+is_plain_in_block b = not (b == 34 || b == 92)
+
 abbrev pub is_blank : ℕ → Bool
 is_blank b = b == 32 || b == 44
 

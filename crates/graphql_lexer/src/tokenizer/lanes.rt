@@ -2,15 +2,17 @@
 ghost use Rattle.std.specs.Prelude.{◌≡◌, ◌≤◌, length, take};
 ghost use Rattle.std.specs.List.{prefix_len};
 ghost use Rattle.graphql_lexer.specs.Lexical.{is_name_continue};
-ghost use Rattle.graphql_lexer.specs.steps.Ahead.{is_space, is_plain_in_string, first_set};
+ghost use Rattle.graphql_lexer.specs.steps.Front.{is_flat};
+ghost use Rattle.graphql_lexer.specs.steps.Ahead.{is_space, is_plain_in_string, is_plain_in_block, first_set};
 
 use std::simd::prelude::*;
 
 /// The bytes of one load.
 pub const LANES: usize = 16;
 
+/// The place of the lowest bit that is set, 16 where none is.
 #[inline(always)]
-fn first_set(mask: u64) -> usize
+pub fn first_set(mask: u64) -> usize
     ensures { result ≡ first_set mask 16 }
 {
     if mask == 0 {
@@ -42,6 +44,28 @@ pub fn space_lanes(bytes: &[u8]) -> usize
     ensures { result ≡ prefix_len is_space (take 16 bytes.now) }
 {
     let stops = u8x16::from_slice(bytes).simd_ne(u8x16::splat(b' '));
+    first_set(stops.to_bitmask())
+}
+
+/// How many of the first 16 bytes are neither a quote nor a backslash.
+#[inline(always)]
+pub fn block_lanes(bytes: &[u8]) -> usize
+    requires { 16 ≤ length bytes.now }
+    ensures { result ≡ prefix_len is_plain_in_block (take 16 bytes.now) }
+{
+    let v = u8x16::from_slice(bytes);
+    let stops = v.simd_eq(u8x16::splat(b'"')) | v.simd_eq(u8x16::splat(b'\\'));
+    first_set(stops.to_bitmask())
+}
+
+/// How many of the first 16 bytes are ASCII and no line feed.
+#[inline(always)]
+pub fn flat_lanes(bytes: &[u8]) -> usize
+    requires { 16 ≤ length bytes.now }
+    ensures { result ≡ prefix_len is_flat (take 16 bytes.now) }
+{
+    let v = u8x16::from_slice(bytes);
+    let stops = v.simd_eq(u8x16::splat(b'\n')) | v.simd_ge(u8x16::splat(0x80));
     first_set(stops.to_bitmask())
 }
 

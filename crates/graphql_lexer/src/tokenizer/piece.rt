@@ -10,7 +10,7 @@ ghost use Rattle.graphql_lexer.specs.steps.Ahead.{is_space, is_blank, is_order_m
 
 use crate::tokenizer::number::{number, plain_number, starts_number};
 use crate::tokenizer::quoted::{plain_string_len, quoted};
-use crate::tokenizer::run::{NameContinue, Space, near_len, whole_len};
+use crate::tokenizer::run::{Flat, NameContinue, Space, near_len, whole_len};
 use crate::tokenizer::token::Kind;
 
 /// How ignored text moves the position.
@@ -464,4 +464,15 @@ pub fn spaces_of(text: &str) -> usize
     ensures cuts { IsCharBoundary text.now result }
 {
     whole_len::<Space>(text.as_bytes())
+}
+
+/// How many bytes at the front of a text are ASCII in one line.
+#[inline(always)]
+#[tactic(auto, using(crate::proofs::Spaces::flat_boundary))]
+pub fn flat_of(text: &str) -> usize
+    ensures len { result ≡ prefix_len spec.is_flat text.now }
+    ensures within { result ≤ length text.now }
+    ensures cuts { IsCharBoundary text.now result }
+{
+    whole_len::<Flat>(text.as_bytes())
 }

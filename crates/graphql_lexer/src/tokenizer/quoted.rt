@@ -1,5 +1,5 @@
 //! Strings and block strings.
-ghost use Rattle.std.specs.Prelude.{◌≡◌, ◌+◌, ◌<◌, ◌≤◌, ◌^◌, ◌∷◌, true, false, length, take, IfSome};
+ghost use Rattle.std.specs.Prelude.{◌≡◌, ◌+◌, ◌<◌, ◌≤◌, ◌^◌, ◌∷◌, ℕ, true, false, length, take, drop, IfSome};
 ghost use Rattle.std.specs.List.{list_all};
 ghost use Rattle.graphql_lexer.specs.Lexical as lexical;
 ghost use Rattle.graphql_lexer.specs.steps.Front.{is_flat};
@@ -9,7 +9,7 @@ ghost use Rattle.graphql_lexer.specs.declared.tokenizer.piece.Nesting.TheVariant
 ghost use Rattle.graphql_lexer.specs.declared.tokenizer.piece.Piece.TheVariants.{Takes};
 
 use crate::tokenizer::piece::{Nesting, Piece, byte_at};
-use crate::tokenizer::run::{PlainInString, whole_len};
+use crate::tokenizer::run::{PlainInBlock, PlainInString, whole_len};
 use crate::tokenizer::token::Kind;
 
 /// Whether three quotes stand at the front.
@@ -50,6 +50,26 @@ fn string_len(bytes: &[u8]) -> Option<usize>
     None
 }
 
+/// How many bytes go by before the next place at which a block string could end, or an escape begin: at least one, and all
+/// of an escape that stands at the front.
+fn units_len(bytes: &[u8]) -> usize
+    requires some { 0 < length bytes.now }
+    requires small { length bytes.now < 2 ^ 62 }
+    requires open { lexical.begins_quotes bytes.now ≡ false }
+    ensures skips { (n : ℕ) → spec.block_end n 0 bytes.now ≡ spec.block_end (n + result) 0 (drop result bytes.now) }
+    ensures some { 0 < result }
+    ensures within { result ≤ length bytes.now }
+{
+    let plain = whole_len::<PlainInBlock>(bytes);
+    if plain > 0 {
+        plain
+    } else if begins_escape(bytes) {
+        4
+    } else {
+        1
+    }
+}
+
 /// The bytes up to and with the closing quotes, after the opening quotes of a block string.
 fn block_len(bytes: &[u8]) -> Option<usize>
     requires { length bytes.now < 2 ^ 62 }
@@ -62,7 +82,7 @@ fn block_len(bytes: &[u8]) -> Option<usize>
         if begins_quotes(rest) {
             return Some(len + 3);
         }
-        len += if begins_escape(rest) { 4 } else { 1 };
+        len += units_len(rest);
     }
     None
 }

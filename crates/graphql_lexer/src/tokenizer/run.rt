@@ -2,7 +2,9 @@
 ghost use Rattle.std.specs.Prelude.{◌≡◌, ◌≤◌, length, IfSome};
 ghost use Rattle.std.specs.List.{prefix_len};
 
-use crate::tokenizer::lanes::{LANES, name_lanes, space_lanes, string_lanes};
+use crate::tokenizer::lanes::{
+    LANES, block_lanes, flat_lanes, name_lanes, space_lanes, string_lanes,
+};
 
 /// A class of bytes.
 pub trait Class {
@@ -75,6 +77,44 @@ impl Class for PlainInString {
     #[inline(always)]
     fn lanes(bytes: &[u8]) -> usize {
         string_lanes(bytes)
+    }
+}
+
+/// What a block string goes on with, but for quotes and escapes.
+pub struct PlainInBlock;
+
+impl Class for PlainInBlock {
+    ghost use Rattle.graphql_lexer.specs.steps.Ahead.{is_plain_in_block};
+
+    ghost has = { is_plain_in_block };
+
+    #[inline(always)]
+    fn has(byte: u8) -> bool {
+        byte != b'"' && byte != b'\\'
+    }
+
+    #[inline(always)]
+    fn lanes(bytes: &[u8]) -> usize {
+        block_lanes(bytes)
+    }
+}
+
+/// What takes one column: ASCII but for the line feed.
+pub struct Flat;
+
+impl Class for Flat {
+    ghost use Rattle.graphql_lexer.specs.steps.Front.{is_flat};
+
+    ghost has = { is_flat };
+
+    #[inline(always)]
+    fn has(byte: u8) -> bool {
+        byte < 0x80 && byte != b'\n'
+    }
+
+    #[inline(always)]
+    fn lanes(bytes: &[u8]) -> usize {
+        flat_lanes(bytes)
     }
 }
 

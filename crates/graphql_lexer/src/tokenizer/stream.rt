@@ -3,7 +3,7 @@ ghost use Rattle.std.specs.Prelude.{◌≡◌, ℕ, List, ◌+◌, ◌-◌, ◌*
 ghost use Rattle.std.specs.List.{list_all};
 ghost use Rattle.graphql_lexer.specs.Lexical.{steps_over};
 ghost use Rattle.graphql_lexer.specs.Items.{Where, Item, moved, past, past_character, HasItems, depth_of, openers_after, closers_after, is_full, is_too_deep};
-ghost use Rattle.graphql_lexer.specs.Stream.{NextItem, BeginsWithNext, further, next_place, one_more};
+ghost use Rattle.graphql_lexer.specs.Stream.{NextItem, BeginsWithNext, AreItemsOfRest, further, next_place, one_more};
 ghost use Rattle.graphql_lexer.specs.steps.Front as steps;
 ghost use Rattle.graphql_lexer.specs.steps.Front.{front, IsItem};
 ghost use Rattle.graphql_lexer.specs.steps.Cut.{items};
@@ -12,7 +12,7 @@ ghost use Rattle.graphql_lexer.specs.declared.tokenizer.piece.Move.TheVariants.{
 
 use crate::position::Pos;
 use crate::tokenizer::piece::{
-    Move, Nesting, byte_at, ignored_of, is_plain, is_rare, near_spaces_of, near_token_at,
+    Move, Nesting, byte_at, flat_of, ignored_of, is_plain, is_rare, near_spaces_of, near_token_at,
     spaces_of, token_at,
 };
 use crate::tokenizer::stop::bad_at;
@@ -83,11 +83,18 @@ fn past_characters(value: &str, at: Pos) -> Pos
     ensures line { result.line ≤ at.line + length value.now }
     ensures column { result.column ≤ at.column + length value.now }
 {
+    let mut rest = value;
     let mut place = at;
-    'characters: for character in value.chars() {
+    'runs: loop {
+        let (run, after) = rest.split_at(flat_of(rest));
+        place = past_flat(run, place);
+        let mut characters = after.chars();
+        let Some(character) = characters.next() else {
+            return place;
+        };
         place = past_character(character, place);
+        rest = characters.as_str();
     }
-    place
 }
 
 /// The position after a token in ASCII and in one line.
@@ -316,7 +323,8 @@ impl<'a> Model for TokenStream<'a> {
 
     ghost invariant = { λ s. (s.size < 2 ^ 62) × (s.position.line + length s.rest.now < 2 ^ 62)
         × (s.position.column + 8 * length s.rest.now < 2 ^ 63) × (s.brackets.openers + length s.rest.now ≤ s.size)
-        × (s.brackets.closers + length s.rest.now ≤ s.size) × IsItem (front s.rest.now) };
+        × (s.brackets.closers + length s.rest.now ≤ s.size) × IsItem (front s.rest.now)
+        × (s.brackets.openers ≤ s.brackets.closers + 50) };
 }
 
 impl<'a> TokenStream<'a> {
@@ -423,7 +431,8 @@ impl<'a> TokenStream<'a> {
     /// What is left of the text, from the next item on. Where that is a token, it begins with its spelling.
     #[inline(always)]
     pub fn rest(&self) -> &'a str
-        ensures { BeginsWithNext self.now.items result.now }
+        ensures begins { BeginsWithNext self.now.items result.now }
+        ensures items { AreItemsOfRest self.now.items result.now }
     {
         self.rest
     }

@@ -116,6 +116,7 @@ fn variable<'a>(alloc: Global) -> Result<VariableDefinition<'a, &'a str>, AllocE
         name: "v",
         var_type: Type::NonNullType(Box::new(alloc, once)?),
         default_value: None,
+        directives: Vec::new(alloc),
     })
 }
 

@@ -2,25 +2,9 @@
 use crate::common::Text;
 use crate::query::{Definition, Document, Field, OperationDefinition, Selection, parse_query};
 use crate::tests::callers::first_value;
+use crate::tests::sources::SCHEMA;
 use crate::{Pos, Style, parse_schema};
 use std::test::Fail;
-
-const SCHEMA: &str = "
-    schema {
-        query: Query
-    }
-    type Query {
-        users: [User!]!,
-    }
-    \"\"\"
-       Example user object
-
-       This is just a demo comment.
-    \"\"\"
-    type User {
-        name: String!,
-    }
-";
 
 const SCHEMA_LAYOUT: &str = "schema {
   query: Query

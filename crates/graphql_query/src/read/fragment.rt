@@ -87,10 +87,11 @@ pub fn fragment_spread<S: TokenSource>(
     let fragment_name = spread_name(alloc, source)?;
     let mut directives = Vec::new(alloc);
     directives::directives(alloc, source, &mut directives)?;
-    items.push(Selection::FragmentSpread(FragmentSpread {
+    items.reserve(1)?;
+    items.push_reserved(Selection::FragmentSpread(FragmentSpread {
         position,
         fragment_name,
         directives,
-    }))?;
+    }));
     Ok(())
 }

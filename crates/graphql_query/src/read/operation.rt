@@ -57,7 +57,7 @@ fn optional_name<S: TokenSource>(
     Ok(Some(name(alloc, source)?))
 }
 
-/// `VariableDefinition = "$" Name ":" Type Default?`, after the variables before it.
+/// `VariableDefinition = "$" Name ":" Type Default? Directives`, after the variables before it.
 #[tactic(auto, using(graphql_values::proofs::Reading::reading))]
 fn variable_definition<S: TokenSource>(
     alloc: Global,
@@ -74,12 +74,16 @@ fn variable_definition<S: TokenSource>(
     take_mark(source, Mark::Colon)?;
     let var_type = parse_type(alloc, source)?;
     let default_value = optional_default(alloc, source)?;
-    definitions.push(VariableDefinition {
+    let mut directives = Vec::new(alloc);
+    directives::directives(alloc, source, &mut directives)?;
+    definitions.reserve(1)?;
+    definitions.push_reserved(VariableDefinition {
         position,
         name,
         var_type,
         default_value,
-    })?;
+        directives,
+    });
     Ok(())
 }
 

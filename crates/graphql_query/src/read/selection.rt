@@ -40,14 +40,15 @@ fn field<S: TokenSource>(
     let mut directives = Vec::new(alloc);
     directives::directives(alloc, source, &mut directives)?;
     let selection_set = optional_selection_set(alloc, source, position, items)?;
-    items.push(Selection::Field(Field {
+    items.reserve(1)?;
+    items.push_reserved(Selection::Field(Field {
         position,
         alias,
         name,
         arguments,
         directives,
         selection_set,
-    }))?;
+    }));
     Ok(())
 }
 
@@ -94,12 +95,13 @@ fn inline_fragment<S: TokenSource>(
     let mut directives = Vec::new(alloc);
     directives::directives(alloc, source, &mut directives)?;
     let selection_set = selection_set(alloc, source, items)?;
-    items.push(Selection::InlineFragment(InlineFragment {
+    items.reserve(1)?;
+    items.push_reserved(Selection::InlineFragment(InlineFragment {
         position,
         type_condition,
         directives,
         selection_set,
-    }))?;
+    }));
     Ok(())
 }
 

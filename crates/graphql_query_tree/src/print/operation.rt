@@ -34,7 +34,7 @@ fn write_operation_name<S: Sink, N: Names>(
     out.push_str(N::view(name))
 }
 
-/// A variable with its type and its default value.
+/// A variable with its type, its default value and its directives.
 impl<N: Names> Pretty for VariableDefinition<N> {
     ghost lines = { λ style _ v. variable_definition_layout style (variable_definition_view N.bytes v) };
 
@@ -43,7 +43,8 @@ impl<N: Names> Pretty for VariableDefinition<N> {
     ghost lawful = { λ v. IsLawfulVariable (variable_definition_view N.bytes v) };
 
     fn levels(&self, style: &Style) -> usize {
-        levels_in_default(&self.default_value, style)
+        let default_value = levels_in_default(&self.default_value, style);
+        default_value.max(levels_in_directives(&self.directives, style))
     }
 
     fn write<S: Sink>(&self, out: &mut S, style: &Style, _margin: usize) -> Result<(), S::Error> {
@@ -51,7 +52,8 @@ impl<N: Names> Pretty for VariableDefinition<N> {
         out.push_str(N::view(&self.name))?;
         out.push_str(": ")?;
         write_type(out, &self.var_type)?;
-        write_default(out, &self.default_value, style, 0)
+        write_default(out, &self.default_value, style, 0)?;
+        write_directives(out, &self.directives, style, 0)
     }
 }
 

@@ -23,6 +23,7 @@ fn sets_in_set<N: Names>(set: &SelectionSet<N>) -> usize
 }
 
 #[cycle(sets)]
+#[inline(always)]
 fn sets_in_selections<N: Names>(items: &[Selection<N>]) -> usize
     ensures { BoundsLevels result (λ style. selections_levels style (selections_view N.bytes items.now)) }
 {
@@ -34,6 +35,7 @@ fn sets_in_selections<N: Names>(items: &[Selection<N>]) -> usize
 }
 
 #[cycle(sets)]
+#[inline(always)]
 fn sets_in_selection<N: Names>(selection: &Selection<N>) -> usize
     ensures { BoundsLevels result (λ style. selection_levels style (selection_view N.bytes selection.now)) }
 {
@@ -45,6 +47,7 @@ fn sets_in_selection<N: Names>(selection: &Selection<N>) -> usize
 }
 
 #[cycle(sets)]
+#[inline(always)]
 fn sets_in_field<N: Names>(field: &Field<N>) -> usize
     ensures { BoundsLevels result (λ style. selection_levels style (field_view N.bytes field.now)) }
 {
@@ -58,6 +61,7 @@ fn sets_in_fragment_spread<N: Names>(_spread: &FragmentSpread<N>) -> usize
 }
 
 #[cycle(sets)]
+#[inline(always)]
 fn sets_in_inline_fragment<N: Names>(fragment: &InlineFragment<N>) -> usize
     ensures { BoundsLevels result (λ style. selection_levels style (inline_fragment_view N.bytes fragment.now)) }
 {
@@ -66,6 +70,7 @@ fn sets_in_inline_fragment<N: Names>(fragment: &InlineFragment<N>) -> usize
 
 /// None where nothing is selected of a field.
 #[cycle(sets)]
+#[inline(always)]
 fn sets_in_selected<N: Names>(set: &SelectionSet<N>) -> usize
     ensures { BoundsLevels result (λ style. selected_levels style (selection_set_view N.bytes set.now)) }
 {

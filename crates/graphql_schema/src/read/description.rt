@@ -43,6 +43,7 @@ pub fn sees_described_name<S: TokenSource>(source: &S) -> bool
 }
 
 /// `Description = String | Block`
+#[inline(never)]
 #[tactic(auto, using(graphql_values::proofs::Reading::reading))]
 fn description<S: TokenSource>(alloc: Global, source: &mut S) -> Result<String, Stop>
     ensures reads { Reads (Sym description_symbol) (S.items source.old) (S.items source.new)
@@ -57,6 +58,7 @@ fn description<S: TokenSource>(alloc: Global, source: &mut S) -> Result<String, 
 }
 
 /// `Description?`
+#[inline(always)]
 #[tactic(auto, using(graphql_values::proofs::Reading::reading))]
 pub fn optional_description<S: TokenSource>(
     alloc: Global,

@@ -31,12 +31,13 @@ fn enum_value<S: TokenSource>(
     let name = name(alloc, source)?;
     let mut directives = Vec::new(alloc);
     directives::directives(alloc, source, &mut directives)?;
-    values.push(EnumValue {
+    values.reserve(1)?;
+    values.push_reserved(EnumValue {
         position,
         description,
         name,
         directives,
-    })?;
+    });
     Ok(())
 }
 

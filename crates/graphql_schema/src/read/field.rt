@@ -37,14 +37,15 @@ fn field<S: TokenSource>(
     let field_type = parse_type(alloc, source)?;
     let mut directives = Vec::new(alloc);
     directives::directives(alloc, source, &mut directives)?;
-    fields.push(Field {
+    fields.reserve(1)?;
+    fields.push_reserved(Field {
         position,
         description,
         name,
         arguments,
         field_type,
         directives,
-    })?;
+    });
     Ok(())
 }
 

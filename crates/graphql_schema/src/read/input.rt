@@ -35,14 +35,15 @@ fn input_value<S: TokenSource>(
     let default_value = optional_default(alloc, source)?;
     let mut directives = Vec::new(alloc);
     directives::directives(alloc, source, &mut directives)?;
-    values.push(InputValue {
+    values.reserve(1)?;
+    values.push_reserved(InputValue {
         position,
         description,
         name,
         value_type,
         default_value,
         directives,
-    })?;
+    });
     Ok(())
 }
 
@@ -67,6 +68,7 @@ fn input_values<S: TokenSource>(
 }
 
 /// `ArgumentDefs = "(" InputValue+ ")"`
+#[inline(never)]
 #[tactic(auto, using(graphql_values::proofs::Reading::reading))]
 fn argument_definitions<S: TokenSource>(
     alloc: Global,
@@ -85,6 +87,7 @@ fn argument_definitions<S: TokenSource>(
 }
 
 /// `ArgumentDefs?`
+#[inline(always)]
 #[tactic(auto, using(graphql_values::proofs::Reading::reading))]
 pub fn optional_argument_definitions<S: TokenSource>(
     alloc: Global,

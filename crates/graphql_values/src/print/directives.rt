@@ -12,6 +12,7 @@ use graphql_core::common::Names;
 use graphql_core::format::{Sink, Style};
 
 /// Appends arguments in parentheses, or nothing where there are none.
+#[inline(always)]
 pub fn write_arguments<S: Sink, N: Names>(
     out: &mut S,
     arguments: &[(N::Value, Value<N>)],
@@ -38,6 +39,7 @@ pub fn write_arguments<S: Sink, N: Names>(
 }
 
 /// Appends a directive.
+#[inline(never)]
 pub fn write_directive<S: Sink, N: Names>(
     out: &mut S,
     directive: &Directive<N>,
@@ -54,6 +56,7 @@ pub fn write_directive<S: Sink, N: Names>(
 }
 
 /// Appends directives, each with a space before it.
+#[inline(always)]
 pub fn write_directives<S: Sink, N: Names>(
     out: &mut S,
     directives: &[Directive<N>],

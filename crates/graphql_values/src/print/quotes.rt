@@ -6,6 +6,32 @@ ghost use Rattle.graphql_values.specs.ValueLayout as spec;
 ghost use Rattle.graphql_values.specs.steps.Unescaped.{is_unescaped};
 
 use graphql_core::format::Sink;
+use graphql_lexer::tokenizer::lanes::first_set;
+use graphql_lexer::tokenizer::run::{Class, whole_len};
+use std::simd::prelude::*;
+
+/// What stands in quotes as it is.
+struct Unescaped;
+
+impl Class for Unescaped {
+    ghost use Rattle.graphql_values.specs.steps.Unescaped.{is_unescaped};
+
+    ghost has = { is_unescaped };
+
+    #[inline(always)]
+    fn has(byte: u8) -> bool {
+        byte >= 32 && byte != b'"' && byte != b'\\'
+    }
+
+    #[inline(always)]
+    fn lanes(bytes: &[u8]) -> usize {
+        let v = u8x16::from_slice(bytes);
+        let stops = v.simd_eq(u8x16::splat(b'"'))
+            | v.simd_eq(u8x16::splat(b'\\'))
+            | v.simd_lt(u8x16::splat(32));
+        first_set(stops.to_bitmask())
+    }
+}
 
 /// An upper hexadecimal digit.
 fn hexadecimal_digit(value: u8) -> char
@@ -29,14 +55,6 @@ fn write_control<S: Sink>(out: &mut S, control: u8) -> Result<(), S::Error>
     }
 }
 
-/// Whether a byte stands in quotes as it is.
-#[inline(always)]
-fn is_unescaped(byte: u8) -> bool
-    ensures { result ≡ is_unescaped byte }
-{
-    byte >= 32 && byte != b'"' && byte != b'\\'
-}
-
 /// How many bytes at the front of a text stand in quotes as they are.
 #[tactic(auto, using(crate::proofs::QuotedText::unescaped_boundary))]
 fn unescaped_len(text: &str) -> usize
@@ -44,10 +62,7 @@ fn unescaped_len(text: &str) -> usize
     ensures within { result ≤ length text.now }
     ensures cuts { IsCharBoundary text.now result }
 {
-    text.as_bytes()
-        .iter()
-        .take_while(|b| is_unescaped(**b))
-        .count()
+    whole_len::<Unescaped>(text.as_bytes())
 }
 
 /// Appends the escape of a byte.

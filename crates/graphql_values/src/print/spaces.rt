@@ -31,7 +31,7 @@ pub fn write_spaces<S: Sink>(out: &mut S, count: usize) -> Result<(), S::Error>
     if count > MOST {
         return write_many_spaces(out, count);
     }
-    out.push_str(&LINE[1..count + 1])
+    out.push_start(&LINE[1..count + 1], &LINE[1..])
 }
 
 /// Appends a line end and the margin of the next line.
@@ -43,5 +43,5 @@ pub fn write_new_line<S: Sink>(out: &mut S, margin: usize) -> Result<(), S::Erro
         out.push_str("\n")?;
         return write_many_spaces(out, margin);
     }
-    out.push_str(&LINE[..margin + 1])
+    out.push_start(&LINE[..margin + 1], LINE)
 }

@@ -17,6 +17,7 @@ use std::alloc::Global;
 const FEW_ARGUMENTS: usize = 2;
 
 /// `Arguments = "(" Argument+ ")"`
+#[inline(never)]
 #[tactic(auto, using(crate::proofs::Reading::reading))]
 pub fn arguments<S: TokenSource>(
     alloc: Global,
@@ -38,6 +39,7 @@ pub fn arguments<S: TokenSource>(
 }
 
 /// `Arguments?`: none where they are missing.
+#[inline(always)]
 #[tactic(auto, using(crate::proofs::Reading::reading))]
 pub fn optional_arguments<S: TokenSource>(
     alloc: Global,
@@ -57,6 +59,7 @@ pub fn optional_arguments<S: TokenSource>(
 }
 
 /// `Directive = "@" Name Arguments?`, after the directives before it.
+#[inline(never)]
 #[tactic(auto, using(crate::proofs::Reading::reading))]
 pub fn directive<S: TokenSource>(
     alloc: Global,
@@ -72,15 +75,17 @@ pub fn directive<S: TokenSource>(
     let name = name(alloc, source)?;
     let mut arguments = Vec::new(alloc);
     optional_arguments(alloc, source, &mut arguments)?;
-    items.push(Directive {
+    items.reserve(1)?;
+    items.push_reserved(Directive {
         position,
         name,
         arguments,
-    })?;
+    });
     Ok(())
 }
 
 /// `Directives = Directive*`
+#[inline(always)]
 #[tactic(auto, using(crate::proofs::Reading::reading))]
 pub fn directives<S: TokenSource>(
     alloc: Global,
@@ -92,6 +97,9 @@ pub fn directives<S: TokenSource>(
     ensures kept { kept (S.items source.new) ≡ kept (S.items source.old) }
     ensures within { OnOk result (length (S.items source.new).tokens ≤ length (S.items source.old).tokens) }
 {
+    if source.sees_mark(Mark::At) {
+        items.reserve_exact(1)?;
+    }
     'more: while source.sees_mark(Mark::At) {
         directive(alloc, source, items)?;
     }
@@ -99,6 +107,7 @@ pub fn directives<S: TokenSource>(
 }
 
 /// `Default = "=" Const`
+#[inline(never)]
 #[tactic(auto, using(crate::proofs::Reading::reading))]
 fn default_value<S: TokenSource>(alloc: Global, source: &mut S) -> Result<Value<S::Names>, Stop>
     ensures reads { Gives shared (Sym default_symbol) (S.items source.old) (S.items source.new)
@@ -111,6 +120,7 @@ fn default_value<S: TokenSource>(alloc: Global, source: &mut S) -> Result<Value<
 }
 
 /// `Default?`
+#[inline(always)]
 #[tactic(auto, using(crate::proofs::Reading::reading))]
 pub fn optional_default<S: TokenSource>(
     alloc: Global,

@@ -61,7 +61,8 @@ pub fn argument<S: TokenSource>(
     let name = name(alloc, source)?;
     take_mark(source, Mark::Colon)?;
     let value = value(alloc, source)?;
-    items.push((name, value))?;
+    items.reserve(1)?;
+    items.push_reserved((name, value));
     Ok(())
 }
 

@@ -2,11 +2,12 @@ use Rattle.std.proofs.Common.{sym, subst, arith}
 use Rattle.graphql_core.specs.Refusal.{Refusal, refusal_of}
 use Rattle.graphql_core.specs.Source.{Items}
 use Rattle.graphql_values.specs.Faults.{IsRefusalOf, past_bound}
-use Rattle.graphql_values.proofs.Whole.{exit, refusal, answers_unless_memory}
+use Rattle.graphql_values.proofs.Whole.{from_stream, exit, refusal, answers_unless_memory}
 use Rattle.graphql_values.proofs.Faults.{one_each}
 use Rattle.graphql_query.specs.FirstDefinition.{one_definition, BeginsWith}
 use Rattle.graphql_query.proofs.FirstDefinition.{readable_one}
 use Rattle.graphql_query.proofs.Consuming.{found, one_first}
+use Rattle.graphql_query.proofs.Earlier.{earlier_definition}
 use Rattle.graphql_query.proofs.OtherRest.{other_rest, shorter}
 use Rattle.graphql_query.proofs.OtherDefinitions.{other_definitions}
 use Rattle.graphql_query.proofs.consume.consume_definition.Goals as goal
@@ -33,11 +34,19 @@ returns-in_err-definition-clause-complete g c r bound (items, has, x, others, be
     answers_unless_memory _ r _ _ c.from_residual.ensures.1 (c.in_err-definition.ensures.complete x others
     (subst (λ (i : Items). BeginsWith i.tokens x others) (sym (c.new-cursor.ensures items has)) begins))
 
+pub returns-in_err-definition-clause-earlier : goal.returns-in_err-definition-clause-earlier
+returns-in_err-definition-clause-earlier g c r bound h =
+    let (none, (items, has, x, others, begins, means, rest)) = earlier_definition c.args.source.now r h in (
+      none,
+      answers_unless_memory _ r _ _ c.from_residual.ensures.1 (c.in_err-definition.ensures.complete x others
+          (subst (λ (i : Items). BeginsWith i.tokens x others) (sym (c.new-cursor.ensures items has)) begins)),
+    )
+
 pub returns-in_err-definition-clause-refused : goal.returns-in_err-definition-clause-refused
 returns-in_err-definition-clause-refused g c =
     let e = c.in_err-definition.field-0.0 in
     exit _ (refusal_of e) _ c.from_residual.ensures.1
-    (refusal one_definition c.args.source.now _ e (omega arith) c.new-cursor.ensures c.in_err-definition.ensures.refused)
+    (refusal one_definition c.args.source.now _ e (omega arith) (from_stream _ _ c.new-cursor.ensures) c.in_err-definition.ensures.refused)
 
 pub returns-in_err-definition-clause-one_fault : goal.returns-in_err-definition-clause-one_fault
 returns-in_err-definition-clause-one_fault g c = one_each one_definition readable_one c.args.source.now
@@ -46,17 +55,26 @@ returns-in_err-definition-clause-one_fault g c = one_each one_definition readabl
 
 pub returns-clause-first : goal.returns-clause-first
 returns-clause-first g c =
-    found c.args.source.now _ _ _ c.position.result c.new-cursor.ensures c.in_ok-definition.ensures.takes c.position.ensures _ c.text_from-rest.ensures
+    found c.args.source.now _ _ _ c.position.result (from_stream _ _ c.new-cursor.ensures) c.in_ok-definition.ensures.takes c.position.ensures _ c.text_from-rest.ensures
 
 pub returns-clause-shorter : goal.returns-clause-shorter
 returns-clause-shorter g c =
     shorter c.args.source.now _ _
-    (found c.args.source.now _ _ _ c.position.result c.new-cursor.ensures c.in_ok-definition.ensures.takes c.position.ensures _ c.text_from-rest.ensures)
+    (found c.args.source.now _ _ _ c.position.result (from_stream _ _ c.new-cursor.ensures) c.in_ok-definition.ensures.takes c.position.ensures _ c.text_from-rest.ensures)
 
 pub returns-clause-complete : goal.returns-clause-complete
 returns-clause-complete g c r bound h =
     one_first c.args.source.now _ r
-    (found c.args.source.now _ _ _ c.position.result c.new-cursor.ensures c.in_ok-definition.ensures.takes c.position.ensures _ c.text_from-rest.ensures) h
+    (found c.args.source.now _ _ _ c.position.result (from_stream _ _ c.new-cursor.ensures) c.in_ok-definition.ensures.takes c.position.ensures _ c.text_from-rest.ensures) h
+
+pub returns-clause-earlier : goal.returns-clause-earlier
+returns-clause-earlier g c r bound h =
+    let (none, is) = earlier_definition c.args.source.now r h in (
+      none,
+      one_first c.args.source.now _ r
+          (found c.args.source.now _ _ _ c.position.result (from_stream _ _ c.new-cursor.ensures) c.in_ok-definition.ensures.takes c.position.ensures _ c.text_from-rest.ensures)
+          is,
+    )
 
 pub returns-clause-one : goal.returns-clause-one
 returns-clause-one g c = one_first c.args.source.now

@@ -1,25 +1,16 @@
-use Rattle.graphql_core.specs.Style.{Layout}
 use Rattle.graphql_values.proofs.RoundTrip as round
-use Rattle.graphql_query_tree.specs.Document.{queries, IsReadBack}
-use Rattle.graphql_query_tree.specs.Lawful.{IsLawfulDocument}
+use Rattle.graphql_query_tree.specs.Document.{queries}
 use Rattle.graphql_query_tree.specs.Layout.{layout}
-use Rattle.graphql_query_tree.specs.Printable.{IsPrintable}
-use Rattle.graphql_query_tree.specs.Tree.{DocumentTree}
 use Rattle.graphql_query_tree.proofs.NoPositions.{layout_alike}
 use Rattle.graphql_query_tree.proofs.Readable.{readable}
+use Rattle.graphql_query_tree.proofs.OneText.{IsPrinted, back, one_text}
 use Rattle.graphql_query_tree.proofs.WayBack.{way_back}
 use Rattle.graphql_query_tree.proofs.laws.printed_documents_are_read_back.Goals as goal
-
-abbrev IsPrinted : DocumentTree → Type 0
-IsPrinted d = IsPrintable d × IsLawfulDocument d
-
-back : (style : Layout) (d : DocumentTree) → IsPrinted d → IsReadBack (layout style d) d
-back style d (is, law) = way_back style d is law
 
 pub returns : goal.returns
 returns c = record {
   read_back = way_back;
   printed_again = λ style d e is law. round.printed_again queries readable layout layout_alike IsPrinted back style d e (is, law);
   styles_agree = λ style other d e f is law. round.styles_agree queries readable layout layout_alike IsPrinted back style other d e f (is, law);
-  one_text = λ style d e is law other laws. round.one_text queries readable layout layout_alike IsPrinted back style d e (is, law) (other, laws);
+  one_text = one_text;
 }

@@ -1,6 +1,10 @@
-use Rattle.std.proofs.Common.{arith}
+use Rattle.std.proofs.Common.{ℕ, List, ap, arith}
+use Rattle.graphql_lexer.specs.Items.{start}
+use Rattle.graphql_lexer.specs.steps.Cut.{items}
+use Rattle.graphql_lexer.proofs.OneCut.{has_items}
+use Rattle.graphql_core.specs.Source.{split}
 use Rattle.graphql_values.proofs.Parsing.{unread, parsed, unparsed}
-use Rattle.graphql_values.proofs.Whole.{text_document}
+use Rattle.graphql_values.proofs.Whole.{cut_first, text_document}
 use Rattle.graphql_schema_tree.specs.Language.{schemas}
 use Rattle.graphql_schema_tree.proofs.Readable.{readable}
 use Rattle.graphql_schema.proofs.Printable.{printable}
@@ -9,13 +13,21 @@ use Rattle.graphql_schema.proofs.document.parse_schema.Goals as goal
 pub returns-then-source-gt-MAX_LENGTH-clause-parses : goal.returns-then-source-gt-MAX_LENGTH-clause-parses
 returns-then-source-gt-MAX_LENGTH-clause-parses g c = unread schemas readable _ _ _ (omega arith) c.text_too_long.ensures
 
-pub returns-in_err-read_document-clause-parses : goal.returns-in_err-read_document-clause-parses
-returns-in_err-read_document-clause-parses g c =
-    unparsed schemas readable _ _ _ c.new-cursor.ensures (omega arith) _ _ c.in_err-read_document.ensures c.from_residual.ensures.1
+pub returns-in_err-read_text-clause-parses : goal.returns-in_err-read_text-clause-parses
+returns-in_err-read_text-clause-parses g c =
+    let text = c.args.source.now in
+    unparsed schemas readable _ text (split (items start text)) (cut_first text) (omega arith) _ _
+    (c.in_err-read_text.ensures _ (has_items text)) c.from_residual.ensures.1
 
 pub returns-clause-parses : goal.returns-clause-parses
-returns-clause-parses g c = parsed schemas readable _ _ _ c.new-cursor.ensures (omega arith) _ c.in_ok-read_document.ensures
+returns-clause-parses g c =
+    let text = c.args.source.now in
+    parsed schemas readable _ text (split (items start text)) (cut_first text) (omega arith) _
+    (c.in_ok-read_text.ensures _ (has_items text))
 
 pub returns-clause-printable : goal.returns-clause-printable
 returns-clause-printable g c =
-    printable c.args.source.now _ (text_document schemas c.args.source.now _ _ c.new-cursor.ensures c.in_ok-read_document.ensures.derived)
+    let text = c.args.source.now in
+    printable text _
+    (text_document schemas text (split (items start text)) _ (cut_first text)
+    (c.in_ok-read_text.ensures _ (has_items text)).derived)

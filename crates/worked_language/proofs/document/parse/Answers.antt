@@ -1,4 +1,4 @@
-use Rattle.graphql_values.proofs.Dialect.{arith, unread, parsed, unparsed}
+use Rattle.graphql_values.proofs.Dialect.{arith, unread, from_stream, parsed, unparsed}
 use Rattle.worked_language.specs.Language.{worked}
 use Rattle.worked_language.proofs.Readable.{readable}
 use Rattle.worked_language.proofs.document.parse.Goals as goal
@@ -8,7 +8,7 @@ returns-then-source-gt-MAX_LENGTH g c = unread worked readable _ _ _ (omega arit
 
 pub returns-in_err-read_document : goal.returns-in_err-read_document
 returns-in_err-read_document g c =
-    unparsed worked readable _ _ _ c.new-cursor.ensures (omega arith) _ _ c.in_err-read_document.ensures c.from_residual.ensures.1
+    unparsed worked readable _ _ _ (from_stream _ _ c.new-cursor.ensures) (omega arith) _ _ c.in_err-read_document.ensures.reads c.from_residual.ensures.1
 
 pub returns : goal.returns
-returns g c = parsed worked readable _ _ _ c.new-cursor.ensures (omega arith) _ c.in_ok-read_document.ensures
+returns g c = parsed worked readable _ _ _ (from_stream _ _ c.new-cursor.ensures) (omega arith) _ c.in_ok-read_document.ensures.reads

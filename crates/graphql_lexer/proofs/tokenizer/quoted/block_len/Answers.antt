@@ -1,9 +1,9 @@
-use Rattle.std.proofs.Common.{◌≡◌, ◌≤◌, true, false, length, drop, sym, ◌∙◌, ap, arith, length-drop}
-use Rattle.std.proofs.lemmas.List.{take_rest}
-use Rattle.graphql_lexer.specs.Lexical.{begins_quotes, begins_escape}
-use Rattle.graphql_lexer.proofs.Strings.{block_closes, block_escape, block_unit, block_none, quotes_some, escape_some}
+use Rattle.std.proofs.Common.{◌≡◌, ◌+◌, true, drop, sym, ◌∙◌, ap, arith, length-drop}
+use Rattle.std.proofs.lemmas.List.{take_rest, drop-drop}
+use Rattle.graphql_lexer.specs.Lexical.{begins_quotes}
+use Rattle.graphql_lexer.specs.steps.Quoted.{block_end}
+use Rattle.graphql_lexer.proofs.Strings.{block_closes, block_none, quotes_some}
 use Rattle.graphql_lexer.proofs.tokenizer.quoted.block_len.Goals as goal
-use Rattle.graphql_lexer.proofs.tokenizer.quoted.block_len.Goals.{then-begins_escape, else-begins_escape}
 
 pub returns-then-begins_quotes-clause-end : goal.returns-then-begins_quotes-clause-end
 returns-then-begins_quotes-clause-end c =
@@ -20,23 +20,12 @@ returns-then-begins_quotes-clause-within c =
 pub units-preserved : goal.units-preserved
 units-preserved c =
     let rest = take_rest c.args.bytes.now c.units.len in
-    let none : begins_quotes (drop c.units.len c.args.bytes.now) ≡ false = ap begins_quotes (sym rest) ∙ sym c.begins_quotes.ensures
-    ∙ c.if-begins_quotes.false in
-    let escape = ap begins_escape (sym rest) ∙ sym c.begins_escape.ensures in
-    elim c.if-begins_escape.branch [
-      | then-begins_escape w ↦
-          let some : 4 ≤ length (drop c.units.len c.args.bytes.now) = escape_some _ (escape ∙ w.if-begins_escape.true) in
-          record {
-            end = rw w.len-is (sym (block_escape c.units.len c.args.bytes.now none (escape ∙ w.if-begins_escape.true)) ∙ c.units.invariant.end);
-            within = omega (arith, length-drop c.units.len c.args.bytes.now);
-          }
-      | else-begins_escape w ↦
-          record {
-            end = rw w.len-is (sym (block_unit c.units.len c.args.bytes.now c.units-test.true none (escape ∙ w.if-begins_escape.false))
-                ∙ c.units.invariant.end);
-            within = omega arith;
-          }
-    ]
+    let skips = c.units_len-len.ensures.skips c.units.len in
+    record {
+      end = sym (ap (block_end c.units.len 0) (sym rest) ∙ skips ∙ ap (λ l. block_end (c.units.len + c.units_len-len.result) 0 (drop c.units_len-len.result l)) rest
+          ∙ ap (block_end (c.units.len + c.units_len-len.result) 0) (drop-drop c.units_len-len.result c.units.len c.args.bytes.now)) ∙ c.units.invariant.end;
+      within = omega (arith, rest, length-drop c.units.len c.args.bytes.now);
+    }
 
 pub returns-clause-end : goal.returns-clause-end
 returns-clause-end c = sym (block_none c.units.len c.args.bytes.now c.units-test.false) ∙ c.units.invariant.end

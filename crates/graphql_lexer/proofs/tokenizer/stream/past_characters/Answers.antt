@@ -1,35 +1,35 @@
-use Rattle.std.proofs.Common.{◌≡◌, ◌+◌, ◌++◌, ◌∷◌, [], length, sym, ◌∙◌, arith}
-use Rattle.std.proofs.lemmas.Iterator.{YieldsList-from_chars}
-use Rattle.std.proofs.lemmas.Iterator.Consumers.{YieldsList-turn, YieldsList-end}
-use Rattle.std.proofs.lemmas.List.{length_push, at_drop_all}
-use Rattle.std.specs.Str.{chars}
-use Rattle.graphql_lexer.specs.Items.{past_characters}
-use Rattle.graphql_lexer.proofs.Positions.{characters_step, character_bounds, characters_fit}
+use Rattle.std.proofs.Common.{◌≡◌, ◌+◌, ◌++◌, ◌∙◌, IsUtf8, refl, sym, ap, subst, arith, length, length-append}
+use Rattle.std.proofs.lemmas.Str.{length-encode, len_utf8_bounds, IsUtf8-drop}
+use Rattle.std.specs.Char.{encode_utf8}
+use Rattle.graphql_lexer.specs.steps.Front.{is_flat}
+use Rattle.graphql_lexer.specs.Items.{past}
+use Rattle.graphql_lexer.proofs.Runs.{run_passes}
+use Rattle.graphql_lexer.proofs.Positions.{past_front, past_first, character_bounds}
 use Rattle.graphql_lexer.proofs.tokenizer.stream.past_characters.Goals as goal
 
-pub characters-preserved : goal.characters-preserved
-characters-preserved c =
-    let t = YieldsList-turn
-    (YieldsList-from_chars c.args.value.now c.utf8.value cc) c.characters.yielded _ c.characters.yielded_by _ _ c.in-Some.character c.in-Some.is
-    c.next.ensures.steps in
-    let n : length (c.characters.yielded ++ c.in-Some.character
-    ∷ []) ≡ length c.characters.yielded + 1 = length_push c.characters.yielded c.in-Some.character in
-    let bounds = character_bounds c.in-Some.character c.characters.place in
-    let s = characters_step (chars c.args.value.now) (length c.characters.yielded) c.in-Some.character c.characters.place t in
-    record {
-      past_all = rw (n, c.past_character-place.ensures) (sym s ∙ c.characters.invariant.past_all);
-      line = rw (n, c.past_character-place.ensures) (omega arith);
-      column = rw (n, c.past_character-place.ensures) (omega arith);
-    }
+pub past_flat-place-requires-clause-flat : goal.past_flat-place-requires-clause-flat
+past_flat-place-requires-clause-flat c = rw c.split_at.ensures.front (run_passes is_flat c.runs.rest.now c.flat_of.result c.flat_of.ensures.len)
 
-pub returns : goal.returns
-returns c =
-    let t = YieldsList-end
-    (YieldsList-from_chars c.args.value.now c.utf8.value cc) c.characters.yielded _ c.characters.yielded_by _ _ c.in-None.is c.next.ensures.steps in
-    let n = length c.characters.yielded in
-    let fit = characters_fit c.args.value.now c.utf8.value in
+pub runs-preserved : goal.runs-preserved
+runs-preserved c =
+    let rest = c.runs.rest.now in
+    let n = c.flat_of.result in
+    let after = c.split_at.result.1.now in
+    let character = c.in-Some.character in
+    let more = c.as_str-rest.result.now in
+    let text : after ≡ encode_utf8 character ++ more = sym c.chars-characters.ensures.rest ∙ c.in-Some.ensures.steps.0
+    ∙ ap (λ r. encode_utf8 character ++ r) (sym c.as_str-rest.ensures) in
+    let utf8 = subst IsUtf8 (sym c.split_at.ensures.back) (IsUtf8-drop rest n c.runs.invariant.utf8 c.flat_of.ensures.cuts) in
+    let flat : past rest c.runs.place ≡ past after c.past_flat-place.result =
+    past_front rest n c.runs.place c.runs.invariant.utf8 c.flat_of.ensures.cuts
+    ∙ rw (c.split_at.ensures.back, c.past_flat-place.ensures.is, c.split_at.ensures.front) refl in
+    let bounds = character_bounds character c.past_flat-place.result in
+    let long : length after ≡ length (encode_utf8 character) + length more = ap length text ∙ length-append (encode_utf8 character) more in
+    let some = len_utf8_bounds character in
+    let wide = length-encode character in
     record {
-      is = sym (at_drop_all (λ l. past_characters l c.characters.place) (chars c.args.value.now) n (omega (arith, t.1))) ∙ c.characters.invariant.past_all;
-      line = omega (arith, t.1);
-      column = omega (arith, t.1);
+      past_all = rw c.past_character-place.ensures (sym (past_first after more character c.past_flat-place.result utf8 text) ∙ sym flat ∙ c.runs.invariant.past_all);
+      line = rw c.past_character-place.ensures (omega (arith, bounds.0, long, some.0, wide));
+      column = rw c.past_character-place.ensures (omega (arith, bounds.1, long, some.0, wide));
+      utf8 = c.as_str-rest.utf8;
     }

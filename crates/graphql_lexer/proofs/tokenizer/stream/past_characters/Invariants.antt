@@ -1,11 +1,17 @@
-use Rattle.std.proofs.Common.{◌≡◌, ◌+◌, ◌≤◌, length, drop}
-use Rattle.std.specs.Str.{chars}
-use Rattle.graphql_lexer.specs.Items.{past, past_characters}
+use denote.Shadow.{shadow}
+use denote.Text.{Utf8}
+use Rattle.std.proofs.Common.{◌≡◌, ◌+◌, ◌≤◌, length}
+use Rattle.graphql_lexer.specs.Items.{past}
 use Rattle.graphql_lexer.proofs.tokenizer.stream.past_characters.Given as goal
 
-abbrev pub invariant-characters : goal.invariant-characters
-invariant-characters l = record {
-  past_all : past_characters (drop (length l.yielded) (chars l.value)) l.place ≡ past l.value l.fn.at;
-  line : l.place.line ≤ l.fn.at.line + length l.yielded;
-  column : l.place.column ≤ l.fn.at.column + length l.yielded;
+-- what is left moves the position to where the whole moves it
+abbrev pub invariant-runs : goal.invariant-runs
+invariant-runs l = record {
+  past_all : past l.rest l.place ≡ past l.value l.fn.at;
+  line : l.place.line + length l.rest ≤ l.fn.at.line + length l.value;
+  column : l.place.column + length l.rest ≤ l.fn.at.column + length l.value;
+  utf8 : shadow (Utf8 l.rest);
 }
+
+abbrev pub decreases-runs : goal.decreases-runs
+decreases-runs l = length l.rest

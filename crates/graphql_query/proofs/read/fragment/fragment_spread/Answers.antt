@@ -4,7 +4,7 @@ use Rattle.graphql_grammar.specs.Reading.{takes_both}
 use Rattle.graphql_grammar.proofs.ReaderSteps.{Stops-after}
 use Rattle.graphql_values.specs.Grammar.{directives_symbol}
 use Rattle.graphql_values.specs.ValueViews.{directive_view}
-use Rattle.graphql_values.proofs.Reading.{gives_error, adds_one, fills}
+use Rattle.graphql_values.proofs.Reading.{gives_error, adds_reserved, fills}
 use Rattle.graphql_query_tree.specs.Grammar.{reading}
 use Rattle.graphql_query_tree.specs.Tree.{spread, selection_view}
 use Rattle.graphql_query.proofs.FromShared.{some_lifted, stops_lifted}
@@ -28,6 +28,6 @@ returns-clause-reads g c =
     let named_there = ap₂ (λ p n. (p, n)) c.position-position.ensures refl ∙ view in (
       Both x y,
       takes_both named listed,
-      adds_one (selection_view bytes) _ _ _ _ c.in_ok-push.ensures.items
+      adds_reserved (selection_view bytes) _ _ _ _ _ c.in_ok-reserve.ensures.items c.push_reserved.ensures.items
           (fragment_spread_selected bytes _ ∙ ap₂ (λ p ds. spread p.0 p.1 ds) named_there marked),
     )

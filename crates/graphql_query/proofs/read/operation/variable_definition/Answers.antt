@@ -1,7 +1,8 @@
 use Rattle.std.proofs.Common.{refl}
 use Rattle.graphql_grammar.specs.Trees.{Leaf, Both, Node}
 use Rattle.graphql_grammar.specs.Reading.{takes_node, takes_both}
-use Rattle.graphql_values.proofs.Reading.{takes_one, adds_one}
+use Rattle.graphql_values.specs.ValueViews.{directive_view}
+use Rattle.graphql_values.proofs.Reading.{takes_one, adds_reserved, fills}
 use Rattle.graphql_query_tree.specs.Grammar.{reading, variable_definition_symbol}
 use Rattle.graphql_query_tree.specs.Tree.{variable_definition_view}
 use Rattle.graphql_query.proofs.EqualParts.{same_variable_definition}
@@ -51,9 +52,22 @@ returns-in_err-default_value-clause-reads g c =
     let named = past dollar (takes_one reading _ _ _ _ refl c.in_ok-name.ensures.1) in
     let colon = past named (takes_one reading _ _ _ _ refl c.in_ok-take_mark.ensures.1) in
     let (t, typed, seen) = c.in_ok-var_type.ensures.reads in
+    error_in old mid new _ _ _ (before (past colon (takes_lifted _ refl _ _ _ typed)))
+    (stops_lifted _ refl _ _ _ c.in_err-default_value.ensures.reads) c.from_residual-in_err-default_value.ensures.1
+
+pub returns-in_err-directives-clause-reads : goal.returns-in_err-directives-clause-reads
+returns-in_err-directives-clause-reads g c =
+    let old = g.S.TokenSource.items c.args.source.now in
+    let mid = g.S.TokenSource.items c.optional_default.new.source in
+    let new = g.S.TokenSource.items c.directives.new.source in
+    let dollar = past (starts variable_definition_symbol old.tokens) (takes_one reading _ _ _ _ refl c.in_ok-position.ensures.1) in
+    let named = past dollar (takes_one reading _ _ _ _ refl c.in_ok-name.ensures.1) in
+    let colon = past named (takes_one reading _ _ _ _ refl c.in_ok-take_mark.ensures.1) in
+    let (t, typed, seen) = c.in_ok-var_type.ensures.reads in
+    let (v, valued, view) = c.in_ok-default_value.ensures.reads in
     error_in old mid new _ _ _
-    (past colon (takes_lifted _ refl _ _ _ typed)).stops (stops_lifted _ refl _ _ _ c.in_err-default_value.ensures.reads)
-    c.from_residual-in_err-default_value.ensures.1
+    (past (past colon (takes_lifted _ refl _ _ _ typed)) (takes_lifted _ refl _ _ _ valued)).stops
+    (stops_lifted _ refl _ _ _ c.in_err-directives.ensures.reads) c.from_residual-in_err-directives.ensures.1
 
 pub returns-clause-reads : goal.returns-clause-reads
 returns-clause-reads g c =
@@ -61,9 +75,11 @@ returns-clause-reads g c =
     let (n, named, spelled) = c.in_ok-name.ensures in
     let (m, colon, until) = c.in_ok-take_mark.ensures in
     let (t, typed, seen) = some_lifted _ refl _ _ _ c.in_ok-var_type.ensures.reads in
-    let (v, valued, view) = some_lifted _ refl _ _ _ c.in_ok-default_value.ensures.reads in (
-      Node variable_definition_symbol (Both (Leaf d) (Both (Leaf n) (Both (Leaf m) (Both t v)))),
-      takes_node (takes_both (takes_one reading _ _ _ d refl dollar)
-          (takes_both (takes_one reading _ _ _ n refl named) (takes_both (takes_one reading _ _ _ m refl colon) (takes_both typed valued)))) refl,
-      adds_one (variable_definition_view g.S.Names.Names.bytes) _ _ _ _ c.in_ok-push.ensures.items (same_variable_definition at spelled seen view),
+    let (v, valued, view) = some_lifted _ refl _ _ _ c.in_ok-default_value.ensures.reads in
+    let (ds, directed, directs) = some_lifted _ refl _ _ _ c.in_ok-directives.ensures.reads in (
+      Node variable_definition_symbol (Both (Leaf d) (Both (Leaf n) (Both (Leaf m) (Both t (Both v ds))))),
+      takes_node (takes_both (takes_one reading _ _ _ d refl dollar) (takes_both (takes_one reading _ _ _ n refl named)
+          (takes_both (takes_one reading _ _ _ m refl colon) (takes_both typed (takes_both valued directed))))) refl,
+      adds_reserved (variable_definition_view g.S.Names.Names.bytes) _ _ _ _ _ c.in_ok-reserve.ensures.items c.push_reserved.ensures.items
+          (same_variable_definition at spelled seen view (fills (directive_view g.S.Names.Names.bytes) _ _ _ c.new-directives.ensures.items directs)),
     )

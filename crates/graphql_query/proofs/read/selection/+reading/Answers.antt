@@ -6,7 +6,7 @@ use Rattle.graphql_grammar.proofs.ReaderSteps.{Stops-node, Stops-before, Stops-a
 use Rattle.graphql_core.specs.Source.{place_of}
 use Rattle.graphql_values.specs.ValueViews.{argument_view, directive_view}
 use Rattle.graphql_values.specs.Grammar.{arguments_symbol, directives_symbol}
-use Rattle.graphql_values.proofs.Reading.{placed, takes_one, stops_one, stops_some, gives_then, gives_error, one_of, adds_none, adds_one, adds_more, fills}
+use Rattle.graphql_values.proofs.Reading.{placed, takes_one, stops_one, stops_some, gives_then, gives_error, one_of, adds_none, adds_reserved, adds_more, fills}
 use Rattle.graphql_values.proofs.Alternatives.{gives_side}
 use Rattle.graphql_query_tree.specs.Grammar.{reading, changes, selection_set_symbol, selection_symbol, field_symbol, inline_fragment_rest}
 use Rattle.graphql_query_tree.specs.Meanings.{selections_of}
@@ -87,7 +87,7 @@ field-returns-clause-reads g t c =
       Node field_symbol (Both (Leaf n) (Both a (Both x (Both y s)))),
       takes_node (takes_both (takes_one reading _ _ _ n refl named) (takes_both renames (takes_both given (takes_both listed selects)))) refl,
       adds_more (selection_view bytes) _ _ _ [] _ c.in_ok-selection_set.ensures.others
-          (adds_one (selection_view bytes) _ _ _ _ c.in_ok-push.ensures.items
+          (adds_reserved (selection_view bytes) _ _ _ _ _ c.in_ok-reserve.ensures.items c.push_reserved.ensures.items
           (field_selected bytes _ ∙ field_made bytes _ _ _ _ _ _ ∙ field_means n a x y s renames _ _ _ _ _ _ at spelled names gave marked chosen)),
     )
 
@@ -96,8 +96,8 @@ field-returns-in_err-selection_set-clause-kept g t c =
     c.in_err-selection_set.ensures.kept ∙ c.in_ok-directives.ensures.kept ∙ c.in_ok-optional_arguments.ensures.kept ∙ c.in_ok-alias.ensures.kept
     ∙ c.in_ok-name.ensures.1.kept
 
-pub field-returns-in_err-push-clause-kept : goal.field-returns-in_err-push-clause-kept
-field-returns-in_err-push-clause-kept g t c =
+pub field-returns-in_err-reserve-clause-kept : goal.field-returns-in_err-reserve-clause-kept
+field-returns-in_err-reserve-clause-kept g t c =
     c.in_ok-selection_set.ensures.kept ∙ c.in_ok-directives.ensures.kept ∙ c.in_ok-optional_arguments.ensures.kept ∙ c.in_ok-alias.ensures.kept
     ∙ c.in_ok-name.ensures.1.kept
 
@@ -171,7 +171,7 @@ inline_fragment-returns-clause-reads g t c =
       Both x (Both y s),
       takes,
       adds_more (selection_view bytes) _ _ _ [] _ c.in_ok-selection_set.ensures.others
-          (adds_one (selection_view bytes) _ _ _ _ c.in_ok-push.ensures.items
+          (adds_reserved (selection_view bytes) _ _ _ _ _ c.in_ok-reserve.ensures.items c.push_reserved.ensures.items
           (inline_fragment_selected bytes _ ∙ inline_fragment_made bytes _ _ _ _ ∙ inline_fragment_means _ _ _ _ _ _ _ _ place condition marked chosen)),
     )
 

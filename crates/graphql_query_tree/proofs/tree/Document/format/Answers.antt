@@ -1,7 +1,8 @@
-use Rattle.std.proofs.Common.{◌≡◌, rules, refl, sym, subst, string_bytes}
+use Rattle.std.proofs.Common.{◌≡◌, ◌∙◌, rules, sym, subst, string_bytes}
 use Rattle.graphql_query_tree.specs.Document.{IsReadBack}
 use Rattle.graphql_query_tree.specs.Layout.{layout}
 use Rattle.graphql_query_tree.specs.Tree.{document_view}
+use Rattle.graphql_query_tree.proofs.OneText.{one_text}
 use Rattle.graphql_query_tree.proofs.WayBack.{way_back}
 use Rattle.graphql_query_tree.proofs.tree.Document.format.Goals as goal
 
@@ -10,3 +11,9 @@ returns-clause-read_back g c printable =
     let d = document_view g.N.Names.bytes c.args.self.now in
     let printed : string_bytes c.into_string.result ≡ layout c.args.style.now d = search rules in
     subst (λ text. IsReadBack text d) (sym printed) (way_back c.args.style.now d printable c.in_ok-write.ensures.lawful)
+
+pub returns-clause-one_document : goal.returns-clause-one_document
+returns-clause-one_document g c printable e other law same =
+    let d = document_view g.N.Names.bytes c.args.self.now in
+    let printed : string_bytes c.into_string.result ≡ layout c.args.style.now d = search rules in
+    one_text c.args.style.now e d other law printable c.in_ok-write.ensures.lawful (same ∙ printed)

@@ -2,7 +2,7 @@ use Rattle.std.proofs.Common.{refl, sym, ◌∙◌}
 use Rattle.graphql_grammar.specs.Trees.{Leaf, Both, Node}
 use Rattle.graphql_grammar.specs.Reading.{takes_node, takes_both}
 use Rattle.graphql_values.specs.ValueViews.{directive_view}
-use Rattle.graphql_values.proofs.Reading.{takes_one, adds_one, fills}
+use Rattle.graphql_values.proofs.Reading.{takes_one, adds_reserved, fills}
 use Rattle.graphql_values.proofs.Steps.{past, before, error_in, error_one}
 use Rattle.graphql_schema_tree.specs.Grammar.{enum_value_symbol}
 use Rattle.graphql_schema_tree.specs.Views.{enum_value_view}
@@ -42,6 +42,6 @@ returns-clause-reads g c =
     let at = described_at old mid next d n described c.in_ok-description.ensures.within named in (
       Node enum_value_symbol (Both d (Both (Leaf n) ds)),
       takes_node (takes_both described (takes_both (takes_one reading _ _ _ n refl named) directed)) refl,
-      adds_one (enum_value_view g.S.Names.Names.bytes) _ _ _ _ c.in_ok-push.ensures.items (same_enum_value (c.position-position.ensures ∙ sym at) tells spelled
+      adds_reserved (enum_value_view g.S.Names.Names.bytes) _ _ _ _ _ c.in_ok-reserve.ensures.items c.push_reserved.ensures.items (same_enum_value (c.position-position.ensures ∙ sym at) tells spelled
           (fills (directive_view g.S.Names.Names.bytes) _ _ _ c.new-directives.ensures.items directs)),
     )

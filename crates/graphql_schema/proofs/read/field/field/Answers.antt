@@ -2,7 +2,7 @@ use Rattle.std.proofs.Common.{refl, sym, ◌∙◌}
 use Rattle.graphql_grammar.specs.Trees.{Leaf, Both, Node}
 use Rattle.graphql_grammar.specs.Reading.{takes_node, takes_both}
 use Rattle.graphql_values.specs.ValueViews.{directive_view}
-use Rattle.graphql_values.proofs.Reading.{takes_one, adds_one, fills}
+use Rattle.graphql_values.proofs.Reading.{takes_one, adds_reserved, fills}
 use Rattle.graphql_values.proofs.Steps.{past, before, error_in, error_one}
 use Rattle.graphql_schema_tree.specs.Grammar.{field_symbol}
 use Rattle.graphql_schema_tree.specs.Views.{input_value_view, field_view}
@@ -82,7 +82,7 @@ returns-clause-reads g c =
       Node field_symbol (Both d (Both (Leaf n) (Both vs (Both (Leaf m) (Both t ds))))),
       takes_node (takes_both described (takes_both (takes_one reading _ _ _ n refl named) (takes_both defined
           (takes_both (takes_one reading _ _ _ m refl colon) (takes_both typed directed))))) refl,
-      adds_one (field_view g.S.Names.Names.bytes) _ _ _ _ c.in_ok-push.ensures.items
+      adds_reserved (field_view g.S.Names.Names.bytes) _ _ _ _ _ c.in_ok-reserve.ensures.items c.push_reserved.ensures.items
           (same_field (c.position-position.ensures ∙ sym at) tells spelled
           (fills (input_value_view g.S.Names.Names.bytes) _ _ _ c.new-arguments.ensures.items defines) seen
           (fills (directive_view g.S.Names.Names.bytes) _ _ _ c.new-directives.ensures.items directs)),

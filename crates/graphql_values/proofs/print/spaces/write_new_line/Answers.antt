@@ -14,4 +14,4 @@ range-requires-clause-end_boundary g c = line_boundary c.args.margin c.if-margin
 
 pub returns : goal.returns
 returns g c =
-    and_alone g.S.Sink.took g.met.S.Sink.took_more _ _ _ _ _ c.push_str-2.ensures (c.range.ensures.value ∙ line_margin c.args.margin c.if-margin-gt-MOST.false)
+    and_alone g.S.Sink.took g.met.S.Sink.took_more _ _ _ _ _ c.push_start.ensures (c.range.ensures.value ∙ line_margin c.args.margin c.if-margin-gt-MOST.false)

@@ -8,4 +8,4 @@ range-requires-clause-end_boundary g c = line_boundary c.args.count c.if-count-g
 
 pub returns : goal.returns
 returns g c =
-    and_alone g.S.Sink.took g.met.S.Sink.took_more _ _ _ _ _ c.push_str.ensures (c.range.ensures.value ∙ line_spaces c.args.count c.if-count-gt-MOST.false)
+    and_alone g.S.Sink.took g.met.S.Sink.took_more _ _ _ _ _ c.push_start.ensures (c.range.ensures.value ∙ line_spaces c.args.count c.if-count-gt-MOST.false)

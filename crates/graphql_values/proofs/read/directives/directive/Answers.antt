@@ -4,7 +4,7 @@ use Rattle.graphql_grammar.specs.Reading.{takes_node, takes_both}
 use Rattle.graphql_grammar.proofs.ReaderSteps.{Stops-before, Stops-after, Stops-node}
 use Rattle.graphql_values.specs.Grammar.{shared, directive_symbol}
 use Rattle.graphql_values.specs.ValueViews.{argument_view, directive_view}
-use Rattle.graphql_values.proofs.Reading.{takes_one, stops_one, gives_error, adds_one, fills}
+use Rattle.graphql_values.proofs.Reading.{takes_one, stops_one, gives_error, adds_reserved, fills}
 use Rattle.graphql_values.proofs.read.directives.directive.Goals as goal
 
 pub returns-in_err-position-clause-reads : goal.returns-in_err-position-clause-reads
@@ -43,5 +43,5 @@ returns-clause-reads g c =
     let view = fills (argument_view bytes) _ _ _ c.new-arguments.ensures.items given in (
       Node directive_symbol (Both (Leaf a) (Both (Leaf n) x)),
       takes_node (takes_both (takes_one shared _ _ _ a refl sign) (takes_both (takes_one shared _ _ _ n refl named) takes)) refl,
-      adds_one (directive_view bytes) _ _ _ _ c.in_ok-push.ensures.items (rw (at, spelled, view) refl),
+      adds_reserved (directive_view bytes) _ _ _ _ _ c.in_ok-reserve.ensures.items c.push_reserved.ensures.items (rw (at, spelled, view) refl),
     )

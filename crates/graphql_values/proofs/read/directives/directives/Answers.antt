@@ -1,4 +1,4 @@
-use Rattle.std.proofs.Common.{refl, sym, ap, ◌∙◌, [], ◌++◌, map, arith}
+use Rattle.std.proofs.Common.{◌≡◌, refl, sym, ap, ◌∙◌, [], ◌++◌, map, arith}
 use Rattle.graphql_grammar.specs.Trees.{Node}
 use Rattle.graphql_grammar.specs.Reading.{takes_node}
 use Rattle.graphql_grammar.proofs.ReaderSteps.{Stops-node, Stops-turn, Turns-start, Turns-more, Turns-stop}
@@ -8,6 +8,7 @@ use Rattle.graphql_values.specs.ValueViews.{directive_view}
 use Rattle.graphql_values.proofs.ValueAlternatives.{begins_directive, each_directive_means}
 use Rattle.graphql_values.proofs.Reading.{gives_error, one_of, adds_none, adds_more}
 use Rattle.graphql_values.proofs.read.directives.directives.Goals as goal
+use Rattle.graphql_values.proofs.read.directives.directives.Goals.{then-sees_mark+in_ok-reserve_exact, else-sees_mark}
 
 pub more-init : goal.more-init
 more-init g c = record
@@ -20,7 +21,7 @@ more-preserved g c =
     record {
       turns = (
         items ++ one_of directive_of x,
-        Turns-more shared _ (one_of directive_of) _ _ _ items x turns (begins_directive _ ∙ sym c.sees_mark.ensures ∙ c.more-test.true) takes,
+        Turns-more shared _ (one_of directive_of) _ _ _ items x turns (begins_directive _ ∙ sym c.sees_mark-in-more.ensures ∙ c.more-test.true) takes,
         adds_more (directive_view g.S.Names.Names.bytes) _ _ _ items _ views view,
       );
       kept = c.in_ok-directive.ensures.kept ∙ c.more.invariant.kept;
@@ -33,14 +34,18 @@ returns-in_err-directive-clause-reads g c =
     gives_error shared _ (g.S.TokenSource.items c.args.source.now) (g.S.TokenSource.items c.directive.new.source) _ _ _
     (Stops-node shared directives_symbol _ _ _
     (Stops-turn shared _ (one_of directive_of) _ _ _ items _ turns
-    (begins_directive _ ∙ sym c.sees_mark.ensures ∙ c.more-test.true) c.in_err-directive.ensures.reads))
-    c.from_residual.ensures.1
+    (begins_directive _ ∙ sym c.sees_mark-in-more.ensures ∙ c.more-test.true) c.in_err-directive.ensures.reads))
+    c.from_residual-in_err-directive.ensures.1
 
 pub returns-clause-reads : goal.returns-clause-reads
 returns-clause-reads g c =
     let (items, turns, views) = c.more.invariant.turns in
-    let r = Turns-stop shared _ (one_of directive_of) _ _ items turns (begins_directive _ ∙ sym c.sees_mark.ensures ∙ c.more-test.false) in (
+    let r = Turns-stop shared _ (one_of directive_of) _ _ items turns (begins_directive _ ∙ sym c.sees_mark-in-more.ensures ∙ c.more-test.false) in
+    let same : c.if-sees_mark.items.items ≡ c.args.items.now.items = elim c.if-sees_mark.branch [
+      | then-sees_mark+in_ok-reserve_exact w ↦ rw w.items-is w.reserve_exact.ensures.items
+      | else-sees_mark w ↦ rw w.items-is refl
+    ] in (
       Node directives_symbol r.0,
       takes_node r.1 refl,
-      views ∙ ap (λ l. map (directive_view g.S.Names.Names.bytes) c.args.items.now.items ++ l) (sym (each_directive_means r.1 ∙ r.2)),
+      (rw same at views) ∙ ap (λ l. map (directive_view g.S.Names.Names.bytes) c.args.items.now.items ++ l) (sym (each_directive_means r.1 ∙ r.2)),
     )

@@ -4,7 +4,7 @@ use Rattle.graphql_grammar.specs.Reading.{takes_node, takes_both}
 use Rattle.graphql_grammar.proofs.ReaderSteps.{Stops-before, Stops-after, Stops-node}
 use Rattle.graphql_values.specs.Grammar.{shared, argument_symbol}
 use Rattle.graphql_values.specs.ValueViews.{argument_view}
-use Rattle.graphql_values.proofs.Reading.{takes_one, stops_one, gives_error, adds_one}
+use Rattle.graphql_values.proofs.Reading.{takes_one, stops_one, gives_error, adds_reserved}
 use Rattle.graphql_values.proofs.read.values.argument.Goals as goal
 
 pub returns-in_err-name-clause-reads : goal.returns-in_err-name-clause-reads
@@ -40,5 +40,5 @@ returns-clause-reads g c =
     let (x, takes, view) = c.in_ok-value.ensures.reads in (
       Node argument_symbol (Both (Leaf n) (Both (Leaf m) x)),
       takes_node (takes_both (takes_one shared _ _ _ n refl named) (takes_both (takes_one shared _ _ _ m refl marks) takes)) refl,
-      adds_one (argument_view g.S.Names.Names.bytes) _ _ _ _ c.in_ok-push.ensures.items (ap₂ (λ a b. (a, b)) (sym spelled) view),
+      adds_reserved (argument_view g.S.Names.Names.bytes) _ _ _ _ _ c.in_ok-reserve.ensures.items c.push_reserved.ensures.items (ap₂ (λ a b. (a, b)) (sym spelled) view),
     )

@@ -4,7 +4,7 @@ use Rattle.graphql_lexer.proofs.OneCut.{has_items, items_only}
 use Rattle.graphql_lexer.proofs.tokenizer.stream.TokenStream.new.Goals as goal
 
 pub invariant_of-result : goal.invariant_of-result
-invariant_of-result c = (omega arith, omega arith, omega arith, omega arith, omega arith, c.skip_ignored.ensures.first)
+invariant_of-result c = (omega arith, omega arith, omega arith, omega arith, omega arith, c.skip_ignored.ensures.first, omega arith)
 
 pub returns-clause-items : goal.returns-clause-items
 returns-clause-items c =

@@ -4,12 +4,28 @@ use Rattle.graphql_lexer.specs.steps.Front.{front}
 use Rattle.graphql_lexer.specs.declared.tokenizer.piece.Piece.TheVariants.{AtEnd, Takes, Stops}
 use Rattle.graphql_lexer.specs.Items.{Where, Item, is_too_deep, past, past_token}
 use Rattle.graphql_lexer.proofs.FrontFits.{items_at, last_some}
-use Rattle.graphql_lexer.proofs.Tokens.{takes_first, end_front, stops_front}
+use Rattle.graphql_lexer.proofs.Tokens.{takes_first, one_bracket, few_open, end_front, stops_front}
 use Rattle.graphql_lexer.proofs.tokenizer.stream.TokenStream.next_token.Goals as goal
 
 pub past-end-requires-clause-flat : goal.past-end-requires-clause-flat
 past-end-requires-clause-flat c =
     rw c.split_at.ensures.front c.in-Some.ensures.flat
+
+pub invariant_of-self-2 : goal.invariant_of-self-2
+invariant_of-self-2 c =
+    let s = c.self.inside in
+    let w : Where = record { position = s.position; offset = s.size - length s.rest.now; openers = s.brackets.openers; closers = s.brackets.closers } in
+    let n = c.in-Some.taken.nesting in
+    let few = few_open n w (sym (c.is_too_deep.ensures w refl refl) ∙ c.if-is_too_deep.false) c.self.invariant.6 in
+    let after = c.after-self-inside.ensures in (
+      omega arith,
+      omega arith,
+      omega arith,
+      omega (arith, after.openers, (one_bracket n s.brackets.openers).0, c.in-Some.ensures.fits.0, c.split_at.ensures.back_len, c.skip_ignored.ensures.within),
+      omega (arith, after.closers, (one_bracket n s.brackets.closers).1, c.in-Some.ensures.fits.0, c.split_at.ensures.back_len, c.skip_ignored.ensures.within),
+      c.skip_ignored.ensures.first,
+      omega (arith, few, after.openers, after.closers),
+    )
 
 pub returns-then-is_empty-clause-item : goal.returns-then-is_empty-clause-item
 returns-then-is_empty-clause-item c =

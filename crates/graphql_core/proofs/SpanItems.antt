@@ -1,0 +1,118 @@
+-- Items as the spans of their tokens.
+use Rattle.std.proofs.Common.{◌≡◌, ℕ, ◌+◌, ◌-◌, List, [], ◌∷◌, ◌++◌, length, take, drop, map, Option, Some, None, Result, Ok, Err, All, refl, sym, ap, ◌∙◌}
+use Rattle.std.proofs.Common.{subst, arith, append_assoc}
+use Rattle.std.proofs.lemmas.List.{take_at, append-nil, map-append}
+use Rattle.std.proofs.lemmas.List.Elements.{All-head, All-tail, All-same, All-map, All-weaker}
+use Rattle.std.specs.Str.{IsCharBoundary}
+use Rattle.graphql_lexer.specs.declared.position.Pos.{Pos}
+use Rattle.graphql_lexer.specs.declared.tokenizer.token.Kind.{Kind}
+use Rattle.graphql_lexer.specs.declared.tokenizer.token.Token.{Token as Cut}
+use Rattle.graphql_lexer.specs.declared.tokenizer.token.Bad.{Bad}
+use Rattle.graphql_lexer.specs.Items.{Where, Item, item, Lexeme}
+use Rattle.graphql_lexer.specs.Stream.{NextItem, next_place}
+use Rattle.graphql_grammar.specs.Tokens.{Token}
+use Rattle.graphql_core.specs.declared.common.fault.Fault.{Fault}
+use Rattle.graphql_core.specs.declared.helpers.span.Span.{Span}
+use Rattle.graphql_core.specs.Causes.{kind_number}
+use Rattle.graphql_core.specs.Source.{Items, Last, IsLexeme, IsFaultOf, split, then_items, tokens_then, token_of}
+use Rattle.graphql_core.specs.steps.Marks.{first_byte}
+use Rattle.graphql_core.specs.steps.Spans.{Marks, span_token, span_items, last_of}
+use Rattle.graphql_core.proofs.TokenPlaces.{IsToken, StandsIn}
+
+-- these tokens, and then these items
+abbrev pub before : List Token → Items → Items
+before ts i = record { tokens = ts ++ i.tokens; last = i.last; spent = i.spent }
+
+-- the next item is a token that stands in the text
+pub next_stands : (text : List ℕ) (old new : List Item) (r : Result (Option Cut) Bad) (t : Cut) → NextItem old r new → r ≡ Ok (Some t)
+    → All (StandsIn text) old
+    → (old ≡ item (Lexeme t.kind t.value.now) (next_place old) ∷ new) × IsToken text (next_place old) t.kind t.value.now × All (StandsIn text) new
+next_stands text old new r t next is all =
+    let (w, e) = subst (λ (x : Result (Option Cut) Bad). NextItem old x new) is next in
+    let i : Item = item (Lexeme t.kind t.value.now) w in
+    let all = All-same (StandsIn text) (i ∷ new) old (sym e) all in
+    let here : next_place old ≡ w = ap next_place e in
+    rw here (e, All-head (StandsIn text) i new all, All-tail (StandsIn text) i new all)
+
+-- a token that was answered of the items that were there is the next one
+pub next_of : (old was new : List Item) (r : Result (Option Cut) Bad) (t : Cut) → was ≡ old → NextItem was r new → r ≡ Ok (Some t) → NextItem old (Ok (Some t)) new
+next_of old was new r t same next is =
+    subst (λ (l : List Item). NextItem l (Ok (Some t)) new) same (subst (λ (x : Result (Option Cut) Bad). NextItem was x new) is next)
+
+module _ {W : Type 0} (number : W → ℕ) (text : List ℕ) where
+  -- a span of a token that stands in the text
+  module _ (s : Span W) (w : Where) (k : Kind) (bytes : List ℕ) (t : IsToken text w k bytes) (start : number s.start ≡ w.offset)
+      (end : number s.end ≡ w.offset + length bytes) (line : number s.line ≡ w.position.line) (column : number s.column ≡ w.position.column)
+      (kind : s.kind ≡ k) where
+    long : number s.end - number s.start ≡ length bytes
+    long = omega (arith, start, end)
+
+    follows : drop (number s.start) text ≡ bytes ++ t.rest
+    follows = ap (λ (n : ℕ). drop n text) start ∙ t.is
+
+    spelled : take (number s.end - number s.start) (drop (number s.start) text) ≡ bytes
+    spelled = (λ i. take (long i) (follows i)) ∙ take_at bytes t.rest (length bytes) refl
+
+    pub is_token : span_token number text s ≡ token_of w.position k bytes
+    is_token = λ i. record { kind = kind_number (kind i); spelling = spelled i; place = record { line = line i; column = column i } }
+
+    pub marks : s.front ≡ first_byte bytes → Marks number text s
+    marks front = record {
+      ordered = omega (arith, start, end);
+      starts = subst (IsCharBoundary text) (sym start) t.starts;
+      ends = rw (follows, long) t.ends;
+      front = front ∙ ap first_byte (sym spelled);
+      lexeme = subst IsLexeme (sym is_token) t.lexeme;
+    }
+
+  -- one token on
+  pub before_more : (spans : List (Span W)) (s : Span W) (old new : List Item) (k : Kind) (bytes : List ℕ) (w : Where) (all : Items)
+      → all ≡ before (map (span_token number text) spans) (split old) → old ≡ item (Lexeme k bytes) w ∷ new
+      → span_token number text s ≡ token_of w.position k bytes
+      → all ≡ before (map (span_token number text) (spans ++ s ∷ [])) (split new)
+  before_more spans s old new k bytes w all is next token =
+      let f = span_token number text in
+      is ∙ ap (λ (l : List Item). before (map f spans) (split l)) next
+      ∙ ap (λ (x : Token). before (map f spans) (then_items x (split new))) (sym token)
+      ∙ ap (λ (ts : List Token). let i : Items = record { tokens = ts; last = (split new).last; spent = (split new).spent } in i)
+      (sym (append_assoc (map f spans) (f s ∷ []) (split new).tokens) ∙ ap (λ (ts : List Token). ts ++ (split new).tokens) (sym (map-append f spans (s ∷ []))))
+
+  -- at the end
+  pub before_end : (spans : List (Span W)) (old new : List Item) (r : Result (Option Cut) Bad) (p : Pos) (all : Items)
+      → all ≡ before (map (span_token number text) spans) (split old) → NextItem old r new → r ≡ Ok None → p ≡ (next_place old).position
+      → span_items number text spans (last_of p None) ≡ all
+  before_end spans old new r p all is next e place =
+      let (w, only, same) = subst (λ (x : Result (Option Cut) Bad). NextItem old x new) e next in
+      let f = span_token number text in
+      let at : p ≡ w.position = place ∙ ap (λ (l : List Item). (next_place l).position) only in
+      sym (is ∙ ap (λ (l : List Item). before (map f spans) (split l)) only
+      ∙ (λ i. tokens_then (append-nil (map f spans) i) (last_of (sym at i) None)))
+
+  -- at a bad place
+  pub before_bad : (spans : List (Span W)) (old new : List Item) (r : Result (Option Cut) Bad) (p : Pos) (bad : Bad) (all : Items)
+      → all ≡ before (map (span_token number text) spans) (split old) → NextItem old r new → r ≡ Err bad → p ≡ (next_place old).position
+      → span_items number text spans (last_of p (Some bad)) ≡ all
+  before_bad spans old new r p bad all is next e place =
+      let (w, only, same) = subst (λ (x : Result (Option Cut) Bad). NextItem old x new) e next in
+      let f = span_token number text in
+      let at : p ≡ w.position = place ∙ ap (λ (l : List Item). (next_place l).position) only in
+      sym (is ∙ ap (λ (l : List Item). before (map f spans) (split l)) only
+      ∙ (λ i. tokens_then (append-nil (map f spans) i) (last_of (sym at i) (Some bad))))
+
+  -- ---- what is left
+
+  pub lexemes_left : (spans : List (Span W)) → All (Marks number text) spans → All IsLexeme (map (span_token number text) spans)
+  lexemes_left spans all =
+      All-map IsLexeme (span_token number text) spans
+      (All-weaker (Marks number text) (λ s. IsLexeme (span_token number text s)) (λ s m. m.lexeme) spans all)
+
+  -- the fault of the token that is next
+  pub fault_here : (s : Span W) (spans more : List (Span W)) (last : Last) (p : Pos) (value : List ℕ) (f : Fault)
+      → spans ≡ s ∷ more → p.line ≡ number s.line → p.column ≡ number s.column → value ≡ (span_token number text s).spelling
+      → ((following : Items) → IsFaultOf (then_items (token_of p s.kind value) following) f) → IsFaultOf (span_items number text spans last) f
+  fault_here s spans more last p value f next line column spelled h =
+      let following = span_items number text more last in
+      let same : token_of p s.kind value ≡ span_token number text s =
+      λ i. record { kind = kind_number s.kind; spelling = spelled i; place = record { line = line i; column = column i } } in
+      subst (λ (l : List (Span W)). IsFaultOf (span_items number text l last) f) (sym next)
+      (subst (λ (t : Token). IsFaultOf (then_items t following) f) same (h following))

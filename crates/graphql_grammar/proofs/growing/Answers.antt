@@ -1,0 +1,5 @@
+use Rattle.graphql_grammar.proofs.GrownTrees.{derives_on}
+use Rattle.graphql_grammar.proofs.growing.Goals as goal
+
+pub returns : goal.returns
+returns c = record { on = derives_on }

@@ -1,0 +1,85 @@
+//! Both sources of tokens have the same items.
+ghost use Rattle.std.specs.Prelude.{◌≤◌, ◌<◌, ◌*◌, ◌/◌, length};
+
+use crate::tokenizer::Token;
+use graphql_core::helpers::{Cursor, Lexeme, SpanSource, Spans, TokenSource, WIDE_TEXT, Width};
+use std::alloc::Global;
+use std::test::Fail;
+
+const QUERY: &str = "query Q($a: [Int!]! = [1, 2]) @d(x: $a) { b: c ... on T @e { f } ...G }";
+
+pub const SCHEMA: &str = "    schema {
+        query: Query
+    }
+    type Query {
+        users: [User!]!,
+    }
+    \"\"\"
+       Example user object
+
+       This is just a demo comment.
+    \"\"\"
+    type User {
+        name: String!,
+    }
+";
+
+const STRING: &str = "{ a(s: \"é\") b }";
+
+const BLOCK_STRING: &str = "{ a(s: \"\"\"x\né\"\"\") b }";
+
+/// A token of a source.
+fn token_of(lexeme: Lexeme<&str>) -> Token<'_> {
+    Token {
+        kind: lexeme.kind,
+        value: lexeme.text,
+    }
+}
+
+/// Whether the items of a text, and its end, are the same from a cursor and from spans of this width.
+fn have_same_items<W: Width>(alloc: Global, source: &str) -> Result<bool, Fail>
+    requires small { length source.now ≤ usize.MAX / 16 }
+    requires narrow { 8 * length source.now < W.most }
+{
+    let mut cursor: Cursor<'_, &str> = Cursor::new(source);
+    let cut: Spans<'_, W> = Spans::new(alloc, source)?;
+    let mut spans: SpanSource<'_, '_, &str, W> = cut.source();
+    'items: for _ in 0..=source.len() {
+        if cursor.peek().map(token_of) != spans.peek().map(token_of)
+            || cursor.position() != spans.position()
+            || cursor.is_at_end() != spans.is_at_end()
+        {
+            return Ok(false);
+        }
+        let fault = format!(in alloc; "{:?}", cursor.fault(alloc))?;
+        if fault != format!(in alloc; "{:?}", spans.fault(alloc))? {
+            return Ok(false);
+        }
+        cursor.advance();
+        spans.advance();
+    }
+    Ok(cursor.peek().is_none())
+}
+
+/// Whether that is so at both widths, for every beginning of a text that ends between two characters.
+fn have_same_beginnings(alloc: Global, source: &str) -> Result<bool, Fail> {
+    'beginnings: for len in 0..=source.len() {
+        if let Some((text, _)) = source.split_at_checked(len) {
+            if text.len() >= WIDE_TEXT
+                || !have_same_items::<u32>(alloc, text)?
+                || !have_same_items::<usize>(alloc, text)?
+            {
+                return Ok(false);
+            }
+        }
+    }
+    Ok(true)
+}
+
+#[test]
+fn each_beginning(rt: HostRuntime) -> Result<(), Fail> {
+    'texts: for text in [QUERY, SCHEMA, STRING, BLOCK_STRING] {
+        assert!(rt; have_same_beginnings(rt.alloc(), text)?);
+    }
+    Ok(())
+}

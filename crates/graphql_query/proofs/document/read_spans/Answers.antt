@@ -1,0 +1,12 @@
+use Rattle.std.proofs.Common.{subst, ◌∙◌}
+use Rattle.graphql_core.specs.Source.{Items}
+use Rattle.graphql_values.specs.Parsing.{ReadsDocument}
+use Rattle.graphql_query_tree.specs.Document.{queries}
+use Rattle.graphql_query_tree.specs.Tree.{document_view}
+use Rattle.graphql_query.proofs.document.read_spans.Goals as goal
+
+pub returns : goal.returns
+returns g c items has =
+    let read = c.read_document.ensures in
+    subst (λ (i : Items). ReadsDocument queries (document_view g.S.Names.bytes) i c.read_document.result)
+    (c.source-tokens.ensures ∙ c.in_ok-spans.ensures items has) (record { derived = read.derived; complete = read.complete; refused = read.refused })

@@ -1,0 +1,12 @@
+use Rattle.graphql_values.proofs.Faults.{none_goes_on, valueless_not}
+use Rattle.graphql_query_tree.specs.Document.{queries}
+use Rattle.graphql_query_tree.proofs.Readable.{readable}
+use Rattle.graphql_query.specs.FirstDefinition.{one_definition}
+use Rattle.graphql_query.proofs.FirstDefinition.{readable_one}
+use Rattle.graphql_query.proofs.laws.none_goes_on_with_an_unexpected_item.Goals as goal
+
+pub returns : goal.returns
+returns c = record {
+  documents = none_goes_on queries readable (λ c t k. valueless_not t k) (λ node f h. absurd h);
+  definitions = none_goes_on one_definition readable_one (λ c t k. valueless_not t k) (λ node f h. absurd h);
+}

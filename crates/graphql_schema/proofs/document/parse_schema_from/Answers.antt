@@ -1,0 +1,30 @@
+use Rattle.std.proofs.Common.{subst, ap, ◌∙◌}
+use Rattle.graphql_core.specs.Source.{Items, items_of_stream, split}
+use Rattle.graphql_core.proofs.NestingDepth.{nests_open}
+use Rattle.graphql_values.proofs.Parsing.{stream_parsed, stream_unparsed}
+use Rattle.graphql_values.specs.Document.{IsDocument}
+use Rattle.graphql_schema_tree.specs.Language.{schemas}
+use Rattle.graphql_schema_tree.specs.Views.{document_view}
+use Rattle.graphql_schema_tree.proofs.Readable.{readable}
+use Rattle.graphql_schema.proofs.Printable.{items_printable}
+use Rattle.graphql_schema.proofs.document.parse_schema_from.Goals as goal
+
+pub returns-in_err-read-clause-parses : goal.returns-in_err-read-clause-parses
+returns-in_err-read-clause-parses g c =
+    let from = c.over-cursor.ensures.items ∙ ap items_of_stream c.replace.ensures.value in
+    stream_unparsed schemas readable _ c.args.stream.now c.into_stream.result c.over-cursor.result c.read_document-read.new.source from c.in_err-read.ensures.kept c.into_stream.ensures.within _ _
+    c.in_err-read.ensures.reads c.from_residual.ensures.1
+
+pub returns-clause-parses : goal.returns-clause-parses
+returns-clause-parses g c =
+    let from = c.over-cursor.ensures.items ∙ ap items_of_stream c.replace.ensures.value in
+    stream_parsed schemas readable _ c.args.stream.now c.into_stream.result c.over-cursor.result c.read_document-read.new.source from c.in_ok-read.ensures.kept c.into_stream.ensures.within _
+    c.in_ok-read.ensures.reads c.into_stream.ensures.all c.in_ok-read.ensures.end
+
+pub returns-clause-printable : goal.returns-clause-printable
+returns-clause-printable g c =
+    let from = c.over-cursor.ensures.items ∙ ap items_of_stream c.replace.ensures.value in
+    let (text, are) = rw c.replace.ensures.value at c.over-cursor.ensures.rest in
+    let d = document_view g.S.Names.bytes c.in_ok-read.field-0 in
+    items_printable (split c.args.stream.now.items) d (nests_open c.args.stream.now.items text are c.requires)
+    (subst (λ (k : Items). IsDocument schemas k d) from c.in_ok-read.ensures.reads.derived)

@@ -1,0 +1,11 @@
+use Rattle.std.proofs.Common.{subst, ◌∙◌}
+use Rattle.graphql_core.specs.Source.{Items}
+use Rattle.graphql_values.specs.Parsing.{ReadsDocument}
+use Rattle.graphql_schema_tree.specs.Language.{schemas}
+use Rattle.graphql_schema_tree.specs.Views.{document_view}
+use Rattle.graphql_schema.proofs.document.read_spans.Goals as goal
+
+pub returns : goal.returns
+returns g c items has =
+    subst (λ (i : Items). ReadsDocument schemas (document_view g.S.Names.bytes) i c.read_document.result)
+    (c.source-tokens.ensures ∙ c.in_ok-spans.ensures items has) c.read_document.ensures.reads
