@@ -1,10 +1,10 @@
 -- What is written of the characters and lines of strings.
 use Rattle.std.proofs.Common.{◌≡◌, ◌≢◌, ◌∙◌, ap, sym, refl, subst, ℕ, zero, suc, ◌-◌, ◌<◌, ◌≤◌, true, false, ◌==◌}
 use Rattle.std.proofs.Common.{inl, inr, Some, None, nat_lt, List, [], ◌∷◌, ◌++◌, length, get_or, take, drop, codes, arith, append-nil}
-use Rattle.std.specs.List.{flat_map, slice_get, slice_index, prefix_len}
+use Rattle.std.specs.List.{flat_map, list_any, slice_get, slice_index, prefix_len}
 use Rattle.std.specs.Str.{IsUtf8, IsCharBoundary}
 use Rattle.std.proofs.Math.Utf8.{encode}
-use Rattle.std.proofs.lemmas.Bool.{cases_Bool, ne_eqb}
+use Rattle.std.proofs.lemmas.Bool.{cases_Bool, ne_eqb, or_parts}
 use Rattle.std.proofs.lemmas.Bool.Decides.{nat_tests}
 use Rattle.std.proofs.lemmas.List.{take_all, drop_all}
 use Rattle.std.proofs.lemmas.Str.{encode_ascii, IsCharBoundary-before_ascii, IsCharBoundary-after_ascii, IsCharBoundary-end}
@@ -145,3 +145,12 @@ ends_in_return_is (b ∷ []) = refl
 ends_in_return_is (b ∷ c ∷ cs) =
     let later : length (b ∷ c ∷ cs) - 1 ≡ suc (length (c ∷ cs) - 1) = omega arith in
     ends_in_return_is (c ∷ cs) ∙ sym (ap (λ k. slice_index (b ∷ c ∷ cs) k == 13) later)
+
+-- a line without quotes is written as it is
+pub unquoted : (line : List ℕ) → list_any (λ b. b == 34) line ≡ false → escaped_quotes line ≡ line
+unquoted [] none = refl
+unquoted (a ∷ []) none = refl
+unquoted (a ∷ b ∷ []) none = refl
+unquoted (a ∷ b ∷ c ∷ more) none =
+    let (here, after) = or_parts (a == 34) _ none in
+    rw here (ap (λ (l : List ℕ). a ∷ l) (unquoted (b ∷ c ∷ more) after))

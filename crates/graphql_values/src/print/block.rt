@@ -142,10 +142,20 @@ pub fn has_block_form(text: &str) -> bool
     has_line_feed(text) && has_block_characters(text) && has_block_lines(text)
 }
 
+/// Whether a line has a quote, which most have not.
+fn has_quote(line: &str) -> bool
+    ensures { result ≡ list_any (λ b. b == 34) line.now }
+{
+    line.as_bytes().contains(&b'"')
+}
+
 /// Appends a line, with a backslash before each three quotes.
 fn write_escaped<S: Sink>(out: &mut S, line: &str) -> Result<(), S::Error>
     ensures { OnOk result (S.took out.old (spec.escaped_quotes line.now) out.new) }
 {
+    if !has_quote(line) {
+        return out.push_str(line);
+    }
     let mut rest = line;
     'quotes: while let Some((plain, after)) = rest.split_once(QUOTES) {
         out.push_str(plain)?;

@@ -1,7 +1,7 @@
 use Rattle.std.proofs.Common.{◌∷◌, ◌++◌, ◌∙◌, [], take, drop, arith, rules, refl, sym, ap, append_assoc}
 use Rattle.graphql_values.specs.ValueLayout.{escaped_quotes}
-use Rattle.graphql_values.proofs.Appending.{and_last, and_part, alike}
-use Rattle.graphql_values.proofs.QuotedText.{escaped_at, escaped_none}
+use Rattle.graphql_values.proofs.Appending.{and_alone, and_last, and_part, alike}
+use Rattle.graphql_values.proofs.QuotedText.{escaped_at, escaped_none, unquoted}
 use Rattle.graphql_values.proofs.print.block.write_escaped.Goals as goal
 
 pub quotes-init : goal.quotes-init
@@ -27,3 +27,8 @@ returns g c =
     let (done, wrote, whole) = c.quotes.invariant.written in
     let none = escaped_none c.quotes.rest.now c.in_default.ensures.cases in
     and_last g.S.Sink.took g.met.S.Sink.took_more _ _ _ _ _ _ _ wrote c.push_str-2.ensures (ap (λ t. done ++ t) (sym none) ∙ whole)
+
+pub returns-then-not-has_quote : goal.returns-then-not-has_quote
+returns-then-not-has_quote g c =
+    and_alone g.S.Sink.took g.met.S.Sink.took_more _ _ _ _ _ c.push_str.ensures
+    (sym (unquoted c.args.line.now (sym c.has_quote.ensures ∙ c.if-not-has_quote.true)))
