@@ -1,15 +1,15 @@
-//! The calls, and what is right.
+//! The calls that allocate, and what is right.
 use crate::documents::{Refusal, Texts, use_texts};
-use crate::schemas::use_schemas;
+use crate::parts::use_parts;
+use crate::schemas::{USERS, use_schemas};
 use crate::tally::Tally;
 use graphql_parser::common::Text;
-use graphql_parser::query::{Document, Value, consume_definition, minify_query};
+use graphql_parser::query::{Document, consume_definition, minify_query};
 use std::alloc::{AllocError, Global};
 use std::borrow::CowStr;
-use std::collections::BTreeMap;
 
 /// Documents, and their layouts in the default style.
-const DOCUMENTS: [(&str, &str); 4] = [
+pub const DOCUMENTS: [(&str, &str); 4] = [
     ("{ a { b } }", "{\n  a {\n    b\n  }\n}\n"),
     (
         "{ a } mutation M { b } subscription S { c } fragment F on T { d }",
@@ -37,7 +37,19 @@ const REFUSED: [(&str, usize); 7] = [
 ];
 
 /// Texts, and what they are minified to.
-const MINIFIED: [(&str, &str); 2] = [("", ""), ("a-1 ... \"b\"\"c\"", "a -1 ...\"b\" \"c\"")];
+const MINIFIED: [(&str, &str); 4] = [
+    ("", ""),
+    ("a-1 ... \"b\"\"c\"", "a -1 ...\"b\" \"c\""),
+    (
+        "query Q($a: [Int!]! = [1, 2]) @d(x: $a) { b: c ... on T @e { f } ...G }",
+        "query Q($a:[Int!]!=[1 2])@d(x:$a){b:c...on T@e{f}...G}",
+    ),
+    (
+        USERS,
+        "schema{query:Query}type Query{users:[User!]!}\"\"\"\n       Example user object\n\n       \
+         This is just a demo comment.\n    \"\"\" type User{name:String!}",
+    ),
+];
 
 /// Minifies texts.
 fn minify(alloc: Global, tally: &mut Tally) {
@@ -63,41 +75,31 @@ fn refuse_to_minify(alloc: Global, tally: &mut Tally) {
     }
 }
 
-/// A text that begins with a definition, the definition's layout in the default style, and what is left of the text.
-const FIRST: (&str, &str, &str) = (
-    "query Q($a: [Int] = [1]) @d(x: $a) { b: c(e: \"f\") ...G } # and\n{ c",
-    "query Q($a: [Int] = [1]) @d(x: $a) {\n  b: c(e: \"f\")\n  ...G\n}\n",
-    "{ c",
-);
+/// Texts that begin with a definition, the definition's layout in the default style, and what is left of the text.
+const FIRST: [(&str, &str, &str); 2] = [
+    (
+        "query Q($a: [Int] = [1]) @d(x: $a) { b: c(e: \"f\") ...G } # and\n{ c",
+        "query Q($a: [Int] = [1]) @d(x: $a) {\n  b: c(e: \"f\")\n  ...G\n}\n",
+        "{ c",
+    ),
+    (
+        "query Q($a: [Int!]! = [1, 2]) @d(x: $a) { b: c ... on T @e { f } ...G }",
+        "query Q($a: [Int!]! = [1, 2]) @d(x: $a) {\n  b: c\n  ... on T @e {\n    f\n  }\n  ...G\n}\n",
+        "",
+    ),
+];
 
-/// Takes the first definition of a text, with names that are owned.
-fn take_definition(alloc: Global, tally: &mut Tally) {
-    let (text, laid_out, left) = FIRST;
-    match consume_definition::<String>(alloc, text) {
-        Ok(first) => {
-            let (definition, rest) = first;
-            tally.add_text(&definition.to_string(alloc), laid_out, true);
-            tally.add(rest == left, false);
+/// Takes the first definition of texts, with names of a text type.
+fn take_definitions<'a, T: Text<'a>>(alloc: Global, tally: &mut Tally) {
+    for (text, laid_out, left) in FIRST {
+        match consume_definition::<T>(alloc, text) {
+            Ok(first) => {
+                let (definition, rest) = first;
+                tally.add_text(&definition.to_string(alloc), laid_out, true);
+                tally.check(rest == left);
+            }
+            Err(error) => tally.add(false, Refusal::of_query(&error).ran_out),
         }
-        Err(error) => tally.add(false, Refusal::of_query(&error).ran_out),
-    }
-}
-
-/// A value with a field, an item and each kind of name, made static.
-fn static_value(alloc: Global) -> Result<Value<'static, String>, AllocError> {
-    let mut fields: BTreeMap<&str, Value<'_, &str>> = BTreeMap::new(alloc);
-    drop(fields.insert("a", Value::Enum("E"))?);
-    let mut items = Vec::new(alloc);
-    items.push(Value::Object(fields))?;
-    items.push(Value::Variable("v"))?;
-    Value::List(items).into_static(alloc)
-}
-
-/// Makes a value static.
-fn make_static(alloc: Global, tally: &mut Tally) {
-    match static_value(alloc) {
-        Ok(value) => tally.add_text(&value.to_string(alloc), "[{a: E}, $v]", true),
-        Err(AllocError) => tally.add(false, true),
     }
 }
 
@@ -120,8 +122,9 @@ pub fn make_calls(alloc: Global) -> Tally {
     use_queries(alloc, &mut tally);
     minify(alloc, &mut tally);
     refuse_to_minify(alloc, &mut tally);
-    take_definition(alloc, &mut tally);
-    make_static(alloc, &mut tally);
+    take_definitions::<&str>(alloc, &mut tally);
+    take_definitions::<String>(alloc, &mut tally);
+    use_parts(alloc, &mut tally);
     use_schemas(alloc, &mut tally);
     tally
 }

@@ -1,6 +1,8 @@
 //! Documents of both languages, and why a text is none.
+use crate::streams::read_streams;
 use crate::tally::Tally;
 use graphql_parser::common::Text;
+use graphql_parser::tokenizer::TokenStream;
 use graphql_parser::{Cause, FormatError, Pos, Style, query, schema};
 use std::alloc::Global;
 use std::fmt::Display;
@@ -28,7 +30,7 @@ impl Refusal {
     }
 
     /// Why a text is no schema document.
-    fn of_schema(error: &schema::ParseError) -> Self {
+    pub fn of_schema(error: &schema::ParseError) -> Self {
         Refusal::new(error.cause(), error.position())
     }
 
@@ -49,6 +51,9 @@ pub trait Document<'a>: Clone + PartialEq + Display + Drop {
     /// The document of a text.
     fn parse(alloc: Global, source: &'a str) -> Result<Self, Refusal>;
 
+    /// The document of what is left of a stream, of which no bracket was taken.
+    fn parse_rest(alloc: Global, stream: &mut TokenStream<'a>) -> Option<Result<Self, Refusal>>;
+
     /// Its text in the default style.
     fn laid_out(&self, alloc: Global) -> Result<String, FormatError>;
 }
@@ -56,6 +61,14 @@ pub trait Document<'a>: Clone + PartialEq + Display + Drop {
 impl<'a, T: Text<'a>> Document<'a> for query::Document<'a, T> {
     fn parse(alloc: Global, source: &'a str) -> Result<Self, Refusal> {
         query::parse_query(alloc, source).map_err(|error| Refusal::of_query(&error))
+    }
+
+    fn parse_rest(alloc: Global, stream: &mut TokenStream<'a>) -> Option<Result<Self, Refusal>> {
+        if stream.depth() < 0 {
+            return None;
+        }
+        let answer = query::parse_query_from(alloc, stream);
+        Some(answer.map_err(|error| Refusal::of_query(&error)))
     }
 
     fn laid_out(&self, alloc: Global) -> Result<String, FormatError> {
@@ -68,6 +81,14 @@ impl<'a, T: Text<'a>> Document<'a> for schema::Document<'a, T> {
         schema::parse_schema(alloc, source).map_err(|error| Refusal::of_schema(&error))
     }
 
+    fn parse_rest(alloc: Global, stream: &mut TokenStream<'a>) -> Option<Result<Self, Refusal>> {
+        if stream.depth() < 0 {
+            return None;
+        }
+        let answer = schema::parse_schema_from(alloc, stream);
+        Some(answer.map_err(|error| Refusal::of_schema(&error)))
+    }
+
     fn laid_out(&self, alloc: Global) -> Result<String, FormatError> {
         self.format(alloc, &Style::default())
     }
@@ -76,7 +97,7 @@ impl<'a, T: Text<'a>> Document<'a> for schema::Document<'a, T> {
 /// Texts that are used in three ways.
 #[derive(Clone, Copy)]
 pub struct Texts<'a, 'b> {
-    /// Those that are read, laid out and cloned, each with its layout.
+    /// Those that are read, also from a stream, laid out and cloned, each with its layout.
     pub read: &'b [(&'a str, &'b str)],
     /// Those whose documents are shown, each with its layout.
     pub shown: &'b [(&'a str, &'b str)],
@@ -110,6 +131,7 @@ impl<'a, 'b> Texts<'a, 'b> {
 /// Uses texts as documents.
 pub fn use_texts<'a, D: Document<'a>>(alloc: Global, tally: &mut Tally, texts: &Texts<'a, '_>) {
     read_documents::<D>(alloc, tally, texts.read);
+    read_streams::<D>(alloc, tally, texts.read);
     show_documents::<D>(alloc, tally, texts.shown);
     refuse::<D>(alloc, tally, texts.refused);
 }

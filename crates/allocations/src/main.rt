@@ -1,43 +1,37 @@
-//! `allocations`: makes the calls of the library that allocate, and tells how many answers are right, how many say
-//! that an allocation failed, and how many are neither.
+//! `allocations`: makes the calls of the library, and tells how many answers are right, how many say that an allocation
+//! failed, and how many are neither: first of the calls that take no memory, and then of those that allocate.
 //!
-//! Standard input holds a number. So many boxes are made and dropped before the calls: where one allocation of the run
-//! is made to fail from outside, at a fixed count, the number says which allocation of the calls it is.
+//! `tools/failing_allocations` runs it with each allocation failing in turn, and with all of them failing from each on.
 #![tactic(auto)]
 
 mod calls;
 mod documents;
+mod parts;
 mod schemas;
+mod streams;
 mod tally;
+mod unfailing;
 
 use crate::calls::make_calls;
 use crate::tally::Tally;
-use std::alloc::Global;
-use std::io;
+use crate::unfailing::make_unfailing_calls;
 use std::process::ExitCode;
 
-/// Makes so many boxes, one after another.
-fn make_boxes(alloc: Global, count: u32) {
-    for _ in 0..count {
-        drop(Box::new(alloc, 0u32));
-    }
-}
-
-fn main(rt: HostRuntime) -> ExitCode {
-    let Ok(text) = io::read_to_string(rt.alloc(), rt.reader()) else {
-        let _ = eprintln!(rt; "allocations: there is no number");
-        return ExitCode::from(2);
-    };
-    let Ok(count) = text.as_str().trim_end().parse() else {
-        let _ = eprintln!(rt; "allocations: this is no number");
-        return ExitCode::from(2);
-    };
-    make_boxes(rt.alloc(), count);
+/// Tells of the answers to some calls.
+fn tell(rt: &HostRuntime, calls: &str, tally: Tally) {
     let Tally {
         right,
         out_of_memory,
         wrong,
-    } = make_calls(rt.alloc());
-    let _ = println!(rt; "{right} right, {out_of_memory} out of memory, {wrong} wrong");
-    ExitCode::from(if wrong == 0 { 0 } else { 1 })
+    } = tally;
+    let _ = println!(rt; "{calls}: {right} right, {out_of_memory} out of memory, {wrong} wrong");
+}
+
+fn main(rt: HostRuntime) -> ExitCode {
+    let unfailing = make_unfailing_calls(rt.alloc());
+    let allocating = make_calls(rt.alloc());
+    tell(&rt, "take no memory", unfailing);
+    tell(&rt, "allocate", allocating);
+    let all_are_right = unfailing.wrong == 0 && allocating.wrong == 0;
+    ExitCode::from(if all_are_right { 0 } else { 1 })
 }

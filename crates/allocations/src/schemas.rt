@@ -5,25 +5,41 @@ use graphql_parser::common::Text;
 use graphql_parser::schema::Document;
 use std::alloc::Global;
 
-/// A schema as its users write it, and a text in which each production stands, with their layouts in the default style.
+/// A schema as its users write it.
+pub const USERS: &str = "    schema {
+        query: Query
+    }
+    type Query {
+        users: [User!]!,
+    }
+    \"\"\"
+       Example user object
+
+       This is just a demo comment.
+    \"\"\"
+    type User {
+        name: String!,
+    }
+";
+
+/// This schema, and a text in which each production stands, with their layouts in the default style.
 const SCHEMAS: [(&str, &str); 2] = [
     (
-        "schema {\n    query: Query\n}\ntype Query {\n    users: [User!]!,\n}\n\
-         \"\"\"\n   Example user object\n\n   This is just a demo comment.\n\"\"\"\n\
-         type User {\n    name: String!,\n}\n",
+        USERS,
         "schema {\n  query: Query\n}\n\ntype Query {\n  users: [User!]!\n}\n\n\
          \"\"\"\n  Example user object\n\n  This is just a demo comment.\n\"\"\"\n\
          type User {\n  name: String!\n}\n",
     ),
     (
-        "schema @a(x: [$v, {k: 1.5}]) { query: Q mutation: M subscription: S } \"s\" scalar A @a \
+        "\"s\" schema @a(x: [$v, {k: 1.5}]) { query: Q mutation: M subscription: S } \"s\" scalar A @a \
          \"o\" type O implements & I & J @a { \"f\" f(\"x\" x: [Int!]! = [1, \"y\"] @a, y: B = null): O! @a } \
          \"i\" interface I implements J @a { g: I } \"u\" union U @a = | O | P \
          \"e\" enum E @a { \"v\" V @a, true } \"n\" input N @a { \"x\" x: B = {k: true} @a } \
          extend scalar A @a extend type O implements K @a { h: I } extend interface I @a { h: I } \
          extend union U @a = Q extend enum E @a { W } extend input N @a { y: B } \
+         extend schema @a @b(x: [A]) { query: Q mutation: M subscription: S } extend schema @a \
          \"d\" directive @d(\"x\" x: B = ENUM @a) repeatable on | FIELD | OBJECT",
-        "schema @a(x: [$v, {k: 1.5}]) {\n  query: Q\n  mutation: M\n  subscription: S\n}\n\n\
+        "\"s\"\nschema @a(x: [$v, {k: 1.5}]) {\n  query: Q\n  mutation: M\n  subscription: S\n}\n\n\
          \"s\"\nscalar A @a\n\n\
          \"o\"\ntype O implements I & J @a {\n  \"f\"\n  \
          f(\"x\" x: [Int!]! = [1, \"y\"] @a, y: B = null): O! @a\n}\n\n\
@@ -33,18 +49,23 @@ const SCHEMAS: [(&str, &str); 2] = [
          extend scalar A @a\n\nextend type O implements K @a {\n  h: I\n}\n\n\
          extend interface I @a {\n  h: I\n}\n\nextend union U @a = Q\n\n\
          extend enum E @a {\n  W\n}\n\nextend input N @a {\n  y: B\n}\n\n\
+         extend schema @a @b(x: [A]) {\n  query: Q\n  mutation: M\n  subscription: S\n}\n\n\
+         extend schema @a\n\n\
          \"d\"\ndirective @d(\"x\" x: B = ENUM @a) repeatable on FIELD | OBJECT\n",
     ),
 ];
 
 /// Texts that are no schema documents, and the columns at which they are refused.
-const REFUSED: [(&str, usize); 10] = [
+const REFUSED: [(&str, usize); 13] = [
     ("", 1),
     ("type A { }", 10),
     ("type A { b: C ;", 15),
     ("schema { foo: A }", 1),
     ("schema { query: A query: B foo: C }", 1),
     ("extend scalar A ;", 8),
+    ("extend schema ;", 8),
+    ("extend schema @a { query: A query: B }", 8),
+    ("\"d\" schema { query: A foo: B }", 5),
     ("directive @a on FOO", 17),
     ("\"\\q\" scalar A", 1),
     ("input A { b: C = 9223372036854775808 }", 18),

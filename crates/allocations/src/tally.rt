@@ -20,6 +20,11 @@ impl Tally {
         }
     }
 
+    /// Counts an answer that no allocation can change.
+    pub fn check(&mut self, right: bool) {
+        self.add(right, false);
+    }
+
     /// Counts a text that was asked for.
     pub fn add_text<E>(&mut self, answer: &Result<String, E>, wanted: &str, out_of_memory: bool) {
         match answer {

@@ -38,8 +38,9 @@ pub mod schema {
         Definition, DirectiveDefinition, DirectiveLocation, Document, EnumType, EnumTypeExtension,
         EnumValue, Field, InputObjectType, InputObjectTypeExtension, InputValue, InterfaceType,
         InterfaceTypeExtension, InvalidDirectiveLocation, Names, ObjectType, ObjectTypeExtension,
-        ParseError, ScalarType, ScalarTypeExtension, SchemaDefinition, Text, TypeDefinition,
-        TypeExtension, UnionType, UnionTypeExtension, parse_schema, parse_schema_from,
+        ParseError, ScalarType, ScalarTypeExtension, SchemaDefinition, SchemaExtension, Text,
+        TypeDefinition, TypeExtension, UnionType, UnionTypeExtension, parse_schema,
+        parse_schema_from,
     };
     pub use graphql_values::{Directive, Type, Value};
 }

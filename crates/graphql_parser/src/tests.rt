@@ -5,6 +5,7 @@ mod built;
 mod callers;
 mod first;
 mod messages;
+mod parts_alone;
 mod schemas;
 mod sources;
 mod statics;

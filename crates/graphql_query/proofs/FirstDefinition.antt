@@ -15,11 +15,11 @@ use Rattle.graphql_core.specs.Source.{Items, kept}
 use Rattle.graphql_core.specs.steps.Stops.{IsFaultFor}
 use Rattle.graphql_values.specs.Faults.{IsLeastOf}
 use Rattle.graphql_values.specs.steps.Answers.{reason_of}
-use Rattle.graphql_values.proofs.Readable.{IsReadable, exact}
+use Rattle.graphql_values.proofs.Readable.{IsReadable, exact, exact_lax}
 use Rattle.graphql_values.proofs.Whole.{least_stop}
 use Rattle.graphql_query_tree.specs.Grammar.{tables, second_rows, reading, changes, definition_symbol}
 use Rattle.graphql_query_tree.proofs.Readable.{readable}
-use Rattle.graphql_query.specs.FirstDefinition.{one_definition, BeginsWith}
+use Rattle.graphql_query.specs.FirstDefinition.{one_definition, BeginsWith, NoneBeginsAnother}
 
 pub readable_one : IsReadable one_definition
 unfolding tables
@@ -86,6 +86,13 @@ pub one_beginning : (ts us vs : List Token) (x y : Shape) → BeginsWith ts x us
 one_beginning ts us vs x y (fits, parts) (other_fits, other_parts) =
     let (same, front, rest) = (exact one_definition readable_one).one_split (leaves x) (leaves y) us vs x y (fits, refl) (other_fits, refl)
     (sym parts ∙ other_parts) (ends_there us) (ends_there vs) in
+    (same, rest)
+
+-- also where tokens have no value
+pub none_begins_another : NoneBeginsAnother
+none_begins_another x y us vs fits other_fits parts =
+    let (same, front, rest) = (exact_lax one_definition readable_one).one_split (leaves x) (leaves y) us vs x y (fits, refl) (other_fits, refl)
+    parts (ends_there us) (ends_there vs) in
     (same, rest)
 
 none_fails : (ts us vs : List Token) (x : Shape) (why : Reason) → BeginsWith ts x vs → Fails reading (Sym definition_symbol) ts why us → ⊥

@@ -23,7 +23,7 @@ use Rattle.graphql_core.specs.Source.{split, token_of}
 use Rattle.graphql_query_tree.specs.Grammar.{query, definition_symbol, operation_symbol, operation_body_symbol}
 use Rattle.graphql_query_tree.specs.Grammar.{selection_set_symbol, fragment_definition_symbol}
 use Rattle.graphql_query_tree.specs.Tree.{DefinitionTree}
-use Rattle.graphql_query.specs.FirstDefinition.{text_after, BeginsWith, IsFirstDefinition, BeginsWithDefinition}
+use Rattle.graphql_query.specs.FirstDefinition.{text_after, BeginsWith, IsFirstDefinition, BeginsWithDefinition, IsFirstShape, BeginsWithShape}
 use Rattle.graphql_core.proofs.TokenPlaces.{part}
 
 -- ---- what a piece may stand before
@@ -253,9 +253,9 @@ shorter text d rest (is, has, x, us, begins, means, after) =
     let o = (next_place (drop (length (leaves x)) is)).offset in
     omega (arith, k.some, k.within, ap length after, length-drop o text, ap length k.parts, length-append k.a k.b)
 
-pub other_rest : (text : List ℕ) (d : DefinitionTree) (rest taken other : List ℕ) → IsFirstDefinition text (d, rest) → text ≡ taken ++ rest
-    → BeginsWithDefinition (taken ++ other) d
-other_rest text d rest taken other (is, has, x, us, begins, means, after) whole =
+pub other_tokens : (text : List ℕ) (x : Shape) (rest taken other : List ℕ) → IsFirstShape text (x, rest) → text ≡ taken ++ rest
+    → BeginsWithShape (taken ++ other) x
+other_tokens text x rest taken other (is, has, us, begins, after) whole =
     let k = kept_first text is x us has begins in
     let o = (next_place (drop (length (leaves x)) is)).offset in
     let c = drop (length k.a) taken in
@@ -273,5 +273,11 @@ other_rest text d rest taken other (is, has, x, us, begins, means, after) whole 
     let same : k.a ++ (c ++ other) ≡ taken ++ other = sym (append_assoc k.a c other) ∙ ap (λ (l : List ℕ). l ++ other) (sym front) in
     let items = items_of start qs end in (
       text_after (length (leaves x)) items (taken ++ other),
-      (items, (qs, end, subst (λ (l : List ℕ). IsCutInto l qs end) same other_cut, refl), x, vs, (begins.0, tokens), means, refl),
+      (items, (qs, end, subst (λ (l : List ℕ). IsCutInto l qs end) same other_cut, refl), vs, (begins.0, tokens), refl),
     )
+
+pub other_rest : (text : List ℕ) (d : DefinitionTree) (rest taken other : List ℕ) → IsFirstDefinition text (d, rest) → text ≡ taken ++ rest
+    → BeginsWithDefinition (taken ++ other) d
+other_rest text d rest taken other (is, has, x, us, begins, means, after) whole =
+    let (left, (items, other_has, vs, other_begins, other_after)) = other_tokens text x rest taken other (is, has, us, begins, after) whole in
+    (left, (items, other_has, x, vs, other_begins, means, other_after))

@@ -2,6 +2,7 @@
 use Rattle.std.specs.Prelude.{◌≡◌, ℕ, List, [], ◌∷◌, ◌++◌, length, drop}
 use Rattle.graphql_grammar.specs.Tokens.{Token}
 use Rattle.graphql_grammar.specs.Trees.{Sym, Shape, leaves, Fits}
+use Rattle.graphql_grammar.specs.Reading.{lax}
 use Rattle.graphql_core.specs.Source.{split}
 use Rattle.graphql_lexer.specs.Items.{Item, HasItems}
 use Rattle.graphql_lexer.specs.Stream.{next_place}
@@ -9,7 +10,7 @@ use Rattle.graphql_values.specs.Language.{Language}
 use Rattle.graphql_query_tree.specs.Document.{queries, IsReadBack}
 use Rattle.graphql_query_tree.specs.Earlier.{queries_0_4_1}
 use Rattle.graphql_query_tree.specs.Tree.{DefinitionTree, DocumentTree, erase_definition}
-use Rattle.graphql_query_tree.specs.Grammar.{definition_symbol}
+use Rattle.graphql_query_tree.specs.Grammar.{query, definition_symbol}
 use Rattle.graphql_query_tree.specs.Meanings.{definition_of}
 
 -- The language of one definition: as that of documents, but that a text of it is one definition.
@@ -56,6 +57,24 @@ IsFirstDefinition_0_4_1 = IsFirstIn (one_definition_of queries_0_4_1)
 -- the first definition of the text means d, whatever stands after it
 abbrev pub BeginsWithDefinition : List ℕ → DefinitionTree → Type 0
 BeginsWithDefinition text d = (rest : List ℕ) × IsFirstDefinition text (d, rest)
+
+-- The tokens of the text begin with those of a definition of this shape, each at its place, and the rest is the text from the item after the
+-- last of them on.
+abbrev pub IsFirstShape : List ℕ → Shape × List ℕ → Type 0
+IsFirstShape text (x, rest) =
+    (items : List Item) × HasItems text items × (others : List Token) × BeginsWith (split items).tokens x others
+    × (rest ≡ text_after (length (leaves x)) items text)
+
+-- so they do, whatever stands after them
+abbrev pub BeginsWithShape : List ℕ → Shape → Type 0
+BeginsWithShape text x = (rest : List ℕ) × IsFirstShape text (x, rest)
+
+-- No list of tokens of a definition begins another, and each has one shape, also where integers, floats and strings without a value are let
+-- through.
+abbrev pub NoneBeginsAnother : Type 0
+NoneBeginsAnother =
+    (x y : Shape) (us vs : List Token) → Fits (lax query) (Sym definition_symbol) x → Fits (lax query) (Sym definition_symbol) y
+    → leaves x ++ us ≡ leaves y ++ vs → (x ≡ y) × (us ≡ vs)
 
 -- the rest has these definitions, positions aside; where there are none, nothing is left
 abbrev pub HasDefinitions : List ℕ → List DefinitionTree → Type 0

@@ -12,7 +12,7 @@ ghost use Rattle.graphql_query_tree.specs.Document.{IsDocumentOf};
 ghost use Rattle.graphql_query_tree.specs.Earlier.{HasNoNewPart};
 ghost use Rattle.graphql_query_tree.specs.Tree.{DefinitionTree, definition_view};
 ghost use Rattle.graphql_query.specs.FirstDefinition.{one_definition, text_after, BeginsWith, IsFirstDefinition, BeginsWithDefinition};
-ghost use Rattle.graphql_query.specs.FirstDefinition.{IsFirstDefinition_0_4_1, HasDefinitions};
+ghost use Rattle.graphql_query.specs.FirstDefinition.{IsFirstDefinition_0_4_1, HasDefinitions, IsFirstShape, BeginsWithShape, NoneBeginsAnother};
 ghost use Rattle.graphql_query.specs.steps.Reads.{TakesDefinition};
 
 use crate::error::ParseError;
@@ -89,6 +89,13 @@ pub fn consume_definition<'a, S: Text<'a>>(
     // What follows plays no part: with any other text in place of the rest the definition is the same, positions included.
     ensures other_rest { (d : DefinitionTree) (rest taken other : List ℕ) → IsFirstDefinition source.now (d, rest) → source.now ≡ taken ++ rest
         → BeginsWithDefinition (taken ++ other) d }
+
+    // The tokens of the definition then begin the other text, each at the position that it has here.
+    ensures other_tokens { (x : Shape) (rest taken other : List ℕ) → IsFirstShape source.now (x, rest) → source.now ≡ taken ++ rest
+        → BeginsWithShape (taken ++ other) x }
+
+    // There is one at most since no list of tokens of a definition begins another, also where tokens have no value.
+    ensures one_beginning { NoneBeginsAnother }
 
     // A refusal is the fault of least index of a text that is to be one definition, and no two faults of it have one index.
     // A text past the bound is refused before any allocation.

@@ -29,5 +29,8 @@ pub fn none_goes_on_with_an_unexpected_item()
 
 /// A minified text is parsed as its source is, but for positions: a document for a document, a refusal for a refusal.
 pub fn minified_texts_are_parsed_alike()
-    ensures { (source text : List ℕ) (r s : Result DocumentTree Refusal) → IsMinified source text → IsParsed source r → IsParsed text s → AreAlike r s }
+    ensures alike { (source text : List ℕ) (r s : Result DocumentTree Refusal) → IsMinified source text → IsParsed source r → IsParsed text s → AreAlike r s }
+    // Both are refused for one cause.
+    ensures one_cause { (source text : List ℕ) (f g : FaultText) → IsMinified source text → IsLeastFaultOf source f → IsLeastFaultOf text g
+        → f.cause ≡ g.cause }
 {}

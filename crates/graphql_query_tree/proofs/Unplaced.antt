@@ -1,4 +1,4 @@
--- What queries mean but for positions does not hang on places.
+-- What queries mean but for positions does not hang on places, and neither do the causes for which they are refused.
 use Rattle.std.proofs.Common.{◌≡◌, [], ◌∷◌, map, Some, refl, ap}
 use Rattle.graphql_grammar.specs.Tokens.{Token, Class, Spelled, AnyOf, Except, Place}
 use Rattle.graphql_grammar.specs.Trees.{Shape, Both, First, Second, More, Node, leaves, accepts}
@@ -7,6 +7,7 @@ use Rattle.graphql_values.specs.Values.{no_place}
 use Rattle.graphql_values.specs.Meanings.{first_place, place_at}
 use Rattle.graphql_values.proofs.Bare.{bare}
 use Rattle.graphql_values.proofs.Unplaced.{IgnoresPlaces, spelling_bare, type_bare, optional_default_bare, optional_arguments_bare, directives_bare}
+use Rattle.graphql_values.proofs.FaultsAlike.{RefusesAlike, valueless_alike}
 use Rattle.graphql_query_tree.specs.Grammar.{query}
 use Rattle.graphql_query_tree.specs.Document.{queries}
 use Rattle.graphql_query_tree.specs.Tree.{field, spread, inline, set, more, OperationKind, query_kind, mutation_kind, subscription_kind, short, operation}
@@ -190,3 +191,6 @@ accepts_bare (Except k ss) t = refl
 
 pub unplaced_alike : IgnoresPlaces queries
 unplaced_alike = record { accepts = accepts_bare; checks = λ k x. refl; means = document_bare }
+
+pub refuses_alike : RefusesAlike queries
+refuses_alike = record { lacks = λ c. valueless_alike; refuses = λ k x y f same h. absurd h }

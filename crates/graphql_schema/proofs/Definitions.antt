@@ -1,21 +1,28 @@
 -- What begins a definition, and which kind of it.
-use Rattle.std.proofs.Common.{◌≡◌, ◌||◌, ℕ, true, false, List, [], ◌∷◌, ◌++◌, Option, None, codes, refl, sym, ap, ◌∙◌}
+use Rattle.std.proofs.Common.{◌≡◌, ◌||◌, ℕ, true, false, List, [], ◌∷◌, ◌++◌, Result, Err, Option, None, IsErrAnd, codes, refl, sym, ap, ◌∙◌}
 use Rattle.std.proofs.Math.Bool.{or_assoc}
 use Rattle.graphql_grammar.specs.Tokens.{Token, Class}
-use Rattle.graphql_grammar.specs.Trees.{Expr, Either, Sym, Shape, First, Second, Node, Both, optional, peek}
+use Rattle.graphql_grammar.specs.Trees.{Expr, Then, Either, Sym, Shape, First, Second, Node, Both, optional, row, peek}
 use Rattle.graphql_grammar.specs.Tables.{nullable, first}
 use Rattle.graphql_grammar.specs.Factored.{written}
 use Rattle.graphql_grammar.specs.Reading.{sees, Takes, takes_both, takes_node}
+use Rattle.graphql_grammar.specs.Leads.{leads_node}
+use Rattle.graphql_grammar.proofs.ReaderSteps.{Stops-node}
 use Rattle.graphql_lexer.specs.declared.tokenizer.token.Kind.TheVariants.{StringValue, BlockString}
 use Rattle.graphql_core.specs.Source.{Items}
 use Rattle.graphql_core.specs.steps.Matching.{sees_class}
+use Rattle.graphql_values.specs.declared.read.halt.Halt.{Halt}
+use Rattle.graphql_values.specs.declared.read.halt.Halt.TheVariants.{Stopped, Refused}
 use Rattle.graphql_values.specs.Grammar.{any, keyword, tables as shared_tables}
 use Rattle.graphql_values.specs.Leaves.{unquoted}
-use Rattle.graphql_values.proofs.Reading.{FailsUnseen}
+use Rattle.graphql_values.specs.Refusing.{Refusals, halt_reason, Says, Reads as ReadsBy}
+use Rattle.graphql_values.proofs.Reading.{FailsUnseen, gives_error_by}
 use Rattle.graphql_values.proofs.Alternatives.{side_left, side_right, side_second}
 use Rattle.graphql_values.proofs.Readable.{unseen}
+use Rattle.graphql_values.proofs.Refusing.{halts_led}
 use Rattle.graphql_values.proofs.Steps.{Leads, into, past}
-use Rattle.graphql_schema_tree.specs.Grammar.{tables, changes, item_symbol, schema_symbol, extension_symbol, described_symbol, type_body_symbol}
+use Rattle.graphql_values.proofs.Whole.{exit}
+use Rattle.graphql_schema_tree.specs.Grammar.{tables, changes, item_symbol, schema_symbol, extension_symbol, schema_extension_symbol, type_body_symbol}
 use Rattle.graphql_schema_tree.specs.Grammar.{directive_definition_symbol, directive_definition_rule, description_symbol}
 use Rattle.graphql_schema_tree.specs.Meanings.{directive_definition_of}
 use Rattle.graphql_schema_tree.specs.Tree.{DirectiveDefinitionTree}
@@ -45,57 +52,70 @@ scalar_keyword = keyword (codes "scalar")
 abbrev directive_keyword : Class
 directive_keyword = keyword (codes "directive")
 
-item_first : first reading.rows (Sym item_symbol) ≡ keyword (codes "schema") ∷ keyword (codes "extend") ∷ any StringValue ∷ any BlockString
-    ∷ scalar_keyword ∷ (type_keywords ++ directive_keyword ∷ [])
+abbrev extend_keyword : Class
+extend_keyword = keyword (codes "extend")
+
+abbrev schema_keyword : Class
+schema_keyword = keyword (codes "schema")
+
+item_first : first reading.rows (Sym item_symbol) ≡ any StringValue ∷ any BlockString ∷ schema_keyword ∷ scalar_keyword
+    ∷ (type_keywords ++ directive_keyword ∷ extend_keyword ∷ [])
 unfolding tables
 item_first = refl
 
 pub item_begins : (i : Items) → sees (first reading.rows (Sym item_symbol)) (peek i.tokens) ≡ sees_definition i
 item_begins i =
+    let last = directive_keyword ∷ extend_keyword ∷ [] in
     ap (λ cs. sees cs (peek i.tokens)) item_first
-    ∙ any_seen (keyword (codes "schema"))
-    (keyword (codes "extend") ∷ any StringValue ∷ any BlockString ∷ scalar_keyword ∷ (type_keywords ++ directive_keyword ∷ [])) i
-    ∙ ap (λ b. sees_class (keyword (codes "schema")) i || (sees_class (keyword (codes "extend")) i || b))
-    (any_append (any StringValue) scalar_keyword (any BlockString ∷ []) (type_keywords ++ directive_keyword ∷ []) i
-    ∙ ap (λ b. sees_description i || b) (any_append scalar_keyword directive_keyword type_keywords [] i))
+    ∙ any_seen (any StringValue) (any BlockString ∷ schema_keyword ∷ scalar_keyword ∷ (type_keywords ++ last)) i
+    ∙ any_append (any StringValue) schema_keyword (any BlockString ∷ []) (scalar_keyword ∷ (type_keywords ++ last)) i
+    ∙ ap (λ b. sees_description i || (sees_class schema_keyword i || b)) (any_append scalar_keyword directive_keyword type_keywords (extend_keyword ∷ []) i)
 
 -- ---- which kind of definition
 
-pub schema_begins : BeginsWith schema_symbol (keyword (codes "schema"))
+pub schema_begins : BeginsWith schema_symbol schema_keyword
 unfolding tables
 schema_begins = record { something = refl; first = refl }
 
-pub extension_begins : BeginsWith extension_symbol (keyword (codes "extend"))
+pub extension_begins : BeginsWith extension_symbol extend_keyword
 unfolding tables
 extension_begins = record { something = refl; first = refl }
 
-pub directive_begins : BeginsWith directive_definition_symbol (keyword (codes "directive"))
+pub directive_begins : BeginsWith directive_definition_symbol directive_keyword
 unfolding tables
 directive_begins = record { something = refl; first = refl }
 
-abbrev others : Expr
-others = Either (Sym extension_symbol) (Sym described_symbol)
+pub schema_extension_begins : BeginsWith schema_extension_symbol schema_keyword
+unfolding tables
+schema_extension_begins = record { something = refl; first = refl }
 
-fails_others : (ts : List Token) → FailsUnseen reading others ts
-unfolding tables shared_tables unquoted
-fails_others ts = unseen schemas readable others refl refl refl ts
+-- what may have a description
+abbrev types_and_directives : Expr
+types_and_directives = Either (Sym type_body_symbol) (Sym directive_definition_symbol)
 
-fails_described : (ts : List Token) → FailsUnseen reading (Sym described_symbol) ts
+abbrev with_descriptions : Expr
+with_descriptions = Then (optional (Sym description_symbol)) (Either (Sym schema_symbol) types_and_directives)
+
+fails_with_descriptions : (ts : List Token) → FailsUnseen reading with_descriptions ts
 unfolding tables shared_tables unquoted
-fails_described ts = unseen schemas readable (Sym described_symbol) refl refl refl ts
+fails_with_descriptions ts = unseen schemas readable with_descriptions refl refl refl ts
+
+fails_types_and_directives : (ts : List Token) → FailsUnseen reading types_and_directives ts
+unfolding tables shared_tables unquoted
+fails_types_and_directives ts = unseen schemas readable types_and_directives refl refl refl ts
 
 fails_type_body : (ts : List Token) → FailsUnseen reading (Sym type_body_symbol) ts
 unfolding tables shared_tables unquoted
 fails_type_body ts = unseen schemas readable (Sym type_body_symbol) refl refl refl ts
 
 -- none is empty
-others_are_more : nullable reading.rows others ≡ false
+described_are_more : nullable reading.rows with_descriptions ≡ false
 unfolding tables
-others_are_more = refl
+described_are_more = refl
 
-described_is_more : nullable reading.rows (Sym described_symbol) ≡ false
+types_are_more : nullable reading.rows types_and_directives ≡ false
 unfolding tables
-described_is_more = refl
+types_are_more = refl
 
 type_body_is_more : nullable reading.rows (Sym type_body_symbol) ≡ false
 unfolding tables
@@ -104,45 +124,74 @@ type_body_is_more = refl
 unseen_first : (k : ℕ) (c : Class) (ts : List Token) → BeginsWith k c → sees (c ∷ []) (peek ts) ≡ false → sees (first reading.rows (Sym k)) (peek ts) ≡ false
 unseen_first k c ts b h = ap (λ cs. sees cs (peek ts)) b.first ∙ h
 
-pub a_schema : (ts : List Token) → sees (keyword (codes "schema") ∷ []) (peek ts) ≡ true
-    → Leads reading (Sym item_symbol) (Sym schema_symbol) (λ x. Node item_symbol (First x)) ts ts
-a_schema ts seen = into (starts item_symbol ts (λ x. refl)) (seen_symbol schema_symbol _ others ts schema_begins seen)
-
-no_schema : (ts : List Token) → sees (keyword (codes "schema") ∷ []) (peek ts) ≡ false
-    → Leads reading (Sym item_symbol) others (λ x. Node item_symbol (Second x)) ts ts
-no_schema ts other = into (starts item_symbol ts (λ x. refl))
-    (side_right reading (Sym schema_symbol) others ts schema_begins.something others_are_more (fails_others ts)
-    (unseen_first schema_symbol _ ts schema_begins other))
-
-pub an_extension : (ts : List Token) → sees (keyword (codes "schema") ∷ []) (peek ts) ≡ false → sees (keyword (codes "extend") ∷ []) (peek ts) ≡ true
-    → Leads reading (Sym item_symbol) (Sym extension_symbol) (λ x. Node item_symbol (Second (First x))) ts ts
-an_extension ts other seen = into (no_schema ts other) (seen_symbol extension_symbol _ (Sym described_symbol) ts extension_begins seen)
-
-pub a_described : (ts : List Token) → sees (keyword (codes "schema") ∷ []) (peek ts) ≡ false → sees (keyword (codes "extend") ∷ []) (peek ts) ≡ false
-    → Leads reading (Sym item_symbol) (Sym described_symbol) (λ x. Node item_symbol (Second (Second x))) ts ts
-a_described ts other none = into (no_schema ts other)
-    (side_right reading (Sym extension_symbol) (Sym described_symbol) ts extension_begins.something described_is_more (fails_described ts)
-    (unseen_first extension_symbol _ ts extension_begins none))
-
--- ---- after a description, or none
-
-pub described_so_far : {ts us : List Token} {d : Shape} → Takes reading (optional (Sym description_symbol)) ts d us
-    → Leads reading (Sym described_symbol) (Either (Sym type_body_symbol) (Sym directive_definition_symbol)) (λ y. Node described_symbol (Both d y)) ts us
-described_so_far taken = past (starts described_symbol _ (λ x. refl)) taken
-
-pub a_directive : {ts us : List Token} {d : Shape} → Takes reading (optional (Sym description_symbol)) ts d us
-    → sees (keyword (codes "directive") ∷ []) (peek us) ≡ true
-    → Leads reading (Sym described_symbol) (Sym directive_definition_symbol) (λ y. Node described_symbol (Both d (Second y))) ts us
+pub an_extension : (ts : List Token) → sees (extend_keyword ∷ []) (peek ts) ≡ true
+    → Leads reading (Sym item_symbol) (Sym extension_symbol) (λ x. Node item_symbol (Second x)) ts ts
 unfolding tables shared_tables
-a_directive {us = us} taken seen = into (described_so_far taken)
-    (side_second reading (Sym type_body_symbol) (Sym directive_definition_symbol) (keyword (codes "directive")) us refl refl seen)
+an_extension ts seen =
+    into (starts item_symbol ts (λ x. refl)) (side_second reading with_descriptions (Sym extension_symbol) extend_keyword ts refl refl seen)
 
-pub a_type : {ts us : List Token} {d : Shape} → Takes reading (optional (Sym description_symbol)) ts d us
-    → sees (keyword (codes "directive") ∷ []) (peek us) ≡ false
-    → Leads reading (Sym described_symbol) (Sym type_body_symbol) (λ y. Node described_symbol (Both d (First y))) ts us
-a_type {us = us} taken other = into (described_so_far taken)
-    (side_left reading (Sym type_body_symbol) (Sym directive_definition_symbol) us type_body_is_more directive_begins.something (fails_type_body us)
-    (unseen_first directive_definition_symbol _ us directive_begins other))
+pub no_extension : (ts : List Token) → sees (extend_keyword ∷ []) (peek ts) ≡ false
+    → Leads reading (Sym item_symbol) with_descriptions (λ x. Node item_symbol (First x)) ts ts
+no_extension ts other = into (starts item_symbol ts (λ x. refl))
+    (side_left reading with_descriptions (Sym extension_symbol) ts described_are_more extension_begins.something (fails_with_descriptions ts)
+    (unseen_first extension_symbol _ ts extension_begins other))
+
+-- after a description, or none
+module _ {ts us : List Token} {d : Shape} (other : sees (extend_keyword ∷ []) (peek ts) ≡ false)
+    (taken : Takes reading (optional (Sym description_symbol)) ts d us) where
+  pub a_schema : sees (schema_keyword ∷ []) (peek us) ≡ true
+      → Leads reading (Sym item_symbol) (Sym schema_symbol) (λ y. Node item_symbol (First (Both d (First y)))) ts us
+  a_schema seen = into (past (no_extension ts other) taken) (seen_symbol schema_symbol _ types_and_directives us schema_begins seen)
+
+  no_schema : sees (schema_keyword ∷ []) (peek us) ≡ false
+      → Leads reading (Sym item_symbol) types_and_directives (λ y. Node item_symbol (First (Both d (Second y)))) ts us
+  no_schema none = into (past (no_extension ts other) taken)
+      (side_right reading (Sym schema_symbol) types_and_directives us schema_begins.something types_are_more (fails_types_and_directives us)
+      (unseen_first schema_symbol _ us schema_begins none))
+
+  pub a_directive : sees (schema_keyword ∷ []) (peek us) ≡ false → sees (directive_keyword ∷ []) (peek us) ≡ true
+      → Leads reading (Sym item_symbol) (Sym directive_definition_symbol) (λ y. Node item_symbol (First (Both d (Second (Second y))))) ts us
+  unfolding tables shared_tables
+  a_directive none seen = into (no_schema none)
+      (side_second reading (Sym type_body_symbol) (Sym directive_definition_symbol) directive_keyword us refl refl seen)
+
+  pub a_type : sees (schema_keyword ∷ []) (peek us) ≡ false → sees (directive_keyword ∷ []) (peek us) ≡ false
+      → Leads reading (Sym item_symbol) (Sym type_body_symbol) (λ y. Node item_symbol (First (Both d (Second (First y))))) ts us
+  a_type none neither = into (no_schema none)
+      (side_left reading (Sym type_body_symbol) (Sym directive_definition_symbol) us type_body_is_more directive_begins.something (fails_type_body us)
+      (unseen_first directive_definition_symbol _ us directive_begins neither))
+
+-- ---- after `extend`
+
+pub of_schema : {e : Expr} {inside : Shape → Shape} {ts us : List Token}
+    → Leads reading e (Either (Sym type_body_symbol) (Sym schema_extension_symbol)) inside ts us → sees (schema_keyword ∷ []) (peek us) ≡ true
+    → Leads reading e (Sym schema_extension_symbol) (λ y. inside (Second y)) ts us
+unfolding tables shared_tables
+of_schema {us = us} lead seen =
+    into lead (side_second reading (Sym type_body_symbol) (Sym schema_extension_symbol) schema_keyword us refl refl seen)
+
+pub of_type : {e : Expr} {inside : Shape → Shape} {ts us : List Token}
+    → Leads reading e (Either (Sym type_body_symbol) (Sym schema_extension_symbol)) inside ts us → sees (schema_keyword ∷ []) (peek us) ≡ false
+    → Leads reading e (Sym type_body_symbol) (λ y. inside (First y)) ts us
+of_type {us = us} lead other = into lead
+    (side_left reading (Sym type_body_symbol) (Sym schema_extension_symbol) us type_body_is_more schema_extension_begins.something (fails_type_body us)
+    (unseen_first schema_extension_symbol _ us schema_extension_begins other))
+
+-- a node in a node is refused, or reading stops in it
+module _ {R : Type 0} (w : Refusals R) where
+  node_says : (k : ℕ) (old new : Items) (d : Halt R) → Says schemas w (row reading k).rule old new d → Says schemas w (Sym k) old new d
+  node_says k old new (Stopped s) said = tt
+  node_says k old new (Refused n) (before, x, (p, ne, led, fits, bad, stops), said) = (before, x, (p, ne, leads_node led, fits, bad, stops), said)
+
+  pub node_halts : {A B : Type 0} {f : Expr} {inside : Shape → Shape} (k : ℕ) (old mid new : Items) (P : A → Shape → Type 0) (Q : B → Shape → Type 0)
+      (r : Result B (Halt R)) (d : Halt R) → Leads reading (row reading k).rule f inside old.tokens mid.tokens → ReadsBy schemas w f mid new P (Err d)
+      → IsErrAnd r (λ e. e ≡ d) → ReadsBy schemas w (Sym k) old new Q r
+  node_halts k old mid new P Q r d led h up =
+      let rule = halts_led schemas w old mid new P (λ (v : Unit {0}) y. ⊥) (Err d) d led h refl in
+      record {
+        gives = gives_error_by (halt_reason w) reading (Sym k) old new _ r d (Stops-node reading k old.tokens new.tokens (halt_reason w d) rule.gives) up;
+        says = exit r d _ up (node_says k old new d rule.says);
+      }
 
 -- a directive with a description
 abbrev pub with_description : Option (List ℕ) → DirectiveDefinitionTree → DirectiveDefinitionTree

@@ -1,9 +1,9 @@
 -- Where descriptions, arguments and fields of input objects begin, and lists of them.
-use Rattle.std.proofs.Common.{◌≡◌, ℕ, true, false, refl, codes, Option, List, [], ◌∷◌}
+use Rattle.std.proofs.Common.{◌≡◌, ℕ, false, refl, codes, Option, List, [], ◌∷◌}
 use Rattle.graphql_grammar.specs.Tokens.{Token, Place}
-use Rattle.graphql_grammar.specs.Trees.{Sym, Empty, First, Second, Nothing, optional, peek}
+use Rattle.graphql_grammar.specs.Trees.{Sym, peek}
 use Rattle.graphql_grammar.specs.Tables.{nullable, first}
-use Rattle.graphql_grammar.specs.Reading.{sees, Takes}
+use Rattle.graphql_grammar.specs.Reading.{sees}
 use Rattle.graphql_core.specs.Source.{Items}
 use Rattle.graphql_values.specs.Grammar.{mark}
 use Rattle.graphql_values.specs.Values.{ValueTree, TypeTree, DirectiveTree}

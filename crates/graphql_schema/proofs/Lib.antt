@@ -1,6 +1,7 @@
 pub mod Definitions
 pub mod Dialect
 pub mod Directives
+mod Earlier
 pub mod Fields
 pub mod Inputs
 pub mod JoinedNames

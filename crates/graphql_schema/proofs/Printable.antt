@@ -1,10 +1,10 @@
 -- What the grammar derives from a text can be printed.
-use Rattle.std.proofs.Common.{◌≡◌, ◌≤◌, ℕ, Bool, true, false, cond, List, [], ◌∷◌, Option, Some, None, is_some, codes, refl, sym, subst, arith}
+use Rattle.std.proofs.Common.{◌≡◌, ◌≤◌, ℕ, max, Bool, true, false, cond, List, [], ◌∷◌, Option, Some, None, is_some, codes, refl, sym, subst, arith}
 use Rattle.std.specs.List.{AllByRecursion}
 use Rattle.std.specs.Option.{IfSome, option_map_or}
 use Rattle.std.proofs.lemmas.Bool.{and_parts}
 use Rattle.graphql_grammar.specs.Tokens.{Token, matches}
-use Rattle.graphql_grammar.specs.Trees.{Expr, Then, Many, Sym, Shape, Both, Node, optional, some_of}
+use Rattle.graphql_grammar.specs.Trees.{Expr, Then, Many, Sym, Shape, optional, some_of}
 use Rattle.graphql_grammar.specs.Extended.{is_below}
 use Rattle.graphql_lexer.specs.Lexical.{IsName}
 use Rattle.graphql_core.specs.Source.{Items, split}
@@ -18,11 +18,11 @@ use Rattle.graphql_values.specs.TreeDepth.{most_enclosed}
 use Rattle.graphql_values.specs.TreeDepth.{most}
 use Rattle.graphql_values.proofs.Leaves.{leaf_name}
 use Rattle.graphql_values.proofs.Printable.{Within, all_within, directives_printable, type_printable, default_printable}
-use Rattle.graphql_schema_tree.specs.Grammar.{schema, is_good, document_symbol, item_symbol, schema_symbol, root_type_symbol, extension_symbol}
+use Rattle.graphql_schema_tree.specs.Grammar.{schema, is_good, document_symbol, item_symbol, root_type_symbol, extension_symbol}
 use Rattle.graphql_schema_tree.specs.Grammar.{described_symbol}
 use Rattle.graphql_schema_tree.specs.Grammar.{type_body_symbol, scalar_symbol, object_symbol, interface_symbol, implements_symbol, fields_symbol, field_symbol}
 use Rattle.graphql_schema_tree.specs.Grammar.{argument_definitions_symbol, input_value_symbol, union_symbol, members_symbol, enum_symbol, enum_values_symbol}
-use Rattle.graphql_schema_tree.specs.Grammar.{enum_value_symbol, input_symbol, input_fields_symbol, directive_definition_symbol, locations_symbol}
+use Rattle.graphql_schema_tree.specs.Grammar.{enum_value_symbol, input_symbol, input_fields_symbol, locations_symbol}
 use Rattle.graphql_schema_tree.specs.Grammar.{location_symbol}
 use Rattle.graphql_schema_tree.specs.Grammar.{joined_by}
 use Rattle.graphql_schema_tree.specs.Tree.{InputValueTree, BodyTree, DefinitionTree, DocumentTree}
@@ -32,7 +32,6 @@ use Rattle.graphql_schema_tree.specs.Meanings.{interfaces_of, members_of, root_o
 use Rattle.graphql_schema_tree.specs.Meanings.{location_at, locations_of, extension_of, described_of, item_of, document_of}
 use Rattle.graphql_values.specs.Document.{IsDocument}
 use Rattle.graphql_schema_tree.specs.Language.{schemas, IsDocumentOf}
-use Rattle.graphql_schema_tree.specs.Locations.{location_of}
 use Rattle.graphql_schema_tree.specs.Printable.{IsPrintableInputValue, IsPrintableField, IsPrintableEnumValue, IsPrintableBody, IsPrintableDefinition}
 use Rattle.graphql_schema_tree.specs.Printable.{IsWholeDefinition, input_value_brackets, field_brackets, enum_value_brackets, body_brackets}
 use Rattle.graphql_schema_tree.specs.Printable.{definition_brackets}
@@ -199,6 +198,10 @@ root_printable word room_stop = tt
 root_printable word (room_more (room_node (room_both called (room_both colon t)) c) more) =
     found_name _ _ _ (leaf_name refl t) (root_printable word more)
 
+roots_printable : {n : ℕ} {x : Shape} → HasRoom schema n (Many (Sym root_type_symbol)) x
+    → IfSome (root_of (codes "query") x) IsName × IfSome (root_of (codes "mutation") x) IsName × IfSome (root_of (codes "subscription") x) IsName
+roots_printable roots = (root_printable (codes "query") roots, root_printable (codes "mutation") roots, root_printable (codes "subscription") roots)
+
 -- ---- directives
 
 -- a location that is there
@@ -224,11 +227,26 @@ described_printable (room_node (room_second (room_both d (room_node
     let (values, b) = optional_arguments_printable arguments in
     ((leaf_name refl called, values), locations_there ls, omega arith)
 
-item_printable : {n : ℕ} {x : Shape} → HasRoom schema n (Sym item_symbol) x → IsDefinition n (item_of x)
-item_printable (room_node (room_first (room_node (room_both w (room_both ds (room_both (room_leaf a l d) (room_both roots e)))) f)) c) =
+-- an extension opens a level where it names an operation
+braces_within : (m n : ℕ) (b : Bool) → m ≤ n → 1 ≤ n → max m (cond b 1 0) ≤ n
+braces_within m n true h o = omega arith
+braces_within m n false h o = omega arith
+
+extension_printable : {n : ℕ} {x : Shape} → HasRoom schema n (Sym extension_symbol) x → IsDefinition n (extension_of x)
+extension_printable (room_node (room_first (room_both w f)) adds) = let (is, b) = body_printable f in (is, adds, b)
+extension_printable (room_node (room_second (room_both w (room_node (room_both s (room_both ds (room_first (room_node (room_both (room_leaf a l d)
+    (room_both (room_both r rs) e)) f)))) c))) adds) =
     let (are, b) = directives_printable (room_shared ds refl refl) in
-    ((are, root_printable (codes "query") roots, root_printable (codes "mutation") roots, root_printable (codes "subscription") roots), tt, omega arith)
-item_printable (room_node (room_second (room_first (room_node (room_both w f) adds))) c) = let (is, b) = body_printable f in (is, adds, b)
+    ((are, roots_printable (room_more r rs)), adds, braces_within _ _ _ b d)
+extension_printable (room_node (room_second (room_both w (room_node (room_both s (room_both ds (room_second room_nothing))) c))) adds) =
+    let (are, b) = directives_printable (room_shared ds refl refl) in
+    ((are, tt, tt, tt), adds, omega arith)
+
+item_printable : {n : ℕ} {x : Shape} → HasRoom schema n (Sym item_symbol) x → IsDefinition n (item_of x)
+item_printable (room_node (room_first (room_both o (room_node (room_both w (room_both ds (room_both (room_leaf a l d) (room_both roots e)))) f))) c) =
+    let (are, b) = directives_printable (room_shared ds refl refl) in
+    ((are, roots_printable roots), tt, omega arith)
+item_printable (room_node (room_second (room_first f)) c) = extension_printable f
 item_printable (room_node (room_second (room_second f)) c) = described_printable f
 
 item_within : (n : ℕ) (x : Shape) → HasRoom schema n (Sym item_symbol) x → Within IsPrintableDefinition definition_brackets n (item_of x)

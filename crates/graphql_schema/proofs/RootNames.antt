@@ -1,11 +1,10 @@
--- Operations of a schema, one after the other.
+-- Operations of a schema, or of an extension of it, one after the other.
 use Rattle.std.proofs.Common.{◌≡◌, ℕ, Bool, true, false, not, ◌||◌, if◌then◌else◌, cond, List, [], ◌∷◌, ◌++◌}
 use Rattle.std.proofs.Common.{Option, Some, None, option_map, is_some, codes, nat_eq, inl, inr, refl, sym, ap, ap₂, subst, ◌∙◌}
 use Rattle.std.specs.Cmp.Lexicographic.{pointwise}
 use Rattle.graphql_grammar.specs.Tokens.{Token, Place, same_spelling, is_listed}
 use Rattle.graphql_grammar.specs.Trees.{Shape, Many, Sym, More, Node}
 use Rattle.graphql_grammar.specs.Reading.{Takes, takes_leaf, takes_both, takes_stop, takes_more, takes_node}
-use Rattle.graphql_grammar.specs.ReaderWords.{values}
 use Rattle.graphql_grammar.specs.Factored.{written}
 use Rattle.graphql_grammar.proofs.Classes.{same_spelling-true}
 use Rattle.graphql_core.proofs.Matches.{same_text_spelling}
@@ -13,13 +12,15 @@ use Rattle.std.proofs.lemmas.Bool.{cases_Bool, false≢true}
 use Rattle.graphql_core.specs.declared.common.cause.Cause.{Cause}
 use Rattle.graphql_core.specs.Causes.{CauseText, cause_text, unknown_operation}
 use Rattle.graphql_core.specs.Source.{FaultText}
-use Rattle.graphql_values.proofs.Reading.{one_of}
-use Rattle.graphql_schema_tree.specs.Grammar.{changes, root_type_symbol, root_type_rule}
-use Rattle.graphql_schema_tree.specs.Meanings.{root_of}
+use Rattle.graphql_values.specs.Grammar.{mark, tables as shared_tables}
+use Rattle.graphql_schema_tree.specs.Grammar.{tables, changes, root_type_symbol, root_type_rule, roots_symbol}
+use Rattle.graphql_schema_tree.specs.Meanings.{root_of, each_of}
 use Rattle.graphql_schema_tree.specs.Roots.{RootFault, unknown, duplicate, root_names, root_fault, root_cause, roots_of}
 use Rattle.graphql_schema.specs.declared.read.schema.Roots.{Roots}
 use Rattle.graphql_schema.specs.steps.Roots.{Root, root_at, names, type_in, AreRoots, HasRoots, Fills}
-use Rattle.graphql_schema.proofs.Dialect.{reading}
+use Rattle.graphql_schema.proofs.Dialect.{reading, starts}
+use Rattle.graphql_schema.proofs.JoinedNames.{BeginsWith}
+use Rattle.graphql_schema.proofs.Lists.{IsEnclosed}
 
 -- ---- the first fault, with another name at the end
 
@@ -208,33 +209,56 @@ one_root : {ts us : List Token} {x : Shape} → Takes reading root_type_rule ts 
     ≡ cond (same_spelling w (root_at (Node k (written changes x))).name) (Some (root_at (Node k (written changes x))).type_name) (root_of w y))
 one_root (takes_both (takes_leaf a) (takes_both (takes_leaf b) (takes_leaf d))) k y = (refl, λ w. refl)
 
-pub roots_taken : {ts us : List Token} {x : Shape} → Takes reading (Many (Sym root_type_symbol)) ts x us
-    → (roots_of (written changes x) ≡ names (values (one_of turn_of) x))
-    × ((w : List ℕ) → root_of w (written changes x) ≡ type_in (values (one_of turn_of) x) w)
-roots_taken (takes_stop unseen) = (refl, λ w. refl)
-roots_taken (takes_more {y = y} seen (takes_node {x = x} taken good) more) =
-    let (ns, types) = one_root taken root_type_symbol (written changes y) in
-    let (ns', types') = roots_taken more in
+-- they are these
+abbrev AreThose : Shape → List Root → Type 0
+AreThose y rs = (roots_of y ≡ names rs) × ((w : List ℕ) → root_of w y ≡ type_in rs w)
+
+one_more : {ts us : List Token} {x : Shape} → Takes reading (Sym root_type_symbol) ts x us → (y : Shape) (rs : List Root) → AreThose y rs
+    → AreThose (More (written changes x) y) (turn_of x ∷ rs)
+one_more (takes_node {x = x} taken good) y rs (ns, types) =
+    let (ns', types') = one_root taken root_type_symbol y in
     let r = turn_of (Node root_type_symbol x) in (
-      ns ∙ ap (λ (l : List (List ℕ)). r.name ∷ l) ns',
-      λ w. types w ∙ ap (λ (o : Option (List ℕ)). cond (same_spelling w r.name) (Some r.type_name) o) (types' w),
+      ns' ∙ ap (λ (l : List (List ℕ)). r.name ∷ l) ns,
+      λ w. types' w ∙ ap (λ (o : Option (List ℕ)). cond (same_spelling w r.name) (Some r.type_name) o) (types w),
     )
 
-pub roots_of_turns : {N T : Type 0} (bytes : T → List ℕ) (v : Roots N T) (rs : List Root) (ts us : List Token) (x : Shape)
-    → Takes reading (Many (Sym root_type_symbol)) ts x us → values (one_of turn_of) x ≡ rs → HasRoots bytes v rs
-    → AreRoots bytes v (roots_of (written changes x)) (λ w. root_of w (written changes x))
-roots_of_turns bytes v rs ts us x taken is h =
-    let (ns, types) = roots_taken taken in
-    let same : roots_of (written changes x) ≡ names rs = ns ∙ ap names is in
-    let type : (w : List ℕ) → type_in rs w ≡ root_of w (written changes x) = λ w. sym (types w ∙ ap (λ (l : List Root). type_in l w) is) in
-    record {
-      fault = h.fault ∙ ap (λ (l : List (List ℕ)). option_map root_cause (root_fault [] l)) (sym same);
-      query = λ n. h.query (ap (root_fault []) (sym same) ∙ n) ∙ type (codes "query");
-      mutation = λ n. h.mutation (ap (root_fault []) (sym same) ∙ n) ∙ type (codes "mutation");
-      subscription = λ n. h.subscription (ap (root_fault []) (sym same) ∙ n) ∙ type (codes "subscription");
-    }
+roots_taken : {ts us : List Token} {x : Shape} → Takes reading (Many (Sym root_type_symbol)) ts x us
+    → AreThose (written changes x) (each_of root_at (written changes x))
+roots_taken (takes_stop unseen) = (refl, λ w. refl)
+roots_taken (takes_more {y = y} seen taken more) = one_more taken (written changes y) _ (roots_taken more)
 
--- ---- the whole schema
+module _ {N T : Type 0} (bytes : T → List ℕ) (v : Roots N T) where
+  roots_are : (y : Shape) (rs : List Root) → AreThose y rs → HasRoots bytes v rs → AreRoots bytes v (roots_of y) (λ w. root_of w y)
+  roots_are y rs (same, types) h = record {
+    fault = h.fault ∙ ap (λ (l : List (List ℕ)). option_map root_cause (root_fault [] l)) (sym same);
+    query = λ n. h.query (ap (root_fault []) (sym same) ∙ n) ∙ sym (types (codes "query"));
+    mutation = λ n. h.mutation (ap (root_fault []) (sym same) ∙ n) ∙ sym (types (codes "mutation"));
+    subscription = λ n. h.subscription (ap (root_fault []) (sym same) ∙ n) ∙ sym (types (codes "subscription"));
+  }
+
+  -- of a schema
+  pub all_roots : {ts us : List Token} {x : Shape} → Takes reading (Many (Sym root_type_symbol)) ts x us
+      → HasRoots bytes v (each_of root_at (written changes x)) → AreRoots bytes v (roots_of (written changes x)) (λ w. root_of w (written changes x))
+  all_roots {x = x} taken h = roots_are (written changes x) _ (roots_taken taken) h
+
+  -- and of an extension of it, which has at least one
+  pub some_roots : {ts us vs : List Token} {x xs : Shape} → Takes reading (Sym root_type_symbol) ts x us → Takes reading (Many (Sym root_type_symbol)) us xs vs
+      → HasRoots bytes v (turn_of x ∷ each_of root_at (written changes xs))
+      → AreRoots bytes v (roots_of (More (written changes x) (written changes xs))) (λ w. root_of w (More (written changes x) (written changes xs)))
+  some_roots {x = x} {xs = xs} taken more h =
+      let rs = each_of root_at (written changes xs) in
+      roots_are (More (written changes x) (written changes xs)) (turn_of x ∷ rs) (one_more taken (written changes xs) rs (roots_taken more)) h
+
+-- in braces
+
+pub roots_enclosed : IsEnclosed roots_symbol (mark (codes "{")) (mark (codes "}")) (Sym root_type_symbol)
+roots_enclosed = record { leads = λ ts. starts roots_symbol ts (λ x. refl); opens = λ t. refl; closes = λ t. refl; same = λ x. refl }
+
+pub roots_begin : BeginsWith roots_symbol (mark (codes "{"))
+unfolding tables shared_tables
+roots_begin = record { something = refl; first = refl }
+
+-- ---- the whole schema, or the extension
 
 -- what is said of a fault
 abbrev pub told_at : CauseText → Place → FaultText

@@ -2,11 +2,15 @@
 ghost use Rattle.std.specs.Prelude.{◌≡◌, ◌*◌, ◌/◌, ◌<◌, ◌≤◌, ◌≤ℤ◌, pos, List, length, IfOk};
 ghost use Rattle.graphql_lexer.specs.Items.{HasItems, Item, depth_of};
 ghost use Rattle.graphql_lexer.specs.Stream.{next_place};
+ghost use Rattle.graphql_core.specs.Refusal.{max_length};
 ghost use Rattle.graphql_core.specs.Source.{IsAtEnd, kept, split};
+ghost use Rattle.graphql_values.specs.Document.{AnswersUnlessMemory};
+ghost use Rattle.graphql_values.specs.Parsing.{ReadsDocument, ParsesDocument, ParsesStream};
+ghost use Rattle.graphql_schema_tree.specs.Tree.{DocumentTree};
 ghost use Rattle.graphql_schema_tree.specs.Views.{document_view};
 ghost use Rattle.graphql_schema_tree.specs.Printable.{IsPrintable};
 ghost use Rattle.graphql_schema_tree.specs.Language.{schemas};
-ghost use Rattle.graphql_values.specs.Parsing.{ReadsDocument, ParsesDocument, ParsesStream};
+ghost use Rattle.graphql_schema_tree.specs.Earlier.{IsDocumentOf_0_4_1, HasNoNewParts};
 
 use crate::error::ParseError;
 use crate::read::{Refusal, definitions};
@@ -29,6 +33,9 @@ fn read_document<S: TokenSource>(alloc: Global, source: &mut S) -> Result<Docume
         Ok(definitions) => definitions,
         Err(Halt::Stopped(stop)) => return Err(fault_of(alloc, source, stop)),
         Err(Halt::Refused(Refusal::Schema(cause, position))) => {
+            return Err(Fault::At(cause, position));
+        }
+        Err(Halt::Refused(Refusal::SchemaExtension(cause, position))) => {
             return Err(Fault::At(cause, position));
         }
         Err(Halt::Refused(Refusal::Extension(position))) => {
@@ -76,7 +83,7 @@ fn read_text<'a, S: Text<'a>>(alloc: Global, source: &'a str) -> Result<Document
 /// `UnexpectedEnd` for the end, where no document goes on with it; `IntOutOfRange`, `MalformedFloat` and
 /// `BadEscape` for a token that stands as a value and has none; `UnknownLocation` for a name that is none, where a
 /// directive's location stands; and for the last token of a definition that is refused `UnknownOperation` or
-/// `DuplicateOperation`, at the keyword of the schema, or `EmptyExtension`, at the keyword of the type.
+/// `DuplicateOperation`, at the keyword `schema`, or `EmptyExtension`, at the keyword after `extend`.
 pub fn parse_schema<'a, S: Text<'a>>(
     alloc: Global,
     source: &'a str,
@@ -84,6 +91,9 @@ pub fn parse_schema<'a, S: Text<'a>>(
     // what is answered is derived, and what is derived is answered; a refusal is the fault of least index; and more:
     // `specs/Parsing.antt` of graphql_values says each
     ensures parses { ParsesDocument schemas (document_view S.Names.bytes) source.now result }
+    // A document of version 0.4.1 is answered as it was there, unless an allocation fails, and has none of the parts that are new since then.
+    ensures earlier { (d : DocumentTree) → length source.now ≤ max_length → IsDocumentOf_0_4_1 source.now d
+        → HasNoNewParts d × AnswersUnlessMemory (document_view S.Names.bytes) d result }
     // what is answered can be printed
     ensures printable { IfOk result (λ d. IsPrintable (document_view S.Names.bytes d)) }
 {

@@ -13,9 +13,9 @@ pub use graphql_schema_tree::{
     Definition, DirectiveDefinition, DirectiveLocation, Document, EnumType, EnumTypeExtension,
     EnumValue, Field, InputObjectType, InputObjectTypeExtension, InputValue, InterfaceType,
     InterfaceTypeExtension, InvalidDirectiveLocation, ObjectType, ObjectTypeExtension, ScalarType,
-    ScalarTypeExtension, SchemaDefinition, TypeDefinition, TypeExtension, UnionType,
-    UnionTypeExtension, brackets_are_those_of_the_layout, locations_are_named,
-    one_symbol_has_a_second_rule, printed_documents_are_read_back, text_has_no_positions, tree,
+    ScalarTypeExtension, SchemaDefinition, SchemaExtension, TypeDefinition, TypeExtension,
+    UnionType, UnionTypeExtension, brackets_are_those_of_the_layout, locations_are_named,
+    printed_documents_are_read_back, text_has_no_positions, three_symbols_have_second_rules, tree,
     worked_examples, worked_layouts, worked_refusals,
 };
-pub use laws::none_goes_on_with_an_unexpected_item;
+pub use laws::{minified_texts_are_parsed_alike, none_goes_on_with_an_unexpected_item};

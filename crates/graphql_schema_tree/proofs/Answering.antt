@@ -6,7 +6,7 @@ use Rattle.graphql_grammar.specs.Trees.{Grammar, row, peek}
 use Rattle.graphql_grammar.specs.Tables.{first}
 use Rattle.graphql_grammar.specs.Reading.{sees, choose, Choice, Left, Right, Neither, Outcome, Done, Fault, Reads}
 use Rattle.graphql_grammar.specs.Reading.{Takes, takes_nothing, takes_leaf, takes_both, takes_first, takes_second, takes_stop, takes_more, takes_node}
-use Rattle.graphql_grammar.specs.Reading.{Reason, Unexpected, Improper, Refused, fails_one, fails_value, fails_before, fails_after, fails_first}
+use Rattle.graphql_grammar.specs.Reading.{Unexpected, Improper, Refused, fails_one, fails_value, fails_before, fails_after, fails_first}
 use Rattle.graphql_grammar.specs.Reading.{fails_second, fails_neither, fails_turn, fails_later, fails_node, fails_check}
 
 -- an answer, and that it is the reader's

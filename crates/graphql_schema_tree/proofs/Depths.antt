@@ -1,9 +1,9 @@
 -- The brackets of a document are those that its layout opens at once.
-use Rattle.std.proofs.Common.{◌≡◌, ℕ, max, Bool, true, false, List, [], ◌∷◌, Option, Some, None, codes, map, refl, arith}
+use Rattle.std.proofs.Common.{◌≡◌, ℕ, max, cond, Bool, true, false, List, [], ◌∷◌, Option, Some, None, codes, map, refl, arith}
 use Rattle.graphql_lexer.specs.declared.tokenizer.piece.Nesting.TheVariants.{Level}
 use Rattle.graphql_lexer.specs.declared.tokenizer.token.Kind.TheVariants.{Punctuator}
 use Rattle.graphql_core.specs.Depths.{bracket_of}
-use Rattle.graphql_core.specs.Parts.{Part}
+use Rattle.graphql_core.specs.Parts.{Part, gap}
 use Rattle.graphql_core.specs.Style.{Layout}
 use Rattle.graphql_core.proofs.Depths.{Rises, rises_as, none_rise, flat_rise, gap_rises, level_rises, both_rise}
 use Rattle.graphql_values.specs.Printable.{directives_brackets}
@@ -15,11 +15,12 @@ use Rattle.graphql_values.proofs.Depths.{in_parentheses_rise}
 use Rattle.graphql_schema_tree.specs.declared.location.DirectiveLocation.{DirectiveLocation}
 use Rattle.graphql_schema_tree.specs.Layout.{description_layout, inline_layout, later_names, joined_names, interfaces_layout, members_layout, locations_layout}
 use Rattle.graphql_schema_tree.specs.Layout.{block_layout, input_value_layout, arguments_layout, input_field_layout, field_layout}
-use Rattle.graphql_schema_tree.specs.Layout.{enum_value_layout, root_layout, parts_layout, body_layout, repeatable_layout, definition_layout, document_layout}
+use Rattle.graphql_schema_tree.specs.Layout.{enum_value_layout, root_layout, roots_layout, parts_layout, body_layout, repeatable_layout, definition_layout}
+use Rattle.graphql_schema_tree.specs.Layout.{document_layout}
 use Rattle.graphql_schema_tree.specs.Locations.{word_of}
 use Rattle.graphql_schema_tree.specs.Printable.{input_value_brackets, field_brackets, enum_value_brackets, parts_brackets, body_brackets, definition_brackets}
 use Rattle.graphql_schema_tree.specs.Tree.{InputValueTree, FieldTree, EnumValueTree, PartsTree, scalar, object, interface, union, enum, input, BodyTree}
-use Rattle.graphql_schema_tree.specs.Tree.{DefinitionTree, schema, type_definition, extension, directive, DocumentTree}
+use Rattle.graphql_schema_tree.specs.Tree.{DefinitionTree, schema, type_definition, extension, schema_extension, directive, DocumentTree, has_operation}
 
 -- ---- parts in braces
 
@@ -88,6 +89,15 @@ module _ (style : Layout) where
   root_rises margin w None = none_rise
   root_rises margin w (Some n) = gap_rises _ (level_rises refl (level_rises refl (gap_rises _ (level_rises refl (gap_rises _ none_rise)))))
 
+  roots_rise : (q m s : Option (List ℕ)) → Rises 1 (roots_layout style q m s)
+  roots_rise q m s =
+      gap_rises _ (braces_rise 0 (flat_rise (root_rises style.indent _ q) (flat_rise (root_rises style.indent _ m) (root_rises style.indent _ s))))
+
+  -- where there are any
+  operations_rise : (b : Bool) (q m s : Option (List ℕ)) → Rises (cond b 1 0) (cond b (roots_layout style q m s) (gap (codes "\n")))
+  operations_rise true q m s = roots_rise q m s
+  operations_rise false q m s = gap_rises _ none_rise
+
   parts_rise : (ds : List DirectiveTree) (p : PartsTree) → Rises (max (directives_brackets ds) (parts_brackets p)) (parts_layout style ds p)
   parts_rise ds scalar = both_rise (directives_rise style 0 ds) (gap_rises _ none_rise)
   parts_rise ds (object is fs) =
@@ -110,11 +120,14 @@ module _ (style : Layout) where
   repeatable_rises true = gap_rises _ (level_rises refl none_rise)
 
   definition_rises : (t : DefinitionTree) → Rises (definition_brackets t) (definition_layout style t)
-  definition_rises (schema s) =
-      level_rises refl (both_rise (directives_rise style 0 s.directives) (gap_rises _ (braces_rise 0
-      (flat_rise (root_rises style.indent _ s.query) (flat_rise (root_rises style.indent _ s.mutation) (root_rises style.indent _ s.subscription))))))
+  definition_rises (schema t s) =
+      both_rise (description_rises style 0 t) (level_rises refl (both_rise (directives_rise style 0 s.directives)
+      (roots_rise s.query s.mutation s.subscription)))
   definition_rises (type_definition t b) = both_rise (description_rises style 0 t) (body_rises b)
   definition_rises (extension b) = level_rises refl (gap_rises _ (body_rises b))
+  definition_rises (schema_extension s) =
+      level_rises refl (gap_rises _ (level_rises refl (both_rise (directives_rise style 0 s.directives)
+      (operations_rise (has_operation s) s.query s.mutation s.subscription))))
   definition_rises (directive t) =
       let n = most_enclosed input_value_brackets t.arguments in
       both_rise (description_rises style 0 t.description) (level_rises refl (gap_rises _ (level_rises refl (level_rises refl

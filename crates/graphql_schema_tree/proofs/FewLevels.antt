@@ -1,5 +1,5 @@
 -- Where arguments stand in one line, a document opens two levels at most: a block, and in it a string in block form.
-use Rattle.std.proofs.Common.{◌≡◌, ◌≤◌, ◌+◌, ℕ, false, List, [], ◌∷◌, Option, Some, None, Result, Ok, Err, OnOk}
+use Rattle.std.proofs.Common.{◌≡◌, ◌≤◌, ◌+◌, ℕ, cond, Bool, true, false, List, [], ◌∷◌, Option, Some, None, Result, Ok, Err, OnOk}
 use Rattle.std.proofs.Common.{arith, refl}
 use Rattle.std.proofs.Math.Nat.{mul-le-mul_left}
 use Rattle.graphql_core.specs.Style.{Layout, default_style}
@@ -22,6 +22,10 @@ block_bounded f bound each (x ∷ xs) = let all = most_bounded f bound each (x �
 description_bounded : (text : Option (List ℕ)) → description_levels text ≤ 1
 description_bounded None = omega arith
 description_bounded (Some text) = string_bounded text
+
+one_or_none : (b : Bool) → cond b 1 0 ≤ 1
+one_or_none true = omega arith
+one_or_none false = omega arith
 
 module _ (style : Layout) (one_line : style.multiline ≡ false) where
   -- ---- parts of definitions
@@ -60,9 +64,16 @@ module _ (style : Layout) (one_line : style.multiline ≡ false) where
   -- ---- definitions
 
   definition_bounded : (t : DefinitionTree) → definition_levels style t ≤ 2
-  definition_bounded (trees.schema s) = let directives = directives_bounded style one_line s.directives in omega (arith, directives)
+  definition_bounded (trees.schema d s) =
+      let above = description_bounded d in
+      let directives = directives_bounded style one_line s.directives in
+      omega (arith, above, directives)
   definition_bounded (trees.type_definition d b) = let above = description_bounded d in let body = body_bounded b in omega (arith, above, body)
   definition_bounded (trees.extension b) = body_bounded b
+  definition_bounded (trees.schema_extension s) =
+      let directives = directives_bounded style one_line s.directives in
+      let operations = one_or_none (trees.has_operation s) in
+      omega (arith, directives, operations)
   definition_bounded (trees.directive d) =
       let arguments = most_bounded (input_value_levels style) 1 input_value_bounded d.arguments in
       let above = description_bounded d.description in

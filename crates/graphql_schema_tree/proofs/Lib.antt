@@ -1,3 +1,4 @@
+pub mod SecondItems
 pub mod Readable
 pub mod Computed
 pub mod Answering
@@ -10,3 +11,6 @@ pub mod WayBack
 pub mod PrintedTexts
 pub mod FewLevels
 pub mod OneText
+pub mod Earlier
+pub mod Adding
+pub mod Unplaced

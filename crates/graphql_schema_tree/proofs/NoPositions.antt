@@ -7,7 +7,8 @@ use Rattle.graphql_values.specs.Values.{DirectiveTree, erase_all}
 use Rattle.graphql_values.specs.Lines.{in_braces}
 use Rattle.graphql_values.proofs.NoPositions.{directives_alike, separated_alike, in_parentheses_alike}
 use Rattle.graphql_schema_tree.specs.Tree.{InputValueTree, FieldTree, EnumValueTree, PartsTree, scalar, object, interface, union, enum, input, BodyTree}
-use Rattle.graphql_schema_tree.specs.Tree.{DefinitionTree, schema, type_definition, extension, directive, DocumentTree, erase_input_value, erase_field}
+use Rattle.graphql_schema_tree.specs.Tree.{DefinitionTree, schema, type_definition, extension, schema_extension, directive, DocumentTree}
+use Rattle.graphql_schema_tree.specs.Tree.{erase_input_value, erase_field}
 use Rattle.graphql_schema_tree.specs.Tree.{erase_enum_value, erase_parts, erase_body, erase_definition, erase}
 use Rattle.graphql_schema_tree.specs.Layout.{block_layout, description_layout, input_value_layout, arguments_layout, input_field_layout}
 use Rattle.graphql_schema_tree.specs.Layout.{field_layout, enum_value_layout, keyword, parts_layout, body_layout, definition_layout, layout}
@@ -69,9 +70,10 @@ body_alike : (style : Layout) (b : BodyTree) → body_layout style (erase_body b
 body_alike style b = ap₂ (λ w r. name w ++ (gap (codes " ") ++ (name b.name ++ r))) (keyword_alike b.parts) (parts_alike style b.directives b.parts)
 
 definition_alike : (style : Layout) (d : DefinitionTree) → definition_layout style (erase_definition d) ≡ definition_layout style d
-definition_alike style (schema s) = rw (directives_alike style 0 s.directives) refl
+definition_alike style (schema d s) = rw (directives_alike style 0 s.directives) refl
 definition_alike style (type_definition d b) = ap (λ r. description_layout style 0 d ++ r) (body_alike style b)
 definition_alike style (extension b) = ap (λ r. name (codes "extend") ++ (gap (codes " ") ++ r)) (body_alike style b)
+definition_alike style (schema_extension s) = rw (directives_alike style 0 s.directives) refl
 definition_alike style (directive d) = rw (arguments_alike style 0 d.arguments) refl
 
 -- ---- documents

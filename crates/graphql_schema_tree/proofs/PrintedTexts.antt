@@ -1,6 +1,6 @@
 -- Lists of trees, each of which is seen, and layouts in the pieces that are written.
 use Rattle.std.proofs.Common.{◌≡◌, ◌<◌, ◌+◌, ◌*◌, ◌++◌, ◌∙◌, [], ◌∷◌, Option, Some, ap, sym, refl, codes, ℕ, List, length, get_or, drop, map, max}
-use Rattle.std.proofs.Common.{append_assoc, arith}
+use Rattle.std.proofs.Common.{append_assoc, arith, Bool, cond}
 use Rattle.std.specs.List.{flat_map}
 use Rattle.std.proofs.lemmas.List.{at_drop_more}
 use Rattle.std.proofs.lemmas.List.Folds.{flat_map-map}
@@ -13,10 +13,11 @@ use Rattle.graphql_values.specs.Values.{DirectiveTree}
 use Rattle.graphql_values.proofs.Appending.{text_append}
 use Rattle.graphql_values.proofs.Enclosed.{narrower, both_fit}
 use Rattle.graphql_values.proofs.Seen.{most_seen}
-use Rattle.graphql_schema_tree.specs.Tree.{InputValueTree, FieldTree, EnumValueTree, SchemaTree, PartsTree, DirectiveDefinitionTree, type_definition}
+use Rattle.graphql_schema_tree.specs.Tree.{InputValueTree, FieldTree, EnumValueTree, SchemaTree, PartsTree, DirectiveDefinitionTree, schema}
+use Rattle.graphql_schema_tree.specs.Tree.{type_definition, schema_extension, has_operation}
 use Rattle.graphql_schema_tree.specs.Layout.{description_layout, inline_layout, between, later_names, joined_names, interfaces_layout, members_layout}
 use Rattle.graphql_schema_tree.specs.Layout.{locations_layout, input_value_layout, arguments_layout, input_field_layout, field_layout}
-use Rattle.graphql_schema_tree.specs.Layout.{enum_value_layout, block_layout, root_layout, schema_layout, body_layout, repeatable_layout}
+use Rattle.graphql_schema_tree.specs.Layout.{enum_value_layout, block_layout, root_layout, roots_layout, body_layout, repeatable_layout}
 use Rattle.graphql_values.specs.TreeDepth.{most_enclosed}
 use Rattle.graphql_schema_tree.specs.Layout.{directive_definition_layout, definition_layout}
 use Rattle.graphql_schema_tree.specs.steps.Body.{body, named}
@@ -69,10 +70,21 @@ pub enum_value_text : (style : Layout) (margin : ℕ) (v : EnumValueTree) → ((
     ++ text_of (directives_layout style margin v.directives)) ++ codes "\n" ≡ text_of (enum_value_layout style margin v)
 enum_value_text style margin v = simp (text_append, append_assoc)
 
-pub schema_text : (style : Layout) (s : SchemaTree) → (((((codes "schema" ++ text_of (directives_layout style 0 s.directives)) ++ codes " {\n")
-    ++ text_of (root_layout style.indent (codes "query") s.query)) ++ text_of (root_layout style.indent (codes "mutation") s.mutation))
-    ++ text_of (root_layout style.indent (codes "subscription") s.subscription)) ++ codes "}\n" ≡ text_of (schema_layout style s)
-schema_text style s = simp (text_append, append_assoc)
+pub roots_text : (style : Layout) (q m s : Option (List ℕ)) → (((codes " {\n" ++ text_of (root_layout style.indent (codes "query") q))
+    ++ text_of (root_layout style.indent (codes "mutation") m)) ++ text_of (root_layout style.indent (codes "subscription") s)) ++ codes "}\n"
+    ≡ text_of (roots_layout style q m s)
+roots_text style q m s = simp (text_append, append_assoc)
+
+pub schema_text : (style : Layout) (d : Option (List ℕ)) (s : SchemaTree)
+    → ((text_of (description_layout style 0 d) ++ codes "schema") ++ text_of (directives_layout style 0 s.directives))
+    ++ text_of (roots_layout style s.query s.mutation s.subscription) ≡ text_of (definition_layout style (schema d s))
+schema_text style d s = simp (text_append, append_assoc)
+
+-- an extension of the schema, with operations or without
+pub schema_extension_text : (style : Layout) (s : SchemaTree) (b : Bool) → b ≡ has_operation s
+    → (codes "extend schema" ++ text_of (directives_layout style 0 s.directives))
+    ++ text_of (cond b (roots_layout style s.query s.mutation s.subscription) (gap (codes "\n"))) ≡ text_of (definition_layout style (schema_extension s))
+schema_extension_text style s b is = rw (is) (simp (text_append, append_assoc))
 
 pub directive_definition_text : (style : Layout) (d : DirectiveDefinitionTree)
     → (((((text_of (description_layout style 0 d.description) ++ codes "directive @") ++ d.name) ++ text_of (arguments_layout style 0 d.arguments))

@@ -1,13 +1,13 @@
 -- The language of schemas is readable.
-use Rattle.std.proofs.Common.{◌≡◌, ◌<◌, ◌==◌, ◌&&◌, ℕ, zero, suc, Bool, true, false, List, [], ◌∷◌, length, drop, Option, Some}
-use Rattle.std.proofs.Common.{inl, inr, refl, sym, ap, subst, ◌∙◌, arith}
+use Rattle.std.proofs.Common.{codes, ◌≡◌, ◌<◌, ◌==◌, ◌&&◌, ℕ, zero, suc, Bool, true, false, List, [], ◌∷◌, length, drop, Option, Some}
+use Rattle.std.proofs.Common.{inl, inr, refl, sym, subst, ◌∙◌, arith}
 use Rattle.std.proofs.lemmas.Bool.{cases_Bool, and_parts, both_ways}
 use Rattle.std.proofs.lemmas.Bool.Decides.{nat_tests}
 use Rattle.graphql_grammar.specs.Tokens.{Token, Class, Spelled, AnyOf, Except}
 use Rattle.graphql_grammar.specs.Trees.{Expr, Empty, One, Then, Either, Many, Sym, Shape, Row, Grammar, row, row_at, optional, leaves}
-use Rattle.graphql_grammar.specs.Trees.{Fits, fits_both, fits_leaf}
+use Rattle.graphql_grammar.specs.Trees.{Fits, fits_both, fits_leaf, fits_first, fits_second}
 use Rattle.graphql_grammar.specs.Solve.{with_tables}
-use Rattle.graphql_grammar.specs.Tables.{is_ll1, is_tight, is_productive}
+use Rattle.graphql_grammar.specs.Tables.{is_ll1, is_tight, is_productive, has_samples}
 use Rattle.graphql_grammar.specs.Reading.{lax}
 use Rattle.graphql_grammar.specs.Factored.{EachIsSecond, change_at, written, with_rows}
 use Rattle.graphql_grammar.specs.Faults.{RefusesTokens}
@@ -17,15 +17,16 @@ use Rattle.graphql_grammar.proofs.Unchanged.{unchanged_then}
 use Rattle.graphql_grammar.proofs.Extending.{with_more, alone_before}
 use Rattle.graphql_core.specs.Causes.{CauseText}
 use Rattle.graphql_core.specs.Source.{FaultText}
-use Rattle.graphql_values.specs.Grammar.{shared, tables as core_tables, shared_symbols}
+use Rattle.graphql_values.specs.Grammar.{shared, tables as core_tables, shared_symbols, word}
 use Rattle.graphql_values.specs.Leaves.{unquoted, is_good as leaves_good}
 use Rattle.graphql_values.specs.Language.{reading}
 use Rattle.graphql_values.proofs.Faults.{none_there}
 use Rattle.graphql_values.proofs.Readable.{IsReadable, shared_rows, one_cause}
 use Rattle.graphql_schema_tree.specs.Locations.{location_of}
 use Rattle.graphql_schema_tree.specs.Grammar.{schema, is_good, rules, second_rules, second_rows, tables, changes, passes}
-use Rattle.graphql_schema_tree.specs.Grammar.{document_symbol, schema_symbol, extension_symbol, description_symbol, type_body_symbol}
-use Rattle.graphql_schema_tree.specs.Grammar.{directive_definition_symbol}
+use Rattle.graphql_schema_tree.specs.Grammar.{document_symbol, schema_symbol, extension_symbol, described_symbol, description_symbol, type_body_symbol}
+use Rattle.graphql_schema_tree.specs.Grammar.{directive_definition_symbol, schema_extension_symbol}
+use Rattle.graphql_schema_tree.proofs.SecondItems.{IsSecond-description}
 use Rattle.graphql_schema_tree.specs.Language.{schemas, Lacks, said_of}
 
 ll1 : is_ll1 second_rows ≡ true
@@ -44,18 +45,35 @@ productive_lax : is_productive (with_rows (lax schema) second_rows changes) ≡ 
 unfolding tables core_tables unquoted
 productive_lax = refl
 
+samples : has_samples (reading schemas) (Sym document_symbol) ≡ true
+unfolding tables core_tables unquoted
+samples = refl
+
+samples_lax : has_samples (with_rows (lax schema) second_rows changes) (Sym document_symbol) ≡ true
+unfolding tables core_tables unquoted
+samples_lax = refl
+
 -- ---- the second rules have the trees of the written ones, whatever is tested
 
-each : (good : Class → Token → Bool) (check : ℕ → Shape → Bool)
+-- where nothing is asked of trees with a description
+each : (good : Class → Token → Bool) (check : ℕ → Shape → Bool) → ((x : Shape) → check described_symbol x ≡ true)
     → EachIsSecond (record { rows = schema.rows; good = good; check = check; samples = schema.samples }) second_rows changes
-each good check =
+each good check pass =
     let g : Grammar = record { rows = schema.rows; good = good; check = check; samples = schema.samples } in
     let ws : List Row = with_tables rules [] in
     let qs : List Row = with_tables second_rules tables in
+    let described : Expr = optional (Sym description_symbol) in
     each_is_second g second_rows changes (shared_rows g second_rows changes shared.rows ws qs (drop shared_symbols changes)
-    (unchanged_then g second_rows changes 5 ws qs (drop 16 changes) refl (
-      IsSecond-head g second_rows changes (optional (Sym description_symbol)) (Sym type_body_symbol) (Sym directive_definition_symbol),
-      unchanged_then g second_rows changes 20 (drop 6 ws) (drop 6 qs) [] refl tt,
+    (unchanged_then g second_rows changes 1 ws qs (drop 12 changes) refl (
+      IsSecond-description g second_rows changes described_symbol described (Sym schema_symbol) (Sym extension_symbol) (Sym type_body_symbol)
+          (Sym directive_definition_symbol) refl refl (λ x. refl) pass,
+      unchanged_then g second_rows changes 2 (drop 2 ws) (drop 2 qs) (drop 15 changes) refl (
+        IsSecond-head g second_rows changes (word (codes "extend")) (Sym type_body_symbol) (Sym schema_extension_symbol),
+        (
+          IsSecond-head g second_rows changes described (Sym type_body_symbol) (Sym directive_definition_symbol),
+          unchanged_then g second_rows changes 22 (drop 6 ws) (drop 6 qs) [] refl tt,
+        ),
+      ),
     )))
 
 -- ---- it goes on from the grammar of values, types and directives
@@ -106,7 +124,8 @@ passes_below : (k : ℕ) (x : Shape) → k < shared_symbols → passes k x ≡ t
 passes_below k x h =
     let none : (k == schema_symbol) ≡ false = grind (arith, nat_tests) in
     let neither : (k == extension_symbol) ≡ false = grind (arith, nat_tests) in
-    rw (none, neither) refl
+    let nor : (k == schema_extension_symbol) ≡ false = grind (arith, nat_tests) in
+    rw (none, neither, nor) refl
 
 goes_on : Extends shared_symbols shared (reading schemas)
 goes_on = with_more shared _ is_good (reading schemas).check schema.samples refl
@@ -123,6 +142,10 @@ written_goes_on = with_more shared _ is_good passes schema.samples refl
 has_token : (c : Class) (e : Expr) (x : Shape) → Fits schema (Then (One c) e) x → leaves x ≡ [] → ⊥
 has_token c e _ (fits_both (fits_leaf a) h) empty = absurd cc
 
+either_has_token : (c : Class) (a b : Expr) (x : Shape) → Fits schema (Either (Then (One c) a) (Then (One c) b)) x → leaves x ≡ [] → ⊥
+either_has_token c a b _ (fits_first h) empty = has_token c a _ h empty
+either_has_token c a b _ (fits_second h) empty = has_token c b _ h empty
+
 refuses_tokens : RefusesTokens schema
 refuses_tokens k x fits refused empty = elim (cases_Bool (k == schema_symbol)) [
   | inl e ↦
@@ -131,10 +154,15 @@ refuses_tokens k x fits refused empty = elim (cases_Bool (k == schema_symbol)) [
   | inr e ↦ elim (cases_Bool (k == extension_symbol)) [
     | inl e' ↦
         let is : k ≡ extension_symbol = grind (arith, nat_tests) in
-        has_token _ _ x (subst (λ (j : ℕ). Fits schema (row schema j).rule x) is fits) empty
-    | inr e' ↦
-        let passed : passes k x ≡ true = rw (e, e') refl in
-        absurd (both_ways (passes k x) refused passed)
+        either_has_token _ _ _ x (subst (λ (j : ℕ). Fits schema (row schema j).rule x) is fits) empty
+    | inr e' ↦ elim (cases_Bool (k == schema_extension_symbol)) [
+      | inl e'' ↦
+          let is : k ≡ schema_extension_symbol = grind (arith, nat_tests) in
+          has_token _ _ x (subst (λ (j : ℕ). Fits schema (row schema j).rule x) is fits) empty
+      | inr e'' ↦
+          let passed : passes k x ≡ true = rw (e, e', e'') refl in
+          absurd (both_ways (passes k x) refused passed)
+    ]
   ]
 ]
 
@@ -156,11 +184,11 @@ readable = record {
   productive = productive;
   productive_lax = productive_lax;
   decides = refl;
-  samples = refl;
-  samples_lax = refl;
-  each = each _ _;
-  each_unchecked = each _ _;
-  each_lax = each _ _;
+  samples = samples;
+  samples_lax = samples_lax;
+  each = each _ _ (λ x. refl);
+  each_unchecked = each _ _ (λ x. refl);
+  each_lax = each _ _ (λ x. refl);
   goes_on = goes_on;
   alone = alone_before shared _ refl;
   good = λ k t. refl;

@@ -1,40 +1,45 @@
 -- The layouts of schema documents are read back, up to positions.
 use Rattle.std.proofs.Common.{◌≡◌, ℕ, ◌≤◌, Bool, true, false, not, ◌||◌, cond, List, [], ◌∷◌, ◌++◌, Option, Some, None, is_some, codes, map}
-use Rattle.std.proofs.Common.{refl, sym, ap, ap₂, ◌∙◌, arith, append-nil}
+use Rattle.std.proofs.Common.{refl, sym, ap, ap₂, subst, ◌∙◌, arith, append-nil}
 use Rattle.std.specs.List.{AllByRecursion}
 use Rattle.std.specs.Option.{IfSome}
 use Rattle.graphql_grammar.specs.Tokens.{same_spelling}
-use Rattle.graphql_grammar.specs.Trees.{Many, Sym, Shape, Both, Stop, More, Node, optional}
+use Rattle.graphql_grammar.specs.Trees.{Many, Sym, Shape, Both, First, Stop, More, Node, optional, some_of, row}
 use Rattle.graphql_lexer.specs.Lexical.{IsName}
 use Rattle.graphql_core.specs.Style.{Layout}
-use Rattle.graphql_core.specs.Parts.{Part, name}
+use Rattle.graphql_core.specs.Parts.{Part, name, gap}
 use Rattle.graphql_core.proofs.Back.{Back, Any, same_parts, means, margin_back, gap_back, then_gap, word_back, mark_back}
 use Rattle.graphql_core.proofs.Back.{nothing_back, both_back, first_back, second_back, node_back, checked_back, stop_back, more_back, three_back}
 use Rattle.graphql_core.proofs.Back.{seven_back}
 use Rattle.graphql_values.specs.Grammar.{word}
 use Rattle.graphql_values.specs.Meanings.{spelling_at, directives_of}
 use Rattle.graphql_values.specs.TreeDepth.{most_enclosed}
-use Rattle.graphql_values.specs.Values.{DirectiveTree, no_place, erase as erase_one, erase_all}
+use Rattle.graphql_values.specs.Values.{no_place, erase_all}
 use Rattle.graphql_values.proofs.LeavesBack.{name_word}
 use Rattle.graphql_values.proofs.ValuesBack.{spaces_blank}
 use Rattle.graphql_values.proofs.ListsBack.{both_of_each, some_back, document_back}
 use Rattle.graphql_schema_tree.specs.declared.location.DirectiveLocation.{DirectiveLocation}
 use Rattle.graphql_schema_tree.specs.Grammar.{schema as the_grammar, item_symbol, schema_symbol, root_type_symbol, extension_symbol}
-use Rattle.graphql_schema_tree.specs.Grammar.{directive_definition_symbol, locations_symbol, location_symbol}
+use Rattle.graphql_schema_tree.specs.Grammar.{directive_definition_symbol, locations_symbol, location_symbol, schema_extension_symbol, roots_symbol}
 use Rattle.graphql_schema_tree.specs.Language.{schemas, IsReadBack}
+use Rattle.graphql_values.specs.Lawful.{AreLawfulDirectives}
+use Rattle.graphql_values.specs.Printable.{directives_brackets}
+use Rattle.graphql_values.specs.ValueLayout.{directives_layout}
 use Rattle.graphql_schema_tree.specs.Lawful.{IsLawfulInputValue, IsLawfulBody, IsLawfulDefinition, IsLawfulDocument}
-use Rattle.graphql_schema_tree.specs.Layout.{joined_names, root_layout, schema_layout, repeatable_layout}
+use Rattle.graphql_schema_tree.specs.Layout.{joined_names, root_layout, roots_layout, schema_layout, repeatable_layout}
 use Rattle.graphql_schema_tree.specs.Layout.{directive_definition_layout, definition_layout, layout}
 use Rattle.graphql_schema_tree.specs.Locations.{word_of, location_of, is_location}
-use Rattle.graphql_schema_tree.specs.Meanings.{is_there, each_of, root_of, schema_of, location_at, present, locations_of}
+use Rattle.graphql_schema_tree.specs.Meanings.{is_there, each_of, root_of, schema_of, schema_extension_of, location_at, present, locations_of}
 use Rattle.graphql_schema_tree.specs.Meanings.{directive_definition_of, extension_of, item_of}
 use Rattle.graphql_schema_tree.specs.Printable.{IsPrintable, IsPrintableSchema, IsPrintableBody, IsPrintableDefinition, IsWholeDefinition}
 use Rattle.graphql_schema_tree.specs.Printable.{IsPrintableInputValue, input_value_brackets, body_brackets, definition_brackets}
-use Rattle.graphql_schema_tree.specs.Roots.{roots_of, RootFault, root_fault, root_fault_of}
-use Rattle.graphql_schema_tree.specs.Tree.{InputValueTree, SchemaTree, PartsTree, scalar, object, interface, union, enum, input, BodyTree}
-use Rattle.graphql_schema_tree.specs.Tree.{DirectiveDefinitionTree, DefinitionTree, schema, type_definition, extension, directive, DocumentTree, adds}
+use Rattle.graphql_schema_tree.specs.Roots.{roots_of, roots_in, RootFault, root_fault, root_fault_of, extension_fault_of}
+use Rattle.graphql_schema_tree.specs.Tree.{InputValueTree, SchemaTree, BodyTree}
+use Rattle.graphql_schema_tree.specs.Tree.{DirectiveDefinitionTree, DefinitionTree, schema, type_definition, extension, schema_extension, directive}
+use Rattle.graphql_schema_tree.specs.Tree.{DocumentTree, adds, has_operation, adds_to_schema, extends}
 use Rattle.graphql_values.specs.TreeDepth.{has_any}
-use Rattle.graphql_schema_tree.specs.Tree.{erase_field, erase_enum_value, erase_input_value, erase_schema, erase_body, erase_directive, erase_definition}
+use Rattle.graphql_schema_tree.specs.Tree.{erase_schema, erase_body, erase_directive, erase_definition}
+use Rattle.graphql_schema_tree.proofs.Adding.{extends_alike}
 use Rattle.graphql_schema_tree.proofs.LocationWords.{location_named, location_name}
 use Rattle.graphql_schema_tree.proofs.PartsBack.{named_back, joined_back, braces_back, directives_in, description_back, argument_definitions_back, body_back}
 
@@ -75,8 +80,8 @@ answered_by (r ∷ rs) x (y, more, is, (a, c, t, of, at, type), others) =
     )
 
 -- each operation has its type, and none is refused
-abbrev HasRoots : SchemaTree → Shape → Type 0
-HasRoots s x = (root_of (codes "query") x ≡ s.query) × (root_of (codes "mutation") x ≡ s.mutation) × (root_of (codes "subscription") x ≡ s.subscription)
+abbrev HasRoots : (q m s : Option (List ℕ)) → Shape → Type 0
+HasRoots q m s x = (root_of (codes "query") x ≡ q) × (root_of (codes "mutation") x ≡ m) × (root_of (codes "subscription") x ≡ s)
     × (root_fault [] (roots_of x) ≡ None)
 
 each_answered : (q m s : Option (List ℕ)) → (type_among (codes "query") (roots q m s) ≡ q) × (type_among (codes "mutation") (roots q m s) ≡ m)
@@ -90,51 +95,117 @@ each_answered (Some q) None (Some s) = (refl, refl, refl, refl)
 each_answered (Some q) (Some m) None = (refl, refl, refl, refl)
 each_answered (Some q) (Some m) (Some s) = (refl, refl, refl, refl)
 
-has_roots : (s : SchemaTree) (x : Shape) → AreRoots (roots s.query s.mutation s.subscription) x → HasRoots s x
-has_roots s x are =
-    let (types, names) = answered_by (roots s.query s.mutation s.subscription) x are in
-    let (q, m, b, fault) = each_answered s.query s.mutation s.subscription in
-    (types (codes "query") ∙ q, types (codes "mutation") ∙ m, types (codes "subscription") ∙ b, ap (root_fault []) names ∙ fault)
+has_roots : (q m s : Option (List ℕ)) (x : Shape) → AreRoots (roots q m s) x → HasRoots q m s x
+has_roots q m s x are =
+    let (types, names) = answered_by (roots q m s) x are in
+    let (is, also, last, fault) = each_answered q m s in
+    (types (codes "query") ∙ is, types (codes "mutation") ∙ also, types (codes "subscription") ∙ last, ap (root_fault []) names ∙ fault)
 
--- an operation's line, where it is there, before those of others
+-- an operation's line
+line_back : (margin : ℕ) (w n : List ℕ) (d : ℕ) → IsName w → IsName n
+    → Back the_grammar (Sym root_type_symbol) false d (root_layout margin w (Some n)) false d (IsRoot w n)
+line_back margin w n d is named =
+    margin_back (spaces_blank margin) (node_back {R = IsRoot w n} (λ x. refl) (three_back
+    (named_back w d is)
+    (mark_back (codes ":") (refl, refl) (λ p. refl))
+    (gap_back refl (then_gap 10 [] refl (named_back n d named)))
+    (λ a c t ha hc ht. (a, c, t, refl, ha, ht))))
+
+-- where it is there, before those of others
 root_back : (margin : ℕ) (w : List ℕ) (n : Option (List ℕ)) (ps : List Part) (rs : Roots) (d : ℕ) → IsName w → IfSome n IsName
     → Back the_grammar (Many (Sym root_type_symbol)) false d ps false d (AreRoots rs)
     → Back the_grammar (Many (Sym root_type_symbol)) false d (root_layout margin w n ++ ps) false d (AreRoots (root w n rs))
 root_back margin w None ps rs d is named more = more
-root_back margin w (Some n) ps rs d is named more =
-    more_back (margin_back (spaces_blank margin) (node_back {R = IsRoot w n} (λ x. refl) (three_back
-    (named_back w d is)
-    (mark_back (codes ":") (refl, refl) (λ p. refl))
-    (gap_back refl (then_gap 10 [] refl (named_back n d named)))
-    (λ a c t ha hc ht. (a, c, t, refl, ha, ht)))))
-    more (λ x y hx hy. (x, y, refl, hx, hy))
+root_back margin w (Some n) ps rs d is named more = more_back (line_back margin w n d is named) more (λ x y hx hy. (x, y, refl, hx, hy))
 
-roots_back : (margin : ℕ) (s : SchemaTree) (d : ℕ) → IfSome s.query IsName → IfSome s.mutation IsName → IfSome s.subscription IsName
-    → Back the_grammar (Many (Sym root_type_symbol)) false d (root_layout margin (codes "query") s.query
-    ++ (root_layout margin (codes "mutation") s.mutation ++ root_layout margin (codes "subscription") s.subscription)) false d (HasRoots s)
-roots_back margin s d q m b =
-    let last : List Part = root_layout margin (codes "subscription") s.subscription in
-    means (has_roots s)
-    (root_back margin (codes "query") s.query _ _ d (refl, refl) q (root_back margin (codes "mutation") s.mutation _ _ d (refl, refl) m
-    (same_parts (last ++ []) last (sym (append-nil last))
-    (root_back margin (codes "subscription") s.subscription [] [] d (refl, refl) b (stop_back refl)))))
+module _ (margin : ℕ) where
+  -- of the last two of them, and of all
+  last_back : (s : Option (List ℕ)) (d : ℕ) → IfSome s IsName
+      → Back the_grammar (Many (Sym root_type_symbol)) false d (root_layout margin (codes "subscription") s) false d (AreRoots (roots None None s))
+  last_back s d b =
+      let last : List Part = root_layout margin (codes "subscription") s in
+      same_parts (last ++ []) last (sym (append-nil last)) (root_back margin (codes "subscription") s [] [] d (refl, refl) b (stop_back refl))
+
+  later_back : (m s : Option (List ℕ)) (d : ℕ) → IfSome m IsName → IfSome s IsName
+      → Back the_grammar (Many (Sym root_type_symbol)) false d (root_layout margin (codes "mutation") m
+      ++ root_layout margin (codes "subscription") s) false d (AreRoots (roots None m s))
+  later_back m s d also b = root_back margin (codes "mutation") m _ _ d (refl, refl) also (last_back s d b)
+
+  roots_back : (q m s : Option (List ℕ)) (d : ℕ) → IfSome q IsName → IfSome m IsName → IfSome s IsName
+      → Back the_grammar (Many (Sym root_type_symbol)) false d (root_layout margin (codes "query") q
+      ++ (root_layout margin (codes "mutation") m ++ root_layout margin (codes "subscription") s)) false d (HasRoots q m s)
+  roots_back q m s d is also b = means (has_roots q m s) (root_back margin (codes "query") q _ _ d (refl, refl) is (later_back m s d also b))
 
 -- the parts of a node of this schema, which passes
 abbrev IsSchema : SchemaTree → Shape → Type 0
 IsSchema s x = (root_fault_of x ≡ None) × (erase_schema (schema_of (Node schema_symbol x)) ≡ erase_schema s)
 
-schema_back : (style : Layout) (s : SchemaTree) → IsPrintableSchema s → IsLawfulDefinition (schema s) → definition_brackets (schema s) ≤ 50
+schema_back : (style : Layout) (s : SchemaTree) → IsPrintableSchema s → AreLawfulDirectives s.directives → directives_brackets s.directives ≤ 50
     → Back the_grammar (Sym schema_symbol) false 0 (schema_layout style s) false 0 (λ x. erase_schema (schema_of x) ≡ erase_schema s)
 schema_back style s (ds, q, m, b) law deep =
     checked_back {P = IsSchema s} (λ x p. ap (λ (f : Option RootFault). not (is_some f)) p.0) (λ x p. p.1)
     (three_back {P = Any} {R = λ z. (w x : Shape) → erase_all (directives_of x) ≡ erase_all s.directives → IsSchema s (Both w (Both x z))}
     (word_back (name_word (codes "schema") (refl, refl)) (λ p. refl) (λ t e. tt))
     (directives_in style 0 s.directives 0 ds law (omega arith))
-    (gap_back refl (braces_back 0 (omega arith) (roots_back style.indent s 1 q m b) (λ o y c hy w x hx. (
+    (gap_back refl (braces_back 0 (omega arith) (roots_back style.indent s.query s.mutation s.subscription 1 q m b) (λ o y c hy w x hx. (
       hy.3,
       λ i. record { position = no_place; directives = hx i; query = hy.0 i; mutation = hy.1 i; subscription = hy.2 i },
     ))))
     (λ w x z hw hx hz. hz w x hx))
+
+-- ---- extensions of schemas
+
+-- at least one operation, and what the shape of them answers
+abbrev AreSome : (q m s : Option (List ℕ)) → Shape → Type 0
+AreSome q m s z = (x : Shape) × (more : Shape) × (z ≡ Both x more) × AreRoots (roots q m s) (More x more)
+
+have_some : (q m s : Option (List ℕ)) (o z c : Shape) → AreSome q m s z → HasRoots q m s (roots_in (First (Node roots_symbol (Both o (Both z c)))))
+have_some q m s o z c (x, more, is, are) =
+    subst (λ (y : Shape). HasRoots q m s (roots_in (First (Node roots_symbol (Both o (Both y c)))))) (sym is) (has_roots q m s (More x more) are)
+
+module _ (style : Layout) where
+  -- an operation before others
+  some_before : (w n : List ℕ) (ps : List Part) (rs : Roots) (d : ℕ) → IsName w → IsName n
+      → Back the_grammar (Many (Sym root_type_symbol)) false d ps false d (AreRoots rs)
+      → Back the_grammar (some_of (Sym root_type_symbol)) false d (root_layout style.indent w (Some n) ++ ps) false d
+      (λ z. (x : Shape) × (more : Shape) × (z ≡ Both x more) × AreRoots ((w, n) ∷ rs) (More x more))
+  some_before w n ps rs d is named more =
+      both_back (line_back style.indent w n d is named) more (λ x y hx hy. (x, y, refl, (x, y, refl, hx, hy)))
+
+  filled_back : (q m s : Option (List ℕ)) → Back the_grammar (some_of (Sym root_type_symbol)) false 1 (root_layout style.indent (codes "query") q
+      ++ (root_layout style.indent (codes "mutation") m ++ root_layout style.indent (codes "subscription") s)) false 1 (AreSome q m s)
+      → Back the_grammar (optional (Sym roots_symbol)) true 0 (roots_layout style q m s) false 0 (λ x. HasRoots q m s (roots_in x))
+  filled_back q m s inside = gap_back refl (first_back (node_back (λ x. refl) (braces_back 0 (omega arith) inside (have_some q m s))))
+
+  operations_back : (q m s : Option (List ℕ)) → IfSome q IsName → IfSome m IsName → IfSome s IsName
+      → Back the_grammar (optional (Sym roots_symbol)) true 0
+      (cond (is_some q || (is_some m || is_some s)) (roots_layout style q m s) (gap (codes "\n"))) false 0 (λ x. HasRoots q m s (roots_in x))
+  operations_back None None None is also b = gap_back refl (second_back (nothing_back (refl, refl, refl, refl)))
+  operations_back (Some q) m s is also b =
+      filled_back (Some q) m s (some_before (codes "query") q _ _ 1 (refl, refl) is (later_back style.indent m s 1 also b))
+  operations_back None (Some m) s is also b =
+      filled_back None (Some m) s (some_before (codes "mutation") m _ _ 1 (refl, refl) also (last_back style.indent s 1 b))
+  operations_back None None (Some s) is also b =
+      let last : List Part = root_layout style.indent (codes "subscription") (Some s) in
+      filled_back None None (Some s) (same_parts (last ++ []) last (sym (append-nil last))
+      (some_before (codes "subscription") s [] [] 1 (refl, refl) b (stop_back refl)))
+
+-- the parts of a node of an extension of the schema, which passes
+abbrev IsSchemaExtension : SchemaTree → Shape → Type 0
+IsSchemaExtension s x = (extension_fault_of x ≡ None) × (erase_schema (schema_extension_of (Node schema_extension_symbol x)) ≡ erase_schema s)
+
+-- what stands after `extend`
+after_extend_back : (style : Layout) (s : SchemaTree) → IsPrintableSchema s → AreLawfulDirectives s.directives → directives_brackets s.directives ≤ 50
+    → Back the_grammar (Sym schema_extension_symbol) false 0 (name (codes "schema") ++ (directives_layout style 0 s.directives
+    ++ cond (has_operation s) (roots_layout style s.query s.mutation s.subscription) (gap (codes "\n")))) false 0
+    (λ x. erase_schema (schema_extension_of x) ≡ erase_schema s)
+after_extend_back style s (ds, q, m, b) law deep =
+    checked_back {P = IsSchemaExtension s} (λ x p. ap (λ (f : Option RootFault). not (is_some f)) p.0) (λ x p. p.1)
+    (three_back {P = Any}
+    (word_back (name_word (codes "schema") (refl, refl)) (λ p. refl) (λ t e. tt))
+    (directives_in style 0 s.directives 0 ds law (omega arith))
+    (operations_back style s.query s.mutation s.subscription q m b)
+    (λ w x z hw hx hz. (hz.3, λ i. record { position = no_place; directives = hx i; query = hz.0 i; mutation = hz.1 i; subscription = hz.2 i })))
 
 -- ---- directives
 
@@ -189,47 +260,48 @@ directive_back style s n vs b (l ∷ ls) named are some law deep =
 
 -- ---- extensions
 
-any_alike : {A B : Type 0} (f : A → B) (xs : List A) → has_any (map f xs) ≡ has_any xs
-any_alike f [] = refl
-any_alike f (x ∷ xs) = refl
-
--- directives and parts of a type whose name does not matter
-abbrev body_of_parts : List DirectiveTree → PartsTree → BodyTree
-body_of_parts ds parts = record { position = no_place; name = []; directives = ds; parts = parts }
-
-adds_as : (ds : List DirectiveTree) (parts : PartsTree) → adds (erase_body (body_of_parts ds parts)) ≡ adds (body_of_parts ds parts)
-adds_as ds scalar = ap (λ a. a || false) (any_alike erase_one ds)
-adds_as ds (object is fs) = ap₂ (λ a c. a || (has_any is || c)) (any_alike erase_one ds) (any_alike erase_field fs)
-adds_as ds (interface is fs) = ap₂ (λ a c. a || c) (any_alike erase_one ds) (any_alike erase_field fs)
-adds_as ds (union ts) = ap (λ a. a || has_any ts) (any_alike erase_one ds)
-adds_as ds (enum vs) = ap₂ (λ a c. a || c) (any_alike erase_one ds) (any_alike erase_enum_value vs)
-adds_as ds (input fs) = ap₂ (λ a c. a || c) (any_alike erase_one ds) (any_alike erase_input_value fs)
-
--- what an extension adds is seen without positions
-adds_alike : (b : BodyTree) → adds (erase_body b) ≡ adds b
-adds_alike b = adds_as b.directives b.parts
+-- an extension that adds something, by what is read back of it
+extended_back : (style : Layout) (t : DefinitionTree) → extends t ≡ true
+    → Back the_grammar (row the_grammar extension_symbol).rule false 0 (definition_layout style t) false 0
+    (λ x. erase_definition (extension_of (Node extension_symbol x)) ≡ erase_definition t)
+    → Back the_grammar (Sym extension_symbol) false 0 (definition_layout style t) false 0 (λ x. erase_definition (extension_of x) ≡ erase_definition t)
+extended_back style t some inside =
+    checked_back {P = λ x. erase_definition (extension_of (Node extension_symbol x)) ≡ erase_definition t}
+    (λ x p. sym (extends_alike (extension_of (Node extension_symbol x))) ∙ ap extends p ∙ extends_alike t ∙ some) (λ x p. p) inside
 
 extension_back : (style : Layout) (b : BodyTree) → IsPrintableBody b → adds b ≡ true → IsLawfulBody b → body_brackets b ≤ 50
     → Back the_grammar (Sym extension_symbol) false 0 (definition_layout style (extension b)) false 0
-    (λ x. erase_body (extension_of x) ≡ erase_body b)
+    (λ x. erase_definition (extension_of x) ≡ extension (erase_body b))
 extension_back style b is some law deep =
-    checked_back {P = λ x. erase_body (extension_of (Node extension_symbol x)) ≡ erase_body b}
-    (λ x p. sym (adds_alike (extension_of (Node extension_symbol x))) ∙ ap adds p ∙ adds_alike b ∙ some) (λ x p. p)
+    extended_back style (extension b) some (first_back
     (both_back {P = Any} (word_back (name_word (codes "extend") (refl, refl)) (λ p. refl) (λ t e. tt))
     (gap_back refl (body_back style b 0 is law (omega arith)))
-    (λ w x hw hx. hx))
+    (λ w x hw hx. ap extension hx)))
+
+schema_extension_back : (style : Layout) (s : SchemaTree) → IsPrintableSchema s → adds_to_schema s ≡ true → AreLawfulDirectives s.directives
+    → directives_brackets s.directives ≤ 50
+    → Back the_grammar (Sym extension_symbol) false 0 (definition_layout style (schema_extension s)) false 0
+    (λ x. erase_definition (extension_of x) ≡ schema_extension (erase_schema s))
+schema_extension_back style s is some law deep =
+    extended_back style (schema_extension s) some (second_back
+    (both_back {P = Any} (word_back (name_word (codes "extend") (refl, refl)) (λ p. refl) (λ t e. tt))
+    (gap_back refl (after_extend_back style s is law deep))
+    (λ w x hw hx. ap schema_extension hx)))
 
 -- ---- definitions
 
 definition_back : (style : Layout) (t : DefinitionTree) → IsPrintableDefinition t → IsWholeDefinition t → IsLawfulDefinition t → definition_brackets t ≤ 50
     → Back the_grammar (Sym item_symbol) false 0 (definition_layout style t) false 0 (λ x. erase_definition (item_of x) ≡ erase_definition t)
-definition_back style (schema s) is whole law deep =
-    node_back (λ x. refl) (first_back (means (λ x h. ap schema h) (schema_back style s is law deep)))
+definition_back style (schema t s) is whole law deep =
+    node_back (λ x. refl) (first_back
+    (both_back (description_back style 0 t 0) (schema_back style s is law (omega arith)) (λ x y hx hy. ap₂ schema hx hy)))
 definition_back style (type_definition t b) is whole law deep =
     node_back (λ x. refl) (second_back (second_back (node_back (λ x. refl) (first_back
     (both_back (description_back style 0 t 0) (body_back style b 0 is law (omega arith)) (λ x y hx hy. ap₂ type_definition hx hy))))))
 definition_back style (extension b) is whole law deep =
-    node_back (λ x. refl) (second_back (first_back (means (λ x h. ap extension h) (extension_back style b is whole law deep))))
+    node_back (λ x. refl) (second_back (first_back (extension_back style b is whole law deep)))
+definition_back style (schema_extension s) is whole law deep =
+    node_back (λ x. refl) (second_back (first_back (schema_extension_back style s is whole law (omega arith))))
 definition_back style (directive t) is whole law deep =
     node_back (λ x. refl) (second_back (second_back (node_back (λ x. refl) (second_back
     (both_back (description_back style 0 t.description 0) (directive_back style t.description t.name t.arguments t.repeatable

@@ -1,5 +1,5 @@
 -- What some small texts mean, how their documents are laid out, and where others are refused, written out.
-use Rattle.std.specs.Prelude.{◌≡◌, ℕ, true, List, [], ◌∷◌, Some, None, codes}
+use Rattle.std.specs.Prelude.{◌≡◌, ℕ, true, List, [], ◌∷◌, Option, Some, None, codes}
 use Rattle.graphql_grammar.specs.Tokens.{Place}
 use Rattle.graphql_grammar.specs.Trees.{Sym}
 use Rattle.graphql_grammar.specs.Faults.{IsLeast}
@@ -9,9 +9,10 @@ use Rattle.graphql_lexer.specs.Items.{Item, HasItems}
 use Rattle.graphql_core.specs.Source.{split}
 use Rattle.graphql_values.specs.Faults.{text_of}
 use Rattle.graphql_values.specs.Values.{variable, named}
-use Rattle.graphql_schema_tree.specs.Tree.{EnumValueTree, PartsTree, object, union, enum, schema, empty_schema, type_definition, extension, DocumentTree}
+use Rattle.graphql_schema_tree.specs.Tree.{EnumValueTree, SchemaTree, PartsTree, object, union, enum, schema, empty_schema}
+use Rattle.graphql_schema_tree.specs.Tree.{type_definition, extension, schema_extension, DocumentTree}
 use Rattle.graphql_values.specs.Grammar.{location_class}
-use Rattle.graphql_schema_tree.specs.Grammar.{schema as schemas, document_symbol, schema_symbol, extension_symbol}
+use Rattle.graphql_schema_tree.specs.Grammar.{schema as schemas, document_symbol, schema_symbol, extension_symbol, schema_extension_symbol}
 use Rattle.graphql_schema_tree.specs.Language.{IsDocumentOf}
 use Rattle.graphql_schema_tree.specs.Layout.{layout, IsTooWide}
 
@@ -39,10 +40,20 @@ Positions = IsDocumentOf (codes "type A {\n  \"d\" f(x: Int): B\n}") (first_type
 abbrev pub LeadingBar : Type 0
 LeadingBar = IsDocumentOf (codes "union U = | A | B") (first_type (codes "U") (union (codes "A" ∷ codes "B" ∷ [])))
 
+abbrev operations : Place → (query mutation : Option (List ℕ)) → SchemaTree
+operations place query mutation = record { position = place; directives = []; query = query; mutation = mutation; subscription = None }
+
 -- a schema may name no operation
 abbrev pub EmptySchema : Type 0
-EmptySchema = IsDocumentOf (codes "schema {}")
-    (schema (record { position = at 1 1; directives = []; query = None; mutation = None; subscription = None }) ∷ [])
+EmptySchema = IsDocumentOf (codes "schema {}") (schema None (operations (at 1 1) None None) ∷ [])
+
+-- a schema stands at its keyword, and not at its description
+abbrev pub DescribedSchema : Type 0
+DescribedSchema = IsDocumentOf (codes "\"d\" schema { query: Q }") (schema (Some (codes "d")) (operations (at 1 5) (Some (codes "Q")) None) ∷ [])
+
+-- and an extension of it at the keyword after `extend`
+abbrev pub SchemaExtension : Type 0
+SchemaExtension = IsDocumentOf (codes "extend schema { mutation: M }") (schema_extension (operations (at 1 8) None (Some (codes "M"))) ∷ [])
 
 abbrev plain_value : ℕ → List ℕ → EnumValueTree
 plain_value column name = record { position = at 1 column; description = None; name = name; directives = [] }
@@ -102,9 +113,23 @@ SchemaLayout = Shows (codes "schema @x { mutation: M query: Q }") (codes "schema
 abbrev pub EmptySchemaLayout : Type 0
 EmptySchemaLayout = Shows (codes "schema {}") (codes "schema {\n}\n")
 
+-- a description stands above its schema
+abbrev pub DescribedSchemaLayout : Type 0
+DescribedSchemaLayout = Shows (codes "\"d\" schema { query: Q }") (codes "\"d\"\nschema {\n  query: Q\n}\n")
+
+abbrev pub SchemaExtensionLayout : Type 0
+SchemaExtensionLayout = Shows (codes "extend schema @a { mutation: M }") (codes "extend schema @a {\n  mutation: M\n}\n")
+
+-- an extension of the schema without operations has no braces
+abbrev pub DirectivesAlone : Type 0
+DirectivesAlone = Shows (codes "extend schema @a") (codes "extend schema @a\n")
+
+abbrev pub EmptySchemaExtensionLayout : Type 0
+EmptySchemaExtensionLayout = layout default_style (schema_extension empty_schema ∷ []) ≡ codes "extend schema\n"
+
 -- one level is open, so that no indentation is too wide
 abbrev pub EmptySchemaFits : Type 0
-EmptySchemaFits = IsTooWide (with_indent default_style 4294967295) (schema empty_schema ∷ []) → ⊥
+EmptySchemaFits = IsTooWide (with_indent default_style 4294967295) (schema None empty_schema ∷ []) → ⊥
 
 abbrev pub InputLayout : Type 0
 InputLayout = Shows (codes "input I { a: Int = 1 @d }") (codes "input I {\n  a: Int = 1 @d\n}\n")
@@ -144,6 +169,26 @@ LaterFault = IsLeastAt (codes "schema { foo: A } scalar A !") (Refused schema_sy
 -- an extension that adds nothing, and not the bad place after it
 abbrev pub BareExtension : Type 0
 BareExtension = IsLeastAt (codes "extend scalar A ;") (Refused extension_symbol) 3
+
+-- and so of the schema
+abbrev pub BareSchemaExtension : Type 0
+BareSchemaExtension = IsLeastAt (codes "extend schema ;") (Refused extension_symbol) 2
+
+-- after which no other schema may stand
+abbrev pub SchemaTwice : Type 0
+SchemaTwice = IsLeastAt (codes "extend schema schema { query: A }") (Refused extension_symbol) 2
+
+-- its braces hold an operation
+abbrev pub NoOperations : Type 0
+NoOperations = IsLeastAt (codes "extend schema {}") Unexpected 4
+
+-- whose names are those of a schema's
+abbrev pub DuplicateExtension : Type 0
+DuplicateExtension = IsLeastAt (codes "extend schema { query: A query: B }") (Refused schema_extension_symbol) 10
+
+-- a described schema is refused as one that is not
+abbrev pub UnknownDescribed : Type 0
+UnknownDescribed = IsLeastAt (codes "\"d\" schema { foo: A }") (Refused schema_symbol) 7
 
 -- interfaces alone do not extend an interface
 abbrev pub InterfaceAlone : Type 0

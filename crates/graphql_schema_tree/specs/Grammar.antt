@@ -1,6 +1,6 @@
 -- The grammar of schema documents, as it is written, and the rules by which it is read.
-use Rattle.std.specs.Prelude.{ℕ, zero, suc, ◌+◌, Bool, true, false, not, ◌&&◌, ◌==◌, if◌then◌else◌, codes}
-use Rattle.std.specs.Prelude.{List, [], ◌∷◌, ◌++◌, drop, replicate, Option, Some, None, is_some}
+use Rattle.std.specs.Prelude.{ℕ, zero, suc, ◌+◌, Bool, true, not, ◌&&◌, ◌==◌, if◌then◌else◌, codes}
+use Rattle.std.specs.Prelude.{List, [], ◌∷◌, ◌++◌, drop, replicate, is_some}
 use Rattle.graphql_grammar.specs.Tokens.{Token, Class, Except, matches}
 use Rattle.graphql_grammar.specs.Trees.{Expr, One, Then, Either, Many, Sym, Shape, Nothing, Leaf, Both, First, Second, Stop, More, Node}
 use Rattle.graphql_grammar.specs.Trees.{Row, Grammar, optional, some_of}
@@ -13,9 +13,9 @@ use Rattle.graphql_values.specs.Grammar as shared
 use Rattle.graphql_values.specs.Grammar.{type_symbol, directives_symbol, directive_symbol, default_symbol, shared_symbols}
 use Rattle.graphql_values.specs.Grammar.{punctuator, word, name, any, location_class, sample}
 use Rattle.graphql_schema_tree.specs.Locations.{is_location}
-use Rattle.graphql_schema_tree.specs.Tree.{adds}
+use Rattle.graphql_schema_tree.specs.Tree.{extends}
 use Rattle.graphql_schema_tree.specs.Meanings.{extension_of}
-use Rattle.graphql_schema_tree.specs.Roots.{root_fault_of}
+use Rattle.graphql_schema_tree.specs.Roots.{root_fault_of, extension_fault_of}
 
 -- ---- the symbols, after those of values, types and directives
 
@@ -97,6 +97,12 @@ locations_symbol = 35
 abbrev pub location_symbol : ℕ
 location_symbol = 36
 
+abbrev pub schema_extension_symbol : ℕ
+schema_extension_symbol = 37
+
+abbrev pub roots_symbol : ℕ
+roots_symbol = 38
+
 -- ---- single tokens
 
 -- a token has a value as the leaf of this class: a name in the place of a location, where it names one
@@ -110,9 +116,9 @@ is_good c t = leaves.is_good c t
 abbrev pub document_rule : Expr
 document_rule = some_of (Sym item_symbol)
 
--- SchemaItem = Schema | Extension | Described
+-- SchemaItem = Description? Schema | Extension | Described
 abbrev pub item_rule : Expr
-item_rule = Either (Sym schema_symbol) (Either (Sym extension_symbol) (Sym described_symbol))
+item_rule = Either (Then (optional (Sym description_symbol)) (Sym schema_symbol)) (Either (Sym extension_symbol) (Sym described_symbol))
 
 -- Schema = "schema" Directives "{" RootType* "}"
 abbrev pub schema_rule : Expr
@@ -123,9 +129,17 @@ schema_rule =
 abbrev pub root_type_rule : Expr
 root_type_rule = Then name (Then (punctuator (codes ":")) name)
 
--- Extension = "extend" TypeBody
+-- Extension = "extend" TypeBody | "extend" SchemaExt
 abbrev pub extension_rule : Expr
-extension_rule = Then (word (codes "extend")) (Sym type_body_symbol)
+extension_rule = Either (Then (word (codes "extend")) (Sym type_body_symbol)) (Then (word (codes "extend")) (Sym schema_extension_symbol))
+
+-- SchemaExt = "schema" Directives Roots?
+abbrev pub schema_extension_rule : Expr
+schema_extension_rule = Then (word (codes "schema")) (Then (Sym directives_symbol) (optional (Sym roots_symbol)))
+
+-- Roots = "{" RootType+ "}"
+abbrev pub roots_rule : Expr
+roots_rule = Then (punctuator (codes "{")) (Then (some_of (Sym root_type_symbol)) (punctuator (codes "}")))
 
 -- Described = Description? TypeBody | Description? DirectiveDef
 abbrev pub described_rule : Expr
@@ -231,7 +245,7 @@ rules =
     document_rule ∷ item_rule ∷ schema_rule ∷ root_type_rule ∷ extension_rule ∷ described_rule ∷ description_rule ∷ type_body_rule
     ∷ scalar_rule ∷ object_rule ∷ interface_rule ∷ implements_rule ∷ fields_rule ∷ field_rule ∷ argument_definitions_rule ∷ input_value_rule
     ∷ union_rule ∷ members_rule ∷ enum_rule ∷ enum_values_rule ∷ enum_value_rule ∷ input_rule ∷ input_fields_rule
-    ∷ directive_definition_rule ∷ locations_rule ∷ location_rule ∷ []
+    ∷ directive_definition_rule ∷ locations_rule ∷ location_rule ∷ schema_extension_rule ∷ roots_rule ∷ []
 
 -- ---- what is asked of trees besides
 
@@ -239,7 +253,8 @@ rules =
 abbrev pub passes : ℕ → Shape → Bool
 passes k x =
     if k == schema_symbol then not (is_some (root_fault_of x))
-    else if k == extension_symbol then adds (extension_of (Node k x))
+    else if k == extension_symbol then extends (extension_of (Node k x))
+    else if k == schema_extension_symbol then not (is_some (extension_fault_of x))
     else true
 
 -- ---- the grammar
@@ -258,24 +273,38 @@ schema = record { rows = shared.rows ++ with_tables rules []; good = is_good; ch
 
 -- ---- second rules, which one item of lookahead can read
 
+-- a description or none, and then a schema, a type or a directive's definition; or else an extension
+abbrev pub item_second : Expr
+item_second =
+    Either (Then (optional (Sym description_symbol)) (Either (Sym schema_symbol) (Either (Sym type_body_symbol) (Sym directive_definition_symbol))))
+    (Sym extension_symbol)
+
+-- `extend`, and then a type or the schema
+abbrev pub extension_second : Expr
+extension_second = Then (word (codes "extend")) (Either (Sym type_body_symbol) (Sym schema_extension_symbol))
+
 -- a description or none, and then a type or a directive's definition
 abbrev pub described_second : Expr
 described_second = Then (optional (Sym description_symbol)) (Either (Sym type_body_symbol) (Sym directive_definition_symbol))
 
 abbrev pub second_rules : List Expr
 second_rules =
-    document_rule ∷ item_rule ∷ schema_rule ∷ root_type_rule ∷ extension_rule ∷ described_second ∷ description_rule ∷ type_body_rule
+    document_rule ∷ item_second ∷ schema_rule ∷ root_type_rule ∷ extension_second ∷ described_second ∷ description_rule ∷ type_body_rule
     ∷ scalar_rule ∷ object_rule ∷ interface_rule ∷ implements_rule ∷ fields_rule ∷ field_rule ∷ argument_definitions_rule ∷ input_value_rule
     ∷ union_rule ∷ members_rule ∷ enum_rule ∷ enum_values_rule ∷ enum_value_rule ∷ input_rule ∷ input_fields_rule
-    ∷ directive_definition_rule ∷ locations_rule ∷ location_rule ∷ []
+    ∷ directive_definition_rule ∷ locations_rule ∷ location_rule ∷ schema_extension_rule ∷ roots_rule ∷ []
 
 -- `extend scalar a @a`, a tree of an extension that passes
 abbrev pub least_extension : Shape
 least_extension =
     Both (Leaf (sample Name (codes "extend")))
-    (Node type_body_symbol (First (Node scalar_symbol (Both (Leaf (sample Name (codes "scalar"))) (Both (Leaf (sample Name (codes "a")))
+    (First (Node type_body_symbol (First (Node scalar_symbol (Both (Leaf (sample Name (codes "scalar"))) (Both (Leaf (sample Name (codes "a")))
     (Node directives_symbol (More (Node directive_symbol (Both (Leaf (sample Punctuator (codes "@")))
-    (Both (Leaf (sample Name (codes "a"))) (Second Nothing)))) Stop)))))))
+    (Both (Leaf (sample Name (codes "a"))) (Second Nothing)))) Stop))))))))
+
+-- `schema`, a tree of an extension of the schema that names no operation
+abbrev pub least_schema_extension : Shape
+least_schema_extension = Both (Leaf (sample Name (codes "schema"))) (Both (Node directives_symbol Stop) (Second Nothing))
 
 -- the row of the n-th symbol with another tree
 abbrev pub with_least : ℕ → Shape → List Row → List Row
@@ -288,14 +317,33 @@ abbrev pub takes : Class → Token → Bool
 takes c t = matches c t && is_good c t
 
 unfoldable pub tables : List Row
-tables = with_least 4 least_extension (drop shared_symbols (solve takes samples 12 (shared.rules ++ second_rules)))
+tables =
+    with_least 4 least_extension (with_least 26 least_schema_extension (drop shared_symbols (solve takes samples 12 (shared.rules ++ second_rules))))
 
 abbrev pub second_rows : List Row
 second_rows = shared.rows ++ with_tables second_rules tables
 
+-- a description or none before one side of a choice, and before both sides of symbol k
+abbrev pub out_of_description : ℕ → Change
+out_of_description k = record { to_written = spread; to_second = gather }
+  where
+    spread : Shape → Shape
+    spread (First (Both d (First x))) = First (Both d x)
+    spread (First (Both d (Second x))) = Second (Second (Node k (out_of_head.to_written (Both d x))))
+    spread (Second x) = Second (First x)
+    spread x = x
+
+    gather : Shape → Shape
+    gather (First (Both d x)) = First (Both d (First x))
+    gather (Second (First x)) = Second x
+    gather (Second (Second (Node j (Both d x)))) = First (Both d (Second x))
+    gather x = x
+
 -- how trees of the second rules are trees of the written ones
 abbrev pub changes : List Change
-changes = replicate shared_symbols unchanged ++ (replicate 5 unchanged ++ out_of_head ∷ replicate 20 unchanged)
+changes =
+    replicate shared_symbols unchanged
+    ++ unchanged ∷ out_of_description described_symbol ∷ unchanged ∷ unchanged ∷ out_of_head ∷ out_of_head ∷ replicate 22 unchanged
 
 -- ---- why there are second rules
 

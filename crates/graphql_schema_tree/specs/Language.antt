@@ -1,6 +1,6 @@
 -- The language of schemas: what a text's document is, and what is said of a text that has none.
 use Rattle.std.specs.Prelude.{◌≡◌, ℕ, ◌==◌, if◌then◌else◌, List, [], Option, Some, None, option_map}
-use Rattle.graphql_grammar.specs.Tokens.{Token, Class, Except}
+use Rattle.graphql_grammar.specs.Tokens.{Place, Token, Class, Except}
 use Rattle.graphql_grammar.specs.Trees.{Shape, Node}
 use Rattle.graphql_core.specs.Causes.{CauseText, unknown_location, empty_extension}
 use Rattle.graphql_core.specs.Refusal.{Refusal}
@@ -10,25 +10,33 @@ use Rattle.graphql_values.specs.Document as document
 use Rattle.graphql_values.specs.Faults as fault
 use Rattle.graphql_values.specs.Faults.{HasNoValue}
 use Rattle.graphql_schema_tree.specs.Locations.{location_of}
-use Rattle.graphql_schema_tree.specs.Tree.{DocumentTree, erase}
-use Rattle.graphql_schema_tree.specs.Meanings.{schema_of, extension_of, document_of}
-use Rattle.graphql_schema_tree.specs.Roots.{RootFault, root_fault_of, root_cause}
-use Rattle.graphql_schema_tree.specs.Grammar.{schema, document_symbol, schema_symbol, second_rows, changes}
+use Rattle.graphql_schema_tree.specs.Tree.{SchemaTree, DefinitionTree, extension, schema_extension, DocumentTree, erase}
+use Rattle.graphql_schema_tree.specs.Meanings.{no_schema, schema_of, schema_extension_of, extension_of, document_of}
+use Rattle.graphql_schema_tree.specs.Roots.{RootFault, root_fault_of, extension_fault_of, root_cause}
+use Rattle.graphql_schema_tree.specs.Grammar.{schema, document_symbol, schema_symbol, schema_extension_symbol, second_rows, changes}
 
 -- a name that is no location, or a token without a value
 abbrev pub Lacks : Class → Token → CauseText → Type 0
 Lacks (Except k []) t c = (location_of t.spelling ≡ None) × (c ≡ unknown_location)
 Lacks leaf t c = HasNoValue t c
 
--- What is said of a node that is refused: of a schema the first bad name, at its keyword; and of an extension that it adds
--- nothing, at the keyword of its type.
+-- what is said of a bad name in the braces of a schema or of an extension of it: it is told at its keyword
+abbrev pub said_at : SchemaTree → RootFault → FaultText
+said_at s f = record { cause = root_cause f; place = s.position }
+
+-- an extension's keyword
+abbrev pub keyword_of : DefinitionTree → Place
+keyword_of (extension b) = b.position
+keyword_of (schema_extension s) = s.position
+keyword_of _ = no_schema.position
+
+-- What is said of a node that is refused: of a schema and of an extension of it the first bad name, at its keyword; and of an extension that
+-- it adds nothing, at the keyword after `extend`.
 abbrev pub said_of : Shape → Option FaultText
 said_of (Node k x) =
-    if k == schema_symbol then option_map at_keyword (root_fault_of x)
-    else Some (record { cause = empty_extension; place = (extension_of (Node k x)).position })
-  where
-    at_keyword : RootFault → FaultText
-    at_keyword f = record { cause = root_cause f; place = (schema_of (Node k x)).position }
+    if k == schema_symbol then option_map (said_at (schema_of (Node k x))) (root_fault_of x)
+    else if k == schema_extension_symbol then option_map (said_at (schema_extension_of (Node k x))) (extension_fault_of x)
+    else Some (record { cause = empty_extension; place = keyword_of (extension_of (Node k x)) })
 said_of _ = None
 
 abbrev pub schemas : Language DocumentTree

@@ -3,7 +3,7 @@ use Rattle.std.specs.List.{AllByRecursion}
 use Rattle.std.specs.Option.{IfSome}
 use Rattle.graphql_values.specs.Lawful.{IsLawful, AreLawfulDirectives}
 use Rattle.graphql_schema_tree.specs.Tree.{InputValueTree, FieldTree, EnumValueTree, PartsTree, scalar, object, interface, union, enum, input, BodyTree}
-use Rattle.graphql_schema_tree.specs.Tree.{DefinitionTree, schema, type_definition, extension, directive, DocumentTree}
+use Rattle.graphql_schema_tree.specs.Tree.{DefinitionTree, schema, type_definition, extension, schema_extension, directive, DocumentTree}
 
 abbrev pub IsLawfulInputValue : InputValueTree → Type 0
 IsLawfulInputValue v = IfSome v.default_value IsLawful × AreLawfulDirectives v.directives
@@ -26,9 +26,10 @@ abbrev pub IsLawfulBody : BodyTree → Type 0
 IsLawfulBody b = AreLawfulDirectives b.directives × AreLawfulParts b.parts
 
 abbrev pub IsLawfulDefinition : DefinitionTree → Type 0
-IsLawfulDefinition (schema s) = AreLawfulDirectives s.directives
+IsLawfulDefinition (schema d s) = AreLawfulDirectives s.directives
 IsLawfulDefinition (type_definition d b) = IsLawfulBody b
 IsLawfulDefinition (extension b) = IsLawfulBody b
+IsLawfulDefinition (schema_extension s) = AreLawfulDirectives s.directives
 IsLawfulDefinition (directive d) = AllByRecursion IsLawfulInputValue d.arguments
 
 abbrev pub IsLawfulDocument : DocumentTree → Type 0

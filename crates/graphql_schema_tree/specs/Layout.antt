@@ -1,7 +1,6 @@
 -- The text of a document in a style. A line begins with a margin of so many spaces.
-use Rattle.std.specs.Prelude.{ℕ, ◌+◌, max, Bool, true, false, List, [], ◌∷◌, ◌++◌, Option, Some, None, codes, map}
+use Rattle.std.specs.Prelude.{ℕ, Bool, true, false, cond, List, [], ◌∷◌, ◌++◌, Option, Some, None, codes, map}
 use Rattle.std.specs.List.{flat_map}
-use Rattle.std.specs.Option.{option_map_or}
 use Rattle.graphql_core.specs.Style.{Layout, spaces}
 use Rattle.graphql_core.specs.Parts.{Part, text_of, name, mark, gap}
 use Rattle.graphql_values.specs.Values.{DirectiveTree}
@@ -9,11 +8,12 @@ use Rattle.graphql_values.specs.ValueLayout.{string_layout, type_layout, directi
 use Rattle.graphql_values.specs.ValueLayout as values
 use Rattle.graphql_values.specs.Lines.{in_braces, separated, in_parentheses, default_layout}
 use Rattle.graphql_values.specs.TreeDepth.{most}
-use Rattle.graphql_schema_tree.specs.TreeDepth.{input_value_depth, field_depth, enum_value_depth, schema_depth, parts_depth, body_depth, definition_depth}
+use Rattle.graphql_schema_tree.specs.TreeDepth.{input_value_depth, field_depth, enum_value_depth, parts_depth, body_depth, definition_depth}
 use Rattle.graphql_schema_tree.specs.declared.location.DirectiveLocation.{DirectiveLocation}
 use Rattle.graphql_schema_tree.specs.Locations.{word_of}
 use Rattle.graphql_schema_tree.specs.Tree.{InputValueTree, FieldTree, EnumValueTree, SchemaTree, PartsTree, scalar, object, interface, union, enum, input}
-use Rattle.graphql_schema_tree.specs.Tree.{BodyTree, DirectiveDefinitionTree, DefinitionTree, schema, type_definition, extension, directive, DocumentTree}
+use Rattle.graphql_schema_tree.specs.Tree.{BodyTree, DirectiveDefinitionTree, DefinitionTree, schema, type_definition, extension, schema_extension, directive}
+use Rattle.graphql_schema_tree.specs.Tree.{DocumentTree, has_operation}
 
 -- ---- descriptions
 
@@ -90,10 +90,21 @@ abbrev pub root_layout : ℕ → List ℕ → Option (List ℕ) → List Part
 root_layout margin word None = []
 root_layout margin word (Some n) = gap (spaces margin) ++ (name word ++ (mark (codes ":") ++ (gap (codes " ") ++ (name n ++ gap (codes "\n")))))
 
+-- the lines of the operations, in braces
+abbrev pub roots_layout : Layout → (query mutation subscription : Option (List ℕ)) → List Part
+roots_layout style q m s =
+    gap (codes " ") ++ in_braces 0 (root_layout style.indent (codes "query") q
+    ++ (root_layout style.indent (codes "mutation") m ++ root_layout style.indent (codes "subscription") s))
+
+-- a schema has its braces always
 abbrev pub schema_layout : Layout → SchemaTree → List Part
-schema_layout style s =
-    name (codes "schema") ++ (directives_layout style 0 s.directives ++ (gap (codes " ") ++ in_braces 0 (root_layout style.indent (codes "query") s.query
-    ++ (root_layout style.indent (codes "mutation") s.mutation ++ root_layout style.indent (codes "subscription") s.subscription))))
+schema_layout style s = name (codes "schema") ++ (directives_layout style 0 s.directives ++ roots_layout style s.query s.mutation s.subscription)
+
+-- an extension of it where it has an operation
+abbrev pub schema_extension_layout : Layout → SchemaTree → List Part
+schema_extension_layout style s =
+    name (codes "extend") ++ (gap (codes " ") ++ (name (codes "schema") ++ (directives_layout style 0 s.directives
+    ++ cond (has_operation s) (roots_layout style s.query s.mutation s.subscription) (gap (codes "\n")))))
 
 -- the keyword of a type
 abbrev pub keyword : PartsTree → List ℕ
@@ -126,9 +137,10 @@ directive_definition_layout style d =
     ++ (arguments_layout style 0 d.arguments ++ (repeatable_layout d.repeatable ++ (locations_layout d.locations ++ gap (codes "\n"))))))))
 
 abbrev pub definition_layout : Layout → DefinitionTree → List Part
-definition_layout style (schema s) = schema_layout style s
+definition_layout style (schema d s) = description_layout style 0 d ++ schema_layout style s
 definition_layout style (type_definition d b) = description_layout style 0 d ++ body_layout style b
 definition_layout style (extension b) = name (codes "extend") ++ (gap (codes " ") ++ body_layout style b)
+definition_layout style (schema_extension s) = schema_extension_layout style s
 definition_layout style (directive d) = directive_definition_layout style d
 
 -- the definitions, with an empty line between two
@@ -149,9 +161,6 @@ field_levels style = field_depth (in_levels style)
 
 abbrev pub enum_value_levels : Layout → EnumValueTree → ℕ
 enum_value_levels style = enum_value_depth (in_levels style)
-
-abbrev pub schema_levels : Layout → SchemaTree → ℕ
-schema_levels style = schema_depth (in_levels style)
 
 abbrev pub parts_levels : Layout → PartsTree → ℕ
 parts_levels style = parts_depth (in_levels style)

@@ -6,6 +6,7 @@ pub mod Meanings
 pub mod Roots
 pub mod Grammar
 pub mod Language
+pub mod Earlier
 pub mod Printable
 pub mod Layout
 pub mod Lawful

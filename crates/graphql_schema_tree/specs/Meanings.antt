@@ -8,7 +8,9 @@ use Rattle.graphql_values.specs.Meanings.{place_at, first_place, spelling_at, ty
 use Rattle.graphql_schema_tree.specs.declared.location.DirectiveLocation.{DirectiveLocation}
 use Rattle.graphql_schema_tree.specs.Locations.{location_of}
 use Rattle.graphql_schema_tree.specs.Tree.{InputValueTree, FieldTree, EnumValueTree, SchemaTree, PartsTree, scalar, object, interface, union, enum, input}
-use Rattle.graphql_schema_tree.specs.Tree.{BodyTree, DirectiveDefinitionTree, DefinitionTree, schema, type_definition, extension, directive, DocumentTree}
+use Rattle.graphql_schema_tree.specs.Tree.{BodyTree, DirectiveDefinitionTree, DefinitionTree, schema, type_definition, extension, schema_extension, directive}
+use Rattle.graphql_schema_tree.specs.Tree.{DocumentTree}
+use Rattle.graphql_schema_tree.specs.Roots.{roots_in}
 
 -- ---- optional parts and lists
 
@@ -109,6 +111,9 @@ root_of word (More (Node k (Both n (Both c t))) more) =
     cond (same_spelling word (spelling_at n)) (Some (spelling_at t)) (root_of word more)
 root_of word _ = None
 
+abbrev pub no_schema : SchemaTree
+no_schema = record { position = nowhere; directives = []; query = None; mutation = None; subscription = None }
+
 -- a schema stands at its keyword
 abbrev pub schema_of : Shape → SchemaTree
 schema_of (Node k (Both w (Both ds (Both o (Both roots c))))) = record {
@@ -118,7 +123,18 @@ schema_of (Node k (Both w (Both ds (Both o (Both roots c))))) = record {
   mutation = root_of (codes "mutation") roots;
   subscription = root_of (codes "subscription") roots;
 }
-schema_of _ = record { position = nowhere; directives = []; query = None; mutation = None; subscription = None }
+schema_of _ = no_schema
+
+-- an extension of the schema stands at the keyword after `extend`
+abbrev pub schema_extension_of : Shape → SchemaTree
+schema_extension_of (Node k (Both w (Both ds rs))) = record {
+  position = place_at w;
+  directives = directives_of ds;
+  query = root_of (codes "query") (roots_in rs);
+  mutation = root_of (codes "mutation") (roots_in rs);
+  subscription = root_of (codes "subscription") (roots_in rs);
+}
+schema_extension_of _ = no_schema
 
 -- ---- types, which stand at their keywords
 
@@ -194,10 +210,13 @@ directive_definition_of description _ =
 
 -- ---- documents
 
--- an extension stands at the keyword of its type
-abbrev pub extension_of : Shape → BodyTree
-extension_of (Node k (Both w b)) = body_of b
-extension_of _ = no_body
+-- an extension stands at the keyword after `extend`
+abbrev pub extension_of : Shape → DefinitionTree
+extension_of (Node k (First (Both w b))) = extension (body_of b)
+extension_of (Node k (Second (Both w s))) = schema_extension (schema_extension_of s)
+-- as version 0.4.1 writes it, of a type alone
+extension_of (Node k (Both w b)) = extension (body_of b)
+extension_of _ = extension no_body
 
 abbrev pub described_of : Shape → DefinitionTree
 described_of (Node k (First (Both d b))) = type_definition (optional_of description_of d) (body_of b)
@@ -205,8 +224,10 @@ described_of (Node k (Second (Both d b))) = directive (directive_definition_of (
 described_of _ = extension no_body
 
 abbrev pub item_of : Shape → DefinitionTree
-item_of (Node k (First s)) = schema (schema_of s)
-item_of (Node k (Second (First e))) = extension (extension_of e)
+item_of (Node k (First (Both d s))) = schema (optional_of description_of d) (schema_of s)
+-- as version 0.4.1 writes it, without a description
+item_of (Node k (First s)) = schema None (schema_of s)
+item_of (Node k (Second (First e))) = extension_of e
 item_of (Node k (Second (Second d))) = described_of d
 item_of _ = extension no_body
 

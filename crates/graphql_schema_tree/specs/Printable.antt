@@ -1,14 +1,14 @@
 -- Documents that are read from their layouts as what they are.
-use Rattle.std.specs.Prelude.{◌≡◌, ℕ, ◌≤◌, max, true, List}
+use Rattle.std.specs.Prelude.{◌≡◌, ℕ, ◌≤◌, true}
 use Rattle.std.specs.List.{AllByRecursion}
-use Rattle.std.specs.Option.{IfSome, option_map_or}
+use Rattle.std.specs.Option.{IfSome}
 use Rattle.graphql_lexer.specs.Lexical.{IsName}
 use Rattle.graphql_values.specs.Printable.{IsPrintableDirective, IsPrintableType, IsPrintableDefault}
-use Rattle.graphql_values.specs.TreeDepth.{most_enclosed}
 use Rattle.graphql_values.specs.TreeDepth.{most}
 use Rattle.graphql_values.specs.Printable.{in_brackets}
 use Rattle.graphql_schema_tree.specs.Tree.{InputValueTree, FieldTree, EnumValueTree, SchemaTree, PartsTree, scalar, object, interface, union, enum, input}
-use Rattle.graphql_schema_tree.specs.Tree.{BodyTree, DefinitionTree, schema, type_definition, extension, directive, DocumentTree, adds}
+use Rattle.graphql_schema_tree.specs.Tree.{BodyTree, DefinitionTree, schema, type_definition, extension, schema_extension, directive, DocumentTree}
+use Rattle.graphql_schema_tree.specs.Tree.{adds, adds_to_schema}
 use Rattle.graphql_values.specs.TreeDepth.{has_any}
 use Rattle.graphql_schema_tree.specs.TreeDepth.{input_value_depth, field_depth, enum_value_depth, parts_depth, body_depth, definition_depth}
 
@@ -41,9 +41,10 @@ abbrev pub IsPrintableBody : BodyTree → Type 0
 IsPrintableBody b = IsName b.name × AllByRecursion IsPrintableDirective b.directives × ArePrintableParts b.parts
 
 abbrev pub IsPrintableDefinition : DefinitionTree → Type 0
-IsPrintableDefinition (schema s) = IsPrintableSchema s
+IsPrintableDefinition (schema d s) = IsPrintableSchema s
 IsPrintableDefinition (type_definition d b) = IsPrintableBody b
 IsPrintableDefinition (extension b) = IsPrintableBody b
+IsPrintableDefinition (schema_extension s) = IsPrintableSchema s
 IsPrintableDefinition (directive d) = IsName d.name × AllByRecursion IsPrintableInputValue d.arguments
 
 -- ---- extensions and locations
@@ -51,6 +52,7 @@ IsPrintableDefinition (directive d) = IsName d.name × AllByRecursion IsPrintabl
 -- an extension adds something, and a directive has a location
 abbrev pub IsWholeDefinition : DefinitionTree → Type 0
 IsWholeDefinition (extension b) = adds b ≡ true
+IsWholeDefinition (schema_extension s) = adds_to_schema s ≡ true
 IsWholeDefinition (directive d) = has_any d.locations ≡ true
 IsWholeDefinition _ = Unit {0}
 

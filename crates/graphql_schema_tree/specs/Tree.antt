@@ -1,5 +1,5 @@
 -- What a schema document is: names as their bytes, positions kept.
-use Rattle.std.specs.Prelude.{ℕ, Bool, true, false, ◌||◌, List, [], ◌∷◌, Option, None, map}
+use Rattle.std.specs.Prelude.{ℕ, Bool, true, false, ◌||◌, List, [], Option, None, is_some, map}
 use Rattle.graphql_grammar.specs.Tokens.{Place}
 use Rattle.graphql_values.specs.Values.{ValueTree, TypeTree, DirectiveTree, no_place, erase_all}
 use Rattle.graphql_values.specs.TreeDepth.{has_any}
@@ -33,7 +33,7 @@ pub record EnumValueTree : Type 0 where
 
 -- ---- definitions
 
--- which names the operations have
+-- which names the operations have, in a schema and in an extension of it
 pub record SchemaTree : Type 0 where
   pub position : Place
   pub directives : List DirectiveTree
@@ -69,11 +69,12 @@ pub record DirectiveDefinitionTree : Type 0 where
 abbrev pub bare : List ℕ → PartsTree → BodyTree
 bare name parts = record { position = no_place; name = name; directives = []; parts = parts }
 
--- the operations of a schema, a type, an extension of a type, or a directive
+-- the operations of a schema, a type, an extension of a type, an extension of the schema, or a directive
 pub data DefinitionTree : Type 0 where
-  schema : (s : SchemaTree) → DefinitionTree
+  schema : (description : Option (List ℕ)) (s : SchemaTree) → DefinitionTree
   type_definition : (description : Option (List ℕ)) (b : BodyTree) → DefinitionTree
   extension : (b : BodyTree) → DefinitionTree
+  schema_extension : (s : SchemaTree) → DefinitionTree
   directive : (d : DirectiveDefinitionTree) → DefinitionTree
 
 -- a schema that names nothing, and a directive and an enum's value of a name alone
@@ -104,6 +105,20 @@ adds b = has_any b.directives || has_parts b.parts
     has_parts (union ts) = has_any ts
     has_parts (enum vs) = has_any vs
     has_parts (input fs) = has_any fs
+
+-- an operation has a name
+abbrev pub has_operation : SchemaTree → Bool
+has_operation s = is_some s.query || (is_some s.mutation || is_some s.subscription)
+
+-- a directive or an operation
+abbrev pub adds_to_schema : SchemaTree → Bool
+adds_to_schema s = has_any s.directives || has_operation s
+
+-- an extension adds something
+abbrev pub extends : DefinitionTree → Bool
+extends (extension b) = adds b
+extends (schema_extension s) = adds_to_schema s
+extends _ = true
 
 -- ---- without positions
 
@@ -161,9 +176,10 @@ erase_directive d = record {
 }
 
 abbrev pub erase_definition : DefinitionTree → DefinitionTree
-erase_definition (schema s) = schema (erase_schema s)
+erase_definition (schema d s) = schema d (erase_schema s)
 erase_definition (type_definition d b) = type_definition d (erase_body b)
 erase_definition (extension b) = extension (erase_body b)
+erase_definition (schema_extension s) = schema_extension (erase_schema s)
 erase_definition (directive d) = directive (erase_directive d)
 
 -- every position to line 0, column 0

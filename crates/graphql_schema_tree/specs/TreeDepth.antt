@@ -1,8 +1,8 @@
 -- How deep the definitions of a schema nest, by the fold of values.
-use Rattle.std.specs.Prelude.{ℕ, max}
+use Rattle.std.specs.Prelude.{ℕ, max, cond}
 use Rattle.graphql_values.specs.TreeDepth.{Weights, most_around, most_enclosed, default_depth, directives_depth}
 use Rattle.graphql_schema_tree.specs.Tree.{InputValueTree, FieldTree, EnumValueTree, SchemaTree, PartsTree, scalar, object, interface, union, enum, input}
-use Rattle.graphql_schema_tree.specs.Tree.{BodyTree, DirectiveDefinitionTree, DefinitionTree, schema, type_definition, extension, directive}
+use Rattle.graphql_schema_tree.specs.Tree.{BodyTree, DefinitionTree, schema, type_definition, extension, schema_extension, directive, has_operation}
 
 abbrev pub input_value_depth : Weights → InputValueTree → ℕ
 input_value_depth w v =
@@ -32,8 +32,13 @@ body_depth w b = max (directives_depth w b.directives) (parts_depth w b.parts)
 abbrev pub schema_depth : Weights → SchemaTree → ℕ
 schema_depth w s = max (directives_depth w s.directives) 1
 
+-- an extension of it where it has an operation
+abbrev pub schema_extension_depth : Weights → SchemaTree → ℕ
+schema_extension_depth w s = max (directives_depth w s.directives) (cond (has_operation s) 1 0)
+
 abbrev pub definition_depth : Weights → DefinitionTree → ℕ
-definition_depth w (schema s) = schema_depth w s
+definition_depth w (schema d s) = max (w.of_description d) (schema_depth w s)
 definition_depth w (type_definition d b) = max (w.of_description d) (body_depth w b)
 definition_depth w (extension b) = body_depth w b
+definition_depth w (schema_extension s) = schema_extension_depth w s
 definition_depth w (directive d) = max (w.of_description d.description) (most_around w.around_definitions (input_value_depth w) d.arguments)

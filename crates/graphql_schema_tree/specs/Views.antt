@@ -2,8 +2,9 @@
 use Rattle.std.specs.Prelude.{ℕ, List, option_map, map, string_bytes}
 use Rattle.graphql_core.specs.Source.{place_of}
 use Rattle.graphql_values.specs.ValueViews.{value_view, type_view, directives_view}
-use Rattle.graphql_schema_tree.specs.Tree.{InputValueTree, FieldTree, EnumValueTree, SchemaTree, PartsTree, scalar, object, interface, union, enum, input}
-use Rattle.graphql_schema_tree.specs.Tree.{BodyTree, DirectiveDefinitionTree, DefinitionTree, schema, type_definition, extension, directive, DocumentTree}
+use Rattle.graphql_schema_tree.specs.Tree.{InputValueTree, FieldTree, EnumValueTree, SchemaTree, scalar, object, interface, union, enum, input}
+use Rattle.graphql_schema_tree.specs.Tree.{DirectiveDefinitionTree, DefinitionTree, schema, type_definition, extension, schema_extension, directive}
+use Rattle.graphql_schema_tree.specs.Tree.{DocumentTree}
 use Rattle.graphql_schema_tree.specs.declared.tree.parts.InputValue.{InputValue}
 use Rattle.graphql_schema_tree.specs.declared.tree.parts.Field.{Field}
 use Rattle.graphql_schema_tree.specs.declared.tree.parts.EnumValue.{EnumValue}
@@ -19,6 +20,7 @@ use Rattle.graphql_schema_tree.specs.declared.tree.extensions.InterfaceTypeExten
 use Rattle.graphql_schema_tree.specs.declared.tree.extensions.UnionTypeExtension.{UnionTypeExtension}
 use Rattle.graphql_schema_tree.specs.declared.tree.extensions.EnumTypeExtension.{EnumTypeExtension}
 use Rattle.graphql_schema_tree.specs.declared.tree.extensions.InputObjectTypeExtension.{InputObjectTypeExtension}
+use Rattle.graphql_schema_tree.specs.declared.tree.extensions.SchemaExtension.{SchemaExtension}
 use Rattle.graphql_schema_tree.specs.declared.tree.TypeDefinition.{TypeDefinition}
 use Rattle.graphql_schema_tree.specs.declared.tree.TypeExtension.{TypeExtension}
 use Rattle.graphql_schema_tree.specs.declared.tree.SchemaDefinition.{SchemaDefinition}
@@ -178,8 +180,22 @@ module _ {N T : Type 0} (bytes : T → List ℕ) where
 
   -- ---- documents
 
+  -- without the description
   abbrev pub schema_view : SchemaDefinition N T → SchemaTree
   schema_view s = record {
+    position = place_of s.position;
+    directives = directives_view bytes s.directives.items;
+    query = option_map bytes s.query;
+    mutation = option_map bytes s.mutation;
+    subscription = option_map bytes s.subscription;
+  }
+
+  -- with it
+  abbrev pub schema_definition_view : SchemaDefinition N T → DefinitionTree
+  schema_definition_view s = schema (option_map string_bytes s.description) (schema_view s)
+
+  abbrev pub schema_extension_view : SchemaExtension N T → SchemaTree
+  schema_extension_view s = record {
     position = place_of s.position;
     directives = directives_view bytes s.directives.items;
     query = option_map bytes s.query;
@@ -198,9 +214,10 @@ module _ {N T : Type 0} (bytes : T → List ℕ) where
   }
 
   abbrev pub definition_view : Definition N T → DefinitionTree
-  definition_view (definitions.SchemaDefinition s) = schema (schema_view s)
+  definition_view (definitions.SchemaDefinition s) = schema_definition_view s
   definition_view (definitions.TypeDefinition t) = type_definition_view t
   definition_view (definitions.TypeExtension t) = type_extension_view t
+  definition_view (definitions.SchemaExtension s) = schema_extension (schema_extension_view s)
   definition_view (definitions.DirectiveDefinition d) = directive (directive_definition_view d)
 
   abbrev pub document_view : Document N T → DocumentTree

@@ -10,12 +10,12 @@ ghost use Rattle.graphql_schema_tree.specs.Layout.{document_layout, layout};
 ghost use Rattle.graphql_schema_tree.specs.Printable.{IsPrintable, definition_brackets};
 ghost use Rattle.graphql_schema_tree.specs.declared.location.DirectiveLocation.{DirectiveLocation};
 ghost use Rattle.graphql_schema_tree.specs.Examples as example;
-ghost use Rattle.graphql_schema_tree.specs.Grammar.{described_symbol, unread, written_rows};
+ghost use Rattle.graphql_schema_tree.specs.Grammar.{item_symbol, extension_symbol, described_symbol, unread, written_rows};
 ghost use Rattle.graphql_schema_tree.specs.Locations.{word_of, location_of};
 
-/// Of the symbols as they are written, one cannot be read with one item of lookahead.
-pub fn one_symbol_has_a_second_rule()
-    ensures { unread written_rows 0 written_rows ≡ described_symbol ∷ [] }
+/// Of the symbols as they are written, three cannot be read with one item of lookahead.
+pub fn three_symbols_have_second_rules()
+    ensures { unread written_rows 0 written_rows ≡ item_symbol ∷ extension_symbol ∷ described_symbol ∷ [] }
 {}
 
 /// Each location has a word of its own, which names it, and no other word does.
@@ -29,6 +29,8 @@ pub fn worked_examples()
     ensures positions { example.Positions }
     ensures leading_bar { example.LeadingBar }
     ensures empty_schema { example.EmptySchema }
+    ensures described_schema { example.DescribedSchema }
+    ensures schema_extension { example.SchemaExtension }
     ensures any_name { example.AnyName }
     ensures variable_argument { example.VariableArgument }
     ensures extension { example.Extension }
@@ -43,6 +45,10 @@ pub fn worked_layouts()
     ensures union_layout { example.UnionLayout }
     ensures schema_layout { example.SchemaLayout }
     ensures empty_schema_layout { example.EmptySchemaLayout }
+    ensures described_schema_layout { example.DescribedSchemaLayout }
+    ensures schema_extension_layout { example.SchemaExtensionLayout }
+    ensures directives_alone { example.DirectivesAlone }
+    ensures empty_schema_extension_layout { example.EmptySchemaExtensionLayout }
     ensures empty_schema_fits { example.EmptySchemaFits }
     ensures input_layout { example.InputLayout }
     ensures extension_layout { example.ExtensionLayout }
@@ -82,6 +88,11 @@ pub fn worked_refusals()
     ensures open_schema { example.OpenSchema }
     ensures later_fault { example.LaterFault }
     ensures bare_extension { example.BareExtension }
+    ensures bare_schema_extension { example.BareSchemaExtension }
+    ensures schema_twice { example.SchemaTwice }
+    ensures no_operations { example.NoOperations }
+    ensures duplicate_extension { example.DuplicateExtension }
+    ensures unknown_described { example.UnknownDescribed }
     ensures interface_alone { example.InterfaceAlone }
     ensures open_extension { example.OpenExtension }
     ensures no_mark { example.NoMark }

@@ -8,11 +8,11 @@ pub mod tree;
 
 pub use graphql_core::common::{Names, Text};
 pub use laws::{
-    brackets_are_those_of_the_layout, locations_are_named, one_symbol_has_a_second_rule,
-    printed_documents_are_read_back, text_has_no_positions, worked_examples, worked_layouts,
+    brackets_are_those_of_the_layout, locations_are_named, printed_documents_are_read_back,
+    text_has_no_positions, three_symbols_have_second_rules, worked_examples, worked_layouts,
     worked_refusals,
 };
-pub use location::{DirectiveLocation, InvalidDirectiveLocation};
+pub use location::{DirectiveLocation, InvalidDirectiveLocation, are_same_location};
 
 /// A schema document (October 2021, section 3).
 pub type Document<'a, T> = tree::Document<T>;
@@ -55,6 +55,9 @@ pub type EnumValue<'a, T> = tree::EnumValue<T>;
 
 /// An extension of a type (section 3.4.3).
 pub type TypeExtension<'a, T> = tree::TypeExtension<T>;
+
+/// An extension of the schema (section 3.3.2).
+pub type SchemaExtension<'a, T> = tree::SchemaExtension<T>;
 
 /// An extension of a scalar type (section 3.5.6).
 pub type ScalarTypeExtension<'a, T> = tree::ScalarTypeExtension<T>;

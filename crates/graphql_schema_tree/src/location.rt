@@ -1,7 +1,8 @@
 //! Where directives may stand.
-ghost use Rattle.std.specs.Prelude.{◌≡◌, not};
+ghost use Rattle.std.specs.Prelude.{◌≡◌, ◌↔◌, IsTrue, not};
 ghost use Rattle.graphql_schema_tree.specs.Locations.{word_of, location_of, IsNamed, is_in_queries};
 
+use std::hash::Hash;
 use std::str::FromStr;
 use thiserror::Error;
 
@@ -103,6 +104,14 @@ impl DirectiveLocation {
     {
         !self.is_query()
     }
+}
+
+/// Equal locations are the same, and they hash alike: a hasher is fed the same of both.
+pub fn are_same_location(a: &DirectiveLocation, b: &DirectiveLocation) -> bool
+    ensures same { IsTrue result ↔ (a.now ≡ b.now) }
+    ensures hash { IsTrue result → ⟦<DirectiveLocation as Hash>⟧.hash_input a.now ≡ ⟦<DirectiveLocation as Hash>⟧.hash_input b.now }
+{
+    a == b
 }
 
 impl FromStr for DirectiveLocation {

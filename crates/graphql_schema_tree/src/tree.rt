@@ -9,7 +9,7 @@ mod types;
 use crate::location::DirectiveLocation;
 pub use extensions::{
     EnumTypeExtension, InputObjectTypeExtension, InterfaceTypeExtension, ObjectTypeExtension,
-    ScalarTypeExtension, UnionTypeExtension,
+    ScalarTypeExtension, SchemaExtension, UnionTypeExtension,
 };
 use graphql_core::common::Names;
 use graphql_core::position::Pos;
@@ -47,6 +47,8 @@ pub enum Definition<N: Names> {
     TypeDefinition(TypeDefinition<N>),
     /// An extension of a type.
     TypeExtension(TypeExtension<N>),
+    /// An extension of the schema.
+    SchemaExtension(SchemaExtension<N>),
     /// A directive.
     DirectiveDefinition(DirectiveDefinition<N>),
 }
@@ -57,6 +59,8 @@ pub enum Definition<N: Names> {
 pub struct SchemaDefinition<N: Names> {
     /// The position of the keyword.
     pub position: Pos,
+    /// The description.
+    pub description: Option<String>,
     /// The directives in order.
     pub directives: Vec<Directive<N>>,
     /// The type of queries.

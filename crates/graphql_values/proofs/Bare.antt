@@ -25,10 +25,10 @@ tail_is a b l m e = cc
 abbrev pub Alike : List Token → List Token → Type 0
 Alike us ts = map unplaced us ≡ map unplaced ts
 
-abbrev AlikeBoth : List Token → List Token → List Token → Type 0
+abbrev pub AlikeBoth : List Token → List Token → List Token → Type 0
 AlikeBoth xs ys us = (vs : List Token) × (ws : List Token) × (us ≡ vs ++ ws) × Alike vs xs × Alike ws ys
 
-alike_split : (xs ys us : List Token) → Alike us (xs ++ ys) → AlikeBoth xs ys us
+pub alike_split : (xs ys us : List Token) → Alike us (xs ++ ys) → AlikeBoth xs ys us
 alike_split [] ys us h = ([], us, refl, refl, h)
 alike_split (x ∷ xs) ys [] h = absurd cc
 alike_split (x ∷ xs) ys (u ∷ us) h =

@@ -10,6 +10,7 @@ pub mod LeafSteps
 pub mod PlainAlternatives
 pub mod Appending
 pub mod QuotedText
+pub mod Decimals
 pub mod Enclosed
 pub mod Leaves
 pub mod Printable
@@ -37,6 +38,7 @@ pub mod Lifted
 pub mod RoundTrip
 pub mod Bare
 pub mod Unplaced
+pub mod FaultsAlike
 pub mod Told
 pub mod Parsing
 pub mod Refusing

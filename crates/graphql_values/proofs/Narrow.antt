@@ -1,6 +1,9 @@
 -- What Display writes once the width was checked: it fits, and it is the text in the default style.
-use Rattle.std.proofs.Common.{◌≡◌, ◌+◌, ◌-◌, ◌*◌, ◌^◌, ◌<◌, ◌↔◌, ℕ, Result, Ok, Err, IsOk, OnOk, false, true, min, subst, arith}
+use Rattle.std.proofs.Common.{List, ◌≡◌, ◌+◌, ◌-◌, ◌*◌, ◌^◌, ◌<◌, ◌↔◌, ℕ, Result, Ok, Err, OnOk, false, true, min, subst, sym, arith}
 use Rattle.std.proofs.lemmas.Bool.{false≢true}
+use Rattle.std.specs.declared.fmt.Error.{Error}
+use Rattle.std.specs.declared.fmt.Formatter.{Formatter}
+use Rattle.std.specs.Fmt.{HasWrittenStyled, IsDefaultSpec, IsFlush, WritesOnOk, WritesStyledOnOk}
 use Rattle.graphql_core.specs.Style.{Layout, default_style}
 use Rattle.graphql_values.specs.ValueLayout.{IsTooWide, IsNarrow}
 use Rattle.graphql_values.proofs.Appending.{on_ok}
@@ -23,13 +26,19 @@ fits_outside style levels n counted through = omega (arith, fits style levels n 
 pub narrow : {A E : Type 0} (r : Result A E) (levels n : ℕ) → levels ≡ min n (2 ^ 64 - 1) → LetThrough default_style levels → OnOk r (IsNarrow n)
 narrow r levels n counted through = on_ok r (λ wide. absurd (false≢true ((through n counted).1 wide)))
 
--- what was written in that style was written in the default style
-pub written : {A E Plain : Type 0} (r : Result A E) (style : Layout) (Wrote : Layout → Type 0) → style ≡ default_style → OnOk r (Plain → Wrote style) → Plain
-    → IsOk r → Wrote default_style
-written (Ok x) style Wrote same wrote plain ok = subst Wrote same (wrote plain)
-written (Err e) style Wrote same wrote plain ok = absurd (false≢true ok)
+module _ {W : Type 0} (took : W → List ℕ → W → Type 0) (f g : Formatter W) where
+  -- where a text was written on success, it was, whatever the options
+  pub written : (r : Result (Unit {0}) Error) (text : List ℕ) → OnOk r (IsFlush f → HasWrittenStyled took f text g) → WritesStyledOnOk took f r text g
+  written (Ok x) text wrote flush ok = wrote flush
+  written (Err e) text wrote flush ok = absurd (false≢true ok)
 
--- the same of what stands in the default style already, or has one text in all
-pub written_alone : {A E Plain Wrote : Type 0} (r : Result A E) → OnOk r (Plain → Wrote) → Plain → IsOk r → Wrote
-written_alone (Ok x) wrote plain ok = wrote plain
-written_alone (Err e) wrote plain ok = absurd (false≢true ok)
+  -- in a style that is the default one it was written in the default style
+  pub in_default_style : (r : Result (Unit {0}) Error) (style : Layout) (text : Layout → List ℕ) → style ≡ default_style
+      → OnOk r (IsFlush f → HasWrittenStyled took f (text style) g) → OnOk r (IsFlush f → HasWrittenStyled took f (text default_style) g)
+  in_default_style r style text same = subst (λ s. OnOk r (IsFlush f → HasWrittenStyled took f (text s) g)) same
+
+  -- so it was where there are no options
+  pub written_plain : (r : Result (Unit {0}) Error) (text : List ℕ) → OnOk r (IsFlush f → HasWrittenStyled took f text g) → WritesOnOk took f r text g
+  written_plain r text wrote plain ok =
+      let wrote = written r text wrote plain.flush ok in
+      record { wrote = wrote.wrote; plain = record { bare = subst IsDefaultSpec (sym wrote.spec) plain.bare; flush = wrote.flush } }

@@ -4,6 +4,7 @@ mod default;
 mod directives;
 mod display;
 mod enclosed;
+mod integers;
 mod laws;
 mod levels;
 mod pretty;

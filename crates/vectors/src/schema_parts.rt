@@ -64,6 +64,7 @@ fn tell_definition<N: Names>(told: &mut Told, definition: &Definition<'_, N>) {
             told.show_line(extension);
             tell_extension(told, extension);
         }
+        Definition::SchemaExtension(extension) => told.show_line(extension),
         Definition::DirectiveDefinition(directive) => {
             told.show_line(directive);
             tell_inputs(told, &directive.arguments);

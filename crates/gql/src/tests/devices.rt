@@ -48,6 +48,7 @@ pub struct Sink {
     pub calls: usize,
     pub failing: usize,
     pub flushes: bool,
+    pub kind: ErrorKind,
 }
 
 impl Sink {
@@ -59,6 +60,7 @@ impl Sink {
             calls: 0,
             failing: 0,
             flushes: true,
+            kind: ErrorKind::BrokenPipe,
         }
     }
 }
@@ -67,7 +69,7 @@ impl Write for Sink {
     fn write(&mut self, buf: &[u8]) -> io::Result<usize> {
         self.calls = self.calls.saturating_add(1);
         if self.calls == self.failing {
-            return Err(io::Error::from(ErrorKind::BrokenPipe));
+            return Err(io::Error::from(self.kind));
         }
         let count = buf.len().min(self.step);
         match self.taken.extend_from_slice(&buf[..count]) {
@@ -80,7 +82,7 @@ impl Write for Sink {
         if self.flushes {
             Ok(())
         } else {
-            Err(io::Error::from(ErrorKind::BrokenPipe))
+            Err(io::Error::from(self.kind))
         }
     }
 }

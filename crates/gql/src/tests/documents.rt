@@ -4,7 +4,7 @@ use crate::tests::{assert_ended, run_over};
 use std::test::Fail;
 
 /// Words, a text, what is written, what is told, and the status.
-const RUNS: [(&str, &str, &str, &str, u8); 22] = [
+const RUNS: [(&str, &str, &str, &str, u8); 25] = [
     ("query", "{ a } { b }", "{\n  a\n}\n\n{\n  b\n}\n", "", 0),
     (
         "query,--indent,3,--multiline",
@@ -59,6 +59,21 @@ const RUNS: [(&str, &str, &str, &str, u8); 22] = [
         "schema,--indent,4",
         "\"\"\"d\"\"\" enum E { \"v\" A @x B }",
         "\"d\"\nenum E {\n    \"v\" A @x\n    B\n}\n",
+        "",
+        0,
+    ),
+    (
+        "schema",
+        "extend schema @a { mutation: M }",
+        "extend schema @a {\n  mutation: M\n}\n",
+        "",
+        0,
+    ),
+    ("schema", "extend schema @a", "extend schema @a\n", "", 0),
+    (
+        "schema",
+        "\"d\" schema { query: Q }",
+        "\"d\"\nschema {\n  query: Q\n}\n",
         "",
         0,
     ),

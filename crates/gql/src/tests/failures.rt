@@ -46,21 +46,26 @@ fn a_slow_reader_and_a_slow_writer_give_the_whole_output(rt: HostRuntime) -> Res
     assert_ended(&rt, alloc, &ran, OUTPUT.as_bytes(), "", 0)
 }
 
-/// A write that fails leaves a part, one that takes nothing fails, and so does a flush.
+/// A write that fails leaves a part, one that takes nothing fails, and so does a flush. One that is interrupted is not
+/// tried again.
 #[test]
 fn a_write_that_fails_ends_the_run(rt: HostRuntime) -> Result<(), Fail> {
     let alloc = rt.alloc();
-    for (words, text, step, failing, flushes, written) in [
-        ("query", "{ a }", 1, 4, true, "{\n "),
-        ("query", "{ a }", 0, 0, true, ""),
-        ("query", "{ a }", 4096, 0, false, OUTPUT),
+    let (broken, interrupted) = (ErrorKind::BrokenPipe, ErrorKind::Interrupted);
+    for (words, text, step, failing, flushes, kind, written) in [
+        ("query", "{ a }", 1, 4, true, broken, "{\n "),
+        ("query", "{ a }", 1, 4, true, interrupted, "{\n "),
+        ("query", "{ a }", 0, 0, true, broken, ""),
+        ("query", "{ a }", 4096, 0, false, broken, OUTPUT),
+        ("query", "{ a }", 4096, 0, false, interrupted, OUTPUT),
         // in the rest
-        ("first", "{ a } ;x", 1, 10, true, "{\n  a\n}\n;"),
+        ("first", "{ a } ;x", 1, 10, true, broken, "{\n  a\n}\n;"),
     ] {
         let mut sink = Sink::new(alloc);
         sink.step = step;
         sink.failing = failing;
         sink.flushes = flushes;
+        sink.kind = kind;
         let ran = run_over(alloc, words, Source::of(text.as_bytes()), sink)?;
         assert!(rt; matches!(&ran.answer, Err(RunError::Write)), "{written}");
         assert_eq!(rt; ran.write_faults, 1);

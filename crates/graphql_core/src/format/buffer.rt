@@ -1,6 +1,6 @@
 //! A text that grows at its end, in a vector whose first bytes count. What lies after them is initialized ahead, so that
 //! a short text is stored with one test.
-ghost use Rattle.std.specs.Prelude.{◌≡◌, ◌≤◌, [], ◌++◌, length, take, vec_len, string_bytes, IfOk, OnOk, OnErr, IfSome};
+ghost use Rattle.std.specs.Prelude.{◌≡◌, ◌≤◌, [], ◌++◌, length, take, vec_len, string_bytes, IfOk, OnOk, OnErr};
 ghost use Rattle.std.specs.Str.{IsUtf8};
 ghost use Rattle.graphql_core.specs.Minified.{space_if};
 ghost use Rattle.graphql_core.specs.steps.StringSink.{list_nil, list_more};
@@ -8,7 +8,6 @@ ghost use Rattle.graphql_core.specs.steps.StringSink.{list_nil, list_more};
 use crate::format::place::{WIDE, place_space, place_start, place_text};
 use crate::format::sink::Sink;
 use std::alloc::{AllocError, Global};
-use std::fmt::Display;
 use std::marker::Model;
 
 /// The least room of a buffer that has any.
@@ -24,8 +23,6 @@ static ZEROS: [u8; 1024] = [0; 1024];
 pub struct Buffer {
     bytes: Vec<u8>,
     len: usize,
-    // What a value writes, before it is appended.
-    written: String,
 }
 
 impl Model for Buffer {
@@ -164,7 +161,6 @@ impl Buffer {
         Buffer {
             bytes: Vec::new(alloc),
             len: 0,
-            written: String::new(alloc),
         }
     }
 
@@ -174,11 +170,7 @@ impl Buffer {
     {
         // The last short text is stored as `WIDE` bytes too, maybe after a space.
         let bytes = Vec::with_capacity(alloc, capacity.saturating_add(WIDE + 1))?;
-        Ok(Buffer {
-            bytes,
-            len: 0,
-            written: String::new(alloc),
-        })
+        Ok(Buffer { bytes, len: 0 })
     }
 
     /// Appends a text, with which another begins, and a space before it where one is asked for.
@@ -195,11 +187,7 @@ impl Buffer {
     pub fn into_string(self) -> String
         ensures { string_bytes result ≡ self }
     {
-        let Buffer {
-            mut bytes,
-            len,
-            written: _,
-        } = self;
+        let Buffer { mut bytes, len } = self;
         bytes.truncate(len);
         unsafe { String::from_utf8_unchecked(bytes) }
     }
@@ -223,12 +211,5 @@ impl Sink for Buffer {
     #[inline(always)]
     fn push_start(&mut self, text: &str, from: &str) -> Result<(), AllocError> {
         self.push_spaced(false, text, from)
-    }
-
-    fn push_display<D: Display + Drop>(&mut self, value: D) -> Result<(), AllocError> {
-        self.written.clear();
-        self.written.write(value)?;
-        self.len = append(&mut self.bytes, self.len, self.written.as_str())?;
-        Ok(())
     }
 }

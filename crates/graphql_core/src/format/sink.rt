@@ -1,12 +1,11 @@
 //! What text is written to.
-ghost use Rattle.std.specs.Prelude.{◌≡◌, ℕ, List, [], ◌++◌, IsOk, OnOk, IfSome, Option, string_bytes, refl, length, take};
-ghost use Rattle.std.specs.Fmt.{HasWritten, IsPlainFormatter, WritesText};
+ghost use Rattle.std.specs.Prelude.{◌≡◌, ℕ, List, [], ◌++◌, OnOk, string_bytes, length, take};
+ghost use Rattle.std.specs.Fmt.{HasWrittenStyled, IsFlush};
+ghost use Rattle.graphql_core.specs.steps.FormatterSink.{formatter_nil, formatter_more};
 ghost use Rattle.graphql_core.specs.steps.StringSink.{string_nil, string_more};
-ghost use Rattle.std.proofs.lemmas.Grind.{put_two};
 
 use std::alloc::AllocError;
 use std::fmt;
-use std::fmt::Display;
 
 /// A place that text is appended to: a `String`, or the formatter of a `Display`.
 pub trait Sink {
@@ -30,10 +29,6 @@ pub trait Sink {
         self.push_str(text)
     }
 
-    /// Appends what `Display` writes of a value. It errs as `push_str` does, or where the value's `Display` errs.
-    fn push_display<D: Display + Drop>(&mut self, value: D) -> Result<(), Self::Error>
-        ensures { OnOk result (IfSome (D.output value) (λ text. took self.old text self.new)) };
-
     ghost took_nil: { (s : Self) → took s [] s };
 
     ghost took_more: { (s : Self) (a : List ℕ) (t : Self) (b : List ℕ) (u : Self) → took s a t → took t b u → took s (a ++ b) u };
@@ -51,26 +46,19 @@ impl Sink for String {
     fn push_str(&mut self, text: &str) -> Result<(), AllocError> {
         String::push_str(self, text)
     }
-
-    fn push_display<D: Display + Drop>(&mut self, value: D) -> Result<(), AllocError> {
-        String::write(self, value)
-    }
 }
 
+/// A text is written as it is, whatever options the formatter has.
 impl<W: fmt::Write> Sink for fmt::Formatter<W> {
     type Error = fmt::Error;
 
-    ghost took = { λ f text g. IsPlainFormatter f → HasWritten W.write_str_gives f text g };
+    ghost took = { λ f text g. IsFlush f → HasWrittenStyled W.write_str_gives f text g };
 
-    ghost took_nil = { λ f plain. record { wrote = record { parts = []; calls = refl; whole = refl }; plain = plain } };
+    ghost took_nil = { formatter_nil W.write_str_gives };
 
-    ghost took_more = { λ f a g b h p q plain. put_two W.write_str_gives f g h a b (a ++ b) (p plain) (q (p plain).plain) refl };
+    ghost took_more = { formatter_more W.write_str_gives };
 
     fn push_str(&mut self, text: &str) -> Result<(), fmt::Error> {
         self.write_str(text)
-    }
-
-    fn push_display<D: Display + Drop>(&mut self, value: D) -> Result<(), fmt::Error> {
-        self.write(value)
     }
 }

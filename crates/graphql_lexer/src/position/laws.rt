@@ -4,6 +4,7 @@ ghost use Rattle.std.specs.Ordering.{nat_cmp, ordering_then};
 
 use crate::position::Pos;
 use std::cmp::Ordering;
+use std::hash::Hash;
 
 /// Positions are ordered by line, and in one line by column.
 pub fn compare_positions(a: &Pos, b: &Pos) -> Ordering
@@ -12,9 +13,10 @@ pub fn compare_positions(a: &Pos, b: &Pos) -> Ordering
     a.cmp(b)
 }
 
-/// Equal positions are the same; hashes are alike of equal ones, as of all values with these traits.
+/// Equal positions are the same, and they hash alike: a hasher is fed the same of both.
 pub fn are_same_position(a: &Pos, b: &Pos) -> bool
-    ensures { IsTrue result ↔ (a.now ≡ b.now) }
+    ensures same { IsTrue result ↔ (a.now ≡ b.now) }
+    ensures hash { IsTrue result → ⟦<Pos as Hash>⟧.hash_input a.now ≡ ⟦<Pos as Hash>⟧.hash_input b.now }
 {
     a == b
 }

@@ -1,7 +1,7 @@
 //! Trees that are built by hand, which no text has, and what is shown of them.
 use crate::common::{FloatLiteral, Number, Text};
 use crate::query::{
-    Definition, Document, Field, FragmentSpread, OperationDefinition, Query, Selection,
+    Definition, Directive, Document, Field, FragmentSpread, OperationDefinition, Query, Selection,
     SelectionSet, Type, Value, VariableDefinition,
 };
 use crate::tests::callers::Owned;
@@ -205,5 +205,24 @@ fn failures_are_handed_on(rt: HostRuntime) -> Result<(), Fail> {
         let mut narrow = Narrow { room };
         assert!(rt; narrow.write(&value).is_err(), "with room for {room}");
     }
+    Ok(())
+}
+
+#[test]
+fn options_change_nothing(rt: HostRuntime) -> Result<(), Fail> {
+    let alloc = rt.alloc();
+    let value: Value<'_, &str> = Value::Int(Number::from(-3));
+    let told = format!(in alloc; "[{value:>9}] [{value:<9}] [{value:+}] [{value:#}]")?;
+    assert_eq!(rt; told.as_str(), "[-3] [-3] [-3] [-3]");
+    let text: Value<'_, &str> = Value::String(String::from_str(alloc, "a\u{1}b")?);
+    let told = format!(in alloc; "[{text:>20}] [{text:.2}]")?;
+    assert_eq!(rt; told.as_str(), "[\"a\\u0001b\"] [\"a\\u0001b\"]");
+    let directive: Directive<'_, &str> = Directive {
+        position: Pos::default(),
+        name: "a",
+        arguments: vec![in alloc; ("b", Value::Int(Number::from(1)))]?,
+    };
+    let told = format!(in alloc; "[{directive:>20}]")?;
+    assert_eq!(rt; told.as_str(), "[@a(b: 1)]");
     Ok(())
 }

@@ -1,6 +1,7 @@
 //! The callers that docs/CALLING.md and docs/MIGRATING.md show, at concrete text types, one of them the tests' own.
-ghost use Rattle.std.specs.Prelude.{IfOk, IfSome, Err, ◌≡◌, ◌<◌, ◌⊎◌, length, string_bytes, refl, nat_eq};
+ghost use Rattle.std.specs.Prelude.{string_bytes, refl};
 ghost use Rattle.std.proofs.Common.{rules};
+ghost use Rattle.std.specs.Prelude.{IfOk, IfSome, Err, ◌≡◌, ◌<◌, ◌⊎◌, length, nat_eq};
 ghost use Rattle.graphql_query_tree.specs.Tree.{DocumentTree, document_view, erase};
 ghost use Rattle.graphql_query_tree.specs.Document.{IsDocumentOf, IsReadBack};
 ghost use Rattle.graphql_query_tree.specs.Layout.{layout, IsTooWide};
@@ -11,8 +12,8 @@ use crate::common::{
     FloatLiteral, Names, Number, Text, UnquoteError, unquote_block_string, unquote_string,
 };
 use crate::query::{
-    Definition, Document, Field, MinifyError, OperationDefinition, ParseError, Selection, Value,
-    consume_definition, minify_query, parse_query,
+    Definition, Document, Field, MinifyError, OperationDefinition, ParseError, Selection,
+    SelectionSet, Value, consume_definition, minify_query, parse_query,
 };
 use crate::tokenizer::{Kind, TokenStream};
 use crate::{Cause, FormatError, Pos, Style};
@@ -104,6 +105,59 @@ fn first_number<'a, 'd, T: Text<'a>>(field: &'d Field<'a, T>) -> Option<(&'d str
         Value::Int(number) => Some((T::view(name), number.as_i64()?)),
         _ => None,
     }
+}
+
+/// Appends the names of all fields that a set asks for, those of the sets within it too.
+#[cycle(walk)]
+fn push_fields<'d, N: Names>(
+    set: &'d SelectionSet<'_, N>,
+    names: &mut Vec<&'d str>,
+) -> Result<(), AllocError> {
+    'selections: for selection in set.items.iter() {
+        push_selected(selection, names)?;
+    }
+    Ok(())
+}
+
+/// Appends those that one selection asks for.
+#[cycle(walk)]
+fn push_selected<'d, N: Names>(
+    selection: &'d Selection<'_, N>,
+    names: &mut Vec<&'d str>,
+) -> Result<(), AllocError> {
+    match selection {
+        Selection::Field(field) => {
+            names.push(N::view(&field.name))?;
+            push_fields(&field.selection_set, names)
+        }
+        Selection::InlineFragment(fragment) => push_fields(&fragment.selection_set, names),
+        Selection::FragmentSpread(_) => Ok(()),
+    }
+}
+
+/// What an operation selects, whichever it is.
+fn selected<'d, N: Names>(operation: &'d OperationDefinition<'_, N>) -> &'d SelectionSet<'d, N> {
+    match operation {
+        OperationDefinition::SelectionSet(set) => set,
+        OperationDefinition::Query(query) => &query.selection_set,
+        OperationDefinition::Mutation(mutation) => &mutation.selection_set,
+        OperationDefinition::Subscription(subscription) => &subscription.selection_set,
+    }
+}
+
+/// The names of all fields that a document's operations and fragments ask for, in order.
+fn fields<'a, 'd, T: Text<'a>>(
+    alloc: Global,
+    document: &'d Document<'a, T>,
+) -> Result<Vec<&'d str>, AllocError> {
+    let mut names = Vec::new(alloc);
+    'definitions: for definition in document.definitions.iter() {
+        match definition {
+            Definition::Operation(operation) => push_fields(selected(operation), &mut names)?,
+            Definition::Fragment(fragment) => push_fields(&fragment.selection_set, &mut names)?,
+        }
+    }
+    Ok(names)
 }
 
 /// The value of a field's first argument, which outlives the text, if there is one and no allocation fails.
@@ -341,6 +395,20 @@ fn trees_are_looked_into(rt: HostRuntime) -> Result<(), Fail> {
     let text = "{\n  hero(id: 7)\n}\n\nfragment F on T {\n  a\n}\n\nfragment G on T {\n  a\n}\n";
     assert_eq!(rt; shown(alloc, &document)?.as_str(), text);
     assert!(rt; copied(&document)? == document);
+    Ok(())
+}
+
+#[test]
+fn trees_are_walked(rt: HostRuntime) -> Result<(), Fail> {
+    let alloc = rt.alloc();
+    let source =
+        "query { a { b ... { c } ...F } } mutation { d } subscription { e } { f } fragment F on T { g }";
+    let document = with_owned_names(alloc, source)?;
+    let names = fields(alloc, &document)?;
+    assert_eq!(rt;
+        names.as_slice(),
+        ["a", "b", "c", "d", "e", "f", "g"].as_slice()
+    );
     Ok(())
 }
 

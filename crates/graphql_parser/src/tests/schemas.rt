@@ -10,8 +10,8 @@ use crate::common::Names;
 use crate::schema::{
     Definition, DirectiveDefinition, Document, EnumType, EnumTypeExtension, EnumValue,
     InputObjectType, InputObjectTypeExtension, InterfaceType, InterfaceTypeExtension, ObjectType,
-    ObjectTypeExtension, ParseError, ScalarType, ScalarTypeExtension, SchemaDefinition, UnionType,
-    UnionTypeExtension, parse_schema,
+    ObjectTypeExtension, ParseError, ScalarType, ScalarTypeExtension, SchemaDefinition,
+    SchemaExtension, UnionType, UnionTypeExtension, parse_schema,
 };
 use crate::{FormatError, Style};
 use std::alloc::{AllocError, Global};
@@ -138,6 +138,35 @@ fn documents_that_no_text_has(rt: HostRuntime) -> Result<(), Fail> {
     style.indent(u32::MAX);
     assert_eq!(rt; document.format(alloc, &style)?.as_str(), "schema {\n}\n");
     assert_shown(&rt, alloc, &kind, "enum a b {\n  \n}\n")
+}
+
+/// A schema that is described, and an extension of the schema, which has nothing or an operation.
+#[test]
+fn schemas_that_are_described_or_extended(rt: HostRuntime) -> Result<(), Fail> {
+    let alloc = rt.alloc();
+    let mut schema: SchemaDefinition<'_, &str> = SchemaDefinition::empty(alloc);
+    schema.description = Some(String::from_str(alloc, "d")?);
+    schema.query = Some("Q");
+    assert_shown(&rt, alloc, &schema, "\"d\"\nschema {\n  query: Q\n}\n")?;
+    let mut extension: SchemaExtension<'_, &str> = SchemaExtension::empty(alloc);
+    assert_shown(&rt, alloc, &extension, "extend schema\n")?;
+    assert!(rt; parse_schema::<&str>(alloc, "extend schema\n").is_err());
+    extension.mutation = Some("M");
+    assert_shown(
+        &rt,
+        alloc,
+        &extension,
+        "extend schema {\n  mutation: M\n}\n",
+    )?;
+    let mut document: Document<'_, &str> = Document::empty(alloc);
+    document
+        .definitions
+        .push(Definition::SchemaDefinition(schema))?;
+    document
+        .definitions
+        .push(Definition::SchemaExtension(extension))?;
+    let text = "\"d\"\nschema {\n  query: Q\n}\n\nextend schema {\n  mutation: M\n}\n";
+    assert_shown(&rt, alloc, &document, text)
 }
 
 #[test]

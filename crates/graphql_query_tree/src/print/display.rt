@@ -1,5 +1,5 @@
 //! Display of the trees: the text in the default style, unless that is too wide.
-ghost use Rattle.std.specs.Prelude.{Some, None, OnOk};
+ghost use Rattle.std.specs.Prelude.{Some, OnOk};
 ghost use Rattle.std.specs.Fmt.{DisplaysOnOk, DisplaysStyledOnOk};
 ghost use Rattle.graphql_core.specs.Style.{default_style};
 ghost use Rattle.graphql_core.specs.Parts.{text_of};
@@ -25,9 +25,11 @@ use std::fmt;
 impl<N: Names> fmt::Display for Document<N> {
     ghost output = { λ t. Some (layout default_style (document_view N.bytes t)) };
 
+    ghost styled_output = { λ t spec. Some (layout default_style (document_view N.bytes t)) };
+
     fn fmt<W: fmt::Write>(&self, f: &mut fmt::Formatter<W>) -> fmt::Result
         ensures writes { DisplaysOnOk W.write_str_gives f.old result (Some (layout default_style (document_view N.bytes self.now))) f.new }
-        ensures styled { DisplaysStyledOnOk W.write_str_gives f.old result None f.new }
+        ensures styled { DisplaysStyledOnOk W.write_str_gives f.old result (Some (layout default_style (document_view N.bytes self.now))) f.new }
         ensures narrow { OnOk result (IsNarrow (levels default_style (document_view N.bytes self.now))) }
     {
         fmt_in_default_style(self, f)
@@ -37,10 +39,13 @@ impl<N: Names> fmt::Display for Document<N> {
 impl<N: Names> fmt::Display for Definition<N> {
     ghost output = { λ t. Some (text_of (definition_layout default_style (definition_view N.bytes t))) };
 
+    ghost styled_output = { λ t spec. Some (text_of (definition_layout default_style (definition_view N.bytes t))) };
+
     fn fmt<W: fmt::Write>(&self, f: &mut fmt::Formatter<W>) -> fmt::Result
         ensures writes { DisplaysOnOk W.write_str_gives f.old result (Some (text_of (definition_layout default_style (definition_view N.bytes self.now))))
             f.new }
-        ensures styled { DisplaysStyledOnOk W.write_str_gives f.old result None f.new }
+        ensures styled { DisplaysStyledOnOk W.write_str_gives f.old result
+            (Some (text_of (definition_layout default_style (definition_view N.bytes self.now)))) f.new }
         ensures narrow { OnOk result (IsNarrow (definition_levels default_style (definition_view N.bytes self.now))) }
     {
         fmt_in_default_style(self, f)
@@ -50,10 +55,13 @@ impl<N: Names> fmt::Display for Definition<N> {
 impl<N: Names> fmt::Display for OperationDefinition<N> {
     ghost output = { λ t. Some (text_of (definition_layout default_style (operation_view N.bytes t))) };
 
+    ghost styled_output = { λ t spec. Some (text_of (definition_layout default_style (operation_view N.bytes t))) };
+
     fn fmt<W: fmt::Write>(&self, f: &mut fmt::Formatter<W>) -> fmt::Result
         ensures writes { DisplaysOnOk W.write_str_gives f.old result (Some (text_of (definition_layout default_style (operation_view N.bytes self.now))))
             f.new }
-        ensures styled { DisplaysStyledOnOk W.write_str_gives f.old result None f.new }
+        ensures styled { DisplaysStyledOnOk W.write_str_gives f.old result
+            (Some (text_of (definition_layout default_style (operation_view N.bytes self.now)))) f.new }
         ensures narrow { OnOk result (IsNarrow (definition_levels default_style (operation_view N.bytes self.now))) }
     {
         fmt_in_default_style(self, f)
@@ -63,10 +71,13 @@ impl<N: Names> fmt::Display for OperationDefinition<N> {
 impl<N: Names> fmt::Display for FragmentDefinition<N> {
     ghost output = { λ t. Some (text_of (fragment_definition_layout default_style (fragment_definition_view N.bytes t))) };
 
+    ghost styled_output = { λ t spec. Some (text_of (fragment_definition_layout default_style (fragment_definition_view N.bytes t))) };
+
     fn fmt<W: fmt::Write>(&self, f: &mut fmt::Formatter<W>) -> fmt::Result
         ensures writes { DisplaysOnOk W.write_str_gives f.old result
             (Some (text_of (fragment_definition_layout default_style (fragment_definition_view N.bytes self.now)))) f.new }
-        ensures styled { DisplaysStyledOnOk W.write_str_gives f.old result None f.new }
+        ensures styled { DisplaysStyledOnOk W.write_str_gives f.old result
+            (Some (text_of (fragment_definition_layout default_style (fragment_definition_view N.bytes self.now)))) f.new }
         ensures narrow { OnOk result (IsNarrow (fragment_definition_levels default_style (fragment_definition_view N.bytes self.now))) }
     {
         fmt_in_default_style(self, f)
@@ -76,9 +87,12 @@ impl<N: Names> fmt::Display for FragmentDefinition<N> {
 impl<N: Names> fmt::Display for Query<N> {
     ghost output = { λ t. Some (text_of (operation_layout default_style (query_view N.bytes t))) };
 
+    ghost styled_output = { λ t spec. Some (text_of (operation_layout default_style (query_view N.bytes t))) };
+
     fn fmt<W: fmt::Write>(&self, f: &mut fmt::Formatter<W>) -> fmt::Result
         ensures writes { DisplaysOnOk W.write_str_gives f.old result (Some (text_of (operation_layout default_style (query_view N.bytes self.now)))) f.new }
-        ensures styled { DisplaysStyledOnOk W.write_str_gives f.old result None f.new }
+        ensures styled { DisplaysStyledOnOk W.write_str_gives f.old result
+            (Some (text_of (operation_layout default_style (query_view N.bytes self.now)))) f.new }
         ensures narrow { OnOk result (IsNarrow (operation_levels default_style (query_view N.bytes self.now))) }
     {
         fmt_in_default_style(self, f)
@@ -88,9 +102,12 @@ impl<N: Names> fmt::Display for Query<N> {
 impl<N: Names> fmt::Display for Mutation<N> {
     ghost output = { λ t. Some (text_of (operation_layout default_style (mutation_view N.bytes t))) };
 
+    ghost styled_output = { λ t spec. Some (text_of (operation_layout default_style (mutation_view N.bytes t))) };
+
     fn fmt<W: fmt::Write>(&self, f: &mut fmt::Formatter<W>) -> fmt::Result
         ensures writes { DisplaysOnOk W.write_str_gives f.old result (Some (text_of (operation_layout default_style (mutation_view N.bytes self.now)))) f.new }
-        ensures styled { DisplaysStyledOnOk W.write_str_gives f.old result None f.new }
+        ensures styled { DisplaysStyledOnOk W.write_str_gives f.old result
+            (Some (text_of (operation_layout default_style (mutation_view N.bytes self.now)))) f.new }
         ensures narrow { OnOk result (IsNarrow (operation_levels default_style (mutation_view N.bytes self.now))) }
     {
         fmt_in_default_style(self, f)
@@ -100,10 +117,13 @@ impl<N: Names> fmt::Display for Mutation<N> {
 impl<N: Names> fmt::Display for Subscription<N> {
     ghost output = { λ t. Some (text_of (operation_layout default_style (subscription_view N.bytes t))) };
 
+    ghost styled_output = { λ t spec. Some (text_of (operation_layout default_style (subscription_view N.bytes t))) };
+
     fn fmt<W: fmt::Write>(&self, f: &mut fmt::Formatter<W>) -> fmt::Result
         ensures writes { DisplaysOnOk W.write_str_gives f.old result (Some (text_of (operation_layout default_style (subscription_view N.bytes self.now))))
             f.new }
-        ensures styled { DisplaysStyledOnOk W.write_str_gives f.old result None f.new }
+        ensures styled { DisplaysStyledOnOk W.write_str_gives f.old result
+            (Some (text_of (operation_layout default_style (subscription_view N.bytes self.now)))) f.new }
         ensures narrow { OnOk result (IsNarrow (operation_levels default_style (subscription_view N.bytes self.now))) }
     {
         fmt_in_default_style(self, f)
@@ -113,10 +133,13 @@ impl<N: Names> fmt::Display for Subscription<N> {
 impl<N: Names> fmt::Display for VariableDefinition<N> {
     ghost output = { λ t. Some (text_of (variable_definition_layout default_style (variable_definition_view N.bytes t))) };
 
+    ghost styled_output = { λ t spec. Some (text_of (variable_definition_layout default_style (variable_definition_view N.bytes t))) };
+
     fn fmt<W: fmt::Write>(&self, f: &mut fmt::Formatter<W>) -> fmt::Result
         ensures writes { DisplaysOnOk W.write_str_gives f.old result
             (Some (text_of (variable_definition_layout default_style (variable_definition_view N.bytes self.now)))) f.new }
-        ensures styled { DisplaysStyledOnOk W.write_str_gives f.old result None f.new }
+        ensures styled { DisplaysStyledOnOk W.write_str_gives f.old result
+            (Some (text_of (variable_definition_layout default_style (variable_definition_view N.bytes self.now)))) f.new }
         ensures narrow { OnOk result (IsNarrow (variable_definition_levels default_style (variable_definition_view N.bytes self.now))) }
     {
         fmt_in_default_style(self, f)
@@ -126,10 +149,13 @@ impl<N: Names> fmt::Display for VariableDefinition<N> {
 impl<N: Names> fmt::Display for SelectionSet<N> {
     ghost output = { λ t. Some (text_of (selection_set_layout default_style 0 (selection_set_view N.bytes t))) };
 
+    ghost styled_output = { λ t spec. Some (text_of (selection_set_layout default_style 0 (selection_set_view N.bytes t))) };
+
     fn fmt<W: fmt::Write>(&self, f: &mut fmt::Formatter<W>) -> fmt::Result
         ensures writes { DisplaysOnOk W.write_str_gives f.old result
             (Some (text_of (selection_set_layout default_style 0 (selection_set_view N.bytes self.now)))) f.new }
-        ensures styled { DisplaysStyledOnOk W.write_str_gives f.old result None f.new }
+        ensures styled { DisplaysStyledOnOk W.write_str_gives f.old result
+            (Some (text_of (selection_set_layout default_style 0 (selection_set_view N.bytes self.now)))) f.new }
         ensures narrow { OnOk result (IsNarrow (selection_set_levels default_style (selection_set_view N.bytes self.now))) }
     {
         fmt_in_default_style(self, f)
@@ -139,9 +165,12 @@ impl<N: Names> fmt::Display for SelectionSet<N> {
 impl<N: Names> fmt::Display for Field<N> {
     ghost output = { λ t. Some (text_of (selection_layout default_style 0 (field_view N.bytes t))) };
 
+    ghost styled_output = { λ t spec. Some (text_of (selection_layout default_style 0 (field_view N.bytes t))) };
+
     fn fmt<W: fmt::Write>(&self, f: &mut fmt::Formatter<W>) -> fmt::Result
         ensures writes { DisplaysOnOk W.write_str_gives f.old result (Some (text_of (selection_layout default_style 0 (field_view N.bytes self.now)))) f.new }
-        ensures styled { DisplaysStyledOnOk W.write_str_gives f.old result None f.new }
+        ensures styled { DisplaysStyledOnOk W.write_str_gives f.old result
+            (Some (text_of (selection_layout default_style 0 (field_view N.bytes self.now)))) f.new }
         ensures narrow { OnOk result (IsNarrow (selection_levels default_style (field_view N.bytes self.now))) }
     {
         fmt_in_default_style(self, f)
@@ -151,10 +180,13 @@ impl<N: Names> fmt::Display for Field<N> {
 impl<N: Names> fmt::Display for FragmentSpread<N> {
     ghost output = { λ t. Some (text_of (selection_layout default_style 0 (fragment_spread_view N.bytes t))) };
 
+    ghost styled_output = { λ t spec. Some (text_of (selection_layout default_style 0 (fragment_spread_view N.bytes t))) };
+
     fn fmt<W: fmt::Write>(&self, f: &mut fmt::Formatter<W>) -> fmt::Result
         ensures writes { DisplaysOnOk W.write_str_gives f.old result
             (Some (text_of (selection_layout default_style 0 (fragment_spread_view N.bytes self.now)))) f.new }
-        ensures styled { DisplaysStyledOnOk W.write_str_gives f.old result None f.new }
+        ensures styled { DisplaysStyledOnOk W.write_str_gives f.old result
+            (Some (text_of (selection_layout default_style 0 (fragment_spread_view N.bytes self.now)))) f.new }
         ensures narrow { OnOk result (IsNarrow (selection_levels default_style (fragment_spread_view N.bytes self.now))) }
     {
         fmt_in_default_style(self, f)
@@ -164,10 +196,13 @@ impl<N: Names> fmt::Display for FragmentSpread<N> {
 impl<N: Names> fmt::Display for InlineFragment<N> {
     ghost output = { λ t. Some (text_of (selection_layout default_style 0 (inline_fragment_view N.bytes t))) };
 
+    ghost styled_output = { λ t spec. Some (text_of (selection_layout default_style 0 (inline_fragment_view N.bytes t))) };
+
     fn fmt<W: fmt::Write>(&self, f: &mut fmt::Formatter<W>) -> fmt::Result
         ensures writes { DisplaysOnOk W.write_str_gives f.old result
             (Some (text_of (selection_layout default_style 0 (inline_fragment_view N.bytes self.now)))) f.new }
-        ensures styled { DisplaysStyledOnOk W.write_str_gives f.old result None f.new }
+        ensures styled { DisplaysStyledOnOk W.write_str_gives f.old result
+            (Some (text_of (selection_layout default_style 0 (inline_fragment_view N.bytes self.now)))) f.new }
         ensures narrow { OnOk result (IsNarrow (selection_levels default_style (inline_fragment_view N.bytes self.now))) }
     {
         fmt_in_default_style(self, f)
@@ -176,6 +211,8 @@ impl<N: Names> fmt::Display for InlineFragment<N> {
 
 impl<N: Names> fmt::Display for TypeCondition<N> {
     ghost output = { λ t. Some (text_of (type_condition_layout (type_condition_view N.bytes t))) };
+
+    ghost styled_output = { λ t spec. Some (text_of (type_condition_layout (type_condition_view N.bytes t))) };
 
     fn fmt<W: fmt::Write>(&self, f: &mut fmt::Formatter<W>) -> fmt::Result {
         write_type_condition(f, self)

@@ -42,5 +42,6 @@ sees_type i = any_class (keyword (codes "scalar")) type_keywords i
 -- a definition does
 abbrev pub sees_definition : Items → Bool
 sees_definition i =
-    sees_class (keyword (codes "schema")) i
-    || (sees_class (keyword (codes "extend")) i || (sees_description i || (sees_type i || sees_class (keyword (codes "directive")) i)))
+    sees_description i
+    || (sees_class (keyword (codes "schema")) i
+    || (sees_type i || (sees_class (keyword (codes "directive")) i || sees_class (keyword (codes "extend")) i)))

@@ -6,18 +6,20 @@ use Rattle.graphql_core.specs.Source.{Items, FaultText, place_of}
 use Rattle.graphql_values.specs.declared.read.halt.Halt.{Halt}
 use Rattle.graphql_values.specs.Refusing.{Refusals}
 use Rattle.graphql_values.specs.Refusing as refusing
-use Rattle.graphql_schema_tree.specs.Grammar.{schema_symbol, extension_symbol}
+use Rattle.graphql_schema_tree.specs.Grammar.{schema_symbol, extension_symbol, schema_extension_symbol}
 use Rattle.graphql_schema_tree.specs.Language.{schemas}
 use Rattle.graphql_schema.specs.declared.read.refusal.Refusal.{Refusal}
-use Rattle.graphql_schema.specs.declared.read.refusal.Refusal.TheVariants.{Schema, Extension}
+use Rattle.graphql_schema.specs.declared.read.refusal.Refusal.TheVariants.{Schema, SchemaExtension, Extension}
 
 -- the symbol of the node, and what is said of it
 abbrev pub refused_symbol : Refusal → ℕ
 refused_symbol (Schema c p) = schema_symbol
+refused_symbol (SchemaExtension c p) = schema_extension_symbol
 refused_symbol (Extension p) = extension_symbol
 
 abbrev pub fault_said : Refusal → FaultText
 fault_said (Schema c p) = record { cause = cause_text c; place = place_of p }
+fault_said (SchemaExtension c p) = record { cause = cause_text c; place = place_of p }
 fault_said (Extension p) = record { cause = empty_extension; place = place_of p }
 
 abbrev pub refusals : Refusals Refusal

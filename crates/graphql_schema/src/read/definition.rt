@@ -4,10 +4,10 @@ ghost use Rattle.graphql_grammar.specs.Trees.{Sym, some_of};
 ghost use Rattle.graphql_core.specs.Source.{kept};
 ghost use Rattle.graphql_values.specs.steps.Answers.{Shortens};
 ghost use Rattle.graphql_schema_tree.specs.Tree.{BodyTree, type_definition};
-ghost use Rattle.graphql_schema_tree.specs.Grammar.{described_symbol, item_symbol};
-ghost use Rattle.graphql_schema_tree.specs.Meanings.{described_of, item_of, each_of};
+ghost use Rattle.graphql_schema_tree.specs.Grammar.{item_symbol};
+ghost use Rattle.graphql_schema_tree.specs.Meanings.{item_of, each_of};
 ghost use Rattle.graphql_schema_tree.specs.Views.{type_definition_view, definition_view};
-ghost use Rattle.graphql_schema.specs.steps.Reads.{Reads, sees_definition, sees_type};
+ghost use Rattle.graphql_schema.specs.steps.Reads.{sees_definition, sees_type};
 ghost use Rattle.graphql_schema.specs.steps.Refusals.{ReadsNode};
 
 use crate::read::description::{optional_description, sees_description};
@@ -17,7 +17,7 @@ use crate::read::refusal::Refusal;
 use crate::read::schema::schema_definition;
 use crate::read::types::type_body;
 use graphql_core::common::Names;
-use graphql_core::helpers::{Stop, TokenSource, sees_keyword};
+use graphql_core::helpers::{TokenSource, sees_keyword};
 use graphql_schema_tree::tree::{Definition, TypeDefinition};
 use graphql_values::read::halt::Halt;
 use std::alloc::Global;
@@ -42,28 +42,7 @@ fn described<N: Names>(
     definition
 }
 
-/// `Described = Description? TypeBody | Description? DirectiveDef`
-#[tactic(auto, using(graphql_values::proofs::Reading::reading))]
-fn described_definition<S: TokenSource>(
-    alloc: Global,
-    source: &mut S,
-) -> Result<Definition<S::Names>, Stop>
-    ensures reads { Reads (Sym described_symbol) (S.items source.old) (S.items source.new)
-        (λ v x. definition_view S.Names.bytes v ≡ described_of x) result }
-    ensures kept { kept (S.items source.new) ≡ kept (S.items source.old) }
-    ensures shorter { Shortens (S.items source.old) (S.items source.new) result }
-{
-    let description = optional_description(alloc, source)?;
-    if sees_keyword(source, "directive") {
-        let mut definition = directive_definition(alloc, source)?;
-        definition.description = description;
-        return Ok(Definition::DirectiveDefinition(definition));
-    }
-    let definition = type_body(alloc, source)?;
-    Ok(Definition::TypeDefinition(described(definition, description)))
-}
-
-/// `SchemaItem = Schema | Extension | Described`
+/// `SchemaItem = Description? Schema | Extension | Described`, where `Described = Description? TypeBody | Description? DirectiveDef`.
 #[tactic(auto, using(graphql_values::proofs::Reading::reading))]
 fn definition<S: TokenSource>(
     alloc: Global,
@@ -74,13 +53,22 @@ fn definition<S: TokenSource>(
     ensures kept { kept (S.items source.new) ≡ kept (S.items source.old) }
     ensures shorter { Shortens (S.items source.old) (S.items source.new) result }
 {
-    if sees_keyword(source, "schema") {
-        return Ok(Definition::SchemaDefinition(schema_definition(alloc, source)?));
-    }
     if sees_keyword(source, "extend") {
-        return Ok(Definition::TypeExtension(extension(alloc, source)?));
+        return extension(alloc, source);
     }
-    Ok(described_definition(alloc, source)?)
+    let description = optional_description(alloc, source)?;
+    if sees_keyword(source, "schema") {
+        let mut schema = schema_definition(alloc, source)?;
+        schema.description = description;
+        return Ok(Definition::SchemaDefinition(schema));
+    }
+    if sees_keyword(source, "directive") {
+        let mut definition = directive_definition(alloc, source)?;
+        definition.description = description;
+        return Ok(Definition::DirectiveDefinition(definition));
+    }
+    let definition = type_body(alloc, source)?;
+    Ok(Definition::TypeDefinition(described(definition, description)))
 }
 
 /// Whether a type begins with the next item.
@@ -99,11 +87,11 @@ fn sees_type<S: TokenSource>(source: &S) -> bool
 fn sees_definition<S: TokenSource>(source: &S) -> bool
     ensures { result ≡ sees_definition (S.items source.now) }
 {
-    sees_keyword(source, "schema")
-        || sees_keyword(source, "extend")
-        || sees_description(source)
+    sees_description(source)
+        || sees_keyword(source, "schema")
         || sees_type(source)
         || sees_keyword(source, "directive")
+        || sees_keyword(source, "extend")
 }
 
 /// `SchemaDocument = SchemaItem+`, without the end after it.

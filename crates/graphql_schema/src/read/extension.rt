@@ -1,23 +1,26 @@
-//! Extensions of types.
+//! Extensions of types and of the schema.
 ghost use Rattle.std.specs.Prelude.{◌≡◌, ℕ, List, Option};
 ghost use Rattle.graphql_grammar.specs.Trees.{Sym};
 ghost use Rattle.graphql_core.specs.Source.{kept, place_of};
 ghost use Rattle.graphql_values.specs.steps.Answers.{Shortens};
 ghost use Rattle.graphql_schema_tree.specs.Grammar.{extension_symbol};
 ghost use Rattle.graphql_schema_tree.specs.Meanings.{extension_of};
-ghost use Rattle.graphql_schema_tree.specs.Tree.{BodyTree, type_definition, extension, adds};
+ghost use Rattle.graphql_schema_tree.specs.Tree.{BodyTree, type_definition, extension, adds, adds_to_schema};
 ghost use Rattle.graphql_schema_tree.specs.Views.{object_view, interface_view, type_definition_view};
 ghost use Rattle.graphql_schema_tree.specs.Views.{object_extension_view, interface_extension_view, type_extension_view};
+ghost use Rattle.graphql_schema_tree.specs.Views.{schema_extension_view, definition_view};
 ghost use Rattle.graphql_schema.specs.steps.Refusals.{ReadsNode};
 
 use crate::read::refusal::Refusal;
+use crate::read::schema::schema_extension;
 use crate::read::types::type_body;
 use graphql_core::common::Names;
-use graphql_core::helpers::{TokenSource, keyword};
+use graphql_core::helpers::{TokenSource, keyword, sees_keyword};
 use graphql_core::position::Pos;
 use graphql_schema_tree::tree::{
-    EnumTypeExtension, InputObjectTypeExtension, InterfaceType, InterfaceTypeExtension, ObjectType,
-    ObjectTypeExtension, ScalarTypeExtension, TypeDefinition, TypeExtension, UnionTypeExtension,
+    Definition, EnumTypeExtension, InputObjectTypeExtension, InterfaceType, InterfaceTypeExtension,
+    ObjectType, ObjectTypeExtension, ScalarTypeExtension, SchemaExtension, TypeDefinition,
+    TypeExtension, UnionTypeExtension,
 };
 use graphql_values::read::halt::Halt;
 use std::alloc::Global;
@@ -126,21 +129,38 @@ fn position<N: Names>(added: &TypeExtension<N>) -> Pos
     }
 }
 
-/// `Extension = "extend" TypeBody`, of one that adds something.
+/// Whether it adds something to the schema: a directive or an operation.
+fn adds_to_schema<N: Names>(added: &SchemaExtension<N>) -> bool
+    ensures { result ≡ adds_to_schema (schema_extension_view N.bytes added.now) }
+{
+    !added.directives.is_empty()
+        || added.query.is_some()
+        || added.mutation.is_some()
+        || added.subscription.is_some()
+}
+
+/// `Extension = "extend" TypeBody | "extend" SchemaExt`, of one that adds something.
 #[tactic(auto, using(graphql_values::proofs::Reading::reading))]
 pub fn extension<S: TokenSource>(
     alloc: Global,
     source: &mut S,
-) -> Result<TypeExtension<S::Names>, Halt<Refusal>>
+) -> Result<Definition<S::Names>, Halt<Refusal>>
     ensures reads { ReadsNode (Sym extension_symbol) (S.items source.old) (S.items source.new)
-        (λ v x. type_extension_view S.Names.bytes v ≡ extension (extension_of x)) result }
+        (λ v x. definition_view S.Names.bytes v ≡ extension_of x) result }
     ensures kept { kept (S.items source.new) ≡ kept (S.items source.old) }
     ensures shorter { Shortens (S.items source.old) (S.items source.new) result }
 {
     keyword(source, "extend")?;
+    if sees_keyword(source, "schema") {
+        let extension = schema_extension(alloc, source)?;
+        if !adds_to_schema(&extension) {
+            return Err(Halt::Refused(Refusal::Extension(extension.position)));
+        }
+        return Ok(Definition::SchemaExtension(extension));
+    }
     let extension = without_description(type_body(alloc, source)?);
     if !adds(&extension) {
         return Err(Halt::Refused(Refusal::Extension(position(&extension))));
     }
-    Ok(extension)
+    Ok(Definition::TypeExtension(extension))
 }

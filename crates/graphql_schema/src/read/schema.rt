@@ -1,12 +1,12 @@
-//! Which types the operations have.
+//! Which types the operations have: schemas, and extensions of them.
 ghost use Rattle.std.specs.Prelude.{◌≡◌, ◌≤◌, IfOk, OnOk, List, [], ◌∷◌, ◌++◌, length};
-ghost use Rattle.graphql_grammar.specs.Trees.{Sym, Many};
+ghost use Rattle.graphql_grammar.specs.Trees.{Sym, Many, First, optional};
 ghost use Rattle.graphql_core.specs.Source.{kept};
 ghost use Rattle.graphql_values.specs.steps.Answers.{Shortens};
-ghost use Rattle.graphql_schema_tree.specs.Grammar.{schema_symbol, root_type_symbol};
-ghost use Rattle.graphql_schema_tree.specs.Meanings.{schema_of, root_of};
-ghost use Rattle.graphql_schema_tree.specs.Roots.{roots_of};
-ghost use Rattle.graphql_schema_tree.specs.Views.{schema_view};
+ghost use Rattle.graphql_schema_tree.specs.Grammar.{schema_symbol, root_type_symbol, schema_extension_symbol, roots_symbol};
+ghost use Rattle.graphql_schema_tree.specs.Meanings.{schema_of, schema_extension_of, root_of, each_of};
+ghost use Rattle.graphql_schema_tree.specs.Roots.{roots_of, roots_in};
+ghost use Rattle.graphql_schema_tree.specs.Views.{schema_view, schema_extension_view};
 ghost use Rattle.graphql_schema.specs.steps.Reads.{Reads};
 ghost use Rattle.graphql_schema.specs.steps.Refusals.{ReadsNode};
 ghost use Rattle.graphql_schema.specs.steps.Roots.{Root, root_at, AreRoots, HasRoots, Fills};
@@ -14,7 +14,7 @@ ghost use Rattle.graphql_schema.specs.steps.Roots.{Root, root_at, AreRoots, HasR
 use crate::read::refusal::Refusal;
 use graphql_core::common::{Cause, Names};
 use graphql_core::helpers::{Mark, Stop, TokenSource, keyword, name, take_mark};
-use graphql_schema_tree::tree::SchemaDefinition;
+use graphql_schema_tree::tree::{SchemaDefinition, SchemaExtension};
 use graphql_values::read::directives;
 use graphql_values::read::halt::Halt;
 use std::alloc::{AllocError, Global};
@@ -30,6 +30,18 @@ struct Roots<N: Names> {
     subscription: Option<N::Value>,
     /// Why the first name may not stand there that may not.
     fault: Option<Cause>,
+}
+
+/// None yet.
+fn no_roots<N: Names>() -> Roots<N>
+    ensures { HasRoots N.bytes result [] }
+{
+    Roots {
+        query: None,
+        mutation: None,
+        subscription: None,
+        fault: None,
+    }
 }
 
 /// Gives an operation its type, or tells that it has one.
@@ -96,27 +108,25 @@ fn root_type<S: TokenSource>(
     Ok(())
 }
 
-/// `RootType*`
+/// `RootType*`, after those before it.
 #[tactic(auto, using(graphql_values::proofs::Reading::reading))]
-fn root_types<S: TokenSource>(alloc: Global, source: &mut S) -> Result<Roots<S::Names>, Stop>
+fn root_types<S: TokenSource>(
+    alloc: Global,
+    source: &mut S,
+    roots: &mut Roots<S::Names>,
+) -> Result<(), Stop>
     ensures reads { Reads (Many (Sym root_type_symbol)) (S.items source.old) (S.items source.new)
-        (λ v x. AreRoots S.Names.bytes v (roots_of x) (λ word. root_of word x)) result }
+        (λ v x. (rs : List Root) → HasRoots S.Names.bytes roots.old rs → HasRoots S.Names.bytes roots.new (rs ++ each_of root_at x)) result }
     ensures kept { kept (S.items source.new) ≡ kept (S.items source.old) }
     ensures within { OnOk result (length (S.items source.new).tokens ≤ length (S.items source.old).tokens) }
 {
-    let mut roots = Roots {
-        query: None,
-        mutation: None,
-        subscription: None,
-        fault: None,
-    };
     'more: while source.sees_name() {
-        root_type(alloc, source, &mut roots)?;
+        root_type(alloc, source, roots)?;
     }
-    Ok(roots)
+    Ok(())
 }
 
-/// `Schema = "schema" Directives "{" RootType* "}"`, of which each name may stand there.
+/// `Schema = "schema" Directives "{" RootType* "}"`, of which each name may stand there, without its description.
 #[tactic(auto, using(graphql_values::proofs::Reading::reading))]
 pub fn schema_definition<S: TokenSource>(
     alloc: Global,
@@ -131,16 +141,81 @@ pub fn schema_definition<S: TokenSource>(
     let mut directives = Vec::new(alloc);
     directives::directives(alloc, source, &mut directives)?;
     take_mark(source, Mark::OpenBrace)?;
+    let mut roots = no_roots::<S::Names>();
+    root_types(alloc, source, &mut roots)?;
+    take_mark(source, Mark::CloseBrace)?;
     let Roots {
         query,
         mutation,
         subscription,
         fault,
-    } = root_types(alloc, source)?;
-    take_mark(source, Mark::CloseBrace)?;
+    } = roots;
     match fault {
         Some(cause) => Err(Halt::Refused(Refusal::Schema(cause, position))),
         None => Ok(SchemaDefinition {
+            position,
+            description: None,
+            directives,
+            query,
+            mutation,
+            subscription,
+        }),
+    }
+}
+
+/// `Roots = "{" RootType+ "}"`
+#[tactic(auto, using(graphql_values::proofs::Reading::reading))]
+fn enclosed_roots<S: TokenSource>(alloc: Global, source: &mut S) -> Result<Roots<S::Names>, Stop>
+    ensures reads { Reads (Sym roots_symbol) (S.items source.old) (S.items source.new)
+        (λ v x. AreRoots S.Names.bytes v (roots_of (roots_in (First x))) (λ word. root_of word (roots_in (First x)))) result }
+    ensures kept { kept (S.items source.new) ≡ kept (S.items source.old) }
+    ensures shorter { Shortens (S.items source.old) (S.items source.new) result }
+{
+    let mut roots = no_roots::<S::Names>();
+    take_mark(source, Mark::OpenBrace)?;
+    root_type(alloc, source, &mut roots)?;
+    root_types(alloc, source, &mut roots)?;
+    take_mark(source, Mark::CloseBrace)?;
+    Ok(roots)
+}
+
+/// `Roots?`
+#[tactic(auto, using(graphql_values::proofs::Reading::reading))]
+fn optional_roots<S: TokenSource>(alloc: Global, source: &mut S) -> Result<Roots<S::Names>, Stop>
+    ensures reads { Reads (optional (Sym roots_symbol)) (S.items source.old) (S.items source.new)
+        (λ v x. AreRoots S.Names.bytes v (roots_of (roots_in x)) (λ word. root_of word (roots_in x))) result }
+    ensures kept { kept (S.items source.new) ≡ kept (S.items source.old) }
+    ensures within { OnOk result (length (S.items source.new).tokens ≤ length (S.items source.old).tokens) }
+{
+    if !source.sees_mark(Mark::OpenBrace) {
+        return Ok(no_roots::<S::Names>());
+    }
+    enclosed_roots(alloc, source)
+}
+
+/// `SchemaExt = "schema" Directives Roots?`, of which each name may stand there.
+#[tactic(auto, using(graphql_values::proofs::Reading::reading))]
+pub fn schema_extension<S: TokenSource>(
+    alloc: Global,
+    source: &mut S,
+) -> Result<SchemaExtension<S::Names>, Halt<Refusal>>
+    ensures reads { ReadsNode (Sym schema_extension_symbol) (S.items source.old) (S.items source.new)
+        (λ v x. schema_extension_view S.Names.bytes v ≡ schema_extension_of x) result }
+    ensures kept { kept (S.items source.new) ≡ kept (S.items source.old) }
+    ensures shorter { Shortens (S.items source.old) (S.items source.new) result }
+{
+    let position = keyword(source, "schema")?;
+    let mut directives = Vec::new(alloc);
+    directives::directives(alloc, source, &mut directives)?;
+    let Roots {
+        query,
+        mutation,
+        subscription,
+        fault,
+    } = optional_roots(alloc, source)?;
+    match fault {
+        Some(cause) => Err(Halt::Refused(Refusal::SchemaExtension(cause, position))),
+        None => Ok(SchemaExtension {
             position,
             directives,
             query,

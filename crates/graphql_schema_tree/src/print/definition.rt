@@ -1,64 +1,17 @@
-//! Schemas, directives, definitions and documents.
-ghost use Rattle.std.specs.Prelude.{◌≡◌, ◌^◌, ◌<◌, OnOk, option_map};
-ghost use Rattle.graphql_core.specs.Parts.{text_of};
+//! Directives, definitions and documents.
 ghost use Rattle.graphql_schema_tree.specs.Lawful.{IsLawfulDefinition, IsLawfulDocument};
-ghost use Rattle.graphql_schema_tree.specs.Layout.{root_layout, definition_layout, document_layout};
+ghost use Rattle.graphql_schema_tree.specs.Layout.{definition_layout, document_layout};
 ghost use Rattle.graphql_schema_tree.specs.Layout.{definition_levels, levels};
-ghost use Rattle.graphql_schema_tree.specs.Tree.{schema, directive};
-ghost use Rattle.graphql_schema_tree.specs.Views.{schema_view, directive_definition_view, definition_view, document_view};
+ghost use Rattle.graphql_schema_tree.specs.Tree.{directive};
+ghost use Rattle.graphql_schema_tree.specs.Views.{directive_definition_view, definition_view, document_view};
 
 use crate::print::description::{levels_in_description, write_description};
 use crate::print::field::write_arguments;
 use crate::print::names::{write_locations, write_repeatable};
-use crate::tree::{Definition, DirectiveDefinition, Document, SchemaDefinition};
+use crate::tree::{Definition, DirectiveDefinition, Document};
 use graphql_core::common::Names;
 use graphql_core::format::{Sink, Style};
-use graphql_values::print::{
-    Pretty, levels_in_directives, levels_in_each, write_directives, write_joined, write_spaces,
-};
-
-/// Appends the line of an operation, where it is there.
-fn write_root<S: Sink, N: Names>(
-    out: &mut S,
-    word: &str,
-    name: &Option<N::Value>,
-    margin: usize,
-) -> Result<(), S::Error>
-    ensures { OnOk result (S.took out.old (text_of (root_layout margin word.now (option_map N.bytes name.now))) out.new) }
-{
-    let Some(name) = name else {
-        return Ok(());
-    };
-    write_spaces(out, margin)?;
-    out.push_str(word)?;
-    out.push_str(": ")?;
-    out.push_str(N::view(name))?;
-    out.push_str("\n")
-}
-
-/// Which types the operations have.
-impl<N: Names> Pretty for SchemaDefinition<N> {
-    ghost lines = { λ style _ s. definition_layout style (schema (schema_view N.bytes s)) };
-
-    ghost opens = { λ style s. definition_levels style (schema (schema_view N.bytes s)) };
-
-    ghost lawful = { λ s. IsLawfulDefinition (schema (schema_view N.bytes s)) };
-
-    fn levels(&self, style: &Style) -> usize {
-        levels_in_directives(&self.directives, style).max(1)
-    }
-
-    fn write<S: Sink>(&self, out: &mut S, style: &Style, _margin: usize) -> Result<(), S::Error> {
-        out.push_str("schema")?;
-        write_directives(out, &self.directives, style, 0)?;
-        out.push_str(" {\n")?;
-        let inside = style.indentation() as usize;
-        write_root::<S, N>(out, "query", &self.query, inside)?;
-        write_root::<S, N>(out, "mutation", &self.mutation, inside)?;
-        write_root::<S, N>(out, "subscription", &self.subscription, inside)?;
-        out.push_str("}\n")
-    }
-}
+use graphql_values::print::{Pretty, levels_in_each, write_joined};
 
 /// A directive.
 impl<N: Names> Pretty for DirectiveDefinition<N> {
@@ -96,6 +49,7 @@ impl<N: Names> Pretty for Definition<N> {
             Definition::SchemaDefinition(schema) => schema.levels(style),
             Definition::TypeDefinition(definition) => definition.levels(style),
             Definition::TypeExtension(extension) => extension.levels(style),
+            Definition::SchemaExtension(extension) => extension.levels(style),
             Definition::DirectiveDefinition(directive) => directive.levels(style),
         }
     }
@@ -105,6 +59,7 @@ impl<N: Names> Pretty for Definition<N> {
             Definition::SchemaDefinition(schema) => schema.write(out, style, margin),
             Definition::TypeDefinition(definition) => definition.write(out, style, margin),
             Definition::TypeExtension(extension) => extension.write(out, style, margin),
+            Definition::SchemaExtension(extension) => extension.write(out, style, margin),
             Definition::DirectiveDefinition(directive) => directive.write(out, style, margin),
         }
     }

@@ -1,11 +1,11 @@
 //! Display of documents, their definitions and types: the text in the default style, unless that is too wide.
-ghost use Rattle.std.specs.Prelude.{Some, None, OnOk};
+ghost use Rattle.std.specs.Prelude.{Some, OnOk};
 ghost use Rattle.std.specs.Fmt.{DisplaysOnOk, DisplaysStyledOnOk};
 ghost use Rattle.graphql_core.specs.Style.{default_style};
 ghost use Rattle.graphql_core.specs.Parts.{text_of};
 ghost use Rattle.graphql_values.specs.ValueLayout.{IsNarrow};
-ghost use Rattle.graphql_schema_tree.specs.Layout.{layout, definition_layout, schema_layout, levels, definition_levels, schema_levels};
-ghost use Rattle.graphql_schema_tree.specs.Views.{document_view, definition_view, schema_view, type_definition_view};
+ghost use Rattle.graphql_schema_tree.specs.Layout.{layout, definition_layout, levels, definition_levels};
+ghost use Rattle.graphql_schema_tree.specs.Views.{document_view, definition_view, schema_definition_view, type_definition_view};
 ghost use Rattle.graphql_schema_tree.specs.Views.{scalar_view, object_view, interface_view, union_view, enum_view, input_view};
 
 mod parts;
@@ -22,9 +22,11 @@ use std::fmt;
 impl<N: Names> fmt::Display for Document<N> {
     ghost output = { λ t. Some (layout default_style (document_view N.bytes t)) };
 
+    ghost styled_output = { λ t spec. Some (layout default_style (document_view N.bytes t)) };
+
     fn fmt<W: fmt::Write>(&self, f: &mut fmt::Formatter<W>) -> fmt::Result
         ensures writes { DisplaysOnOk W.write_str_gives f.old result (Some (layout default_style (document_view N.bytes self.now))) f.new }
-        ensures styled { DisplaysStyledOnOk W.write_str_gives f.old result None f.new }
+        ensures styled { DisplaysStyledOnOk W.write_str_gives f.old result (Some (layout default_style (document_view N.bytes self.now))) f.new }
         ensures narrow { OnOk result (IsNarrow (levels default_style (document_view N.bytes self.now))) }
     {
         // No document is too wide in this style.
@@ -36,10 +38,13 @@ impl<N: Names> fmt::Display for Document<N> {
 impl<N: Names> fmt::Display for Definition<N> {
     ghost output = { λ t. Some (text_of (definition_layout default_style (definition_view N.bytes t))) };
 
+    ghost styled_output = { λ t spec. Some (text_of (definition_layout default_style (definition_view N.bytes t))) };
+
     fn fmt<W: fmt::Write>(&self, f: &mut fmt::Formatter<W>) -> fmt::Result
         ensures writes { DisplaysOnOk W.write_str_gives f.old result
             (Some (text_of (definition_layout default_style (definition_view N.bytes self.now)))) f.new }
-        ensures styled { DisplaysStyledOnOk W.write_str_gives f.old result None f.new }
+        ensures styled { DisplaysStyledOnOk W.write_str_gives f.old result
+            (Some (text_of (definition_layout default_style (definition_view N.bytes self.now)))) f.new }
         ensures narrow { OnOk result (IsNarrow (definition_levels default_style (definition_view N.bytes self.now))) }
     {
         fmt_in_default_style(self, f)
@@ -47,12 +52,16 @@ impl<N: Names> fmt::Display for Definition<N> {
 }
 
 impl<N: Names> fmt::Display for SchemaDefinition<N> {
-    ghost output = { λ t. Some (text_of (schema_layout default_style (schema_view N.bytes t))) };
+    ghost output = { λ t. Some (text_of (definition_layout default_style (schema_definition_view N.bytes t))) };
+
+    ghost styled_output = { λ t spec. Some (text_of (definition_layout default_style (schema_definition_view N.bytes t))) };
 
     fn fmt<W: fmt::Write>(&self, f: &mut fmt::Formatter<W>) -> fmt::Result
-        ensures writes { DisplaysOnOk W.write_str_gives f.old result (Some (text_of (schema_layout default_style (schema_view N.bytes self.now)))) f.new }
-        ensures styled { DisplaysStyledOnOk W.write_str_gives f.old result None f.new }
-        ensures narrow { OnOk result (IsNarrow (schema_levels default_style (schema_view N.bytes self.now))) }
+        ensures writes { DisplaysOnOk W.write_str_gives f.old result
+            (Some (text_of (definition_layout default_style (schema_definition_view N.bytes self.now)))) f.new }
+        ensures styled { DisplaysStyledOnOk W.write_str_gives f.old result
+            (Some (text_of (definition_layout default_style (schema_definition_view N.bytes self.now)))) f.new }
+        ensures narrow { OnOk result (IsNarrow (definition_levels default_style (schema_definition_view N.bytes self.now))) }
     {
         fmt_in_default_style(self, f)
     }
@@ -61,10 +70,13 @@ impl<N: Names> fmt::Display for SchemaDefinition<N> {
 impl<N: Names> fmt::Display for TypeDefinition<N> {
     ghost output = { λ t. Some (text_of (definition_layout default_style (type_definition_view N.bytes t))) };
 
+    ghost styled_output = { λ t spec. Some (text_of (definition_layout default_style (type_definition_view N.bytes t))) };
+
     fn fmt<W: fmt::Write>(&self, f: &mut fmt::Formatter<W>) -> fmt::Result
         ensures writes { DisplaysOnOk W.write_str_gives f.old result
             (Some (text_of (definition_layout default_style (type_definition_view N.bytes self.now)))) f.new }
-        ensures styled { DisplaysStyledOnOk W.write_str_gives f.old result None f.new }
+        ensures styled { DisplaysStyledOnOk W.write_str_gives f.old result
+            (Some (text_of (definition_layout default_style (type_definition_view N.bytes self.now)))) f.new }
         ensures narrow { OnOk result (IsNarrow (definition_levels default_style (type_definition_view N.bytes self.now))) }
     {
         fmt_in_default_style(self, f)
@@ -74,9 +86,12 @@ impl<N: Names> fmt::Display for TypeDefinition<N> {
 impl<N: Names> fmt::Display for ScalarType<N> {
     ghost output = { λ t. Some (text_of (definition_layout default_style (scalar_view N.bytes t))) };
 
+    ghost styled_output = { λ t spec. Some (text_of (definition_layout default_style (scalar_view N.bytes t))) };
+
     fn fmt<W: fmt::Write>(&self, f: &mut fmt::Formatter<W>) -> fmt::Result
         ensures writes { DisplaysOnOk W.write_str_gives f.old result (Some (text_of (definition_layout default_style (scalar_view N.bytes self.now)))) f.new }
-        ensures styled { DisplaysStyledOnOk W.write_str_gives f.old result None f.new }
+        ensures styled { DisplaysStyledOnOk W.write_str_gives f.old result
+            (Some (text_of (definition_layout default_style (scalar_view N.bytes self.now)))) f.new }
         ensures narrow { OnOk result (IsNarrow (definition_levels default_style (scalar_view N.bytes self.now))) }
     {
         fmt_in_default_style(self, f)
@@ -86,9 +101,12 @@ impl<N: Names> fmt::Display for ScalarType<N> {
 impl<N: Names> fmt::Display for ObjectType<N> {
     ghost output = { λ t. Some (text_of (definition_layout default_style (object_view N.bytes t))) };
 
+    ghost styled_output = { λ t spec. Some (text_of (definition_layout default_style (object_view N.bytes t))) };
+
     fn fmt<W: fmt::Write>(&self, f: &mut fmt::Formatter<W>) -> fmt::Result
         ensures writes { DisplaysOnOk W.write_str_gives f.old result (Some (text_of (definition_layout default_style (object_view N.bytes self.now)))) f.new }
-        ensures styled { DisplaysStyledOnOk W.write_str_gives f.old result None f.new }
+        ensures styled { DisplaysStyledOnOk W.write_str_gives f.old result
+            (Some (text_of (definition_layout default_style (object_view N.bytes self.now)))) f.new }
         ensures narrow { OnOk result (IsNarrow (definition_levels default_style (object_view N.bytes self.now))) }
     {
         fmt_in_default_style(self, f)
@@ -98,10 +116,13 @@ impl<N: Names> fmt::Display for ObjectType<N> {
 impl<N: Names> fmt::Display for InterfaceType<N> {
     ghost output = { λ t. Some (text_of (definition_layout default_style (interface_view N.bytes t))) };
 
+    ghost styled_output = { λ t spec. Some (text_of (definition_layout default_style (interface_view N.bytes t))) };
+
     fn fmt<W: fmt::Write>(&self, f: &mut fmt::Formatter<W>) -> fmt::Result
         ensures writes { DisplaysOnOk W.write_str_gives f.old result
             (Some (text_of (definition_layout default_style (interface_view N.bytes self.now)))) f.new }
-        ensures styled { DisplaysStyledOnOk W.write_str_gives f.old result None f.new }
+        ensures styled { DisplaysStyledOnOk W.write_str_gives f.old result
+            (Some (text_of (definition_layout default_style (interface_view N.bytes self.now)))) f.new }
         ensures narrow { OnOk result (IsNarrow (definition_levels default_style (interface_view N.bytes self.now))) }
     {
         fmt_in_default_style(self, f)
@@ -111,9 +132,12 @@ impl<N: Names> fmt::Display for InterfaceType<N> {
 impl<N: Names> fmt::Display for UnionType<N> {
     ghost output = { λ t. Some (text_of (definition_layout default_style (union_view N.bytes t))) };
 
+    ghost styled_output = { λ t spec. Some (text_of (definition_layout default_style (union_view N.bytes t))) };
+
     fn fmt<W: fmt::Write>(&self, f: &mut fmt::Formatter<W>) -> fmt::Result
         ensures writes { DisplaysOnOk W.write_str_gives f.old result (Some (text_of (definition_layout default_style (union_view N.bytes self.now)))) f.new }
-        ensures styled { DisplaysStyledOnOk W.write_str_gives f.old result None f.new }
+        ensures styled { DisplaysStyledOnOk W.write_str_gives f.old result
+            (Some (text_of (definition_layout default_style (union_view N.bytes self.now)))) f.new }
         ensures narrow { OnOk result (IsNarrow (definition_levels default_style (union_view N.bytes self.now))) }
     {
         fmt_in_default_style(self, f)
@@ -123,9 +147,12 @@ impl<N: Names> fmt::Display for UnionType<N> {
 impl<N: Names> fmt::Display for EnumType<N> {
     ghost output = { λ t. Some (text_of (definition_layout default_style (enum_view N.bytes t))) };
 
+    ghost styled_output = { λ t spec. Some (text_of (definition_layout default_style (enum_view N.bytes t))) };
+
     fn fmt<W: fmt::Write>(&self, f: &mut fmt::Formatter<W>) -> fmt::Result
         ensures writes { DisplaysOnOk W.write_str_gives f.old result (Some (text_of (definition_layout default_style (enum_view N.bytes self.now)))) f.new }
-        ensures styled { DisplaysStyledOnOk W.write_str_gives f.old result None f.new }
+        ensures styled { DisplaysStyledOnOk W.write_str_gives f.old result
+            (Some (text_of (definition_layout default_style (enum_view N.bytes self.now)))) f.new }
         ensures narrow { OnOk result (IsNarrow (definition_levels default_style (enum_view N.bytes self.now))) }
     {
         fmt_in_default_style(self, f)
@@ -135,9 +162,12 @@ impl<N: Names> fmt::Display for EnumType<N> {
 impl<N: Names> fmt::Display for InputObjectType<N> {
     ghost output = { λ t. Some (text_of (definition_layout default_style (input_view N.bytes t))) };
 
+    ghost styled_output = { λ t spec. Some (text_of (definition_layout default_style (input_view N.bytes t))) };
+
     fn fmt<W: fmt::Write>(&self, f: &mut fmt::Formatter<W>) -> fmt::Result
         ensures writes { DisplaysOnOk W.write_str_gives f.old result (Some (text_of (definition_layout default_style (input_view N.bytes self.now)))) f.new }
-        ensures styled { DisplaysStyledOnOk W.write_str_gives f.old result None f.new }
+        ensures styled { DisplaysStyledOnOk W.write_str_gives f.old result
+            (Some (text_of (definition_layout default_style (input_view N.bytes self.now)))) f.new }
         ensures narrow { OnOk result (IsNarrow (definition_levels default_style (input_view N.bytes self.now))) }
     {
         fmt_in_default_style(self, f)

@@ -1,17 +1,17 @@
 //! Trees that have a name alone, and trees that are empty.
 ghost use Rattle.std.specs.Prelude.{◌≡◌, [], ◌∷◌, None};
 ghost use Rattle.graphql_schema_tree.specs.Tree.{object, interface, union, enum, input, scalar, bare, bare_enum_value, bare_directive, empty_schema};
-ghost use Rattle.graphql_schema_tree.specs.Tree.{type_definition, extension};
+ghost use Rattle.graphql_schema_tree.specs.Tree.{schema, type_definition, extension};
 ghost use Rattle.graphql_schema_tree.specs.Views.{scalar_view, object_view, interface_view, union_view, enum_view, input_view};
 ghost use Rattle.graphql_schema_tree.specs.Views.{scalar_extension_view, object_extension_view, interface_extension_view, union_extension_view};
-ghost use Rattle.graphql_schema_tree.specs.Views.{enum_extension_view, input_extension_view, enum_value_view, directive_definition_view, schema_view};
-ghost use Rattle.graphql_schema_tree.specs.Views.{document_view};
+ghost use Rattle.graphql_schema_tree.specs.Views.{enum_extension_view, input_extension_view, enum_value_view, directive_definition_view};
+ghost use Rattle.graphql_schema_tree.specs.Views.{schema_definition_view, schema_extension_view, document_view};
 
 use crate::tree::{
     DirectiveDefinition, Document, EnumType, EnumTypeExtension, EnumValue, InputObjectType,
     InputObjectTypeExtension, InterfaceType, InterfaceTypeExtension, ObjectType,
-    ObjectTypeExtension, ScalarType, ScalarTypeExtension, SchemaDefinition, UnionType,
-    UnionTypeExtension,
+    ObjectTypeExtension, ScalarType, ScalarTypeExtension, SchemaDefinition, SchemaExtension,
+    UnionType, UnionTypeExtension,
 };
 use graphql_core::common::Names;
 use graphql_core::position::Pos;
@@ -226,9 +226,25 @@ impl<N: Names> DirectiveDefinition<N> {
 impl<N: Names> SchemaDefinition<N> {
     /// A schema that names no operation.
     pub fn empty(alloc: Global) -> SchemaDefinition<N>
-        ensures { schema_view N.bytes result ≡ empty_schema }
+        ensures { schema_definition_view N.bytes result ≡ schema None empty_schema }
     {
         SchemaDefinition {
+            position: Pos::default(),
+            description: None,
+            directives: Vec::new(alloc),
+            query: None,
+            mutation: None,
+            subscription: None,
+        }
+    }
+}
+
+impl<N: Names> SchemaExtension<N> {
+    /// An extension of the schema that has nothing: it extends nothing, so its text is not read back.
+    pub fn empty(alloc: Global) -> SchemaExtension<N>
+        ensures { schema_extension_view N.bytes result ≡ empty_schema }
+    {
+        SchemaExtension {
             position: Pos::default(),
             directives: Vec::new(alloc),
             query: None,

@@ -1,4 +1,4 @@
-//! Extensions of types.
+//! Extensions of types, and of the schema.
 use crate::tree::parts::{EnumValue, Field, InputValue};
 use graphql_core::common::Names;
 use graphql_core::position::Pos;
@@ -88,4 +88,20 @@ pub struct InputObjectTypeExtension<N: Names> {
     pub directives: Vec<Directive<N>>,
     /// The fields in order.
     pub fields: Vec<InputValue<N>>,
+}
+
+/// An extension of the schema (October 2021, section 3.3.2): it has a directive or an operation.
+#[derive_where(Debug, Clone, PartialEq)]
+#[derive(Drop)]
+pub struct SchemaExtension<N: Names> {
+    /// The position of the keyword after `extend`.
+    pub position: Pos,
+    /// The directives in order.
+    pub directives: Vec<Directive<N>>,
+    /// The type of queries.
+    pub query: Option<N::Value>,
+    /// The type of mutations.
+    pub mutation: Option<N::Value>,
+    /// The type of subscriptions.
+    pub subscription: Option<N::Value>,
 }

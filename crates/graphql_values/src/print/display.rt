@@ -1,5 +1,5 @@
 //! Values, types and directives as texts in the default style.
-ghost use Rattle.std.specs.Prelude.{Some, None, OnOk};
+ghost use Rattle.std.specs.Prelude.{Some, OnOk};
 ghost use Rattle.std.specs.Fmt.{DisplaysOnOk, DisplaysStyledOnOk};
 ghost use Rattle.graphql_core.specs.Parts.{text_of};
 ghost use Rattle.graphql_core.specs.Style.{default_style};
@@ -19,9 +19,11 @@ use std::fmt;
 impl<N: Names> fmt::Display for Value<N> {
     ghost output = { λ v. Some (text_of (value_layout default_style 0 (value_view N.bytes v))) };
 
+    ghost styled_output = { λ v spec. Some (text_of (value_layout default_style 0 (value_view N.bytes v))) };
+
     fn fmt<W: fmt::Write>(&self, f: &mut fmt::Formatter<W>) -> fmt::Result
         ensures writes { DisplaysOnOk W.write_str_gives f.old result (Some (text_of (value_layout default_style 0 (value_view N.bytes self.now)))) f.new }
-        ensures styled { DisplaysStyledOnOk W.write_str_gives f.old result None f.new }
+        ensures styled { DisplaysStyledOnOk W.write_str_gives f.old result (Some (text_of (value_layout default_style 0 (value_view N.bytes self.now)))) f.new }
         ensures narrow { OnOk result (IsNarrow (value_levels default_style (value_view N.bytes self.now))) }
     {
         let style = Style::default();
@@ -34,6 +36,8 @@ impl<N: Names> fmt::Display for Value<N> {
 impl<N: Names> fmt::Display for Type<N> {
     ghost output = { λ t. Some (text_of (type_layout (type_view N.bytes t))) };
 
+    ghost styled_output = { λ t spec. Some (text_of (type_layout (type_view N.bytes t))) };
+
     fn fmt<W: fmt::Write>(&self, f: &mut fmt::Formatter<W>) -> fmt::Result {
         write_type(f, self)
     }
@@ -43,10 +47,13 @@ impl<N: Names> fmt::Display for Type<N> {
 impl<N: Names> fmt::Display for Directive<N> {
     ghost output = { λ d. Some (text_of (directive_layout default_style 0 (directive_view N.bytes d))) };
 
+    ghost styled_output = { λ d spec. Some (text_of (directive_layout default_style 0 (directive_view N.bytes d))) };
+
     fn fmt<W: fmt::Write>(&self, f: &mut fmt::Formatter<W>) -> fmt::Result
         ensures writes { DisplaysOnOk W.write_str_gives f.old result (Some (text_of (directive_layout default_style 0 (directive_view N.bytes self.now))))
             f.new }
-        ensures styled { DisplaysStyledOnOk W.write_str_gives f.old result None f.new }
+        ensures styled { DisplaysStyledOnOk W.write_str_gives f.old result
+            (Some (text_of (directive_layout default_style 0 (directive_view N.bytes self.now)))) f.new }
         ensures narrow { OnOk result (IsNarrow (arguments_levels default_style (directive_view N.bytes self.now).arguments)) }
     {
         let style = Style::default();

@@ -40,7 +40,7 @@ pub fn fmt_in_default_style<P: Pretty, W: fmt::Write>(
     f: &mut fmt::Formatter<W>,
 ) -> fmt::Result
     ensures writes { DisplaysOnOk W.write_str_gives f.old result (Some (text_of (P.lines default_style 0 part.now))) f.new }
-    ensures styled { DisplaysStyledOnOk W.write_str_gives f.old result None f.new }
+    ensures styled { DisplaysStyledOnOk W.write_str_gives f.old result (Some (text_of (P.lines default_style 0 part.now))) f.new }
     ensures narrow { OnOk result (IsNarrow (P.opens default_style part.now)) }
 {
     let style = Style::default();

@@ -1,5 +1,6 @@
 //! Strings in quotes.
 ghost use Rattle.std.specs.Prelude.{◌≡◌, ◌<◌, ◌≤◌, false, length, OnOk};
+ghost use Rattle.std.specs.Char.{encode_utf8};
 ghost use Rattle.std.specs.List.{prefix_len};
 ghost use Rattle.std.specs.Str.{IsCharBoundary};
 ghost use Rattle.graphql_values.specs.ValueLayout as spec;
@@ -41,6 +42,14 @@ fn hexadecimal_digit(value: u8) -> char
     b"0123456789ABCDEF"[value as usize] as char
 }
 
+/// Appends a character.
+fn write_character<S: Sink>(out: &mut S, character: char) -> Result<(), S::Error>
+    ensures { OnOk result (S.took out.old (encode_utf8 character) out.new) }
+{
+    let mut bytes = [0; 4];
+    out.push_str(character.encode_utf8(&mut bytes))
+}
+
 /// Appends the escape of a control character, by the four digits of its code.
 fn write_control<S: Sink>(out: &mut S, control: u8) -> Result<(), S::Error>
     requires { control < 32 }
@@ -48,10 +57,10 @@ fn write_control<S: Sink>(out: &mut S, control: u8) -> Result<(), S::Error>
 {
     if control < 16 {
         out.push_str("\\u000")?;
-        out.push_display(hexadecimal_digit(control))
+        write_character(out, hexadecimal_digit(control))
     } else {
         out.push_str("\\u001")?;
-        out.push_display(hexadecimal_digit(control - 16))
+        write_character(out, hexadecimal_digit(control - 16))
     }
 }
 

@@ -7,6 +7,7 @@ ghost use Rattle.graphql_values.specs.ValueViews.{value_view, items_view, member
 ghost use Rattle.graphql_values.specs.ValueLayout.{value_layout, value_levels};
 
 use crate::print::enclosed::{inside, write_before_part, write_closer, write_label};
+use crate::print::integers::write_integer;
 use crate::print::strings::write_string;
 use crate::tree::Value;
 use graphql_core::common::Names;
@@ -30,7 +31,7 @@ pub fn write_value<S: Sink, N: Names>(
             out.push_str("$")?;
             out.push_str(N::view(name))
         }
-        Value::Int(number) => out.push_display(number.as_i64().unwrap()),
+        Value::Int(number) => write_integer(out, number.as_i64().unwrap()),
         Value::Float(literal) => out.push_str(literal.as_str()),
         Value::String(text) => write_string(out, text.as_str(), style, margin),
         Value::Boolean(answer) => out.push_str(if *answer { "true" } else { "false" }),

@@ -5,10 +5,10 @@ use Rattle.graphql_values.specs.Faults.{IsRefusalOf, past_bound}
 use Rattle.graphql_values.proofs.Whole.{from_stream, exit, refusal, answers_unless_memory}
 use Rattle.graphql_values.proofs.Faults.{one_each}
 use Rattle.graphql_query.specs.FirstDefinition.{one_definition, BeginsWith}
-use Rattle.graphql_query.proofs.FirstDefinition.{readable_one}
+use Rattle.graphql_query.proofs.FirstDefinition.{readable_one, none_begins_another}
 use Rattle.graphql_query.proofs.Consuming.{found, one_first}
 use Rattle.graphql_query.proofs.Earlier.{earlier_definition}
-use Rattle.graphql_query.proofs.OtherRest.{other_rest, shorter}
+use Rattle.graphql_query.proofs.OtherRest.{other_rest, other_tokens, shorter}
 use Rattle.graphql_query.proofs.OtherDefinitions.{other_definitions}
 use Rattle.graphql_query.proofs.consume.consume_definition.Goals as goal
 
@@ -90,6 +90,24 @@ returns-in_err-definition-clause-other_rest g c = other_rest c.args.source.now
 
 pub returns-clause-other_rest : goal.returns-clause-other_rest
 returns-clause-other_rest g c = other_rest c.args.source.now
+
+pub returns-then-source-gt-MAX_LENGTH-clause-other_tokens : goal.returns-then-source-gt-MAX_LENGTH-clause-other_tokens
+returns-then-source-gt-MAX_LENGTH-clause-other_tokens g c = other_tokens c.args.source.now
+
+pub returns-in_err-definition-clause-other_tokens : goal.returns-in_err-definition-clause-other_tokens
+returns-in_err-definition-clause-other_tokens g c = other_tokens c.args.source.now
+
+pub returns-clause-other_tokens : goal.returns-clause-other_tokens
+returns-clause-other_tokens g c = other_tokens c.args.source.now
+
+pub returns-then-source-gt-MAX_LENGTH-clause-one_beginning : goal.returns-then-source-gt-MAX_LENGTH-clause-one_beginning
+returns-then-source-gt-MAX_LENGTH-clause-one_beginning g c = none_begins_another
+
+pub returns-in_err-definition-clause-one_beginning : goal.returns-in_err-definition-clause-one_beginning
+returns-in_err-definition-clause-one_beginning g c = none_begins_another
+
+pub returns-clause-one_beginning : goal.returns-clause-one_beginning
+returns-clause-one_beginning g c = none_begins_another
 
 pub returns-then-source-gt-MAX_LENGTH-clause-others : goal.returns-then-source-gt-MAX_LENGTH-clause-others
 returns-then-source-gt-MAX_LENGTH-clause-others g c = other_definitions c.args.source.now

@@ -1,4 +1,4 @@
-use Rattle.std.proofs.Common.{ℕ, List, ap, arith}
+use Rattle.std.proofs.Common.{arith}
 use Rattle.graphql_lexer.specs.Items.{start}
 use Rattle.graphql_lexer.specs.steps.Cut.{items}
 use Rattle.graphql_lexer.proofs.OneCut.{has_items}
@@ -6,7 +6,9 @@ use Rattle.graphql_core.specs.Source.{split}
 use Rattle.graphql_values.proofs.Parsing.{unread, parsed, unparsed}
 use Rattle.graphql_values.proofs.Whole.{cut_first, text_document}
 use Rattle.graphql_schema_tree.specs.Language.{schemas}
+use Rattle.graphql_schema_tree.specs.Views.{document_view}
 use Rattle.graphql_schema_tree.proofs.Readable.{readable}
+use Rattle.graphql_schema.proofs.Earlier.{earlier_document}
 use Rattle.graphql_schema.proofs.Printable.{printable}
 use Rattle.graphql_schema.proofs.document.parse_schema.Goals as goal
 
@@ -19,11 +21,27 @@ returns-in_err-read_text-clause-parses g c =
     unparsed schemas readable _ text (split (items start text)) (cut_first text) (omega arith) _ _
     (c.in_err-read_text.ensures _ (has_items text)) c.from_residual.ensures.1
 
+pub returns-in_err-read_text-clause-earlier : goal.returns-in_err-read_text-clause-earlier
+returns-in_err-read_text-clause-earlier g c d bound h =
+    let text = c.args.source.now in
+    let (none, is) = earlier_document text d h in
+    let parses = unparsed schemas readable (document_view g.S.Names.bytes) text (split (items start text)) (cut_first text) (omega arith) _ _
+    (c.in_err-read_text.ensures _ (has_items text)) c.from_residual.ensures.1 in
+    (none, parses.complete d bound is)
+
 pub returns-clause-parses : goal.returns-clause-parses
 returns-clause-parses g c =
     let text = c.args.source.now in
     parsed schemas readable _ text (split (items start text)) (cut_first text) (omega arith) _
     (c.in_ok-read_text.ensures _ (has_items text))
+
+pub returns-clause-earlier : goal.returns-clause-earlier
+returns-clause-earlier g c d bound h =
+    let text = c.args.source.now in
+    let (none, is) = earlier_document text d h in
+    let parses = parsed schemas readable (document_view g.S.Names.bytes) text (split (items start text)) (cut_first text) (omega arith) _
+    (c.in_ok-read_text.ensures _ (has_items text)) in
+    (none, parses.complete d bound is)
 
 pub returns-clause-printable : goal.returns-clause-printable
 returns-clause-printable g c =

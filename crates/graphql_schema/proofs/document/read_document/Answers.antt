@@ -15,6 +15,11 @@ returns-in-Err-Refused-Schema-clause-reads g c =
     let e = c.in-Err-Refused-Schema in
     read_refused schemas readable refusals _ _ _ _ _ _ _ (rw e.field-0-is at e.ensures.reads) (rw e.field-0-0-is refl)
 
+pub returns-in-Err-Refused-SchemaExtension-clause-reads : goal.returns-in-Err-Refused-SchemaExtension-clause-reads
+returns-in-Err-Refused-SchemaExtension-clause-reads g c =
+    let e = c.in-Err-Refused-SchemaExtension in
+    read_refused schemas readable refusals _ _ _ _ _ _ _ (rw e.field-0-is at e.ensures.reads) (rw e.field-0-0-is refl)
+
 pub returns-in-Err-Refused-Extension-clause-reads : goal.returns-in-Err-Refused-Extension-clause-reads
 returns-in-Err-Refused-Extension-clause-reads g c =
     let e = c.in-Err-Refused-Extension in

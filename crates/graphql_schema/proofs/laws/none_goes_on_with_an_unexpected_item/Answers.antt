@@ -1,14 +1,15 @@
-use Rattle.std.proofs.Common.{◌≡◌, Bool, true, false, ◌==◌, [], ◌∷◌, Option, Some, None, refl, sym, ap, ◌∙◌}
+use Rattle.std.proofs.Common.{◌≡◌, Bool, true, false, ◌==◌, [], ◌∷◌, Option, Some, None, refl, ap, ◌∙◌}
 use Rattle.std.specs.Prelude.{if◌then◌else◌, option_map}
 use Rattle.graphql_grammar.specs.Tokens.{Token, Class, AnyOf, Spelled, Except}
 use Rattle.graphql_grammar.specs.Trees.{Shape, Nothing, Leaf, Both, First, Second, Stop, More, Node}
 use Rattle.graphql_core.specs.Causes.{CauseText, is_unexpected, empty_extension}
 use Rattle.graphql_core.specs.Source.{FaultText}
 use Rattle.graphql_values.proofs.Faults.{none_goes_on, valueless_not}
-use Rattle.graphql_schema_tree.specs.Grammar.{schema_symbol}
-use Rattle.graphql_schema_tree.specs.Language.{schemas}
-use Rattle.graphql_schema_tree.specs.Meanings.{schema_of, extension_of}
-use Rattle.graphql_schema_tree.specs.Roots.{RootFault, unknown, duplicate, root_fault_of, root_cause}
+use Rattle.graphql_schema_tree.specs.Tree.{SchemaTree}
+use Rattle.graphql_schema_tree.specs.Grammar.{schema_symbol, schema_extension_symbol}
+use Rattle.graphql_schema_tree.specs.Language.{schemas, said_at, keyword_of}
+use Rattle.graphql_schema_tree.specs.Meanings.{schema_of, schema_extension_of, extension_of}
+use Rattle.graphql_schema_tree.specs.Roots.{RootFault, unknown, duplicate, root_fault_of, extension_fault_of, root_cause}
 use Rattle.graphql_schema_tree.proofs.Readable.{readable}
 use Rattle.graphql_schema.proofs.laws.none_goes_on_with_an_unexpected_item.Goals as goal
 
@@ -22,17 +23,26 @@ root_not : (r : RootFault) → is_unexpected (root_cause r) ≡ false
 root_not (unknown n) = refl
 root_not (duplicate n) = refl
 
--- what is said of a schema, or else of an extension
-said_not : (b : Bool) (o : Option RootFault) (at : RootFault → FaultText) (g f : FaultText) → ((r : RootFault) → is_unexpected (at r).cause ≡ false)
-    → is_unexpected g.cause ≡ false → (if b then option_map at o else Some g) ≡ Some f → is_unexpected f.cause ≡ false
-said_not true None at g f roots other h = absurd cc
-said_not true (Some r) at g f roots other h = let same : f ≡ at r = cc in ap (λ (x : FaultText). is_unexpected x.cause) same ∙ roots r
-said_not false o at g f roots other h = let same : f ≡ g = cc in ap (λ (x : FaultText). is_unexpected x.cause) same ∙ other
+-- what is said of a bad name in braces
+braces_not : (o : Option RootFault) (s : SchemaTree) (f : FaultText) → option_map (said_at s) o ≡ Some f → is_unexpected f.cause ≡ false
+braces_not None s f h = absurd cc
+braces_not (Some r) s f h = let same : f ≡ said_at s r = cc in ap (λ (x : FaultText). is_unexpected x.cause) same ∙ root_not r
+
+-- one or the other is said
+either_not : (b : Bool) (o p : Option FaultText) (f : FaultText) → (o ≡ Some f → is_unexpected f.cause ≡ false) → (p ≡ Some f → is_unexpected f.cause ≡ false)
+    → (if b then o else p) ≡ Some f → is_unexpected f.cause ≡ false
+either_not true o p f one other h = one h
+either_not false o p f one other h = other h
+
+empty_not : (g f : FaultText) → is_unexpected g.cause ≡ false → Some g ≡ Some f → is_unexpected f.cause ≡ false
+empty_not g f other h = let same : f ≡ g = cc in ap (λ (x : FaultText). is_unexpected x.cause) same ∙ other
 
 nodes_not : (node : Shape) (f : FaultText) → schemas.refuses node f → is_unexpected f.cause ≡ false
 nodes_not (Node k x) f h =
-    said_not (k == schema_symbol) (root_fault_of x) (λ r. record { cause = root_cause r; place = (schema_of (Node k x)).position })
-    (record { cause = empty_extension; place = (extension_of (Node k x)).position }) f root_not refl h
+    either_not (k == schema_symbol) (option_map (said_at (schema_of (Node k x))) (root_fault_of x)) _ f (braces_not _ (schema_of (Node k x)) f)
+    (either_not (k == schema_extension_symbol) (option_map (said_at (schema_extension_of (Node k x))) (extension_fault_of x))
+    (Some (record { cause = empty_extension; place = keyword_of (extension_of (Node k x)) })) f
+    (braces_not _ (schema_extension_of (Node k x)) f) (empty_not _ f refl)) h
 nodes_not Nothing f h = absurd cc
 nodes_not (Leaf t) f h = absurd cc
 nodes_not (Both x y) f h = absurd cc

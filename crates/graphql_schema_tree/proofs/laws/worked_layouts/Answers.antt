@@ -2,7 +2,7 @@ use Rattle.std.proofs.Common.{refl, arith}
 use Rattle.std.specs.Fmt.{digits}
 use Rattle.std.specs.Str.{chars}
 use Rattle.graphql_core.specs.BlockStrings.{common_indent}
-use Rattle.graphql_lexer.specs.steps.Numbers.{is_after_dot, is_after_integer, is_unsigned, is_float, number}
+use Rattle.graphql_lexer.specs.steps.Numbers.{number}
 use Rattle.graphql_lexer.specs.steps.Quoted.{string_end, block_end, quoted}
 use Rattle.graphql_lexer.specs.steps.Front.{front, comment, token_of}
 use Rattle.graphql_lexer.specs.steps.Cut.{items_in, items}
@@ -22,6 +22,10 @@ returns c = record {
   union_layout = (_, computed _ refl refl tt, refl);
   schema_layout = (_, computed _ refl refl tt, refl);
   empty_schema_layout = (_, computed _ refl refl tt, refl);
+  described_schema_layout = (_, computed _ refl refl tt, refl);
+  schema_extension_layout = (_, computed _ refl refl tt, refl);
+  directives_alone = (_, computed _ refl refl tt, refl);
+  empty_schema_extension_layout = refl;
   empty_schema_fits = λ h. omega (arith, h);
   input_layout = (_, computed _ refl refl tt, refl);
   extension_layout = (_, computed _ refl refl tt, refl);

@@ -1,20 +1,20 @@
 //! Display of extensions, directives and parts of types: the text in the default style, unless that is too wide.
-ghost use Rattle.std.specs.Prelude.{Some, None, OnOk};
+ghost use Rattle.std.specs.Prelude.{Some, OnOk};
 ghost use Rattle.std.specs.Fmt.{DisplaysOnOk, DisplaysStyledOnOk};
 ghost use Rattle.graphql_core.specs.Style.{default_style};
 ghost use Rattle.graphql_core.specs.Parts.{text_of};
 ghost use Rattle.graphql_values.specs.ValueLayout.{IsNarrow};
 ghost use Rattle.graphql_schema_tree.specs.Layout.{definition_layout, field_layout, input_value_layout};
 ghost use Rattle.graphql_schema_tree.specs.Layout.{definition_levels, field_levels, input_value_levels};
-ghost use Rattle.graphql_schema_tree.specs.Tree.{directive};
+ghost use Rattle.graphql_schema_tree.specs.Tree.{schema_extension, directive};
 ghost use Rattle.graphql_schema_tree.specs.Views.{field_view, input_value_view, directive_definition_view, type_extension_view};
 ghost use Rattle.graphql_schema_tree.specs.Views.{scalar_extension_view, object_extension_view, interface_extension_view, union_extension_view};
-ghost use Rattle.graphql_schema_tree.specs.Views.{enum_extension_view, input_extension_view};
+ghost use Rattle.graphql_schema_tree.specs.Views.{enum_extension_view, input_extension_view, schema_extension_view};
 
 use crate::tree::{
     DirectiveDefinition, EnumTypeExtension, Field, InputObjectTypeExtension, InputValue,
-    InterfaceTypeExtension, ObjectTypeExtension, ScalarTypeExtension, TypeExtension,
-    UnionTypeExtension,
+    InterfaceTypeExtension, ObjectTypeExtension, ScalarTypeExtension, SchemaExtension,
+    TypeExtension, UnionTypeExtension,
 };
 use graphql_core::common::Names;
 use graphql_values::print::fmt_in_default_style;
@@ -23,9 +23,11 @@ use std::fmt;
 impl<N: Names> fmt::Display for Field<N> {
     ghost output = { λ t. Some (text_of (field_layout default_style 0 (field_view N.bytes t))) };
 
+    ghost styled_output = { λ t spec. Some (text_of (field_layout default_style 0 (field_view N.bytes t))) };
+
     fn fmt<W: fmt::Write>(&self, f: &mut fmt::Formatter<W>) -> fmt::Result
         ensures writes { DisplaysOnOk W.write_str_gives f.old result (Some (text_of (field_layout default_style 0 (field_view N.bytes self.now)))) f.new }
-        ensures styled { DisplaysStyledOnOk W.write_str_gives f.old result None f.new }
+        ensures styled { DisplaysStyledOnOk W.write_str_gives f.old result (Some (text_of (field_layout default_style 0 (field_view N.bytes self.now)))) f.new }
         ensures narrow { OnOk result (IsNarrow (field_levels default_style (field_view N.bytes self.now))) }
     {
         fmt_in_default_style(self, f)
@@ -35,10 +37,13 @@ impl<N: Names> fmt::Display for Field<N> {
 impl<N: Names> fmt::Display for InputValue<N> {
     ghost output = { λ t. Some (text_of (input_value_layout default_style 0 (input_value_view N.bytes t))) };
 
+    ghost styled_output = { λ t spec. Some (text_of (input_value_layout default_style 0 (input_value_view N.bytes t))) };
+
     fn fmt<W: fmt::Write>(&self, f: &mut fmt::Formatter<W>) -> fmt::Result
         ensures writes { DisplaysOnOk W.write_str_gives f.old result
             (Some (text_of (input_value_layout default_style 0 (input_value_view N.bytes self.now)))) f.new }
-        ensures styled { DisplaysStyledOnOk W.write_str_gives f.old result None f.new }
+        ensures styled { DisplaysStyledOnOk W.write_str_gives f.old result
+            (Some (text_of (input_value_layout default_style 0 (input_value_view N.bytes self.now)))) f.new }
         ensures narrow { OnOk result (IsNarrow (input_value_levels default_style (input_value_view N.bytes self.now))) }
     {
         fmt_in_default_style(self, f)
@@ -48,10 +53,13 @@ impl<N: Names> fmt::Display for InputValue<N> {
 impl<N: Names> fmt::Display for TypeExtension<N> {
     ghost output = { λ t. Some (text_of (definition_layout default_style (type_extension_view N.bytes t))) };
 
+    ghost styled_output = { λ t spec. Some (text_of (definition_layout default_style (type_extension_view N.bytes t))) };
+
     fn fmt<W: fmt::Write>(&self, f: &mut fmt::Formatter<W>) -> fmt::Result
         ensures writes { DisplaysOnOk W.write_str_gives f.old result
             (Some (text_of (definition_layout default_style (type_extension_view N.bytes self.now)))) f.new }
-        ensures styled { DisplaysStyledOnOk W.write_str_gives f.old result None f.new }
+        ensures styled { DisplaysStyledOnOk W.write_str_gives f.old result
+            (Some (text_of (definition_layout default_style (type_extension_view N.bytes self.now)))) f.new }
         ensures narrow { OnOk result (IsNarrow (definition_levels default_style (type_extension_view N.bytes self.now))) }
     {
         fmt_in_default_style(self, f)
@@ -61,10 +69,13 @@ impl<N: Names> fmt::Display for TypeExtension<N> {
 impl<N: Names> fmt::Display for ScalarTypeExtension<N> {
     ghost output = { λ t. Some (text_of (definition_layout default_style (scalar_extension_view N.bytes t))) };
 
+    ghost styled_output = { λ t spec. Some (text_of (definition_layout default_style (scalar_extension_view N.bytes t))) };
+
     fn fmt<W: fmt::Write>(&self, f: &mut fmt::Formatter<W>) -> fmt::Result
         ensures writes { DisplaysOnOk W.write_str_gives f.old result
             (Some (text_of (definition_layout default_style (scalar_extension_view N.bytes self.now)))) f.new }
-        ensures styled { DisplaysStyledOnOk W.write_str_gives f.old result None f.new }
+        ensures styled { DisplaysStyledOnOk W.write_str_gives f.old result
+            (Some (text_of (definition_layout default_style (scalar_extension_view N.bytes self.now)))) f.new }
         ensures narrow { OnOk result (IsNarrow (definition_levels default_style (scalar_extension_view N.bytes self.now))) }
     {
         fmt_in_default_style(self, f)
@@ -74,10 +85,13 @@ impl<N: Names> fmt::Display for ScalarTypeExtension<N> {
 impl<N: Names> fmt::Display for ObjectTypeExtension<N> {
     ghost output = { λ t. Some (text_of (definition_layout default_style (object_extension_view N.bytes t))) };
 
+    ghost styled_output = { λ t spec. Some (text_of (definition_layout default_style (object_extension_view N.bytes t))) };
+
     fn fmt<W: fmt::Write>(&self, f: &mut fmt::Formatter<W>) -> fmt::Result
         ensures writes { DisplaysOnOk W.write_str_gives f.old result
             (Some (text_of (definition_layout default_style (object_extension_view N.bytes self.now)))) f.new }
-        ensures styled { DisplaysStyledOnOk W.write_str_gives f.old result None f.new }
+        ensures styled { DisplaysStyledOnOk W.write_str_gives f.old result
+            (Some (text_of (definition_layout default_style (object_extension_view N.bytes self.now)))) f.new }
         ensures narrow { OnOk result (IsNarrow (definition_levels default_style (object_extension_view N.bytes self.now))) }
     {
         fmt_in_default_style(self, f)
@@ -87,10 +101,13 @@ impl<N: Names> fmt::Display for ObjectTypeExtension<N> {
 impl<N: Names> fmt::Display for InterfaceTypeExtension<N> {
     ghost output = { λ t. Some (text_of (definition_layout default_style (interface_extension_view N.bytes t))) };
 
+    ghost styled_output = { λ t spec. Some (text_of (definition_layout default_style (interface_extension_view N.bytes t))) };
+
     fn fmt<W: fmt::Write>(&self, f: &mut fmt::Formatter<W>) -> fmt::Result
         ensures writes { DisplaysOnOk W.write_str_gives f.old result
             (Some (text_of (definition_layout default_style (interface_extension_view N.bytes self.now)))) f.new }
-        ensures styled { DisplaysStyledOnOk W.write_str_gives f.old result None f.new }
+        ensures styled { DisplaysStyledOnOk W.write_str_gives f.old result
+            (Some (text_of (definition_layout default_style (interface_extension_view N.bytes self.now)))) f.new }
         ensures narrow { OnOk result (IsNarrow (definition_levels default_style (interface_extension_view N.bytes self.now))) }
     {
         fmt_in_default_style(self, f)
@@ -100,10 +117,13 @@ impl<N: Names> fmt::Display for InterfaceTypeExtension<N> {
 impl<N: Names> fmt::Display for UnionTypeExtension<N> {
     ghost output = { λ t. Some (text_of (definition_layout default_style (union_extension_view N.bytes t))) };
 
+    ghost styled_output = { λ t spec. Some (text_of (definition_layout default_style (union_extension_view N.bytes t))) };
+
     fn fmt<W: fmt::Write>(&self, f: &mut fmt::Formatter<W>) -> fmt::Result
         ensures writes { DisplaysOnOk W.write_str_gives f.old result
             (Some (text_of (definition_layout default_style (union_extension_view N.bytes self.now)))) f.new }
-        ensures styled { DisplaysStyledOnOk W.write_str_gives f.old result None f.new }
+        ensures styled { DisplaysStyledOnOk W.write_str_gives f.old result
+            (Some (text_of (definition_layout default_style (union_extension_view N.bytes self.now)))) f.new }
         ensures narrow { OnOk result (IsNarrow (definition_levels default_style (union_extension_view N.bytes self.now))) }
     {
         fmt_in_default_style(self, f)
@@ -113,10 +133,13 @@ impl<N: Names> fmt::Display for UnionTypeExtension<N> {
 impl<N: Names> fmt::Display for EnumTypeExtension<N> {
     ghost output = { λ t. Some (text_of (definition_layout default_style (enum_extension_view N.bytes t))) };
 
+    ghost styled_output = { λ t spec. Some (text_of (definition_layout default_style (enum_extension_view N.bytes t))) };
+
     fn fmt<W: fmt::Write>(&self, f: &mut fmt::Formatter<W>) -> fmt::Result
         ensures writes { DisplaysOnOk W.write_str_gives f.old result
             (Some (text_of (definition_layout default_style (enum_extension_view N.bytes self.now)))) f.new }
-        ensures styled { DisplaysStyledOnOk W.write_str_gives f.old result None f.new }
+        ensures styled { DisplaysStyledOnOk W.write_str_gives f.old result
+            (Some (text_of (definition_layout default_style (enum_extension_view N.bytes self.now)))) f.new }
         ensures narrow { OnOk result (IsNarrow (definition_levels default_style (enum_extension_view N.bytes self.now))) }
     {
         fmt_in_default_style(self, f)
@@ -126,10 +149,13 @@ impl<N: Names> fmt::Display for EnumTypeExtension<N> {
 impl<N: Names> fmt::Display for InputObjectTypeExtension<N> {
     ghost output = { λ t. Some (text_of (definition_layout default_style (input_extension_view N.bytes t))) };
 
+    ghost styled_output = { λ t spec. Some (text_of (definition_layout default_style (input_extension_view N.bytes t))) };
+
     fn fmt<W: fmt::Write>(&self, f: &mut fmt::Formatter<W>) -> fmt::Result
         ensures writes { DisplaysOnOk W.write_str_gives f.old result
             (Some (text_of (definition_layout default_style (input_extension_view N.bytes self.now)))) f.new }
-        ensures styled { DisplaysStyledOnOk W.write_str_gives f.old result None f.new }
+        ensures styled { DisplaysStyledOnOk W.write_str_gives f.old result
+            (Some (text_of (definition_layout default_style (input_extension_view N.bytes self.now)))) f.new }
         ensures narrow { OnOk result (IsNarrow (definition_levels default_style (input_extension_view N.bytes self.now))) }
     {
         fmt_in_default_style(self, f)
@@ -139,11 +165,30 @@ impl<N: Names> fmt::Display for InputObjectTypeExtension<N> {
 impl<N: Names> fmt::Display for DirectiveDefinition<N> {
     ghost output = { λ t. Some (text_of (definition_layout default_style (directive (directive_definition_view N.bytes t)))) };
 
+    ghost styled_output = { λ t spec. Some (text_of (definition_layout default_style (directive (directive_definition_view N.bytes t)))) };
+
     fn fmt<W: fmt::Write>(&self, f: &mut fmt::Formatter<W>) -> fmt::Result
         ensures writes { DisplaysOnOk W.write_str_gives f.old result
             (Some (text_of (definition_layout default_style (directive (directive_definition_view N.bytes self.now))))) f.new }
-        ensures styled { DisplaysStyledOnOk W.write_str_gives f.old result None f.new }
+        ensures styled { DisplaysStyledOnOk W.write_str_gives f.old result
+            (Some (text_of (definition_layout default_style (directive (directive_definition_view N.bytes self.now))))) f.new }
         ensures narrow { OnOk result (IsNarrow (definition_levels default_style (directive (directive_definition_view N.bytes self.now)))) }
+    {
+        fmt_in_default_style(self, f)
+    }
+}
+
+impl<N: Names> fmt::Display for SchemaExtension<N> {
+    ghost output = { λ t. Some (text_of (definition_layout default_style (schema_extension (schema_extension_view N.bytes t)))) };
+
+    ghost styled_output = { λ t spec. Some (text_of (definition_layout default_style (schema_extension (schema_extension_view N.bytes t)))) };
+
+    fn fmt<W: fmt::Write>(&self, f: &mut fmt::Formatter<W>) -> fmt::Result
+        ensures writes { DisplaysOnOk W.write_str_gives f.old result
+            (Some (text_of (definition_layout default_style (schema_extension (schema_extension_view N.bytes self.now))))) f.new }
+        ensures styled { DisplaysStyledOnOk W.write_str_gives f.old result
+            (Some (text_of (definition_layout default_style (schema_extension (schema_extension_view N.bytes self.now))))) f.new }
+        ensures narrow { OnOk result (IsNarrow (definition_levels default_style (schema_extension (schema_extension_view N.bytes self.now)))) }
     {
         fmt_in_default_style(self, f)
     }

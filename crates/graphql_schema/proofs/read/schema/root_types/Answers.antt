@@ -1,4 +1,4 @@
-use Rattle.std.proofs.Common.{◌≡◌, ◌∙◌, [], ◌∷◌, ◌++◌, List, arith, refl, sym}
+use Rattle.std.proofs.Common.{◌≡◌, ◌∙◌, [], ◌∷◌, ◌++◌, List, arith, refl, sym, subst, append_assoc, append-nil}
 use Rattle.graphql_grammar.specs.Tokens.{Token}
 use Rattle.graphql_grammar.specs.Trees.{Many, Sym, peek}
 use Rattle.graphql_grammar.specs.Tables.{first}
@@ -8,8 +8,10 @@ use Rattle.graphql_lexer.specs.declared.tokenizer.token.Kind.TheVariants.{Name}
 use Rattle.graphql_values.specs.Grammar.{any, tables as core_tables}
 use Rattle.graphql_values.proofs.Reading.{one_of, gives_error}
 use Rattle.graphql_schema_tree.specs.Grammar.{tables, root_type_symbol}
+use Rattle.graphql_schema.specs.steps.Roots.{Root, root_at, HasRoots}
 use Rattle.graphql_schema.proofs.Dialect.{reading}
-use Rattle.graphql_schema.proofs.RootNames.{turn_of, roots_of_turns}
+use Rattle.graphql_schema.proofs.Lists.{each_means}
+use Rattle.graphql_schema.proofs.RootNames.{turn_of}
 use Rattle.graphql_schema.proofs.read.schema.root_types.Goals as goal
 
 begins : (ts : List Token) → sees (first reading.rows (Sym root_type_symbol)) (peek ts) ≡ sees (any Name ∷ []) (peek ts)
@@ -18,20 +20,24 @@ begins ts = refl
 
 pub more-init : goal.more-init
 more-init g c = record {
-  roots = ([], Turns-start reading _ (one_of turn_of) _, record { fault = refl; query = λ n. refl; mutation = λ n. refl; subscription = λ n. refl });
+  roots = (
+    [],
+    Turns-start reading _ (one_of turn_of) _,
+    λ rs h. subst (HasRoots g.S.Names.Names.bytes c.args.roots.now) (sym (append-nil rs)) h,
+  );
   kept = refl;
   within = omega arith;
 }
 
 pub more-preserved : goal.more-preserved
 more-preserved g c =
-    let (rs, turns, has) = c.more.invariant.roots in
+    let (new, turns, has) = c.more.invariant.roots in
     let (x, takes, more) = c.in_ok-root_type.ensures.reads in
     record {
       roots = (
-        rs ++ turn_of x ∷ [],
-        Turns-more reading _ (one_of turn_of) _ _ _ rs x turns (begins _ ∙ sym c.sees_name.ensures ∙ c.more-test.true) takes,
-        more rs has,
+        new ++ turn_of x ∷ [],
+        Turns-more reading _ (one_of turn_of) _ _ _ new x turns (begins _ ∙ sym c.sees_name.ensures ∙ c.more-test.true) takes,
+        λ rs h. subst (HasRoots g.S.Names.Names.bytes c.root_type.new.roots) (append_assoc rs new (turn_of x ∷ [])) (more (rs ++ new) (has rs h)),
       );
       kept = c.in_ok-root_type.ensures.kept ∙ c.more.invariant.kept;
       within = omega (arith, c.in_ok-root_type.ensures.shorter, c.more.invariant.within);
@@ -39,13 +45,14 @@ more-preserved g c =
 
 pub returns-in_err-root_type-clause-reads : goal.returns-in_err-root_type-clause-reads
 returns-in_err-root_type-clause-reads g c =
-    let (rs, turns, has) = c.more.invariant.roots in
+    let (new, turns, has) = c.more.invariant.roots in
     gives_error reading (Many (Sym root_type_symbol)) (g.S.TokenSource.items c.args.source.now) (g.S.TokenSource.items c.root_type.new.source) _ _ _
-    (Stops-turn reading _ (one_of turn_of) _ _ _ rs _ turns (begins _ ∙ sym c.sees_name.ensures ∙ c.more-test.true) c.in_err-root_type.ensures.reads)
+    (Stops-turn reading _ (one_of turn_of) _ _ _ new _ turns (begins _ ∙ sym c.sees_name.ensures ∙ c.more-test.true) c.in_err-root_type.ensures.reads)
     c.from_residual.ensures.1
 
 pub returns-clause-reads : goal.returns-clause-reads
 returns-clause-reads g c =
-    let (rs, turns, has) = c.more.invariant.roots in
-    let (x, takes, is) = Turns-stop reading _ (one_of turn_of) _ _ rs turns (begins _ ∙ sym c.sees_name.ensures ∙ c.more-test.false) in
-    (x, takes, roots_of_turns g.S.Names.Names.bytes _ rs _ _ x takes is has)
+    let (new, turns, has) = c.more.invariant.roots in
+    let (x, takes, is) = Turns-stop reading _ (one_of turn_of) _ _ new turns (begins _ ∙ sym c.sees_name.ensures ∙ c.more-test.false) in
+    let same = sym is ∙ sym (each_means (Sym root_type_symbol) root_at (λ (r : Root). r) takes) in
+    (x, takes, λ rs h. subst (λ (l : List Root). HasRoots g.S.Names.Names.bytes c.more.roots (rs ++ l)) same (has rs h))

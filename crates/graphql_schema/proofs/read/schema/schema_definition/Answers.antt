@@ -14,7 +14,7 @@ use Rattle.graphql_schema_tree.specs.Roots.{root_fault, roots_of}
 use Rattle.graphql_schema_tree.proofs.Readable.{readable}
 use Rattle.graphql_schema.specs.steps.Refusals.{refusals}
 use Rattle.graphql_schema.proofs.Dialect.{reading, stops_lifted, some_lifted}
-use Rattle.graphql_schema.proofs.RootNames.{told_at, fault_told, none_told}
+use Rattle.graphql_schema.proofs.RootNames.{all_roots, told_at, fault_told, none_told}
 use Rattle.graphql_schema.proofs.read.schema.schema_definition.Goals as goal
 
 pub returns-in_err-position-clause-reads : goal.returns-in_err-position-clause-reads
@@ -36,20 +36,20 @@ returns-in_err-take_mark-clause-reads g c =
     node_lacks schemas refusals _ _ _ (g.S.TokenSource.items c.directives.new.source) _ _ _ (before lead) c.in_err-take_mark.ensures
     c.from_residual-in_err-take_mark.ensures.1
 
-pub returns-in_err-query-clause-reads : goal.returns-in_err-query-clause-reads
-returns-in_err-query-clause-reads g c =
+pub returns-in_err-root_types-clause-reads : goal.returns-in_err-root_types-clause-reads
+returns-in_err-root_types-clause-reads g c =
     let (t, taken, at) = c.in_ok-position.ensures in
     let (ds, directed, added) = some_lifted (Sym directives_symbol) refl refl _ _ _ c.in_ok-directives.ensures.reads in
     let (o, opened, at') = c.in_ok-take_mark.ensures in
     let lead = past (past (past here (takes_one reading (keyword (codes "schema")) _ _ t refl taken)) directed) (takes_one reading _ _ _ o refl opened) in
-    node_stops schemas refusals _ _ _ _ _ _ (before lead _ _ c.in_err-query.ensures.reads) c.from_residual-in_err-query.ensures.1
+    node_stops schemas refusals _ _ _ _ _ _ (before lead _ _ c.in_err-root_types.ensures.reads) c.from_residual-in_err-root_types.ensures.1
 
 pub returns-in_err-take_mark-2-clause-reads : goal.returns-in_err-take_mark-2-clause-reads
 returns-in_err-take_mark-2-clause-reads g c =
     let (t, taken, at) = c.in_ok-position.ensures in
     let (ds, directed, added) = some_lifted (Sym directives_symbol) refl refl _ _ _ c.in_ok-directives.ensures.reads in
     let (o, opened, at') = c.in_ok-take_mark.ensures in
-    let (rs, rooted, has) = c.in_ok-query.ensures.reads in
+    let (rs, rooted, has) = c.in_ok-root_types.ensures.reads in
     let lead =
     past (past (past (past here (takes_one reading (keyword (codes "schema")) _ _ t refl taken)) directed) (takes_one reading _ _ _ o refl opened)) rooted in
     node_lacks schemas refusals _ _ _ (g.S.TokenSource.items c.root_types.new.source) _ _ _ lead.stops c.in_err-take_mark-2.ensures
@@ -60,13 +60,14 @@ returns-in-Some-clause-reads g c =
     let (t, taken, at) = c.in_ok-position.ensures in
     let (ds, directed, added) = some_lifted (Sym directives_symbol) refl refl _ _ _ c.in_ok-directives.ensures.reads in
     let (o, opened, at') = c.in_ok-take_mark.ensures in
-    let (rs, rooted, has) = c.in_ok-query.ensures.reads in
+    let (rs, rooted, has) = c.in_ok-root_types.ensures.reads in
     let (e, closed, at'') = c.in_ok-take_mark-2.ensures in
+    let are = all_roots g.S.Names.Names.bytes _ rooted (has [] c.no_roots-roots.ensures) in
     let lead =
     past (past (past (past here (takes_one reading (keyword (codes "schema")) _ _ t refl taken)) directed) (takes_one reading _ _ _ o refl opened)) rooted in
     let whole = lead.takes _ (Leaf e) (takes_one reading _ _ _ e refl closed) in
     let (bad, said) = fault_told c.in-Some.cause (root_fault [] (roots_of (written changes rs))) t.place
-    (ap (option_map cause_text) (sym c.in-Some.is) ∙ has.fault) in
+    (ap (option_map cause_text) (sym c.in-Some.is) ∙ are.fault) in
     node_refused schemas refusals readable _ _ _ _ (Both (Leaf t) (Both ds (Both (Leaf o) (Both rs (Leaf e))))) whole bad
     (said ∙ ap (λ (p : Place). Some (told_at (cause_text c.in-Some.cause) p)) at)
 
@@ -75,18 +76,19 @@ returns-in-None-clause-reads g c =
     let (t, taken, at) = c.in_ok-position.ensures in
     let (ds, directed, added) = some_lifted (Sym directives_symbol) refl refl _ _ _ c.in_ok-directives.ensures.reads in
     let (o, opened, at') = c.in_ok-take_mark.ensures in
-    let (rs, rooted, has) = c.in_ok-query.ensures.reads in
+    let (rs, rooted, has) = c.in_ok-root_types.ensures.reads in
     let (e, closed, at'') = c.in_ok-take_mark-2.ensures in
+    let are = all_roots g.S.Names.Names.bytes _ rooted (has [] c.no_roots-roots.ensures) in
     let lead =
     past (past (past (past here (takes_one reading (keyword (codes "schema")) _ _ t refl taken)) directed) (takes_one reading _ _ _ o refl opened)) rooted in
-    let (good, none) = none_told (root_fault [] (roots_of (written changes rs))) (ap (option_map cause_text) (sym c.in-None.is) ∙ has.fault) in
+    let (good, none) = none_told (root_fault [] (roots_of (written changes rs))) (ap (option_map cause_text) (sym c.in-None.is) ∙ are.fault) in
     let all = fills (directive_view g.S.Names.Names.bytes) _ _ _ c.new-directives.ensures.items added in
     node_passes schemas refusals _ _ _ _ _ (Both (Leaf t) (Both ds (Both (Leaf o) (Both rs (Leaf e)))))
     (lead.takes _ (Leaf e) (takes_one reading _ _ _ e refl closed)) good
     (λ k. record {
       position = sym at k;
       directives = all k;
-      query = has.query none k;
-      mutation = has.mutation none k;
-      subscription = has.subscription none k;
+      query = are.query none k;
+      mutation = are.mutation none k;
+      subscription = are.subscription none k;
     })

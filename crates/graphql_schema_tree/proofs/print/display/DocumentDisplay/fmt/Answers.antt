@@ -1,6 +1,6 @@
 use Rattle.std.proofs.Common.{arith, refl}
 use Rattle.graphql_core.specs.Style.{default_style}
-use Rattle.graphql_values.proofs.Narrow.{written_alone}
+use Rattle.graphql_values.proofs.Narrow.{written, written_plain}
 use Rattle.graphql_schema_tree.specs.Views.{document_view}
 use Rattle.graphql_schema_tree.proofs.FewLevels.{levels_bounded, narrow_by_default}
 use Rattle.graphql_schema_tree.proofs.print.display.DocumentDisplay.fmt.Goals as goal
@@ -11,7 +11,10 @@ write-requires g c =
     rw c.default-style.ensures (omega (arith, most))
 
 pub returns-clause-writes : goal.returns-clause-writes
-returns-clause-writes g c = written_alone c.write.result (simp c.default-style.ensures at c.write.ensures.text)
+returns-clause-writes g c = written_plain g.W.Write.write_str_gives _ _ c.write.result _ (simp c.default-style.ensures at c.write.ensures.text)
+
+pub returns-clause-styled : goal.returns-clause-styled
+returns-clause-styled g c = written g.W.Write.write_str_gives _ _ c.write.result _ (simp c.default-style.ensures at c.write.ensures.text)
 
 pub returns-clause-narrow : goal.returns-clause-narrow
 returns-clause-narrow g c = narrow_by_default c.write.result (document_view g.N.Names.bytes c.args.self.now)

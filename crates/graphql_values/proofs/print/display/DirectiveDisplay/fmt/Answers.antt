@@ -1,9 +1,8 @@
-use Rattle.std.specs.Fmt.{HasWritten}
 use Rattle.graphql_core.specs.Style.{Layout}
 use Rattle.graphql_core.specs.Parts.{text_of}
 use Rattle.graphql_values.specs.ValueViews.{directive_view}
 use Rattle.graphql_values.specs.ValueLayout.{directive_layout}
-use Rattle.graphql_values.proofs.Narrow.{fits_outside, narrow, written}
+use Rattle.graphql_values.proofs.Narrow.{fits_outside, in_default_style, narrow, written, written_plain}
 use Rattle.graphql_values.proofs.print.display.DirectiveDisplay.fmt.Goals as goal
 
 pub write_directive-requires : goal.write_directive-requires
@@ -14,8 +13,14 @@ write_directive-requires g c =
 pub returns-clause-writes : goal.returns-clause-writes
 returns-clause-writes g c =
     let text = λ (style : Layout). text_of (directive_layout style 0 (directive_view g.N.Names.bytes c.args.self.now)) in
-    written c.write_directive.result c.default-style.result (λ style. HasWritten g.W.Write.write_str_gives c.args.f.now (text style) c.write_directive.new.out)
-    c.default-style.ensures c.write_directive.ensures.text
+    written_plain g.W.Write.write_str_gives _ _ c.write_directive.result _
+    (in_default_style g.W.Write.write_str_gives _ _ c.write_directive.result c.default-style.result text c.default-style.ensures c.write_directive.ensures.text)
+
+pub returns-clause-styled : goal.returns-clause-styled
+returns-clause-styled g c =
+    let text = λ (style : Layout). text_of (directive_layout style 0 (directive_view g.N.Names.bytes c.args.self.now)) in
+    written g.W.Write.write_str_gives _ _ c.write_directive.result _
+    (in_default_style g.W.Write.write_str_gives _ _ c.write_directive.result c.default-style.result text c.default-style.ensures c.write_directive.ensures.text)
 
 pub returns-clause-narrow : goal.returns-clause-narrow
 returns-clause-narrow g c =

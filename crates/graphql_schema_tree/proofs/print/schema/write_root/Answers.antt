@@ -1,6 +1,6 @@
 use Rattle.graphql_values.proofs.Appending.{and_last}
 use Rattle.graphql_schema_tree.proofs.PrintedTexts.{root_text}
-use Rattle.graphql_schema_tree.proofs.print.definition.write_root.Goals as goal
+use Rattle.graphql_schema_tree.proofs.print.schema.write_root.Goals as goal
 
 pub returns : goal.returns
 returns g c =

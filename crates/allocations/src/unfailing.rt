@@ -1,0 +1,280 @@
+//! The calls that take no memory, and so succeed where each allocation fails.
+use crate::documents::Refusal;
+use crate::tally::Tally;
+use graphql_parser::common::{FloatLiteral, Names, Number, Text};
+use graphql_parser::query::{self, MinifyError, minify_query, parse_query};
+use graphql_parser::schema::{
+    self, DirectiveDefinition, DirectiveLocation, EnumType, EnumTypeExtension, EnumValue,
+    InputObjectType, InputObjectTypeExtension, InterfaceType, InterfaceTypeExtension, ObjectType,
+    ObjectTypeExtension, ScalarType, ScalarTypeExtension, SchemaDefinition, UnionType,
+    UnionTypeExtension, parse_schema,
+};
+use graphql_parser::tokenizer::{Kind, Token, TokenStream};
+use graphql_parser::{Cause, FormatError, Pos, Style};
+use std::alloc::Global;
+use std::borrow::CowStr;
+use std::fmt::{self, Write};
+use std::hash::{BuildHasher, BuildHasherDefault, FoldHasher};
+use std::str::FromStr;
+
+/// A writer that takes the parts of one text, and nothing else.
+#[derive(Drop)]
+struct Expected<'a> {
+    left: &'a str,
+}
+
+impl<'a> fmt::Write for Expected<'a> {
+    fn write_str(&mut self, text: &str) -> fmt::Result {
+        match self.left.strip_prefix(text) {
+            Some(left) => {
+                self.left = left;
+                Ok(())
+            }
+            None => Err(fmt::Error),
+        }
+    }
+}
+
+/// Whether `Display` shows a value so.
+fn is_shown<D: fmt::Display>(value: &D, text: &str) -> bool {
+    let mut expected = Expected { left: text };
+    write!(expected, "{value}").is_ok() && expected.left.is_empty()
+}
+
+/// Whether `Debug` shows a value so.
+fn is_debugged<D: fmt::Debug>(value: &D, text: &str) -> bool {
+    let mut expected = Expected { left: text };
+    write!(expected, "{value:?}").is_ok() && expected.left.is_empty()
+}
+
+/// What is made before the calls.
+#[derive(Drop)]
+struct Made {
+    /// Of two levels, and of three where each argument takes a line.
+    queries: (
+        query::Document<'static, &'static str>,
+        query::Document<'static, &'static str>,
+    ),
+    /// Of two levels: a description in block form among fields.
+    schema: schema::Document<'static, &'static str>,
+    /// With names that are owned.
+    owned: query::Document<'static, String>,
+    /// A text that is a float literal, and one that is none.
+    texts: (String, String),
+    /// A name.
+    name: String,
+    /// Why texts are refused.
+    faults: (query::ParseError, schema::ParseError, MinifyError),
+}
+
+/// Why texts are refused, unless an allocation fails.
+fn faults(alloc: Global) -> Option<(query::ParseError, schema::ParseError, MinifyError)> {
+    let query = parse_query::<&str>(alloc, "{ }").err()?;
+    let schema = parse_schema::<&str>(alloc, "type A { }").err()?;
+    let minified = minify_query(alloc, String::from_str(alloc, "{ a ; }").ok()?).err()?;
+    let ran_out = Refusal::of_query(&query).ran_out
+        || Refusal::of_schema(&schema).ran_out
+        || Refusal::of_minifying(&minified).ran_out;
+    if ran_out {
+        return None;
+    }
+    Some((query, schema, minified))
+}
+
+/// What is made before, unless an allocation fails.
+fn make(alloc: Global) -> Option<Made> {
+    let nested = parse_query::<&str>(alloc, "{ a { b } }").ok()?;
+    let list = parse_query::<&str>(alloc, "{ a(l: []) }").ok()?;
+    let schema = parse_schema::<&str>(alloc, "type A { \"\"\"x\ny\"\"\" b: C }").ok()?;
+    let owned = parse_query::<String>(alloc, "{ a }").ok()?;
+    let literal = String::from_str(alloc, "1.5E3").ok()?;
+    let no_literal = String::from_str(alloc, "1e9").ok()?;
+    let name = String::from_str(alloc, "a").ok()?;
+    Some(Made {
+        queries: (nested, list),
+        schema,
+        owned,
+        texts: (literal, no_literal),
+        name,
+        faults: faults(alloc)?,
+    })
+}
+
+/// Counts a layout that has to be too wide.
+fn count_too_wide(tally: &mut Tally, answer: Result<String, FormatError>) {
+    match answer {
+        Err(error) => {
+            tally.check(error == FormatError::TooWide);
+            tally.check(is_shown(&error, "format error: indentation too wide"));
+        }
+        Ok(_) => tally.check(false),
+    }
+}
+
+/// Lays documents out too wide: so many levels are open at once that they take 2^32 spaces or more.
+fn lay_out_too_wide(alloc: Global, tally: &mut Tally, made: &Made) {
+    let (nested, list) = &made.queries;
+    let mut style = Style::default();
+    for indent in [4294967295, 2147483648] {
+        style.indent(indent);
+        count_too_wide(tally, nested.format(alloc, &style));
+    }
+    style.multiline_arguments(true);
+    count_too_wide(tally, made.schema.format(alloc, &style));
+    style.indent(1431655766);
+    count_too_wide(tally, list.format(alloc, &style));
+}
+
+/// Tells why texts are refused.
+fn tell_faults(tally: &mut Tally, made: &Made) {
+    let (query, schema, minified) = &made.faults;
+    tally.check(query.position() == Some(Pos { line: 1, column: 3 }));
+    tally.check(matches!(
+        query.cause(),
+        Cause::UnexpectedToken {
+            kind: Kind::Punctuator,
+            ..
+        }
+    ));
+    tally.check(is_shown(
+        query,
+        "query parse error: Parse error at 1:3\nUnexpected `}[Punctuator]`\n",
+    ));
+    tally.check(
+        schema.position()
+            == Some(Pos {
+                line: 1,
+                column: 10,
+            }),
+    );
+    tally.check(is_shown(schema.cause(), "Unexpected `}[Punctuator]`"));
+    tally.check(minified.position() == Some(Pos { line: 1, column: 5 }));
+    tally.check(matches!(minified.cause(), Cause::BadToken(_)));
+}
+
+/// Takes the items of a text, and tells the places.
+fn cut(tally: &mut Tally) {
+    let mut stream = TokenStream::new("\"é\" b");
+    tally.check((stream.offset(), stream.depth(), stream.cuts()) == (0, 0, 0));
+    let string = Token {
+        kind: Kind::StringValue,
+        value: "\"é\"",
+    };
+    tally.check(stream.next_token() == Ok(Some(string)));
+    tally.check(stream.position() == Pos { line: 1, column: 5 });
+    tally.check(stream.offset() == 5);
+    tally.check(stream.rest() == "b");
+    let name = Token {
+        kind: Kind::Name,
+        value: "b",
+    };
+    tally.check(stream.next_token() == Ok(Some(name)));
+    tally.check(stream.near_token() == None);
+    tally.check(stream.next_token() == Ok(None));
+    tally.check(stream.cuts() == 3);
+    let mut bad = TokenStream::new("{ 1.");
+    tally.check(is_shown(
+        &bad.next_token().ok().flatten().unwrap_or(name),
+        "{[Punctuator]",
+    ));
+    tally.check(bad.next_token().is_err() && bad.depth() == 1);
+}
+
+/// Compares positions, styles and numbers, and makes a literal of a text.
+fn use_plain_values(tally: &mut Tally, literal: String, no_literal: String) {
+    let early = Pos { line: 1, column: 9 };
+    let late = Pos { line: 2, column: 1 };
+    tally.check(early < late && early == Pos { line: 1, column: 9 } && early != late);
+    tally.check(
+        is_shown(&early, "1:9")
+            && is_debugged(&late, "Pos(2:1)")
+            && is_shown(&Pos::default(), "0:0"),
+    );
+    let hasher: BuildHasherDefault<FoldHasher> = BuildHasherDefault::default();
+    tally.check(hasher.hash_one(&early) == hasher.hash_one(&Pos { line: 1, column: 9 }));
+    let mut style = Style::default();
+    style.indent(4).multiline_arguments(true);
+    tally.check((style.indentation(), style.has_multiline_arguments()) == (4, true));
+    tally.check(style != Style::default());
+    tally.check(Number::from(-7).as_i64() == Some(-7));
+    tally.check(Number::from_i64(i64::MIN).as_i64() == Some(i64::MIN));
+    tally.check(FloatLiteral::new(literal).is_ok_and(|literal| literal.as_str() == "1.5E3"));
+    tally.check(FloatLiteral::new(no_literal).is_err_and(|text| text.as_str() == "1e9"));
+}
+
+/// Names directive locations.
+fn name_locations(tally: &mut Tally) {
+    match DirectiveLocation::from_str("FIELD") {
+        Ok(location) => {
+            tally.check(location == DirectiveLocation::Field && location.as_str() == "FIELD");
+            tally.check(location.is_query() && !location.is_schema());
+            tally.check(is_debugged(&location, "Field"));
+        }
+        Err(_) => tally.check(false),
+    }
+    for word in ["field", "FIELD ", ""] {
+        match DirectiveLocation::from_str(word) {
+            Ok(_) => tally.check(false),
+            Err(error) => tally.check(is_shown(&error, "invalid directive location")),
+        }
+    }
+}
+
+/// Makes types of a name alone.
+fn make_types(alloc: Global, tally: &mut Tally) {
+    tally.check(ScalarType::<&str>::new(alloc, "A").name == "A");
+    tally.check(ObjectType::<&str>::new(alloc, "A").name == "A");
+    tally.check(InterfaceType::<&str>::new(alloc, "A").name == "A");
+    tally.check(UnionType::<&str>::new(alloc, "A").name == "A");
+    tally.check(EnumType::<&str>::new(alloc, "A").name == "A");
+    tally.check(InputObjectType::<&str>::new(alloc, "A").name == "A");
+    tally.check(EnumValue::<&str>::new(alloc, "A").name == "A");
+    tally.check(DirectiveDefinition::<&str>::new(alloc, "A").name == "A");
+}
+
+/// Makes extensions of a name alone, and what holds nothing.
+fn make_extensions(alloc: Global, tally: &mut Tally) {
+    tally.check(ScalarTypeExtension::<&str>::new(alloc, "A").name == "A");
+    tally.check(ObjectTypeExtension::<&str>::new(alloc, "A").name == "A");
+    tally.check(InterfaceTypeExtension::<&str>::new(alloc, "A").name == "A");
+    tally.check(UnionTypeExtension::<&str>::new(alloc, "A").name == "A");
+    tally.check(EnumTypeExtension::<&str>::new(alloc, "A").name == "A");
+    tally.check(InputObjectTypeExtension::<&str>::new(alloc, "A").name == "A");
+    tally.check(SchemaDefinition::<&str>::empty(alloc).query.is_none());
+    tally.check(
+        schema::Document::<'_, &str>::empty(alloc)
+            .definitions
+            .is_empty(),
+    );
+}
+
+/// Makes and views names.
+fn name_texts(alloc: Global, tally: &mut Tally, name: &String) {
+    tally.check(<&str as Text<'_>>::make(alloc, "a").is_ok_and(|name| <&str as Names>::view(&name)
+        == "a"));
+    tally.check(<CowStr<'_> as Text<'_>>::make(alloc, "a").is_ok_and(|name| <CowStr<
+        '_,
+    > as Names>::view(&name)
+        == "a"));
+    tally.check(<String as Names>::view(name) == "a");
+}
+
+/// Makes each call that takes no memory, once what they take is made.
+pub fn make_unfailing_calls(alloc: Global) -> Tally {
+    let mut tally = Tally::default();
+    let Some(made) = make(alloc) else {
+        tally.add(false, true);
+        return tally;
+    };
+    lay_out_too_wide(alloc, &mut tally, &made);
+    tell_faults(&mut tally, &made);
+    cut(&mut tally);
+    name_locations(&mut tally);
+    make_types(alloc, &mut tally);
+    make_extensions(alloc, &mut tally);
+    name_texts(alloc, &mut tally, &made.name);
+    tally.check(made.owned.into_static(alloc).is_ok());
+    let (literal, no_literal) = made.texts;
+    use_plain_values(&mut tally, literal, no_literal);
+    tally
+}

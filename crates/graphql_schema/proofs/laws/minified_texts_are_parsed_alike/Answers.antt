@@ -1,0 +1,14 @@
+use Rattle.graphql_values.proofs.Unplaced.{minified_document, source_document, parsed_alike}
+use Rattle.graphql_values.proofs.FaultsAlike.{one_cause_alike}
+use Rattle.graphql_schema_tree.specs.Language.{schemas}
+use Rattle.graphql_schema_tree.proofs.Readable.{readable}
+use Rattle.graphql_schema_tree.proofs.Unplaced.{unplaced_alike, refuses_alike}
+use Rattle.graphql_schema.proofs.laws.minified_texts_are_parsed_alike.Goals as goal
+
+pub returns : goal.returns
+returns c = record {
+  document = λ source text d is. minified_document schemas unplaced_alike source text is d;
+  no_other = λ source text d is. source_document schemas unplaced_alike source text is d;
+  alike = parsed_alike schemas unplaced_alike;
+  one_cause = one_cause_alike schemas unplaced_alike refuses_alike readable;
+}
