@@ -51,9 +51,9 @@ fn unquote_blocks(alloc: Global, tally: &mut Tally) {
 
 /// A value with a field, an item and each kind of name.
 fn nested<'a>(alloc: Global) -> Result<Value<'a, &'a str>, AllocError> {
-    let mut fields: BTreeMap<&str, Value<'_, &str>> = BTreeMap::new(alloc);
+    let mut fields: BTreeMap<&'a str, Value<'a, &'a str>> = BTreeMap::new(alloc);
     drop(fields.insert("a", Value::Enum("E"))?);
-    let mut items = Vec::new(alloc);
+    let mut items: Vec<Value<'a, &'a str>> = Vec::new(alloc);
     items.push(Value::Object(fields))?;
     items.push(Value::Variable("v"))?;
     Ok(Value::List(items))
