@@ -1,0 +1,97 @@
+/*
+ * GraphQL documents from C: parsed, laid out and minified by code that is proved.
+ *
+ * Each function reads a text of `length` bytes at `text`, and may write into the `capacity` bytes at `out`. It keeps neither pointer after it
+ * returns, writes nowhere else, and frees what memory it took. No two calls share anything: threads may call at once.
+ *
+ * What nothing checks, and the caller owes:
+ *  - `text` and `out` are never null, also where the length or the capacity is 0;
+ *  - `text` points to `length` bytes that can be read, and `out` to `capacity` bytes that can be written, which do not overlap; the bytes of `out`
+ *    have values (a buffer of `malloc` is to be filled once before it is passed);
+ *  - nobody else reads or writes `out`, or writes `text`, while the call runs;
+ *  - neither length is above PTRDIFF_MAX;
+ *  - no call is made from a signal handler, or in the forked child of a process with threads.
+ */
+#ifndef GRAPHQL_H
+#define GRAPHQL_H
+
+#include <stdbool.h>
+#include <stddef.h>
+#include <stdint.h>
+
+#ifdef __cplusplus
+extern "C" {
+#endif
+
+/* What came of a call. Numbers of later versions follow these; none of these changes. */
+enum graphql_status {
+    /* The call did what it was asked for. */
+    GRAPHQL_OK = 0,
+
+    /* The text is refused, for its first fault: at `line` and `column` ... */
+    GRAPHQL_BAD_TOKEN = 1,            /* no token stands there */
+    GRAPHQL_UNEXPECTED_TOKEN = 2,     /* no document goes on with this token */
+    GRAPHQL_UNEXPECTED_END = 3,       /* no document ends there */
+    GRAPHQL_TOO_DEEP = 4,             /* it is the 51st bracket that is open at once */
+    GRAPHQL_INT_OUT_OF_RANGE = 5,     /* a whole number does not fit an int64_t */
+    GRAPHQL_MALFORMED_FLOAT = 6,      /* a float's exponent has no digit */
+    GRAPHQL_BAD_ESCAPE = 7,           /* an escape in a string means no character */
+    GRAPHQL_UNKNOWN_LOCATION = 8,     /* a directive location is not one; schemas alone, as the next three */
+    GRAPHQL_DUPLICATE_OPERATION = 9,  /* a schema names an operation twice */
+    GRAPHQL_UNKNOWN_OPERATION = 10,   /* a schema names what is no operation */
+    GRAPHQL_EMPTY_EXTENSION = 11,     /* an extension adds nothing */
+
+    /* ... or at line 1, column 1: it has more than SIZE_MAX / 16 bytes. */
+    GRAPHQL_TEXT_TOO_LONG = 12,
+
+    /* At no place, so that `line` and `column` are 0: */
+    GRAPHQL_OUT_OF_MEMORY = 13,       /* an allocation failed; nothing is said of the text */
+    GRAPHQL_TOO_WIDE = 14,            /* the levels that are open at once take more than UINT32_MAX spaces */
+    GRAPHQL_NOT_UTF8 = 15,            /* the text is not UTF-8 */
+
+    /* The output is made, but the buffer is too short for it. The buffer is as it was, and `length` is the length that it needs. */
+    GRAPHQL_BUFFER_TOO_SHORT = 16
+};
+
+/* What a call answers. */
+typedef struct graphql_answer {
+    /* A number of `enum graphql_status`. */
+    uint32_t status;
+
+    /* Of GRAPHQL_OK the bytes of the output, which is at the beginning of the buffer; for `graphql_first_definition` the offset of the rest, and for
+     * the two checks 0. Of GRAPHQL_BUFFER_TOO_SHORT the bytes of the output, of which none is written. Of any other status the bytes of the message
+     * in UTF-8, which is at the beginning of the buffer if it is no longer than the buffer, and else not written. No zero byte is added. The rest of
+     * the buffer is as it was. */
+    size_t length;
+
+    /* Where a text is refused, from 1; 0 where there is no place. A tab takes 8 columns outside of tokens. */
+    size_t line;
+    size_t column;
+} graphql_answer;
+
+/* Lays a query document out, with `indent` spaces a level, and under `multiline` (which is 0 or 1) with a line for each argument, list item and
+ * object field. */
+graphql_answer graphql_format_query(const uint8_t *text, size_t length, uint32_t indent, bool multiline, uint8_t *out, size_t capacity);
+
+/* The same of a schema document. */
+graphql_answer graphql_format_schema(const uint8_t *text, size_t length, uint32_t indent, bool multiline, uint8_t *out, size_t capacity);
+
+/* Writes the tokens of a text, with only the spaces that keep them apart. It refuses for GRAPHQL_BAD_TOKEN, GRAPHQL_TOO_DEEP and
+ * GRAPHQL_TEXT_TOO_LONG alone. */
+graphql_answer graphql_minify(const uint8_t *text, size_t length, uint8_t *out, size_t capacity);
+
+/* Finds where the first definition of a query document ends, with the spaces, commas and comments after it: on GRAPHQL_OK the rest of the text
+ * begins at the offset `length`. The rest may be anything, and is not looked at. Only a message is written. */
+graphql_answer graphql_first_definition(const uint8_t *text, size_t length, uint8_t *out, size_t capacity);
+
+/* Parses a text alone: GRAPHQL_OK where it is a query document. Only a message is written. */
+graphql_answer graphql_check_query(const uint8_t *text, size_t length, uint8_t *out, size_t capacity);
+
+/* The same of a schema document. */
+graphql_answer graphql_check_schema(const uint8_t *text, size_t length, uint8_t *out, size_t capacity);
+
+#ifdef __cplusplus
+}
+#endif
+
+#endif

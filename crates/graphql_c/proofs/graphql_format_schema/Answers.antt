@@ -1,0 +1,14 @@
+use Rattle.std.proofs.Common.{IfOk, IfErr, String, string_bytes, subst}
+use Rattle.std.specs.Global.{Global}
+use Rattle.graphql_c.specs.Answers.{Fails}
+use Rattle.graphql_c.specs.Output.{IsSchemaLaidOut, HasNoSchema, IsSchemaTooWide}
+use Rattle.graphql_c.proofs.Told.{answered}
+use Rattle.graphql_c.proofs.graphql_format_schema.Goals as goal
+
+pub returns : goal.returns
+returns c =
+    let text = c.args.text.now in
+    let made = c.schema_laid_out.result in
+    let laid = subst (λ style. IfOk made (λ (s : String Global). IsSchemaLaidOut style text (string_bytes s))) c.style_in-style.ensures c.schema_laid_out.ensures.ok in
+    let none = subst (λ style. IfErr made (Fails (HasNoSchema text) (IsSchemaTooWide style text) text)) c.style_in-style.ensures c.schema_laid_out.ensures.err in
+    answered made laid none c.answer_of.ensures.ok c.answer_of.ensures.err

@@ -1,0 +1,100 @@
+-- What a call answers, and what it leaves in the caller's buffer.
+use Rattle.std.specs.Prelude.{◌≡◌, ◌<◌, ◌≤◌, ◌++◌, ℕ, nat_le, List, length, drop, string_bytes, Option, Some, None, if◌then◌else◌}
+use Rattle.std.specs.Str.{IsUtf8}
+use Rattle.graphql_grammar.specs.Tokens.{Place}
+use Rattle.graphql_lexer.specs.BadTexts.{too_deep}
+use Rattle.graphql_core.specs.Causes.{CauseText, no_token, unexpected_token, unexpected_end, int_out_of_range, malformed_float, bad_escape, unknown_location}
+use Rattle.graphql_core.specs.Causes.{duplicate_operation, unknown_operation, empty_extension, text_too_long, out_of_memory}
+use Rattle.graphql_core.specs.Refusal.{Refusal}
+use Rattle.graphql_core.specs.declared.format.error.FormatError.{FormatError}
+use Rattle.graphql_core.specs.declared.format.error.FormatError.TheVariants.{TooWide, OutOfMemory}
+use Rattle.graphql_c.specs.declared.answer.Answer.{Answer}
+use Rattle.graphql_c.specs.declared.failure.Failure.{Failure}
+
+-- ---- numbers of an answer
+
+-- the statuses of refusals; 0 is that of a call that did what it was asked for
+abbrev pub status_of : CauseText → ℕ
+status_of (no_token too_deep) = 4
+status_of (no_token other) = 1
+status_of (unexpected_token kind spelling) = 2
+status_of unexpected_end = 3
+status_of int_out_of_range = 5
+status_of malformed_float = 6
+status_of bad_escape = 7
+status_of unknown_location = 8
+status_of (duplicate_operation name) = 9
+status_of (unknown_operation name) = 10
+status_of empty_extension = 11
+status_of text_too_long = 12
+status_of out_of_memory = 13
+
+abbrev pub status_too_wide : ℕ
+status_too_wide = 14
+
+abbrev pub status_not_utf8 : ℕ
+status_not_utf8 = 15
+
+abbrev pub status_too_short : ℕ
+status_too_short = 16
+
+-- the numbers of a place, which are 0 where there is none
+abbrev pub line_of : Option Place → ℕ
+line_of (Some p) = p.line
+line_of None = 0
+
+abbrev pub column_of : Option Place → ℕ
+column_of (Some p) = p.column
+column_of None = 0
+
+-- the status of a document that is not laid out
+abbrev pub layout_status : FormatError → ℕ
+layout_status TooWide = status_too_wide
+layout_status OutOfMemory = status_of out_of_memory
+
+-- ---- buffers
+
+-- The buffer with this text at its beginning, and from there on as it was; where it is shorter than the text, it stays as it was.
+abbrev pub put : List ℕ → List ℕ → List ℕ
+put text buffer = if nat_le (length text) (length buffer) then text ++ drop (length text) buffer else buffer
+
+-- ---- answers
+
+-- Why a call made nothing of its text: a refusal with its status and its place, or a status alone.
+pub data Explains (Refuses : Refusal → Type 0) (IsTooWide : Type 0) (text : List ℕ) : (status line column : ℕ) → Type 0 where
+  refused : (e : Refusal) → Refuses e → Explains Refuses IsTooWide text (status_of e.cause) (line_of e.place) (column_of e.place)
+  too_wide : IsTooWide → Explains Refuses IsTooWide text status_too_wide 0 0
+  not_utf8 : (IsUtf8 text → ⊥) → Explains Refuses IsTooWide text status_not_utf8 0 0
+  -- an allocation failed
+  ran_out : Explains Refuses IsTooWide text (status_of out_of_memory) 0 0
+
+-- the failure is explained
+abbrev pub Fails : (Refusal → Type 0) → Type 0 → List ℕ → Failure → Type 0
+Fails Refuses IsTooWide text f = Explains Refuses IsTooWide text f.status f.line f.column
+
+-- the answer tells of the failure, and its message is put into the buffer
+abbrev pub IsToldOf : Failure → List ℕ → List ℕ → Answer → Type 0
+IsToldOf f old new a =
+    (a ≡ record { status = f.status; length = length (string_bytes f.message); line = f.line; column = f.column })
+    × (new ≡ put (string_bytes f.message) old)
+
+-- an answer with no place
+abbrev pub plain : ℕ → ℕ → Answer
+plain status n = record { status = status; length = n; line = 0; column = 0 }
+
+-- The call made this output: it stands in the buffer, or the buffer is too short for it, and its length is told.
+pub data Writes (Makes : List ℕ → Type 0) (old new : List ℕ) (a : Answer) : Type 0 where
+  written : (output : List ℕ) → Makes output → length output ≤ length old → new ≡ put output old → a ≡ plain 0 (length output) → Writes Makes old new a
+  too_short : (output : List ℕ) → Makes output → length old < length output → new ≡ old → a ≡ plain status_too_short (length output)
+      → Writes Makes old new a
+
+-- the call found an offset, and wrote nothing
+abbrev pub Finds : (ℕ → Type 0) → List ℕ → List ℕ → Answer → Type 0
+Finds IsAt old new a = (n : ℕ) × IsAt n × (new ≡ old) × (a ≡ plain 0 n)
+
+-- The call did what it was asked for, or tells why it did not: by a status and a place, and by a message, which is put into the buffer.
+pub data Answers (Done : List ℕ → List ℕ → Answer → Type 0) (Refuses : Refusal → Type 0) (IsTooWide : Type 0) (text old new : List ℕ) (a : Answer)
+    : Type 0 where
+  done : Done old new a → Answers Done Refuses IsTooWide text old new a
+  failed : (message : List ℕ) → Explains Refuses IsTooWide text a.status a.line a.column → a.length ≡ length message → new ≡ put message old
+      → Answers Done Refuses IsTooWide text old new a

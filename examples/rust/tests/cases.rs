@@ -1,0 +1,162 @@
+//! The recorded cases of this repository, through the library's C face, and those of a folder that GRAPHQL_VECTORS names.
+
+use graphql_proved::{check_query, check_schema, first_definition, format_query, format_query_bytes, format_schema, minify, Cause, Position, Style};
+use std::path::{Path, PathBuf};
+use std::{env, fs};
+
+/// What is wanted of a text.
+#[derive(Debug)]
+enum Wanted {
+    Output(String),
+    Accepted,
+    Refused(Option<String>),
+}
+
+/// Bytes that are read from the front.
+struct Rest<'a>(&'a [u8]);
+
+impl<'a> Rest<'a> {
+    fn line(&mut self) -> &'a str {
+        let end = self.0.iter().position(|&byte| byte == b'\n').expect("a line ends");
+        let line = std::str::from_utf8(&self.0[..end]).expect("a line is UTF-8");
+        self.0 = &self.0[end + 1..];
+        line
+    }
+
+    /// A text of so many bytes with LF after it.
+    fn sized(&mut self, length: &str) -> &'a str {
+        let length: usize = length.parse().expect("a length");
+        let text = std::str::from_utf8(&self.0[..length]).expect("a text is UTF-8");
+        assert_eq!(self.0[length], b'\n');
+        self.0 = &self.0[length + 1..];
+        text
+    }
+
+    fn wanted(&mut self) -> Wanted {
+        let line = self.line();
+        match line.split_once(' ') {
+            Some(("ok", length)) => Wanted::Output(self.sized(length).to_owned()),
+            Some(("refused", length)) => Wanted::Refused(Some(self.sized(length).to_owned())),
+            _ if line == "refused" => Wanted::Refused(None),
+            _ => Wanted::Accepted,
+        }
+    }
+}
+
+/// Whether a case is one for these calls, and then what they answer is what is wanted.
+fn replayed(word: &str, indent: u32, text: &str, wanted: &Wanted) -> bool {
+    let multiline = word.ends_with("lines");
+    let style = Style { indent, multiline };
+    let (answer, checked) = match word {
+        "query" | "lines" => (format_query(text, style), Some(check_query(text))),
+        "schema" | "schema-lines" => (format_schema(text, style), Some(check_schema(text))),
+        "minify" => (minify(text), None),
+        _ => return false,
+    };
+    match (wanted, &answer) {
+        (Wanted::Output(output), Ok(found)) => assert_eq!(found, output, "of {word}: {text}"),
+        (Wanted::Accepted, Ok(_)) | (Wanted::Refused(None), Err(_)) => {}
+        (Wanted::Refused(Some(message)), Err(error)) => assert_eq!(&error.message, message, "of {word}: {text}"),
+        (wanted, answer) => panic!("of {word}: {text}\nwanted {wanted:?}, found {answer:?}"),
+    }
+    // A check answers as the layout does, but for one that is too wide.
+    match (&answer, checked) {
+        (Err(error), Some(checked)) if error.cause != Cause::TooWide => assert_eq!(checked.as_ref().err(), Some(error), "of {word}: {text}"),
+        (_, Some(checked)) => assert_eq!(checked, Ok(()), "of {word}: {text}"),
+        (_, None) => {}
+    }
+    true
+}
+
+fn repository() -> PathBuf {
+    Path::new(env!("CARGO_MANIFEST_DIR")).join("../..")
+}
+
+#[test]
+fn recorded_cases_agree() {
+    let bytes = fs::read(repository().join("crates/vectors/stdin")).expect("the recorded cases");
+    let (mut rest, mut count) = (Rest(&bytes), 0);
+    while !rest.0.is_empty() {
+        let mut words = rest.line().split(' ');
+        let (word, length) = (words.next().expect("a word"), words.next().expect("a length"));
+        let indent = words.next().map_or(2, |indent| indent.parse().expect("an indentation"));
+        let (text, wanted) = (rest.sized(length), rest.wanted());
+        count += u32::from(replayed(word, indent, text, &wanted));
+    }
+    assert!(count > 900, "{count} cases");
+    println!("{count} recorded cases agree");
+}
+
+#[test]
+fn cases_of_a_folder_agree() {
+    let Ok(folder) = env::var("GRAPHQL_VECTORS") else {
+        println!("GRAPHQL_VECTORS names no folder: skipped");
+        return;
+    };
+    for word in ["query", "schema", "minify"] {
+        let bytes = fs::read(Path::new(&folder).join(word).with_extension("cases")).expect("a file of cases");
+        let (mut rest, mut count) = (Rest(&bytes), 0);
+        while !rest.0.is_empty() {
+            let length = rest.line();
+            let (text, wanted) = (rest.sized(length), rest.wanted());
+            count += u32::from(replayed(word, 2, text, &wanted));
+        }
+        println!("{count} cases of {word} agree");
+    }
+}
+
+#[test]
+fn hero_is_laid_out() {
+    let text = "query Hero($id: ID! = \"1\") @cached { h: hero(id: $id) { name ... on Droid { parts(first: 2) } ...More } }\n";
+    let lines = "query Hero($id: ID! = \"1\") @cached {\n  h: hero(id: $id) {\n    name\n    ... on Droid {\n      parts(first: 2)\n    }\n    ...More\n  }\n}\n";
+    assert_eq!(format_query(text, Style::default()).as_deref(), Ok(lines));
+    let shortest = "query Hero($id:ID!=\"1\")@cached{h:hero(id:$id){name...on Droid{parts(first:2)}...More}}";
+    assert_eq!(minify(text).as_deref(), Ok(shortest));
+}
+
+#[test]
+fn refusals_have_places() {
+    let error = format_query("{ hero(id: 99999999999999999999) }", Style::default()).expect_err("too large");
+    assert_eq!((error.cause, error.position), (Cause::IntOutOfRange, Some(Position { line: 1, column: 12 })));
+    assert_eq!(error.to_string(), "query parse error: Parse error at 1:12\nnumber too large\n");
+    let error = check_schema("\nschema { query: A query: B }").expect_err("twice");
+    assert_eq!((error.cause, error.position), (Cause::DuplicateOperation, Some(Position { line: 2, column: 1 })));
+    let error = minify("{ a ; }").expect_err("no token");
+    assert_eq!((error.cause, error.position), (Cause::BadToken, Some(Position { line: 1, column: 5 })));
+    let error = check_query("").expect_err("empty");
+    assert_eq!(error.cause, Cause::UnexpectedEnd);
+}
+
+#[test]
+fn failures_have_no_place() {
+    let error = format_query("{ a { b } }", Style { indent: u32::MAX, multiline: false }).expect_err("too wide");
+    assert_eq!((error.cause, error.position), (Cause::TooWide, None));
+    assert_eq!(error.message, "format error: indentation too wide");
+    let error = format_query_bytes(b"{ a \xff }", Style::default()).expect_err("not UTF-8");
+    assert_eq!((error.cause, error.position), (Cause::NotUtf8, None));
+}
+
+#[test]
+fn outputs_longer_than_the_first_buffer_are_whole() {
+    let mut text = String::new();
+    for _ in 0..40 {
+        text.push_str("{a ");
+    }
+    text.push_str(&"}".repeat(40));
+    let wide = format_query(&text, Style { indent: 100, multiline: false }).expect("a document");
+    assert!(wide.len() > 100 * (820 + 780));
+    assert_eq!(minify(&wide).as_deref(), Ok(text.replace(' ', "").as_str()));
+    // A message with a long token in it.
+    let long = format!("\"{}\"", "a".repeat(5000));
+    let error = check_query(&long).expect_err("a string is no definition");
+    assert_eq!(error.cause, Cause::UnexpectedToken);
+    assert!(error.message.contains(&long));
+}
+
+#[test]
+fn a_first_definition_ends_before_the_rest() {
+    assert_eq!(first_definition("query { a } where a > 1 => 10.0"), Ok(("query { a } ", "where a > 1 => 10.0")));
+    assert_eq!(first_definition("{ a }"), Ok(("{ a }", "")));
+    let error = first_definition("where").expect_err("no definition");
+    assert_eq!((error.cause, error.position), (Cause::UnexpectedToken, Some(Position { line: 1, column: 1 })));
+}
