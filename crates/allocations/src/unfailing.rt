@@ -11,7 +11,7 @@ use graphql_parser::schema::{
 };
 use graphql_parser::tokenizer::{Kind, Token, TokenStream};
 use graphql_parser::{Cause, FormatError, Pos, Style};
-use std::alloc::Global;
+use std::alloc::{AllocError, Global};
 use std::borrow::CowStr;
 use std::fmt::{self, Write};
 use std::hash::{BuildHasher, BuildHasherDefault, FoldHasher};
@@ -198,8 +198,14 @@ fn use_plain_values(tally: &mut Tally, literal: String, no_literal: String) {
     tally.check(style != Style::default());
     tally.check(Number::from(-7).as_i64() == Some(-7));
     tally.check(Number::from_i64(i64::MIN).as_i64() == Some(i64::MIN));
-    tally.check(FloatLiteral::new(literal).is_ok_and(|literal| literal.as_str() == "1.5E3"));
-    tally.check(FloatLiteral::new(no_literal).is_err_and(|text| text.as_str() == "1e9"));
+    match FloatLiteral::new(literal) {
+        Ok(literal) => tally.check(literal.as_str() == "1.5E3"),
+        Err(_) => tally.check(false),
+    }
+    match FloatLiteral::new(no_literal) {
+        Ok(_) => tally.check(false),
+        Err(text) => tally.check(text.as_str() == "1e9"),
+    }
 }
 
 /// Names directive locations.
@@ -248,14 +254,20 @@ fn make_extensions(alloc: Global, tally: &mut Tally) {
     );
 }
 
+/// Whether a name was made, and has this text.
+fn is_name<N: Names>(made: &Result<N::Value, AllocError>, text: &str) -> bool {
+    match made {
+        Ok(name) => N::view(name) == text,
+        Err(AllocError) => false,
+    }
+}
+
 /// Makes and views names.
 fn name_texts(alloc: Global, tally: &mut Tally, name: &String) {
-    tally.check(<&str as Text<'_>>::make(alloc, "a").is_ok_and(|name| <&str as Names>::view(&name)
-        == "a"));
-    tally.check(<CowStr<'_> as Text<'_>>::make(alloc, "a").is_ok_and(|name| <CowStr<
-        '_,
-    > as Names>::view(&name)
-        == "a"));
+    let same: Result<&str, AllocError> = <&str as Text<'_>>::make(alloc, "a");
+    tally.check(is_name::<&str>(&same, "a"));
+    let borrowed: Result<CowStr<'_>, AllocError> = <CowStr<'_> as Text<'_>>::make(alloc, "a");
+    tally.check(is_name::<CowStr<'_>>(&borrowed, "a"));
     tally.check(<String as Names>::view(name) == "a");
 }
 
