@@ -108,7 +108,10 @@ fn cases_of_a_folder_agree() {
 #[test]
 fn hero_is_laid_out() {
     let text = "query Hero($id: ID! = \"1\") @cached { h: hero(id: $id) { name ... on Droid { parts(first: 2) } ...More } }\n";
-    let lines = "query Hero($id: ID! = \"1\") @cached {\n  h: hero(id: $id) {\n    name\n    ... on Droid {\n      parts(first: 2)\n    }\n    ...More\n  }\n}\n";
+    let lines = concat!(
+        "query Hero($id: ID! = \"1\") @cached {\n  h: hero(id: $id) {\n    name\n",
+        "    ... on Droid {\n      parts(first: 2)\n    }\n    ...More\n  }\n}\n",
+    );
     assert_eq!(format_query(text, Style::default()).as_deref(), Ok(lines));
     let shortest = "query Hero($id:ID!=\"1\")@cached{h:hero(id:$id){name...on Droid{parts(first:2)}...More}}";
     assert_eq!(minify(text).as_deref(), Ok(shortest));

@@ -9,6 +9,7 @@ pub returns : goal.returns
 returns c =
     let text = c.args.text.now in
     let made = c.query_laid_out.result in
-    let laid = subst (λ style. IfOk made (λ (s : String Global). IsQueryLaidOut style text (string_bytes s))) c.style_in-style.ensures c.query_laid_out.ensures.ok in
-    let none = subst (λ style. IfErr made (Fails (HasNoQuery text) (IsQueryTooWide style text) text)) c.style_in-style.ensures c.query_laid_out.ensures.err in
+    let style = c.style_in-style.ensures in
+    let laid = subst (λ l. IfOk made (λ (s : String Global). IsQueryLaidOut l text (string_bytes s))) style c.query_laid_out.ensures.ok in
+    let none = subst (λ l. IfErr made (Fails (HasNoQuery text) (IsQueryTooWide l text) text)) style c.query_laid_out.ensures.err in
     answered made laid none c.answer_of.ensures.ok c.answer_of.ensures.err

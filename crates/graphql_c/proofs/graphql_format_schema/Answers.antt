@@ -9,6 +9,7 @@ pub returns : goal.returns
 returns c =
     let text = c.args.text.now in
     let made = c.schema_laid_out.result in
-    let laid = subst (λ style. IfOk made (λ (s : String Global). IsSchemaLaidOut style text (string_bytes s))) c.style_in-style.ensures c.schema_laid_out.ensures.ok in
-    let none = subst (λ style. IfErr made (Fails (HasNoSchema text) (IsSchemaTooWide style text) text)) c.style_in-style.ensures c.schema_laid_out.ensures.err in
+    let style = c.style_in-style.ensures in
+    let laid = subst (λ l. IfOk made (λ (s : String Global). IsSchemaLaidOut l text (string_bytes s))) style c.schema_laid_out.ensures.ok in
+    let none = subst (λ l. IfErr made (Fails (HasNoSchema text) (IsSchemaTooWide l text) text)) style c.schema_laid_out.ensures.err in
     answered made laid none c.answer_of.ensures.ok c.answer_of.ensures.err

@@ -5,7 +5,8 @@ use Rattle.graphql_c.proofs.calls.schema_checked.Goals as goal
 
 pub returns-in_err-document-clause-err : goal.returns-in_err-document-clause-err
 returns-in_err-document-clause-err c =
-    if_returned _ c.from_residual.result (Fails (HasNoSchema c.args.bytes.now) ⊥ c.args.bytes.now) c.in_err-document.was c.schema_of.ensures.err c.from_residual.ensures.1
+    let why = Fails (HasNoSchema c.args.bytes.now) ⊥ c.args.bytes.now in
+    if_returned _ c.from_residual.result why c.in_err-document.was c.schema_of.ensures.err c.from_residual.ensures.1
 
 pub returns-clause-ok : goal.returns-clause-ok
 returns-clause-ok c = (_, c.in_ok-document.ensures.ok, c.new.ensures.bytes)
