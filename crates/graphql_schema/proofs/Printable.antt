@@ -237,7 +237,8 @@ extension_printable (room_node (room_first (room_both w f)) adds) = let (is, b) 
 extension_printable (room_node (room_second (room_both w (room_node (room_both s (room_both ds (room_first (room_node (room_both (room_leaf a l d)
     (room_both (room_both r rs) e)) f)))) c))) adds) =
     let (are, b) = directives_printable (room_shared ds refl refl) in
-    ((are, roots_printable (room_more r rs)), adds, braces_within _ _ _ b d)
+    let (query, mutation, subscription) = roots_printable (room_more r rs) in
+    ((are, query, mutation, subscription), adds, braces_within _ _ _ b d)
 extension_printable (room_node (room_second (room_both w (room_node (room_both s (room_both ds (room_second room_nothing))) c))) adds) =
     let (are, b) = directives_printable (room_shared ds refl refl) in
     ((are, tt, tt, tt), adds, omega arith)
@@ -245,7 +246,8 @@ extension_printable (room_node (room_second (room_both w (room_node (room_both s
 item_printable : {n : ℕ} {x : Shape} → HasRoom schema n (Sym item_symbol) x → IsDefinition n (item_of x)
 item_printable (room_node (room_first (room_both o (room_node (room_both w (room_both ds (room_both (room_leaf a l d) (room_both roots e)))) f))) c) =
     let (are, b) = directives_printable (room_shared ds refl refl) in
-    ((are, roots_printable roots), tt, omega arith)
+    let (query, mutation, subscription) = roots_printable roots in
+    ((are, query, mutation, subscription), tt, omega arith)
 item_printable (room_node (room_second (room_first f)) c) = extension_printable f
 item_printable (room_node (room_second (room_second f)) c) = described_printable f
 
