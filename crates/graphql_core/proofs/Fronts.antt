@@ -5,15 +5,15 @@ use Rattle.std.proofs.lemmas.List.Elements.{All-head}
 use Rattle.graphql_grammar.specs.Tokens.{Token, AnyOf, same_spelling, matches}
 use Rattle.graphql_grammar.specs.Trees.{peek}
 use Rattle.graphql_grammar.specs.Reading.{sees}
-use Rattle.graphql_core.specs.declared.helpers.mark.Mark.{Mark}
-use Rattle.graphql_core.specs.declared.helpers.mark.Mark.TheVariants.{Bang, Dollar, Ampersand, OpenParen, CloseParen, Dots, Colon, Equals, At, OpenBracket}
-use Rattle.graphql_core.specs.declared.helpers.mark.Mark.TheVariants.{CloseBracket, OpenBrace, Pipe, CloseBrace}
+use Rattle.graphql_core.specs.declared.helpers.punctuator.Punctuator.{Mark}
+use Rattle.graphql_core.specs.declared.helpers.punctuator.Punctuator.TheVariants.{Bang, Dollar, Ampersand, OpenParen, CloseParen, Spread, Colon, Equals, At, OpenBracket}
+use Rattle.graphql_core.specs.declared.helpers.punctuator.Punctuator.TheVariants.{CloseBracket, OpenBrace, Pipe, CloseBrace}
 use Rattle.graphql_lexer.specs.declared.tokenizer.token.Kind.{Kind}
 use Rattle.graphql_lexer.specs.declared.tokenizer.token.Kind.TheVariants.{Punctuator, Name}
 use Rattle.graphql_lexer.specs.declared.tokenizer.piece.Nesting.{Nesting}
 use Rattle.graphql_core.specs.Causes.{kind_number}
 use Rattle.graphql_lexer.specs.Lexical.{is_name_start, is_mark, Word, Stands, name, mark, spread, integer, float, string, block_string}
-use Rattle.graphql_core.specs.steps.Marks.{spelling_of, class_of, first_byte, front_byte}
+use Rattle.graphql_core.specs.steps.Punctuators.{spelling_of, class_of, first_byte, front_byte}
 use Rattle.graphql_core.specs.Source.{IsLexeme}
 use Rattle.graphql_lexer.proofs.Runs.{differs}
 use Rattle.graphql_lexer.specs.steps.Numbers.{starts_number}
@@ -50,7 +50,7 @@ one_seen b is (string body h n) = let e = differs is_mark b 34 is refl in rw (by
 one_seen b is (block_string h) = let e = differs is_mark b 34 is refl in rw (byte_back 34 b, e) refl
 
 -- three dots
-dots_seen : {k : Kind} {s : Nesting} {bytes rest : List ℕ} → Stands bytes (Word k s) rest → (first_byte bytes == 46) ≡ IsMarked k (spelling_of Dots) bytes
+dots_seen : {k : Kind} {s : Nesting} {bytes rest : List ℕ} → Stands bytes (Word k s) rest → (first_byte bytes == 46) ≡ IsMarked k (spelling_of Spread) bytes
 dots_seen (name {b = f} h all stop) = differs is_name_start f 46 h refl
 dots_seen (mark {b = f} h) = let e = differs is_mark f 46 h refl in rw (byte_back 46 f, e) refl
 dots_seen spread = refl
@@ -66,7 +66,7 @@ mark_seen Dollar st = one_seen 36 refl st
 mark_seen Ampersand st = one_seen 38 refl st
 mark_seen OpenParen st = one_seen 40 refl st
 mark_seen CloseParen st = one_seen 41 refl st
-mark_seen Dots st = dots_seen st
+mark_seen Spread st = dots_seen st
 mark_seen Colon st = one_seen 58 refl st
 mark_seen Equals st = one_seen 61 refl st
 mark_seen At st = one_seen 64 refl st
@@ -98,7 +98,7 @@ no_mark Dollar = refl
 no_mark Ampersand = refl
 no_mark OpenParen = refl
 no_mark CloseParen = refl
-no_mark Dots = refl
+no_mark Spread = refl
 no_mark Colon = refl
 no_mark Equals = refl
 no_mark At = refl
@@ -108,9 +108,9 @@ no_mark OpenBrace = refl
 no_mark Pipe = refl
 no_mark CloseBrace = refl
 
-pub sees_mark : (m : Mark) (ts : List Token) → All IsLexeme ts → (front_byte ts == first_byte (spelling_of m)) ≡ sees (class_of m ∷ []) (peek ts)
-sees_mark m [] all = no_mark m
-sees_mark m (t ∷ ts) all =
+pub sees_punctuator : (m : Mark) (ts : List Token) → All IsLexeme ts → (front_byte ts == first_byte (spelling_of m)) ≡ sees (class_of m ∷ []) (peek ts)
+sees_punctuator m [] all = no_mark m
+sees_punctuator m (t ∷ ts) all =
     let (k, s, rest, kind, stands) = All-head IsLexeme t ts all in
     mark_seen m stands ∙ ap (λ n. (kind_number Punctuator == n) && same_spelling (spelling_of m) t.spelling) (sym kind) ∙ or_false (matches (class_of m) t)
 

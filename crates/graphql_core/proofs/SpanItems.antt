@@ -15,7 +15,7 @@ use Rattle.graphql_core.specs.declared.common.fault.Fault.{Fault}
 use Rattle.graphql_core.specs.declared.helpers.span.Span.{Span}
 use Rattle.graphql_core.specs.Causes.{kind_number}
 use Rattle.graphql_core.specs.Source.{Items, Last, IsLexeme, IsFaultOf, split, then_items, tokens_then, token_of}
-use Rattle.graphql_core.specs.steps.Marks.{first_byte}
+use Rattle.graphql_core.specs.steps.Punctuators.{first_byte}
 use Rattle.graphql_core.specs.steps.Spans.{Marks, span_token, span_items, last_of}
 use Rattle.graphql_core.proofs.TokenPlaces.{IsToken, StandsIn}
 

@@ -36,7 +36,7 @@ fn first_definition<S: TokenSource>(
 {
     match definition(alloc, source, scratch) {
         Ok(definition) => Ok(definition),
-        Err(stop) => Err(fault_of(alloc, source, stop)),
+        Err(error) => Err(fault_of(alloc, source, error)),
     }
 }
 

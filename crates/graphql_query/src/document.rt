@@ -40,7 +40,7 @@ pub fn read_document<S: TokenSource>(
 {
     let definitions = match definitions(alloc, source) {
         Ok(definitions) => definitions,
-        Err(stop) => return Err(fault_of(alloc, source, stop)),
+        Err(error) => return Err(fault_of(alloc, source, error)),
     };
     if source.is_at_end() {
         Ok(Document { definitions })

@@ -18,7 +18,7 @@ use graphql_core::common::{Cause, Fault, MAX_LENGTH, Text};
 use graphql_core::helpers::{Cursor, SpanSource, Spans, TokenSource, WIDE_TEXT, Width, fault_of};
 use graphql_core::tokenizer::TokenStream;
 use graphql_schema_tree::tree::Document;
-use graphql_values::read::halt::Halt;
+use graphql_values::read::node_error::NodeError;
 use std::alloc::Global;
 use std::mem;
 
@@ -31,14 +31,14 @@ fn read_document<S: TokenSource>(alloc: Global, source: &mut S) -> Result<Docume
 {
     let definitions = match definitions(alloc, source) {
         Ok(definitions) => definitions,
-        Err(Halt::Stopped(stop)) => return Err(fault_of(alloc, source, stop)),
-        Err(Halt::Refused(Refusal::Schema(cause, position))) => {
+        Err(NodeError::Stopped(error)) => return Err(fault_of(alloc, source, error)),
+        Err(NodeError::Refused(Refusal::Schema(cause, position))) => {
             return Err(Fault::At(cause, position));
         }
-        Err(Halt::Refused(Refusal::SchemaExtension(cause, position))) => {
+        Err(NodeError::Refused(Refusal::SchemaExtension(cause, position))) => {
             return Err(Fault::At(cause, position));
         }
-        Err(Halt::Refused(Refusal::Extension(position))) => {
+        Err(NodeError::Refused(Refusal::Extension(position))) => {
             return Err(Fault::At(Cause::EmptyExtension, position));
         }
     };

@@ -7,15 +7,15 @@ use Rattle.graphql_grammar.specs.Factored.{written}
 use Rattle.graphql_core.specs.declared.common.fault.Fault.{Fault}
 use Rattle.graphql_core.specs.declared.common.fault.Fault.TheVariants.{At}
 use Rattle.graphql_core.specs.declared.common.cause.Cause.{Cause}
-use Rattle.graphql_core.specs.declared.helpers.stop.Stop.{Stop}
+use Rattle.graphql_core.specs.declared.helpers.read_error.ReadError.{ReadError}
 use Rattle.graphql_lexer.specs.declared.position.Pos.{Pos}
 use Rattle.graphql_core.specs.Causes.{cause_text}
 use Rattle.graphql_lexer.specs.Items.{Content, Lexeme, End, Wrong, Where, Item, item, Stream}
 use Rattle.graphql_lexer.specs.Stream.{last_alone, asked_once}
 use Rattle.graphql_core.specs.Source.{Items, Last, IsEnd, IsAtEnd, IsFaultOf, split, only_last, items_of_stream, kept, place_of}
-use Rattle.graphql_core.specs.steps.Stops.{IsFaultFor}
+use Rattle.graphql_core.specs.steps.ReadErrors.{IsFaultFor}
 use Rattle.graphql_core.specs.Refusal.{Refusal, refusal_of, max_length, too_long}
-use Rattle.graphql_values.specs.declared.read.halt.Halt.TheVariants.{Stopped, Refused}
+use Rattle.graphql_values.specs.declared.read.node_error.NodeError.TheVariants.{Stopped, Refused}
 use Rattle.graphql_values.specs.Language.{Language, document_rule}
 use Rattle.graphql_values.specs.Document.{IsDocument}
 use Rattle.graphql_values.specs.Faults.{IsLeastFault, IsRefusalFor, IsRefusalOf, past_bound}
@@ -147,7 +147,7 @@ module _ {D V A R : Type 0} (l : Language D) (r : IsReadable l) (w : Refusals R)
         refused = tt;
       }
 
-  pub read_stopped : (s : Stop) (e : Fault) → Reads l w (document_rule l) i j P (Err (Stopped s)) → kept j ≡ kept i → IsFaultFor s j e
+  pub read_stopped : (s : ReadError) (e : Fault) → Reads l w (document_rule l) i j P (Err (Stopped s)) → kept j ≡ kept i → IsFaultFor s j e
       → ReadsDocument l view i (Err e)
   read_stopped s e h last is =
       record { derived = tt; complete = λ d k. memory_only l r i j s e d h.gives is k; refused = least_stop l r i j s e h.gives is last }

@@ -13,11 +13,11 @@ use Rattle.graphql_grammar.specs.Texts as texts
 use Rattle.graphql_grammar.specs.Texts.{Answers}
 use Rattle.graphql_core.specs.declared.common.fault.Fault.{Fault}
 use Rattle.graphql_core.specs.declared.common.fault.Fault.TheVariants.{OutOfMemory, At}
-use Rattle.graphql_core.specs.declared.helpers.stop.Stop.{Stop}
-use Rattle.graphql_core.specs.declared.helpers.stop.Stop.TheVariants.{Memory, Item, Integer, Float, Escape, Location}
+use Rattle.graphql_core.specs.declared.helpers.read_error.ReadError.{ReadError}
+use Rattle.graphql_core.specs.declared.helpers.read_error.ReadError.TheVariants.{Memory, Item, Integer, Float, Escape, Location}
 use Rattle.graphql_core.specs.Source.{Items, Last, End, Wrong, IsEnd, IsAtEnd, IsFaultOf, FaultText, kept, fault_at, place_of, place_next, split}
 use Rattle.graphql_core.specs.Source.{items_of_text, spending, tokens_then}
-use Rattle.graphql_core.specs.steps.Stops.{IsCauseHere, IsFaultFor}
+use Rattle.graphql_core.specs.steps.ReadErrors.{IsCauseHere, IsFaultFor}
 use Rattle.graphql_core.specs.Causes.{CauseText, cause_text}
 use Rattle.graphql_lexer.specs.Items.{HasItems, start}
 use Rattle.graphql_lexer.specs.Items as items_of
@@ -119,7 +119,7 @@ module _ {D : Type 0} (l : Language D) (r : IsReadable l) where
 
   -- ---- what a reader's exits say
 
-  pub memory_only : (i j : Items) (s : Stop) (e : Fault) (d : D) → Stops (reading l) (document_rule l) i.tokens j.tokens (reason_of s)
+  pub memory_only : (i j : Items) (s : ReadError) (e : Fault) (d : D) → Stops (reading l) (document_rule l) i.tokens j.tokens (reason_of s)
       → IsFaultFor s j e → IsDocument l i d → e ≡ OutOfMemory
   memory_only i j Memory e d h f k = f
   memory_only i j Item e d h f k = absurd (none_wrong Unexpected i j d (at_fault Unexpected i j h) k)
@@ -148,7 +148,7 @@ module _ {D : Type 0} (l : Language D) (r : IsReadable l) where
       let first = (exact_reading l r).earliest i.tokens j.tokens _ (fails_node h) in
       unexpected_left i j _ first.parts last _ (at_fault _ i j h) f
 
-  pub least_stop : (i j : Items) (s : Stop) (e : Fault) → Stops (reading l) (document_rule l) i.tokens j.tokens (reason_of s) → IsFaultFor s j e
+  pub least_stop : (i j : Items) (s : ReadError) (e : Fault) → Stops (reading l) (document_rule l) i.tokens j.tokens (reason_of s) → IsFaultFor s j e
       → kept j ≡ kept i → IsLeastOf l i e
   least_stop i j Memory e h f last = subst (IsLeastOf l i) (sym f) tt
   least_stop i j Item e h f last = misplaced i j e h f last

@@ -9,7 +9,7 @@ use crate::tree::Extension;
 use graphql_core::common::{Cause, Fault, MAX_LENGTH, Refused, Text};
 use graphql_core::helpers::{Cursor, TokenSource, fault_of};
 use graphql_core::tokenizer::TokenStream;
-use graphql_values::read::halt::Halt;
+use graphql_values::read::node_error::NodeError;
 use std::alloc::Global;
 use std::mem;
 
@@ -25,8 +25,8 @@ fn read_document<S: TokenSource>(
 {
     let extensions = match extensions(alloc, source) {
         Ok(extensions) => extensions,
-        Err(Halt::Stopped(stop)) => return Err(fault_of(alloc, source, stop)),
-        Err(Halt::Refused(position)) => return Err(Fault::At(Cause::EmptyExtension, position)),
+        Err(NodeError::Stopped(error)) => return Err(fault_of(alloc, source, error)),
+        Err(NodeError::Refused(position)) => return Err(Fault::At(Cause::EmptyExtension, position)),
     };
     if source.is_at_end() {
         Ok(extensions)

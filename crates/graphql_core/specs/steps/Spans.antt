@@ -8,7 +8,7 @@ use Rattle.graphql_lexer.specs.BadTexts.{bad_text}
 use Rattle.graphql_core.specs.declared.helpers.span.Span.{Span}
 use Rattle.graphql_core.specs.Causes.{kind_number, no_token}
 use Rattle.graphql_core.specs.Source.{Items, Last, End, Wrong, IsLexeme, place_of, tokens_then}
-use Rattle.graphql_core.specs.steps.Marks.{first_byte}
+use Rattle.graphql_core.specs.steps.Punctuators.{first_byte}
 
 -- the token that stands there, where `number` says what the numbers of a span are
 abbrev pub span_token : {W : Type 0} → (W → ℕ) → List ℕ → Span W → Token

@@ -4,13 +4,13 @@ ghost use Rattle.graphql_lexer.specs.Items.{HasItems, Item, Stream};
 ghost use Rattle.graphql_lexer.specs.Stream.{AreItemsOfRest};
 ghost use Rattle.graphql_core.specs.Causes.{no_token, cause_text};
 ghost use Rattle.graphql_lexer.specs.BadTexts.{bad_text};
-ghost use Rattle.graphql_core.specs.steps.Marks.{first_byte, front_byte};
+ghost use Rattle.graphql_core.specs.steps.Punctuators.{first_byte, front_byte};
 ghost use Rattle.graphql_core.specs.steps.Endings.{shown};
 ghost use Rattle.graphql_lexer.specs.declared.position.Pos.{Pos};
 ghost use Rattle.graphql_core.specs.Source.{Items, Wrong, IsFaultOf, after, held, items_of_stream, items_of_text, then_items, token_of, only_last, place_of};
 
 use crate::common::{BadToken, Cause, Fault, Names, Text};
-use crate::helpers::mark::Mark;
+use crate::helpers::punctuator::Punctuator;
 use crate::helpers::room::is_long;
 use crate::helpers::source::{Lexeme, TokenSource};
 use graphql_lexer::position::Pos;
@@ -46,7 +46,7 @@ pub struct Cursor<'a, T: Text<'a>> {
 
 impl<'a, T: Text<'a>> Model for Cursor<'a, T> {
     ghost use Rattle.std.specs.Prelude.{All, ◌≡◌, ◌-◌, ◌≤◌, ◌^◌};
-    ghost use Rattle.graphql_core.specs.steps.Marks.{front_byte};
+    ghost use Rattle.graphql_core.specs.steps.Punctuators.{front_byte};
     ghost use Rattle.graphql_core.specs.steps.Endings.{shown};
     ghost use Rattle.graphql_core.specs.Source.{Items, IsLexeme};
 
@@ -204,7 +204,7 @@ impl<'a, T: Text<'a>> TokenSource for Cursor<'a, T> {
     }
 
     #[inline(always)]
-    fn sees_mark(&self, mark: Mark) -> bool {
+    fn sees_punctuator(&self, mark: Punctuator) -> bool {
         self.front == mark.first_byte()
     }
 

@@ -3,12 +3,12 @@ ghost use Rattle.std.specs.Prelude.{◌≡◌, ℕ, ◌+◌, ◌≤◌, ◌<◌,
 ghost use Rattle.graphql_lexer.specs.Items.{HasItems, Item};
 ghost use Rattle.graphql_lexer.specs.Stream.{NextItem};
 ghost use Rattle.graphql_core.specs.Source.{split};
-ghost use Rattle.graphql_core.specs.steps.Marks.{first_byte, front_byte};
+ghost use Rattle.graphql_core.specs.steps.Punctuators.{first_byte, front_byte};
 ghost use Rattle.graphql_core.specs.steps.Spans.{Marks, span_token, span_items, last_of};
 
 use crate::common::{Cause, Fault, Names, Text};
 use crate::helpers::cursor::{bad_place, first_byte, unexpected};
-use crate::helpers::mark::Mark;
+use crate::helpers::punctuator::Punctuator;
 use crate::helpers::room::is_long;
 use crate::helpers::source::{Lexeme, TokenSource};
 use crate::helpers::span::{Span, Width};
@@ -54,7 +54,7 @@ pub struct SpanSource<'a, 's, T: Text<'a>, W: Width> {
 impl<'a, 's, T: Text<'a>, W: Width> Model for SpanSource<'a, 's, T, W> {
     ghost use Rattle.std.specs.Prelude.{All, ◌≡◌, map};
     ghost use Rattle.graphql_core.specs.Source.{Items};
-    ghost use Rattle.graphql_core.specs.steps.Marks.{front_byte};
+    ghost use Rattle.graphql_core.specs.steps.Punctuators.{front_byte};
     ghost use Rattle.graphql_core.specs.steps.Spans.{Marks, span_token, span_items, last_of};
 
     ghost Value = { Items };
@@ -218,7 +218,7 @@ impl<'a, 's, T: Text<'a>, W: Width> TokenSource for SpanSource<'a, 's, T, W> {
     }
 
     #[inline(always)]
-    fn sees_mark(&self, mark: Mark) -> bool {
+    fn sees_punctuator(&self, mark: Punctuator) -> bool {
         self.front == mark.first_byte()
     }
 

@@ -26,8 +26,8 @@ abbrev pub is_blank : ℕ → Bool
 is_blank b = b == 32 || b == 44
 
 -- U+FEFF
-abbrev pub is_order_mark : ℕ → List ℕ → Bool
-is_order_mark b bs = b == 239 && (slice_index bs 0 == 187 && slice_index bs 1 == 191)
+abbrev pub is_byte_order_mark : ℕ → List ℕ → Bool
+is_byte_order_mark b bs = b == 239 && (slice_index bs 0 == 187 && slice_index bs 1 == 191)
 
 -- the place of the lowest bit that is set, or n
 abbrev pub first_set : ℕ → ℕ → ℕ

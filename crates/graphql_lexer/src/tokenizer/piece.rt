@@ -6,7 +6,7 @@ ghost use Rattle.graphql_lexer.specs.steps.Front as spec;
 ghost use Rattle.graphql_lexer.specs.Lexical as lexical;
 ghost use Rattle.graphql_lexer.specs.declared.tokenizer.piece.Nesting.TheVariants.{Level};
 ghost use Rattle.graphql_lexer.specs.declared.tokenizer.piece.Piece.TheVariants.{Skips, Takes};
-ghost use Rattle.graphql_lexer.specs.steps.Ahead.{is_space, is_blank, is_order_mark, ignored, FitsIgnored, taken, without_flat, FitsTaken, is_plain, is_rare};
+ghost use Rattle.graphql_lexer.specs.steps.Ahead.{is_space, is_blank, is_byte_order_mark, ignored, FitsIgnored, taken, without_flat, FitsTaken, is_plain, is_rare};
 
 use crate::tokenizer::number::{number, plain_number, starts_number};
 use crate::tokenizer::quoted::{plain_string_len, quoted};
@@ -382,8 +382,8 @@ fn is_blank(byte: u8) -> bool
 }
 
 #[inline(always)]
-fn is_order_mark(byte: u8, rest: &[u8]) -> bool
-    ensures { result ≡ is_order_mark byte rest.now }
+fn is_byte_order_mark(byte: u8, rest: &[u8]) -> bool
+    ensures { result ≡ is_byte_order_mark byte rest.now }
 {
     byte == 0xEF && (byte_at(rest, 0) == 0xBB && byte_at(rest, 1) == 0xBF)
 }
@@ -408,7 +408,7 @@ fn ignored_bytes(bytes: &[u8]) -> Option<(usize, Move)>
                 Some((1, Move::Over(1)))
             } else if *byte == b'#' {
                 comment_at(rest)
-            } else if is_order_mark(*byte, rest) {
+            } else if is_byte_order_mark(*byte, rest) {
                 Some((3, Move::Stay))
             } else {
                 None

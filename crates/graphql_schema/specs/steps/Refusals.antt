@@ -3,7 +3,7 @@ use Rattle.std.specs.Prelude.{ℕ, Result}
 use Rattle.graphql_grammar.specs.Trees.{Expr, Shape}
 use Rattle.graphql_core.specs.Causes.{cause_text, empty_extension}
 use Rattle.graphql_core.specs.Source.{Items, FaultText, place_of}
-use Rattle.graphql_values.specs.declared.read.halt.Halt.{Halt}
+use Rattle.graphql_values.specs.declared.read.node_error.NodeError.{NodeError}
 use Rattle.graphql_values.specs.Refusing.{Refusals}
 use Rattle.graphql_values.specs.Refusing as refusing
 use Rattle.graphql_schema_tree.specs.Grammar.{schema_symbol, extension_symbol, schema_extension_symbol}
@@ -26,5 +26,5 @@ abbrev pub refusals : Refusals Refusal
 refusals = record { symbol = refused_symbol; fault = fault_said }
 
 -- it reads by the second rules, and its answer is what the written shape means; or it stops, or refuses a node, and says why
-abbrev pub ReadsNode : {A : Type 0} → Expr → Items → Items → (A → Shape → Type 0) → Result A (Halt Refusal) → Type 0
+abbrev pub ReadsNode : {A : Type 0} → Expr → Items → Items → (A → Shape → Type 0) → Result A (NodeError Refusal) → Type 0
 ReadsNode = refusing.Reads schemas refusals

@@ -7,13 +7,13 @@ use Rattle.graphql_values.proofs.Reading.{takes_one, takes_some, takes_none}
 use Rattle.graphql_values.proofs.Views.{non_null_made}
 use Rattle.graphql_values.proofs.read.types.marked.Goals as goal
 
-pub returns-then-sees_mark-clause-reads : goal.returns-then-sees_mark-clause-reads
-returns-then-sees_mark-clause-reads g c =
-    let (t, takes, at) = c.in_ok-take_mark.ensures in (
+pub returns-then-sees_punctuator-clause-reads : goal.returns-then-sees_punctuator-clause-reads
+returns-then-sees_punctuator-clause-reads g c =
+    let (t, takes, at) = c.in_ok-expect_punctuator.ensures in (
       First (Leaf t),
-      takes_some shared (punctuator (codes "!")) _ _ _ (sym c.sees_mark.ensures ∙ c.if-sees_mark.true) (takes_one shared _ _ _ t refl takes),
+      takes_some shared (punctuator (codes "!")) _ _ _ (sym c.sees_punctuator.ensures ∙ c.if-sees_punctuator.true) (takes_one shared _ _ _ t refl takes),
       non_null_made _ _ g.S.Names.Names.bytes _ ∙ ap (λ t. non_null (type_view g.S.Names.Names.bytes t)) c.in_ok-new.ensures.ok,
     )
 
 pub returns-clause-reads : goal.returns-clause-reads
-returns-clause-reads g c = (Second Nothing, takes_none shared (punctuator (codes "!")) _ refl (sym c.sees_mark.ensures ∙ c.if-sees_mark.false), refl)
+returns-clause-reads g c = (Second Nothing, takes_none shared (punctuator (codes "!")) _ refl (sym c.sees_punctuator.ensures ∙ c.if-sees_punctuator.false), refl)

@@ -3,7 +3,7 @@ use Rattle.graphql_grammar.specs.Tokens.{AnyOf}
 use Rattle.graphql_lexer.specs.declared.tokenizer.token.Kind.TheVariants.{Name}
 use Rattle.graphql_core.specs.Causes.{kind_number}
 use Rattle.graphql_core.proofs.Matches.{takes_first, seen_matches}
-use Rattle.graphql_core.proofs.helpers.matching.name.Goals as goal
+use Rattle.graphql_core.proofs.helpers.matching.expect_name.Goals as goal
 
 pub returns-in_ok-name-in-Some : goal.returns-in_ok-name-in-Some
 returns-in_ok-name-in-Some g c =

@@ -1,10 +1,10 @@
 //! Punctuators.
 ghost use Rattle.std.specs.Prelude.{◌≡◌};
-ghost use Rattle.graphql_core.specs.steps.Marks.{first_byte, spelling_of};
+ghost use Rattle.graphql_core.specs.steps.Punctuators.{first_byte, spelling_of};
 
 /// A punctuator (GraphQL, October 2021, section 2.1.8).
 #[derive(Clone, Copy, Debug)]
-pub enum Mark {
+pub enum Punctuator {
     /// `!`
     Bang,
     /// `$`
@@ -16,7 +16,7 @@ pub enum Mark {
     /// `)`
     CloseParen,
     /// `...`
-    Dots,
+    Spread,
     /// `:`
     Colon,
     /// `=`
@@ -35,27 +35,27 @@ pub enum Mark {
     CloseBrace,
 }
 
-impl Mark {
+impl Punctuator {
     /// Its first byte, which no other token begins with.
     #[inline(always)]
     pub fn first_byte(self) -> u8
         ensures { result ≡ first_byte (spelling_of self) }
     {
         match self {
-            Mark::Bang => b'!',
-            Mark::Dollar => b'$',
-            Mark::Ampersand => b'&',
-            Mark::OpenParen => b'(',
-            Mark::CloseParen => b')',
-            Mark::Dots => b'.',
-            Mark::Colon => b':',
-            Mark::Equals => b'=',
-            Mark::At => b'@',
-            Mark::OpenBracket => b'[',
-            Mark::CloseBracket => b']',
-            Mark::OpenBrace => b'{',
-            Mark::Pipe => b'|',
-            Mark::CloseBrace => b'}',
+            Punctuator::Bang => b'!',
+            Punctuator::Dollar => b'$',
+            Punctuator::Ampersand => b'&',
+            Punctuator::OpenParen => b'(',
+            Punctuator::CloseParen => b')',
+            Punctuator::Spread => b'.',
+            Punctuator::Colon => b':',
+            Punctuator::Equals => b'=',
+            Punctuator::At => b'@',
+            Punctuator::OpenBracket => b'[',
+            Punctuator::CloseBracket => b']',
+            Punctuator::OpenBrace => b'{',
+            Punctuator::Pipe => b'|',
+            Punctuator::CloseBrace => b'}',
         }
     }
 }

@@ -2,9 +2,9 @@
 use Rattle.std.specs.Prelude.{ℕ, List, [], ◌∷◌, codes}
 use Rattle.graphql_grammar.specs.Tokens.{Token, Class, Spelled}
 use Rattle.graphql_lexer.specs.declared.tokenizer.token.Kind.TheVariants.{Punctuator}
-use Rattle.graphql_core.specs.declared.helpers.mark.Mark.{Mark}
-use Rattle.graphql_core.specs.declared.helpers.mark.Mark.TheVariants.{Bang, Dollar, Ampersand, OpenParen, CloseParen, Dots, Colon, Equals, At, OpenBracket}
-use Rattle.graphql_core.specs.declared.helpers.mark.Mark.TheVariants.{CloseBracket, OpenBrace, Pipe, CloseBrace}
+use Rattle.graphql_core.specs.declared.helpers.punctuator.Punctuator.{Mark}
+use Rattle.graphql_core.specs.declared.helpers.punctuator.Punctuator.TheVariants.{Bang, Dollar, Ampersand, OpenParen, CloseParen, Spread, Colon, Equals, At, OpenBracket}
+use Rattle.graphql_core.specs.declared.helpers.punctuator.Punctuator.TheVariants.{CloseBracket, OpenBrace, Pipe, CloseBrace}
 use Rattle.graphql_core.specs.Causes.{kind_number}
 
 abbrev pub spelling_of : Mark → List ℕ
@@ -13,7 +13,7 @@ spelling_of Dollar = codes "$"
 spelling_of Ampersand = codes "&"
 spelling_of OpenParen = codes "("
 spelling_of CloseParen = codes ")"
-spelling_of Dots = codes "..."
+spelling_of Spread = codes "..."
 spelling_of Colon = codes ":"
 spelling_of Equals = codes "="
 spelling_of At = codes "@"

@@ -2,8 +2,8 @@
 use Rattle.std.specs.Prelude.{◌≡◌}
 use Rattle.graphql_core.specs.declared.common.fault.Fault.{Fault}
 use Rattle.graphql_core.specs.declared.common.fault.Fault.TheVariants.{OutOfMemory, At}
-use Rattle.graphql_core.specs.declared.helpers.stop.Stop.{Stop}
-use Rattle.graphql_core.specs.declared.helpers.stop.Stop.TheVariants.{Memory, Item, Integer, Float, Escape, Location}
+use Rattle.graphql_core.specs.declared.helpers.read_error.ReadError.{ReadError}
+use Rattle.graphql_core.specs.declared.helpers.read_error.ReadError.TheVariants.{Memory, Item, Integer, Float, Escape, Location}
 use Rattle.graphql_core.specs.Causes.{CauseText, cause_text, int_out_of_range, malformed_float, bad_escape, unknown_location}
 use Rattle.graphql_core.specs.Source.{Items, IsFaultOf, place_of, place_next}
 
@@ -12,7 +12,7 @@ abbrev pub IsCauseHere : CauseText → Items → Fault → Type 0
 IsCauseHere k i OutOfMemory = ⊥
 IsCauseHere k i (At c p) = (cause_text c ≡ k) × (place_of p ≡ place_next i)
 
-abbrev pub IsFaultFor : Stop → Items → Fault → Type 0
+abbrev pub IsFaultFor : ReadError → Items → Fault → Type 0
 IsFaultFor Memory i f = f ≡ OutOfMemory
 IsFaultFor Item i f = IsFaultOf i f
 IsFaultFor Integer i f = IsCauseHere int_out_of_range i f
