@@ -5,11 +5,12 @@ use Rattle.std.proofs.lemmas.List.Elements.{All-head}
 use Rattle.graphql_grammar.specs.Tokens.{Token, AnyOf, same_spelling, matches}
 use Rattle.graphql_grammar.specs.Trees.{peek}
 use Rattle.graphql_grammar.specs.Reading.{sees}
-use Rattle.graphql_core.specs.declared.helpers.punctuator.Punctuator.{Mark}
+use Rattle.graphql_core.specs.declared.helpers.punctuator.Punctuator.{Punctuator}
 use Rattle.graphql_core.specs.declared.helpers.punctuator.Punctuator.TheVariants.{Bang, Dollar, Ampersand, OpenParen, CloseParen, Spread, Colon, Equals, At, OpenBracket}
 use Rattle.graphql_core.specs.declared.helpers.punctuator.Punctuator.TheVariants.{CloseBracket, OpenBrace, Pipe, CloseBrace}
 use Rattle.graphql_lexer.specs.declared.tokenizer.token.Kind.{Kind}
-use Rattle.graphql_lexer.specs.declared.tokenizer.token.Kind.TheVariants.{Punctuator, Name}
+use Rattle.graphql_lexer.specs.declared.tokenizer.token.Kind.TheVariants.{Name}
+use Rattle.graphql_lexer.specs.declared.tokenizer.token.Kind.TheVariants as kinds
 use Rattle.graphql_lexer.specs.declared.tokenizer.piece.Nesting.{Nesting}
 use Rattle.graphql_core.specs.Causes.{kind_number}
 use Rattle.graphql_lexer.specs.Lexical.{is_name_start, is_mark, Word, Stands, name, mark, spread, integer, float, string, block_string}
@@ -33,7 +34,7 @@ number_no_name b h = grind (arith, nat_tests)
 
 -- a token of this kind and spelling is a punctuator with this spelling
 abbrev IsMarked : Kind → List ℕ → List ℕ → Bool
-IsMarked k s bytes = (kind_number Punctuator == kind_number k) && same_spelling s bytes
+IsMarked k s bytes = (kind_number kinds.Punctuator == kind_number k) && same_spelling s bytes
 
 in_run : (xs : List ℕ) (b : ℕ) → NumberRun xs → starts_number b ≡ false → (first_byte xs == b) ≡ false
 in_run xs b r other = ap (λ ys. first_byte ys == b) r.is ∙ differs starts_number r.first b r.starts other
@@ -59,7 +60,7 @@ dots_seen (float {run = run} f e) = in_run run 46 (float_run f) refl
 dots_seen (string body h n) = refl
 dots_seen (block_string h) = refl
 
-mark_seen : (m : Mark) {k : Kind} {s : Nesting} {bytes rest : List ℕ} → Stands bytes (Word k s) rest
+mark_seen : (m : Punctuator) {k : Kind} {s : Nesting} {bytes rest : List ℕ} → Stands bytes (Word k s) rest
     → (first_byte bytes == first_byte (spelling_of m)) ≡ IsMarked k (spelling_of m) bytes
 mark_seen Bang st = one_seen 33 refl st
 mark_seen Dollar st = one_seen 36 refl st
@@ -92,7 +93,7 @@ or_false : (b : Bool) → b ≡ b || false
 or_false true = refl
 or_false false = refl
 
-no_mark : (m : Mark) → (0 == first_byte (spelling_of m)) ≡ false
+no_mark : (m : Punctuator) → (0 == first_byte (spelling_of m)) ≡ false
 no_mark Bang = refl
 no_mark Dollar = refl
 no_mark Ampersand = refl
@@ -108,11 +109,11 @@ no_mark OpenBrace = refl
 no_mark Pipe = refl
 no_mark CloseBrace = refl
 
-pub sees_punctuator : (m : Mark) (ts : List Token) → All IsLexeme ts → (front_byte ts == first_byte (spelling_of m)) ≡ sees (class_of m ∷ []) (peek ts)
+pub sees_punctuator : (m : Punctuator) (ts : List Token) → All IsLexeme ts → (front_byte ts == first_byte (spelling_of m)) ≡ sees (class_of m ∷ []) (peek ts)
 sees_punctuator m [] all = no_mark m
 sees_punctuator m (t ∷ ts) all =
     let (k, s, rest, kind, stands) = All-head IsLexeme t ts all in
-    mark_seen m stands ∙ ap (λ n. (kind_number Punctuator == n) && same_spelling (spelling_of m) t.spelling) (sym kind) ∙ or_false (matches (class_of m) t)
+    mark_seen m stands ∙ ap (λ n. (kind_number kinds.Punctuator == n) && same_spelling (spelling_of m) t.spelling) (sym kind) ∙ or_false (matches (class_of m) t)
 
 pub sees_name : (ts : List Token) → All IsLexeme ts → is_name_start (front_byte ts) ≡ sees (AnyOf (kind_number Name) ∷ []) (peek ts)
 sees_name [] all = refl

@@ -150,7 +150,7 @@ abbrev pub one_of : {A : Type 0} → (Shape → A) → Shape → List A
 one_of f x = f x ∷ []
 
 -- what a repetition means, by what its turns mean
-pub many_means : {A B : Type 0} (g : Grammar) (a : Expr) (f : Shape → A) (m : Shape → B) (of : List A → B) → m trees.ReadError ≡ of []
+pub many_means : {A B : Type 0} (g : Grammar) (a : Expr) (f : Shape → A) (m : Shape → B) (of : List A → B) → m trees.Stop ≡ of []
     → ((x y : Shape) (vs : List A) → m y ≡ of vs → m (More x y) ≡ of (f x ∷ vs))
     → {ts : List Token} {x : Shape} {us : List Token} → Takes g (Many a) ts x us → m x ≡ of (values (one_of f) x)
 many_means g a f m of stop more (takes_stop h) = stop

@@ -131,7 +131,7 @@ module _ {D R : Type 0} (l : Language D) (w : Refusals R) where
 
   -- until no turn begins, where m is what the whole means
   pub turns_all : {V A B : Type 0} (a : Expr) (f : Shape → A) (view : V → A) (m : Shape → List A) (start now : Items) (old new : List V)
-      (P : B → Shape → Type 0) (v : B) → m trees.ReadError ≡ [] → ((x y : Shape) → m (More x y) ≡ f x ∷ m y) → old ≡ []
+      (P : B → Shape → Type 0) (v : B) → m trees.Stop ≡ [] → ((x y : Shape) → m (More x y) ≡ f x ∷ m y) → old ≡ []
       → Pushes (reading l) a (λ x. f (written l.changes x)) view start now old new → sees (first (reading l).rows a) (peek now.tokens) ≡ false
       → ((x : Shape) → map view new ≡ m x → P v x) → Reads l w (Many a) start now P (Ok v)
   turns_all a f view m start now old new P v stop more none p unseen mean =
