@@ -2,7 +2,7 @@
 ghost use Rattle.std.specs.Prelude.{◌≡◌, ◌≤◌, OnOk, length, codes};
 ghost use Rattle.graphql_grammar.specs.Trees.{Sym, optional};
 ghost use Rattle.graphql_values.specs.Grammar.{shared, type_symbol, punctuator};
-ghost use Rattle.graphql_values.specs.Meanings.{type_of, marked};
+ghost use Rattle.graphql_values.specs.Meanings.{type_of, optional_non_null};
 ghost use Rattle.graphql_values.specs.ValueViews.{type_view};
 ghost use Rattle.graphql_core.specs.Source.{kept};
 ghost use Rattle.graphql_values.specs.steps.Answers.{Gives, Shortens};
@@ -13,13 +13,13 @@ use std::alloc::Global;
 
 /// `"!"?`: the type before it, without `null` or as it is.
 #[tactic(auto, using(crate::proofs::Reading::reading))]
-fn marked<S: TokenSource>(
+fn optional_non_null<S: TokenSource>(
     alloc: Global,
     source: &mut S,
     inner: Type<S::Names>,
 ) -> Result<Type<S::Names>, ReadError>
     ensures reads { Gives shared (optional (punctuator (codes "!"))) (S.items source.old) (S.items source.new)
-        (λ v x. type_view S.Names.bytes v ≡ marked x (type_view S.Names.bytes inner)) result }
+        (λ v x. type_view S.Names.bytes v ≡ optional_non_null x (type_view S.Names.bytes inner)) result }
     ensures kept { kept (S.items source.new) ≡ kept (S.items source.old) }
     ensures within { OnOk result (length (S.items source.new).tokens ≤ length (S.items source.old).tokens) }
 {
@@ -45,8 +45,8 @@ pub fn type_reference<S: TokenSource>(
         expect_punctuator(source, Punctuator::OpenBracket)?;
         let items = type_reference(alloc, source)?;
         expect_punctuator(source, Punctuator::CloseBracket)?;
-        return marked(alloc, source, Type::ListType(Box::new(alloc, items)?));
+        return optional_non_null(alloc, source, Type::ListType(Box::new(alloc, items)?));
     }
     let name = expect_name(alloc, source)?;
-    marked(alloc, source, Type::NamedType(name))
+    optional_non_null(alloc, source, Type::NamedType(name))
 }

@@ -3,7 +3,7 @@ use Rattle.graphql_grammar.specs.Trees.{Leaf, Both, First, Second, Node}
 use Rattle.graphql_grammar.specs.Reading.{takes_both}
 use Rattle.graphql_grammar.proofs.ReaderSteps.{Stops-before, Stops-after}
 use Rattle.graphql_values.specs.Grammar.{shared, type_symbol}
-use Rattle.graphql_values.specs.Meanings.{marked}
+use Rattle.graphql_values.specs.Meanings.{optional_non_null}
 use Rattle.graphql_values.specs.Values.{named, list_of}
 use Rattle.graphql_values.specs.ValueViews.{type_view}
 use Rattle.graphql_values.proofs.ValueAlternatives.{named_side, list_type_side}
@@ -50,14 +50,14 @@ returns-then-sees_punctuator-clause-reads g t c =
     let (e, ends, until) = c.in_ok-expect_punctuator-2.ensures in
     let before = takes_one shared _ _ _ o refl opens in
     let following = takes_one shared _ _ _ e refl ends in
-    gives_then shared _ _ (items c.args.source.now) (items c.expect_punctuator-then-sees_punctuator.new.source) (items c.marked.new.source) _ _ _
+    gives_then shared _ _ (items c.args.source.now) (items c.expect_punctuator-then-sees_punctuator.new.source) (items c.optional_non_null.new.source) _ _ _
     (λ v m h is. (
       Node type_symbol (Second (Both (Leaf o) (Both x (Both (Leaf e) m)))),
       side.takes _ _ (takes_both before (takes_both takes (takes_both following h))),
-      is ∙ ap (marked m) (list_type_made _ _ bytes _ ∙ ap list_of (ap (type_view bytes) c.in_ok-new.ensures.ok ∙ view)),
+      is ∙ ap (optional_non_null m) (list_type_made _ _ bytes _ ∙ ap list_of (ap (type_view bytes) c.in_ok-new.ensures.ok ∙ view)),
     ))
     (λ r h. side.stops _ r (Stops-after shared _ _ _ _ _ _ r before (Stops-after shared _ _ _ _ _ _ r takes (Stops-after shared _ _ _ _ _ _ r following h))))
-    c.marked.ensures.reads
+    c.optional_non_null.ensures.reads
 
 pub returns-clause-reads : goal.returns-clause-reads
 returns-clause-reads g t c =
@@ -66,11 +66,11 @@ returns-clause-reads g t c =
     let side = named_side (items c.args.source.now).tokens (sym c.sees_punctuator.ensures ∙ c.if-sees_punctuator.false) in
     let (n, takes, spelled) = c.in_ok-name.ensures in
     let before = takes_one shared _ _ _ n refl takes in
-    gives_then shared _ _ (items c.args.source.now) (items c.expect_name.new.source) (items c.marked-2.new.source) _ _ _
+    gives_then shared _ _ (items c.args.source.now) (items c.expect_name.new.source) (items c.optional_non_null-2.new.source) _ _ _
     (λ v m h is. (
       Node type_symbol (First (Both (Leaf n) m)),
       side.takes _ _ (takes_both before h),
-      is ∙ ap (marked m) (named_made _ _ bytes _ ∙ ap named (sym spelled)),
+      is ∙ ap (optional_non_null m) (named_made _ _ bytes _ ∙ ap named (sym spelled)),
     ))
     (λ r h. side.stops _ r (Stops-after shared _ _ _ _ _ _ r before h))
-    c.marked-2.ensures.reads
+    c.optional_non_null-2.ensures.reads

@@ -5,7 +5,7 @@ use Rattle.graphql_values.specs.Values.{non_null}
 use Rattle.graphql_values.specs.ValueViews.{type_view}
 use Rattle.graphql_values.proofs.Reading.{takes_one, takes_some, takes_none}
 use Rattle.graphql_values.proofs.Views.{non_null_made}
-use Rattle.graphql_values.proofs.read.types.marked.Goals as goal
+use Rattle.graphql_values.proofs.read.types.optional_non_null.Goals as goal
 
 pub returns-then-sees_punctuator-clause-reads : goal.returns-then-sees_punctuator-clause-reads
 returns-then-sees_punctuator-clause-reads g c =
