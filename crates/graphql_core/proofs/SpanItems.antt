@@ -11,10 +11,10 @@ use Rattle.graphql_lexer.specs.declared.tokenizer.token.Bad.{Bad}
 use Rattle.graphql_lexer.specs.Items.{Where, Item, item, Lexeme}
 use Rattle.graphql_lexer.specs.Stream.{NextItem, next_place}
 use Rattle.graphql_grammar.specs.Tokens.{Token}
-use Rattle.graphql_core.specs.declared.common.fault.Fault.{Fault}
 use Rattle.graphql_core.specs.declared.helpers.span.Span.{Span}
 use Rattle.graphql_core.specs.Causes.{kind_number}
-use Rattle.graphql_core.specs.Source.{Items, Last, IsLexeme, IsFaultOf, split, then_items, tokens_then, token_of}
+use Rattle.graphql_core.specs.Source.{Items, Last, IsLexeme, split, then_items, tokens_then, token_of}
+use Rattle.graphql_core.specs.Refusal.{Refusal, IsFaultOf}
 use Rattle.graphql_core.specs.steps.Punctuators.{first_byte}
 use Rattle.graphql_core.specs.steps.Spans.{Marks, span_token, span_items, last_of}
 use Rattle.graphql_core.proofs.TokenPlaces.{IsToken, StandsIn}
@@ -107,7 +107,7 @@ module _ {W : Type 0} (number : W → ℕ) (text : List ℕ) where
       (All-weaker (Marks number text) (λ s. IsLexeme (span_token number text s)) (λ s m. m.lexeme) spans all)
 
   -- the fault of the token that is next
-  pub fault_here : (s : Span W) (spans more : List (Span W)) (last : Last) (p : Pos) (value : List ℕ) (f : Fault)
+  pub fault_here : (s : Span W) (spans more : List (Span W)) (last : Last) (p : Pos) (value : List ℕ) (f : Refusal)
       → spans ≡ s ∷ more → p.line ≡ number s.line → p.column ≡ number s.column → value ≡ (span_token number text s).spelling
       → ((following : Items) → IsFaultOf (then_items (token_of p s.kind value) following) f) → IsFaultOf (span_items number text spans last) f
   fault_here s spans more last p value f next line column spelled h =

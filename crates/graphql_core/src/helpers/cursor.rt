@@ -7,7 +7,8 @@ ghost use Rattle.graphql_lexer.specs.BadTexts.{bad_text};
 ghost use Rattle.graphql_core.specs.steps.Punctuators.{first_byte, front_byte};
 ghost use Rattle.graphql_core.specs.steps.Endings.{shown};
 ghost use Rattle.graphql_lexer.specs.declared.position.Pos.{Pos};
-ghost use Rattle.graphql_core.specs.Source.{Items, Wrong, IsFaultOf, after, held, items_of_stream, items_of_text, then_items, token_of, only_last, place_of};
+ghost use Rattle.graphql_core.specs.Refusal.{IsFaultOf};
+ghost use Rattle.graphql_core.specs.Source.{Items, Wrong, after, held, items_of_stream, items_of_text, then_items, token_of, only_last, place_of};
 
 use crate::common::{BadToken, Cause, Fault, Names, Text};
 use crate::helpers::punctuator::Punctuator;
@@ -145,14 +146,14 @@ pub fn unexpected(alloc: Global, token: Token<'_>, position: Pos) -> Fault
     ensures { (after : Items) → IsFaultOf (then_items (token_of position token.entry.kind token.entry.value.now) after) result }
 {
     match String::from_str(alloc, token.value) {
-        Ok(text) => Fault::At(
+        Ok(text) => Fault::at(
             Cause::UnexpectedToken {
                 kind: token.kind,
                 text,
             },
             position,
         ),
-        Err(_) => Fault::OutOfMemory,
+        Err(_) => Fault::out_of_memory(),
     }
 }
 
@@ -177,8 +178,8 @@ pub fn bad_place(alloc: Global, bad: Bad<'_>, position: Pos) -> Fault
     ensures { IsFaultOf (only_last (Wrong (place_of position) (no_token (bad_text bad.entry)))) result }
 {
     match cause_of(alloc, bad) {
-        Ok(cause) => Fault::At(cause, position),
-        Err(_) => Fault::OutOfMemory,
+        Ok(cause) => Fault::at(cause, position),
+        Err(_) => Fault::out_of_memory(),
     }
 }
 
@@ -247,7 +248,7 @@ impl<'a, T: Text<'a>> TokenSource for Cursor<'a, T> {
     fn fault(&self, alloc: Global) -> Fault {
         match self.ending {
             Ending::Open => unexpected(alloc, self.token, self.position),
-            Ending::End => Fault::At(Cause::UnexpectedEnd, self.position),
+            Ending::End => Fault::at(Cause::UnexpectedEnd, self.position),
             Ending::Wrong(bad) => bad_place(alloc, bad, self.position),
         }
     }

@@ -47,11 +47,11 @@ pub fn fault_of<S: TokenSource>(alloc: Global, source: &S, error: ReadError) -> 
     ensures { IsFaultFor error (S.items source.now) result }
 {
     match error {
-        ReadError::Memory => Fault::OutOfMemory,
+        ReadError::Memory => Fault::out_of_memory(),
         ReadError::Item => source.fault(alloc),
-        ReadError::Integer => Fault::At(Cause::IntOutOfRange, source.position()),
-        ReadError::Float => Fault::At(Cause::MalformedFloat, source.position()),
-        ReadError::Escape => Fault::At(Cause::BadEscape, source.position()),
-        ReadError::Location => Fault::At(Cause::UnknownLocation, source.position()),
+        ReadError::Integer => Fault::at(Cause::IntOutOfRange, source.position()),
+        ReadError::Float => Fault::at(Cause::MalformedFloat, source.position()),
+        ReadError::Escape => Fault::at(Cause::BadEscape, source.position()),
+        ReadError::Location => Fault::at(Cause::UnknownLocation, source.position()),
     }
 }

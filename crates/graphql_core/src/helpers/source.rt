@@ -24,7 +24,8 @@ pub trait TokenSource {
     ghost use Rattle.graphql_core.specs.Causes.{kind_number};
     ghost use Rattle.graphql_core.specs.steps.Punctuators.{class_of};
     ghost use Rattle.graphql_core.specs.steps.Matching.{sees_class};
-    ghost use Rattle.graphql_core.specs.Source.{Items, place_of, place_next, Peeks, IsLexeme, IsAtEnd, IsFaultOf, after, lexeme_token};
+    ghost use Rattle.graphql_core.specs.Source.{Items, place_of, place_next, Peeks, IsLexeme, IsAtEnd, after, lexeme_token};
+    ghost use Rattle.graphql_core.specs.Refusal.{IsFaultOf};
 
     /// A token's spelling.
     type Text: Copy;

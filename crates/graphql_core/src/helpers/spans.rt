@@ -265,7 +265,7 @@ impl<'a, 's, T: Text<'a>, W: Width> TokenSource for SpanSource<'a, 's, T, W> {
                 unexpected(alloc, token, position_of(*span))
             }
             None => match self.bad {
-                None => Fault::At(Cause::UnexpectedEnd, self.end),
+                None => Fault::at(Cause::UnexpectedEnd, self.end),
                 Some(bad) => bad_place(alloc, bad, self.end),
             },
         }

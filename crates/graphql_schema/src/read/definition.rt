@@ -13,7 +13,7 @@ ghost use Rattle.graphql_schema.specs.steps.Refusals.{ReadsNode};
 use crate::read::description::{optional_description, sees_description};
 use crate::read::directive::directive_definition;
 use crate::read::extension::extension;
-use crate::read::refusal::Refusal;
+use crate::read::invalid_node::InvalidNode;
 use crate::read::schema::schema_definition;
 use crate::read::types::type_body;
 use graphql_core::common::Names;
@@ -47,7 +47,7 @@ fn described<N: Names>(
 fn definition<S: TokenSource>(
     alloc: Global,
     source: &mut S,
-) -> Result<Definition<S::Names>, NodeError<Refusal>>
+) -> Result<Definition<S::Names>, NodeError<InvalidNode>>
     ensures reads { ReadsNode (Sym item_symbol) (S.items source.old) (S.items source.new)
         (λ v x. definition_view S.Names.bytes v ≡ item_of x) result }
     ensures kept { kept (S.items source.new) ≡ kept (S.items source.old) }
@@ -99,7 +99,7 @@ fn sees_definition<S: TokenSource>(source: &S) -> bool
 pub fn definitions<S: TokenSource>(
     alloc: Global,
     source: &mut S,
-) -> Result<Vec<Definition<S::Names>>, NodeError<Refusal>>
+) -> Result<Vec<Definition<S::Names>>, NodeError<InvalidNode>>
     ensures reads { ReadsNode (some_of (Sym item_symbol)) (S.items source.old) (S.items source.new)
         (λ v x. map (definition_view S.Names.bytes) v.items ≡ each_of item_of x) result }
     ensures kept { kept (S.items source.new) ≡ kept (S.items source.old) }

@@ -11,7 +11,7 @@ ghost use Rattle.graphql_schema_tree.specs.Views.{object_extension_view, interfa
 ghost use Rattle.graphql_schema_tree.specs.Views.{schema_extension_view, definition_view};
 ghost use Rattle.graphql_schema.specs.steps.Refusals.{ReadsNode};
 
-use crate::read::refusal::Refusal;
+use crate::read::invalid_node::InvalidNode;
 use crate::read::schema::schema_extension;
 use crate::read::types::type_body;
 use graphql_core::common::Names;
@@ -144,7 +144,7 @@ fn adds_to_schema<N: Names>(added: &SchemaExtension<N>) -> bool
 pub fn extension<S: TokenSource>(
     alloc: Global,
     source: &mut S,
-) -> Result<Definition<S::Names>, NodeError<Refusal>>
+) -> Result<Definition<S::Names>, NodeError<InvalidNode>>
     ensures reads { ReadsNode (Sym extension_symbol) (S.items source.old) (S.items source.new)
         (λ v x. definition_view S.Names.bytes v ≡ extension_of x) result }
     ensures kept { kept (S.items source.new) ≡ kept (S.items source.old) }
@@ -154,13 +154,13 @@ pub fn extension<S: TokenSource>(
     if sees_keyword(source, "schema") {
         let extension = schema_extension(alloc, source)?;
         if !adds_to_schema(&extension) {
-            return Err(NodeError::Refused(Refusal::Extension(extension.position)));
+            return Err(NodeError::Refused(InvalidNode::Extension(extension.position)));
         }
         return Ok(Definition::SchemaExtension(extension));
     }
     let extension = without_description(type_body(alloc, source)?);
     if !adds(&extension) {
-        return Err(NodeError::Refused(Refusal::Extension(position(&extension))));
+        return Err(NodeError::Refused(InvalidNode::Extension(position(&extension))));
     }
     Ok(Definition::TypeExtension(extension))
 }

@@ -11,7 +11,7 @@ ghost use Rattle.graphql_schema.specs.steps.Reads.{Reads};
 ghost use Rattle.graphql_schema.specs.steps.Refusals.{ReadsNode};
 ghost use Rattle.graphql_schema.specs.steps.Roots.{Root, root_at, AreRoots, HasRoots, Fills};
 
-use crate::read::refusal::Refusal;
+use crate::read::invalid_node::InvalidNode;
 use graphql_core::common::{Cause, Names};
 use graphql_core::helpers::{
     Punctuator, ReadError, TokenSource, expect_keyword, expect_name, expect_punctuator,
@@ -133,7 +133,7 @@ fn root_types<S: TokenSource>(
 pub fn schema_definition<S: TokenSource>(
     alloc: Global,
     source: &mut S,
-) -> Result<SchemaDefinition<S::Names>, NodeError<Refusal>>
+) -> Result<SchemaDefinition<S::Names>, NodeError<InvalidNode>>
     ensures reads { ReadsNode (Sym schema_symbol) (S.items source.old) (S.items source.new)
         (λ v x. schema_view S.Names.bytes v ≡ schema_of x) result }
     ensures kept { kept (S.items source.new) ≡ kept (S.items source.old) }
@@ -153,7 +153,7 @@ pub fn schema_definition<S: TokenSource>(
         fault,
     } = roots;
     match fault {
-        Some(cause) => Err(NodeError::Refused(Refusal::Schema(cause, position))),
+        Some(cause) => Err(NodeError::Refused(InvalidNode::Schema(cause, position))),
         None => Ok(SchemaDefinition {
             position,
             description: None,
@@ -206,7 +206,7 @@ fn optional_roots<S: TokenSource>(
 pub fn schema_extension<S: TokenSource>(
     alloc: Global,
     source: &mut S,
-) -> Result<SchemaExtension<S::Names>, NodeError<Refusal>>
+) -> Result<SchemaExtension<S::Names>, NodeError<InvalidNode>>
     ensures reads { ReadsNode (Sym schema_extension_symbol) (S.items source.old) (S.items source.new)
         (λ v x. schema_extension_view S.Names.bytes v ≡ schema_extension_of x) result }
     ensures kept { kept (S.items source.new) ≡ kept (S.items source.old) }
@@ -222,7 +222,7 @@ pub fn schema_extension<S: TokenSource>(
         fault,
     } = optional_roots(alloc, source)?;
     match fault {
-        Some(cause) => Err(NodeError::Refused(Refusal::SchemaExtension(cause, position))),
+        Some(cause) => Err(NodeError::Refused(InvalidNode::SchemaExtension(cause, position))),
         None => Ok(SchemaExtension {
             position,
             directives,
