@@ -6,8 +6,9 @@ ghost use Rattle.graphql_lexer.specs.steps.Front as spec;
 ghost use Rattle.graphql_lexer.specs.Lexical as lexical;
 ghost use Rattle.graphql_lexer.specs.declared.tokenizer.piece.Nesting.TheVariants.{Level};
 ghost use Rattle.graphql_lexer.specs.declared.tokenizer.piece.Piece.TheVariants.{Skips, Takes};
-ghost use Rattle.graphql_lexer.specs.steps.Ahead.{is_space, is_blank, is_byte_order_mark, ignored, FitsIgnored, taken, without_flat, FitsTaken, is_plain, is_rare};
+ghost use Rattle.graphql_lexer.specs.steps.Ahead.{is_space, is_blank, is_byte_order_mark, ignored, FitsIgnored, taken, without_flat, FitsTaken};
 
+use crate::tokenizer::class::{is_mark, is_name_start, nesting_of};
 use crate::tokenizer::number::{number, plain_number, starts_number};
 use crate::tokenizer::quoted::{plain_string_len, quoted};
 use crate::tokenizer::run::{Flat, NameContinue, Space, near_len, whole_len};
@@ -71,57 +72,6 @@ pub struct Taken {
     pub nesting: Nesting,
     /// Whether it is known to be ASCII in one line.
     pub is_flat: bool,
-}
-
-/// Whether a name begins with this byte.
-#[inline(always)]
-pub fn is_name_start(byte: u8) -> bool
-    ensures { result ≡ lexical.is_name_start byte }
-{
-    byte.is_ascii_alphabetic() || byte == b'_'
-}
-
-#[inline(always)]
-fn is_opener(byte: u8) -> bool
-    ensures { result ≡ lexical.is_opener byte }
-{
-    byte == b'(' || byte == b'[' || byte == b'{'
-}
-
-#[inline(always)]
-fn is_closer(byte: u8) -> bool
-    ensures { result ≡ lexical.is_closer byte }
-{
-    byte == b')' || byte == b']' || byte == b'}'
-}
-
-/// Whether it is a punctuator of one character.
-#[inline(always)]
-pub fn is_mark(byte: u8) -> bool
-    ensures { result ≡ lexical.is_mark byte }
-{
-    is_opener(byte)
-        || is_closer(byte)
-        || byte == b'!'
-        || byte == b'$'
-        || byte == b'&'
-        || byte == b':'
-        || byte == b'='
-        || byte == b'@'
-        || byte == b'|'
-}
-
-#[inline(always)]
-fn nesting_of(byte: u8) -> Nesting
-    ensures { result ≡ lexical.nesting_of byte }
-{
-    if is_opener(byte) {
-        Nesting::Opens
-    } else if is_closer(byte) {
-        Nesting::Closes
-    } else {
-        Nesting::Level
-    }
 }
 
 #[inline(always)]
@@ -417,22 +367,6 @@ fn ignored_bytes(bytes: &[u8]) -> Option<(usize, Move)>
     }
 }
 
-/// Whether it is a line feed, a space or a comma.
-#[inline(always)]
-pub fn is_plain(byte: u8) -> bool
-    ensures { result ≡ is_plain byte }
-{
-    byte == b' ' || byte == b'\n' || byte == b','
-}
-
-/// Whether other ignored text begins with this byte.
-#[inline(always)]
-pub fn is_rare(byte: u8) -> bool
-    ensures { result ≡ is_rare byte }
-{
-    byte == b'\t' || byte == b'\r' || byte == b'#' || byte == 0xEF
-}
-
 /// The ignored text at the front of a text.
 #[inline(always)]
 #[tactic(auto, using(crate::proofs::Spaces::ignored_fits))]
@@ -447,12 +381,28 @@ pub fn ignored_of(text: &str) -> Option<(usize, Move)>
 /// How many spaces stand at the front of a text, where one load shows their end.
 #[inline(always)]
 #[tactic(auto, using(crate::proofs::Spaces::near_boundary))]
-pub fn near_spaces_of(text: &str) -> Option<usize>
+fn near_spaces_of(text: &str) -> Option<usize>
     ensures len { IfSome result (λ n. n ≡ prefix_len is_space text.now) }
     ensures within { IfSome result (λ n. n ≤ length text.now) }
     ensures cuts { IfSome result (λ n. IsCharBoundary text.now n) }
 {
     near_len::<Space>(text.as_bytes())
+}
+
+/// How many spaces go by after a plain ignored byte: all of them in the next line, where one load shows their end, and none
+/// in the same line, where few follow.
+#[inline(always)]
+#[tactic(auto, using(crate::proofs::Spaces::no_boundary))]
+pub fn spaces_after(byte: u8, text: &str) -> Option<usize>
+    ensures len { IfSome result (λ n. n ≤ prefix_len is_space text.now) }
+    ensures within { IfSome result (λ n. n ≤ length text.now) }
+    ensures cuts { IfSome result (λ n. IsCharBoundary text.now n) }
+{
+    if byte == b'\n' {
+        near_spaces_of(text)
+    } else {
+        Some(0)
+    }
 }
 
 /// How many spaces stand at the front of a text.
