@@ -65,10 +65,6 @@ pub near_boundary : (bytes : List ℕ) (x : Option ℕ) → IsUtf8 bytes → IfS
 near_boundary bytes None utf8 e = tt
 near_boundary bytes (Some n) utf8 e = spaces_boundary bytes n utf8 e
 
--- where no byte goes by there is a boundary
-pub no_boundary : (bytes : List ℕ) → IsUtf8 bytes → IsCharBoundary bytes 0
-no_boundary bytes utf8 = IsCharBoundary-start bytes utf8
-
 -- what is flat ends before a character
 pub flat_boundary : (bytes : List ℕ) (n : ℕ) → IsUtf8 bytes → n ≡ prefix_len is_flat bytes → IsCharBoundary bytes n
 flat_boundary bytes zero utf8 e = IsCharBoundary-start bytes utf8

@@ -6,17 +6,17 @@ ghost use Rattle.graphql_lexer.specs.steps.Ahead as ahead;
 use crate::tokenizer::piece::Nesting;
 
 // The class of each byte: `a` begins a name, `!` is a punctuator of one character, `(` one that opens a bracket and `)` one
-// that closes one, `s` is a space, a comma or a line feed, `r` begins other ignored text, and `.` is any other. The
-// punctuators come before all others, so that one test tells them.
+// that closes one, `n` is a line feed, `s` a space or a comma, `t` begins other ignored text, and `.` is any other. The
+// punctuators come before all others and ignored text after them, so that one test tells either.
 static CLASSES: [u8; 256] = *b"\
-    .........rs..r..................\
-    s!.r!.!.()..s.............!..!..\
+    .........tn..t..................\
+    s!.t!.!.()..s.............!..!..\
     !aaaaaaaaaaaaaaaaaaaaaaaaaa(.).a\
     .aaaaaaaaaaaaaaaaaaaaaaaaaa(!)..\
     ................................\
     ................................\
     ................................\
-    ...............r................";
+    ...............t................";
 
 /// Whether a name begins with this byte.
 #[inline(always)]
@@ -62,18 +62,26 @@ pub fn nesting_of(byte: u8) -> Nesting
     }
 }
 
-/// Whether it is a line feed, a space or a comma.
+/// Whether ignored text begins with this byte, or may: a byte order mark is three.
 #[inline(always)]
-pub fn is_plain(byte: u8) -> bool
-    ensures { result ≡ ahead.is_plain byte }
+pub fn is_ignored(byte: u8) -> bool
+    ensures { result ≡ ahead.is_ignored byte }
 {
-    CLASSES[byte as usize] == b's'
+    CLASSES[byte as usize] >= b'n'
 }
 
-/// Whether other ignored text begins with this byte.
+/// Whether it is a line feed.
 #[inline(always)]
-pub fn is_rare(byte: u8) -> bool
-    ensures { result ≡ ahead.is_rare byte }
+pub fn is_line_feed(byte: u8) -> bool
+    ensures { result ≡ ahead.is_line_feed byte }
 {
-    CLASSES[byte as usize] == b'r'
+    CLASSES[byte as usize] == b'n'
+}
+
+/// Whether it is a space or a comma.
+#[inline(always)]
+pub fn is_blank(byte: u8) -> bool
+    ensures { result ≡ ahead.is_blank byte }
+{
+    CLASSES[byte as usize] == b's'
 }

@@ -6,9 +6,9 @@ ghost use Rattle.graphql_lexer.specs.steps.Front.{front, IsItem};
 ghost use Rattle.graphql_lexer.specs.steps.Cut.{items};
 
 use crate::position::Pos;
-use crate::tokenizer::class::{is_plain, is_rare};
-use crate::tokenizer::piece::{byte_at, ignored_of, spaces_after, spaces_of};
-use crate::tokenizer::place::{position_after_move, position_after_plain, position_after_spaces};
+use crate::tokenizer::class::{is_blank, is_ignored, is_line_feed};
+use crate::tokenizer::piece::{byte_at, ignored_of, near_spaces_of, spaces_of};
+use crate::tokenizer::place::{position_after_line, position_after_move, position_after_spaces};
 
 /// Past the ignored text at the front, whatever it is.
 #[cold]
@@ -59,17 +59,26 @@ pub fn skip_plain(text: &str, at: Pos) -> (&str, Pos, bool)
 {
     let mut rest = text;
     let mut place = at;
-    'plain: while is_plain(front_byte(rest)) {
+    'plain: loop {
         let byte = front_byte(rest);
-        let after = rest.split_at(1).1;
-        place = position_after_plain(byte, place);
-        let Some(spaces) = spaces_after(byte, after) else {
-            return (after, place, false);
-        };
-        place = position_after_spaces(spaces, place);
-        rest = after.split_at(spaces).1;
+        if !is_ignored(byte) {
+            return (rest, place, true);
+        }
+        if is_blank(byte) {
+            place = position_after_spaces(1, place);
+            rest = rest.split_at(1).1;
+        } else if is_line_feed(byte) {
+            place = position_after_line(place);
+            let after = rest.split_at(1).1;
+            let Some(spaces) = near_spaces_of(after) else {
+                return (after, place, false);
+            };
+            place = position_after_spaces(spaces, place);
+            rest = after.split_at(spaces).1;
+        } else {
+            return (rest, place, false);
+        }
     }
-    (rest, place, !is_rare(front_byte(rest)))
 }
 
 /// Past the ignored text at the front.

@@ -6,9 +6,9 @@ ghost use Rattle.graphql_lexer.specs.steps.Front as spec;
 ghost use Rattle.graphql_lexer.specs.Lexical as lexical;
 ghost use Rattle.graphql_lexer.specs.declared.tokenizer.piece.Nesting.TheVariants.{Level};
 ghost use Rattle.graphql_lexer.specs.declared.tokenizer.piece.Piece.TheVariants.{Skips, Takes};
-ghost use Rattle.graphql_lexer.specs.steps.Ahead.{is_space, is_blank, is_byte_order_mark, ignored, FitsIgnored, taken, without_flat, FitsTaken};
+ghost use Rattle.graphql_lexer.specs.steps.Ahead.{is_space, is_byte_order_mark, ignored, FitsIgnored, taken, without_flat, FitsTaken};
 
-use crate::tokenizer::class::{is_mark, is_name_start, nesting_of};
+use crate::tokenizer::class::{is_blank, is_mark, is_name_start, nesting_of};
 use crate::tokenizer::number::{number, plain_number, starts_number};
 use crate::tokenizer::quoted::{plain_string_len, quoted};
 use crate::tokenizer::run::{Flat, NameContinue, Space, near_len, whole_len};
@@ -325,13 +325,6 @@ pub fn token_at(text: &str) -> Option<Taken>
 }
 
 #[inline(always)]
-fn is_blank(byte: u8) -> bool
-    ensures { result ≡ is_blank byte }
-{
-    byte == b' ' || byte == b','
-}
-
-#[inline(always)]
 fn is_byte_order_mark(byte: u8, rest: &[u8]) -> bool
     ensures { result ≡ is_byte_order_mark byte rest.now }
 {
@@ -381,28 +374,12 @@ pub fn ignored_of(text: &str) -> Option<(usize, Move)>
 /// How many spaces stand at the front of a text, where one load shows their end.
 #[inline(always)]
 #[tactic(auto, using(crate::proofs::Spaces::near_boundary))]
-fn near_spaces_of(text: &str) -> Option<usize>
+pub fn near_spaces_of(text: &str) -> Option<usize>
     ensures len { IfSome result (λ n. n ≡ prefix_len is_space text.now) }
     ensures within { IfSome result (λ n. n ≤ length text.now) }
     ensures cuts { IfSome result (λ n. IsCharBoundary text.now n) }
 {
     near_len::<Space>(text.as_bytes())
-}
-
-/// How many spaces go by after a plain ignored byte: all of them in the next line, where one load shows their end, and none
-/// in the same line, where few follow.
-#[inline(always)]
-#[tactic(auto, using(crate::proofs::Spaces::no_boundary))]
-pub fn spaces_after(byte: u8, text: &str) -> Option<usize>
-    ensures len { IfSome result (λ n. n ≤ prefix_len is_space text.now) }
-    ensures within { IfSome result (λ n. n ≤ length text.now) }
-    ensures cuts { IfSome result (λ n. IsCharBoundary text.now n) }
-{
-    if byte == b'\n' {
-        near_spaces_of(text)
-    } else {
-        Some(0)
-    }
 }
 
 /// How many spaces stand at the front of a text.

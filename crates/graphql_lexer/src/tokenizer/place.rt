@@ -4,8 +4,7 @@ ghost use Rattle.std.specs.List.{list_all};
 ghost use Rattle.graphql_lexer.specs.Lexical.{steps_over};
 ghost use Rattle.graphql_lexer.specs.Items.{moved, past, past_character};
 ghost use Rattle.graphql_lexer.specs.steps.Front as steps;
-ghost use Rattle.graphql_lexer.specs.steps.Ahead.{plain_move};
-ghost use Rattle.graphql_lexer.specs.declared.tokenizer.piece.Move.TheVariants.{Over};
+ghost use Rattle.graphql_lexer.specs.declared.tokenizer.piece.Move.TheVariants.{Over, Down};
 
 use crate::position::Pos;
 use crate::tokenizer::piece::{Move, flat_of};
@@ -119,22 +118,14 @@ pub fn position_after_token(is_flat: bool, value: &str, at: Pos) -> Pos
     }
 }
 
-/// The position after a plain ignored byte.
+/// The position after a line end.
 #[inline(always)]
-pub fn position_after_plain(byte: u8, at: Pos) -> Pos
-    requires line { at.line + 1 < 2 ^ 64 }
-    requires column { at.column + 1 < 2 ^ 64 }
-    ensures { result ≡ moved (plain_move byte) at }
+pub fn position_after_line(at: Pos) -> Pos
+    requires { at.line + 1 < 2 ^ 64 }
+    ensures { result ≡ moved Down at }
 {
-    if byte == b'\n' {
-        Pos {
-            line: at.line + 1,
-            column: 1,
-        }
-    } else {
-        Pos {
-            line: at.line,
-            column: at.column + 1,
-        }
+    Pos {
+        line: at.line + 1,
+        column: 1,
     }
 }
