@@ -1,26 +1,27 @@
 -- What begins a definition, and which kind of it.
-use Rattle.std.proofs.Common.{◌≡◌, ◌||◌, ℕ, true, false, List, [], ◌∷◌, ◌++◌, Result, Err, Option, None, IsErrAnd, codes, refl, sym, ap, ◌∙◌}
-use Rattle.std.proofs.Math.Bool.{or_assoc}
+use Rattle.std.proofs.Common.{◌≡◌, ◌||◌, ℕ, true, false, List, [], ◌∷◌, ◌++◌, Result, Err, Option, Some, None, IsErrAnd, codes, refl, sym, ap, ◌∙◌}
 use Rattle.graphql_grammar.specs.Tokens.{Token, Class}
-use Rattle.graphql_grammar.specs.Trees.{Expr, Then, Either, Sym, Shape, First, Second, Node, Both, optional, row, peek}
+use Rattle.graphql_grammar.specs.Trees.{Expr, Then, Either, Sym, Shape, Leaf, First, Second, Node, Both, optional, row, peek}
 use Rattle.graphql_grammar.specs.Tables.{nullable, first}
 use Rattle.graphql_grammar.specs.Factored.{written}
-use Rattle.graphql_grammar.specs.Reading.{sees, Takes, takes_both, takes_node}
+use Rattle.graphql_grammar.specs.Reading.{sees, Takes, takes_both, takes_node, Unexpected}
 use Rattle.graphql_grammar.specs.Leads.{leads_node}
+use Rattle.graphql_grammar.specs.ReaderWords.{Stops}
+use Rattle.graphql_grammar.proofs.Items.{sees-within, sees-apart}
 use Rattle.graphql_grammar.proofs.ReaderSteps.{Stops-node}
 use Rattle.graphql_lexer.specs.declared.tokenizer.token.Kind.TheVariants.{StringValue, BlockString}
 use Rattle.graphql_core.specs.Source.{Items}
-use Rattle.graphql_core.specs.steps.Matching.{sees_class}
+use Rattle.graphql_core.specs.steps.Matching.{TakesToken}
 use Rattle.graphql_values.specs.declared.read.node_error.NodeError.{NodeError}
 use Rattle.graphql_values.specs.declared.read.node_error.NodeError.TheVariants.{Stopped, Refused}
 use Rattle.graphql_values.specs.Grammar.{any, keyword, tables as shared_tables}
 use Rattle.graphql_values.specs.Leaves.{unquoted}
 use Rattle.graphql_values.specs.Refusing.{Refusals, halt_reason, Says, Reads as ReadsBy}
-use Rattle.graphql_values.proofs.Reading.{FailsUnseen, gives_error_by}
+use Rattle.graphql_values.proofs.Reading.{FailsUnseen, takes_one, gives_error_by}
 use Rattle.graphql_values.proofs.Alternatives.{side_left, side_right, side_second}
 use Rattle.graphql_values.proofs.Readable.{unseen}
 use Rattle.graphql_values.proofs.Refusing.{halts_led}
-use Rattle.graphql_values.proofs.Steps.{Leads, into, past}
+use Rattle.graphql_values.proofs.Steps.{Leads, here, into, past}
 use Rattle.graphql_values.proofs.Whole.{exit}
 use Rattle.graphql_schema_tree.specs.Grammar.{tables, changes, item_symbol, schema_symbol, extension_symbol, schema_extension_symbol, type_body_symbol}
 use Rattle.graphql_schema_tree.specs.Grammar.{directive_definition_symbol, directive_definition_rule, description_symbol}
@@ -28,26 +29,14 @@ use Rattle.graphql_schema_tree.specs.Meanings.{directive_definition_of}
 use Rattle.graphql_schema_tree.specs.Tree.{DirectiveDefinitionTree}
 use Rattle.graphql_schema_tree.specs.Language.{schemas}
 use Rattle.graphql_schema_tree.proofs.Readable.{readable}
-use Rattle.graphql_schema.specs.steps.Reads.{sees_description, sees_definition, any_class, type_keywords}
+use Rattle.graphql_schema.specs.steps.Keywords.{keywords, sees_definition}
+use Rattle.graphql_schema.specs.steps.Reads.{sees_description}
 use Rattle.graphql_schema.proofs.Dialect.{reading, starts}
 use Rattle.graphql_schema.proofs.JoinedNames.{BeginsWith, seen_symbol}
-use Rattle.graphql_schema.proofs.Lists.{sees_more}
+use Rattle.graphql_schema.proofs.Keywords.{sees_both}
+use Rattle.graphql_schema.proofs.Lists.{begins_description}
 
 -- ---- what comes next
-
--- one of these classes does, one after the other
-any_seen : (c : Class) (cs : List Class) (i : Items) → sees (c ∷ cs) (peek i.tokens) ≡ any_class c cs i
-any_seen c [] i = refl
-any_seen c (d ∷ ds) i = sees_more c (d ∷ ds) (peek i.tokens) ∙ ap (λ b. sees_class c i || b) (any_seen d ds i)
-
--- some of them, or of the others
-any_append : (c d : Class) (cs ds : List Class) (i : Items) → any_class c (cs ++ d ∷ ds) i ≡ any_class c cs i || any_class d ds i
-any_append c d [] ds i = refl
-any_append c d (e ∷ cs) ds i =
-    ap (λ b. sees_class c i || b) (any_append e d cs ds i) ∙ sym (or_assoc (sees_class c i) (any_class e cs i) (any_class d ds i))
-
-abbrev scalar_keyword : Class
-scalar_keyword = keyword (codes "scalar")
 
 abbrev directive_keyword : Class
 directive_keyword = keyword (codes "directive")
@@ -58,18 +47,15 @@ extend_keyword = keyword (codes "extend")
 abbrev schema_keyword : Class
 schema_keyword = keyword (codes "schema")
 
-item_first : first reading.rows (Sym item_symbol) ≡ any StringValue ∷ any BlockString ∷ schema_keyword ∷ scalar_keyword
-    ∷ (type_keywords ++ directive_keyword ∷ extend_keyword ∷ [])
+item_first : first reading.rows (Sym item_symbol) ≡ (any StringValue ∷ any BlockString ∷ []) ++ (keywords ++ extend_keyword ∷ [])
 unfolding tables
 item_first = refl
 
 pub item_begins : (i : Items) → sees (first reading.rows (Sym item_symbol)) (peek i.tokens) ≡ sees_definition i
 item_begins i =
-    let last = directive_keyword ∷ extend_keyword ∷ [] in
-    ap (λ cs. sees cs (peek i.tokens)) item_first
-    ∙ any_seen (any StringValue) (any BlockString ∷ schema_keyword ∷ scalar_keyword ∷ (type_keywords ++ last)) i
-    ∙ any_append (any StringValue) schema_keyword (any BlockString ∷ []) (scalar_keyword ∷ (type_keywords ++ last)) i
-    ∙ ap (λ b. sees_description i || (sees_class schema_keyword i || b)) (any_append scalar_keyword directive_keyword type_keywords (extend_keyword ∷ []) i)
+    ap (λ cs. sees cs (peek i.tokens)) item_first ∙ sees_both (any StringValue ∷ any BlockString ∷ []) (keywords ++ extend_keyword ∷ []) (peek i.tokens)
+    ∙ ap (λ b. b || sees (keywords ++ extend_keyword ∷ []) (peek i.tokens)) (begins_description i)
+    ∙ ap (λ b. sees_description i || b) (sees_both keywords (extend_keyword ∷ []) (peek i.tokens))
 
 -- ---- which kind of definition
 
@@ -93,8 +79,11 @@ schema_extension_begins = record { something = refl; first = refl }
 abbrev types_and_directives : Expr
 types_and_directives = Either (Sym type_body_symbol) (Sym directive_definition_symbol)
 
+abbrev described : Expr
+described = Either (Sym schema_symbol) types_and_directives
+
 abbrev with_descriptions : Expr
-with_descriptions = Then (optional (Sym description_symbol)) (Either (Sym schema_symbol) types_and_directives)
+with_descriptions = Then (optional (Sym description_symbol)) described
 
 fails_with_descriptions : (ts : List Token) → FailsUnseen reading with_descriptions ts
 unfolding tables shared_tables unquoted
@@ -107,6 +96,31 @@ fails_types_and_directives ts = unseen schemas readable types_and_directives ref
 fails_type_body : (ts : List Token) → FailsUnseen reading (Sym type_body_symbol) ts
 unfolding tables shared_tables unquoted
 fails_type_body ts = unseen schemas readable (Sym type_body_symbol) refl refl refl ts
+
+-- which may not begin here where no keyword is seen
+pub no_keyword : (ts : List Token) → sees keywords (peek ts) ≡ false → Stops reading described ts ts (Some Unexpected)
+unfolding tables shared_tables unquoted
+no_keyword ts none = unseen schemas readable described refl refl refl ts none
+
+-- nor what is extended
+abbrev extended : Expr
+extended = Either (Sym type_body_symbol) (Sym schema_extension_symbol)
+
+pub none_extended : (ts : List Token) → sees keywords (peek ts) ≡ false → Stops reading extended ts ts (Some Unexpected)
+unfolding tables shared_tables unquoted
+none_extended ts none = unseen schemas readable extended refl refl refl ts (sees-within (first reading.rows extended) keywords (peek ts) refl none)
+
+pub directive_extended : (ts : List Token) → sees (directive_keyword ∷ []) (peek ts) ≡ true → Stops reading extended ts ts (Some Unexpected)
+unfolding tables shared_tables unquoted
+directive_extended ts seen = unseen schemas readable extended refl refl refl ts (sees-apart (first reading.rows extended) (directive_keyword ∷ []) (peek ts) refl seen)
+
+-- so an extension stops after `extend`
+pub not_extended : (old mid : Items) (t : Token) → TakesToken extend_keyword old mid t → Stops reading extended mid.tokens mid.tokens (Some Unexpected)
+    → Stops reading (row reading extension_symbol).rule old.tokens mid.tokens (Some Unexpected)
+not_extended old mid t taken stops =
+    let lead : Leads reading (row reading extension_symbol).rule extended (λ y. Both (Leaf t) y) old.tokens mid.tokens
+    = past here (takes_one reading extend_keyword old mid t refl taken) in
+    lead.stops mid.tokens (Some Unexpected) stops
 
 -- none is empty
 described_are_more : nullable reading.rows with_descriptions ≡ false
@@ -139,13 +153,17 @@ no_extension ts other = into (starts item_symbol ts (λ x. refl))
 -- after a description, or none
 module _ {ts us : List Token} {d : Shape} (other : sees (extend_keyword ∷ []) (peek ts) ≡ false)
     (taken : Takes reading (optional (Sym description_symbol)) ts d us) where
+  -- none of them
+  pub a_description : Leads reading (Sym item_symbol) described (λ y. Node item_symbol (First (Both d y))) ts us
+  a_description = past (no_extension ts other) taken
+
   pub a_schema : sees (schema_keyword ∷ []) (peek us) ≡ true
       → Leads reading (Sym item_symbol) (Sym schema_symbol) (λ y. Node item_symbol (First (Both d (First y)))) ts us
-  a_schema seen = into (past (no_extension ts other) taken) (seen_symbol schema_symbol _ types_and_directives us schema_begins seen)
+  a_schema seen = into a_description (seen_symbol schema_symbol _ types_and_directives us schema_begins seen)
 
   no_schema : sees (schema_keyword ∷ []) (peek us) ≡ false
       → Leads reading (Sym item_symbol) types_and_directives (λ y. Node item_symbol (First (Both d (Second y)))) ts us
-  no_schema none = into (past (no_extension ts other) taken)
+  no_schema none = into a_description
       (side_right reading (Sym schema_symbol) types_and_directives us schema_begins.something types_are_more (fails_types_and_directives us)
       (unseen_first schema_symbol _ us schema_begins none))
 
@@ -161,19 +179,23 @@ module _ {ts us : List Token} {d : Shape} (other : sees (extend_keyword ∷ []) 
       (side_left reading (Sym type_body_symbol) (Sym directive_definition_symbol) us type_body_is_more directive_begins.something (fails_type_body us)
       (unseen_first directive_definition_symbol _ us directive_begins neither))
 
+-- a directive is no schema
+pub schema_unseen : (next : Option Token) → sees (directive_keyword ∷ []) next ≡ true → sees (schema_keyword ∷ []) next ≡ false
+schema_unseen next seen = sees-apart (schema_keyword ∷ []) (directive_keyword ∷ []) next refl seen
+
 -- ---- after `extend`
 
 pub of_schema : {e : Expr} {inside : Shape → Shape} {ts us : List Token}
-    → Leads reading e (Either (Sym type_body_symbol) (Sym schema_extension_symbol)) inside ts us → sees (schema_keyword ∷ []) (peek us) ≡ true
+    → Leads reading e extended inside ts us → sees (schema_keyword ∷ []) (peek us) ≡ true
     → Leads reading e (Sym schema_extension_symbol) (λ y. inside (Second y)) ts us
 unfolding tables shared_tables
 of_schema {us = us} lead seen =
     into lead (side_second reading (Sym type_body_symbol) (Sym schema_extension_symbol) schema_keyword us refl refl seen)
 
-pub of_type : {e : Expr} {inside : Shape → Shape} {ts us : List Token}
-    → Leads reading e (Either (Sym type_body_symbol) (Sym schema_extension_symbol)) inside ts us → sees (schema_keyword ∷ []) (peek us) ≡ false
+pub of_body : {e : Expr} {inside : Shape → Shape} {ts us : List Token}
+    → Leads reading e extended inside ts us → sees (schema_keyword ∷ []) (peek us) ≡ false
     → Leads reading e (Sym type_body_symbol) (λ y. inside (First y)) ts us
-of_type {us = us} lead other = into lead
+of_body {us = us} lead other = into lead
     (side_left reading (Sym type_body_symbol) (Sym schema_extension_symbol) us type_body_is_more schema_extension_begins.something (fails_type_body us)
     (unseen_first schema_extension_symbol _ us schema_extension_begins other))
 

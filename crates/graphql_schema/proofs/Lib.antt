@@ -5,6 +5,7 @@ mod Earlier
 pub mod Fields
 pub mod Inputs
 pub mod JoinedNames
+pub mod Keywords
 pub mod Lists
 pub mod Printable
 pub mod RootNames

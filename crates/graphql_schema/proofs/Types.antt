@@ -1,183 +1,160 @@
--- Definitions of types: what stands after a keyword, what their parts mean, and which kind is read.
-use Rattle.std.proofs.Common.{◌≡◌, ℕ, Bool, true, false, ◌&&◌, List, [], ◌∷◌, ◌++◌, ◌+◌, take, drop, None, codes, refl, sym, ap, subst, ◌∙◌}
-use Rattle.std.proofs.lemmas.Bool.{and_parts}
-use Rattle.graphql_grammar.specs.Tokens.{Token, Place, all_apart}
-use Rattle.graphql_grammar.specs.Trees.{Expr, Then, Either, Sym, Shape, Leaf, Both, First, Second, Node, peek}
-use Rattle.graphql_grammar.specs.Tables.{nullable}
+-- Types by their kinds: the rule of a kind and what it means, and where a kind stands in a type's body.
+use Rattle.std.proofs.Common.{◌≡◌, ℕ, true, false, List, [], ◌∷◌, Result, Ok, Err, Option, Some, None, codes, refl, ◌∙◌}
+use Rattle.graphql_grammar.specs.Tables.{first, decides}
+use Rattle.graphql_grammar.specs.Tokens.{Token, Place, Class, all_within, all_apart}
+use Rattle.graphql_grammar.specs.Trees.{Expr, Empty, Then, Either, Sym, Shape, Leaf, Both, First, Second, Node, peek}
 use Rattle.graphql_grammar.specs.Factored.{written}
-use Rattle.graphql_grammar.specs.Reading.{sees, Takes, takes_both}
-use Rattle.graphql_grammar.proofs.Items.{sees-apart}
-use Rattle.graphql_lexer.specs.declared.tokenizer.token.Kind.TheVariants.{Name}
+use Rattle.graphql_grammar.specs.Reading.{sees, Takes, takes_nothing, takes_both, takes_node, Reason, Fails, fails_before, fails_after, fails_node}
+use Rattle.graphql_grammar.specs.ReaderWords.{TakesSome, Stops}
+use Rattle.graphql_grammar.proofs.Items.{sees-apart, sees-parts}
+use Rattle.graphql_core.specs.declared.helpers.read_error.ReadError.{ReadError}
 use Rattle.graphql_core.specs.Source.{Items}
 use Rattle.graphql_core.specs.steps.Matching.{TakesToken}
+use Rattle.graphql_lexer.specs.declared.tokenizer.token.Kind.TheVariants.{Name}
 use Rattle.graphql_values.specs.Grammar as shared
-use Rattle.graphql_values.specs.Grammar.{keyword, word, any, tables as shared_tables}
+use Rattle.graphql_values.specs.Grammar.{any, keyword, word, directives_symbol, tables as shared_tables}
 use Rattle.graphql_values.specs.Values.{DirectiveTree}
-use Rattle.graphql_values.proofs.Reading.{FailsUnseen, unseen_one, unseen_then, unseen_either}
-use Rattle.graphql_values.proofs.Alternatives.{side_right, unseen_symbol}
-use Rattle.graphql_values.proofs.Steps.{Leads, into}
-use Rattle.graphql_schema_tree.specs.Tree.{FieldTree, PartsTree, object, interface, BodyTree, DefinitionTree, type_definition}
-use Rattle.graphql_schema_tree.specs.Grammar.{changes, tables, scalar_symbol, object_symbol, interface_symbol, union_symbol, enum_symbol, input_symbol}
-use Rattle.graphql_schema_tree.specs.Grammar.{type_body_symbol}
-use Rattle.graphql_schema_tree.specs.Meanings.{object_of, interface_of}
-use Rattle.graphql_schema.specs.steps.Implementer.{ImplementerTree, implementer_rule, implementer_of}
-use Rattle.graphql_schema.proofs.Dialect.{reading, starts}
-use Rattle.graphql_schema.proofs.JoinedNames.{past_one, BeginsWith, seen_symbol}
+use Rattle.graphql_values.specs.steps.Answers.{Gives, reason_of}
+use Rattle.graphql_values.proofs.Alternatives.{IsSide, through, side_node, side_first, side_second}
+use Rattle.graphql_values.proofs.Steps.{Leads, here, into}
+use Rattle.graphql_schema_tree.specs.Grammar.{changes, tables, type_body_symbol, type_body_rule}
+use Rattle.graphql_schema_tree.specs.Meanings.{body_by, no_body, body_of, interfaces_of, optional_list_of}
+use Rattle.graphql_schema_tree.specs.Tree.{PartsTree, BodyTree}
+use Rattle.graphql_schema.specs.declared.read.keyword.TypeKind.{TypeKind}
+use Rattle.graphql_schema.specs.declared.read.keyword.TypeKind.TheVariants.{Scalar, Object, Interface, Union, Enum, InputObject}
+use Rattle.graphql_schema.specs.steps.Keywords.{kind_word, has_interfaces}
+use Rattle.graphql_schema.specs.steps.Reads.{Reads}
+use Rattle.graphql_schema.specs.steps.TypeBodies.{symbol_of, means, interfaces_rule, parts_rule, parts_of}
+use Rattle.graphql_schema.proofs.Dialect.{reading}
+use Rattle.graphql_schema.proofs.JoinedNames.{past_one}
 
--- after a keyword and a name
-pub after_name : {e f : Expr} {inside : Shape → Shape} {ts : List Token} (w : List ℕ) (old mid new : Items) (t n : Token)
-    → Leads reading e (Then (word w) (Then shared.name f)) inside ts old.tokens → TakesToken (keyword w) old mid t → TakesToken (any Name) mid new n
-    → Leads reading e f (λ y. inside (Both (Leaf t) (Both (Leaf n) y))) ts new.tokens
-after_name w old mid new t n lead begins named = past_one (any Name) mid new n (past_one (keyword w) old mid t lead refl begins) refl named
+-- ---- the rule of a kind
 
--- ---- trees of the same parts
+-- with nothing in the place of what the kind has not
+abbrev pub full_rule : TypeKind → Expr
+full_rule k = Then (word (kind_word k)) (Then shared.name (Then (interfaces_rule (has_interfaces k)) (Then (Sym directives_symbol) (parts_rule k))))
 
-abbrev typed : Place → List ℕ → List DirectiveTree → PartsTree → DefinitionTree
-typed p n ds parts = type_definition None (record { position = p; name = n; directives = ds; parts = parts })
+abbrev pub full_means : TypeKind → Shape → BodyTree
+full_means k (Both w (Both n (Both is (Both ds x)))) = body_by w n ds (parts_of k (optional_list_of interfaces_of is) x)
+full_means k _ = no_body
 
-pub same_type : {p q : Place} {n m : List ℕ} {ds es : List DirectiveTree} {x y : PartsTree} → q ≡ p → m ≡ n → ds ≡ es → x ≡ y
-    → typed p n ds x ≡ typed q m es y
-same_type a b c d = rw (a, b, c, d) refl
+taken : (k : TypeKind) {ts us : List Token} {x : Shape} → Takes reading (full_rule k) ts x us
+    → (y : Shape) × Takes reading (Sym (symbol_of k)) ts y us × (full_means k (written changes x) ≡ means k (written changes y))
+taken Scalar (takes_both w (takes_both n (takes_both takes_nothing (takes_both ds takes_nothing)))) = (_, takes_node (takes_both w (takes_both n ds)) refl, refl)
+taken Object (takes_both w (takes_both n (takes_both is (takes_both ds x)))) =
+    (_, takes_node (takes_both w (takes_both n (takes_both is (takes_both ds x)))) refl, refl)
+taken Interface (takes_both w (takes_both n (takes_both is (takes_both ds x)))) =
+    (_, takes_node (takes_both w (takes_both n (takes_both is (takes_both ds x)))) refl, refl)
+taken Union (takes_both w (takes_both n (takes_both takes_nothing rest))) = (_, takes_node (takes_both w (takes_both n rest)) refl, refl)
+taken Enum (takes_both w (takes_both n (takes_both takes_nothing rest))) = (_, takes_node (takes_both w (takes_both n rest)) refl, refl)
+taken InputObject (takes_both w (takes_both n (takes_both takes_nothing rest))) = (_, takes_node (takes_both w (takes_both n rest)) refl, refl)
 
-abbrev common : List ℕ → List (List ℕ) → List DirectiveTree → List FieldTree → ImplementerTree
-common n is ds fs = record { name = n; interfaces = is; directives = ds; fields = fs }
+-- what fails after nothing, and before it
+fails_front : {b : Expr} (ts us : List Token) (why : Reason) → Fails reading (Then Empty b) ts why us → Fails reading b ts why us
+fails_front ts us why (fails_before h) = elim h [ ]
+fails_front ts us why (fails_after takes_nothing h) = h
 
-pub same_implementer : {n m : List ℕ} {is js : List (List ℕ)} {ds es : List DirectiveTree} {fs gs : List FieldTree} → m ≡ n → is ≡ js → ds ≡ es → fs ≡ gs
-    → common n is ds fs ≡ common m js es gs
-same_implementer a b c d = rw (a, b, c, d) refl
+fails_back : {a : Expr} (ts us : List Token) (why : Reason) → Fails reading (Then a Empty) ts why us → Fails reading a ts why us
+fails_back ts us why (fails_before h) = h
+fails_back ts us why (fails_after taken h) = elim h [ ]
 
--- an object type or an interface, of its keyword's place and what stands after it
-abbrev implemented : (List (List ℕ) → List FieldTree → PartsTree) → Place → ImplementerTree → BodyTree
-implemented kind p c = record { position = p; name = c.name; directives = c.directives; parts = kind c.interfaces c.fields }
+after_two : {a b f h : Expr} {ts us : List Token} {why : Reason}
+    → ((vs ws : List Token) (r : Reason) → Fails reading f vs r ws → Fails reading h vs r ws) → Fails reading (Then a (Then b f)) ts why us
+    → Fails reading (Then a (Then b h)) ts why us
+after_two t (fails_before h) = fails_before h
+after_two t (fails_after w (fails_before h)) = fails_after w (fails_before h)
+after_two t (fails_after w (fails_after n h)) = fails_after w (fails_after n (t _ _ _ h))
 
-pub same_implemented : (kind : List (List ℕ) → List FieldTree → PartsTree) {p q : Place} {c d : ImplementerTree} → q ≡ p → c ≡ d
-    → type_definition None (implemented kind p c) ≡ type_definition None (implemented kind q d)
-same_implemented kind a b = rw (a, b) refl
+fails : (k : TypeKind) {ts us : List Token} {why : Reason} → Fails reading (full_rule k) ts why us → Fails reading (Sym (symbol_of k)) ts why us
+fails Scalar h = fails_node (after_two (λ vs ws r f. fails_back vs ws r (fails_front vs ws r f)) h)
+fails Object h = fails_node h
+fails Interface h = fails_node h
+fails Union h = fails_node (after_two fails_front h)
+fails Enum h = fails_node (after_two fails_front h)
+fails InputObject h = fails_node (after_two fails_front h)
 
-pub object_means : {ts us : List Token} {x : Shape} (t : Token) → Takes reading implementer_rule ts x us
-    → implemented object t.place (implementer_of (written changes x)) ≡ object_of (written changes (Node object_symbol (Both (Leaf t) x)))
-object_means t (takes_both n (takes_both is (takes_both ds fs))) = refl
+stops : (k : TypeKind) (ts us : List Token) (o : Option Reason) → Stops reading (full_rule k) ts us o → Stops reading (Sym (symbol_of k)) ts us o
+stops k ts us None h = tt
+stops k ts us (Some why) h = fails k h
 
-pub interface_means : {ts us : List Token} {x : Shape} (t : Token) → Takes reading implementer_rule ts x us
-    → implemented interface t.place (implementer_of (written changes x)) ≡ interface_of (written changes (Node interface_symbol (Both (Leaf t) x)))
-interface_means t (takes_both n (takes_both is (takes_both ds fs))) = refl
+pub kind_taken : (k : TypeKind) (ts us : List Token) (b : BodyTree) → TakesSome reading (full_rule k) ts us (λ x. b ≡ full_means k (written changes x))
+    → TakesSome reading (Sym (symbol_of k)) ts us (λ x. b ≡ means k (written changes x))
+kind_taken k ts us b (x, takes, is) = let (y, node, same) = taken k takes in (y, node, is ∙ same)
 
--- ---- kinds of types: the symbol of each with its keyword, but for the last, which is read where none of them is seen
+-- a reader of it reads the kind
+pub of_kind : {A : Type 0} (k : TypeKind) (old new : Items) (view : A → BodyTree) (r : Result A ReadError)
+    → Gives reading (full_rule k) old new (λ v x. view v ≡ full_means k (written changes x)) r → Reads (Sym (symbol_of k)) old new (λ v x. view v ≡ means k x) r
+of_kind k old new view (Ok v) h = kind_taken k old.tokens new.tokens (view v) h
+of_kind k old new view (Err d) h = stops k old.tokens new.tokens (reason_of d) h
 
-abbrev pub Kind : Type 0
-Kind = ℕ × List ℕ
+-- after its keyword and its name
+pub named : (k : TypeKind) (old mid new : Items) (t n : Token) → TakesToken (keyword (kind_word k)) old mid t → TakesToken (any Name) mid new n
+    → Leads reading (full_rule k) (Then (interfaces_rule (has_interfaces k)) (Then (Sym directives_symbol) (parts_rule k)))
+    (λ y. Both (Leaf t) (Both (Leaf n) y)) old.tokens new.tokens
+named k old mid new t n begins called = past_one (any Name) mid new n (past_one (keyword (kind_word k)) old mid t here refl begins) refl called
 
-abbrev pub scalar_kind : Kind
-scalar_kind = (scalar_symbol, codes "scalar")
+-- bodies of the same parts
+abbrev of_parts : Place → List ℕ → List DirectiveTree → PartsTree → BodyTree
+of_parts p n ds parts = record { position = p; name = n; directives = ds; parts = parts }
 
-abbrev pub object_kind : Kind
-object_kind = (object_symbol, codes "type")
+pub same_body : {p q : Place} {n m : List ℕ} {ds es : List DirectiveTree} {x y : PartsTree} → q ≡ p → m ≡ n → ds ≡ es → x ≡ y
+    → of_parts p n ds x ≡ of_parts q m es y
+same_body a b c d = rw (a, b, c, d) refl
 
-abbrev pub interface_kind : Kind
-interface_kind = (interface_symbol, codes "interface")
+-- ---- the kind in a body
 
-abbrev pub union_kind : Kind
-union_kind = (union_symbol, codes "union")
+abbrev pub place : TypeKind → Shape → Shape
+place Scalar x = First x
+place Object x = Second (First x)
+place Interface x = Second (Second (First x))
+place Union x = Second (Second (Second (First x)))
+place Enum x = Second (Second (Second (Second (First x))))
+place InputObject x = Second (Second (Second (Second (Second x))))
 
-abbrev pub enum_kind : Kind
-enum_kind = (enum_symbol, codes "enum")
+pub body_means : (k : TypeKind) (x : Shape) → means k (written changes x) ≡ body_of (written changes (Node type_body_symbol (place k x)))
+body_means Scalar x = refl
+body_means Object x = refl
+body_means Interface x = refl
+body_means Union x = refl
+body_means Enum x = refl
+body_means InputObject x = refl
 
-abbrev pub all_kinds : List Kind
-all_kinds = scalar_kind ∷ object_kind ∷ interface_kind ∷ union_kind ∷ enum_kind ∷ []
+-- a side that comes later, which the keyword c tells
+later : {a b h : Expr} {j : Shape → Shape} {ts : List Token} (c : Class) → decides reading.rows (Either a b) ≡ true
+    → all_within (c ∷ []) (first reading.rows b) ≡ true → sees (c ∷ []) (peek ts) ≡ true → IsSide reading b h j ts
+    → IsSide reading (Either a b) h (λ x. Second (j x)) ts
+later {a} {b} {h} {j} {ts} c decided within seen side =
+    through reading (Either a b) b h (λ x. Second x) j ts (side_second reading a b c ts decided within seen) side
 
-abbrev pub kinds : List Kind → Expr
-kinds [] = Sym input_symbol
-kinds (k ∷ ks) = Either (Sym k.0) (kinds ks)
-
--- each begins with its keyword
-abbrev pub Begin : List Kind → Type 0
-Begin [] = Unit {0}
-Begin (k ∷ ks) = BeginsWith k.0 (keyword k.1) × Begin ks
-
-pub all_begin : Begin all_kinds
+chosen : (k : TypeKind) (ts : List Token) → sees (keyword (kind_word k) ∷ []) (peek ts) ≡ true → IsSide reading type_body_rule (Sym (symbol_of k)) (place k) ts
 unfolding tables shared_tables
-all_begin = (
-  record { something = refl; first = refl },
-  (
-    record { something = refl; first = refl },
-    (
-      record { something = refl; first = refl },
-      (
-        record { something = refl; first = refl },
-        (record { something = refl; first = refl }, tt),
-      ),
-    ),
-  ),
-)
+chosen Scalar ts s = side_first reading _ _ (keyword (codes "scalar")) ts refl s
+chosen Object ts s = let c = keyword (codes "type") in later c refl refl s (side_first reading _ _ c ts refl s)
+chosen Interface ts s = let c = keyword (codes "interface") in later c refl refl s (later c refl refl s (side_first reading _ _ c ts refl s))
+chosen Union ts s = let c = keyword (codes "union") in later c refl refl s (later c refl refl s (later c refl refl s (side_first reading _ _ c ts refl s)))
+chosen Enum ts s =
+    let c = keyword (codes "enum") in
+    later c refl refl s (later c refl refl s (later c refl refl s (later c refl refl s (side_first reading _ _ c ts refl s))))
+chosen InputObject ts s =
+    let c = keyword (codes "input") in
+    later c refl refl s (later c refl refl s (later c refl refl s (later c refl refl s (side_second reading _ _ c ts refl refl s))))
 
--- none of them is seen
-abbrev pub Unseen : List Kind → List Token → Type 0
-Unseen [] ts = Unit {0}
-Unseen (k ∷ ks) ts = (sees (keyword k.1 ∷ []) (peek ts) ≡ false) × Unseen ks ts
+-- its keyword tells it
+pub of_type : (k : TypeKind) {e : Expr} {inside : Shape → Shape} {ts us : List Token} → Leads reading e (Sym type_body_symbol) inside ts us
+    → sees (keyword (kind_word k) ∷ []) (peek us) ≡ true → Leads reading e (Sym (symbol_of k)) (λ x. inside (Node type_body_symbol (place k x))) ts us
+of_type k {us = us} lead seen = into (into lead (side_node reading type_body_symbol us (λ x. refl))) (chosen k us seen)
 
--- where the shape of a kind stands that comes after these
-abbrev pub after : List Kind → Shape → Shape
-after [] x = x
-after (k ∷ ks) x = Second (after ks x)
+-- and is none of these
+no_other : (k : TypeKind) → all_apart (keyword (codes "schema") ∷ keyword (codes "directive") ∷ []) (keyword (kind_word k) ∷ []) ≡ true
+no_other Scalar = refl
+no_other Object = refl
+no_other Interface = refl
+no_other Union = refl
+no_other Enum = refl
+no_other InputObject = refl
 
-input_something : nullable reading.rows (Sym input_symbol) ≡ false
-unfolding tables shared_tables
-input_something = refl
-
-input_unseen : (ts : List Token) → FailsUnseen reading (Sym input_symbol) ts
-unfolding tables shared_tables
-input_unseen ts = unseen_symbol reading input_symbol ts refl (unseen_then reading _ _ ts refl (unseen_one reading _ ts))
-
-kinds_something : (ks : List Kind) → Begin ks → nullable reading.rows (kinds ks) ≡ false
-kinds_something [] h = input_something
-kinds_something (k ∷ ks) (b, h) = rw (b.something, kinds_something ks h) refl
-
-kinds_unseen : (ks : List Kind) (ts : List Token) → Begin ks → FailsUnseen reading (kinds ks) ts
-kinds_unseen [] ts h = input_unseen ts
-kinds_unseen (k ∷ ks) ts (b, h) = unseen_either reading (Sym k.0) (kinds ks) ts b.something (kinds_something ks h)
-
--- the front is not seen, so a later kind is read
-pub later_kind : (front back : List Kind) {e : Expr} {inside : Shape → Shape} {ts : List Token} → Begin (front ++ back) → Unseen front ts
-    → Leads reading e (kinds (front ++ back)) inside ts ts → Leads reading e (kinds back) (λ x. inside (after front x)) ts ts
-later_kind [] back h n lead = lead
-later_kind (k ∷ ks) back {ts = ts} (b, h) (unseen, n) lead =
-    later_kind ks back h n (into lead (side_right reading (Sym k.0) (kinds (ks ++ back)) ts b.something (kinds_something (ks ++ back) h)
-    (kinds_unseen (ks ++ back) ts h) (ap (λ cs. sees cs (peek ts)) b.first ∙ unseen)))
-
-back_begins : (front back : List Kind) → Begin (front ++ back) → Begin back
-back_begins [] back h = h
-back_begins (k ∷ ks) back (b, h) = back_begins ks back h
-
--- and then one is seen, whose keyword is none of theirs
-abbrev pub apart : List Kind → List ℕ → Bool
-apart [] w = true
-apart (k ∷ ks) w = all_apart (keyword k.1 ∷ []) (keyword w ∷ []) && apart ks w
-
-others_unseen : (front : List Kind) (w : List ℕ) (ts : List Token) → apart front w ≡ true → sees (keyword w ∷ []) (peek ts) ≡ true → Unseen front ts
-others_unseen [] w ts a seen = tt
-others_unseen (k ∷ ks) w ts a seen =
-    let (this, others) = and_parts (all_apart (keyword k.1 ∷ []) (keyword w ∷ [])) (apart ks w) a in
-    (sees-apart (keyword k.1 ∷ []) (keyword w ∷ []) (peek ts) this seen, others_unseen ks w ts others seen)
-
-pub this_kind : (front : List Kind) (k : Kind) (back : List Kind) {e : Expr} {inside : Shape → Shape} {ts : List Token} → Begin (front ++ k ∷ back)
-    → apart front k.1 ≡ true → sees (keyword k.1 ∷ []) (peek ts) ≡ true
-    → Leads reading e (kinds (front ++ k ∷ back)) inside ts ts → Leads reading e (Sym k.0) (λ x. inside (after front (First x))) ts ts
-this_kind front k back {ts = ts} h a seen lead =
-    into (later_kind front (k ∷ back) h (others_unseen front k.1 ts a seen) lead)
-    (seen_symbol k.0 (keyword k.1) (kinds back) ts (back_begins front (k ∷ back) h).0 seen)
-
--- ---- the body of a type
-
--- the i-th kind, which is seen
-pub this_body : (i : ℕ) (k : Kind) (ts : List Token) → take i all_kinds ++ k ∷ drop (i + 1) all_kinds ≡ all_kinds → apart (take i all_kinds) k.1 ≡ true
-    → sees (keyword k.1 ∷ []) (peek ts) ≡ true
-    → Leads reading (Sym type_body_symbol) (Sym k.0) (λ x. Node type_body_symbol (after (take i all_kinds) (First x))) ts ts
-this_body i k ts whole a seen =
-    this_kind (take i all_kinds) k (drop (i + 1) all_kinds) (subst Begin (sym whole) all_begin) a seen
-    (subst (λ (ks : List Kind). Leads reading (Sym type_body_symbol) (kinds ks) (Node type_body_symbol) ts ts) (sym whole)
-    (starts type_body_symbol ts (λ x. refl)))
-
--- or the last, as no other is seen
-pub last_body : (ts : List Token) → Unseen all_kinds ts
-    → Leads reading (Sym type_body_symbol) (Sym input_symbol) (λ x. Node type_body_symbol (after all_kinds x)) ts ts
-last_body ts unseen = later_kind all_kinds [] all_begin unseen (starts type_body_symbol ts (λ x. refl))
+pub others_unseen : (k : TypeKind) (next : Option Token) → sees (keyword (kind_word k) ∷ []) next ≡ true
+    → (sees (keyword (codes "schema") ∷ []) next ≡ false) × (sees (keyword (codes "directive") ∷ []) next ≡ false)
+others_unseen k next seen =
+    let others = sees-apart (keyword (codes "schema") ∷ keyword (codes "directive") ∷ []) (keyword (kind_word k) ∷ []) next (no_other k) seen in
+    sees-parts (keyword (codes "schema") ∷ []) (keyword (codes "directive") ∷ []) next others

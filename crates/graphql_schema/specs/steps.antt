@@ -1,4 +1,5 @@
-pub mod Implementer
+pub mod Keywords
 pub mod Reads
 pub mod Refusals
 pub mod Roots
+pub mod TypeBodies

@@ -7,8 +7,10 @@ mod extension;
 mod field;
 mod input;
 mod invalid_node;
+mod keyword;
 mod names;
 mod schema;
+mod type_body;
 mod types;
 
 pub use definition::definitions;

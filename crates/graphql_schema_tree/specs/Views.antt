@@ -1,8 +1,11 @@
 -- What the declared trees of schemas stand for.
-use Rattle.std.specs.Prelude.{ℕ, List, option_map, map, string_bytes}
+use Rattle.std.specs.Prelude.{ℕ, List, Option, option_map, map, string_bytes}
 use Rattle.graphql_core.specs.Source.{place_of}
+use Rattle.graphql_lexer.specs.declared.position.Pos.{Pos}
+use Rattle.graphql_values.specs.declared.tree.Directive.{Directive}
 use Rattle.graphql_values.specs.ValueViews.{value_view, type_view, directives_view}
-use Rattle.graphql_schema_tree.specs.Tree.{InputValueTree, FieldTree, EnumValueTree, SchemaTree, scalar, object, interface, union, enum, input}
+use Rattle.graphql_schema_tree.specs.Tree.{InputValueTree, FieldTree, EnumValueTree, SchemaTree, PartsTree, BodyTree}
+use Rattle.graphql_schema_tree.specs.Tree.{scalar, object, interface, union, enum, input}
 use Rattle.graphql_schema_tree.specs.Tree.{DirectiveDefinitionTree, DefinitionTree, schema, type_definition, extension, schema_extension, directive}
 use Rattle.graphql_schema_tree.specs.Tree.{DocumentTree}
 use Rattle.graphql_schema_tree.specs.declared.tree.parts.InputValue.{InputValue}
@@ -62,55 +65,44 @@ module _ {N T : Type 0} (bytes : T → List ℕ) where
     directives = directives_view bytes v.directives.items;
   }
 
-  -- ---- types
+  -- ---- types: a definition and an extension of one kind have a body of the same parts
+
+  abbrev pub body_view : Pos → T → List (Directive N T) → PartsTree → BodyTree
+  body_view p n ds parts = record { position = place_of p; name = bytes n; directives = directives_view bytes ds; parts = parts }
+
+  abbrev pub object_parts : List T → List (Field N T) → PartsTree
+  object_parts is fs = object (map bytes is) (map field_view fs)
+
+  abbrev pub interface_parts : List T → List (Field N T) → PartsTree
+  interface_parts is fs = interface (map bytes is) (map field_view fs)
+
+  abbrev pub enum_parts : List (EnumValue N T) → PartsTree
+  enum_parts vs = enum (map enum_value_view vs)
+
+  abbrev pub input_parts : List (InputValue N T) → PartsTree
+  input_parts fs = input (map input_value_view fs)
 
   abbrev pub scalar_view : ScalarType N T → DefinitionTree
-  scalar_view t = type_definition (option_map string_bytes t.description) (record {
-    position = place_of t.position;
-    name = bytes t.name;
-    directives = directives_view bytes t.directives.items;
-    parts = scalar;
-  })
+  scalar_view t = type_definition (option_map string_bytes t.description) (body_view t.position t.name t.directives.items scalar)
 
   abbrev pub object_view : ObjectType N T → DefinitionTree
-  object_view t = type_definition (option_map string_bytes t.description) (record {
-    position = place_of t.position;
-    name = bytes t.name;
-    directives = directives_view bytes t.directives.items;
-    parts = object (map bytes t.implements_interfaces.items) (map field_view t.fields.items);
-  })
+  object_view t =
+      type_definition (option_map string_bytes t.description)
+      (body_view t.position t.name t.directives.items (object_parts t.implements_interfaces.items t.fields.items))
 
   abbrev pub interface_view : InterfaceType N T → DefinitionTree
-  interface_view t = type_definition (option_map string_bytes t.description) (record {
-    position = place_of t.position;
-    name = bytes t.name;
-    directives = directives_view bytes t.directives.items;
-    parts = interface (map bytes t.implements_interfaces.items) (map field_view t.fields.items);
-  })
+  interface_view t =
+      type_definition (option_map string_bytes t.description)
+      (body_view t.position t.name t.directives.items (interface_parts t.implements_interfaces.items t.fields.items))
 
   abbrev pub union_view : UnionType N T → DefinitionTree
-  union_view t = type_definition (option_map string_bytes t.description) (record {
-    position = place_of t.position;
-    name = bytes t.name;
-    directives = directives_view bytes t.directives.items;
-    parts = union (map bytes t.types.items);
-  })
+  union_view t = type_definition (option_map string_bytes t.description) (body_view t.position t.name t.directives.items (union (map bytes t.types.items)))
 
   abbrev pub enum_view : EnumType N T → DefinitionTree
-  enum_view t = type_definition (option_map string_bytes t.description) (record {
-    position = place_of t.position;
-    name = bytes t.name;
-    directives = directives_view bytes t.directives.items;
-    parts = enum (map enum_value_view t.values.items);
-  })
+  enum_view t = type_definition (option_map string_bytes t.description) (body_view t.position t.name t.directives.items (enum_parts t.values.items))
 
   abbrev pub input_view : InputObjectType N T → DefinitionTree
-  input_view t = type_definition (option_map string_bytes t.description) (record {
-    position = place_of t.position;
-    name = bytes t.name;
-    directives = directives_view bytes t.directives.items;
-    parts = input (map input_value_view t.fields.items);
-  })
+  input_view t = type_definition (option_map string_bytes t.description) (body_view t.position t.name t.directives.items (input_parts t.fields.items))
 
   abbrev pub type_definition_view : TypeDefinition N T → DefinitionTree
   type_definition_view (types.Scalar t) = scalar_view t
@@ -123,52 +115,22 @@ module _ {N T : Type 0} (bytes : T → List ℕ) where
   -- ---- extensions
 
   abbrev pub scalar_extension_view : ScalarTypeExtension N T → DefinitionTree
-  scalar_extension_view t = extension (record {
-    position = place_of t.position;
-    name = bytes t.name;
-    directives = directives_view bytes t.directives.items;
-    parts = scalar;
-  })
+  scalar_extension_view t = extension (body_view t.position t.name t.directives.items scalar)
 
   abbrev pub object_extension_view : ObjectTypeExtension N T → DefinitionTree
-  object_extension_view t = extension (record {
-    position = place_of t.position;
-    name = bytes t.name;
-    directives = directives_view bytes t.directives.items;
-    parts = object (map bytes t.implements_interfaces.items) (map field_view t.fields.items);
-  })
+  object_extension_view t = extension (body_view t.position t.name t.directives.items (object_parts t.implements_interfaces.items t.fields.items))
 
   abbrev pub interface_extension_view : InterfaceTypeExtension N T → DefinitionTree
-  interface_extension_view t = extension (record {
-    position = place_of t.position;
-    name = bytes t.name;
-    directives = directives_view bytes t.directives.items;
-    parts = interface (map bytes t.implements_interfaces.items) (map field_view t.fields.items);
-  })
+  interface_extension_view t = extension (body_view t.position t.name t.directives.items (interface_parts t.implements_interfaces.items t.fields.items))
 
   abbrev pub union_extension_view : UnionTypeExtension N T → DefinitionTree
-  union_extension_view t = extension (record {
-    position = place_of t.position;
-    name = bytes t.name;
-    directives = directives_view bytes t.directives.items;
-    parts = union (map bytes t.types.items);
-  })
+  union_extension_view t = extension (body_view t.position t.name t.directives.items (union (map bytes t.types.items)))
 
   abbrev pub enum_extension_view : EnumTypeExtension N T → DefinitionTree
-  enum_extension_view t = extension (record {
-    position = place_of t.position;
-    name = bytes t.name;
-    directives = directives_view bytes t.directives.items;
-    parts = enum (map enum_value_view t.values.items);
-  })
+  enum_extension_view t = extension (body_view t.position t.name t.directives.items (enum_parts t.values.items))
 
   abbrev pub input_extension_view : InputObjectTypeExtension N T → DefinitionTree
-  input_extension_view t = extension (record {
-    position = place_of t.position;
-    name = bytes t.name;
-    directives = directives_view bytes t.directives.items;
-    parts = input (map input_value_view t.fields.items);
-  })
+  input_extension_view t = extension (body_view t.position t.name t.directives.items (input_parts t.fields.items))
 
   abbrev pub type_extension_view : TypeExtension N T → DefinitionTree
   type_extension_view (extensions.Scalar t) = scalar_extension_view t
@@ -180,28 +142,25 @@ module _ {N T : Type 0} (bytes : T → List ℕ) where
 
   -- ---- documents
 
-  -- without the description
-  abbrev pub schema_view : SchemaDefinition N T → SchemaTree
-  schema_view s = record {
-    position = place_of s.position;
-    directives = directives_view bytes s.directives.items;
-    query = option_map bytes s.query;
-    mutation = option_map bytes s.mutation;
-    subscription = option_map bytes s.subscription;
+  -- of a schema without its description, and of an extension of it
+  abbrev pub operations_view : Pos → List (Directive N T) → (query mutation subscription : Option T) → SchemaTree
+  operations_view p ds q m s = record {
+    position = place_of p;
+    directives = directives_view bytes ds;
+    query = option_map bytes q;
+    mutation = option_map bytes m;
+    subscription = option_map bytes s;
   }
 
-  -- with it
+  abbrev pub schema_view : SchemaDefinition N T → SchemaTree
+  schema_view s = operations_view s.position s.directives.items s.query s.mutation s.subscription
+
+  -- with its description
   abbrev pub schema_definition_view : SchemaDefinition N T → DefinitionTree
   schema_definition_view s = schema (option_map string_bytes s.description) (schema_view s)
 
   abbrev pub schema_extension_view : SchemaExtension N T → SchemaTree
-  schema_extension_view s = record {
-    position = place_of s.position;
-    directives = directives_view bytes s.directives.items;
-    query = option_map bytes s.query;
-    mutation = option_map bytes s.mutation;
-    subscription = option_map bytes s.subscription;
-  }
+  schema_extension_view s = operations_view s.position s.directives.items s.query s.mutation s.subscription
 
   abbrev pub directive_definition_view : DirectiveDefinition N T → DirectiveDefinitionTree
   directive_definition_view d = record {

@@ -1,0 +1,53 @@
+-- Keywords: what one is that is told, and what begins with one.
+use Rattle.std.proofs.Common.{◌≡◌, ◌≢◌, ◌||◌, ℕ, true, false, List, [], ◌∷◌, ◌++◌, Option, Some, None, codes, is_some, refl, sym, ap, ◌∙◌}
+use Rattle.std.proofs.Math.Bool.{or_assoc, and-false}
+use Rattle.std.proofs.lemmas.Bool.{true_from_ne_false, both_ways}
+use Rattle.graphql_grammar.specs.Tokens.{Token, Class, Spelled, matches, in_any, all_within}
+use Rattle.graphql_grammar.specs.Trees.{peek}
+use Rattle.graphql_grammar.specs.Reading.{sees}
+use Rattle.graphql_grammar.proofs.Items.{sees-within}
+use Rattle.graphql_core.specs.Source.{Items}
+use Rattle.graphql_values.proofs.PlainAlternatives.{differs}
+use Rattle.graphql_schema.specs.declared.read.keyword.TypeKind.TheVariants.{Scalar, Object, Interface, Union, Enum, InputObject}
+use Rattle.graphql_schema.specs.declared.read.keyword.Keyword.{Keyword}
+use Rattle.graphql_schema.specs.declared.read.keyword.Keyword.TheVariants.{Schema, OfType, Directive}
+use Rattle.graphql_schema.specs.steps.Keywords.{class_of, keywords, TellsToken, Tells}
+
+-- a token that is spelled otherwise
+other_word : (k : ℕ) (w : List ℕ) (t : Token) → w ≢ t.spelling → matches (Spelled k w) t ≡ false
+other_word k w t h = rw (differs w t.spelling h) (and-false _)
+
+pub no_word : (t : Token) → codes "schema" ≢ t.spelling → codes "scalar" ≢ t.spelling → codes "type" ≢ t.spelling → codes "interface" ≢ t.spelling
+    → codes "union" ≢ t.spelling → codes "enum" ≢ t.spelling → codes "input" ≢ t.spelling → codes "directive" ≢ t.spelling → TellsToken t None
+no_word t a b c d e f g h = rw (
+  other_word _ _ t a,
+  other_word _ _ t b,
+  other_word _ _ t c,
+  other_word _ _ t d,
+  other_word _ _ t e,
+  other_word _ _ t f,
+  other_word _ _ t g,
+  other_word _ _ t h,
+) refl
+
+-- one of these classes comes next, or of those
+pub sees_both : (cs ds : List Class) (next : Option Token) → sees (cs ++ ds) next ≡ sees cs next || sees ds next
+sees_both cs ds None = refl
+sees_both [] ds (Some t) = refl
+sees_both (c ∷ cs) ds (Some t) = ap (λ b. matches c t || b) (sees_both cs ds (Some t)) ∙ sym (or_assoc (matches c t) (in_any cs t) (in_any ds t))
+
+-- a keyword that is told is one of them
+is_keyword : (k : Keyword) → all_within (class_of k ∷ []) keywords ≡ true
+is_keyword Schema = refl
+is_keyword (OfType Scalar) = refl
+is_keyword (OfType Object) = refl
+is_keyword (OfType Interface) = refl
+is_keyword (OfType Union) = refl
+is_keyword (OfType Enum) = refl
+is_keyword (OfType InputObject) = refl
+is_keyword Directive = refl
+
+pub is_told : (i : Items) (told : Option Keyword) → Tells i told → is_some told ≡ sees keywords (peek i.tokens)
+is_told i None h = sym h
+is_told i (Some k) h =
+    sym (true_from_ne_false _ (λ none. both_ways _ (sees-within (class_of k ∷ []) keywords (peek i.tokens) (is_keyword k) none) h))

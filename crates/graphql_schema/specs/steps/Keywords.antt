@@ -1,0 +1,51 @@
+-- The keywords with which definitions begin that may have a description.
+use Rattle.std.specs.Prelude.{◌≡◌, ℕ, Bool, true, false, ◌||◌, List, [], ◌∷◌, Option, Some, None, codes}
+use Rattle.graphql_grammar.specs.Tokens.{Token, Class, matches, in_any}
+use Rattle.graphql_grammar.specs.Trees.{peek}
+use Rattle.graphql_grammar.specs.Reading.{sees}
+use Rattle.graphql_core.specs.Source.{Items}
+use Rattle.graphql_core.specs.steps.Matching.{sees_class}
+use Rattle.graphql_values.specs.Grammar.{keyword}
+use Rattle.graphql_schema.specs.declared.read.keyword.TypeKind.{TypeKind}
+use Rattle.graphql_schema.specs.declared.read.keyword.TypeKind.TheVariants.{Scalar, Object, Interface, Union, Enum, InputObject}
+use Rattle.graphql_schema.specs.declared.read.keyword.Keyword.{Keyword}
+use Rattle.graphql_schema.specs.declared.read.keyword.Keyword.TheVariants.{Schema, OfType, Directive}
+use Rattle.graphql_schema.specs.steps.Reads.{sees_description}
+
+abbrev pub kind_word : TypeKind → List ℕ
+kind_word Scalar = codes "scalar"
+kind_word Object = codes "type"
+kind_word Interface = codes "interface"
+kind_word Union = codes "union"
+kind_word Enum = codes "enum"
+kind_word InputObject = codes "input"
+
+abbrev pub has_interfaces : TypeKind → Bool
+has_interfaces Object = true
+has_interfaces Interface = true
+has_interfaces _ = false
+
+abbrev pub class_of : Keyword → Class
+class_of Schema = keyword (codes "schema")
+class_of (OfType k) = keyword (kind_word k)
+class_of Directive = keyword (codes "directive")
+
+-- all of them
+abbrev pub keywords : List Class
+keywords =
+    keyword (codes "schema") ∷ keyword (codes "scalar") ∷ keyword (codes "type") ∷ keyword (codes "interface") ∷ keyword (codes "union")
+    ∷ keyword (codes "enum") ∷ keyword (codes "input") ∷ keyword (codes "directive") ∷ []
+
+-- a token is this one, or none of them
+abbrev pub TellsToken : Token → Option Keyword → Type 0
+TellsToken t (Some k) = matches (class_of k) t ≡ true
+TellsToken t None = in_any keywords t ≡ false
+
+-- this one comes next, or none of them does
+abbrev pub Tells : Items → Option Keyword → Type 0
+Tells i (Some k) = sees_class (class_of k) i ≡ true
+Tells i None = sees keywords (peek i.tokens) ≡ false
+
+-- a definition comes next
+abbrev pub sees_definition : Items → Bool
+sees_definition i = sees_description i || (sees keywords (peek i.tokens) || sees_class (keyword (codes "extend")) i)
