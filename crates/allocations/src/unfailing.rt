@@ -6,8 +6,8 @@ use graphql_parser::query::{self, MinifyError, minify_query, parse_query};
 use graphql_parser::schema::{
     self, DirectiveDefinition, DirectiveLocation, EnumType, EnumTypeExtension, EnumValue,
     InputObjectType, InputObjectTypeExtension, InterfaceType, InterfaceTypeExtension, ObjectType,
-    ObjectTypeExtension, ScalarType, ScalarTypeExtension, SchemaDefinition, UnionType,
-    UnionTypeExtension, parse_schema,
+    ObjectTypeExtension, ScalarType, ScalarTypeExtension, SchemaDefinition, SchemaExtension,
+    UnionType, UnionTypeExtension, parse_schema,
 };
 use graphql_parser::tokenizer::{Kind, Token, TokenStream};
 use graphql_parser::{Cause, FormatError, Pos, Style};
@@ -247,6 +247,7 @@ fn make_extensions(alloc: Global, tally: &mut Tally) {
     tally.check(EnumTypeExtension::<&str>::new(alloc, "A").name == "A");
     tally.check(InputObjectTypeExtension::<&str>::new(alloc, "A").name == "A");
     tally.check(SchemaDefinition::<&str>::empty(alloc).query.is_none());
+    tally.check(SchemaExtension::<&str>::empty(alloc).query.is_none());
     tally.check(
         schema::Document::<'_, &str>::empty(alloc)
             .definitions

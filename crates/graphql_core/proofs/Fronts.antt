@@ -5,15 +5,16 @@ use Rattle.std.proofs.lemmas.List.Elements.{All-head}
 use Rattle.graphql_grammar.specs.Tokens.{Token, AnyOf, same_spelling, matches}
 use Rattle.graphql_grammar.specs.Trees.{peek}
 use Rattle.graphql_grammar.specs.Reading.{sees}
-use Rattle.graphql_core.specs.declared.helpers.mark.Mark.{Mark}
-use Rattle.graphql_core.specs.declared.helpers.mark.Mark.TheVariants.{Bang, Dollar, Ampersand, OpenParen, CloseParen, Dots, Colon, Equals, At, OpenBracket}
-use Rattle.graphql_core.specs.declared.helpers.mark.Mark.TheVariants.{CloseBracket, OpenBrace, Pipe, CloseBrace}
+use Rattle.graphql_core.specs.declared.helpers.punctuator.Punctuator.{Punctuator}
+use Rattle.graphql_core.specs.declared.helpers.punctuator.Punctuator.TheVariants.{Bang, Dollar, Ampersand, OpenParen, CloseParen, Spread, Colon, Equals, At, OpenBracket}
+use Rattle.graphql_core.specs.declared.helpers.punctuator.Punctuator.TheVariants.{CloseBracket, OpenBrace, Pipe, CloseBrace}
 use Rattle.graphql_lexer.specs.declared.tokenizer.token.Kind.{Kind}
-use Rattle.graphql_lexer.specs.declared.tokenizer.token.Kind.TheVariants.{Punctuator, Name}
+use Rattle.graphql_lexer.specs.declared.tokenizer.token.Kind.TheVariants.{Name}
+use Rattle.graphql_lexer.specs.declared.tokenizer.token.Kind.TheVariants as kinds
 use Rattle.graphql_lexer.specs.declared.tokenizer.piece.Nesting.{Nesting}
 use Rattle.graphql_core.specs.Causes.{kind_number}
 use Rattle.graphql_lexer.specs.Lexical.{is_name_start, is_mark, Word, Stands, name, mark, spread, integer, float, string, block_string}
-use Rattle.graphql_core.specs.steps.Marks.{spelling_of, class_of, first_byte, front_byte}
+use Rattle.graphql_core.specs.steps.Punctuators.{spelling_of, class_of, first_byte, front_byte}
 use Rattle.graphql_core.specs.Source.{IsLexeme}
 use Rattle.graphql_lexer.proofs.Runs.{differs}
 use Rattle.graphql_lexer.specs.steps.Numbers.{starts_number}
@@ -33,7 +34,7 @@ number_no_name b h = grind (arith, nat_tests)
 
 -- a token of this kind and spelling is a punctuator with this spelling
 abbrev IsMarked : Kind → List ℕ → List ℕ → Bool
-IsMarked k s bytes = (kind_number Punctuator == kind_number k) && same_spelling s bytes
+IsMarked k s bytes = (kind_number kinds.Punctuator == kind_number k) && same_spelling s bytes
 
 in_run : (xs : List ℕ) (b : ℕ) → NumberRun xs → starts_number b ≡ false → (first_byte xs == b) ≡ false
 in_run xs b r other = ap (λ ys. first_byte ys == b) r.is ∙ differs starts_number r.first b r.starts other
@@ -50,7 +51,7 @@ one_seen b is (string body h n) = let e = differs is_mark b 34 is refl in rw (by
 one_seen b is (block_string h) = let e = differs is_mark b 34 is refl in rw (byte_back 34 b, e) refl
 
 -- three dots
-dots_seen : {k : Kind} {s : Nesting} {bytes rest : List ℕ} → Stands bytes (Word k s) rest → (first_byte bytes == 46) ≡ IsMarked k (spelling_of Dots) bytes
+dots_seen : {k : Kind} {s : Nesting} {bytes rest : List ℕ} → Stands bytes (Word k s) rest → (first_byte bytes == 46) ≡ IsMarked k (spelling_of Spread) bytes
 dots_seen (name {b = f} h all stop) = differs is_name_start f 46 h refl
 dots_seen (mark {b = f} h) = let e = differs is_mark f 46 h refl in rw (byte_back 46 f, e) refl
 dots_seen spread = refl
@@ -59,14 +60,14 @@ dots_seen (float {run = run} f e) = in_run run 46 (float_run f) refl
 dots_seen (string body h n) = refl
 dots_seen (block_string h) = refl
 
-mark_seen : (m : Mark) {k : Kind} {s : Nesting} {bytes rest : List ℕ} → Stands bytes (Word k s) rest
+mark_seen : (m : Punctuator) {k : Kind} {s : Nesting} {bytes rest : List ℕ} → Stands bytes (Word k s) rest
     → (first_byte bytes == first_byte (spelling_of m)) ≡ IsMarked k (spelling_of m) bytes
 mark_seen Bang st = one_seen 33 refl st
 mark_seen Dollar st = one_seen 36 refl st
 mark_seen Ampersand st = one_seen 38 refl st
 mark_seen OpenParen st = one_seen 40 refl st
 mark_seen CloseParen st = one_seen 41 refl st
-mark_seen Dots st = dots_seen st
+mark_seen Spread st = dots_seen st
 mark_seen Colon st = one_seen 58 refl st
 mark_seen Equals st = one_seen 61 refl st
 mark_seen At st = one_seen 64 refl st
@@ -92,13 +93,13 @@ or_false : (b : Bool) → b ≡ b || false
 or_false true = refl
 or_false false = refl
 
-no_mark : (m : Mark) → (0 == first_byte (spelling_of m)) ≡ false
+no_mark : (m : Punctuator) → (0 == first_byte (spelling_of m)) ≡ false
 no_mark Bang = refl
 no_mark Dollar = refl
 no_mark Ampersand = refl
 no_mark OpenParen = refl
 no_mark CloseParen = refl
-no_mark Dots = refl
+no_mark Spread = refl
 no_mark Colon = refl
 no_mark Equals = refl
 no_mark At = refl
@@ -108,11 +109,11 @@ no_mark OpenBrace = refl
 no_mark Pipe = refl
 no_mark CloseBrace = refl
 
-pub sees_mark : (m : Mark) (ts : List Token) → All IsLexeme ts → (front_byte ts == first_byte (spelling_of m)) ≡ sees (class_of m ∷ []) (peek ts)
-sees_mark m [] all = no_mark m
-sees_mark m (t ∷ ts) all =
+pub sees_punctuator : (m : Punctuator) (ts : List Token) → All IsLexeme ts → (front_byte ts == first_byte (spelling_of m)) ≡ sees (class_of m ∷ []) (peek ts)
+sees_punctuator m [] all = no_mark m
+sees_punctuator m (t ∷ ts) all =
     let (k, s, rest, kind, stands) = All-head IsLexeme t ts all in
-    mark_seen m stands ∙ ap (λ n. (kind_number Punctuator == n) && same_spelling (spelling_of m) t.spelling) (sym kind) ∙ or_false (matches (class_of m) t)
+    mark_seen m stands ∙ ap (λ n. (kind_number kinds.Punctuator == n) && same_spelling (spelling_of m) t.spelling) (sym kind) ∙ or_false (matches (class_of m) t)
 
 pub sees_name : (ts : List Token) → All IsLexeme ts → is_name_start (front_byte ts) ≡ sees (AnyOf (kind_number Name) ∷ []) (peek ts)
 sees_name [] all = refl

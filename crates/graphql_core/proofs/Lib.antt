@@ -12,4 +12,5 @@ pub mod Depths
 pub mod Laid
 pub mod Back
 pub mod Minifying
+pub mod Refusals
 pub mod Places

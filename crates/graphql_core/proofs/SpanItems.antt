@@ -1,7 +1,7 @@
 -- Items as the spans of their tokens.
-use Rattle.std.proofs.Common.{◌≡◌, ℕ, ◌+◌, ◌-◌, List, [], ◌∷◌, ◌++◌, length, take, drop, map, Option, Some, None, Result, Ok, Err, All, refl, sym, ap, ◌∙◌}
-use Rattle.std.proofs.Common.{subst, arith, append_assoc}
-use Rattle.std.proofs.lemmas.List.{take_at, append-nil, map-append}
+use Rattle.std.proofs.Common.{◌≡◌, ℕ, zero, suc, ◌+◌, ◌-◌, ◌<◌, ◌≤◌, get_or, List, [], ◌∷◌, ◌++◌, length, take, drop, map, Option, Some, None, Result, Ok, Err, All, refl, sym, ap, ◌∙◌}
+use Rattle.std.proofs.Common.{subst, arith, append_assoc, add-zero, length-drop}
+use Rattle.std.proofs.lemmas.List.{take_at, append-nil, map-append, length-take, get_or-drop}
 use Rattle.std.proofs.lemmas.List.Elements.{All-head, All-tail, All-same, All-map, All-weaker}
 use Rattle.std.specs.Str.{IsCharBoundary}
 use Rattle.graphql_lexer.specs.declared.position.Pos.{Pos}
@@ -11,13 +11,37 @@ use Rattle.graphql_lexer.specs.declared.tokenizer.token.Bad.{Bad}
 use Rattle.graphql_lexer.specs.Items.{Where, Item, item, Lexeme}
 use Rattle.graphql_lexer.specs.Stream.{NextItem, next_place}
 use Rattle.graphql_grammar.specs.Tokens.{Token}
-use Rattle.graphql_core.specs.declared.common.fault.Fault.{Fault}
 use Rattle.graphql_core.specs.declared.helpers.span.Span.{Span}
 use Rattle.graphql_core.specs.Causes.{kind_number}
-use Rattle.graphql_core.specs.Source.{Items, Last, IsLexeme, IsFaultOf, split, then_items, tokens_then, token_of}
-use Rattle.graphql_core.specs.steps.Marks.{first_byte}
-use Rattle.graphql_core.specs.steps.Spans.{Marks, span_token, span_items, last_of}
-use Rattle.graphql_core.proofs.TokenPlaces.{IsToken, StandsIn}
+use Rattle.graphql_core.specs.Source.{Items, Last, IsLexeme, split, then_items, tokens_then, token_of}
+use Rattle.graphql_core.specs.Refusal.{Refusal, IsFaultOf}
+use Rattle.graphql_core.specs.steps.Punctuators.{first_byte}
+use Rattle.graphql_core.specs.steps.Spans.{Marks, start_of, kind_of, span_token, span_items, last_of}
+use Rattle.graphql_lexer.specs.Lexical.{Word}
+use Rattle.graphql_lexer.specs.declared.tokenizer.token.Kind.TheVariants.{Punctuator, Name, IntValue, FloatValue, StringValue, BlockString}
+use Rattle.graphql_core.proofs.TokenPlaces.{IsToken, StandsIn, part}
+
+-- ---- what one number tells of a place and a kind
+
+pub few_kinds : (k : Kind) → kind_number k ≤ 5
+few_kinds Punctuator = omega arith
+few_kinds Name = omega arith
+few_kinds IntValue = omega arith
+few_kinds FloatValue = omega arith
+few_kinds StringValue = omega arith
+few_kinds BlockString = omega arith
+
+-- a token has some bytes
+some_bytes : (t : Token) → IsLexeme t → 0 < length t.spelling
+some_bytes t (k, s, rest, kind, stands) = (part (Word k s) t.spelling rest stands).0
+
+pub token_some : {text : List ℕ} {w : Where} {k : Kind} {bytes : List ℕ} → IsToken text w k bytes → 0 < length bytes
+token_some {text} {w} {k} {bytes} t = some_bytes (token_of w.position k bytes) t.lexeme
+
+first_taken : (n : ℕ) (bytes : List ℕ) → 0 < length (take n bytes) → get_or bytes 0 0 ≡ first_byte (take n bytes)
+first_taken zero bytes some = absurd (omega arith)
+first_taken (suc n) [] some = absurd (omega arith)
+first_taken (suc n) (b ∷ bs) some = refl
 
 -- these tokens, and then these items
 abbrev pub before : List Token → Items → Items
@@ -41,29 +65,39 @@ next_of old was new r t same next is =
 
 module _ {W : Type 0} (number : W → ℕ) (text : List ℕ) where
   -- a span of a token that stands in the text
-  module _ (s : Span W) (w : Where) (k : Kind) (bytes : List ℕ) (t : IsToken text w k bytes) (start : number s.start ≡ w.offset)
+  module _ (s : Span W) (w : Where) (k : Kind) (bytes : List ℕ) (t : IsToken text w k bytes) (start : start_of number s ≡ w.offset)
       (end : number s.end ≡ w.offset + length bytes) (line : number s.line ≡ w.position.line) (column : number s.column ≡ w.position.column)
-      (kind : s.kind ≡ k) where
-    long : number s.end - number s.start ≡ length bytes
+      (kind : kind_of number s ≡ k) where
+    long : number s.end - start_of number s ≡ length bytes
     long = omega (arith, start, end)
 
-    follows : drop (number s.start) text ≡ bytes ++ t.rest
+    follows : drop (start_of number s) text ≡ bytes ++ t.rest
     follows = ap (λ (n : ℕ). drop n text) start ∙ t.is
 
-    spelled : take (number s.end - number s.start) (drop (number s.start) text) ≡ bytes
+    spelled : take (number s.end - start_of number s) (drop (start_of number s) text) ≡ bytes
     spelled = (λ i. take (long i) (follows i)) ∙ take_at bytes t.rest (length bytes) refl
 
     pub is_token : span_token number text s ≡ token_of w.position k bytes
     is_token = λ i. record { kind = kind_number (kind i); spelling = spelled i; place = record { line = line i; column = column i } }
 
-    pub marks : s.front ≡ first_byte bytes → Marks number text s
-    marks front = record {
+    pub marks : Marks number text s
+    marks = record {
       ordered = omega (arith, start, end);
       starts = subst (IsCharBoundary text) (sym start) t.starts;
       ends = rw (follows, long) t.ends;
-      front = front ∙ ap first_byte (sym spelled);
       lexeme = subst IsLexeme (sym is_token) t.lexeme;
     }
+
+  -- the first byte of a token stands where the span says
+  pub first_within : (s : Span W) → Marks number text s → start_of number s < length text
+  first_within s m =
+      let some = some_bytes (span_token number text s) m.lexeme in
+      omega (arith, some, length-take (number s.end - start_of number s) (drop (start_of number s) text), length-drop (start_of number s) text)
+
+  pub first_is : (s : Span W) → Marks number text s → get_or text (start_of number s) 0 ≡ first_byte (span_token number text s).spelling
+  first_is s m =
+      ap (λ n. get_or text n 0) (sym (add-zero (start_of number s))) ∙ sym (get_or-drop (start_of number s) text 0 0)
+      ∙ first_taken _ (drop (start_of number s) text) (some_bytes (span_token number text s) m.lexeme)
 
   -- one token on
   pub before_more : (spans : List (Span W)) (s : Span W) (old new : List Item) (k : Kind) (bytes : List ℕ) (w : Where) (all : Items)
@@ -107,12 +141,12 @@ module _ {W : Type 0} (number : W → ℕ) (text : List ℕ) where
       (All-weaker (Marks number text) (λ s. IsLexeme (span_token number text s)) (λ s m. m.lexeme) spans all)
 
   -- the fault of the token that is next
-  pub fault_here : (s : Span W) (spans more : List (Span W)) (last : Last) (p : Pos) (value : List ℕ) (f : Fault)
+  pub fault_here : (s : Span W) (spans more : List (Span W)) (last : Last) (p : Pos) (value : List ℕ) (f : Refusal)
       → spans ≡ s ∷ more → p.line ≡ number s.line → p.column ≡ number s.column → value ≡ (span_token number text s).spelling
-      → ((following : Items) → IsFaultOf (then_items (token_of p s.kind value) following) f) → IsFaultOf (span_items number text spans last) f
+      → ((following : Items) → IsFaultOf (then_items (token_of p (kind_of number s) value) following) f) → IsFaultOf (span_items number text spans last) f
   fault_here s spans more last p value f next line column spelled h =
       let following = span_items number text more last in
-      let same : token_of p s.kind value ≡ span_token number text s =
-      λ i. record { kind = kind_number s.kind; spelling = spelled i; place = record { line = line i; column = column i } } in
+      let same : token_of p (kind_of number s) value ≡ span_token number text s =
+      λ i. record { kind = kind_number (kind_of number s); spelling = spelled i; place = record { line = line i; column = column i } } in
       subst (λ (l : List (Span W)). IsFaultOf (span_items number text l last) f) (sym next)
       (subst (λ (t : Token). IsFaultOf (then_items t following) f) same (h following))

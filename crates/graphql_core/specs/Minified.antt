@@ -2,15 +2,14 @@
 use Rattle.std.specs.Prelude.{◌≡◌, ℕ, Bool, true, false, not, ◌&&◌, ◌||◌, ◌==◌, ◌+◌, List, [], ◌∷◌, ◌++◌, map}
 use Rattle.graphql_grammar.specs.Tokens.{Token, Spelled, matches, nowhere}
 use Rattle.graphql_lexer.specs.declared.tokenizer.token.Kind.TheVariants.{Punctuator, IntValue, FloatValue}
-use Rattle.graphql_core.specs.declared.common.fault.Fault.{Fault}
-use Rattle.graphql_core.specs.declared.common.fault.Fault.TheVariants.{OutOfMemory, At}
 use Rattle.graphql_lexer.specs.declared.tokenizer.token.Kind.{Kind}
 use Rattle.graphql_lexer.specs.declared.tokenizer.piece.Nesting.{Nesting}
 use Rattle.graphql_lexer.specs.declared.tokenizer.piece.Nesting.TheVariants.{Level, Opens, Closes}
 use Rattle.graphql_lexer.specs.Lexical.{Stands, Word}
-use Rattle.graphql_core.specs.Causes.{cause_text, kind_number}
+use Rattle.graphql_core.specs.Causes.{kind_number}
 use Rattle.graphql_lexer.specs.Items.{Item, HasItems, openers_after, closers_after}
-use Rattle.graphql_core.specs.Source.{Items, Wrong, IsEnd, split, place_of}
+use Rattle.graphql_core.specs.Source.{Items, Wrong, IsEnd, split}
+use Rattle.graphql_core.specs.Refusal.{Refusal, Tells}
 
 -- ---- spaced tokens
 
@@ -73,6 +72,5 @@ AreLexemes o c (t ∷ ts) = (k : Kind) × (n : Nesting) × (rest : List ℕ) × 
 -- ---- refusals
 
 -- an allocation failed, or the items end in a bad place, and this is its cause and its position
-abbrev pub IsBadPlaceOf : Items → Fault → Type 0
-IsBadPlaceOf i OutOfMemory = Unit {0}
-IsBadPlaceOf i (At c p) = i.last ≡ Wrong (place_of p) (cause_text c)
+abbrev pub IsBadPlaceOf : Items → Refusal → Type 0
+IsBadPlaceOf i r = Tells (λ f. i.last ≡ Wrong f.place f.cause) r

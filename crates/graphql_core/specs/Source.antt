@@ -5,15 +5,13 @@ use Rattle.graphql_lexer.specs.declared.position.Pos.{Pos}
 use Rattle.graphql_lexer.specs.declared.tokenizer.token.Kind.{Kind}
 use Rattle.graphql_lexer.specs.declared.tokenizer.token.Bad.{Bad}
 use Rattle.graphql_lexer.specs.declared.tokenizer.token.Token.{Token as Cut}
-use Rattle.graphql_core.specs.declared.common.fault.Fault.{Fault}
-use Rattle.graphql_core.specs.declared.common.fault.Fault.TheVariants as fault
 use Rattle.graphql_core.specs.declared.helpers.source.Lexeme.{Lexeme}
 use Rattle.graphql_lexer.specs.declared.tokenizer.piece.Nesting.{Nesting}
 use Rattle.graphql_lexer.specs.Lexical.{Stands, Word}
 use Rattle.graphql_lexer.specs.Items.{Item, Content, Stream}
 use Rattle.graphql_lexer.specs.Stream.{asked_once}
 use Rattle.graphql_lexer.specs.Items as items
-use Rattle.graphql_core.specs.Causes.{CauseText, no_token, kind_number, cause_text}
+use Rattle.graphql_core.specs.Causes.{CauseText, no_token, kind_number}
 use Rattle.graphql_lexer.specs.BadTexts.{bad_text}
 use Rattle.graphql_core.specs.Causes as causes
 
@@ -120,8 +118,3 @@ fault_at i = fault_by i.tokens i.last
 -- where the next item begins
 abbrev pub place_next : Items → Place
 place_next i = (fault_at i).place
-
--- an allocation failed, or it is the fault of the next item
-abbrev pub IsFaultOf : Items → Fault → Type 0
-IsFaultOf i fault.OutOfMemory = Unit {0}
-IsFaultOf i (fault.At c p) = record { cause = cause_text c; place = place_of p } ≡ fault_at i

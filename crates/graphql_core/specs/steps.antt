@@ -1,7 +1,7 @@
 pub mod Endings
-pub mod Marks
+pub mod Punctuators
 pub mod Matching
-pub mod Stops
+pub mod ReadErrors
 pub mod FormatterSink
 pub mod StringSink
 pub mod Placed

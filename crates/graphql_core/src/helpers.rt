@@ -1,21 +1,21 @@
 //! Tokens with one item of lookahead.
 
 mod cursor;
-mod mark;
 mod matching;
 mod minify;
+mod punctuator;
+mod read_error;
 mod room;
 mod source;
 mod span;
 mod spans;
-mod stop;
 
 pub use cursor::Cursor;
-pub use mark::Mark;
-pub use matching::{keyword, name, sees_keyword, take_mark};
+pub use matching::{expect_keyword, expect_name, expect_punctuator, sees_keyword};
 pub use minify::{minified, spaced_tokens_are_cut};
-pub use room::give_back_room;
+pub use punctuator::Punctuator;
+pub use read_error::{ReadError, fault_of};
+pub use room::shrink_list;
 pub use source::{Lexeme, TokenSource};
 pub use span::{Span, WIDE_TEXT, Width};
 pub use spans::{SpanSource, Spans};
-pub use stop::{Stop, fault_of};

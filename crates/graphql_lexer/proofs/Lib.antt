@@ -1,3 +1,4 @@
+pub mod Classes
 pub mod Ending
 pub mod FrontFits
 pub mod FrontIsPiece

@@ -1,7 +1,7 @@
 -- Tokens and plain ignored text at the front of a text.
-use Rattle.std.proofs.Common.{◌≡◌, ℕ, ◌+◌, ◌<◌, ◌≤◌, Bool, true, false, ◌||◌, ◌==◌, List, [], ◌∷◌, Option, Some, None, length, take, drop, get_or, IsUtf8}
-use Rattle.std.proofs.Common.{refl, sym, ap, ◌∙◌, inl, inr, arith, eqb-true}
-use Rattle.std.proofs.lemmas.Bool.{cases_Bool, false≢true, eqb-false}
+use Rattle.std.proofs.Common.{◌≡◌, ℕ, ◌+◌, ◌<◌, ◌≤◌, Bool, true, false, ◌==◌, List, [], ◌∷◌, Option, Some, None, length, take, drop, get_or, IsUtf8}
+use Rattle.std.proofs.Common.{refl, sym, ap, ◌∙◌, arith, eqb-true}
+use Rattle.std.proofs.lemmas.Bool.{false≢true, eqb-false}
 use Rattle.std.proofs.lemmas.List.{length-take, take_min}
 use Rattle.std.proofs.lemmas.Bool.Decides.{nat_tests}
 use Rattle.std.specs.Prelude.{IfSome}
@@ -9,6 +9,7 @@ use Rattle.std.specs.Str.{IsCharBoundary}
 use Rattle.std.specs.List.{prefix_len}
 use Rattle.graphql_lexer.specs.declared.tokenizer.token.Kind.{Kind}
 use Rattle.graphql_lexer.specs.declared.tokenizer.token.Kind.TheVariants.{Punctuator, Name}
+use Rattle.graphql_lexer.specs.declared.tokenizer.piece.Move.{Move}
 use Rattle.graphql_lexer.specs.declared.tokenizer.piece.Move.TheVariants.{Over, Down}
 use Rattle.graphql_lexer.specs.declared.tokenizer.piece.Nesting.{Nesting}
 use Rattle.graphql_lexer.specs.declared.tokenizer.piece.Nesting.TheVariants.{Level, Opens, Closes}
@@ -20,7 +21,7 @@ use Rattle.graphql_lexer.specs.Items.{Where, Item, Content, item, Lexeme, End, W
 use Rattle.graphql_lexer.specs.steps.Cut.{items, items_by}
 use Rattle.graphql_lexer.specs.Stream.{BeginsWithNext, AreItemsOfRest}
 use Rattle.graphql_lexer.specs.steps.Front.{front, token_of, FitsIn, IsItem}
-use Rattle.graphql_lexer.specs.steps.Ahead.{taken, FitsTaken, is_plain, plain_move, is_rare}
+use Rattle.graphql_lexer.specs.steps.Ahead.{taken, FitsTaken, is_blank, is_line_feed, is_ignored}
 use Rattle.graphql_lexer.proofs.Runs.{differs}
 use Rattle.graphql_lexer.proofs.FrontFits.{front_fits, front_within, items_at, next_place_items, Within}
 use Rattle.graphql_lexer.proofs.OneCut.{has_items_from}
@@ -161,43 +162,38 @@ not_too_deep Closes w other = refl
 
 -- ---- plain ignored text
 
+blank : (b : ℕ) (bs : List ℕ) → is_blank b ≡ true → front (b ∷ bs) ≡ Skips 1 (Over 1)
+unfolding front
+blank b bs h = rw (differs is_blank b 9 h refl, differs is_blank b 10 h refl, differs is_blank b 13 h refl, h) refl
+
+pub blank_front : (bytes : List ℕ) → is_blank (get_or bytes 0 0) ≡ true → front bytes ≡ Skips 1 (Over 1)
+blank_front [] h = absurd cc
+blank_front (b ∷ bs) h = blank b bs h
+
 feed : (bs : List ℕ) → front (10 ∷ bs) ≡ Skips 1 Down
 unfolding front
 feed bs = refl
 
-blank : (b : ℕ) (bs : List ℕ) → (b == 9) ≡ false → (b == 10) ≡ false → (b == 13) ≡ false → (b == 32 || b == 44) ≡ true → front (b ∷ bs) ≡ Skips 1 (Over 1)
-unfolding front
-blank b bs tab lf cr h = rw (tab, lf, cr, h) refl
+pub feed_front : (bytes : List ℕ) → is_line_feed (get_or bytes 0 0) ≡ true → front bytes ≡ Skips 1 Down
+feed_front [] h = absurd cc
+feed_front (b ∷ bs) h = ap (λ x. front (x ∷ bs)) (eqb-true b 10 h) ∙ feed bs
 
-plain_blank : (b : ℕ) → is_plain b ≡ true → (b == 10) ≡ false → (b == 32 || b == 44) ≡ true
-plain_blank b h other = grind (arith, nat_tests)
+-- past one byte of ignored text
+pub ignored_boundary : (bytes : List ℕ) (m : Move) → IsUtf8 bytes → front bytes ≡ Skips 1 m → IsCharBoundary bytes 1
+ignored_boundary bytes m utf8 e = (front_fits bytes (Skips 1 m) (sym e) utf8).0.2
 
-pub plain_front : (bytes : List ℕ) → is_plain (get_or bytes 0 0) ≡ true → front bytes ≡ Skips 1 (plain_move (get_or bytes 0 0))
-plain_front [] h = absurd cc
-plain_front (b ∷ bs) h =
-    elim (cases_Bool (b == 10)) [
-      | inl lf ↦ rw lf (ap (λ x. front (x ∷ bs)) (eqb-true b 10 lf) ∙ feed bs)
-      | inr other ↦ rw other (blank b bs (differs is_plain b 9 h refl) other (differs is_plain b 13 h refl) (plain_blank b h other))
-    ]
-
--- past one plain byte
-pub plain_boundary : (bytes : List ℕ) → IsUtf8 bytes → is_plain (get_or bytes 0 0) ≡ true → IsCharBoundary bytes 1
-plain_boundary bytes utf8 h = (front_fits bytes (Skips 1 (plain_move (get_or bytes 0 0))) (sym (plain_front bytes h)) utf8).0.2
-
-no_plain : (b : ℕ) → is_plain b ≡ false → ((b == 10) ≡ false) × ((b == 32 || b == 44) ≡ false)
-no_plain b h = (grind (arith, nat_tests), grind (arith, nat_tests))
-
-no_rare : (b : ℕ) → is_rare b ≡ false → ((b == 9) ≡ false) × ((b == 13) ≡ false) × ((b == 35) ≡ false) × ((b == 239) ≡ false)
-no_rare b h = (grind (arith, nat_tests), grind (arith, nat_tests), grind (arith, nat_tests), grind (arith, nat_tests))
+none_of : (b : ℕ) → is_ignored b ≡ false
+    → ((b == 9) ≡ false) × ((b == 10) ≡ false) × ((b == 13) ≡ false) × (is_blank b ≡ false) × ((b == 35) ≡ false) × ((b == 239) ≡ false)
+none_of b h =
+    (grind (arith, nat_tests), grind (arith, nat_tests), grind (arith, nat_tests), grind (arith, nat_tests), grind (arith, nat_tests), grind (arith, nat_tests))
 
 at_end : IsItem (front [])
 unfolding front
 at_end = tt
 
 -- a text that begins with no ignored byte
-pub item_front : (bytes : List ℕ) → is_plain (get_or bytes 0 0) ≡ false → is_rare (get_or bytes 0 0) ≡ false → IsItem (front bytes)
-item_front [] p r = at_end
-item_front (b ∷ bs) p r =
-    let plain = no_plain b p in
-    let rare = no_rare b r in
-    item_first (front (b ∷ bs)) (no_front b bs rare.0 plain.0 rare.1 plain.1 rare.2 (rw rare.3 refl))
+pub item_front : (bytes : List ℕ) → is_ignored (get_or bytes 0 0) ≡ false → IsItem (front bytes)
+item_front [] h = at_end
+item_front (b ∷ bs) h =
+    let n = none_of b h in
+    item_first (front (b ∷ bs)) (no_front b bs n.0 n.1 n.2 n.3 n.4 (rw n.5 refl))

@@ -1,16 +1,23 @@
 //! A text cut into its tokens.
 
+mod bad;
+mod brackets;
+mod class;
+mod ignored;
 pub mod lanes;
 mod laws;
 pub mod number;
 mod piece;
+mod place;
 mod quoted;
 pub mod run;
-mod stop;
 mod stream;
 mod token;
+mod tokens;
 
+pub use brackets::MAX_DEPTH;
+pub use class::is_name_start;
 pub use laws::{one_list_of_items, worked_examples};
-pub use piece::is_name_start;
-pub use stream::{MAX_DEPTH, TokenStream};
+pub use stream::TokenStream;
 pub use token::{Bad, Kind, Token};
+pub use tokens::Tokens;

@@ -7,13 +7,12 @@ use Rattle.graphql_grammar.specs.Tables.{cont}
 use Rattle.graphql_grammar.specs.Reading.{sees, Takes, Reason, Fails, fails_node, fails_check}
 use Rattle.graphql_grammar.specs.ReaderWords.{Stops}
 use Rattle.graphql_grammar.proofs.Deterministic.{take-or_fail}
-use Rattle.graphql_core.specs.declared.common.fault.Fault.{Fault}
-use Rattle.graphql_core.specs.declared.common.fault.Fault.TheVariants.{OutOfMemory}
-use Rattle.graphql_core.specs.declared.helpers.stop.Stop.{Stop}
-use Rattle.graphql_core.specs.declared.helpers.stop.Stop.TheVariants.{Memory, Item, Integer, Float, Escape, Location}
+use Rattle.graphql_core.specs.Refusal.{Refusal, no_memory}
+use Rattle.graphql_core.specs.declared.helpers.read_error.ReadError.{ReadError}
+use Rattle.graphql_core.specs.declared.helpers.read_error.ReadError.TheVariants.{Memory, Item, Integer, Float, Escape, Location}
 use Rattle.graphql_core.specs.Source.{Items, kept}
-use Rattle.graphql_core.specs.steps.Stops.{IsFaultFor}
-use Rattle.graphql_values.specs.Faults.{IsLeastOf}
+use Rattle.graphql_core.specs.steps.ReadErrors.{IsFaultFor}
+use Rattle.graphql_values.specs.Faults.{IsRefusalFor}
 use Rattle.graphql_values.specs.steps.Answers.{reason_of}
 use Rattle.graphql_values.proofs.Readable.{IsReadable, exact, exact_lax}
 use Rattle.graphql_values.proofs.Whole.{least_stop}
@@ -58,8 +57,8 @@ rule_stops : (ts us : List Token) (why : Option Reason) → Stops reading (Sym d
 rule_stops ts us None h = tt
 rule_stops ts us (Some why) h = rule_fails h
 
-pub least_refusal : (i j : Items) (s : Stop) (e : Fault) → Stops reading (Sym definition_symbol) i.tokens j.tokens (reason_of s) → IsFaultFor s j e
-    → kept j ≡ kept i → IsLeastOf one_definition i e
+pub least_refusal : (i j : Items) (s : ReadError) (e : Refusal) → Stops reading (Sym definition_symbol) i.tokens j.tokens (reason_of s) → IsFaultFor s j e
+    → kept j ≡ kept i → IsRefusalFor one_definition i e
 least_refusal i j s e h f last = least_stop one_definition readable_one i j s e (rule_stops i.tokens j.tokens (reason_of s) h) f last
 
 -- ---- what begins with a definition
@@ -98,8 +97,8 @@ none_begins_another x y us vs fits other_fits parts =
 none_fails : (ts us vs : List Token) (x : Shape) (why : Reason) → BeginsWith ts x vs → Fails reading (Sym definition_symbol) ts why us → ⊥
 none_fails ts us vs x why h fails = let (y, takes, is) = taken ts vs x h in take-or_fail reading takes fails
 
-pub memory_only : (i j : Items) (s : Stop) (e : Fault) (x : Shape) (others : List Token)
-    → Stops reading (Sym definition_symbol) i.tokens j.tokens (reason_of s) → IsFaultFor s j e → BeginsWith i.tokens x others → e ≡ OutOfMemory
+pub memory_only : (i j : Items) (s : ReadError) (e : Refusal) (x : Shape) (others : List Token)
+    → Stops reading (Sym definition_symbol) i.tokens j.tokens (reason_of s) → IsFaultFor s j e → BeginsWith i.tokens x others → e ≡ no_memory
 memory_only i j Memory e x others h f k = f
 memory_only i j Item e x others h f k = absurd (none_fails i.tokens j.tokens others x _ k h)
 memory_only i j Integer e x others h f k = absurd (none_fails i.tokens j.tokens others x _ k h)

@@ -4,7 +4,7 @@ use Rattle.graphql_grammar.specs.Tokens.{Token, Place}
 use Rattle.graphql_grammar.specs.Trees.{Then, Sym, Shape}
 use Rattle.graphql_grammar.specs.Factored.{written}
 use Rattle.graphql_grammar.specs.ReaderWords.{TakesSome, Stops}
-use Rattle.graphql_core.specs.declared.helpers.stop.Stop.{Stop}
+use Rattle.graphql_core.specs.declared.helpers.read_error.ReadError.{ReadError}
 use Rattle.graphql_core.specs.Source.{Items}
 use Rattle.graphql_core.specs.steps.Matching.{TakesToken}
 use Rattle.graphql_values.specs.steps.Answers.{Gives, reason_of}
@@ -26,12 +26,12 @@ keyword_taken kind w old mid new t p o begins at h =
     (λ x. operation kind p o ≡ keyword_of kind (written changes x)) refl begins (λ x view. same_operation kind at view) h
 
 -- or the keyword is missing
-pub keyword_missing : {A : Type 0} (w : List ℕ) (old new : Items) (P : A → Shape → Type 0) (r : Result A Stop) (d : Stop) → TakesNone (keyword w) old new d
+pub keyword_missing : {A : Type 0} (w : List ℕ) (old new : Items) (P : A → Shape → Type 0) (r : Result A ReadError) (d : ReadError) → TakesNone (keyword w) old new d
     → IsErrAnd r (λ x. x ≡ d) → Gives reading (Then (word w) (Sym operation_body_symbol)) old new P r
 keyword_missing w = steps.keyword_missing reading w (Sym operation_body_symbol)
 
 -- or an error after it goes up
-pub keyword_fails : {A : Type 0} (w : List ℕ) (old mid new : Items) (P : A → Shape → Type 0) (r : Result A Stop) (d : Stop) (t : Token)
+pub keyword_fails : {A : Type 0} (w : List ℕ) (old mid new : Items) (P : A → Shape → Type 0) (r : Result A ReadError) (d : ReadError) (t : Token)
     → TakesToken (keyword w) old mid t
     → Stops reading (Sym operation_body_symbol) mid.tokens new.tokens (reason_of d) → IsErrAnd r (λ x. x ≡ d)
     → Gives reading (Then (word w) (Sym operation_body_symbol)) old new P r

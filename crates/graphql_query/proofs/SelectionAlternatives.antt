@@ -9,8 +9,8 @@ use Rattle.graphql_grammar.specs.Reading.{fails_before, fails_after, fails_node}
 use Rattle.graphql_grammar.specs.ReaderWords.{values}
 use Rattle.graphql_grammar.specs.Factored.{written}
 use Rattle.graphql_grammar.proofs.Items.{sees-within}
-use Rattle.graphql_core.specs.declared.helpers.stop.Stop.{Stop}
-use Rattle.graphql_core.specs.declared.helpers.stop.Stop.TheVariants.{Memory, Item, Integer, Float, Escape, Location}
+use Rattle.graphql_core.specs.declared.helpers.read_error.ReadError.{ReadError}
+use Rattle.graphql_core.specs.declared.helpers.read_error.ReadError.TheVariants.{Memory, Item, Integer, Float, Escape, Location}
 use Rattle.graphql_lexer.specs.declared.tokenizer.token.Kind.TheVariants.{Name}
 use Rattle.graphql_core.specs.Source.{Items}
 use Rattle.graphql_core.specs.steps.Matching.{TakesOne, TakesToken, sees_class}
@@ -28,7 +28,7 @@ use Rattle.graphql_query_tree.specs.Tree.{Arguments, SelectionTree, SelectionSet
 
 -- ---- single tokens
 
-pub gives_one : {A : Type 0} (g : Grammar) (c : Class) (old new : Items) (P : A → Token → Type 0) (Q : A → Shape → Type 0) (r : Result A Stop)
+pub gives_one : {A : Type 0} (g : Grammar) (c : Class) (old new : Items) (P : A → Token → Type 0) (Q : A → Shape → Type 0) (r : Result A ReadError)
     → ((t : Token) → g.good c t ≡ true)
     → ((v : A) (t : Token) → TakesToken c old new t → P v t → Q v (Leaf t)) → TakesOne c old new P r → Gives g (One c) old new Q r
 gives_one g c old new P Q (Ok v) good means (t, h, p) = (Leaf t, takes_one g c old new t (good t) h, means v t h p)
@@ -44,7 +44,7 @@ abbrev pub on : Class
 on = keyword (codes "on")
 
 -- a name, where it is seen that it is one of a spread
-pub narrowed : {A : Type 0} (old new : Items) (P : A → Token → Type 0) (r : Result A Stop) → sees_class spread_class old ≡ true
+pub narrowed : {A : Type 0} (old new : Items) (P : A → Token → Type 0) (r : Result A ReadError) → sees_class spread_class old ≡ true
     → TakesOne (any Name) old new P r → TakesOne spread_class old new P r
 narrowed old new P (Ok v) seen (t, h, p) = (
   t,

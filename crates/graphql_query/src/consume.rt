@@ -2,12 +2,11 @@
 ghost use Rattle.std.specs.Prelude.{◌≡◌, ◌<◌, ◌≤◌, ◌/◌, ℕ, List, ◌∷◌, ◌++◌, length, drop, IfOk, IfErr, IsErrOf};
 ghost use Rattle.graphql_grammar.specs.Tokens.{Token};
 ghost use Rattle.graphql_grammar.specs.Trees.{Shape};
-ghost use Rattle.graphql_core.specs.declared.common.fault.Fault.TheVariants.{OutOfMemory};
-ghost use Rattle.graphql_core.specs.Refusal.{max_length, too_long};
+ghost use Rattle.graphql_core.specs.Refusal.{no_memory, max_length, too_long};
 ghost use Rattle.graphql_lexer.specs.Items.{Item, HasItems};
 ghost use Rattle.graphql_lexer.specs.Stream.{next_place};
 ghost use Rattle.graphql_values.specs.Document.{AnswersUnlessMemory};
-ghost use Rattle.graphql_values.specs.Faults.{IsLeastOf, IsRefusalOf, HasOneFaultEach};
+ghost use Rattle.graphql_values.specs.Faults.{IsRefusalFor, IsRefusalOf, HasOneFaultEach};
 ghost use Rattle.graphql_query_tree.specs.Document.{IsDocumentOf};
 ghost use Rattle.graphql_query_tree.specs.Earlier.{HasNoNewPart};
 ghost use Rattle.graphql_query_tree.specs.Tree.{DefinitionTree, definition_view};
@@ -31,12 +30,12 @@ fn first_definition<S: TokenSource>(
     scratch: &mut Vec<Selection<S::Names>>,
 ) -> Result<Definition<S::Names>, Fault>
     ensures takes { IfOk result (λ d. TakesDefinition (S.items source.old) (S.items source.new) (definition_view S.Names.bytes d)) }
-    ensures complete { (x : Shape) (others : List Token) → BeginsWith (S.items source.old).tokens x others → IfErr result (λ e. e ≡ OutOfMemory) }
-    ensures refused { IfErr result (IsLeastOf one_definition (S.items source.old)) }
+    ensures complete { (x : Shape) (others : List Token) → BeginsWith (S.items source.old).tokens x others → IfErr result (λ e. e ≡ no_memory) }
+    ensures refused { IfErr result (IsRefusalFor one_definition (S.items source.old)) }
 {
     match definition(alloc, source, scratch) {
         Ok(definition) => Ok(definition),
-        Err(stop) => Err(fault_of(alloc, source, stop)),
+        Err(error) => Err(fault_of(alloc, source, error)),
     }
 }
 
@@ -104,7 +103,7 @@ pub fn consume_definition<'a, S: Text<'a>>(
     ensures too_long { max_length < length source.now → IsErrOf result too_long }
 {
     if source.len() > MAX_LENGTH {
-        return Err(ParseError::text_too_long());
+        return Err(ParseError::from(Fault::text_too_long()));
     }
     let mut cursor: Cursor<'a, S> = Cursor::new(source);
     let mut scratch = Vec::new(alloc);

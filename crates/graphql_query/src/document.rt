@@ -1,14 +1,13 @@
 //! Whole documents.
-ghost use Rattle.std.specs.Prelude.{◌≡◌, ◌*◌, ◌/◌, ◌<◌, ◌≤◌, ◌≤ℤ◌, pos, List, length, IfOk, IfErr, IsErrOf};
+ghost use Rattle.std.specs.Prelude.{◌≡◌, ◌*◌, ◌/◌, ◌<◌, ◌≤◌, ◌≤ℤ◌, pos, List, length, IfOk};
 ghost use Rattle.graphql_lexer.specs.Items.{HasItems, Item, depth_of};
 ghost use Rattle.graphql_lexer.specs.Stream.{next_place};
-ghost use Rattle.graphql_core.specs.declared.common.fault.Fault.TheVariants.{OutOfMemory};
-ghost use Rattle.graphql_query_tree.specs.Tree.{DocumentTree, document_view};
-ghost use Rattle.graphql_core.specs.Refusal.{max_length, too_long};
+ghost use Rattle.graphql_core.specs.Refusal.{max_length};
 ghost use Rattle.graphql_core.specs.Source.{IsAtEnd, kept, split};
-ghost use Rattle.graphql_values.specs.Parsing.{ReadsDocument, ParsesStream};
-ghost use Rattle.graphql_query_tree.specs.Document.{queries, IsDocument, IsDocumentOf, IsRefusalOf};
-ghost use Rattle.graphql_query_tree.specs.Document.{AnswersUnlessMemory, IsLeastOf, HasNoFault, HasOneFaultEach, HasOneShape};
+ghost use Rattle.graphql_values.specs.Document.{AnswersUnlessMemory};
+ghost use Rattle.graphql_values.specs.Parsing.{ReadsDocument, ParsesDocument, ParsesStream};
+ghost use Rattle.graphql_query_tree.specs.Tree.{DocumentTree, document_view};
+ghost use Rattle.graphql_query_tree.specs.Document.{queries};
 ghost use Rattle.graphql_query_tree.specs.Earlier.{IsDocumentOf_0_4_1, HasNoNewParts};
 ghost use Rattle.graphql_query_tree.specs.Printable.{IsPrintable};
 
@@ -26,21 +25,14 @@ pub fn read_document<S: TokenSource>(
     alloc: Global,
     source: &mut S,
 ) -> Result<Document<S::Names>, Fault>
-    // What is answered is the meaning of a shape that the grammar derives.
-    ensures derived { IfOk result
-        (λ d. IsDocument (S.items source.old) (document_view S.Names.bytes d)) }
-    // A document is answered, unless an allocation fails.
-    ensures complete { (d : DocumentTree) → IsDocument (S.items source.old) d
-        → IfErr result (λ e. e ≡ OutOfMemory) }
-    // A refusal is the fault of least index of the items.
-    ensures refused { IfErr result (IsLeastOf (S.items source.old)) }
+    ensures reads { ReadsDocument queries (document_view S.Names.bytes) (S.items source.old) result }
     // After a document the source is at its end. What else it has stays as it is.
     ensures end { IfOk result (λ d. IsAtEnd (S.items source.new)) }
     ensures kept { kept (S.items source.new) ≡ kept (S.items source.old) }
 {
     let definitions = match definitions(alloc, source) {
         Ok(definitions) => definitions,
-        Err(stop) => return Err(fault_of(alloc, source, stop)),
+        Err(error) => return Err(fault_of(alloc, source, error)),
     };
     if source.is_at_end() {
         Ok(Document { definitions })
@@ -86,31 +78,19 @@ pub fn parse_query<'a, S: Text<'a>>(
     alloc: Global,
     source: &'a str,
 ) -> Result<Document<S>, ParseError>
-    // What is answered is derived, positions included, and can be printed.
-    ensures derived { IfOk result (λ d. IsDocumentOf source.now (document_view S.Names.bytes d)) }
-    ensures printable { IfOk result (λ d. IsPrintable (document_view S.Names.bytes d)) }
-
-    // What is derived is answered, unless an allocation fails.
-    ensures complete { (d : DocumentTree) → length source.now ≤ max_length → IsDocumentOf source.now d
-        → AnswersUnlessMemory (document_view S.Names.bytes) d result }
+    // What is answered is derived, and what is derived is answered; a refusal is the fault of least index; and more: each
+    // field of `ParsesDocument` in `specs/Parsing.antt` of graphql_values is a promise.
+    ensures parses { ParsesDocument queries (document_view S.Names.bytes) source.now result }
 
     // A document of version 0.4.1 is answered as it was there, unless an allocation fails, and has none of the parts that are new since then.
     ensures earlier { (d : DocumentTree) → length source.now ≤ max_length → IsDocumentOf_0_4_1 source.now d
         → HasNoNewParts d × AnswersUnlessMemory (document_view S.Names.bytes) d result }
 
-    // The list of its tokens has at most one shape.
-    ensures one_shape { HasOneShape source.now }
-
-    // A refusal is the fault of least index of the text. A text past the bound is refused before any allocation.
-    ensures refused { IfErr result (IsRefusalOf source.now) }
-    ensures too_long { max_length < length source.now → IsErrOf result too_long }
-
-    // No two faults of a text have one index, and a document has none.
-    ensures one_fault { HasOneFaultEach source.now }
-    ensures no_fault { (d : DocumentTree) → HasNoFault source.now d }
+    // What is answered can be printed.
+    ensures printable { IfOk result (λ d. IsPrintable (document_view S.Names.bytes d)) }
 {
     if source.len() > MAX_LENGTH {
-        return Err(ParseError::text_too_long());
+        return Err(ParseError::from(Fault::text_too_long()));
     }
     Ok(read_text(alloc, source)?)
 }
@@ -125,10 +105,10 @@ pub fn parse_query_from<'a, S: Text<'a>>(
     stream: &mut TokenStream<'a>,
 ) -> Result<Document<S>, ParseError>
     requires { pos 0 ≤ℤ depth_of (next_place stream.old.items) }
-    // what is answered is derived, and what is derived is answered; a refusal is the fault of least index; each item is cut
-    // once; and more: `specs/Parsing.antt` of graphql_values says each
+    // What is answered is derived, and what is derived is answered; a refusal is the fault of least index; each item is cut
+    // once; and more: each field of `ParsesStream` in `specs/Parsing.antt` of graphql_values is a promise.
     ensures parses { ParsesStream queries (document_view S.Names.bytes) stream.old stream.new result }
-    // what is answered can be printed
+    // What is answered can be printed.
     ensures printable { IfOk result (λ d. IsPrintable (document_view S.Names.bytes d)) }
 {
     let mut cursor: Cursor<'a, S> = Cursor::over(mem::replace(stream, TokenStream::new("")));

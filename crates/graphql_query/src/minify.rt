@@ -11,7 +11,7 @@ ghost use Rattle.graphql_query.specs.Minifying.{IsMinifyRefusalOf, TellsUnlessMe
 mod error;
 
 pub use error::MinifyError;
-use graphql_core::common::MAX_LENGTH;
+use graphql_core::common::{Fault, MAX_LENGTH};
 use graphql_core::helpers::minified;
 use std::alloc::Global;
 
@@ -40,7 +40,7 @@ pub fn minify_query(alloc: Global, source: String) -> Result<String, MinifyError
     ensures too_long { max_length < length (string_bytes source) → IsErrOf result too_long }
 {
     if source.len() > MAX_LENGTH {
-        return Err(MinifyError::text_too_long());
+        return Err(MinifyError::from(Fault::text_too_long()));
     }
     let text = minified(alloc, &source)?;
     Ok(text)

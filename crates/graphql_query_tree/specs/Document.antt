@@ -1,6 +1,5 @@
 -- The language of queries: what a text's document is, and what is said of a text that has none.
 use Rattle.std.specs.Prelude.{ℕ, List, Result}
-use Rattle.graphql_core.specs.declared.common.fault.Fault.{Fault}
 use Rattle.graphql_core.specs.Refusal.{Refusal}
 use Rattle.graphql_core.specs.Source.{Items, FaultText}
 use Rattle.graphql_values.specs.Language.{Language}
@@ -37,14 +36,6 @@ IsDocumentOf = document.IsDocumentOf queries
 abbrev pub IsReadBack : List ℕ → DocumentTree → Type 0
 IsReadBack = document.IsReadBack queries
 
--- the list of tokens of a text has at most one shape, also where integers, floats and strings without a value are let through
-abbrev pub HasOneShape : List ℕ → Type 0
-HasOneShape = document.HasOneShape queries
-
--- the answer is seen as this document, unless an allocation failed
-abbrev pub AnswersUnlessMemory : {V : Type 0} → (V → DocumentTree) → DocumentTree → Result V Refusal → Type 0
-AnswersUnlessMemory view = document.AnswersUnlessMemory view
-
 -- what the contract of `parse_query` says of an answer for a text within the bound
 abbrev pub IsParsed : List ℕ → Result DocumentTree Refusal → Type 0
 IsParsed = document.IsParsed queries
@@ -53,23 +44,7 @@ IsParsed = document.IsParsed queries
 abbrev pub AreAlike : Result DocumentTree Refusal → Result DocumentTree Refusal → Type 0
 AreAlike = document.AreAlike queries
 
--- ---- faults and refusals
-
--- a fault of the text, and its index
-abbrev pub IsFaultOf : List ℕ → FaultText → ℕ → Type 0
-IsFaultOf = fault.IsFaultOf queries
-
--- no two faults of a text have one index; so at most one has the least
-abbrev pub HasOneFaultEach : List ℕ → Type 0
-HasOneFaultEach = fault.HasOneFaultEach queries
-
--- a text that is a document has no fault
-abbrev pub HasNoFault : List ℕ → DocumentTree → Type 0
-HasNoFault = fault.HasNoFault queries
-
--- an allocation failed, or it is the fault of least index of the items
-abbrev pub IsLeastOf : Items → Fault → Type 0
-IsLeastOf = fault.IsLeastOf queries
+-- ---- faults
 
 -- the fault of least index of the text
 abbrev pub IsLeastFaultOf : List ℕ → FaultText → Type 0
@@ -78,7 +53,3 @@ IsLeastFaultOf = fault.IsLeastFaultOf queries
 -- some document begins with the items before this fault, and none goes on with its item
 abbrev pub IsFirstFaultOf : List ℕ → FaultText → Type 0
 IsFirstFaultOf = fault.IsFirstFaultOf queries
-
--- why a text is refused: an allocation failed, or it is too long, or it has no document, and this is its fault of least index
-abbrev pub IsRefusalOf : List ℕ → Refusal → Type 0
-IsRefusalOf = fault.IsRefusalOf queries

@@ -11,8 +11,8 @@ use Rattle.graphql_grammar.proofs.ReaderSteps.{Stops-node}
 use Rattle.graphql_lexer.specs.declared.tokenizer.token.Kind.TheVariants.{StringValue, BlockString}
 use Rattle.graphql_core.specs.Source.{Items}
 use Rattle.graphql_core.specs.steps.Matching.{sees_class}
-use Rattle.graphql_values.specs.declared.read.halt.Halt.{Halt}
-use Rattle.graphql_values.specs.declared.read.halt.Halt.TheVariants.{Stopped, Refused}
+use Rattle.graphql_values.specs.declared.read.node_error.NodeError.{NodeError}
+use Rattle.graphql_values.specs.declared.read.node_error.NodeError.TheVariants.{Stopped, Refused}
 use Rattle.graphql_values.specs.Grammar.{any, keyword, tables as shared_tables}
 use Rattle.graphql_values.specs.Leaves.{unquoted}
 use Rattle.graphql_values.specs.Refusing.{Refusals, halt_reason, Says, Reads as ReadsBy}
@@ -179,12 +179,12 @@ of_type {us = us} lead other = into lead
 
 -- a node in a node is refused, or reading stops in it
 module _ {R : Type 0} (w : Refusals R) where
-  node_says : (k : ℕ) (old new : Items) (d : Halt R) → Says schemas w (row reading k).rule old new d → Says schemas w (Sym k) old new d
+  node_says : (k : ℕ) (old new : Items) (d : NodeError R) → Says schemas w (row reading k).rule old new d → Says schemas w (Sym k) old new d
   node_says k old new (Stopped s) said = tt
   node_says k old new (Refused n) (before, x, (p, ne, led, fits, bad, stops), said) = (before, x, (p, ne, leads_node led, fits, bad, stops), said)
 
   pub node_halts : {A B : Type 0} {f : Expr} {inside : Shape → Shape} (k : ℕ) (old mid new : Items) (P : A → Shape → Type 0) (Q : B → Shape → Type 0)
-      (r : Result B (Halt R)) (d : Halt R) → Leads reading (row reading k).rule f inside old.tokens mid.tokens → ReadsBy schemas w f mid new P (Err d)
+      (r : Result B (NodeError R)) (d : NodeError R) → Leads reading (row reading k).rule f inside old.tokens mid.tokens → ReadsBy schemas w f mid new P (Err d)
       → IsErrAnd r (λ e. e ≡ d) → ReadsBy schemas w (Sym k) old new Q r
   node_halts k old mid new P Q r d led h up =
       let rule = halts_led schemas w old mid new P (λ (v : Unit {0}) y. ⊥) (Err d) d led h refl in

@@ -3,8 +3,8 @@ use Rattle.std.proofs.Common.{◌≡◌, ℕ, Bool, true, false, List, [], ◌�
 use Rattle.graphql_grammar.specs.Tokens.{Token, Place}
 use Rattle.graphql_grammar.specs.Trees.{Sym, Shape, Leaf, Node, peek}
 use Rattle.graphql_grammar.specs.Reading.{sees, Takes, Improper, Fails, fails_node, fails_value}
-use Rattle.graphql_core.specs.declared.helpers.stop.Stop.{Stop}
-use Rattle.graphql_core.specs.declared.helpers.stop.Stop.TheVariants.{Memory, Item, Integer, Float, Escape, Location}
+use Rattle.graphql_core.specs.declared.helpers.read_error.ReadError.{ReadError}
+use Rattle.graphql_core.specs.declared.helpers.read_error.ReadError.TheVariants.{Memory, Item, Integer, Float, Escape, Location}
 use Rattle.graphql_core.specs.declared.helpers.source.Lexeme.{Lexeme}
 use Rattle.graphql_lexer.specs.declared.tokenizer.token.Kind.TheVariants.{Name}
 use Rattle.graphql_core.specs.Source.{Items, after, lexeme_token}
@@ -45,7 +45,7 @@ no_location : (item : Option Token) → sees (any Name ∷ []) item ≡ false �
 no_location None h = refl
 no_location (Some t) h = h
 
-no_location_taken : (i : Items) (s : Stop) → TakesNone (any Name) i i s → TakesNone location_class i i s
+no_location_taken : (i : Items) (s : ReadError) → TakesNone (any Name) i i s → TakesNone location_class i i s
 no_location_taken i Memory h = h
 no_location_taken i Item (same, unseen) = (same, no_location (peek i.tokens) unseen)
 no_location_taken i Integer h = h
@@ -55,7 +55,7 @@ no_location_taken i Location h = h
 
 module _ {T : Type 0} (bytes : T → List ℕ) (i : Items) where
   -- no name comes
-  pub location_missing : {A : Type 0} (P : A → Shape → Type 0) (r : Result A Stop) (e : Stop) → Shows bytes Name i (Err e) → IsErrAnd r (λ d. d ≡ e)
+  pub location_missing : {A : Type 0} (P : A → Shape → Type 0) (r : Result A ReadError) (e : ReadError) → Shows bytes Name i (Err e) → IsErrAnd r (λ d. d ≡ e)
       → Gives reading (Sym location_symbol) i i P r
   location_missing P r e s up = error_one i i i P r e (starts location_symbol i.tokens (λ x. refl)).stops (no_location_taken i e s) up
 

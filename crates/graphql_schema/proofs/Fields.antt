@@ -6,7 +6,7 @@ use Rattle.graphql_grammar.specs.Tables.{nullable, first}
 use Rattle.graphql_grammar.specs.Reading.{sees, Takes}
 use Rattle.graphql_grammar.specs.ReaderWords.{Stops}
 use Rattle.graphql_grammar.proofs.ReaderSteps.{Stops-after, Stops-turn}
-use Rattle.graphql_core.specs.declared.helpers.stop.Stop.{Stop}
+use Rattle.graphql_core.specs.declared.helpers.read_error.ReadError.{ReadError}
 use Rattle.graphql_core.specs.Source.{Items}
 use Rattle.graphql_core.specs.steps.Matching.{TakesToken}
 use Rattle.graphql_values.specs.Grammar.{mark}
@@ -71,7 +71,7 @@ fields_are_more = refl
 
 -- a part after the first stops, in a loop
 pub later_stops : {k : ℕ} {o c : Class} {a : Expr} {V A R : Type 0} (s : IsEnclosed k o c a) (f : Shape → A) (view : V → A) (P : R → Shape → Type 0)
-    (r : Result R Stop) (d : Stop) (old mid start now new : Items) (t : Token) (x : Shape) (to found : List V) → TakesToken o old mid t
+    (r : Result R ReadError) (d : ReadError) (old mid start now new : Items) (t : Token) (x : Shape) (to found : List V) → TakesToken o old mid t
     → Takes reading a mid.tokens x start.tokens → Comes a f view start now to found → sees (first reading.rows a) (peek now.tokens) ≡ true
     → Stops reading a now.tokens new.tokens (reason_of d) → IsErrAnd r (λ e. e ≡ d) → Gives reading (Sym k) old new P r
 later_stops {a = a} s f view P r d old mid start now new t x to found opened takes come seen stops up =

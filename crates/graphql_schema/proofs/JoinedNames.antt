@@ -8,7 +8,7 @@ use Rattle.graphql_grammar.specs.Reading.{sees, Takes, takes_first, takes_both}
 use Rattle.graphql_grammar.specs.Leads.{leads_first}
 use Rattle.graphql_grammar.specs.ReaderWords.{TakesSome, Stops}
 use Rattle.graphql_grammar.proofs.ReaderSteps.{Stops-first, Stops-turn, Turns-stop, picks-first}
-use Rattle.graphql_core.specs.declared.helpers.stop.Stop.{Stop}
+use Rattle.graphql_core.specs.declared.helpers.read_error.ReadError.{ReadError}
 use Rattle.graphql_core.specs.Source.{Items}
 use Rattle.graphql_core.specs.steps.Matching.{TakesToken}
 use Rattle.graphql_values.specs.Grammar as shared
@@ -76,7 +76,7 @@ module _ {V A : Type 0} (s : List ℕ) (e : Expr) (f : Shape → A) (none : A) (
       )
 
   -- a part after the first stops
-  pub marked_stops : (start now new : Items) (to found : List V) (d : Stop) → Comes (Then (punctuator s) e) (marked_of f none) view start now to found
+  pub marked_stops : (start now new : Items) (to found : List V) (d : ReadError) → Comes (Then (punctuator s) e) (marked_of f none) view start now to found
       → sees (first reading.rows (Then (punctuator s) e)) (peek now.tokens) ≡ true → Stops reading (Then (punctuator s) e) now.tokens new.tokens (reason_of d)
       → Stops reading (Many (Then (punctuator s) e)) start.tokens new.tokens (reason_of d)
   marked_stops start now new to found d p seen stops =

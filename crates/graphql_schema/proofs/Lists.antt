@@ -12,7 +12,7 @@ use Rattle.graphql_grammar.specs.ReaderWords.{TakesSome, Stops, values}
 use Rattle.graphql_grammar.proofs.Sound.{takes-fits, takes-leaves}
 use Rattle.graphql_grammar.proofs.FirstFault.{fits-lax}
 use Rattle.graphql_grammar.proofs.ReaderSteps.{Stops-after, Stops-first, Stops-turn, Turns-more, Turns-stop, picks-first}
-use Rattle.graphql_core.specs.declared.helpers.stop.Stop.{Stop}
+use Rattle.graphql_core.specs.declared.helpers.read_error.ReadError.{ReadError}
 use Rattle.graphql_core.specs.Source.{Items, kept, place_next}
 use Rattle.graphql_core.specs.steps.Matching.{TakesToken}
 use Rattle.graphql_lexer.specs.declared.tokenizer.token.Kind.TheVariants.{Name, StringValue, BlockString}
@@ -34,13 +34,13 @@ abbrev pub as_written : {A : Type 0} → (Shape → A) → Shape → A
 as_written f x = f (written changes x)
 
 -- what a reader of values, types or directives gives, where a schema is read
-pub gives_lifted : {A : Type 0} (e : Expr) → shares e ≡ true → is_below shared_symbols e ≡ true → (old new : Items) (P : A → Shape → Type 0) (r : Result A Stop)
+pub gives_lifted : {A : Type 0} (e : Expr) → shares e ≡ true → is_below shared_symbols e ≡ true → (old new : Items) (P : A → Shape → Type 0) (r : Result A ReadError)
     → Gives shared e old new P r → Reads e old new P r
 gives_lifted e s b old new P (Ok v) h = some_lifted e s b old.tokens new.tokens (P v) h
 gives_lifted e s b old new P (Err d) h = stops_lifted e s b old.tokens new.tokens (reason_of d) h
 
 -- where the rest of e is another reader's
-pub gives_led : {A : Type 0} {e f : Expr} {inside : Shape → Shape} (old mid new : Items) (P Q : A → Shape → Type 0) (r : Result A Stop)
+pub gives_led : {A : Type 0} {e f : Expr} {inside : Shape → Shape} (old mid new : Items) (P Q : A → Shape → Type 0) (r : Result A ReadError)
     → Leads reading e f inside old.tokens mid.tokens → ((v : A) (x : Shape) → P v x → Q v (inside x)) → Gives reading f mid new P r
     → Gives reading e old new Q r
 gives_led {inside = inside} old mid new P Q (Ok v) l means (x, taken, is) = (inside x, l.takes new.tokens x taken, means v x is)
@@ -86,7 +86,7 @@ module _ (a : Expr) where
   no_part ts n unseen = takes_none reading a ts n unseen
 
   -- its reader stops
-  pub part_stops : {A : Type 0} (old new : Items) (P : A → Shape → Type 0) (r : Result A Stop) (d : Stop)
+  pub part_stops : {A : Type 0} (old new : Items) (P : A → Shape → Type 0) (r : Result A ReadError) (d : ReadError)
       → sees (first reading.rows a) (peek old.tokens) ≡ true → Stops reading a old.tokens new.tokens (reason_of d) → IsErrAnd r (λ x. x ≡ d)
       → Gives reading (optional a) old new P r
   part_stops old new P r d seen stops up = gives_error reading (optional a) old new P r d ((some_part old.tokens seen).stops new.tokens (reason_of d) stops) up
@@ -107,7 +107,7 @@ module _ (a : Expr) where
         → TakesSome reading (optional a) ts ts (λ x. Adds view old old (optional_list_of f (written changes x)))
     list_missing ts old n unseen = (Second Nothing, no_part ts n unseen, adds_none view old)
 
-    pub list_taken : {R : Type 0} (old new : Items) (from to : List V) (r : Result R Stop) → sees (first reading.rows a) (peek old.tokens) ≡ true
+    pub list_taken : {R : Type 0} (old new : Items) (from to : List V) (r : Result R ReadError) → sees (first reading.rows a) (peek old.tokens) ≡ true
         → Reads a old new (λ v x. Adds view from to (f x)) r → Reads (optional a) old new (λ v x. Adds view from to (optional_list_of f x)) r
     list_taken old new from to r seen h = gives_side reading (optional a) a First old new _ _ r (some_part old.tokens seen) (λ v x is. is) h
 
@@ -152,7 +152,7 @@ module _ {V A : Type 0} (a : Expr) (f : Shape → A) (view : V → A) where
       )
 
   -- a turn after the first stops; where the first does, `reading` finds it
-  pub turn_stops : {R : Type 0} (old start now new : Items) (to found : List V) (x : Shape) (P : R → Shape → Type 0) (r : Result R Stop) (d : Stop)
+  pub turn_stops : {R : Type 0} (old start now new : Items) (to found : List V) (x : Shape) (P : R → Shape → Type 0) (r : Result R ReadError) (d : ReadError)
       → Takes reading a old.tokens x start.tokens → Comes start now to found → sees (first reading.rows a) (peek now.tokens) ≡ true
       → Stops reading a now.tokens new.tokens (reason_of d) → IsErrAnd r (λ e. e ≡ d) → Gives reading (some_of a) old new P r
   turn_stops old start now new to found x P r d takes p seen stops up =
@@ -169,7 +169,7 @@ pub record IsEnclosed (k : ℕ) (o c : Class) (a : Expr) : Type 0 where
   pub same : (x : Shape) → written changes (Node k x) ≡ Node k (written changes x)
 
 module _ {k : ℕ} {o c : Class} {a : Expr} (s : IsEnclosed k o c a) where
-  module _ {R : Type 0} (P : R → Shape → Type 0) (r : Result R Stop) (d : Stop) (up : IsErrAnd r (λ e. e ≡ d)) where
+  module _ {R : Type 0} (P : R → Shape → Type 0) (r : Result R ReadError) (d : ReadError) (up : IsErrAnd r (λ e. e ≡ d)) where
     -- the opener is missing
     pub opener_missing : (old new : Items) → TakesNone o old new d → Gives reading (Sym k) old new P r
     opener_missing old new none = error_one old old new P r d (before (s.leads old.tokens)) none up

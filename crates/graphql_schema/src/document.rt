@@ -13,12 +13,12 @@ ghost use Rattle.graphql_schema_tree.specs.Language.{schemas};
 ghost use Rattle.graphql_schema_tree.specs.Earlier.{IsDocumentOf_0_4_1, HasNoNewParts};
 
 use crate::error::ParseError;
-use crate::read::{Refusal, definitions};
-use graphql_core::common::{Cause, Fault, MAX_LENGTH, Text};
+use crate::read::definitions;
+use graphql_core::common::{Fault, MAX_LENGTH, Text};
 use graphql_core::helpers::{Cursor, SpanSource, Spans, TokenSource, WIDE_TEXT, Width, fault_of};
 use graphql_core::tokenizer::TokenStream;
 use graphql_schema_tree::tree::Document;
-use graphql_values::read::halt::Halt;
+use graphql_values::read::node_error::NodeError;
 use std::alloc::Global;
 use std::mem;
 
@@ -31,16 +31,8 @@ fn read_document<S: TokenSource>(alloc: Global, source: &mut S) -> Result<Docume
 {
     let definitions = match definitions(alloc, source) {
         Ok(definitions) => definitions,
-        Err(Halt::Stopped(stop)) => return Err(fault_of(alloc, source, stop)),
-        Err(Halt::Refused(Refusal::Schema(cause, position))) => {
-            return Err(Fault::At(cause, position));
-        }
-        Err(Halt::Refused(Refusal::SchemaExtension(cause, position))) => {
-            return Err(Fault::At(cause, position));
-        }
-        Err(Halt::Refused(Refusal::Extension(position))) => {
-            return Err(Fault::At(Cause::EmptyExtension, position));
-        }
+        Err(NodeError::Stopped(error)) => return Err(fault_of(alloc, source, error)),
+        Err(NodeError::Refused(node)) => return Err(node.fault()),
     };
     if source.is_at_end() {
         Ok(Document { definitions })
@@ -88,17 +80,19 @@ pub fn parse_schema<'a, S: Text<'a>>(
     alloc: Global,
     source: &'a str,
 ) -> Result<Document<S>, ParseError>
-    // what is answered is derived, and what is derived is answered; a refusal is the fault of least index; and more:
-    // `specs/Parsing.antt` of graphql_values says each
+    // What is answered is derived, and what is derived is answered; a refusal is the fault of least index; and more: each
+    // field of `ParsesDocument` in `specs/Parsing.antt` of graphql_values is a promise.
     ensures parses { ParsesDocument schemas (document_view S.Names.bytes) source.now result }
+
     // A document of version 0.4.1 is answered as it was there, unless an allocation fails, and has none of the parts that are new since then.
     ensures earlier { (d : DocumentTree) → length source.now ≤ max_length → IsDocumentOf_0_4_1 source.now d
         → HasNoNewParts d × AnswersUnlessMemory (document_view S.Names.bytes) d result }
-    // what is answered can be printed
+
+    // What is answered can be printed.
     ensures printable { IfOk result (λ d. IsPrintable (document_view S.Names.bytes d)) }
 {
     if source.len() > MAX_LENGTH {
-        return Err(ParseError::text_too_long());
+        return Err(ParseError::from(Fault::text_too_long()));
     }
     Ok(read_text(alloc, source)?)
 }
@@ -113,10 +107,10 @@ pub fn parse_schema_from<'a, S: Text<'a>>(
     stream: &mut TokenStream<'a>,
 ) -> Result<Document<S>, ParseError>
     requires { pos 0 ≤ℤ depth_of (next_place stream.old.items) }
-    // what is answered is derived, and what is derived is answered; a refusal is the fault of least index; each item is cut
-    // once; and more: `specs/Parsing.antt` of graphql_values says each
+    // What is answered is derived, and what is derived is answered; a refusal is the fault of least index; each item is cut
+    // once; and more: each field of `ParsesStream` in `specs/Parsing.antt` of graphql_values is a promise.
     ensures parses { ParsesStream schemas (document_view S.Names.bytes) stream.old stream.new result }
-    // what is answered can be printed
+    // What is answered can be printed.
     ensures printable { IfOk result (λ d. IsPrintable (document_view S.Names.bytes d)) }
 {
     let mut cursor: Cursor<'a, S> = Cursor::over(mem::replace(stream, TokenStream::new("")));

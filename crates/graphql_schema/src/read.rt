@@ -6,10 +6,10 @@ mod enums;
 mod extension;
 mod field;
 mod input;
+mod invalid_node;
 mod names;
-mod refusal;
 mod schema;
 mod types;
 
 pub use definition::definitions;
-pub use refusal::Refusal;
+pub use invalid_node::InvalidNode;

@@ -3,7 +3,6 @@ use Rattle.std.specs.Prelude.{◌≡◌, ℕ, ◌==◌, if◌then◌else◌, Lis
 use Rattle.graphql_grammar.specs.Tokens.{Place, Token, Class, Except}
 use Rattle.graphql_grammar.specs.Trees.{Shape, Node}
 use Rattle.graphql_core.specs.Causes.{CauseText, unknown_location, empty_extension}
-use Rattle.graphql_core.specs.Refusal.{Refusal}
 use Rattle.graphql_core.specs.Source.{FaultText}
 use Rattle.graphql_values.specs.Language.{Language}
 use Rattle.graphql_values.specs.Document as document
@@ -61,20 +60,8 @@ IsDocumentOf = document.IsDocumentOf schemas
 abbrev pub IsReadBack : List ℕ → DocumentTree → Type 0
 IsReadBack = document.IsReadBack schemas
 
--- the list of tokens of a text has at most one shape, also where leaves and nodes that are refused are let through
-abbrev pub HasOneShape : List ℕ → Type 0
-HasOneShape = document.HasOneShape schemas
-
--- ---- faults and refusals
-
--- a fault of the text, and its index
-abbrev pub IsFaultOf : List ℕ → FaultText → ℕ → Type 0
-IsFaultOf = fault.IsFaultOf schemas
+-- ---- faults
 
 -- the fault of least index of the text
 abbrev pub IsLeastFaultOf : List ℕ → FaultText → Type 0
 IsLeastFaultOf = fault.IsLeastFaultOf schemas
-
--- why a text is refused: an allocation failed, or it is too long, or it has no document, and this is its fault of least index
-abbrev pub IsRefusalOf : List ℕ → Refusal → Type 0
-IsRefusalOf = fault.IsRefusalOf schemas

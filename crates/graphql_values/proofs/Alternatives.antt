@@ -10,7 +10,7 @@ use Rattle.graphql_grammar.specs.ReaderWords.{Stops}
 use Rattle.graphql_grammar.proofs.Classes.{all_within-sound}
 use Rattle.graphql_grammar.proofs.Items.{sees-within}
 use Rattle.graphql_grammar.proofs.ReaderSteps.{Stops-node, Stops-first, Stops-second, picks-first, picks-second}
-use Rattle.graphql_core.specs.declared.helpers.stop.Stop.{Stop}
+use Rattle.graphql_core.specs.declared.helpers.read_error.ReadError.{ReadError}
 use Rattle.graphql_core.specs.Source.{Items}
 use Rattle.graphql_values.specs.steps.Answers.{Gives, reason_of}
 use Rattle.graphql_values.proofs.Reading.{FailsUnseen, takes_left, stops_left, takes_right, stops_right}
@@ -22,7 +22,7 @@ pub record IsSide (g : Grammar) (e f : Expr) (inside : Shape → Shape) (ts : Li
   -- what f comes to, e comes to
   pub leads : (us : List Token) (d : Expr) → Leads (lax g) f us d → Leads (lax g) e us d
 
-pub gives_side : {A : Type 0} (g : Grammar) (e f : Expr) (inside : Shape → Shape) (old new : Items) (P Q : A → Shape → Type 0) (r : Result A Stop)
+pub gives_side : {A : Type 0} (g : Grammar) (e f : Expr) (inside : Shape → Shape) (old new : Items) (P Q : A → Shape → Type 0) (r : Result A ReadError)
     → IsSide g e f inside old.tokens
     → ((v : A) (x : Shape) → P v x → Q v (inside x)) → Gives g f old new P r → Gives g e old new Q r
 gives_side g e f inside old new P Q (Ok v) side means (x, h, p) = (inside x, side.takes new.tokens x h, means v x p)

@@ -17,5 +17,5 @@ pub use Rattle.graphql_values.proofs.Steps.{after_left, after_right, here, befor
 pub use Rattle.graphql_values.proofs.Told.{IsTold, read_alike}
 pub use Rattle.graphql_values.proofs.Lifted.{some_lifted, stops_lifted}
 pub use Rattle.graphql_values.proofs.Whole.{from_stream}
-pub use Rattle.graphql_values.proofs.Parsing.{unread, parsed, unparsed, stream_parsed, stream_unparsed, read_whole, read_stopped, read_refused, read_left}
+pub use Rattle.graphql_values.proofs.Parsing.{unread, parsed, stream_parsed, read_whole, read_stopped, read_refused, read_left}
 pub use Rattle.graphql_values.proofs.Refusing.{node_stops, node_lacks, node_passes, node_refused, turn_done, turn_halts, turns_all}

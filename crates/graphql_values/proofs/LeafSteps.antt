@@ -5,7 +5,7 @@ use Rattle.graphql_grammar.specs.Tokens.{matches}
 use Rattle.graphql_grammar.specs.Trees.{One, Shape, Leaf}
 use Rattle.graphql_grammar.specs.Reading.{Takes, Improper, Fails, fails_value}
 use Rattle.std.specs.Result.{IsErrAnd}
-use Rattle.graphql_core.specs.declared.helpers.stop.Stop.{Stop}
+use Rattle.graphql_core.specs.declared.helpers.read_error.ReadError.{ReadError}
 use Rattle.graphql_core.specs.declared.helpers.source.Lexeme.{Lexeme}
 use Rattle.graphql_lexer.specs.declared.tokenizer.token.Kind.{Kind}
 use Rattle.graphql_core.specs.Causes.{kind_number}
@@ -19,7 +19,7 @@ use Rattle.graphql_values.proofs.Reading.{takes_one, stops_one}
 use Rattle.graphql_values.proofs.LeafValues.{IsSpelledAs, lexeme_spelled}
 
 -- where the item is none of the kind
-pub not_shown : {A T : Type 0} (bytes : T → List ℕ) (k : Kind) (i : Items) (P : A → Shape → Type 0) (r : Result A Stop) (e : Stop) → Shows bytes k i (Err e)
+pub not_shown : {A T : Type 0} (bytes : T → List ℕ) (k : Kind) (i : Items) (P : A → Shape → Type 0) (r : Result A ReadError) (e : ReadError) → Shows bytes k i (Err e)
     → IsErrAnd r (λ d. d ≡ e) → Gives shared (One (any k)) i i P r
 not_shown bytes k i P (Ok v) e s h = absurd h
 not_shown bytes k i P (Err d) e s h = rw h (stops_one shared (any k) i i e s)

@@ -9,8 +9,8 @@ use Rattle.graphql_grammar.specs.Tables.{first, decides}
 use Rattle.graphql_grammar.specs.Reading.{sees, Takes, Unexpected, Fails, fails_one, fails_node}
 use Rattle.graphql_grammar.specs.ReaderWords.{TakesSome, Stops}
 use Rattle.graphql_grammar.proofs.Classes.{same_spelling-true}
-use Rattle.graphql_core.specs.declared.helpers.stop.Stop.{Stop}
-use Rattle.graphql_core.specs.declared.helpers.stop.Stop.TheVariants.{Memory, Item, Integer, Float, Escape, Location}
+use Rattle.graphql_core.specs.declared.helpers.read_error.ReadError.{ReadError}
+use Rattle.graphql_core.specs.declared.helpers.read_error.ReadError.TheVariants.{Memory, Item, Integer, Float, Escape, Location}
 use Rattle.graphql_core.specs.declared.helpers.source.Lexeme.{Lexeme}
 use Rattle.graphql_lexer.specs.declared.tokenizer.token.Kind.{Kind}
 use Rattle.graphql_lexer.specs.declared.tokenizer.token.Kind.TheVariants.{Punctuator, Name, IntValue, FloatValue, StringValue, BlockString}
@@ -27,7 +27,7 @@ use Rattle.graphql_values.proofs.Alternatives.{IsSide, through, side_node, side_
 -- ---- sides
 
 -- what refuses a side refuses the whole
-pub side_refused : {A : Type 0} {g : Grammar} {a c : Expr} {f : Shape → Shape} (old new : Items) (P : A → Shape → Type 0) (e : Stop) (r : Result A Stop)
+pub side_refused : {A : Type 0} {g : Grammar} {a c : Expr} {f : Shape → Shape} (old new : Items) (P : A → Shape → Type 0) (e : ReadError) (r : Result A ReadError)
     → IsSide g a c f old.tokens
     → Stops g c old.tokens new.tokens (reason_of e) → IsErrAnd r (λ d. d ≡ e) → Gives g a old new P r
 side_refused old new P e (Ok v) side h s = absurd s
@@ -155,7 +155,7 @@ no_enum (Some t) h =
     let kind : (kind_number Name == t.kind) ≡ false = elim (and_cases (kind_number Name == t.kind) true other) [ inl k ↦ k | inr k ↦ absurd (true≢false k) ] in
     rw kind refl
 
-no_enum_taken : (i : Items) (s : Stop) → TakesNone (any Name) i i s → TakesNone enum_class i i s
+no_enum_taken : (i : Items) (s : ReadError) → TakesNone (any Name) i i s → TakesNone enum_class i i s
 no_enum_taken i Memory h = h
 no_enum_taken i Item (same, unseen) = (same, no_enum (peek i.tokens) unseen)
 no_enum_taken i Integer h = h
@@ -163,7 +163,7 @@ no_enum_taken i Float h = h
 no_enum_taken i Escape h = h
 no_enum_taken i Location h = h
 
-pub enum_not_shown : {A T : Type 0} (bytes : T → List ℕ) (i : Items) (P : A → Shape → Type 0) (r : Result A Stop) (e : Stop)
+pub enum_not_shown : {A T : Type 0} (bytes : T → List ℕ) (i : Items) (P : A → Shape → Type 0) (r : Result A ReadError) (e : ReadError)
     → Shows bytes Name i (Err e) → IsErrAnd r (λ d. d ≡ e) → Gives shared (Sym enum_name_symbol) i i P r
 enum_not_shown bytes i P r e s h =
     side_refused i i P e r (side_node shared enum_name_symbol i.tokens (λ x. refl)) (stops_one shared enum_class i i e (no_enum_taken i e s)) h

@@ -10,7 +10,7 @@ use Rattle.graphql_values.specs.Values.{ValueTree, ValueMembers, no_members, mem
 use Rattle.graphql_values.specs.Grammar.{shared, punctuator, value_symbol, const_symbol, const_pair_symbol, plain_symbol, type_symbol, arguments_symbol}
 use Rattle.graphql_values.specs.Grammar.{argument_symbol, directives_symbol, directive_symbol, default_symbol}
 use Rattle.graphql_values.specs.Meanings.{spelling_at, plain_of, put_all, value_of, values_of, argument_of, pairs_of, const_of, consts_of, const_pair_of}
-use Rattle.graphql_values.specs.Meanings.{const_pairs_of, default_of, marked, type_of, arguments_of, optional_arguments_of, directive_of, each_directive_of}
+use Rattle.graphql_values.specs.Meanings.{const_pairs_of, default_of, optional_non_null, type_of, arguments_of, optional_arguments_of, directive_of, each_directive_of}
 use Rattle.graphql_values.specs.Meanings.{directives_of}
 use Rattle.graphql_values.specs.Printable.{IsPrintableValue, ArePrintableItems, ArePrintableMembers, AreConstant, HoldConstants, AdmitsNull, IsPrintableType}
 use Rattle.graphql_values.specs.Printable.{IsPrintableArgument, IsPrintableDirective, IsPrintableDefault, value_brackets, items_brackets}
@@ -157,17 +157,17 @@ default_printable (room_node (room_both e f) c) = const_printable f
 
 -- ---- types
 
-marked_printable : {n m : ℕ} {x : Shape} (t : TypeTree) → HasRoom shared m (optional (punctuator (codes "!"))) x → AdmitsNull t
+optional_non_null_printable : {n m : ℕ} {x : Shape} (t : TypeTree) → HasRoom shared m (optional (punctuator (codes "!"))) x → AdmitsNull t
     → Within IsPrintableType type_brackets n t
-    → Within IsPrintableType type_brackets n (marked x t)
-marked_printable t (room_first f) a (is, b) = ((a, is), b)
-marked_printable t (room_second room_nothing) a h = h
+    → Within IsPrintableType type_brackets n (optional_non_null x t)
+optional_non_null_printable t (room_first f) a (is, b) = ((a, is), b)
+optional_non_null_printable t (room_second room_nothing) a h = h
 
 pub type_printable : {n : ℕ} {x : Shape} → HasRoom shared n (Sym type_symbol) x → Within IsPrintableType type_brackets n (type_of x)
-type_printable (room_node (room_first (room_both {x = x} name m)) c) = marked_printable (named (spelling_at x)) m tt (leaf_name refl name, omega arith)
+type_printable (room_node (room_first (room_both {x = x} name m)) c) = optional_non_null_printable (named (spelling_at x)) m tt (leaf_name refl name, omega arith)
 type_printable (room_node (room_second (room_both (room_leaf a l most) (room_both {x = x} f (room_both e m)))) c) =
     let (is, b) = type_printable f in
-    marked_printable (list_of (type_of x)) m tt (is, omega arith)
+    optional_non_null_printable (list_of (type_of x)) m tt (is, omega arith)
 
 -- ---- arguments and directives
 

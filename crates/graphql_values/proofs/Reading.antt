@@ -13,8 +13,8 @@ use Rattle.graphql_grammar.specs.ReaderWords.{TakesSome, Stops, Turns, values}
 use Rattle.graphql_grammar.proofs.Items.{sees-parts}
 use Rattle.graphql_grammar.proofs.Deterministic.{take-or_fail, same-fail}
 use Rattle.graphql_grammar.proofs.ReaderSteps.{exits, Stops-first, Stops-after, Turns-stop, picks-first, picks-neither}
-use Rattle.graphql_core.specs.declared.helpers.stop.Stop.{Stop}
-use Rattle.graphql_core.specs.declared.helpers.stop.Stop.TheVariants.{Memory, Item, Integer, Float, Escape, Location}
+use Rattle.graphql_core.specs.declared.helpers.read_error.ReadError.{ReadError}
+use Rattle.graphql_core.specs.declared.helpers.read_error.ReadError.TheVariants.{Memory, Item, Integer, Float, Escape, Location}
 use Rattle.graphql_core.specs.Source.{Items, kept, fault_by, place_next}
 use Rattle.graphql_core.specs.steps.Matching.{TakesToken, TakesOne}
 use Rattle.graphql_values.specs.steps.Answers.{GivesBy, Gives, Adds, reason_of}
@@ -32,11 +32,11 @@ pub placed : (c : Class) (old new : Items) (t : Token) → TakesToken c old new 
 placed c old new t h = ap (λ ts. (fault_by ts old.last).place) h.tokens
 
 -- what a match leaves that takes nothing
-abbrev pub TakesNone : Class → Items → Items → Stop → Type 0
+abbrev pub TakesNone : Class → Items → Items → ReadError → Type 0
 TakesNone c old new s = TakesOne {A = Unit {0}} c old new (λ v t. Unit {0}) (Err s)
 
 -- its error is the theory's
-pub stops_one : (g : Grammar) (c : Class) (old new : Items) (s : Stop) → TakesNone c old new s → Stops g (One c) old.tokens new.tokens (reason_of s)
+pub stops_one : (g : Grammar) (c : Class) (old new : Items) (s : ReadError) → TakesNone c old new s → Stops g (One c) old.tokens new.tokens (reason_of s)
 stops_one g c old new Memory h = tt
 stops_one g c old new Item (same, unseen) = rw same (fails_one unseen)
 stops_one g c old new Integer h = absurd h
@@ -44,7 +44,7 @@ stops_one g c old new Float h = absurd h
 stops_one g c old new Escape h = absurd h
 stops_one g c old new Location h = absurd h
 
-pub kept_one : (c : Class) (old new : Items) (s : Stop) → TakesNone c old new s → kept new ≡ kept old
+pub kept_one : (c : Class) (old new : Items) (s : ReadError) → TakesNone c old new s → kept new ≡ kept old
 kept_one c old new Memory h = ap kept h
 kept_one c old new Item h = ap kept h.0
 kept_one c old new Integer h = absurd h
@@ -127,7 +127,7 @@ stops_optional g a ts us o seen h = Stops-first g a Empty ts us o (picks-first g
 -- ---- what another reader gives
 
 -- the last step of a reader is another's
-pub gives_then : {A : Type 0} (g : Grammar) (e f : Expr) (old mid new : Items) (P Q : A → Shape → Type 0) (r : Result A Stop)
+pub gives_then : {A : Type 0} (g : Grammar) (e f : Expr) (old mid new : Items) (P Q : A → Shape → Type 0) (r : Result A ReadError)
     → ((v : A) (x : Shape) → Takes g f mid.tokens x new.tokens → P v x → TakesSome g e old.tokens new.tokens (Q v))
     → ((o : Option Reason) → Stops g f mid.tokens new.tokens o → Stops g e old.tokens new.tokens o)
     → Gives g f mid new P r → Gives g e old new Q r
@@ -140,7 +140,7 @@ pub gives_error_by : {A E : Type 0} (reason : E → Option Reason) (g : Grammar)
 gives_error_by reason g e old new P (Ok v) d stops h = absurd h
 gives_error_by reason g e old new P (Err x) d stops h = rw h stops
 
-pub gives_error : {A : Type 0} (g : Grammar) (e : Expr) (old new : Items) (P : A → Shape → Type 0) (r : Result A Stop) (d : Stop)
+pub gives_error : {A : Type 0} (g : Grammar) (e : Expr) (old new : Items) (P : A → Shape → Type 0) (r : Result A ReadError) (d : ReadError)
     → Stops g e old.tokens new.tokens (reason_of d) → IsErrAnd r (λ x. x ≡ d) → Gives g e old new P r
 gives_error = gives_error_by reason_of
 

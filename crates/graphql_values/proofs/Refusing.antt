@@ -10,11 +10,11 @@ use Rattle.graphql_grammar.specs.Reading.{sees, Takes, takes_node, fails_check, 
 use Rattle.graphql_grammar.specs.Leads.{Leads, leads_before, leads_turn}
 use Rattle.graphql_grammar.specs.ReaderWords.{Stops}
 use Rattle.graphql_grammar.proofs.ReaderSteps.{Stops-node, Stops-before, Stops-turn}
-use Rattle.graphql_core.specs.declared.helpers.stop.Stop.{Stop}
+use Rattle.graphql_core.specs.declared.helpers.read_error.ReadError.{ReadError}
 use Rattle.graphql_core.specs.Source.{Items, kept}
 use Rattle.graphql_grammar.proofs.Faulted.{node_here}
-use Rattle.graphql_values.specs.declared.read.halt.Halt.{Halt}
-use Rattle.graphql_values.specs.declared.read.halt.Halt.TheVariants.{Stopped, Refused}
+use Rattle.graphql_values.specs.declared.read.node_error.NodeError.{NodeError}
+use Rattle.graphql_values.specs.declared.read.node_error.NodeError.TheVariants.{Stopped, Refused}
 use Rattle.graphql_values.specs.steps.Answers.{reason_of}
 use Rattle.graphql_values.specs.Language.{Language, reading}
 use Rattle.graphql_values.specs.Refusing.{Refusals, halt_reason, Says, Reads}
@@ -26,7 +26,7 @@ use Rattle.graphql_values.proofs.Whole.{exit}
 
 module _ {D R : Type 0} (l : Language D) (w : Refusals R) where
   -- what is said of a node stands in what that leads to
-  says_inside : (e f : Expr) (start mid new : Items) (h : Halt R) (front : List Token) → start.tokens ≡ front ++ mid.tokens
+  says_inside : (e f : Expr) (start mid new : Items) (h : NodeError R) (front : List Token) → start.tokens ≡ front ++ mid.tokens
       → ((ts : List Token) (d : Expr) → Leads (lax (reading l)) f ts d → Leads (lax (reading l)) e (front ++ ts) d)
       → Says l w f mid new h → Says l w e start new h
   says_inside e f start mid new (Stopped s) front parts leads said = tt
@@ -39,7 +39,7 @@ module _ {D R : Type 0} (l : Language D) (w : Refusals R) where
 
   -- ---- what a part gives, the whole gives, where it has come to the part
 
-  pub reads_led : {A : Type 0} {e f : Expr} {inside : Shape → Shape} (old mid new : Items) (P Q : A → Shape → Type 0) (r : Result A (Halt R))
+  pub reads_led : {A : Type 0} {e f : Expr} {inside : Shape → Shape} (old mid new : Items) (P Q : A → Shape → Type 0) (r : Result A (NodeError R))
       → steps.Leads (reading l) e f inside old.tokens mid.tokens
       → ((v : A) (x : Shape) → P v (written l.changes x) → Q v (written l.changes (inside x))) → Reads l w f mid new P r → Reads l w e old new Q r
   reads_led {inside = inside} old mid new P Q (Ok v) led means h =
@@ -52,7 +52,7 @@ module _ {D R : Type 0} (l : Language D) (w : Refusals R) where
 
   -- an error of the part goes up
   pub halts_led : {A B : Type 0} {e f : Expr} {inside : Shape → Shape} (old mid new : Items) (P : A → Shape → Type 0) (Q : B → Shape → Type 0)
-      (r : Result B (Halt R)) (d : Halt R) → steps.Leads (reading l) e f inside old.tokens mid.tokens → Reads l w f mid new P (Err d)
+      (r : Result B (NodeError R)) (d : NodeError R) → steps.Leads (reading l) e f inside old.tokens mid.tokens → Reads l w f mid new P (Err d)
       → IsErrAnd r (λ x. x ≡ d) → Reads l w e old new Q r
   halts_led {e = e} {f = f} old mid new P Q r d led h up = record {
     gives = gives_error_by (halt_reason w) (reading l) e old new _ r d (led.stops new.tokens (halt_reason w d) h.gives) up;
@@ -60,8 +60,8 @@ module _ {D R : Type 0} (l : Language D) (w : Refusals R) where
   }
 
   -- and one of a first part, where there is a list of what comes after it
-  pub halts_before : {A B : Type 0} {a b : Expr} (y : Shape) (old new : Items) (P : A → Shape → Type 0) (Q : B → Shape → Type 0) (r : Result B (Halt R))
-      (d : Halt R) → Fits (lax (reading l)) b y → Reads l w a old new P (Err d) → IsErrAnd r (λ x. x ≡ d) → Reads l w (Then a b) old new Q r
+  pub halts_before : {A B : Type 0} {a b : Expr} (y : Shape) (old new : Items) (P : A → Shape → Type 0) (Q : B → Shape → Type 0) (r : Result B (NodeError R))
+      (d : NodeError R) → Fits (lax (reading l)) b y → Reads l w a old new P (Err d) → IsErrAnd r (λ x. x ≡ d) → Reads l w (Then a b) old new Q r
   halts_before {a = a} {b = b} y old new P Q r d fits h up = record {
     gives = gives_error_by (halt_reason w) (reading l) (Then a b) old new _ r d
         (Stops-before (reading l) a b old.tokens new.tokens (halt_reason w d) h.gives) up;
@@ -69,7 +69,7 @@ module _ {D R : Type 0} (l : Language D) (w : Refusals R) where
   }
 
   -- and so does one of a part that refuses no node
-  pub stops_led : {A : Type 0} {e f : Expr} {inside : Shape → Shape} (old mid new : Items) (P : A → Shape → Type 0) (r : Result A (Halt R)) (d : Stop)
+  pub stops_led : {A : Type 0} {e f : Expr} {inside : Shape → Shape} (old mid new : Items) (P : A → Shape → Type 0) (r : Result A (NodeError R)) (d : ReadError)
       → steps.Leads (reading l) e f inside old.tokens mid.tokens → Stops (reading l) f mid.tokens new.tokens (reason_of d)
       → IsErrAnd r (λ x. x ≡ Stopped d) → Reads l w e old new P r
   stops_led {e = e} old mid new P r d led stops up = record {
@@ -81,7 +81,7 @@ module _ {D R : Type 0} (l : Language D) (w : Refusals R) where
 
   module _ (k : ℕ) (old new : Items) where
     -- its rule stops
-    pub node_stops : {A : Type 0} (P : A → Shape → Type 0) (r : Result A (Halt R)) (d : Stop)
+    pub node_stops : {A : Type 0} (P : A → Shape → Type 0) (r : Result A (NodeError R)) (d : ReadError)
         → Stops (reading l) (row (reading l) k).rule old.tokens new.tokens (reason_of d) → IsErrAnd r (λ e. e ≡ Stopped d) → Reads l w (Sym k) old new P r
     node_stops P r d stops up = record {
       gives = gives_error_by (halt_reason w) (reading l) (Sym k) old new _ r (Stopped d)
@@ -90,7 +90,7 @@ module _ {D R : Type 0} (l : Language D) (w : Refusals R) where
     }
 
     -- as a token is missing in it
-    pub node_lacks : {A : Type 0} {c : Class} (mid : Items) (P : A → Shape → Type 0) (r : Result A (Halt R)) (d : Stop)
+    pub node_lacks : {A : Type 0} {c : Class} (mid : Items) (P : A → Shape → Type 0) (r : Result A (NodeError R)) (d : ReadError)
         → StopsBy (reading l) (row (reading l) k).rule (One c) old.tokens mid.tokens → TakesNone c mid new d → IsErrAnd r (λ e. e ≡ Stopped d)
         → Reads l w (Sym k) old new P r
     node_lacks {c = c} mid P r d by none up = node_stops P r d (by new.tokens (reason_of d) (stops_one (reading l) c mid new d none)) up
@@ -111,7 +111,7 @@ module _ {D R : Type 0} (l : Language D) (w : Refusals R) where
   -- ---- one after the other, in a loop that pushes them: f is what a turn means, and view what an element is seen as
 
   module _ {V A : Type 0} (a : Expr) (f : Shape → A) (view : V → A) (start now next : Items) (old found : List V) where
-    abbrev ReadsTurn : Result V (Halt R) → Type 0
+    abbrev ReadsTurn : Result V (NodeError R) → Type 0
     ReadsTurn = Reads l w a now next (λ v x. view v ≡ f x)
 
     abbrev Come : Items → List V → List V → Type 0
@@ -121,7 +121,7 @@ module _ {D R : Type 0} (l : Language D) (w : Refusals R) where
         → kept next ≡ kept now → new ≡ found ++ v ∷ [] → Come next old new
     turn_done new v p seen h same push = pushes_more (reading l) a _ view start now next old found new v p seen h.gives same push
 
-    pub turn_halts : {B : Type 0} (P : B → Shape → Type 0) (r : Result B (Halt R)) (d : Halt R) → Come now old found
+    pub turn_halts : {B : Type 0} (P : B → Shape → Type 0) (r : Result B (NodeError R)) (d : NodeError R) → Come now old found
         → sees (first (reading l).rows a) (peek now.tokens) ≡ true → ReadsTurn (Err d) → IsErrAnd r (λ e. e ≡ d) → Reads l w (Many a) start next P r
     turn_halts P r d p seen h up = record {
       gives = gives_error_by (halt_reason w) (reading l) (Many a) start next _ r d

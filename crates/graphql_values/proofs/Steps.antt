@@ -9,7 +9,7 @@ use Rattle.graphql_grammar.specs.ReaderWords.{TakesSome, Stops, Turns, values}
 use Rattle.graphql_grammar.proofs.Sound.{takes-fits, takes-leaves}
 use Rattle.graphql_grammar.proofs.FirstFault.{fits-lax}
 use Rattle.graphql_grammar.proofs.ReaderSteps.{picks-second, Stops-before, Stops-after, Turns-start, Turns-more, Turns-stop}
-use Rattle.graphql_core.specs.declared.helpers.stop.Stop.{Stop}
+use Rattle.graphql_core.specs.declared.helpers.read_error.ReadError.{ReadError}
 use Rattle.graphql_core.specs.Source.{Items, kept}
 use Rattle.graphql_core.specs.steps.Matching.{TakesToken}
 use Rattle.graphql_values.specs.steps.Answers.{GivesBy, Gives, Adds, reason_of}
@@ -91,11 +91,11 @@ pub error_in_by : {A E : Type 0} (reason : E → Option Reason) {g : Grammar} {e
     → StopsBy g e f old.tokens mid.tokens → Stops g f mid.tokens new.tokens (reason d) → IsErrAnd r (λ x. x ≡ d) → GivesBy reason g e old new P r
 error_in_by reason {g} {e} old mid new P r d by h up = gives_error_by reason g e old new P r d (by new.tokens (reason d) h) up
 
-pub error_in : {A : Type 0} {g : Grammar} {e f : Expr} (old mid new : Items) (P : A → Shape → Type 0) (r : Result A Stop) (d : Stop)
+pub error_in : {A : Type 0} {g : Grammar} {e f : Expr} (old mid new : Items) (P : A → Shape → Type 0) (r : Result A ReadError) (d : ReadError)
     → StopsBy g e f old.tokens mid.tokens → Stops g f mid.tokens new.tokens (reason_of d) → IsErrAnd r (λ x. x ≡ d) → Gives g e old new P r
 error_in {g = g} {e = e} old mid new P r d by h up = gives_error g e old new P r d (by new.tokens (reason_of d) h) up
 
-pub error_one : {A : Type 0} {g : Grammar} {e : Expr} {c : Class} (old mid new : Items) (P : A → Shape → Type 0) (r : Result A Stop) (d : Stop)
+pub error_one : {A : Type 0} {g : Grammar} {e : Expr} {c : Class} (old mid new : Items) (P : A → Shape → Type 0) (r : Result A ReadError) (d : ReadError)
     → StopsBy g e (One c) old.tokens mid.tokens → TakesNone c mid new d → IsErrAnd r (λ x. x ≡ d) → Gives g e old new P r
 error_one {g = g} {c = c} old mid new P r d by h up = error_in old mid new P r d by (stops_one g c mid new d h) up
 
@@ -109,13 +109,13 @@ keyword_taken g w e old mid new t P Q good begins means (x, takes, p) =
     (Both (Leaf t) x, takes_both (takes_one g (keyword w) old mid t good begins) takes, means x p)
 
 -- or the keyword is missing
-pub keyword_missing : {A : Type 0} (g : Grammar) (w : List ℕ) (e : Expr) (old new : Items) (P : A → Shape → Type 0) (r : Result A Stop) (d : Stop)
+pub keyword_missing : {A : Type 0} (g : Grammar) (w : List ℕ) (e : Expr) (old new : Items) (P : A → Shape → Type 0) (r : Result A ReadError) (d : ReadError)
     → TakesNone (keyword w) old new d → IsErrAnd r (λ x. x ≡ d) → Gives g (Then (word w) e) old new P r
 keyword_missing g w e old new P r d h up =
     gives_error g _ old new P r d (Stops-before g (word w) e old.tokens new.tokens (reason_of d) (stops_one g (keyword w) old new d h)) up
 
 -- or an error after it goes up
-pub keyword_fails : {A : Type 0} (g : Grammar) (w : List ℕ) (e : Expr) (old mid new : Items) (P : A → Shape → Type 0) (r : Result A Stop) (d : Stop)
+pub keyword_fails : {A : Type 0} (g : Grammar) (w : List ℕ) (e : Expr) (old mid new : Items) (P : A → Shape → Type 0) (r : Result A ReadError) (d : ReadError)
     (t : Token) → g.good (keyword w) t ≡ true
     → TakesToken (keyword w) old mid t → Stops g e mid.tokens new.tokens (reason_of d) → IsErrAnd r (λ x. x ≡ d) → Gives g (Then (word w) e) old new P r
 keyword_fails g w e old mid new P r d t good begins stops up =

@@ -6,7 +6,7 @@ use Rattle.graphql_core.specs.Parts.{Part, token, mark}
 use Rattle.graphql_values.specs.Values.{TypeTree, named, list_of, non_null}
 use Rattle.graphql_values.specs.ValueLayout.{type_layout}
 use Rattle.graphql_values.specs.Grammar.{shared, type_symbol, punctuator}
-use Rattle.graphql_values.specs.Meanings.{spelling_at, marked, type_of}
+use Rattle.graphql_values.specs.Meanings.{spelling_at, optional_non_null, type_of}
 use Rattle.graphql_values.specs.Printable.{AdmitsNull, IsPrintableType, type_brackets}
 use Rattle.graphql_values.proofs.LeavesBack.{name_word}
 use Rattle.graphql_core.proofs.Back.{Back, as_word_back, anywhere_back, same_parts, means, word_back, mark_back, open_back, close_back, nothing_back, both_back}
@@ -25,7 +25,7 @@ abbrev Admits : Bool → TypeTree → Type 0
 Admits true t = AdmitsNull t
 Admits false t = Unit {0}
 
-bang_back : (b : Bool) (d : ℕ) → Back shared (optional (punctuator (codes "!"))) true d (bang b) true d (λ m. (t : TypeTree) → marked m t ≡ banged b t)
+bang_back : (b : Bool) (d : ℕ) → Back shared (optional (punctuator (codes "!"))) true d (bang b) true d (λ m. (t : TypeTree) → optional_non_null m t ≡ banged b t)
 bang_back true d = as_word_back (first_back (means (λ x h t. refl) (mark_back (codes "!") (refl, refl) (λ p. refl))))
 bang_back false d = second_back (nothing_back (λ t. refl))
 

@@ -12,7 +12,7 @@ use Rattle.graphql_values.specs.Leaves.{int_of, string_of, block_string_of}
 use Rattle.graphql_values.specs.Values.{ValueTree, variable, int, float, string, enum, list, object, item, no_members, TypeTree, named, list_of, no_place}
 use Rattle.graphql_values.specs.Values.{erase, erase_all}
 use Rattle.graphql_values.specs.Meanings.{spelling_at, plain_of, put_all, value_of, values_of, argument_of, pairs_of, const_of, consts_of}
-use Rattle.graphql_values.specs.Meanings.{const_pair_of, const_pairs_of, default_of, optional_default_of, marked, type_of, arguments_of}
+use Rattle.graphql_values.specs.Meanings.{const_pair_of, const_pairs_of, default_of, optional_default_of, optional_non_null, type_of, arguments_of}
 use Rattle.graphql_values.specs.Meanings.{optional_arguments_of, directive_of, each_directive_of, directives_of}
 use Rattle.graphql_values.specs.Language.{Language}
 use Rattle.graphql_values.specs.Document.{IsDocument, IsDocumentOf, IsReadBack, IsParsed, AreAlike}
@@ -86,13 +86,13 @@ pub optional_default_bare : (x : Shape) → optional_default_of (bare x) ≡ opt
 optional_default_bare (First d) = ap Some (default_bare d)
 optional_default_bare _ = refl
 
-marked_bare : (m : Shape) (t : TypeTree) → marked (bare m) t ≡ marked m t
-marked_bare (First m) t = refl
-marked_bare _ t = refl
+optional_non_null_bare : (m : Shape) (t : TypeTree) → optional_non_null (bare m) t ≡ optional_non_null m t
+optional_non_null_bare (First m) t = refl
+optional_non_null_bare _ t = refl
 
 pub type_bare : (x : Shape) → type_of (bare x) ≡ type_of x
-type_bare (Node k (First (Both n m))) = marked_bare m _ ∙ ap (λ s. marked m (named s)) (spelling_bare n)
-type_bare (Node k (Second (Both o (Both t (Both c m))))) = marked_bare m _ ∙ ap (λ s. marked m (list_of s)) (type_bare t)
+type_bare (Node k (First (Both n m))) = optional_non_null_bare m _ ∙ ap (λ s. optional_non_null m (named s)) (spelling_bare n)
+type_bare (Node k (Second (Both o (Both t (Both c m))))) = optional_non_null_bare m _ ∙ ap (λ s. optional_non_null m (list_of s)) (type_bare t)
 type_bare _ = refl
 
 arguments_bare : (x : Shape) → arguments_of (bare x) ≡ arguments_of x

@@ -11,24 +11,23 @@ use Rattle.graphql_grammar.specs.Faults.{IsRefused}
 use Rattle.graphql_grammar.proofs.FaultedFor.{node_refused_for}
 use Rattle.graphql_grammar.specs.Texts as texts
 use Rattle.graphql_grammar.specs.Texts.{Answers}
-use Rattle.graphql_core.specs.declared.common.fault.Fault.{Fault}
-use Rattle.graphql_core.specs.declared.common.fault.Fault.TheVariants.{OutOfMemory, At}
-use Rattle.graphql_core.specs.declared.helpers.stop.Stop.{Stop}
-use Rattle.graphql_core.specs.declared.helpers.stop.Stop.TheVariants.{Memory, Item, Integer, Float, Escape, Location}
-use Rattle.graphql_core.specs.Source.{Items, Last, End, Wrong, IsEnd, IsAtEnd, IsFaultOf, FaultText, kept, fault_at, place_of, place_next, split}
+use Rattle.graphql_core.specs.declared.helpers.read_error.ReadError.{ReadError}
+use Rattle.graphql_core.specs.declared.helpers.read_error.ReadError.TheVariants.{Memory, Item, Integer, Float, Escape, Location}
+use Rattle.graphql_core.specs.Source.{Items, Last, End, Wrong, IsEnd, IsAtEnd, FaultText, kept, fault_at, place_next, split}
 use Rattle.graphql_core.specs.Source.{items_of_text, spending, tokens_then}
-use Rattle.graphql_core.specs.steps.Stops.{IsCauseHere, IsFaultFor}
-use Rattle.graphql_core.specs.Causes.{CauseText, cause_text}
+use Rattle.graphql_core.specs.steps.ReadErrors.{IsFaultFor, here}
+use Rattle.graphql_core.specs.Causes.{CauseText}
 use Rattle.graphql_lexer.specs.Items.{HasItems, start}
 use Rattle.graphql_lexer.specs.Items as items_of
 use Rattle.graphql_lexer.specs.Stream.{asked_once}
 use Rattle.graphql_lexer.specs.steps.Cut.{items}
 use Rattle.graphql_lexer.proofs.OneCut.{has_items, items_unique}
-use Rattle.graphql_core.specs.Refusal.{Refusal, max_length, refusal_of}
+use Rattle.graphql_core.specs.Refusal.{Refusal, IsFaultOf, at, no_memory, max_length}
+use Rattle.graphql_core.proofs.Refusals.{by_fault, tells_weaker}
 use Rattle.graphql_values.specs.steps.Answers.{reason_of}
 use Rattle.graphql_values.specs.Language.{Language, reading, document_rule}
-use Rattle.graphql_values.specs.Document.{IsDocument, IsDocumentOf, AnswersUnlessMemory, HasOneShape, HaveOneShape}
-use Rattle.graphql_values.specs.Faults.{ending_of, text_of, Says, IsLeastFault, IsLeastOf, IsRefusalFor, none_left, shown, IsRefusalOf, ran_out, faulty}
+use Rattle.graphql_values.specs.Document.{IsDocument, IsDocumentOf, HasOneShape, HaveOneShape}
+use Rattle.graphql_values.specs.Faults.{ending_of, text_of, Says, IsLeastFault, IsRefusalFor, IsRefusalOf, ran_out, faulty}
 use Rattle.graphql_values.proofs.Readable.{IsReadable, exact, exact_lax, whole, least, exact_reading, whole_reading}
 use Rattle.graphql_values.proofs.Faults.{ends, Lacks, Misses, no_integer, no_float, no_string, unexpected_here, no_value_here}
 
@@ -43,12 +42,6 @@ dropped front ts us e = ap (drop (length ts - length us)) e ∙ drop_at front us
 pub exit : {D E : Type 0} (r : Result D E) (e : E) (P : E → Type 0) → IsErrAnd r (λ y. y ≡ e) → P e → IfErr r P
 exit (Ok v) e P h p = absurd h
 exit (Err y) e P h p = subst P (sym h) p
-
--- the answer that `?` makes of a fault
-pub answers_unless_memory : {V D : Type 0} (view : V → D) (d : D) (r : Result V Refusal) (e : Fault) → IsErrAnd r (λ y. y ≡ refusal_of e) → e ≡ OutOfMemory
-    → AnswersUnlessMemory view d r
-answers_unless_memory view d (Ok v) e h m = absurd h
-answers_unless_memory view d (Err y) e h m = h ∙ ap refusal_of m
 
 -- these are the items of the text, whatever stream they are read of
 abbrev pub AreItems : List ℕ → Items → Type 0
@@ -119,8 +112,8 @@ module _ {D : Type 0} (l : Language D) (r : IsReadable l) where
 
   -- ---- what a reader's exits say
 
-  pub memory_only : (i j : Items) (s : Stop) (e : Fault) (d : D) → Stops (reading l) (document_rule l) i.tokens j.tokens (reason_of s)
-      → IsFaultFor s j e → IsDocument l i d → e ≡ OutOfMemory
+  pub memory_only : (i j : Items) (s : ReadError) (e : Refusal) (d : D) → Stops (reading l) (document_rule l) i.tokens j.tokens (reason_of s)
+      → IsFaultFor s j e → IsDocument l i d → e ≡ no_memory
   memory_only i j Memory e d h f k = f
   memory_only i j Item e d h f k = absurd (none_wrong Unexpected i j d (at_fault Unexpected i j h) k)
   memory_only i j Integer e d h f k = absurd (none_wrong _ i j d (at_fault _ i j h) k)
@@ -133,24 +126,23 @@ module _ {D : Type 0} (l : Language D) (r : IsReadable l) where
   lacks_here k c lacks t m h = r.lacks k t c (lacks t m (sym (r.good k t) ∙ h))
 
   -- a reader that stops for a token without a value
-  valueless : (i j : Items) (leaf : Class) (c : CauseText) (e : Fault) → Misses l r leaf c
+  valueless : (i j : Items) (leaf : Class) (c : CauseText) (e : Refusal) → Misses l r leaf c
       → Fails (reading l) (document_rule l) i.tokens (Improper leaf) j.tokens
-      → IsCauseHere c j e → kept j ≡ kept i → IsLeastOf l i e
-  valueless i j leaf c OutOfMemory misses h f last = tt
-  valueless i j leaf c (At cause p) misses h f last =
+      → e ≡ at (here c j) → kept j ≡ kept i → IsRefusalFor l i e
+  valueless i j leaf c e misses h f last =
       let first = (exact_reading l r).earliest i.tokens j.tokens _ (fails_node h) in
-      no_value_left i j _ first.parts last _ leaf c misses (at_fault _ i j h) f.0 f.1
+      subst (IsRefusalFor l i) (sym f) (no_value_left i j _ first.parts last (here c j) leaf c misses (at_fault _ i j h) refl refl)
 
   -- or for one that may not stand there
-  misplaced : (i j : Items) (e : Fault) → Fails (reading l) (document_rule l) i.tokens Unexpected j.tokens → IsFaultOf j e → kept j ≡ kept i → IsLeastOf l i e
-  misplaced i j OutOfMemory h f last = tt
-  misplaced i j (At cause p) h f last =
+  misplaced : (i j : Items) (e : Refusal) → Fails (reading l) (document_rule l) i.tokens Unexpected j.tokens → IsFaultOf j e → kept j ≡ kept i
+      → IsRefusalFor l i e
+  misplaced i j e h f last =
       let first = (exact_reading l r).earliest i.tokens j.tokens _ (fails_node h) in
-      unexpected_left i j _ first.parts last _ (at_fault _ i j h) f
+      tells_weaker (λ k. k ≡ fault_at j) (IsLeastFault l i) (λ k is. unexpected_left i j _ first.parts last k (at_fault _ i j h) is) e f
 
-  pub least_stop : (i j : Items) (s : Stop) (e : Fault) → Stops (reading l) (document_rule l) i.tokens j.tokens (reason_of s) → IsFaultFor s j e
-      → kept j ≡ kept i → IsLeastOf l i e
-  least_stop i j Memory e h f last = subst (IsLeastOf l i) (sym f) tt
+  pub least_stop : (i j : Items) (s : ReadError) (e : Refusal) → Stops (reading l) (document_rule l) i.tokens j.tokens (reason_of s) → IsFaultFor s j e
+      → kept j ≡ kept i → IsRefusalFor l i e
+  least_stop i j Memory e h f last = subst (IsRefusalFor l i) (sym f) refl
   least_stop i j Item e h f last = misplaced i j e h f last
   least_stop i j Integer e h f last = valueless i j _ _ e (lacks_here _ _ no_integer) h f last
   least_stop i j Float e h f last = valueless i j _ _ e (lacks_here _ _ no_float) h f last
@@ -190,12 +182,12 @@ module _ {D : Type 0} (l : Language D) (r : IsReadable l) where
       → IsDocument l i d → ⊥
   none_rest i j d x h last other = none_wrong Unexpected i j d (at_rest i j.tokens j.last x h (last_kept i j last) other)
 
-  pub least_left : (i j : Items) (e : Fault) (x : Shape) → Takes (reading l) (document_rule l) i.tokens x j.tokens → kept j ≡ kept i → (IsAtEnd j → ⊥)
-      → IsFaultOf j e → IsLeastOf l i e
-  least_left i j OutOfMemory x h last other s = tt
-  least_left i j (At c p) x h last other s =
+  pub least_left : (i j : Items) (e : Refusal) (x : Shape) → Takes (reading l) (document_rule l) i.tokens x j.tokens → kept j ≡ kept i → (IsAtEnd j → ⊥)
+      → IsFaultOf j e → IsRefusalFor l i e
+  least_left i j e x h last other s =
       let first = (exact_reading l r).sound i.tokens j.tokens (Node l.document x) (node_taken h) in
-      unexpected_left i j _ first.1 last _ (at_rest i j.tokens j.last x h (last_kept i j last) other) s
+      let wrong = at_rest i j.tokens j.last x h (last_kept i j last) other in
+      tells_weaker (λ k. k ≡ fault_at j) (IsLeastFault l i) (λ k is. unexpected_left i j _ first.1 last k wrong is) e s
 
   -- ---- what is answered
 
@@ -236,11 +228,8 @@ module _ {D : Type 0} (l : Language D) where
   least_spent : (s : items_of.Stream) (i : Items) (f : FaultText) → IsLeastFault l (spending s i) f → IsLeastFault l i f
   least_spent s i f (n, why, least_one, said) = (n, why, least_one, said_spent why s i n f said)
 
-  pub refusal_for : (s : items_of.Stream) (i : Items) (e : Fault) → IsLeastOf l (spending s i) e → IsRefusalFor l i (refusal_of e)
-  refusal_for s i OutOfMemory h = none_left
-  refusal_for s i (At c p) h =
-      let f : FaultText = record { cause = cause_text c; place = place_of p } in
-      shown f (least_spent s i f h)
+  pub refusal_for : (s : items_of.Stream) (i : Items) (e : Refusal) → IsRefusalFor l (spending s i) e → IsRefusalFor l i e
+  refusal_for s i = tells_weaker (IsLeastFault l (spending s i)) (IsLeastFault l i) (least_spent s i)
 
   pub text_document : (text : List ℕ) (i : Items) (d : D) → AreItems text i → IsDocument l i d → IsDocumentOf l text d
   text_document text i d are h =
@@ -250,11 +239,10 @@ module _ {D : Type 0} (l : Language D) where
   pub items_document : (text : List ℕ) (i : Items) (d : D) → AreItems text i → IsDocumentOf l text d → IsDocument l i d
   items_document text i d are (items, has, h) = subst (λ (j : Items). IsDocument l j d) (sym (are items has).1) h
 
-  pub refusal : (text : List ℕ) (i : Items) (e : Fault) → length text ≤ max_length → AreItems text i → IsLeastOf l i e → IsRefusalOf l text (refusal_of e)
-  refusal text i OutOfMemory bound are h = ran_out
-  refusal text i (At c p) bound are h =
+  pub refusal : (text : List ℕ) (i : Items) (e : Refusal) → length text ≤ max_length → AreItems text i → IsRefusalFor l i e → IsRefusalOf l text e
+  refusal text i e bound are =
       let has = has_items text in
-      let f : FaultText = record { cause = cause_text c; place = place_of p } in
       let cut = items start text in
       let (s, is) = are cut has in
-      faulty f bound (cut, has, least_spent s (split cut) f (subst (λ (j : Items). IsLeastFault l j f) is h))
+      by_fault (IsLeastFault l i) (IsRefusalOf l text) ran_out
+      (λ f h. faulty f bound (cut, has, least_spent s (split cut) f (subst (λ (j : Items). IsLeastFault l j f) is h))) e

@@ -7,16 +7,14 @@ use Rattle.graphql_grammar.specs.Trees.{Sym, Shape, Node, leaves, peek, Begins, 
 use Rattle.graphql_grammar.specs.Reading.{Reason, Unexpected, Improper, Refused, lax}
 use Rattle.graphql_grammar.specs.Texts as texts
 use Rattle.graphql_grammar.specs.Faults.{IsFault, IsLeast, IsRefused}
-use Rattle.graphql_core.specs.declared.common.fault.Fault.{Fault}
-use Rattle.graphql_core.specs.declared.common.fault.Fault.TheVariants.{OutOfMemory, At}
 use Rattle.graphql_lexer.specs.declared.tokenizer.token.Kind.TheVariants.{IntValue, FloatValue, StringValue}
 use Rattle.graphql_lexer.specs.Items.{Item, HasItems}
-use Rattle.graphql_core.specs.Causes.{CauseText, cause_text, kind_number, int_out_of_range, malformed_float, bad_escape}
-use Rattle.graphql_core.specs.Source.{Items, Last, End, Wrong, split, place_of, fault_by, FaultText}
+use Rattle.graphql_core.specs.Causes.{CauseText, kind_number, int_out_of_range, malformed_float, bad_escape}
+use Rattle.graphql_core.specs.Source.{Items, Last, End, Wrong, split, fault_by, FaultText}
 use Rattle.graphql_core.specs.Literals.{IsFloatLiteral}
 use Rattle.graphql_core.specs.Strings as strings
 use Rattle.graphql_core.specs.Strings.{IsInQuotes}
-use Rattle.graphql_core.specs.Refusal.{Refusal, at, no_memory, max_length, too_long}
+use Rattle.graphql_core.specs.Refusal.{Refusal, Tells, at, no_memory, max_length, too_long}
 use Rattle.graphql_values.specs.Leaves.{int_of}
 use Rattle.graphql_values.specs.Language.{Language}
 use Rattle.graphql_values.specs.Document.{IsDocumentOf}
@@ -66,11 +64,6 @@ module _ {D : Type 0} (l : Language D) where
   abbrev pub IsLeastFault : Items → FaultText → Type 0
   IsLeastFault i f = (n : ℕ) × (why : Reason) × IsLeast l.grammar (Sym l.document) (text_of i) why n × Says why i n f
 
-  -- an allocation failed, or it is the least fault of the items
-  abbrev pub IsLeastOf : Items → Fault → Type 0
-  IsLeastOf i OutOfMemory = Unit {0}
-  IsLeastOf i (At c p) = IsLeastFault i (record { cause = cause_text c; place = place_of p })
-
   -- The fault is that of the item after some of the tokens. Some list that the plain grammar derives begins with those tokens, and none
   -- with them and that item.
   abbrev pub NoneGoesOn : Items → FaultText → Type 0
@@ -79,9 +72,8 @@ module _ {D : Type 0} (l : Language D) where
       × Begins (lax l.grammar) (Sym l.document) front × Ends (lax l.grammar) (Sym l.document) front (peek others)
 
   -- Why items are refused: an allocation failed, or they are no document, and this is their fault of least index.
-  pub data IsRefusalFor (i : Items) : Refusal → Type 0 where
-    none_left : IsRefusalFor i no_memory
-    shown : (f : FaultText) → IsLeastFault i f → IsRefusalFor i (at f)
+  abbrev pub IsRefusalFor : Items → Refusal → Type 0
+  IsRefusalFor i r = Tells (IsLeastFault i) r
 
   -- no two faults of the items have one index
   abbrev pub HasOneFaultAt : Items → Type 0

@@ -98,13 +98,13 @@ optional_default_of _ = None
 -- ---- types
 
 -- with a `!` or without
-abbrev pub marked : Shape → TypeTree → TypeTree
-marked (First m) t = non_null t
-marked _ t = t
+abbrev pub optional_non_null : Shape → TypeTree → TypeTree
+optional_non_null (First m) t = non_null t
+optional_non_null _ t = t
 
 abbrev pub type_of : Shape → TypeTree
-type_of (Node k (First (Both n m))) = marked m (named (spelling_at n))
-type_of (Node k (Second (Both o (Both t (Both c m))))) = marked m (list_of (type_of t))
+type_of (Node k (First (Both n m))) = optional_non_null m (named (spelling_at n))
+type_of (Node k (Second (Both o (Both t (Both c m))))) = optional_non_null m (list_of (type_of t))
 type_of _ = named []
 
 -- ---- arguments and directives

@@ -1,8 +1,8 @@
 //! Readers of what queries and schemas share, one for each symbol of the grammar. Each has its production above it.
 pub mod directives;
-pub mod halt;
 pub mod laws;
 pub mod leaf;
 pub mod leaf_laws;
+pub mod node_error;
 pub mod types;
 pub mod values;

@@ -6,14 +6,14 @@ ghost use Rattle.worked_language.specs.Language.{extension_symbol, worked, refus
 
 use crate::tree::Extension;
 use graphql_core::common::Names;
-use graphql_core::helpers::{self, TokenSource, name};
+use graphql_core::helpers::{TokenSource, expect_name};
 use graphql_core::position::Pos;
-use graphql_values::read::halt::Halt;
 use graphql_values::read::leaf::int_value;
+use graphql_values::read::node_error::NodeError;
 use std::alloc::Global;
 
 /// The error tells where an extension begins that is refused.
-type Answer<A> = Result<A, Halt<Pos>>;
+type Answer<A> = Result<A, NodeError<Pos>>;
 
 /// Whether two names are the same.
 fn is_same<N: Names>(name: &N::Value, other: &N::Value) -> bool
@@ -31,13 +31,13 @@ fn extension<S: TokenSource>(alloc: Global, source: &mut S) -> Answer<Extension<
     ensures shorter { Shortens (S.items source.old) (S.items source.new) result }
 {
     let position = source.position();
-    let name = name(alloc, source)?;
+    let name = expect_name(alloc, source)?;
     if !source.sees_name() {
         return Ok(Extension::Number(name, int_value(alloc, source)?));
     }
-    let other = helpers::name(alloc, source)?;
+    let other = expect_name(alloc, source)?;
     if is_same::<S::Names>(&name, &other) {
-        return Err(Halt::Refused(position));
+        return Err(NodeError::Refused(position));
     }
     Ok(Extension::Name(name, other))
 }

@@ -3,8 +3,8 @@ use Rattle.std.specs.Prelude.{◌≡◌, Bool, true, false, [], ◌∷◌, Resul
 use Rattle.graphql_grammar.specs.Tokens.{Token, Class, matches}
 use Rattle.graphql_grammar.specs.Trees.{peek}
 use Rattle.graphql_grammar.specs.Reading.{sees}
-use Rattle.graphql_core.specs.declared.helpers.stop.Stop.{Stop}
-use Rattle.graphql_core.specs.declared.helpers.stop.Stop.TheVariants.{Memory, Item}
+use Rattle.graphql_core.specs.declared.helpers.read_error.ReadError.{ReadError}
+use Rattle.graphql_core.specs.declared.helpers.read_error.ReadError.TheVariants.{Memory, Item}
 use Rattle.graphql_core.specs.Source.{Items, kept}
 
 -- the next item is a token of the class
@@ -19,7 +19,7 @@ pub record TakesToken (c : Class) (old new : Items) (t : Token) : Type 0 where
 
 -- A token of the class is taken, of which P holds with what is answered; or the item stays, as an allocation failed, or as it is
 -- none of the class.
-abbrev pub TakesOne : {A : Type 0} → Class → Items → Items → (A → Token → Type 0) → Result A Stop → Type 0
+abbrev pub TakesOne : {A : Type 0} → Class → Items → Items → (A → Token → Type 0) → Result A ReadError → Type 0
 TakesOne c old new P (Ok v) = (t : Token) × TakesToken c old new t × P v t
 TakesOne c old new P (Err Memory) = new ≡ old
 TakesOne c old new P (Err Item) = (new ≡ old) × (sees_class c old ≡ false)

@@ -5,7 +5,7 @@ ghost use Rattle.std.specs.Str.{IsUtf8};
 ghost use Rattle.graphql_core.specs.Minified.{space_if};
 ghost use Rattle.graphql_core.specs.steps.StringSink.{list_nil, list_more};
 
-use crate::format::place::{WIDE, place_space, place_start, place_text};
+use crate::format::place::{LOAD, copy_prefix, copy_space, copy_text};
 use crate::format::sink::Sink;
 use std::alloc::{AllocError, Global};
 use std::marker::Model;
@@ -71,7 +71,7 @@ fn append_bytes(bytes: &mut Vec<u8>, len: usize, more: &[u8]) -> Result<usize, A
     if end > bytes.len() {
         make_room(bytes, end)?;
     }
-    Ok(place_text(bytes.as_mut_slice(), len, more))
+    Ok(copy_text(bytes.as_mut_slice(), len, more))
 }
 
 /// Puts a text after the first bytes, and answers how many count then.
@@ -90,7 +90,7 @@ fn append(bytes: &mut Vec<u8>, len: usize, text: &str) -> Result<usize, AllocErr
 /// Puts a space where one is asked for, and then some bytes, after the first ones; answers how many count then.
 #[cold]
 #[inline(never)]
-fn append_apart(
+fn append_slow(
     bytes: &mut Vec<u8>,
     len: usize,
     is_spaced: bool,
@@ -105,8 +105,8 @@ fn append_apart(
     if most > bytes.len() {
         make_room(bytes, most)?;
     }
-    let start = place_space(bytes.as_mut_slice(), len, is_spaced);
-    Ok(place_text(bytes.as_mut_slice(), start, more))
+    let start = copy_space(bytes.as_mut_slice(), len, is_spaced);
+    Ok(copy_text(bytes.as_mut_slice(), start, more))
 }
 
 /// Puts some bytes, with which others begin, after the first ones, and a space before them where one is asked for; answers
@@ -125,11 +125,11 @@ fn append_spaced_bytes(
     ensures within { IfOk result (λ end. end ≤ length bytes.new.items) }
     ensures kept { OnErr result ((take len bytes.new.items ≡ take len bytes.old.items) × (len ≤ length bytes.new.items)) }
 {
-    if more.len() > WIDE || from.len() < WIDE || bytes.len() - len <= WIDE {
-        return append_apart(bytes, len, is_spaced, more);
+    if more.len() > LOAD || from.len() < LOAD || bytes.len() - len <= LOAD {
+        return append_slow(bytes, len, is_spaced, more);
     }
-    let start = place_space(bytes.as_mut_slice(), len, is_spaced);
-    Ok(place_start(bytes.as_mut_slice(), start, more, from))
+    let start = copy_space(bytes.as_mut_slice(), len, is_spaced);
+    Ok(copy_prefix(bytes.as_mut_slice(), start, more, from))
 }
 
 /// Puts a text, with which another begins, after the first bytes, and a space before it where one is asked for; answers how
@@ -168,8 +168,8 @@ impl Buffer {
     pub fn with_capacity(alloc: Global, capacity: usize) -> Result<Buffer, AllocError>
         ensures { IfOk result (λ b. b ≡ []) }
     {
-        // The last short text is stored as `WIDE` bytes too, maybe after a space.
-        let bytes = Vec::with_capacity(alloc, capacity.saturating_add(WIDE + 1))?;
+        // The last short text is stored as `LOAD` bytes too, maybe after a space.
+        let bytes = Vec::with_capacity(alloc, capacity.saturating_add(LOAD + 1))?;
         Ok(Buffer { bytes, len: 0 })
     }
 

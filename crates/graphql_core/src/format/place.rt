@@ -17,7 +17,7 @@ fn place_slice(buffer: &mut [u8], at: usize, text: &[u8]) -> usize
 
 /// The first `N` bytes are one load and one store.
 #[inline(always)]
-fn place_front<const N: usize>(buffer: &mut [u8], at: usize, text: &[u8]) -> usize
+fn copy_front<const N: usize>(buffer: &mut [u8], at: usize, text: &[u8]) -> usize
     requires { (N ≤ length text.now) × (at + N ≤ length buffer.old) }
     ensures { Placed buffer.old buffer.new at (take N text.now) result }
 {
@@ -27,75 +27,75 @@ fn place_front<const N: usize>(buffer: &mut [u8], at: usize, text: &[u8]) -> usi
 
 /// The first and the last `N` bytes.
 #[inline(always)]
-fn place_ends<const N: usize>(buffer: &mut [u8], at: usize, text: &[u8]) -> usize
+fn copy_ends<const N: usize>(buffer: &mut [u8], at: usize, text: &[u8]) -> usize
     requires fits { at + length text.now ≤ length buffer.old }
     requires covers { (N ≤ length text.now) × (length text.now ≤ N + N) }
     ensures { Placed buffer.old buffer.new at text.now result }
 {
     let last = text.len() - N;
-    place_front::<N>(buffer, at, text);
-    place_front::<N>(buffer, at + last, &text[last..])
+    copy_front::<N>(buffer, at, text);
+    copy_front::<N>(buffer, at + last, &text[last..])
 }
 
 /// At most three bytes.
 #[inline(always)]
-fn place_few(buffer: &mut [u8], at: usize, text: &[u8]) -> usize
+fn copy_short(buffer: &mut [u8], at: usize, text: &[u8]) -> usize
     requires fits { at + length text.now ≤ length buffer.old }
     requires few { length text.now < 4 }
     ensures { Placed buffer.old buffer.new at text.now result }
 {
     let len = text.len();
     if len == 1 {
-        place_front::<1>(buffer, at, text)
+        copy_front::<1>(buffer, at, text)
     } else if len == 0 {
         at
     } else {
-        place_ends::<2>(buffer, at, text)
+        copy_ends::<2>(buffer, at, text)
     }
 }
 
 /// Writes a text at a place, and answers where it ends.
 #[inline(always)]
-pub fn place_text(buffer: &mut [u8], at: usize, text: &[u8]) -> usize
+pub fn copy_text(buffer: &mut [u8], at: usize, text: &[u8]) -> usize
     requires { at + length text.now ≤ length buffer.old }
     ensures { Placed buffer.old buffer.new at text.now result }
 {
     let len = text.len();
     if len < 4 {
-        place_few(buffer, at, text)
+        copy_short(buffer, at, text)
     } else if len <= 8 {
-        place_ends::<4>(buffer, at, text)
+        copy_ends::<4>(buffer, at, text)
     } else if len <= 16 {
-        place_ends::<8>(buffer, at, text)
+        copy_ends::<8>(buffer, at, text)
     } else if len <= 32 {
-        place_ends::<16>(buffer, at, text)
+        copy_ends::<16>(buffer, at, text)
     } else {
         place_slice(buffer, at, text)
     }
 }
 
 /// The bytes that are stored at once where a text is followed by more than is wanted of it.
-pub const WIDE: usize = 16;
+pub const LOAD: usize = 16;
 
 /// Writes at a place a short text with which a longer one begins, and answers where it ends: one load from the longer one
 /// and one store, whatever the length.
 #[inline(always)]
-pub fn place_start(buffer: &mut [u8], at: usize, text: &[u8], from: &[u8]) -> usize
+pub fn copy_prefix(buffer: &mut [u8], at: usize, text: &[u8], from: &[u8]) -> usize
     requires fits { at + 16 ≤ length buffer.old }
     requires short { (length text.now ≤ 16) × (16 ≤ length from.now) }
     requires begins { take (length text.now) from.now ≡ text.now }
     ensures { Placed buffer.old buffer.new at text.now result }
 {
-    place_front::<WIDE>(buffer, at, from);
+    copy_front::<LOAD>(buffer, at, from);
     at + text.len()
 }
 
 /// Writes a space at a place where one is asked for, with no branch on that, and answers where it ends.
 #[inline(always)]
-pub fn place_space(buffer: &mut [u8], at: usize, is_spaced: bool) -> usize
+pub fn copy_space(buffer: &mut [u8], at: usize, is_spaced: bool) -> usize
     requires { at + 1 ≤ length buffer.old }
     ensures { Placed buffer.old buffer.new at (space_if is_spaced) result }
 {
-    place_front::<1>(buffer, at, b" ");
+    copy_front::<1>(buffer, at, b" ");
     at + is_spaced as usize
 }

@@ -4,13 +4,14 @@ ghost use Rattle.graphql_lexer.specs.Items.{HasItems, Item, Stream};
 ghost use Rattle.graphql_lexer.specs.Stream.{AreItemsOfRest};
 ghost use Rattle.graphql_core.specs.Causes.{no_token, cause_text};
 ghost use Rattle.graphql_lexer.specs.BadTexts.{bad_text};
-ghost use Rattle.graphql_core.specs.steps.Marks.{first_byte, front_byte};
+ghost use Rattle.graphql_core.specs.steps.Punctuators.{first_byte, front_byte};
 ghost use Rattle.graphql_core.specs.steps.Endings.{shown};
 ghost use Rattle.graphql_lexer.specs.declared.position.Pos.{Pos};
-ghost use Rattle.graphql_core.specs.Source.{Items, Wrong, IsFaultOf, after, held, items_of_stream, items_of_text, then_items, token_of, only_last, place_of};
+ghost use Rattle.graphql_core.specs.Refusal.{IsFaultOf};
+ghost use Rattle.graphql_core.specs.Source.{Items, Wrong, after, held, items_of_stream, items_of_text, then_items, token_of, only_last, place_of};
 
 use crate::common::{BadToken, Cause, Fault, Names, Text};
-use crate::helpers::mark::Mark;
+use crate::helpers::punctuator::Punctuator;
 use crate::helpers::room::is_long;
 use crate::helpers::source::{Lexeme, TokenSource};
 use graphql_lexer::position::Pos;
@@ -46,7 +47,7 @@ pub struct Cursor<'a, T: Text<'a>> {
 
 impl<'a, T: Text<'a>> Model for Cursor<'a, T> {
     ghost use Rattle.std.specs.Prelude.{All, ◌≡◌, ◌-◌, ◌≤◌, ◌^◌};
-    ghost use Rattle.graphql_core.specs.steps.Marks.{front_byte};
+    ghost use Rattle.graphql_core.specs.steps.Punctuators.{front_byte};
     ghost use Rattle.graphql_core.specs.steps.Endings.{shown};
     ghost use Rattle.graphql_core.specs.Source.{Items, IsLexeme};
 
@@ -145,14 +146,14 @@ pub fn unexpected(alloc: Global, token: Token<'_>, position: Pos) -> Fault
     ensures { (after : Items) → IsFaultOf (then_items (token_of position token.entry.kind token.entry.value.now) after) result }
 {
     match String::from_str(alloc, token.value) {
-        Ok(text) => Fault::At(
+        Ok(text) => Fault::at(
             Cause::UnexpectedToken {
                 kind: token.kind,
                 text,
             },
             position,
         ),
-        Err(_) => Fault::OutOfMemory,
+        Err(_) => Fault::out_of_memory(),
     }
 }
 
@@ -177,8 +178,8 @@ pub fn bad_place(alloc: Global, bad: Bad<'_>, position: Pos) -> Fault
     ensures { IsFaultOf (only_last (Wrong (place_of position) (no_token (bad_text bad.entry)))) result }
 {
     match cause_of(alloc, bad) {
-        Ok(cause) => Fault::At(cause, position),
-        Err(_) => Fault::OutOfMemory,
+        Ok(cause) => Fault::at(cause, position),
+        Err(_) => Fault::out_of_memory(),
     }
 }
 
@@ -204,7 +205,7 @@ impl<'a, T: Text<'a>> TokenSource for Cursor<'a, T> {
     }
 
     #[inline(always)]
-    fn sees_mark(&self, mark: Mark) -> bool {
+    fn sees_punctuator(&self, mark: Punctuator) -> bool {
         self.front == mark.first_byte()
     }
 
@@ -247,7 +248,7 @@ impl<'a, T: Text<'a>> TokenSource for Cursor<'a, T> {
     fn fault(&self, alloc: Global) -> Fault {
         match self.ending {
             Ending::Open => unexpected(alloc, self.token, self.position),
-            Ending::End => Fault::At(Cause::UnexpectedEnd, self.position),
+            Ending::End => Fault::at(Cause::UnexpectedEnd, self.position),
             Ending::Wrong(bad) => bad_place(alloc, bad, self.position),
         }
     }

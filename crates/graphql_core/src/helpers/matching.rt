@@ -2,15 +2,15 @@
 ghost use Rattle.std.specs.Prelude.{◌≡◌};
 ghost use Rattle.graphql_grammar.specs.Tokens.{Spelled, AnyOf, matches};
 ghost use Rattle.graphql_core.specs.Causes.{kind_number};
-ghost use Rattle.graphql_core.specs.steps.Marks.{class_of};
+ghost use Rattle.graphql_core.specs.steps.Punctuators.{class_of};
 ghost use Rattle.graphql_core.specs.Source.{place_of, lexeme_token};
 ghost use Rattle.graphql_core.specs.steps.Matching.{sees_class, TakesOne};
 ghost use Rattle.graphql_lexer.specs.declared.tokenizer.token.Kind.TheVariants.{Name};
 
 use crate::common::Names;
-use crate::helpers::mark::Mark;
+use crate::helpers::punctuator::Punctuator;
+use crate::helpers::read_error::ReadError;
 use crate::helpers::source::{Lexeme, TokenSource};
-use crate::helpers::stop::Stop;
 use graphql_lexer::position::Pos;
 use graphql_lexer::tokenizer::Kind;
 use std::alloc::Global;
@@ -44,7 +44,7 @@ pub fn sees_keyword<S: TokenSource>(source: &S, spelling: &str) -> bool
 
 /// Takes the token of this kind and spelling, and answers its position.
 #[inline(always)]
-fn spelled<S: TokenSource>(source: &mut S, kind: Kind, spelling: &str) -> Result<Pos, Stop>
+fn spelled<S: TokenSource>(source: &mut S, kind: Kind, spelling: &str) -> Result<Pos, ReadError>
     ensures { TakesOne (Spelled (kind_number kind) spelling.now) (S.items source.old) (S.items source.new)
         (λ p t. t.place ≡ place_of p) result }
 {
@@ -53,17 +53,17 @@ fn spelled<S: TokenSource>(source: &mut S, kind: Kind, spelling: &str) -> Result
             source.advance();
             Ok(token.position)
         }
-        _ => Err(Stop::Item),
+        _ => Err(ReadError::Item),
     }
 }
 
 /// Takes this punctuator, and answers its position.
 #[inline(always)]
-pub fn take_mark<S: TokenSource>(source: &mut S, mark: Mark) -> Result<Pos, Stop>
+pub fn expect_punctuator<S: TokenSource>(source: &mut S, mark: Punctuator) -> Result<Pos, ReadError>
     ensures { TakesOne (class_of mark) (S.items source.old) (S.items source.new) (λ p t. t.place ≡ place_of p) result }
 {
-    if !source.sees_mark(mark) {
-        return Err(Stop::Item);
+    if !source.sees_punctuator(mark) {
+        return Err(ReadError::Item);
     }
     let position = source.position();
     source.advance();
@@ -72,7 +72,7 @@ pub fn take_mark<S: TokenSource>(source: &mut S, mark: Mark) -> Result<Pos, Stop
 
 /// Takes the name of this spelling, and answers its position.
 #[inline(always)]
-pub fn keyword<S: TokenSource>(source: &mut S, spelling: &str) -> Result<Pos, Stop>
+pub fn expect_keyword<S: TokenSource>(source: &mut S, spelling: &str) -> Result<Pos, ReadError>
     ensures { TakesOne (Spelled (kind_number Name) spelling.now) (S.items source.old) (S.items source.new)
         (λ p t. t.place ≡ place_of p) result }
 {
@@ -80,10 +80,10 @@ pub fn keyword<S: TokenSource>(source: &mut S, spelling: &str) -> Result<Pos, St
 }
 
 /// Takes a name, and answers what a tree keeps of it.
-pub fn name<S: TokenSource>(
+pub fn expect_name<S: TokenSource>(
     alloc: Global,
     source: &mut S,
-) -> Result<<S::Names as Names>::Value, Stop>
+) -> Result<<S::Names as Names>::Value, ReadError>
     ensures { TakesOne (AnyOf (kind_number Name)) (S.items source.old) (S.items source.new)
         (λ v t. t.spelling ≡ S.Names.bytes v) result }
 {
@@ -93,6 +93,6 @@ pub fn name<S: TokenSource>(
             source.advance();
             Ok(name)
         }
-        _ => Err(Stop::Item),
+        _ => Err(ReadError::Item),
     }
 }

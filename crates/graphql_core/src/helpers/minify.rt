@@ -10,7 +10,8 @@ ghost use Rattle.graphql_core.specs.Minified.{AreLexemes, spaced, is_number, is_
 use crate::common::Fault;
 use crate::format::{Buffer, Sink};
 use crate::helpers::cursor::bad_place;
-use graphql_lexer::tokenizer::{self, Kind, TokenStream};
+use crate::helpers::spans::far_item;
+use graphql_lexer::tokenizer::{Kind, Tokens};
 use std::alloc::Global;
 
 /// Whether it is a number.
@@ -21,36 +22,46 @@ fn is_number(kind: Kind) -> bool
     matches!(kind, Kind::IntValue | Kind::FloatValue)
 }
 
-/// Whether a space stands between a token of this kind and the next token. There is no branch on which of them are punctuators.
+/// Whether a space stands between a token of this kind and the next token, which is of the other kind. There is no branch on which of them are punctuators.
 #[inline(always)]
-fn is_spaced(before: Kind, token: tokenizer::Token<'_>) -> bool
-    ensures { (at : Pos) → result ≡ is_spaced (kind_number before) (token_of at token.entry.kind token.entry.value.now) }
+fn is_spaced(before: Kind, kind: Kind, value: &str) -> bool
+    ensures { (at : Pos) → result ≡ is_spaced (kind_number before) (token_of at kind value.now) }
 {
-    let are_words = (before != Kind::Punctuator) & (token.kind != Kind::Punctuator);
-    are_words | (is_number(before) && token.value == "...")
+    let are_words = (before != Kind::Punctuator) & (kind != Kind::Punctuator);
+    are_words | (is_number(before) && value == "...")
 }
 
-/// The tokens of a stream up to its end, spaced.
+/// The tokens up to the end, spaced.
 ///
 /// What is left of the text is about the most that they take, since few texts get more spaces than they lose. So there is
 /// room for so many bytes from the start, and a long text is not copied as it grows.
-fn spaced(alloc: Global, stream: &mut TokenStream<'_>) -> Result<String, Fault>
-    ensures spaced { IfOk result (λ text. string_bytes text ≡ spaced (split stream.old.items).tokens) }
-    ensures end { IfOk result (λ text. IsEnd (split stream.old.items).last) }
-    ensures refused { IfErr result (IsBadPlaceOf (split stream.old.items)) }
+fn spaced(alloc: Global, mut tokens: Tokens<'_>) -> Result<String, Fault>
+    ensures spaced { IfOk result (λ text. string_bytes text ≡ spaced (split tokens.entry).tokens) }
+    ensures end { IfOk result (λ text. IsEnd (split tokens.entry).last) }
+    ensures refused { IfErr result (IsBadPlaceOf (split tokens.entry)) }
 {
-    let mut text = Buffer::with_capacity(alloc, stream.rest().len())?;
+    let mut text = Buffer::with_capacity(alloc, tokens.rest().len())?;
     let mut before = Kind::Punctuator;
     'tokens: loop {
-        let from = stream.rest();
-        match stream.next_token() {
-            Ok(Some(token)) => {
-                text.push_spaced(is_spaced(before, token), token.value, from)?;
-                before = token.kind;
+        let from = tokens.rest();
+        let token = match tokens.near_token() {
+            Some(token) => token,
+            None => {
+                let (item, after) = far_item(tokens);
+                tokens = after;
+                match item {
+                    Ok(Some(token)) => token,
+                    Ok(None) => return Ok(text.into_string()),
+                    Err(bad) => return Err(bad_place(alloc, bad, tokens.position())),
+                }
             }
-            Ok(None) => return Ok(text.into_string()),
-            Err(bad) => return Err(bad_place(alloc, bad, stream.position())),
-        }
+        };
+        text.push_spaced(
+            is_spaced(before, token.kind, token.value),
+            token.value,
+            from,
+        )?;
+        before = token.kind;
     }
 }
 
@@ -66,8 +77,7 @@ pub fn minified(alloc: Global, source: &str) -> Result<String, Fault>
     // A refusal is the bad place in which the items end.
     ensures refused { (items : List Item) → HasItems source.now items → IfErr result (IsBadPlaceOf (split items)) }
 {
-    let mut stream = TokenStream::new(source);
-    spaced(alloc, &mut stream)
+    spaced(alloc, Tokens::new(source))
 }
 
 /// Tokens that are pieces, spaced, are the items of their text.

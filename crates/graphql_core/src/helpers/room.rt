@@ -14,7 +14,7 @@ pub fn is_long(text: &str) -> bool {
 }
 
 /// Gives back the room that a list has to spare, where the text is long. It is called once the list is whole.
-pub fn give_back_room<S: TokenSource, T>(source: &S, items: &mut Vec<T>)
+pub fn shrink_list<S: TokenSource, T>(source: &S, items: &mut Vec<T>)
     ensures { items.new.items ≡ items.old.items }
 {
     if source.is_long() {

@@ -1,6 +1,6 @@
 //! Where a reader takes its tokens from.
 use crate::common::{Fault, Names};
-use crate::helpers::mark::Mark;
+use crate::helpers::punctuator::Punctuator;
 use graphql_lexer::position::Pos;
 use graphql_lexer::tokenizer::Kind;
 use std::alloc::{AllocError, Global};
@@ -22,9 +22,10 @@ pub trait TokenSource {
     ghost use Rattle.graphql_grammar.specs.Tokens.{AnyOf};
     ghost use Rattle.graphql_lexer.specs.declared.tokenizer.token.Kind.TheVariants.{Name};
     ghost use Rattle.graphql_core.specs.Causes.{kind_number};
-    ghost use Rattle.graphql_core.specs.steps.Marks.{class_of};
+    ghost use Rattle.graphql_core.specs.steps.Punctuators.{class_of};
     ghost use Rattle.graphql_core.specs.steps.Matching.{sees_class};
-    ghost use Rattle.graphql_core.specs.Source.{Items, place_of, place_next, Peeks, IsLexeme, IsAtEnd, IsFaultOf, after, lexeme_token};
+    ghost use Rattle.graphql_core.specs.Source.{Items, place_of, place_next, Peeks, IsLexeme, IsAtEnd, after, lexeme_token};
+    ghost use Rattle.graphql_core.specs.Refusal.{IsFaultOf};
 
     /// A token's spelling.
     type Text: Copy;
@@ -44,7 +45,7 @@ pub trait TokenSource {
         ensures lexeme { IfSome result (λ t. IsLexeme (lexeme_token bytes t)) };
 
     /// Whether the next item is this punctuator.
-    fn sees_mark(&self, mark: Mark) -> bool
+    fn sees_punctuator(&self, mark: Punctuator) -> bool
         ensures { result ≡ sees_class (class_of mark) (items self.now) };
 
     /// Whether the next item is a name.

@@ -1,4 +1,8 @@
 //! Where a token stands in a text.
+ghost use Rattle.std.specs.Prelude.{◌≡◌};
+ghost use Rattle.graphql_core.specs.Causes.{kind_number};
+ghost use Rattle.graphql_core.specs.steps.Spans.{kind_at, start_of, kind_of};
+
 use graphql_lexer::tokenizer::Kind;
 
 /// How wide the numbers are that say where a token stands.
@@ -62,19 +66,68 @@ impl Width for usize {
     }
 }
 
-/// Where a token stands in a text, and what it is.
+/// Where a token stands in a text, and what it is. One number tells two of these things, so that a token takes 16 bytes.
 #[derive(Clone, Copy)]
 pub struct Span<W> {
-    /// Where its first byte is.
-    pub start: W,
+    /// Eight times where its first byte is, and the number of its kind.
+    pub first: W,
     /// Where the byte after its last is.
     pub end: W,
     /// The line of its position.
     pub line: W,
     /// The column of its position.
     pub column: W,
+}
+
+/// The number of a kind.
+#[inline(always)]
+pub fn number_of(kind: Kind) -> usize
+    ensures { result ≡ kind_number kind }
+{
+    match kind {
+        Kind::Punctuator => 0,
+        Kind::Name => 1,
+        Kind::IntValue => 2,
+        Kind::FloatValue => 3,
+        Kind::StringValue => 4,
+        Kind::BlockString => 5,
+    }
+}
+
+/// The kind of a number.
+#[inline(always)]
+fn kind_at(number: usize) -> Kind
+    ensures { result ≡ kind_at number }
+{
+    if number == 0 {
+        Kind::Punctuator
+    } else if number == 1 {
+        Kind::Name
+    } else if number == 2 {
+        Kind::IntValue
+    } else if number == 3 {
+        Kind::FloatValue
+    } else if number == 4 {
+        Kind::StringValue
+    } else {
+        Kind::BlockString
+    }
+}
+
+impl<W: Width> Span<W> {
+    /// Where its first byte is.
+    #[inline(always)]
+    pub fn start(self) -> usize
+        ensures { result ≡ start_of W.number self }
+    {
+        self.first.wide() / 8
+    }
+
     /// Its kind.
-    pub kind: Kind,
-    /// Its first byte.
-    pub front: u8,
+    #[inline(always)]
+    pub fn kind(self) -> Kind
+        ensures { result ≡ kind_of W.number self }
+    {
+        kind_at(self.first.wide() % 8)
+    }
 }

@@ -3,17 +3,17 @@ ghost use Rattle.std.specs.Prelude.{◌≡◌, ℕ, ◌+◌, ◌≤◌, ◌<◌,
 ghost use Rattle.graphql_lexer.specs.Items.{HasItems, Item};
 ghost use Rattle.graphql_lexer.specs.Stream.{NextItem};
 ghost use Rattle.graphql_core.specs.Source.{split};
-ghost use Rattle.graphql_core.specs.steps.Marks.{first_byte, front_byte};
-ghost use Rattle.graphql_core.specs.steps.Spans.{Marks, span_token, span_items, last_of};
+ghost use Rattle.graphql_core.specs.steps.Punctuators.{front_byte};
+ghost use Rattle.graphql_core.specs.steps.Spans.{Marks, start_of, kind_of, span_token, span_items, last_of};
 
 use crate::common::{Cause, Fault, Names, Text};
-use crate::helpers::cursor::{bad_place, first_byte, unexpected};
-use crate::helpers::mark::Mark;
+use crate::helpers::cursor::{bad_place, unexpected};
+use crate::helpers::punctuator::Punctuator;
 use crate::helpers::room::is_long;
 use crate::helpers::source::{Lexeme, TokenSource};
-use crate::helpers::span::{Span, Width};
+use crate::helpers::span::{Span, Width, number_of};
 use graphql_lexer::position::Pos;
-use graphql_lexer::tokenizer::{Bad, Token, TokenStream, is_name_start};
+use graphql_lexer::tokenizer::{Bad, Token, Tokens, is_name_start};
 use std::alloc::{AllocError, Global};
 use std::marker::{Model, PhantomData};
 
@@ -54,7 +54,7 @@ pub struct SpanSource<'a, 's, T: Text<'a>, W: Width> {
 impl<'a, 's, T: Text<'a>, W: Width> Model for SpanSource<'a, 's, T, W> {
     ghost use Rattle.std.specs.Prelude.{All, ◌≡◌, map};
     ghost use Rattle.graphql_core.specs.Source.{Items};
-    ghost use Rattle.graphql_core.specs.steps.Marks.{front_byte};
+    ghost use Rattle.graphql_core.specs.steps.Punctuators.{front_byte};
     ghost use Rattle.graphql_core.specs.steps.Spans.{Marks, span_token, span_items, last_of};
 
     ghost Value = { Items };
@@ -68,33 +68,29 @@ impl<'a, 's, T: Text<'a>, W: Width> Model for SpanSource<'a, 's, T, W> {
 /// The span of a token that begins after `start` bytes of a text, at this position.
 #[inline(always)]
 fn span_of<W: Width>(start: usize, position: Pos, token: Token<'_>) -> Span<W>
-    requires small { start + length token.value.now < 2 ^ 64 }
+    requires small { 8 * (start + length token.value.now) + 5 < 2 ^ 64 }
+    requires first { 8 * start + 5 ≤ W.most }
     requires end { start + length token.value.now ≤ W.most }
     requires line { position.line ≤ W.most }
     requires column { position.column ≤ W.most }
-    ensures start { W.number result.start ≡ start }
+    ensures start { start_of W.number result ≡ start }
     ensures end { W.number result.end ≡ start + length token.entry.value.now }
     ensures line { W.number result.line ≡ position.line }
     ensures column { W.number result.column ≡ position.column }
-    ensures kind { result.kind ≡ token.entry.kind }
-    ensures front { result.front ≡ first_byte token.entry.value.now }
+    ensures kind { kind_of W.number result ≡ token.entry.kind }
 {
     Span {
-        start: W::narrow(start),
+        first: W::narrow(8 * start + number_of(token.kind)),
         end: W::narrow(start + token.value.len()),
         line: W::narrow(position.line),
         column: W::narrow(position.column),
-        kind: token.kind,
-        front: first_byte(token.value),
     }
 }
 
 /// The next item, whatever it is. The stream is passed by value, so that a loop need not keep it in memory for this call.
 #[inline(never)]
-fn far_item<'a>(
-    mut stream: TokenStream<'a>,
-) -> (Result<Option<Token<'a>>, Bad<'a>>, TokenStream<'a>)
-    ensures { NextItem stream.entry.items result.0 result.1.items }
+pub fn far_item<'a>(mut stream: Tokens<'a>) -> (Result<Option<Token<'a>>, Bad<'a>>, Tokens<'a>)
+    ensures { NextItem stream.entry result.0 result.1 }
 {
     let item = stream.next_token();
     (item, stream)
@@ -111,7 +107,7 @@ fn cut<'a, W: Width>(
     ensures items { (items : List Item) → HasItems text.now items
         → IfOk result (λ r. span_items W.number text.now r.0.items (last_of r.1 r.2) ≡ split items) }
 {
-    let mut stream = TokenStream::new(text);
+    let mut stream = Tokens::new(text);
     let mut spans = Vec::with_capacity(alloc, text.len() / 4)?;
     'items: loop {
         let start = stream.offset();
@@ -134,11 +130,12 @@ fn cut<'a, W: Width>(
 
 /// The first byte of the first token, 0 where there is none.
 #[inline(always)]
-fn front_of<W: Width>(spans: &[Span<W>]) -> u8
-    ensures { (text : List ℕ) → All (Marks W.number text) spans.now → result ≡ front_byte (map (span_token W.number text) spans.now) }
+fn front_of<W: Width>(text: &str, spans: &[Span<W>]) -> u8
+    requires { All (Marks W.number text.now) spans.now }
+    ensures { result ≡ front_byte (map (span_token W.number text.now) spans.now) }
 {
-    match spans.first() {
-        Some(span) => span.front,
+    match spans.split_first() {
+        Some((span, _)) => text.as_bytes()[span.start()],
         None => 0,
     }
 }
@@ -167,7 +164,7 @@ impl<'a, W: Width> Spans<'a, W> {
         SpanSource {
             text: self.text,
             rest,
-            front: front_of(rest),
+            front: front_of(self.text, rest),
             end: self.end,
             bad: self.bad,
             names: PhantomData,
@@ -181,7 +178,7 @@ fn spelling<'a, W: Width>(text: &'a str, span: Span<W>) -> &'a str
     requires { Marks W.number text.now span }
     ensures { result.now ≡ (span_token W.number text.now span).spelling }
 {
-    let start = span.start.wide();
+    let start = span.start();
     let len = span.end.wide() - start;
     text.split_at(start).1.split_at(len).0
 }
@@ -211,14 +208,14 @@ impl<'a, 's, T: Text<'a>, W: Width> TokenSource for SpanSource<'a, 's, T, W> {
     fn peek(&self) -> Option<Lexeme<&'a str>> {
         let span = *self.rest.first()?;
         Some(Lexeme {
-            kind: span.kind,
+            kind: span.kind(),
             text: spelling(self.text, span),
             position: position_of(span),
         })
     }
 
     #[inline(always)]
-    fn sees_mark(&self, mark: Mark) -> bool {
+    fn sees_punctuator(&self, mark: Punctuator) -> bool {
         self.front == mark.first_byte()
     }
 
@@ -249,7 +246,7 @@ impl<'a, 's, T: Text<'a>, W: Width> TokenSource for SpanSource<'a, 's, T, W> {
     fn advance(&mut self) {
         if let Some((_, rest)) = self.rest.split_first() {
             self.rest = rest;
-            self.front = front_of(rest);
+            self.front = front_of(self.text, rest);
         }
     }
 
@@ -259,13 +256,13 @@ impl<'a, 's, T: Text<'a>, W: Width> TokenSource for SpanSource<'a, 's, T, W> {
         match self.rest.split_first() {
             Some((span, _)) => {
                 let token = Token {
-                    kind: span.kind,
+                    kind: span.kind(),
                     value: spelling(self.text, *span),
                 };
                 unexpected(alloc, token, position_of(*span))
             }
             None => match self.bad {
-                None => Fault::At(Cause::UnexpectedEnd, self.end),
+                None => Fault::at(Cause::UnexpectedEnd, self.end),
                 Some(bad) => bad_place(alloc, bad, self.end),
             },
         }

@@ -4,7 +4,6 @@ use Rattle.std.specs.Int.{w64, trailing_zeros}
 use Rattle.graphql_lexer.specs.steps.Front.{Cuts, is_flat}
 use Rattle.graphql_lexer.specs.Lexical.{steps_over}
 use Rattle.graphql_lexer.specs.declared.tokenizer.piece.Move.{Move}
-use Rattle.graphql_lexer.specs.declared.tokenizer.piece.Move.TheVariants.{Over, Down}
 use Rattle.graphql_lexer.specs.declared.tokenizer.piece.Nesting.{Nesting}
 use Rattle.graphql_lexer.specs.declared.tokenizer.piece.Piece.{Piece}
 use Rattle.graphql_lexer.specs.declared.tokenizer.piece.Taken.{Taken}
@@ -26,8 +25,8 @@ abbrev pub is_blank : ℕ → Bool
 is_blank b = b == 32 || b == 44
 
 -- U+FEFF
-abbrev pub is_order_mark : ℕ → List ℕ → Bool
-is_order_mark b bs = b == 239 && (slice_index bs 0 == 187 && slice_index bs 1 == 191)
+abbrev pub is_byte_order_mark : ℕ → List ℕ → Bool
+is_byte_order_mark b bs = b == 239 && (slice_index bs 0 == 187 && slice_index bs 1 == 191)
 
 -- the place of the lowest bit that is set, or n
 abbrev pub first_set : ℕ → ℕ → ℕ
@@ -62,13 +61,9 @@ abbrev pub FitsTaken : List ℕ → Option (ℕ × Kind × Nesting) → Type 0
 FitsTaken bytes None = Unit {0}
 FitsTaken bytes (Some (n, k, t)) = Cuts bytes n
 
--- the ignored bytes of which most texts have many: the space, LF and the comma
-abbrev pub is_plain : ℕ → Bool
-is_plain b = b == 32 || b == 10 || b == 44
+abbrev pub is_line_feed : ℕ → Bool
+is_line_feed b = b == 10
 
-abbrev pub plain_move : ℕ → Move
-plain_move b = if b == 10 then Down else Over 1
-
--- what else ignored text begins with
-abbrev pub is_rare : ℕ → Bool
-is_rare b = b == 9 || b == 13 || b == 35 || b == 239
+-- what ignored text begins with, and what only a byte order mark does
+abbrev pub is_ignored : ℕ → Bool
+is_ignored b = is_blank b || is_line_feed b || b == 9 || b == 13 || b == 35 || b == 239

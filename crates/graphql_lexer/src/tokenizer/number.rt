@@ -8,7 +8,8 @@ ghost use Rattle.graphql_lexer.specs.steps.Numbers as spec;
 ghost use Rattle.graphql_lexer.specs.declared.tokenizer.piece.Nesting.TheVariants.{Level};
 ghost use Rattle.graphql_lexer.specs.declared.tokenizer.piece.Piece.TheVariants.{Takes};
 
-use crate::tokenizer::piece::{Nesting, Piece, byte_at, is_mark};
+use crate::tokenizer::class::is_mark;
+use crate::tokenizer::piece::{Nesting, Piece, byte_at};
 use crate::tokenizer::token::Kind;
 
 #[inline(always)]

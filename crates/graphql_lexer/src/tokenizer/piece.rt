@@ -6,8 +6,9 @@ ghost use Rattle.graphql_lexer.specs.steps.Front as spec;
 ghost use Rattle.graphql_lexer.specs.Lexical as lexical;
 ghost use Rattle.graphql_lexer.specs.declared.tokenizer.piece.Nesting.TheVariants.{Level};
 ghost use Rattle.graphql_lexer.specs.declared.tokenizer.piece.Piece.TheVariants.{Skips, Takes};
-ghost use Rattle.graphql_lexer.specs.steps.Ahead.{is_space, is_blank, is_order_mark, ignored, FitsIgnored, taken, without_flat, FitsTaken, is_plain, is_rare};
+ghost use Rattle.graphql_lexer.specs.steps.Ahead.{is_space, is_byte_order_mark, ignored, FitsIgnored, taken, without_flat, FitsTaken};
 
+use crate::tokenizer::class::{is_blank, is_mark, is_name_start, nesting_of};
 use crate::tokenizer::number::{number, plain_number, starts_number};
 use crate::tokenizer::quoted::{plain_string_len, quoted};
 use crate::tokenizer::run::{Flat, NameContinue, Space, near_len, whole_len};
@@ -71,57 +72,6 @@ pub struct Taken {
     pub nesting: Nesting,
     /// Whether it is known to be ASCII in one line.
     pub is_flat: bool,
-}
-
-/// Whether a name begins with this byte.
-#[inline(always)]
-pub fn is_name_start(byte: u8) -> bool
-    ensures { result ≡ lexical.is_name_start byte }
-{
-    byte.is_ascii_alphabetic() || byte == b'_'
-}
-
-#[inline(always)]
-fn is_opener(byte: u8) -> bool
-    ensures { result ≡ lexical.is_opener byte }
-{
-    byte == b'(' || byte == b'[' || byte == b'{'
-}
-
-#[inline(always)]
-fn is_closer(byte: u8) -> bool
-    ensures { result ≡ lexical.is_closer byte }
-{
-    byte == b')' || byte == b']' || byte == b'}'
-}
-
-/// Whether it is a punctuator of one character.
-#[inline(always)]
-pub fn is_mark(byte: u8) -> bool
-    ensures { result ≡ lexical.is_mark byte }
-{
-    is_opener(byte)
-        || is_closer(byte)
-        || byte == b'!'
-        || byte == b'$'
-        || byte == b'&'
-        || byte == b':'
-        || byte == b'='
-        || byte == b'@'
-        || byte == b'|'
-}
-
-#[inline(always)]
-fn nesting_of(byte: u8) -> Nesting
-    ensures { result ≡ lexical.nesting_of byte }
-{
-    if is_opener(byte) {
-        Nesting::Opens
-    } else if is_closer(byte) {
-        Nesting::Closes
-    } else {
-        Nesting::Level
-    }
 }
 
 #[inline(always)]
@@ -375,15 +325,8 @@ pub fn token_at(text: &str) -> Option<Taken>
 }
 
 #[inline(always)]
-fn is_blank(byte: u8) -> bool
-    ensures { result ≡ is_blank byte }
-{
-    byte == b' ' || byte == b','
-}
-
-#[inline(always)]
-fn is_order_mark(byte: u8, rest: &[u8]) -> bool
-    ensures { result ≡ is_order_mark byte rest.now }
+fn is_byte_order_mark(byte: u8, rest: &[u8]) -> bool
+    ensures { result ≡ is_byte_order_mark byte rest.now }
 {
     byte == 0xEF && (byte_at(rest, 0) == 0xBB && byte_at(rest, 1) == 0xBF)
 }
@@ -408,29 +351,13 @@ fn ignored_bytes(bytes: &[u8]) -> Option<(usize, Move)>
                 Some((1, Move::Over(1)))
             } else if *byte == b'#' {
                 comment_at(rest)
-            } else if is_order_mark(*byte, rest) {
+            } else if is_byte_order_mark(*byte, rest) {
                 Some((3, Move::Stay))
             } else {
                 None
             }
         }
     }
-}
-
-/// Whether it is a line feed, a space or a comma.
-#[inline(always)]
-pub fn is_plain(byte: u8) -> bool
-    ensures { result ≡ is_plain byte }
-{
-    byte == b' ' || byte == b'\n' || byte == b','
-}
-
-/// Whether other ignored text begins with this byte.
-#[inline(always)]
-pub fn is_rare(byte: u8) -> bool
-    ensures { result ≡ is_rare byte }
-{
-    byte == b'\t' || byte == b'\r' || byte == b'#' || byte == 0xEF
 }
 
 /// The ignored text at the front of a text.

@@ -1,8 +1,11 @@
 //! Positions, styles and numbers as values, and the values of strings.
 use crate::common::{FloatLiteral, Number, UnquoteError};
 use crate::tests::callers::{unindented, unquoted};
-use crate::{Pos, Style};
+use crate::tokenizer::{Bad, Kind, Token};
+use crate::{BadToken, Cause, FormatError, Pos, Style};
+use std::alloc::Global;
 use std::cmp::Ordering;
+use std::fmt::Debug;
 use std::hash::{BuildHasher, BuildHasherDefault, FoldHasher};
 use std::test::Fail;
 
@@ -43,5 +46,76 @@ fn strings(rt: HostRuntime) -> Result<(), Fail> {
     assert_eq!(rt; unquoted(alloc, r"\u00e9\n")?.as_str(), "é\n");
     assert_eq!(rt; unquoted(alloc, r"\q").err(), Some(UnquoteError::BadEscape));
     assert_eq!(rt; unindented(alloc, "\n  x\n y")?.as_str(), " x\ny");
+    Ok(())
+}
+
+/// Two texts that `Debug` shows, and are other where the values are.
+fn debugged<D: Debug>(alloc: Global, one: &D, other: &D) -> Result<String, Fail> {
+    Ok(format!(in alloc; "{one:?} {other:?}")?)
+}
+
+#[test]
+fn tokens_and_bad_places_are_shown_and_compared(rt: HostRuntime) -> Result<(), Fail> {
+    let alloc = rt.alloc();
+    let (kind, other) = (Kind::Name, Kind::BlockString);
+    assert!(rt; kind != other && kind == Kind::Name);
+    assert_eq!(rt;
+        debugged(alloc, &kind, &other)?.as_str(),
+        "Name BlockString"
+    );
+    let name = Token { kind, value: "a" };
+    let copy = name;
+    let block = Token {
+        kind: other,
+        value: "a",
+    };
+    assert!(rt; name == copy && name != block);
+    assert_eq!(rt;
+        debugged(alloc, &name, &block)?.as_str(),
+        "Token { kind: Name, value: \"a\" } Token { kind: BlockString, value: \"a\" }"
+    );
+    let (dot, run) = (Bad::BareDot, Bad::Integer("01"));
+    let again = run;
+    assert!(rt; run == again && run != dot && run != Bad::Integer("02") && run != Bad::Float("01"));
+    assert_eq!(rt;
+        debugged(alloc, &dot, &run)?.as_str(),
+        "BareDot Integer(\"01\")"
+    );
+    Ok(())
+}
+
+#[test]
+fn causes_and_settings_are_shown_and_compared(rt: HostRuntime) -> Result<(), Fail> {
+    let alloc = rt.alloc();
+    let character = Cause::BadToken(BadToken::Character(';'));
+    let run = Cause::BadToken(BadToken::Integer(String::from_str(alloc, "01")?));
+    assert!(rt; character != run && character == Cause::BadToken(BadToken::Character(';')));
+    assert_eq!(rt;
+        debugged(alloc, &character, &run)?.as_str(),
+        "BadToken(Character(';')) BadToken(Integer(\"01\"))"
+    );
+    assert!(rt; FormatError::TooWide != FormatError::OutOfMemory);
+    assert_eq!(rt;
+        debugged(alloc, &FormatError::TooWide, &FormatError::OutOfMemory)?.as_str(),
+        "TooWide OutOfMemory"
+    );
+    assert!(rt; UnquoteError::BadEscape != UnquoteError::OutOfMemory);
+    assert_eq!(rt;
+        debugged(alloc, &UnquoteError::BadEscape, &UnquoteError::OutOfMemory)?.as_str(),
+        "BadEscape OutOfMemory"
+    );
+    let mut style = Style::default();
+    style.indent(4).multiline_arguments(true);
+    assert_eq!(rt;
+        debugged(alloc, &Style::default(), &style)?.as_str(),
+        "Style { indent: 2, multiline_arguments: false } Style { indent: 4, multiline_arguments: true }"
+    );
+    let literal = FloatLiteral::new(String::from_str(alloc, "1.5")?)?;
+    let longer = FloatLiteral::new(String::from_str(alloc, "1.50")?)?;
+    assert!(rt; literal != longer && literal == literal.clone()?);
+    assert_eq!(rt;
+        debugged(alloc, &literal, &longer)?.as_str(),
+        "FloatLiteral { text: \"1.5\" } FloatLiteral { text: \"1.50\" }"
+    );
     Ok(())
 }

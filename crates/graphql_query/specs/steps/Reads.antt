@@ -4,7 +4,7 @@ use Rattle.graphql_grammar.specs.Tokens.{nowhere}
 use Rattle.graphql_grammar.specs.Trees.{Expr, Sym, Shape, Both, First, Second}
 use Rattle.graphql_grammar.specs.Reading.{Takes}
 use Rattle.graphql_grammar.specs.Factored.{written}
-use Rattle.graphql_core.specs.declared.helpers.stop.Stop.{Stop}
+use Rattle.graphql_core.specs.declared.helpers.read_error.ReadError.{ReadError}
 use Rattle.graphql_lexer.specs.declared.position.Pos.{Pos}
 use Rattle.graphql_core.specs.Source.{Items, place_of, kept}
 use Rattle.graphql_core.specs.steps.Matching.{sees_class}
@@ -17,7 +17,7 @@ use Rattle.graphql_query_tree.specs.Grammar.{reading, changes, definition_symbol
 use Rattle.graphql_query_tree.specs.Meanings.{fragment_spread_rest_of, inline_fragment_rest_of, definition_of}
 
 -- it reads by the second rules, and its answer is what the written shape means
-abbrev pub Reads : {A : Type 0} → Expr → Items → Items → (A → Shape → Type 0) → Result A Stop → Type 0
+abbrev pub Reads : {A : Type 0} → Expr → Items → Items → (A → Shape → Type 0) → Result A ReadError → Type 0
 Reads e old new P r = Gives reading e old new (λ v x. P v (written changes x)) r
 
 -- selections were appended, and with this span they are the set

@@ -11,7 +11,9 @@ ghost use Rattle.graphql_query.specs.steps.Reads.{Reads, sees_definition};
 use crate::read::fragment::type_condition;
 use crate::read::operation::operation_definition;
 use crate::read::selection::selection_set;
-use graphql_core::helpers::{Mark, Stop, TokenSource, keyword, name, sees_keyword};
+use graphql_core::helpers::{
+    Punctuator, ReadError, TokenSource, expect_keyword, expect_name, sees_keyword,
+};
 use graphql_query_tree::tree::{Definition, FragmentDefinition, Selection};
 use graphql_values::read::directives;
 use std::alloc::Global;
@@ -22,14 +24,14 @@ fn fragment_definition<S: TokenSource>(
     alloc: Global,
     source: &mut S,
     scratch: &mut Vec<Selection<S::Names>>,
-) -> Result<FragmentDefinition<S::Names>, Stop>
+) -> Result<FragmentDefinition<S::Names>, ReadError>
     ensures reads { Reads (Sym fragment_definition_symbol) (S.items source.old) (S.items source.new)
         (λ v x. fragment_definition_view S.Names.bytes v ≡ fragment_definition_of x) result }
     ensures kept { kept (S.items source.new) ≡ kept (S.items source.old) }
     ensures shorter { Shortens (S.items source.old) (S.items source.new) result }
 {
-    let position = keyword(source, "fragment")?;
-    let name = name(alloc, source)?;
+    let position = expect_keyword(source, "fragment")?;
+    let name = expect_name(alloc, source)?;
     let type_condition = type_condition(alloc, source)?;
     let mut directives = Vec::new(alloc);
     directives::directives(alloc, source, &mut directives)?;
@@ -49,7 +51,7 @@ pub fn definition<S: TokenSource>(
     alloc: Global,
     source: &mut S,
     scratch: &mut Vec<Selection<S::Names>>,
-) -> Result<Definition<S::Names>, Stop>
+) -> Result<Definition<S::Names>, ReadError>
     ensures reads { Reads (Sym definition_symbol) (S.items source.old) (S.items source.new)
         (λ v x. definition_view S.Names.bytes v ≡ definition_of x) result }
     ensures kept { kept (S.items source.new) ≡ kept (S.items source.old) }
@@ -65,7 +67,7 @@ pub fn definition<S: TokenSource>(
 fn sees_definition<S: TokenSource>(source: &S) -> bool
     ensures { result ≡ sees_definition (S.items source.now) }
 {
-    source.sees_mark(Mark::OpenBrace)
+    source.sees_punctuator(Punctuator::OpenBrace)
         || sees_keyword(source, "query")
         || sees_keyword(source, "mutation")
         || sees_keyword(source, "subscription")
@@ -77,7 +79,7 @@ fn sees_definition<S: TokenSource>(source: &S) -> bool
 pub fn definitions<S: TokenSource>(
     alloc: Global,
     source: &mut S,
-) -> Result<Vec<Definition<S::Names>>, Stop>
+) -> Result<Vec<Definition<S::Names>>, ReadError>
     ensures reads { Reads (some_of (Sym definition_symbol)) (S.items source.old) (S.items source.new)
         (λ v x. definitions_view S.Names.bytes v.items ≡ definitions_of x) result }
     ensures kept { kept (S.items source.new) ≡ kept (S.items source.old) }

@@ -10,7 +10,7 @@ ghost use Rattle.graphql_query_tree.specs.Meanings.{type_condition_of, optional_
 ghost use Rattle.graphql_query.specs.steps.Reads.{Reads};
 
 use graphql_core::common::Names;
-use graphql_core::helpers::{Stop, TokenSource, keyword, name, sees_keyword};
+use graphql_core::helpers::{ReadError, TokenSource, expect_keyword, expect_name, sees_keyword};
 use graphql_query_tree::tree::{FragmentSpread, Selection, TypeCondition};
 use graphql_values::read::directives;
 use std::alloc::Global;
@@ -20,14 +20,14 @@ use std::alloc::Global;
 pub fn type_condition<S: TokenSource>(
     alloc: Global,
     source: &mut S,
-) -> Result<TypeCondition<S::Names>, Stop>
+) -> Result<TypeCondition<S::Names>, ReadError>
     ensures reads { Reads (Sym type_condition_symbol) (S.items source.old) (S.items source.new)
         (λ v x. type_condition_view S.Names.bytes v ≡ type_condition_of x) result }
     ensures kept { kept (S.items source.new) ≡ kept (S.items source.old) }
     ensures shorter { Shortens (S.items source.old) (S.items source.new) result }
 {
-    keyword(source, "on")?;
-    Ok(TypeCondition::On(name(alloc, source)?))
+    expect_keyword(source, "on")?;
+    Ok(TypeCondition::On(expect_name(alloc, source)?))
 }
 
 /// `TypeCondition?`
@@ -35,7 +35,7 @@ pub fn type_condition<S: TokenSource>(
 pub fn optional_type_condition<S: TokenSource>(
     alloc: Global,
     source: &mut S,
-) -> Result<Option<TypeCondition<S::Names>>, Stop>
+) -> Result<Option<TypeCondition<S::Names>>, ReadError>
     ensures reads { Reads (optional (Sym type_condition_symbol)) (S.items source.old) (S.items source.new)
         (λ v x. option_map (type_condition_view S.Names.bytes) v ≡ optional_type_condition_of x) result }
     ensures kept { kept (S.items source.new) ≡ kept (S.items source.old) }
@@ -59,16 +59,16 @@ pub fn sees_spread_name<S: TokenSource>(source: &S) -> bool
 fn spread_name<S: TokenSource>(
     alloc: Global,
     source: &mut S,
-) -> Result<<S::Names as Names>::Value, Stop>
+) -> Result<<S::Names as Names>::Value, ReadError>
     ensures reads { Reads (Sym spread_name_symbol) (S.items source.old) (S.items source.new)
         (λ v x. (place_next (S.items source.old), S.Names.bytes v) ≡ spread_name_of x) result }
     ensures kept { kept (S.items source.new) ≡ kept (S.items source.old) }
     ensures shorter { Shortens (S.items source.old) (S.items source.new) result }
 {
     if !sees_spread_name(source) {
-        return Err(Stop::Item);
+        return Err(ReadError::Item);
     }
-    name(alloc, source)
+    expect_name(alloc, source)
 }
 
 /// `SpreadName Directives`, what stands after the dots of a spread, after the selections before it.
@@ -77,7 +77,7 @@ pub fn fragment_spread<S: TokenSource>(
     alloc: Global,
     source: &mut S,
     items: &mut Vec<Selection<S::Names>>,
-) -> Result<(), Stop>
+) -> Result<(), ReadError>
     ensures reads { Reads fragment_spread_rest (S.items source.old) (S.items source.new)
         (λ v x. Adds (selection_view S.Names.bytes) items.old.items items.new.items (fragment_spread_rest_of x ∷ [])) result }
     ensures kept { kept (S.items source.new) ≡ kept (S.items source.old) }

@@ -17,13 +17,14 @@ ghost use Rattle.graphql_query.specs.steps.Reads.{Reads};
 use crate::read::selection::selection_set;
 use graphql_core::common::Names;
 use graphql_core::helpers::{
-    Mark, Stop, TokenSource, give_back_room, keyword, name, sees_keyword, take_mark,
+    Punctuator, ReadError, TokenSource, expect_keyword, expect_name, expect_punctuator,
+    sees_keyword, shrink_list,
 };
 use graphql_query_tree::tree::{
     Mutation, OperationDefinition, Query, Selection, SelectionSet, Subscription, VariableDefinition,
 };
 use graphql_values::read::directives::{self, optional_default};
-use graphql_values::read::types::parse_type;
+use graphql_values::read::types::type_reference;
 use graphql_values::tree::Directive;
 use std::alloc::Global;
 
@@ -45,7 +46,7 @@ struct OperationBody<N: Names> {
 fn optional_name<S: TokenSource>(
     alloc: Global,
     source: &mut S,
-) -> Result<Option<<S::Names as Names>::Value>, Stop>
+) -> Result<Option<<S::Names as Names>::Value>, ReadError>
     ensures reads { Reads (optional shared.name) (S.items source.old) (S.items source.new)
         (λ v x. option_map S.Names.bytes v ≡ optional_name_of x) result }
     ensures kept { kept (S.items source.new) ≡ kept (S.items source.old) }
@@ -54,7 +55,7 @@ fn optional_name<S: TokenSource>(
     if !source.sees_name() {
         return Ok(None);
     }
-    Ok(Some(name(alloc, source)?))
+    Ok(Some(expect_name(alloc, source)?))
 }
 
 /// `VariableDefinition = "$" Name ":" Type Default? Directives`, after the variables before it.
@@ -63,16 +64,16 @@ fn variable_definition<S: TokenSource>(
     alloc: Global,
     source: &mut S,
     definitions: &mut Vec<VariableDefinition<S::Names>>,
-) -> Result<(), Stop>
+) -> Result<(), ReadError>
     ensures reads { Reads (Sym variable_definition_symbol) (S.items source.old) (S.items source.new)
         (λ v x. Adds (variable_definition_view S.Names.bytes) definitions.old.items definitions.new.items (variable_definition_of x ∷ [])) result }
     ensures kept { kept (S.items source.new) ≡ kept (S.items source.old) }
     ensures shorter { Shortens (S.items source.old) (S.items source.new) result }
 {
-    let position = take_mark(source, Mark::Dollar)?;
-    let name = name(alloc, source)?;
-    take_mark(source, Mark::Colon)?;
-    let var_type = parse_type(alloc, source)?;
+    let position = expect_punctuator(source, Punctuator::Dollar)?;
+    let name = expect_name(alloc, source)?;
+    expect_punctuator(source, Punctuator::Colon)?;
+    let var_type = type_reference(alloc, source)?;
     let default_value = optional_default(alloc, source)?;
     let mut directives = Vec::new(alloc);
     directives::directives(alloc, source, &mut directives)?;
@@ -93,19 +94,19 @@ fn variable_definitions<S: TokenSource>(
     alloc: Global,
     source: &mut S,
     definitions: &mut Vec<VariableDefinition<S::Names>>,
-) -> Result<(), Stop>
+) -> Result<(), ReadError>
     ensures reads { Reads (Sym variable_definitions_symbol) (S.items source.old) (S.items source.new)
         (λ v x. Adds (variable_definition_view S.Names.bytes) definitions.old.items definitions.new.items (variable_definitions_of x)) result }
     ensures kept { kept (S.items source.new) ≡ kept (S.items source.old) }
     ensures shorter { Shortens (S.items source.old) (S.items source.new) result }
 {
-    take_mark(source, Mark::OpenParen)?;
+    expect_punctuator(source, Punctuator::OpenParen)?;
     variable_definition(alloc, source, definitions)?;
-    'more: while source.sees_mark(Mark::Dollar) {
+    'more: while source.sees_punctuator(Punctuator::Dollar) {
         variable_definition(alloc, source, definitions)?;
     }
-    take_mark(source, Mark::CloseParen)?;
-    give_back_room(source, definitions);
+    expect_punctuator(source, Punctuator::CloseParen)?;
+    shrink_list(source, definitions);
     Ok(())
 }
 
@@ -115,13 +116,13 @@ fn optional_variable_definitions<S: TokenSource>(
     alloc: Global,
     source: &mut S,
     definitions: &mut Vec<VariableDefinition<S::Names>>,
-) -> Result<(), Stop>
+) -> Result<(), ReadError>
     ensures reads { Reads (optional (Sym variable_definitions_symbol)) (S.items source.old) (S.items source.new)
         (λ v x. Adds (variable_definition_view S.Names.bytes) definitions.old.items definitions.new.items (optional_variable_definitions_of x)) result }
     ensures kept { kept (S.items source.new) ≡ kept (S.items source.old) }
     ensures within { OnOk result (length (S.items source.new).tokens ≤ length (S.items source.old).tokens) }
 {
-    if !source.sees_mark(Mark::OpenParen) {
+    if !source.sees_punctuator(Punctuator::OpenParen) {
         return Ok(());
     }
     variable_definitions(alloc, source, definitions)
@@ -133,7 +134,7 @@ fn operation_body<S: TokenSource>(
     alloc: Global,
     source: &mut S,
     scratch: &mut Vec<Selection<S::Names>>,
-) -> Result<OperationBody<S::Names>, Stop>
+) -> Result<OperationBody<S::Names>, ReadError>
     ensures reads { Reads (Sym operation_body_symbol) (S.items source.old) (S.items source.new)
         (λ v x. operation_body_view S.Names.bytes v ≡ operation_body_of x) result }
     ensures kept { kept (S.items source.new) ≡ kept (S.items source.old) }
@@ -159,13 +160,13 @@ fn query<S: TokenSource>(
     alloc: Global,
     source: &mut S,
     scratch: &mut Vec<Selection<S::Names>>,
-) -> Result<Query<S::Names>, Stop>
+) -> Result<Query<S::Names>, ReadError>
     ensures reads { Reads (Then (word (codes "query")) (Sym operation_body_symbol)) (S.items source.old) (S.items source.new)
         (λ v x. query_view S.Names.bytes v ≡ keyword_of query_kind x) result }
     ensures kept { kept (S.items source.new) ≡ kept (S.items source.old) }
     ensures shorter { Shortens (S.items source.old) (S.items source.new) result }
 {
-    let position = keyword(source, "query")?;
+    let position = expect_keyword(source, "query")?;
     let common = operation_body(alloc, source, scratch)?;
     Ok(Query {
         position,
@@ -182,13 +183,13 @@ fn mutation<S: TokenSource>(
     alloc: Global,
     source: &mut S,
     scratch: &mut Vec<Selection<S::Names>>,
-) -> Result<Mutation<S::Names>, Stop>
+) -> Result<Mutation<S::Names>, ReadError>
     ensures reads { Reads (Then (word (codes "mutation")) (Sym operation_body_symbol)) (S.items source.old) (S.items source.new)
         (λ v x. mutation_view S.Names.bytes v ≡ keyword_of mutation_kind x) result }
     ensures kept { kept (S.items source.new) ≡ kept (S.items source.old) }
     ensures shorter { Shortens (S.items source.old) (S.items source.new) result }
 {
-    let position = keyword(source, "mutation")?;
+    let position = expect_keyword(source, "mutation")?;
     let common = operation_body(alloc, source, scratch)?;
     Ok(Mutation {
         position,
@@ -205,13 +206,13 @@ fn subscription<S: TokenSource>(
     alloc: Global,
     source: &mut S,
     scratch: &mut Vec<Selection<S::Names>>,
-) -> Result<Subscription<S::Names>, Stop>
+) -> Result<Subscription<S::Names>, ReadError>
     ensures reads { Reads (Then (word (codes "subscription")) (Sym operation_body_symbol)) (S.items source.old) (S.items source.new)
         (λ v x. subscription_view S.Names.bytes v ≡ keyword_of subscription_kind x) result }
     ensures kept { kept (S.items source.new) ≡ kept (S.items source.old) }
     ensures shorter { Shortens (S.items source.old) (S.items source.new) result }
 {
-    let position = keyword(source, "subscription")?;
+    let position = expect_keyword(source, "subscription")?;
     let common = operation_body(alloc, source, scratch)?;
     Ok(Subscription {
         position,
@@ -228,7 +229,7 @@ pub fn operation_definition<S: TokenSource>(
     alloc: Global,
     source: &mut S,
     scratch: &mut Vec<Selection<S::Names>>,
-) -> Result<OperationDefinition<S::Names>, Stop>
+) -> Result<OperationDefinition<S::Names>, ReadError>
     ensures reads { Reads (Sym operation_symbol) (S.items source.old) (S.items source.new)
         (λ v x. operation_view S.Names.bytes v ≡ operation_of x) result }
     ensures kept { kept (S.items source.new) ≡ kept (S.items source.old) }

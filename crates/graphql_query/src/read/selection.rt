@@ -13,7 +13,7 @@ ghost use Rattle.graphql_query.specs.steps.Reads.{Reads, AddsSet, after_dots_of}
 
 use crate::read::alias::alias;
 use crate::read::fragment::{fragment_spread, optional_type_condition, sees_spread_name};
-use graphql_core::helpers::{Mark, Stop, TokenSource, name, take_mark};
+use graphql_core::helpers::{Punctuator, ReadError, TokenSource, expect_name, expect_punctuator};
 use graphql_core::position::Pos;
 use graphql_query_tree::tree::{Field, InlineFragment, Selection, SelectionSet};
 use graphql_values::read::directives::{self, optional_arguments};
@@ -26,14 +26,14 @@ fn field<S: TokenSource>(
     alloc: Global,
     source: &mut S,
     items: &mut Vec<Selection<S::Names>>,
-) -> Result<(), Stop>
+) -> Result<(), ReadError>
     ensures reads { Reads (Sym field_symbol) (S.items source.old) (S.items source.new)
         (λ v x. Adds (selection_view S.Names.bytes) items.old.items items.new.items (field_of x ∷ [])) result }
     ensures kept { kept (S.items source.new) ≡ kept (S.items source.old) }
     ensures shorter { Shortens (S.items source.old) (S.items source.new) result }
 {
     let position = source.position();
-    let mut name = name(alloc, source)?;
+    let mut name = expect_name(alloc, source)?;
     let alias = alias(alloc, source, &mut name)?;
     let mut arguments = Vec::new(alloc);
     optional_arguments(alloc, source, &mut arguments)?;
@@ -61,14 +61,14 @@ fn optional_selection_set<S: TokenSource>(
     source: &mut S,
     position: Pos,
     others: &mut Vec<Selection<S::Names>>,
-) -> Result<SelectionSet<S::Names>, Stop>
+) -> Result<SelectionSet<S::Names>, ReadError>
     ensures reads { Reads (optional (Sym selection_set_symbol)) (S.items source.old) (S.items source.new)
         (λ v x. selection_set_view S.Names.bytes v ≡ selected_of (place_of position) x) result }
     ensures others { OnOk result (Adds (selection_view S.Names.bytes) others.old.items others.new.items []) }
     ensures kept { kept (S.items source.new) ≡ kept (S.items source.old) }
     ensures within { OnOk result (length (S.items source.new).tokens ≤ length (S.items source.old).tokens) }
 {
-    if !source.sees_mark(Mark::OpenBrace) {
+    if !source.sees_punctuator(Punctuator::OpenBrace) {
         return Ok(SelectionSet {
             span: (position, position),
             items: Vec::new(alloc),
@@ -84,7 +84,7 @@ fn inline_fragment<S: TokenSource>(
     alloc: Global,
     source: &mut S,
     items: &mut Vec<Selection<S::Names>>,
-) -> Result<(), Stop>
+) -> Result<(), ReadError>
     ensures reads { Reads inline_fragment_rest (S.items source.old) (S.items source.new)
         (λ v x. Adds (selection_view S.Names.bytes) items.old.items items.new.items (inline_fragment_rest_of x ∷ [])) result }
     ensures kept { kept (S.items source.new) ≡ kept (S.items source.old) }
@@ -108,17 +108,17 @@ fn inline_fragment<S: TokenSource>(
 /// `FragmentSpread = "..." SpreadName Directives`, `InlineFragment = "..." TypeCondition? Directives SelectionSet`, after the selections before it.
 #[cycle(reading)]
 #[tactic(auto, using(graphql_values::proofs::Reading::reading))]
-fn spread_or_inline<S: TokenSource>(
+fn fragment_selection<S: TokenSource>(
     alloc: Global,
     source: &mut S,
     items: &mut Vec<Selection<S::Names>>,
-) -> Result<(), Stop>
+) -> Result<(), ReadError>
     ensures reads { Reads (Then (punctuator (codes "...")) (Either fragment_spread_rest inline_fragment_rest)) (S.items source.old) (S.items source.new)
         (λ v x. Adds (selection_view S.Names.bytes) items.old.items items.new.items (after_dots_of x ∷ [])) result }
     ensures kept { kept (S.items source.new) ≡ kept (S.items source.old) }
     ensures shorter { Shortens (S.items source.old) (S.items source.new) result }
 {
-    take_mark(source, Mark::Dots)?;
+    expect_punctuator(source, Punctuator::Spread)?;
     if sees_spread_name(source) {
         return fragment_spread(alloc, source, items);
     }
@@ -132,14 +132,14 @@ fn selection<S: TokenSource>(
     alloc: Global,
     source: &mut S,
     items: &mut Vec<Selection<S::Names>>,
-) -> Result<(), Stop>
+) -> Result<(), ReadError>
     ensures reads { Reads (Sym selection_symbol) (S.items source.old) (S.items source.new)
         (λ v x. Adds (selection_view S.Names.bytes) items.old.items items.new.items (selection_of x ∷ [])) result }
     ensures kept { kept (S.items source.new) ≡ kept (S.items source.old) }
     ensures shorter { Shortens (S.items source.old) (S.items source.new) result }
 {
-    if source.sees_mark(Mark::Dots) {
-        return spread_or_inline(alloc, source, items);
+    if source.sees_punctuator(Punctuator::Spread) {
+        return fragment_selection(alloc, source, items);
     }
     field(alloc, source, items)
 }
@@ -148,7 +148,7 @@ fn selection<S: TokenSource>(
 fn sees_selection<S: TokenSource>(source: &S) -> bool
     ensures { result ≡ (sees_class (any Name) (S.items source.now) || sees_class (mark (codes "...")) (S.items source.now)) }
 {
-    source.sees_name() || source.sees_mark(Mark::Dots)
+    source.sees_name() || source.sees_punctuator(Punctuator::Spread)
 }
 
 /// `"{" Selection+ "}"`: the span, and the selections after those before them.
@@ -158,18 +158,18 @@ fn selections<S: TokenSource>(
     alloc: Global,
     source: &mut S,
     items: &mut Vec<Selection<S::Names>>,
-) -> Result<(Pos, Pos), Stop>
+) -> Result<(Pos, Pos), ReadError>
     ensures reads { Reads (Sym selection_set_symbol) (S.items source.old) (S.items source.new)
         (λ v x. AddsSet S.Names.bytes items.old.items items.new.items v (selection_set_of x)) result }
     ensures kept { kept (S.items source.new) ≡ kept (S.items source.old) }
     ensures shorter { Shortens (S.items source.old) (S.items source.new) result }
 {
-    let start = take_mark(source, Mark::OpenBrace)?;
+    let start = expect_punctuator(source, Punctuator::OpenBrace)?;
     selection(alloc, source, items)?;
     'more: while sees_selection(source) {
         selection(alloc, source, items)?;
     }
-    let end = take_mark(source, Mark::CloseBrace)?;
+    let end = expect_punctuator(source, Punctuator::CloseBrace)?;
     Ok((start, end))
 }
 
@@ -182,7 +182,7 @@ pub fn selection_set<S: TokenSource>(
     alloc: Global,
     source: &mut S,
     others: &mut Vec<Selection<S::Names>>,
-) -> Result<SelectionSet<S::Names>, Stop>
+) -> Result<SelectionSet<S::Names>, ReadError>
     ensures reads { Reads (Sym selection_set_symbol) (S.items source.old) (S.items source.new)
         (λ v x. selection_set_view S.Names.bytes v ≡ selection_set_of x) result }
     ensures others { OnOk result (Adds (selection_view S.Names.bytes) others.old.items others.new.items []) }

@@ -43,7 +43,7 @@ pub fn write_type_condition<S: Sink, N: Names>(
 }
 
 /// Appends the type that an inline fragment is on, where there is one.
-fn write_on<S: Sink, N: Names>(
+fn write_optional_type_condition<S: Sink, N: Names>(
     out: &mut S,
     condition: &Option<TypeCondition<N>>,
 ) -> Result<(), S::Error>
@@ -147,12 +147,12 @@ fn write_field<S: Sink, N: Names>(
     out.push_str(N::view(&field.name))?;
     write_arguments(out, &field.arguments, style, margin)?;
     write_directives(out, &field.directives, style, margin)?;
-    write_selected(out, &field.selection_set, style, margin)
+    write_optional_selection_set(out, &field.selection_set, style, margin)
 }
 
 /// Appends what is selected of a field, which has no braces where that is nothing.
 #[cycle(print)]
-fn write_selected<S: Sink, N: Names>(
+fn write_optional_selection_set<S: Sink, N: Names>(
     out: &mut S,
     set: &SelectionSet<N>,
     style: &Style,
@@ -183,7 +183,7 @@ fn write_inline_fragment<S: Sink, N: Names>(
 {
     write_spaces(out, margin)?;
     out.push_str("...")?;
-    write_on(out, &fragment.type_condition)?;
+    write_optional_type_condition(out, &fragment.type_condition)?;
     write_directives(out, &fragment.directives, style, margin)?;
     out.push_str(" ")?;
     write_selection_set(out, &fragment.selection_set, style, margin)

@@ -3,7 +3,7 @@ use Rattle.std.specs.Prelude.{Bool, ◌||◌, List, [], ◌∷◌, Result, codes
 use Rattle.graphql_grammar.specs.Tokens.{Class}
 use Rattle.graphql_grammar.specs.Trees.{Expr, Shape}
 use Rattle.graphql_grammar.specs.Factored.{written}
-use Rattle.graphql_core.specs.declared.helpers.stop.Stop.{Stop}
+use Rattle.graphql_core.specs.declared.helpers.read_error.ReadError.{ReadError}
 use Rattle.graphql_core.specs.Source.{Items}
 use Rattle.graphql_core.specs.steps.Matching.{sees_class}
 use Rattle.graphql_lexer.specs.declared.tokenizer.token.Kind.TheVariants.{Name, StringValue, BlockString}
@@ -14,7 +14,7 @@ use Rattle.graphql_schema_tree.specs.Grammar.{changes}
 use Rattle.graphql_schema_tree.specs.Language.{schemas}
 
 -- it reads by the second rules, and its answer is what the written shape means
-abbrev pub Reads : {A : Type 0} → Expr → Items → Items → (A → Shape → Type 0) → Result A Stop → Type 0
+abbrev pub Reads : {A : Type 0} → Expr → Items → Items → (A → Shape → Type 0) → Result A ReadError → Type 0
 Reads e old new P r = Gives (reading schemas) e old new (λ v x. P v (written changes x)) r
 
 -- a description comes next

@@ -13,13 +13,13 @@ ghost use Rattle.graphql_schema.specs.steps.Refusals.{ReadsNode};
 use crate::read::description::{optional_description, sees_description};
 use crate::read::directive::directive_definition;
 use crate::read::extension::extension;
-use crate::read::refusal::Refusal;
+use crate::read::invalid_node::InvalidNode;
 use crate::read::schema::schema_definition;
 use crate::read::types::type_body;
 use graphql_core::common::Names;
 use graphql_core::helpers::{TokenSource, sees_keyword};
 use graphql_schema_tree::tree::{Definition, TypeDefinition};
-use graphql_values::read::halt::Halt;
+use graphql_values::read::node_error::NodeError;
 use std::alloc::Global;
 
 /// The type with this description.
@@ -47,7 +47,7 @@ fn described<N: Names>(
 fn definition<S: TokenSource>(
     alloc: Global,
     source: &mut S,
-) -> Result<Definition<S::Names>, Halt<Refusal>>
+) -> Result<Definition<S::Names>, NodeError<InvalidNode>>
     ensures reads { ReadsNode (Sym item_symbol) (S.items source.old) (S.items source.new)
         (λ v x. definition_view S.Names.bytes v ≡ item_of x) result }
     ensures kept { kept (S.items source.new) ≡ kept (S.items source.old) }
@@ -99,7 +99,7 @@ fn sees_definition<S: TokenSource>(source: &S) -> bool
 pub fn definitions<S: TokenSource>(
     alloc: Global,
     source: &mut S,
-) -> Result<Vec<Definition<S::Names>>, Halt<Refusal>>
+) -> Result<Vec<Definition<S::Names>>, NodeError<InvalidNode>>
     ensures reads { ReadsNode (some_of (Sym item_symbol)) (S.items source.old) (S.items source.new)
         (λ v x. map (definition_view S.Names.bytes) v.items ≡ each_of item_of x) result }
     ensures kept { kept (S.items source.new) ≡ kept (S.items source.old) }

@@ -10,7 +10,7 @@ ghost use Rattle.graphql_schema_tree.specs.Grammar.{description_symbol};
 ghost use Rattle.graphql_schema_tree.specs.Meanings.{description_of, optional_of};
 ghost use Rattle.graphql_schema.specs.steps.Reads.{Reads, sees_description, sees_described_name};
 
-use graphql_core::helpers::{Stop, TokenSource};
+use graphql_core::helpers::{ReadError, TokenSource};
 use graphql_core::tokenizer::Kind;
 use graphql_values::read::leaf::{block_string_value, string_value};
 use std::alloc::Global;
@@ -45,7 +45,7 @@ pub fn sees_described_name<S: TokenSource>(source: &S) -> bool
 /// `Description = String | Block`
 #[inline(never)]
 #[tactic(auto, using(graphql_values::proofs::Reading::reading))]
-fn description<S: TokenSource>(alloc: Global, source: &mut S) -> Result<String, Stop>
+fn description<S: TokenSource>(alloc: Global, source: &mut S) -> Result<String, ReadError>
     ensures reads { Reads (Sym description_symbol) (S.items source.old) (S.items source.new)
         (λ v x. string_bytes v ≡ description_of x) result }
     ensures kept { kept (S.items source.new) ≡ kept (S.items source.old) }
@@ -63,7 +63,7 @@ fn description<S: TokenSource>(alloc: Global, source: &mut S) -> Result<String, 
 pub fn optional_description<S: TokenSource>(
     alloc: Global,
     source: &mut S,
-) -> Result<Option<String>, Stop>
+) -> Result<Option<String>, ReadError>
     ensures reads { Reads (optional (Sym description_symbol)) (S.items source.old) (S.items source.new)
         (λ v x. option_map string_bytes v ≡ optional_of description_of x) result }
     ensures kept { kept (S.items source.new) ≡ kept (S.items source.old) }

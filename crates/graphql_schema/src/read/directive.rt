@@ -10,9 +10,10 @@ ghost use Rattle.graphql_schema_tree.specs.Views.{directive_definition_view};
 ghost use Rattle.graphql_schema.specs.steps.Reads.{Reads};
 
 use crate::read::input::optional_argument_definitions;
-use crate::read::names::optional_mark;
+use crate::read::names::optional_punctuator;
 use graphql_core::helpers::{
-    Mark, Stop, TokenSource, give_back_room, keyword, name, sees_keyword, take_mark,
+    Punctuator, ReadError, TokenSource, expect_keyword, expect_name, expect_punctuator,
+    sees_keyword, shrink_list,
 };
 use graphql_core::tokenizer::Kind;
 use graphql_schema_tree::DirectiveLocation;
@@ -22,7 +23,7 @@ use std::alloc::Global;
 
 /// `Location = Name` that names one.
 #[tactic(auto, using(graphql_values::proofs::Reading::reading))]
-fn location<S: TokenSource>(source: &mut S) -> Result<DirectiveLocation, Stop>
+fn location<S: TokenSource>(source: &mut S) -> Result<DirectiveLocation, ReadError>
     ensures reads { Reads (Sym location_symbol) (S.items source.old) (S.items source.new)
         (λ v x. Some v ≡ location_at x) result }
     ensures kept { kept (S.items source.new) ≡ kept (S.items source.old) }
@@ -30,7 +31,7 @@ fn location<S: TokenSource>(source: &mut S) -> Result<DirectiveLocation, Stop>
 {
     let token = next_of(source, Kind::Name)?;
     let Ok(location) = S::as_str(&token.text).parse::<DirectiveLocation>() else {
-        return Err(Stop::Location);
+        return Err(ReadError::Location);
     };
     source.advance();
     Ok(location)
@@ -41,13 +42,13 @@ fn location<S: TokenSource>(source: &mut S) -> Result<DirectiveLocation, Stop>
 fn marked_location<S: TokenSource>(
     source: &mut S,
     locations: &mut Vec<DirectiveLocation>,
-) -> Result<(), Stop>
+) -> Result<(), ReadError>
     ensures reads { Reads (Then (punctuator (codes "|")) (Sym location_symbol)) (S.items source.old) (S.items source.new)
         (λ v x. Adds Some locations.old.items locations.new.items (marked_of location_at None x ∷ [])) result }
     ensures kept { kept (S.items source.new) ≡ kept (S.items source.old) }
     ensures shorter { Shortens (S.items source.old) (S.items source.new) result }
 {
-    take_mark(source, Mark::Pipe)?;
+    expect_punctuator(source, Punctuator::Pipe)?;
     locations.push(location(source)?)?;
     Ok(())
 }
@@ -57,24 +58,24 @@ fn marked_location<S: TokenSource>(
 fn locations<S: TokenSource>(
     source: &mut S,
     locations: &mut Vec<DirectiveLocation>,
-) -> Result<(), Stop>
+) -> Result<(), ReadError>
     ensures reads { Reads (Sym locations_symbol) (S.items source.old) (S.items source.new)
         (λ v x. locations.new.items ≡ locations.old.items ++ locations_of x) result }
     ensures kept { kept (S.items source.new) ≡ kept (S.items source.old) }
     ensures shorter { Shortens (S.items source.old) (S.items source.new) result }
 {
-    optional_mark(source, Mark::Pipe)?;
+    optional_punctuator(source, Punctuator::Pipe)?;
     locations.push(location(source)?)?;
-    'more: while source.sees_mark(Mark::Pipe) {
+    'more: while source.sees_punctuator(Punctuator::Pipe) {
         marked_location(source, locations)?;
     }
-    give_back_room(source, locations);
+    shrink_list(source, locations);
     Ok(())
 }
 
 /// `"repeatable"?`
 #[tactic(auto, using(graphql_values::proofs::Reading::reading))]
-fn repeatable<S: TokenSource>(source: &mut S) -> Result<bool, Stop>
+fn repeatable<S: TokenSource>(source: &mut S) -> Result<bool, ReadError>
     ensures reads { Reads (optional (word (codes "repeatable"))) (S.items source.old) (S.items source.new)
         (λ v x. v ≡ is_there x) result }
     ensures kept { kept (S.items source.new) ≡ kept (S.items source.old) }
@@ -83,7 +84,7 @@ fn repeatable<S: TokenSource>(source: &mut S) -> Result<bool, Stop>
     if !sees_keyword(source, "repeatable") {
         return Ok(false);
     }
-    keyword(source, "repeatable")?;
+    expect_keyword(source, "repeatable")?;
     Ok(true)
 }
 
@@ -92,19 +93,19 @@ fn repeatable<S: TokenSource>(source: &mut S) -> Result<bool, Stop>
 pub fn directive_definition<S: TokenSource>(
     alloc: Global,
     source: &mut S,
-) -> Result<DirectiveDefinition<S::Names>, Stop>
+) -> Result<DirectiveDefinition<S::Names>, ReadError>
     ensures reads { Reads (Sym directive_definition_symbol) (S.items source.old) (S.items source.new)
         (λ v x. directive_definition_view S.Names.bytes v ≡ directive_definition_of None x) result }
     ensures kept { kept (S.items source.new) ≡ kept (S.items source.old) }
     ensures shorter { Shortens (S.items source.old) (S.items source.new) result }
 {
-    let position = keyword(source, "directive")?;
-    take_mark(source, Mark::At)?;
-    let name = name(alloc, source)?;
+    let position = expect_keyword(source, "directive")?;
+    expect_punctuator(source, Punctuator::At)?;
+    let name = expect_name(alloc, source)?;
     let mut arguments = Vec::new(alloc);
     optional_argument_definitions(alloc, source, &mut arguments)?;
     let repeatable = repeatable(source)?;
-    keyword(source, "on")?;
+    expect_keyword(source, "on")?;
     let mut locations = Vec::new(alloc);
     self::locations(source, &mut locations)?;
     Ok(DirectiveDefinition {

@@ -11,18 +11,18 @@ ghost use Rattle.graphql_schema_tree.specs.Views.{object_extension_view, interfa
 ghost use Rattle.graphql_schema_tree.specs.Views.{schema_extension_view, definition_view};
 ghost use Rattle.graphql_schema.specs.steps.Refusals.{ReadsNode};
 
-use crate::read::refusal::Refusal;
+use crate::read::invalid_node::InvalidNode;
 use crate::read::schema::schema_extension;
 use crate::read::types::type_body;
 use graphql_core::common::Names;
-use graphql_core::helpers::{TokenSource, keyword, sees_keyword};
+use graphql_core::helpers::{TokenSource, expect_keyword, sees_keyword};
 use graphql_core::position::Pos;
 use graphql_schema_tree::tree::{
     Definition, EnumTypeExtension, InputObjectTypeExtension, InterfaceType, InterfaceTypeExtension,
     ObjectType, ObjectTypeExtension, ScalarTypeExtension, SchemaExtension, TypeDefinition,
     TypeExtension, UnionTypeExtension,
 };
-use graphql_values::read::halt::Halt;
+use graphql_values::read::node_error::NodeError;
 use std::alloc::Global;
 
 /// The extension that has what a definition of an object has, but for its description.
@@ -144,23 +144,23 @@ fn adds_to_schema<N: Names>(added: &SchemaExtension<N>) -> bool
 pub fn extension<S: TokenSource>(
     alloc: Global,
     source: &mut S,
-) -> Result<Definition<S::Names>, Halt<Refusal>>
+) -> Result<Definition<S::Names>, NodeError<InvalidNode>>
     ensures reads { ReadsNode (Sym extension_symbol) (S.items source.old) (S.items source.new)
         (λ v x. definition_view S.Names.bytes v ≡ extension_of x) result }
     ensures kept { kept (S.items source.new) ≡ kept (S.items source.old) }
     ensures shorter { Shortens (S.items source.old) (S.items source.new) result }
 {
-    keyword(source, "extend")?;
+    expect_keyword(source, "extend")?;
     if sees_keyword(source, "schema") {
         let extension = schema_extension(alloc, source)?;
         if !adds_to_schema(&extension) {
-            return Err(Halt::Refused(Refusal::Extension(extension.position)));
+            return Err(NodeError::Refused(InvalidNode::Extension(extension.position)));
         }
         return Ok(Definition::SchemaExtension(extension));
     }
     let extension = without_description(type_body(alloc, source)?);
     if !adds(&extension) {
-        return Err(Halt::Refused(Refusal::Extension(position(&extension))));
+        return Err(NodeError::Refused(InvalidNode::Extension(position(&extension))));
     }
     Ok(Definition::TypeExtension(extension))
 }

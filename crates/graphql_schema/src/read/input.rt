@@ -9,10 +9,12 @@ ghost use Rattle.graphql_schema_tree.specs.Views.{input_value_view};
 ghost use Rattle.graphql_schema.specs.steps.Reads.{Reads};
 
 use crate::read::description::{optional_description, sees_described_name};
-use graphql_core::helpers::{Mark, Stop, TokenSource, give_back_room, name, take_mark};
+use graphql_core::helpers::{
+    Punctuator, ReadError, TokenSource, expect_name, expect_punctuator, shrink_list,
+};
 use graphql_schema_tree::tree::InputValue;
 use graphql_values::read::directives::{self, optional_default};
-use graphql_values::read::types::parse_type;
+use graphql_values::read::types::type_reference;
 use std::alloc::Global;
 
 /// `InputValue = Description? Name ":" Type Default? Directives`, after the values before it.
@@ -21,7 +23,7 @@ fn input_value<S: TokenSource>(
     alloc: Global,
     source: &mut S,
     values: &mut Vec<InputValue<S::Names>>,
-) -> Result<(), Stop>
+) -> Result<(), ReadError>
     ensures reads { Reads (Sym input_value_symbol) (S.items source.old) (S.items source.new)
         (λ v x. Adds (input_value_view S.Names.bytes) values.old.items values.new.items (input_value_of x ∷ [])) result }
     ensures kept { kept (S.items source.new) ≡ kept (S.items source.old) }
@@ -29,9 +31,9 @@ fn input_value<S: TokenSource>(
 {
     let position = source.position();
     let description = optional_description(alloc, source)?;
-    let name = name(alloc, source)?;
-    take_mark(source, Mark::Colon)?;
-    let value_type = parse_type(alloc, source)?;
+    let name = expect_name(alloc, source)?;
+    expect_punctuator(source, Punctuator::Colon)?;
+    let value_type = type_reference(alloc, source)?;
     let default_value = optional_default(alloc, source)?;
     let mut directives = Vec::new(alloc);
     directives::directives(alloc, source, &mut directives)?;
@@ -53,7 +55,7 @@ fn input_values<S: TokenSource>(
     alloc: Global,
     source: &mut S,
     values: &mut Vec<InputValue<S::Names>>,
-) -> Result<(), Stop>
+) -> Result<(), ReadError>
     ensures reads { Reads (some_of (Sym input_value_symbol)) (S.items source.old) (S.items source.new)
         (λ v x. Adds (input_value_view S.Names.bytes) values.old.items values.new.items (each_of input_value_of x)) result }
     ensures kept { kept (S.items source.new) ≡ kept (S.items source.old) }
@@ -63,7 +65,7 @@ fn input_values<S: TokenSource>(
     'more: while sees_described_name(source) {
         input_value(alloc, source, values)?;
     }
-    give_back_room(source, values);
+    shrink_list(source, values);
     Ok(())
 }
 
@@ -74,15 +76,15 @@ fn argument_definitions<S: TokenSource>(
     alloc: Global,
     source: &mut S,
     values: &mut Vec<InputValue<S::Names>>,
-) -> Result<(), Stop>
+) -> Result<(), ReadError>
     ensures reads { Reads (Sym argument_definitions_symbol) (S.items source.old) (S.items source.new)
         (λ v x. Adds (input_value_view S.Names.bytes) values.old.items values.new.items (enclosed_of input_value_of x)) result }
     ensures kept { kept (S.items source.new) ≡ kept (S.items source.old) }
     ensures shorter { Shortens (S.items source.old) (S.items source.new) result }
 {
-    take_mark(source, Mark::OpenParen)?;
+    expect_punctuator(source, Punctuator::OpenParen)?;
     input_values(alloc, source, values)?;
-    take_mark(source, Mark::CloseParen)?;
+    expect_punctuator(source, Punctuator::CloseParen)?;
     Ok(())
 }
 
@@ -93,13 +95,13 @@ pub fn optional_argument_definitions<S: TokenSource>(
     alloc: Global,
     source: &mut S,
     values: &mut Vec<InputValue<S::Names>>,
-) -> Result<(), Stop>
+) -> Result<(), ReadError>
     ensures reads { Reads (optional (Sym argument_definitions_symbol)) (S.items source.old) (S.items source.new)
         (λ v x. Adds (input_value_view S.Names.bytes) values.old.items values.new.items (optional_list_of (enclosed_of input_value_of) x)) result }
     ensures kept { kept (S.items source.new) ≡ kept (S.items source.old) }
     ensures within { OnOk result (length (S.items source.new).tokens ≤ length (S.items source.old).tokens) }
 {
-    if !source.sees_mark(Mark::OpenParen) {
+    if !source.sees_punctuator(Punctuator::OpenParen) {
         return Ok(());
     }
     argument_definitions(alloc, source, values)
@@ -111,15 +113,15 @@ fn input_fields<S: TokenSource>(
     alloc: Global,
     source: &mut S,
     fields: &mut Vec<InputValue<S::Names>>,
-) -> Result<(), Stop>
+) -> Result<(), ReadError>
     ensures reads { Reads (Sym input_fields_symbol) (S.items source.old) (S.items source.new)
         (λ v x. Adds (input_value_view S.Names.bytes) fields.old.items fields.new.items (enclosed_of input_value_of x)) result }
     ensures kept { kept (S.items source.new) ≡ kept (S.items source.old) }
     ensures shorter { Shortens (S.items source.old) (S.items source.new) result }
 {
-    take_mark(source, Mark::OpenBrace)?;
+    expect_punctuator(source, Punctuator::OpenBrace)?;
     input_values(alloc, source, fields)?;
-    take_mark(source, Mark::CloseBrace)?;
+    expect_punctuator(source, Punctuator::CloseBrace)?;
     Ok(())
 }
 
@@ -129,13 +131,13 @@ pub fn optional_input_fields<S: TokenSource>(
     alloc: Global,
     source: &mut S,
     fields: &mut Vec<InputValue<S::Names>>,
-) -> Result<(), Stop>
+) -> Result<(), ReadError>
     ensures reads { Reads (optional (Sym input_fields_symbol)) (S.items source.old) (S.items source.new)
         (λ v x. Adds (input_value_view S.Names.bytes) fields.old.items fields.new.items (optional_list_of (enclosed_of input_value_of) x)) result }
     ensures kept { kept (S.items source.new) ≡ kept (S.items source.old) }
     ensures within { OnOk result (length (S.items source.new).tokens ≤ length (S.items source.old).tokens) }
 {
-    if !source.sees_mark(Mark::OpenBrace) {
+    if !source.sees_punctuator(Punctuator::OpenBrace) {
         return Ok(());
     }
     input_fields(alloc, source, fields)

@@ -2,7 +2,7 @@
 ghost use Rattle.std.specs.Prelude.{◌≡◌, ◌≤◌, OnOk, [], ◌∷◌, length, codes};
 ghost use Rattle.graphql_grammar.specs.Trees.{Then, Sym, optional};
 ghost use Rattle.graphql_core.specs.Source.{kept};
-ghost use Rattle.graphql_core.specs.steps.Marks.{spelling_of};
+ghost use Rattle.graphql_core.specs.steps.Punctuators.{spelling_of};
 ghost use Rattle.graphql_values.specs.Grammar as shared;
 ghost use Rattle.graphql_values.specs.Grammar.{punctuator};
 ghost use Rattle.graphql_values.specs.Meanings.{spelling_at};
@@ -13,20 +13,24 @@ ghost use Rattle.graphql_schema.specs.steps.Reads.{Reads};
 
 use graphql_core::common::Names;
 use graphql_core::helpers::{
-    Mark, Stop, TokenSource, give_back_room, keyword, name, sees_keyword, take_mark,
+    Punctuator, ReadError, TokenSource, expect_keyword, expect_name, expect_punctuator,
+    sees_keyword, shrink_list,
 };
 use std::alloc::Global;
 
 /// A mark, where it comes next.
 #[tactic(auto, using(graphql_values::proofs::Reading::reading))]
-pub fn optional_mark<S: TokenSource>(source: &mut S, mark: Mark) -> Result<(), Stop>
+pub fn optional_punctuator<S: TokenSource>(
+    source: &mut S,
+    mark: Punctuator,
+) -> Result<(), ReadError>
     ensures reads { Reads (optional (punctuator (spelling_of mark))) (S.items source.old) (S.items source.new)
         (λ v x. Unit {0}) result }
     ensures kept { kept (S.items source.new) ≡ kept (S.items source.old) }
     ensures within { OnOk result (length (S.items source.new).tokens ≤ length (S.items source.old).tokens) }
 {
-    if source.sees_mark(mark) {
-        take_mark(source, mark)?;
+    if source.sees_punctuator(mark) {
+        expect_punctuator(source, mark)?;
     }
     Ok(())
 }
@@ -36,16 +40,16 @@ pub fn optional_mark<S: TokenSource>(source: &mut S, mark: Mark) -> Result<(), S
 fn marked_name<S: TokenSource>(
     alloc: Global,
     source: &mut S,
-    mark: Mark,
+    mark: Punctuator,
     names: &mut Vec<<S::Names as Names>::Value>,
-) -> Result<(), Stop>
+) -> Result<(), ReadError>
     ensures reads { Reads (Then (punctuator (spelling_of mark)) shared.name) (S.items source.old) (S.items source.new)
         (λ v x. Adds S.Names.bytes names.old.items names.new.items (marked_of spelling_at [] x ∷ [])) result }
     ensures kept { kept (S.items source.new) ≡ kept (S.items source.old) }
     ensures shorter { Shortens (S.items source.old) (S.items source.new) result }
 {
-    take_mark(source, mark)?;
-    names.push(name(alloc, source)?)?;
+    expect_punctuator(source, mark)?;
+    names.push(expect_name(alloc, source)?)?;
     Ok(())
 }
 
@@ -54,20 +58,20 @@ fn marked_name<S: TokenSource>(
 fn joined_names<S: TokenSource>(
     alloc: Global,
     source: &mut S,
-    mark: Mark,
+    mark: Punctuator,
     names: &mut Vec<<S::Names as Names>::Value>,
-) -> Result<(), Stop>
+) -> Result<(), ReadError>
     ensures reads { Reads (joined_by (spelling_of mark) shared.name) (S.items source.old) (S.items source.new)
         (λ v x. Adds S.Names.bytes names.old.items names.new.items (joined_of spelling_at [] x)) result }
     ensures kept { kept (S.items source.new) ≡ kept (S.items source.old) }
     ensures shorter { Shortens (S.items source.old) (S.items source.new) result }
 {
-    optional_mark(source, mark)?;
-    names.push(name(alloc, source)?)?;
-    'more: while source.sees_mark(mark) {
+    optional_punctuator(source, mark)?;
+    names.push(expect_name(alloc, source)?)?;
+    'more: while source.sees_punctuator(mark) {
         marked_name(alloc, source, mark, names)?;
     }
-    give_back_room(source, names);
+    shrink_list(source, names);
     Ok(())
 }
 
@@ -77,14 +81,14 @@ fn implements<S: TokenSource>(
     alloc: Global,
     source: &mut S,
     names: &mut Vec<<S::Names as Names>::Value>,
-) -> Result<(), Stop>
+) -> Result<(), ReadError>
     ensures reads { Reads (Sym implements_symbol) (S.items source.old) (S.items source.new)
         (λ v x. Adds S.Names.bytes names.old.items names.new.items (interfaces_of x)) result }
     ensures kept { kept (S.items source.new) ≡ kept (S.items source.old) }
     ensures shorter { Shortens (S.items source.old) (S.items source.new) result }
 {
-    keyword(source, "implements")?;
-    joined_names(alloc, source, Mark::Ampersand, names)
+    expect_keyword(source, "implements")?;
+    joined_names(alloc, source, Punctuator::Ampersand, names)
 }
 
 /// `Implements?`
@@ -93,7 +97,7 @@ pub fn optional_implements<S: TokenSource>(
     alloc: Global,
     source: &mut S,
     names: &mut Vec<<S::Names as Names>::Value>,
-) -> Result<(), Stop>
+) -> Result<(), ReadError>
     ensures reads { Reads (optional (Sym implements_symbol)) (S.items source.old) (S.items source.new)
         (λ v x. Adds S.Names.bytes names.old.items names.new.items (optional_list_of interfaces_of x)) result }
     ensures kept { kept (S.items source.new) ≡ kept (S.items source.old) }
@@ -111,14 +115,14 @@ fn members<S: TokenSource>(
     alloc: Global,
     source: &mut S,
     names: &mut Vec<<S::Names as Names>::Value>,
-) -> Result<(), Stop>
+) -> Result<(), ReadError>
     ensures reads { Reads (Sym members_symbol) (S.items source.old) (S.items source.new)
         (λ v x. Adds S.Names.bytes names.old.items names.new.items (members_of x)) result }
     ensures kept { kept (S.items source.new) ≡ kept (S.items source.old) }
     ensures shorter { Shortens (S.items source.old) (S.items source.new) result }
 {
-    take_mark(source, Mark::Equals)?;
-    joined_names(alloc, source, Mark::Pipe, names)
+    expect_punctuator(source, Punctuator::Equals)?;
+    joined_names(alloc, source, Punctuator::Pipe, names)
 }
 
 /// `Members?`
@@ -127,13 +131,13 @@ pub fn optional_members<S: TokenSource>(
     alloc: Global,
     source: &mut S,
     names: &mut Vec<<S::Names as Names>::Value>,
-) -> Result<(), Stop>
+) -> Result<(), ReadError>
     ensures reads { Reads (optional (Sym members_symbol)) (S.items source.old) (S.items source.new)
         (λ v x. Adds S.Names.bytes names.old.items names.new.items (optional_list_of members_of x)) result }
     ensures kept { kept (S.items source.new) ≡ kept (S.items source.old) }
     ensures within { OnOk result (length (S.items source.new).tokens ≤ length (S.items source.old).tokens) }
 {
-    if !source.sees_mark(Mark::Equals) {
+    if !source.sees_punctuator(Punctuator::Equals) {
         return Ok(());
     }
     members(alloc, source, names)

@@ -11,12 +11,14 @@ ghost use Rattle.graphql_schema.specs.steps.Reads.{Reads};
 ghost use Rattle.graphql_schema.specs.steps.Refusals.{ReadsNode};
 ghost use Rattle.graphql_schema.specs.steps.Roots.{Root, root_at, AreRoots, HasRoots, Fills};
 
-use crate::read::refusal::Refusal;
+use crate::read::invalid_node::InvalidNode;
 use graphql_core::common::{Cause, Names};
-use graphql_core::helpers::{Mark, Stop, TokenSource, keyword, name, take_mark};
+use graphql_core::helpers::{
+    Punctuator, ReadError, TokenSource, expect_keyword, expect_name, expect_punctuator,
+};
 use graphql_schema_tree::tree::{SchemaDefinition, SchemaExtension};
 use graphql_values::read::directives;
-use graphql_values::read::halt::Halt;
+use graphql_values::read::node_error::NodeError;
 use std::alloc::{AllocError, Global};
 
 /// What the reader of a schema's operations has come past.
@@ -95,15 +97,15 @@ fn root_type<S: TokenSource>(
     alloc: Global,
     source: &mut S,
     roots: &mut Roots<S::Names>,
-) -> Result<(), Stop>
+) -> Result<(), ReadError>
     ensures reads { Reads (Sym root_type_symbol) (S.items source.old) (S.items source.new)
         (λ v x. (rs : List Root) → HasRoots S.Names.bytes roots.old rs → HasRoots S.Names.bytes roots.new (rs ++ root_at x ∷ [])) result }
     ensures kept { kept (S.items source.new) ≡ kept (S.items source.old) }
     ensures shorter { Shortens (S.items source.old) (S.items source.new) result }
 {
-    let operation = name(alloc, source)?;
-    take_mark(source, Mark::Colon)?;
-    let type_name = name(alloc, source)?;
+    let operation = expect_name(alloc, source)?;
+    expect_punctuator(source, Punctuator::Colon)?;
+    let type_name = expect_name(alloc, source)?;
     add_root::<S::Names>(alloc, roots, S::Names::view(&operation), type_name)?;
     Ok(())
 }
@@ -114,7 +116,7 @@ fn root_types<S: TokenSource>(
     alloc: Global,
     source: &mut S,
     roots: &mut Roots<S::Names>,
-) -> Result<(), Stop>
+) -> Result<(), ReadError>
     ensures reads { Reads (Many (Sym root_type_symbol)) (S.items source.old) (S.items source.new)
         (λ v x. (rs : List Root) → HasRoots S.Names.bytes roots.old rs → HasRoots S.Names.bytes roots.new (rs ++ each_of root_at x)) result }
     ensures kept { kept (S.items source.new) ≡ kept (S.items source.old) }
@@ -131,19 +133,19 @@ fn root_types<S: TokenSource>(
 pub fn schema_definition<S: TokenSource>(
     alloc: Global,
     source: &mut S,
-) -> Result<SchemaDefinition<S::Names>, Halt<Refusal>>
+) -> Result<SchemaDefinition<S::Names>, NodeError<InvalidNode>>
     ensures reads { ReadsNode (Sym schema_symbol) (S.items source.old) (S.items source.new)
         (λ v x. schema_view S.Names.bytes v ≡ schema_of x) result }
     ensures kept { kept (S.items source.new) ≡ kept (S.items source.old) }
     ensures shorter { Shortens (S.items source.old) (S.items source.new) result }
 {
-    let position = keyword(source, "schema")?;
+    let position = expect_keyword(source, "schema")?;
     let mut directives = Vec::new(alloc);
     directives::directives(alloc, source, &mut directives)?;
-    take_mark(source, Mark::OpenBrace)?;
+    expect_punctuator(source, Punctuator::OpenBrace)?;
     let mut roots = no_roots::<S::Names>();
     root_types(alloc, source, &mut roots)?;
-    take_mark(source, Mark::CloseBrace)?;
+    expect_punctuator(source, Punctuator::CloseBrace)?;
     let Roots {
         query,
         mutation,
@@ -151,7 +153,7 @@ pub fn schema_definition<S: TokenSource>(
         fault,
     } = roots;
     match fault {
-        Some(cause) => Err(Halt::Refused(Refusal::Schema(cause, position))),
+        Some(cause) => Err(NodeError::Refused(InvalidNode::Schema(cause, position))),
         None => Ok(SchemaDefinition {
             position,
             description: None,
@@ -165,29 +167,35 @@ pub fn schema_definition<S: TokenSource>(
 
 /// `Roots = "{" RootType+ "}"`
 #[tactic(auto, using(graphql_values::proofs::Reading::reading))]
-fn enclosed_roots<S: TokenSource>(alloc: Global, source: &mut S) -> Result<Roots<S::Names>, Stop>
+fn enclosed_roots<S: TokenSource>(
+    alloc: Global,
+    source: &mut S,
+) -> Result<Roots<S::Names>, ReadError>
     ensures reads { Reads (Sym roots_symbol) (S.items source.old) (S.items source.new)
         (λ v x. AreRoots S.Names.bytes v (roots_of (roots_in (First x))) (λ word. root_of word (roots_in (First x)))) result }
     ensures kept { kept (S.items source.new) ≡ kept (S.items source.old) }
     ensures shorter { Shortens (S.items source.old) (S.items source.new) result }
 {
     let mut roots = no_roots::<S::Names>();
-    take_mark(source, Mark::OpenBrace)?;
+    expect_punctuator(source, Punctuator::OpenBrace)?;
     root_type(alloc, source, &mut roots)?;
     root_types(alloc, source, &mut roots)?;
-    take_mark(source, Mark::CloseBrace)?;
+    expect_punctuator(source, Punctuator::CloseBrace)?;
     Ok(roots)
 }
 
 /// `Roots?`
 #[tactic(auto, using(graphql_values::proofs::Reading::reading))]
-fn optional_roots<S: TokenSource>(alloc: Global, source: &mut S) -> Result<Roots<S::Names>, Stop>
+fn optional_roots<S: TokenSource>(
+    alloc: Global,
+    source: &mut S,
+) -> Result<Roots<S::Names>, ReadError>
     ensures reads { Reads (optional (Sym roots_symbol)) (S.items source.old) (S.items source.new)
         (λ v x. AreRoots S.Names.bytes v (roots_of (roots_in x)) (λ word. root_of word (roots_in x))) result }
     ensures kept { kept (S.items source.new) ≡ kept (S.items source.old) }
     ensures within { OnOk result (length (S.items source.new).tokens ≤ length (S.items source.old).tokens) }
 {
-    if !source.sees_mark(Mark::OpenBrace) {
+    if !source.sees_punctuator(Punctuator::OpenBrace) {
         return Ok(no_roots::<S::Names>());
     }
     enclosed_roots(alloc, source)
@@ -198,13 +206,13 @@ fn optional_roots<S: TokenSource>(alloc: Global, source: &mut S) -> Result<Roots
 pub fn schema_extension<S: TokenSource>(
     alloc: Global,
     source: &mut S,
-) -> Result<SchemaExtension<S::Names>, Halt<Refusal>>
+) -> Result<SchemaExtension<S::Names>, NodeError<InvalidNode>>
     ensures reads { ReadsNode (Sym schema_extension_symbol) (S.items source.old) (S.items source.new)
         (λ v x. schema_extension_view S.Names.bytes v ≡ schema_extension_of x) result }
     ensures kept { kept (S.items source.new) ≡ kept (S.items source.old) }
     ensures shorter { Shortens (S.items source.old) (S.items source.new) result }
 {
-    let position = keyword(source, "schema")?;
+    let position = expect_keyword(source, "schema")?;
     let mut directives = Vec::new(alloc);
     directives::directives(alloc, source, &mut directives)?;
     let Roots {
@@ -214,7 +222,7 @@ pub fn schema_extension<S: TokenSource>(
         fault,
     } = optional_roots(alloc, source)?;
     match fault {
-        Some(cause) => Err(Halt::Refused(Refusal::SchemaExtension(cause, position))),
+        Some(cause) => Err(NodeError::Refused(InvalidNode::SchemaExtension(cause, position))),
         None => Ok(SchemaExtension {
             position,
             directives,

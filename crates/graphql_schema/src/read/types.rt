@@ -15,7 +15,7 @@ use crate::read::field::optional_fields;
 use crate::read::input::optional_input_fields;
 use crate::read::names::{optional_implements, optional_members};
 use graphql_core::common::Names;
-use graphql_core::helpers::{Stop, TokenSource, keyword, name, sees_keyword};
+use graphql_core::helpers::{ReadError, TokenSource, expect_keyword, expect_name, sees_keyword};
 use graphql_schema_tree::tree::{
     EnumType, Field, InputObjectType, InterfaceType, ObjectType, ScalarType, TypeDefinition,
     UnionType,
@@ -42,13 +42,13 @@ struct ImplementerBody<N: Names> {
 fn implementer<S: TokenSource>(
     alloc: Global,
     source: &mut S,
-) -> Result<ImplementerBody<S::Names>, Stop>
+) -> Result<ImplementerBody<S::Names>, ReadError>
     ensures reads { Reads implementer_rule (S.items source.old) (S.items source.new)
         (λ v x. implementer_view S.Names.bytes v ≡ implementer_of x) result }
     ensures kept { kept (S.items source.new) ≡ kept (S.items source.old) }
     ensures shorter { Shortens (S.items source.old) (S.items source.new) result }
 {
-    let name = name(alloc, source)?;
+    let name = expect_name(alloc, source)?;
     let mut implements_interfaces = Vec::new(alloc);
     optional_implements(alloc, source, &mut implements_interfaces)?;
     let mut directives = Vec::new(alloc);
@@ -65,14 +65,14 @@ fn implementer<S: TokenSource>(
 
 /// `Scalar = "scalar" Name Directives`
 #[tactic(auto, using(graphql_values::proofs::Reading::reading))]
-fn scalar<S: TokenSource>(alloc: Global, source: &mut S) -> Result<ScalarType<S::Names>, Stop>
+fn scalar<S: TokenSource>(alloc: Global, source: &mut S) -> Result<ScalarType<S::Names>, ReadError>
     ensures reads { Reads (Sym scalar_symbol) (S.items source.old) (S.items source.new)
         (λ v x. scalar_view S.Names.bytes v ≡ type_definition None (scalar_of x)) result }
     ensures kept { kept (S.items source.new) ≡ kept (S.items source.old) }
     ensures shorter { Shortens (S.items source.old) (S.items source.new) result }
 {
-    let position = keyword(source, "scalar")?;
-    let name = name(alloc, source)?;
+    let position = expect_keyword(source, "scalar")?;
+    let name = expect_name(alloc, source)?;
     let mut directives = Vec::new(alloc);
     directives::directives(alloc, source, &mut directives)?;
     Ok(ScalarType {
@@ -85,13 +85,13 @@ fn scalar<S: TokenSource>(alloc: Global, source: &mut S) -> Result<ScalarType<S:
 
 /// `Object = "type" Name Implements? Directives Fields?`
 #[tactic(auto, using(graphql_values::proofs::Reading::reading))]
-fn object<S: TokenSource>(alloc: Global, source: &mut S) -> Result<ObjectType<S::Names>, Stop>
+fn object<S: TokenSource>(alloc: Global, source: &mut S) -> Result<ObjectType<S::Names>, ReadError>
     ensures reads { Reads (Sym object_symbol) (S.items source.old) (S.items source.new)
         (λ v x. object_view S.Names.bytes v ≡ type_definition None (object_of x)) result }
     ensures kept { kept (S.items source.new) ≡ kept (S.items source.old) }
     ensures shorter { Shortens (S.items source.old) (S.items source.new) result }
 {
-    let position = keyword(source, "type")?;
+    let position = expect_keyword(source, "type")?;
     let common = implementer(alloc, source)?;
     Ok(ObjectType {
         position,
@@ -105,13 +105,16 @@ fn object<S: TokenSource>(alloc: Global, source: &mut S) -> Result<ObjectType<S:
 
 /// `Interface = "interface" Name Implements? Directives Fields?`
 #[tactic(auto, using(graphql_values::proofs::Reading::reading))]
-fn interface<S: TokenSource>(alloc: Global, source: &mut S) -> Result<InterfaceType<S::Names>, Stop>
+fn interface<S: TokenSource>(
+    alloc: Global,
+    source: &mut S,
+) -> Result<InterfaceType<S::Names>, ReadError>
     ensures reads { Reads (Sym interface_symbol) (S.items source.old) (S.items source.new)
         (λ v x. interface_view S.Names.bytes v ≡ type_definition None (interface_of x)) result }
     ensures kept { kept (S.items source.new) ≡ kept (S.items source.old) }
     ensures shorter { Shortens (S.items source.old) (S.items source.new) result }
 {
-    let position = keyword(source, "interface")?;
+    let position = expect_keyword(source, "interface")?;
     let common = implementer(alloc, source)?;
     Ok(InterfaceType {
         position,
@@ -125,14 +128,17 @@ fn interface<S: TokenSource>(alloc: Global, source: &mut S) -> Result<InterfaceT
 
 /// `Union = "union" Name Directives Members?`
 #[tactic(auto, using(graphql_values::proofs::Reading::reading))]
-fn union_type<S: TokenSource>(alloc: Global, source: &mut S) -> Result<UnionType<S::Names>, Stop>
+fn union_type<S: TokenSource>(
+    alloc: Global,
+    source: &mut S,
+) -> Result<UnionType<S::Names>, ReadError>
     ensures reads { Reads (Sym union_symbol) (S.items source.old) (S.items source.new)
         (λ v x. union_view S.Names.bytes v ≡ type_definition None (union_of x)) result }
     ensures kept { kept (S.items source.new) ≡ kept (S.items source.old) }
     ensures shorter { Shortens (S.items source.old) (S.items source.new) result }
 {
-    let position = keyword(source, "union")?;
-    let name = name(alloc, source)?;
+    let position = expect_keyword(source, "union")?;
+    let name = expect_name(alloc, source)?;
     let mut directives = Vec::new(alloc);
     directives::directives(alloc, source, &mut directives)?;
     let mut types = Vec::new(alloc);
@@ -148,14 +154,14 @@ fn union_type<S: TokenSource>(alloc: Global, source: &mut S) -> Result<UnionType
 
 /// `Enum = "enum" Name Directives EnumValues?`
 #[tactic(auto, using(graphql_values::proofs::Reading::reading))]
-fn enum_type<S: TokenSource>(alloc: Global, source: &mut S) -> Result<EnumType<S::Names>, Stop>
+fn enum_type<S: TokenSource>(alloc: Global, source: &mut S) -> Result<EnumType<S::Names>, ReadError>
     ensures reads { Reads (Sym enum_symbol) (S.items source.old) (S.items source.new)
         (λ v x. enum_view S.Names.bytes v ≡ type_definition None (enum_of x)) result }
     ensures kept { kept (S.items source.new) ≡ kept (S.items source.old) }
     ensures shorter { Shortens (S.items source.old) (S.items source.new) result }
 {
-    let position = keyword(source, "enum")?;
-    let name = name(alloc, source)?;
+    let position = expect_keyword(source, "enum")?;
+    let name = expect_name(alloc, source)?;
     let mut directives = Vec::new(alloc);
     directives::directives(alloc, source, &mut directives)?;
     let mut values = Vec::new(alloc);
@@ -171,14 +177,17 @@ fn enum_type<S: TokenSource>(alloc: Global, source: &mut S) -> Result<EnumType<S
 
 /// `Input = "input" Name Directives InputFields?`
 #[tactic(auto, using(graphql_values::proofs::Reading::reading))]
-fn input<S: TokenSource>(alloc: Global, source: &mut S) -> Result<InputObjectType<S::Names>, Stop>
+fn input<S: TokenSource>(
+    alloc: Global,
+    source: &mut S,
+) -> Result<InputObjectType<S::Names>, ReadError>
     ensures reads { Reads (Sym input_symbol) (S.items source.old) (S.items source.new)
         (λ v x. input_view S.Names.bytes v ≡ type_definition None (input_of x)) result }
     ensures kept { kept (S.items source.new) ≡ kept (S.items source.old) }
     ensures shorter { Shortens (S.items source.old) (S.items source.new) result }
 {
-    let position = keyword(source, "input")?;
-    let name = name(alloc, source)?;
+    let position = expect_keyword(source, "input")?;
+    let name = expect_name(alloc, source)?;
     let mut directives = Vec::new(alloc);
     directives::directives(alloc, source, &mut directives)?;
     let mut fields = Vec::new(alloc);
@@ -197,7 +206,7 @@ fn input<S: TokenSource>(alloc: Global, source: &mut S) -> Result<InputObjectTyp
 pub fn type_body<S: TokenSource>(
     alloc: Global,
     source: &mut S,
-) -> Result<TypeDefinition<S::Names>, Stop>
+) -> Result<TypeDefinition<S::Names>, ReadError>
     ensures reads { Reads (Sym type_body_symbol) (S.items source.old) (S.items source.new)
         (λ v x. type_definition_view S.Names.bytes v ≡ type_definition None (body_of x)) result }
     ensures kept { kept (S.items source.new) ≡ kept (S.items source.old) }

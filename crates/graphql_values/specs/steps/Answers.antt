@@ -3,14 +3,14 @@ use Rattle.std.specs.Prelude.{◌≡◌, ◌<◌, List, ◌++◌, map, length, R
 use Rattle.graphql_grammar.specs.Trees.{Expr, Shape, Grammar}
 use Rattle.graphql_grammar.specs.Reading.{Reason, Unexpected, Improper}
 use Rattle.graphql_grammar.specs.ReaderWords.{TakesSome, Stops}
-use Rattle.graphql_core.specs.declared.helpers.stop.Stop.{Stop}
-use Rattle.graphql_core.specs.declared.helpers.stop.Stop.TheVariants.{Memory, Item, Integer, Float, Escape, Location}
+use Rattle.graphql_core.specs.declared.helpers.read_error.ReadError.{ReadError}
+use Rattle.graphql_core.specs.declared.helpers.read_error.ReadError.TheVariants.{Memory, Item, Integer, Float, Escape, Location}
 use Rattle.graphql_lexer.specs.declared.tokenizer.token.Kind.TheVariants.{IntValue, FloatValue, StringValue}
 use Rattle.graphql_core.specs.Source.{Items}
 use Rattle.graphql_values.specs.Grammar.{any, location_class}
 
 -- the theory's reason for which a reader stopped; none where an allocation failed
-abbrev pub reason_of : Stop → Option Reason
+abbrev pub reason_of : ReadError → Option Reason
 reason_of Memory = None
 reason_of Item = Some Unexpected
 reason_of Integer = Some (Improper (any IntValue))
@@ -24,7 +24,7 @@ GivesBy reason g e old new P (Ok v) = TakesSome g e old.tokens new.tokens (P v)
 GivesBy reason g e old new P (Err s) = Stops g e old.tokens new.tokens (reason s)
 
 -- Some shape is taken, of which P holds with what is answered; or an allocation failed; or the theory fails.
-abbrev pub Gives : {A : Type 0} → Grammar → Expr → Items → Items → (A → Shape → Type 0) → Result A Stop → Type 0
+abbrev pub Gives : {A : Type 0} → Grammar → Expr → Items → Items → (A → Shape → Type 0) → Result A ReadError → Type 0
 Gives g e old new P r = GivesBy reason_of g e old new P r
 
 -- after the old elements of a list stand these, seen through f

@@ -1,7 +1,7 @@
 -- The next token as a leaf.
 use Rattle.std.specs.Prelude.{◌≡◌, ℕ, true, false, if◌then◌else◌, List, ◌∷◌, drop, codes, Result, Ok, Err}
 use Rattle.graphql_grammar.specs.Tokens.{same_spelling}
-use Rattle.graphql_core.specs.declared.helpers.stop.Stop.{Stop}
+use Rattle.graphql_core.specs.declared.helpers.read_error.ReadError.{ReadError}
 use Rattle.graphql_core.specs.declared.helpers.source.Lexeme.{Lexeme}
 use Rattle.graphql_lexer.specs.declared.tokenizer.token.Kind.{Kind}
 use Rattle.graphql_core.specs.Source.{Items, IsLexeme, lexeme_token}
@@ -16,7 +16,7 @@ pub record IsNext {T : Type 0} (bytes : T → List ℕ) (k : Kind) (i : Items) (
   pub lexeme : IsLexeme (lexeme_token bytes t)
 
 -- the next item, where it is a token of this kind
-abbrev pub Shows : {T : Type 0} → (T → List ℕ) → Kind → Items → Result (Lexeme T) Stop → Type 0
+abbrev pub Shows : {T : Type 0} → (T → List ℕ) → Kind → Items → Result (Lexeme T) ReadError → Type 0
 Shows bytes k i (Ok t) = IsNext bytes k i t
 Shows bytes k i (Err s) = TakesOne {A = Unit {0}} (any k) i i (λ v t. Unit {0}) (Err s)
 

@@ -10,7 +10,7 @@ ghost use Rattle.graphql_values.specs.steps.Answers.{Gives, Adds, Shortens};
 use crate::read::values::{argument, constant};
 use crate::tree::{Directive, Value};
 use graphql_core::common::Names;
-use graphql_core::helpers::{Mark, Stop, TokenSource, name, take_mark};
+use graphql_core::helpers::{Punctuator, ReadError, TokenSource, expect_name, expect_punctuator};
 use std::alloc::Global;
 
 /// Room for so many arguments is made at first. A list of more grows.
@@ -23,18 +23,18 @@ pub fn arguments<S: TokenSource>(
     alloc: Global,
     source: &mut S,
     items: &mut Vec<(<S::Names as Names>::Value, Value<S::Names>)>,
-) -> Result<(), Stop>
+) -> Result<(), ReadError>
     ensures reads { Gives shared (Sym arguments_symbol) (S.items source.old) (S.items source.new)
         (λ v x. Adds (argument_view S.Names.bytes) items.old.items items.new.items (arguments_of x)) result }
     ensures kept { kept (S.items source.new) ≡ kept (S.items source.old) }
     ensures shorter { Shortens (S.items source.old) (S.items source.new) result }
 {
-    take_mark(source, Mark::OpenParen)?;
+    expect_punctuator(source, Punctuator::OpenParen)?;
     argument(alloc, source, items)?;
     'more: while source.sees_name() {
         argument(alloc, source, items)?;
     }
-    take_mark(source, Mark::CloseParen)?;
+    expect_punctuator(source, Punctuator::CloseParen)?;
     Ok(())
 }
 
@@ -45,13 +45,13 @@ pub fn optional_arguments<S: TokenSource>(
     alloc: Global,
     source: &mut S,
     items: &mut Vec<(<S::Names as Names>::Value, Value<S::Names>)>,
-) -> Result<(), Stop>
+) -> Result<(), ReadError>
     ensures reads { Gives shared (optional (Sym arguments_symbol)) (S.items source.old) (S.items source.new)
         (λ v x. Adds (argument_view S.Names.bytes) items.old.items items.new.items (optional_arguments_of x)) result }
     ensures kept { kept (S.items source.new) ≡ kept (S.items source.old) }
     ensures within { OnOk result (length (S.items source.new).tokens ≤ length (S.items source.old).tokens) }
 {
-    if source.sees_mark(Mark::OpenParen) {
+    if source.sees_punctuator(Punctuator::OpenParen) {
         items.reserve_exact(FEW_ARGUMENTS)?;
         return arguments(alloc, source, items);
     }
@@ -65,14 +65,14 @@ pub fn directive<S: TokenSource>(
     alloc: Global,
     source: &mut S,
     items: &mut Vec<Directive<S::Names>>,
-) -> Result<(), Stop>
+) -> Result<(), ReadError>
     ensures reads { Gives shared (Sym directive_symbol) (S.items source.old) (S.items source.new)
         (λ v x. Adds (directive_view S.Names.bytes) items.old.items items.new.items (directive_of x ∷ [])) result }
     ensures kept { kept (S.items source.new) ≡ kept (S.items source.old) }
     ensures shorter { Shortens (S.items source.old) (S.items source.new) result }
 {
-    let position = take_mark(source, Mark::At)?;
-    let name = name(alloc, source)?;
+    let position = expect_punctuator(source, Punctuator::At)?;
+    let name = expect_name(alloc, source)?;
     let mut arguments = Vec::new(alloc);
     optional_arguments(alloc, source, &mut arguments)?;
     items.reserve(1)?;
@@ -91,16 +91,16 @@ pub fn directives<S: TokenSource>(
     alloc: Global,
     source: &mut S,
     items: &mut Vec<Directive<S::Names>>,
-) -> Result<(), Stop>
+) -> Result<(), ReadError>
     ensures reads { Gives shared (Sym directives_symbol) (S.items source.old) (S.items source.new)
         (λ v x. Adds (directive_view S.Names.bytes) items.old.items items.new.items (directives_of x)) result }
     ensures kept { kept (S.items source.new) ≡ kept (S.items source.old) }
     ensures within { OnOk result (length (S.items source.new).tokens ≤ length (S.items source.old).tokens) }
 {
-    if source.sees_mark(Mark::At) {
+    if source.sees_punctuator(Punctuator::At) {
         items.reserve_exact(1)?;
     }
-    'more: while source.sees_mark(Mark::At) {
+    'more: while source.sees_punctuator(Punctuator::At) {
         directive(alloc, source, items)?;
     }
     Ok(())
@@ -109,13 +109,16 @@ pub fn directives<S: TokenSource>(
 /// `Default = "=" Const`
 #[inline(never)]
 #[tactic(auto, using(crate::proofs::Reading::reading))]
-fn default_value<S: TokenSource>(alloc: Global, source: &mut S) -> Result<Value<S::Names>, Stop>
+fn default_value<S: TokenSource>(
+    alloc: Global,
+    source: &mut S,
+) -> Result<Value<S::Names>, ReadError>
     ensures reads { Gives shared (Sym default_symbol) (S.items source.old) (S.items source.new)
         (λ v x. value_view S.Names.bytes v ≡ default_of x) result }
     ensures kept { kept (S.items source.new) ≡ kept (S.items source.old) }
     ensures shorter { Shortens (S.items source.old) (S.items source.new) result }
 {
-    take_mark(source, Mark::Equals)?;
+    expect_punctuator(source, Punctuator::Equals)?;
     constant(alloc, source)
 }
 
@@ -125,13 +128,13 @@ fn default_value<S: TokenSource>(alloc: Global, source: &mut S) -> Result<Value<
 pub fn optional_default<S: TokenSource>(
     alloc: Global,
     source: &mut S,
-) -> Result<Option<Value<S::Names>>, Stop>
+) -> Result<Option<Value<S::Names>>, ReadError>
     ensures reads { Gives shared (optional (Sym default_symbol)) (S.items source.old) (S.items source.new)
         (λ v x. option_map (value_view S.Names.bytes) v ≡ optional_default_of x) result }
     ensures kept { kept (S.items source.new) ≡ kept (S.items source.old) }
     ensures within { OnOk result (length (S.items source.new).tokens ≤ length (S.items source.old).tokens) }
 {
-    if !source.sees_mark(Mark::Equals) {
+    if !source.sees_punctuator(Punctuator::Equals) {
         return Ok(None);
     }
     Ok(Some(default_value(alloc, source)?))

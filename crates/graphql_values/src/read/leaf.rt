@@ -15,23 +15,23 @@ use crate::tree::Value;
 use graphql_core::common::{
     FloatLiteral, Names, Number, UnquoteError, unquote_block_string, unquote_string,
 };
-use graphql_core::helpers::{Lexeme, Stop, TokenSource};
+use graphql_core::helpers::{Lexeme, ReadError, TokenSource};
 use graphql_core::tokenizer::Kind;
 use std::alloc::{AllocError, Global};
 
 /// The next item, where it is a token of this kind.
-pub fn next_of<S: TokenSource>(source: &S, kind: Kind) -> Result<Lexeme<S::Text>, Stop>
+pub fn next_of<S: TokenSource>(source: &S, kind: Kind) -> Result<Lexeme<S::Text>, ReadError>
     ensures { Shows S.bytes kind (S.items source.now) result }
 {
     match source.peek() {
         Some(token) if token.kind == kind => Ok(token),
-        _ => Err(Stop::Item),
+        _ => Err(ReadError::Item),
     }
 }
 
 /// `Int`
 #[tactic(auto, using(crate::proofs::Reading::reading))]
-pub fn int_value<S: TokenSource>(alloc: Global, source: &mut S) -> Result<Number, Stop>
+pub fn int_value<S: TokenSource>(alloc: Global, source: &mut S) -> Result<Number, ReadError>
     ensures reads { Gives shared (One (any IntValue)) (S.items source.old) (S.items source.new)
         (λ v x. v ≡ int_of (spelling_at x)) result }
     ensures kept { kept (S.items source.new) ≡ kept (S.items source.old) }
@@ -39,7 +39,7 @@ pub fn int_value<S: TokenSource>(alloc: Global, source: &mut S) -> Result<Number
 {
     let token = next_of(source, Kind::IntValue)?;
     let Ok(value) = S::as_str(&token.text).parse::<i64>() else {
-        return Err(Stop::Integer);
+        return Err(ReadError::Integer);
     };
     source.advance();
     Ok(Number::from_i64(value))
@@ -47,7 +47,7 @@ pub fn int_value<S: TokenSource>(alloc: Global, source: &mut S) -> Result<Number
 
 /// `Float`
 #[tactic(auto, using(crate::proofs::Reading::reading))]
-pub fn float_value<S: TokenSource>(alloc: Global, source: &mut S) -> Result<FloatLiteral, Stop>
+pub fn float_value<S: TokenSource>(alloc: Global, source: &mut S) -> Result<FloatLiteral, ReadError>
     ensures reads { Gives shared (One (any FloatValue)) (S.items source.old) (S.items source.new)
         (λ v x. v ≡ spelling_at x) result }
     ensures kept { kept (S.items source.new) ≡ kept (S.items source.old) }
@@ -56,7 +56,7 @@ pub fn float_value<S: TokenSource>(alloc: Global, source: &mut S) -> Result<Floa
     let token = next_of(source, Kind::FloatValue)?;
     let text = String::from_str(alloc, S::as_str(&token.text))?;
     let Ok(value) = FloatLiteral::new(text) else {
-        return Err(Stop::Float);
+        return Err(ReadError::Float);
     };
     source.advance();
     Ok(value)
@@ -64,7 +64,7 @@ pub fn float_value<S: TokenSource>(alloc: Global, source: &mut S) -> Result<Floa
 
 /// `String`
 #[tactic(auto, using(crate::proofs::Reading::reading))]
-pub fn string_value<S: TokenSource>(alloc: Global, source: &mut S) -> Result<String, Stop>
+pub fn string_value<S: TokenSource>(alloc: Global, source: &mut S) -> Result<String, ReadError>
     ensures reads { Gives shared (One (any StringValue)) (S.items source.old) (S.items source.new)
         (λ v x. string_bytes v ≡ string_of (spelling_at x)) result }
     ensures kept { kept (S.items source.new) ≡ kept (S.items source.old) }
@@ -76,14 +76,17 @@ pub fn string_value<S: TokenSource>(alloc: Global, source: &mut S) -> Result<Str
             source.advance();
             Ok(value)
         }
-        Err(UnquoteError::BadEscape) => Err(Stop::Escape),
-        Err(UnquoteError::OutOfMemory) => Err(Stop::Memory),
+        Err(UnquoteError::BadEscape) => Err(ReadError::Escape),
+        Err(UnquoteError::OutOfMemory) => Err(ReadError::Memory),
     }
 }
 
 /// `Block`
 #[tactic(auto, using(crate::proofs::Reading::reading))]
-pub fn block_string_value<S: TokenSource>(alloc: Global, source: &mut S) -> Result<String, Stop>
+pub fn block_string_value<S: TokenSource>(
+    alloc: Global,
+    source: &mut S,
+) -> Result<String, ReadError>
     ensures reads { Gives shared (One (any BlockString)) (S.items source.old) (S.items source.new)
         (λ v x. string_bytes v ≡ block_string_of (spelling_at x)) result }
     ensures kept { kept (S.items source.new) ≡ kept (S.items source.old) }
@@ -107,7 +110,7 @@ fn is_enum_word(text: &str) -> bool
 pub fn enum_value<S: TokenSource>(
     alloc: Global,
     source: &mut S,
-) -> Result<<S::Names as Names>::Value, Stop>
+) -> Result<<S::Names as Names>::Value, ReadError>
     ensures reads { Gives shared (Sym enum_name_symbol) (S.items source.old) (S.items source.new)
         (λ v x. S.Names.bytes v ≡ enum_name_of x) result }
     ensures kept { kept (S.items source.new) ≡ kept (S.items source.old) }
@@ -115,7 +118,7 @@ pub fn enum_value<S: TokenSource>(
 {
     let token = next_of(source, Kind::Name)?;
     if !is_enum_word(S::as_str(&token.text)) {
-        return Err(Stop::Item);
+        return Err(ReadError::Item);
     }
     let name = S::make_name(alloc, token.text)?;
     source.advance();
@@ -136,14 +139,17 @@ fn word_value<S: TokenSource>(alloc: Global, text: S::Text) -> Result<Value<S::N
 
 /// `Plain = "true" | "false" | "null" | EnumName | Int | Float | String | Block`
 #[tactic(auto, using(crate::proofs::Reading::reading))]
-pub fn plain_value<S: TokenSource>(alloc: Global, source: &mut S) -> Result<Value<S::Names>, Stop>
+pub fn plain_value<S: TokenSource>(
+    alloc: Global,
+    source: &mut S,
+) -> Result<Value<S::Names>, ReadError>
     ensures reads { Gives shared (Sym plain_symbol) (S.items source.old) (S.items source.new)
         (λ v x. value_view S.Names.bytes v ≡ plain_of x) result }
     ensures kept { kept (S.items source.new) ≡ kept (S.items source.old) }
     ensures shorter { Shortens (S.items source.old) (S.items source.new) result }
 {
     let Some(token) = source.peek() else {
-        return Err(Stop::Item);
+        return Err(ReadError::Item);
     };
     match token.kind {
         Kind::Name => {
@@ -155,6 +161,6 @@ pub fn plain_value<S: TokenSource>(alloc: Global, source: &mut S) -> Result<Valu
         Kind::FloatValue => Ok(Value::Float(float_value(alloc, source)?)),
         Kind::StringValue => Ok(Value::String(string_value(alloc, source)?)),
         Kind::BlockString => Ok(Value::String(block_string_value(alloc, source)?)),
-        Kind::Punctuator => Err(Stop::Item),
+        Kind::Punctuator => Err(ReadError::Item),
     }
 }

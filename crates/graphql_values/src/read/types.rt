@@ -2,29 +2,29 @@
 ghost use Rattle.std.specs.Prelude.{◌≡◌, ◌≤◌, OnOk, length, codes};
 ghost use Rattle.graphql_grammar.specs.Trees.{Sym, optional};
 ghost use Rattle.graphql_values.specs.Grammar.{shared, type_symbol, punctuator};
-ghost use Rattle.graphql_values.specs.Meanings.{type_of, marked};
+ghost use Rattle.graphql_values.specs.Meanings.{type_of, optional_non_null};
 ghost use Rattle.graphql_values.specs.ValueViews.{type_view};
 ghost use Rattle.graphql_core.specs.Source.{kept};
 ghost use Rattle.graphql_values.specs.steps.Answers.{Gives, Shortens};
 
 use crate::tree::Type;
-use graphql_core::helpers::{Mark, Stop, TokenSource, name, take_mark};
+use graphql_core::helpers::{Punctuator, ReadError, TokenSource, expect_name, expect_punctuator};
 use std::alloc::Global;
 
 /// `"!"?`: the type before it, without `null` or as it is.
 #[tactic(auto, using(crate::proofs::Reading::reading))]
-fn marked<S: TokenSource>(
+fn optional_non_null<S: TokenSource>(
     alloc: Global,
     source: &mut S,
     inner: Type<S::Names>,
-) -> Result<Type<S::Names>, Stop>
+) -> Result<Type<S::Names>, ReadError>
     ensures reads { Gives shared (optional (punctuator (codes "!"))) (S.items source.old) (S.items source.new)
-        (λ v x. type_view S.Names.bytes v ≡ marked x (type_view S.Names.bytes inner)) result }
+        (λ v x. type_view S.Names.bytes v ≡ optional_non_null x (type_view S.Names.bytes inner)) result }
     ensures kept { kept (S.items source.new) ≡ kept (S.items source.old) }
     ensures within { OnOk result (length (S.items source.new).tokens ≤ length (S.items source.old).tokens) }
 {
-    if source.sees_mark(Mark::Bang) {
-        take_mark(source, Mark::Bang)?;
+    if source.sees_punctuator(Punctuator::Bang) {
+        expect_punctuator(source, Punctuator::Bang)?;
         return Ok(Type::NonNullType(Box::new(alloc, inner)?));
     }
     Ok(inner)
@@ -32,18 +32,21 @@ fn marked<S: TokenSource>(
 
 /// `Type = Name "!"? | "[" Type "]" "!"?`
 #[tactic(auto, using(crate::proofs::Reading::reading))]
-pub fn parse_type<S: TokenSource>(alloc: Global, source: &mut S) -> Result<Type<S::Names>, Stop>
+pub fn type_reference<S: TokenSource>(
+    alloc: Global,
+    source: &mut S,
+) -> Result<Type<S::Names>, ReadError>
     ensures reads { Gives shared (Sym type_symbol) (S.items source.old) (S.items source.new)
         (λ v x. type_view S.Names.bytes v ≡ type_of x) result }
     ensures kept { kept (S.items source.new) ≡ kept (S.items source.old) }
     ensures shorter { Shortens (S.items source.old) (S.items source.new) result }
 {
-    if source.sees_mark(Mark::OpenBracket) {
-        take_mark(source, Mark::OpenBracket)?;
-        let items = parse_type(alloc, source)?;
-        take_mark(source, Mark::CloseBracket)?;
-        return marked(alloc, source, Type::ListType(Box::new(alloc, items)?));
+    if source.sees_punctuator(Punctuator::OpenBracket) {
+        expect_punctuator(source, Punctuator::OpenBracket)?;
+        let items = type_reference(alloc, source)?;
+        expect_punctuator(source, Punctuator::CloseBracket)?;
+        return optional_non_null(alloc, source, Type::ListType(Box::new(alloc, items)?));
     }
-    let name = name(alloc, source)?;
-    marked(alloc, source, Type::NamedType(name))
+    let name = expect_name(alloc, source)?;
+    optional_non_null(alloc, source, Type::NamedType(name))
 }

@@ -13,7 +13,7 @@ ghost use Rattle.graphql_values.specs.steps.Answers.{Gives, Adds, Shortens};
 use crate::read::leaf::plain_value;
 use crate::tree::Value;
 use graphql_core::common::Names;
-use graphql_core::helpers::{Mark, Stop, TokenSource, name, take_mark};
+use graphql_core::helpers::{Punctuator, ReadError, TokenSource, expect_name, expect_punctuator};
 use std::alloc::Global;
 use std::collections::BTreeMap;
 
@@ -27,7 +27,7 @@ enum Sort {
 }
 
 /// `Value = "$" Name | Plain | "[" Value* "]" | "{" Argument* "}"`
-pub fn value<S: TokenSource>(alloc: Global, source: &mut S) -> Result<Value<S::Names>, Stop>
+pub fn value<S: TokenSource>(alloc: Global, source: &mut S) -> Result<Value<S::Names>, ReadError>
     ensures reads { Gives shared (Sym value_symbol) (S.items source.old) (S.items source.new)
         (λ v x. value_view S.Names.bytes v ≡ value_of x) result }
     ensures kept { kept (S.items source.new) ≡ kept (S.items source.old) }
@@ -37,7 +37,7 @@ pub fn value<S: TokenSource>(alloc: Global, source: &mut S) -> Result<Value<S::N
 }
 
 /// `Const = Plain | "[" Const* "]" | "{" ConstPair* "}"`
-pub fn constant<S: TokenSource>(alloc: Global, source: &mut S) -> Result<Value<S::Names>, Stop>
+pub fn constant<S: TokenSource>(alloc: Global, source: &mut S) -> Result<Value<S::Names>, ReadError>
     ensures reads { Gives shared (Sym const_symbol) (S.items source.old) (S.items source.new)
         (λ v x. value_view S.Names.bytes v ≡ const_of x) result }
     ensures kept { kept (S.items source.new) ≡ kept (S.items source.old) }
@@ -52,14 +52,14 @@ pub fn argument<S: TokenSource>(
     alloc: Global,
     source: &mut S,
     items: &mut Vec<(<S::Names as Names>::Value, Value<S::Names>)>,
-) -> Result<(), Stop>
+) -> Result<(), ReadError>
     ensures reads { Gives shared (Sym argument_symbol) (S.items source.old) (S.items source.new)
         (λ v x. Adds (argument_view S.Names.bytes) items.old.items items.new.items (argument_of x ∷ [])) result }
     ensures kept { kept (S.items source.new) ≡ kept (S.items source.old) }
     ensures shorter { Shortens (S.items source.old) (S.items source.new) result }
 {
-    let name = name(alloc, source)?;
-    take_mark(source, Mark::Colon)?;
+    let name = expect_name(alloc, source)?;
+    expect_punctuator(source, Punctuator::Colon)?;
     let value = value(alloc, source)?;
     items.reserve(1)?;
     items.push_reserved((name, value));
@@ -71,21 +71,21 @@ fn sees_variable<S: TokenSource>(source: &S, sort: Sort) -> bool
     ensures { result ≡ begins_variable sort (S.items source.now) }
 {
     match sort {
-        Sort::Value => source.sees_mark(Mark::Dollar),
+        Sort::Value => source.sees_punctuator(Punctuator::Dollar),
         Sort::Constant => false,
     }
 }
 
 /// `"$" Name`
 #[tactic(auto, using(crate::proofs::Reading::reading))]
-fn variable<S: TokenSource>(alloc: Global, source: &mut S) -> Result<Value<S::Names>, Stop>
+fn variable<S: TokenSource>(alloc: Global, source: &mut S) -> Result<Value<S::Names>, ReadError>
     ensures reads { Gives shared variable_rule (S.items source.old) (S.items source.new)
         (λ v x. value_view S.Names.bytes v ≡ value_of (as_variable x)) result }
     ensures kept { kept (S.items source.new) ≡ kept (S.items source.old) }
     ensures shorter { Shortens (S.items source.old) (S.items source.new) result }
 {
-    take_mark(source, Mark::Dollar)?;
-    Ok(Value::Variable(name(alloc, source)?))
+    expect_punctuator(source, Punctuator::Dollar)?;
+    Ok(Value::Variable(expect_name(alloc, source)?))
 }
 
 /// `Value`, of constants `Const`.
@@ -95,7 +95,7 @@ fn value_of_sort<S: TokenSource>(
     alloc: Global,
     source: &mut S,
     sort: Sort,
-) -> Result<Value<S::Names>, Stop>
+) -> Result<Value<S::Names>, ReadError>
     ensures reads { Gives shared (Sym (symbol_of sort)) (S.items source.old) (S.items source.new)
         (λ v x. value_view S.Names.bytes v ≡ tree_of sort x) result }
     ensures kept { kept (S.items source.new) ≡ kept (S.items source.old) }
@@ -104,10 +104,10 @@ fn value_of_sort<S: TokenSource>(
     if sees_variable(source, sort) {
         return variable(alloc, source);
     }
-    if source.sees_mark(Mark::OpenBracket) {
+    if source.sees_punctuator(Punctuator::OpenBracket) {
         return list(alloc, source, sort);
     }
-    if source.sees_mark(Mark::OpenBrace) {
+    if source.sees_punctuator(Punctuator::OpenBrace) {
         return object(alloc, source, sort);
     }
     plain_value(alloc, source)
@@ -116,18 +116,22 @@ fn value_of_sort<S: TokenSource>(
 /// `"[" Value* "]"`, of constants `"[" Const* "]"`
 #[cycle(values)]
 #[tactic(auto, using(crate::proofs::Reading::reading))]
-fn list<S: TokenSource>(alloc: Global, source: &mut S, sort: Sort) -> Result<Value<S::Names>, Stop>
+fn list<S: TokenSource>(
+    alloc: Global,
+    source: &mut S,
+    sort: Sort,
+) -> Result<Value<S::Names>, ReadError>
     ensures reads { Gives shared (list_rule sort) (S.items source.old) (S.items source.new)
         (λ v x. value_view S.Names.bytes v ≡ tree_of sort (as_list sort x)) result }
     ensures kept { kept (S.items source.new) ≡ kept (S.items source.old) }
     ensures shorter { Shortens (S.items source.old) (S.items source.new) result }
 {
-    take_mark(source, Mark::OpenBracket)?;
+    expect_punctuator(source, Punctuator::OpenBracket)?;
     let mut items = Vec::new(alloc);
-    'more: while !source.sees_mark(Mark::CloseBracket) {
+    'more: while !source.sees_punctuator(Punctuator::CloseBracket) {
         items.push(value_of_sort(alloc, source, sort)?)?;
     }
-    take_mark(source, Mark::CloseBracket)?;
+    expect_punctuator(source, Punctuator::CloseBracket)?;
     Ok(Value::List(items))
 }
 
@@ -138,18 +142,18 @@ fn object<S: TokenSource>(
     alloc: Global,
     source: &mut S,
     sort: Sort,
-) -> Result<Value<S::Names>, Stop>
+) -> Result<Value<S::Names>, ReadError>
     ensures reads { Gives shared (object_rule sort) (S.items source.old) (S.items source.new)
         (λ v x. value_view S.Names.bytes v ≡ tree_of sort (as_object sort x)) result }
     ensures kept { kept (S.items source.new) ≡ kept (S.items source.old) }
     ensures shorter { Shortens (S.items source.old) (S.items source.new) result }
 {
-    take_mark(source, Mark::OpenBrace)?;
+    expect_punctuator(source, Punctuator::OpenBrace)?;
     let mut fields = BTreeMap::new(alloc);
     'more: while source.sees_name() {
         member(alloc, source, sort, &mut fields)?;
     }
-    take_mark(source, Mark::CloseBrace)?;
+    expect_punctuator(source, Punctuator::CloseBrace)?;
     Ok(Value::Object(fields))
 }
 
@@ -161,15 +165,15 @@ fn member<S: TokenSource>(
     source: &mut S,
     sort: Sort,
     fields: &mut BTreeMap<<S::Names as Names>::Value, Value<S::Names>>,
-) -> Result<(), Stop>
+) -> Result<(), ReadError>
     ensures reads { Gives shared (Sym (pair_symbol_of sort)) (S.items source.old) (S.items source.new)
         (λ v x. members_view S.Names.bytes fields.new.entries ≡ put (pair_of sort x).0 (pair_of sort x).1
         (members_view S.Names.bytes fields.old.entries)) result }
     ensures kept { kept (S.items source.new) ≡ kept (S.items source.old) }
     ensures shorter { Shortens (S.items source.old) (S.items source.new) result }
 {
-    let name = name(alloc, source)?;
-    take_mark(source, Mark::Colon)?;
+    let name = expect_name(alloc, source)?;
+    expect_punctuator(source, Punctuator::Colon)?;
     let value = value_of_sort(alloc, source, sort)?;
     drop(fields.insert(name, value)?);
     Ok(())

@@ -9,7 +9,7 @@ use std::collections::BTreeMap;
 use std::default::Emptied;
 
 // How a copy of a value, with names of `N`, has names of `M`.
-trait Copying<N: Names, M: Names> {
+trait CopyNames<N: Names, M: Names> {
     // The same name.
     fn name(&self, name: &N::Value) -> Result<M::Value, AllocError>
         ensures { IfOk result (λ v. M.bytes v ≡ N.bytes name.now) };
@@ -26,7 +26,7 @@ trait Copying<N: Names, M: Names> {
 #[derive(Drop)]
 struct Cloning;
 
-impl<N: Names> Copying<N, N> for Cloning {
+impl<N: Names> CopyNames<N, N> for Cloning {
     fn name(&self, name: &N::Value) -> Result<N::Value, AllocError> {
         name.clone()
     }
@@ -45,7 +45,7 @@ struct Owning {
     alloc: Global,
 }
 
-impl<N: Names> Copying<N, String> for Owning {
+impl<N: Names> CopyNames<N, String> for Owning {
     fn name(&self, name: &N::Value) -> Result<String, AllocError> {
         String::from_str(self.alloc, N::view(name))
     }
@@ -78,7 +78,7 @@ impl<N: Names> Value<N> {
 }
 
 #[cycle(copy)]
-fn copy<N: Names, M: Names, C: Copying<N, M>>(
+fn copy<N: Names, M: Names, C: CopyNames<N, M>>(
     copying: &C,
     value: &Value<N>,
 ) -> Result<Value<M>, AllocError>
@@ -98,7 +98,7 @@ fn copy<N: Names, M: Names, C: Copying<N, M>>(
 }
 
 #[cycle(copy)]
-fn copy_items<N: Names, M: Names, C: Copying<N, M>>(
+fn copy_items<N: Names, M: Names, C: CopyNames<N, M>>(
     copying: &C,
     items: &Vec<Value<N>>,
 ) -> Result<Vec<Value<M>>, AllocError>
@@ -112,7 +112,7 @@ fn copy_items<N: Names, M: Names, C: Copying<N, M>>(
 }
 
 #[cycle(copy)]
-fn copy_members<N: Names, M: Names, C: Copying<N, M>>(
+fn copy_members<N: Names, M: Names, C: CopyNames<N, M>>(
     copying: &C,
     members: &BTreeMap<N::Value, Value<N>>,
 ) -> Result<BTreeMap<M::Value, Value<M>>, AllocError>

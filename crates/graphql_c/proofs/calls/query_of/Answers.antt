@@ -15,7 +15,7 @@ returns-in_default-clause-err g c =
 
 pub returns-in-Err-clause-err : goal.returns-in-Err-clause-err
 returns-in-Err-clause-err g c =
-    let parsed = c.parse_query.ensures in
+    let parsed = c.parse_query.ensures.parses in
     let none = has_none (IsDocumentOf queries) queries c.in-Ok.text.now c.in-Err.error (IfErr-at_err _ c.in-Err.is parsed.refused)
     (λ d short has. subst (AnswersUnlessMemory _ d) c.in-Err.is (parsed.complete d short has)) in
     let is = c.refused.ensures in

@@ -1,8 +1,10 @@
-use Rattle.std.proofs.Common.{sym, subst, arith}
-use Rattle.graphql_core.specs.Refusal.{Refusal, refusal_of}
+use Rattle.std.proofs.Common.{sym, ◌∙◌, subst, arith}
+use Rattle.graphql_core.specs.Refusal.{Refusal}
 use Rattle.graphql_core.specs.Source.{Items}
+use Rattle.graphql_core.proofs.Refusals.{as_error}
+use Rattle.graphql_values.specs.Document.{AnswersUnlessMemory}
 use Rattle.graphql_values.specs.Faults.{IsRefusalOf, past_bound}
-use Rattle.graphql_values.proofs.Whole.{from_stream, exit, refusal, answers_unless_memory}
+use Rattle.graphql_values.proofs.Whole.{from_stream, exit, refusal}
 use Rattle.graphql_values.proofs.Faults.{one_each}
 use Rattle.graphql_query.specs.FirstDefinition.{one_definition, BeginsWith}
 use Rattle.graphql_query.proofs.FirstDefinition.{readable_one, none_begins_another}
@@ -19,7 +21,7 @@ returns-then-source-gt-MAX_LENGTH-clause-one g c = one_first c.args.source.now
 
 pub returns-then-source-gt-MAX_LENGTH-clause-refused : goal.returns-then-source-gt-MAX_LENGTH-clause-refused
 returns-then-source-gt-MAX_LENGTH-clause-refused g c =
-    subst (λ (r : Refusal). IsRefusalOf one_definition c.args.source.now r) (sym c.text_too_long.ensures) (past_bound (omega arith))
+    subst (λ (r : Refusal). IsRefusalOf one_definition c.args.source.now r) (sym (c.from.ensures ∙ c.text_too_long.ensures)) (past_bound (omega arith))
 
 pub returns-then-source-gt-MAX_LENGTH-clause-one_fault : goal.returns-then-source-gt-MAX_LENGTH-clause-one_fault
 returns-then-source-gt-MAX_LENGTH-clause-one_fault g c = one_each one_definition readable_one c.args.source.now
@@ -31,21 +33,21 @@ returns-in_err-definition-clause-one g c = one_first c.args.source.now
 
 pub returns-in_err-definition-clause-complete : goal.returns-in_err-definition-clause-complete
 returns-in_err-definition-clause-complete g c r bound (items, has, x, others, begins, means, rest) =
-    answers_unless_memory _ r _ _ c.from_residual.ensures.1 (c.in_err-definition.ensures.complete x others
+    subst (AnswersUnlessMemory _ r) (as_error _ _ c.from_residual.ensures.1) (c.in_err-definition.ensures.complete x others
     (subst (λ (i : Items). BeginsWith i.tokens x others) (sym (c.new-cursor.ensures items has)) begins))
 
 pub returns-in_err-definition-clause-earlier : goal.returns-in_err-definition-clause-earlier
 returns-in_err-definition-clause-earlier g c r bound h =
     let (none, (items, has, x, others, begins, means, rest)) = earlier_definition c.args.source.now r h in (
       none,
-      answers_unless_memory _ r _ _ c.from_residual.ensures.1 (c.in_err-definition.ensures.complete x others
+      subst (AnswersUnlessMemory _ r) (as_error _ _ c.from_residual.ensures.1) (c.in_err-definition.ensures.complete x others
           (subst (λ (i : Items). BeginsWith i.tokens x others) (sym (c.new-cursor.ensures items has)) begins)),
     )
 
 pub returns-in_err-definition-clause-refused : goal.returns-in_err-definition-clause-refused
 returns-in_err-definition-clause-refused g c =
     let e = c.in_err-definition.field-0.0 in
-    exit _ (refusal_of e) _ c.from_residual.ensures.1
+    exit _ e _ c.from_residual.ensures.1
     (refusal one_definition c.args.source.now _ e (omega arith) (from_stream _ _ c.new-cursor.ensures) c.in_err-definition.ensures.refused)
 
 pub returns-in_err-definition-clause-one_fault : goal.returns-in_err-definition-clause-one_fault

@@ -4,8 +4,8 @@ use Rattle.graphql_query.proofs.consume.first_definition.Goals as goal
 pub returns-in-Err-clause-complete : goal.returns-in-Err-clause-complete
 returns-in-Err-clause-complete g c x others h =
     memory_only (g.S.TokenSource.items c.args.source.now) (g.S.TokenSource.items c.definition.new.source)
-    c.in-Err.stop _ x others c.in-Err.ensures.reads c.fault_of.ensures h
+    c.in-Err.error _ x others c.in-Err.ensures.reads c.fault_of.ensures h
 
 pub returns-in-Err-clause-refused : goal.returns-in-Err-clause-refused
 returns-in-Err-clause-refused g c =
-    least_refusal _ (g.S.TokenSource.items c.definition.new.source) c.in-Err.stop _ c.in-Err.ensures.reads c.fault_of.ensures c.in-Err.ensures.kept
+    least_refusal _ (g.S.TokenSource.items c.definition.new.source) c.in-Err.error _ c.in-Err.ensures.reads c.fault_of.ensures c.in-Err.ensures.kept

@@ -11,14 +11,16 @@ use Rattle.graphql_query.proofs.document.parse_query_from.Goals as goal
 pub returns-in_err-read-clause-parses : goal.returns-in_err-read-clause-parses
 returns-in_err-read-clause-parses g c =
     let from = c.over-cursor.ensures.items ∙ ap items_of_stream c.replace.ensures.value in
-    stream_unparsed queries readable _ c.args.stream.now c.into_stream.result c.over-cursor.result c.read_document-read.new.source from c.in_err-read.ensures.kept c.into_stream.ensures.within _ _
-    (record { derived = tt; complete = c.in_err-read.ensures.complete; refused = c.in_err-read.ensures.refused }) c.from_residual.ensures.1
+    stream_unparsed queries readable _ c.args.stream.now c.into_stream.result c.over-cursor.result c.read_document-read.new.source from
+    c.in_err-read.ensures.kept c.into_stream.ensures.within c.into_stream.ensures.all _ _
+    c.in_err-read.ensures.reads c.from_residual.ensures.1
 
 pub returns-clause-parses : goal.returns-clause-parses
 returns-clause-parses g c =
     let from = c.over-cursor.ensures.items ∙ ap items_of_stream c.replace.ensures.value in
-    stream_parsed queries readable _ c.args.stream.now c.into_stream.result c.over-cursor.result c.read_document-read.new.source from c.in_ok-read.ensures.kept c.into_stream.ensures.within _
-    (record { derived = c.in_ok-read.ensures.derived; complete = λ d h. tt; refused = tt }) c.into_stream.ensures.all c.in_ok-read.ensures.end
+    stream_parsed queries readable _ c.args.stream.now c.into_stream.result c.over-cursor.result c.read_document-read.new.source from
+    c.in_ok-read.ensures.kept c.into_stream.ensures.within c.into_stream.ensures.all _
+    c.in_ok-read.ensures.reads c.in_ok-read.ensures.end
 
 pub returns-clause-printable : goal.returns-clause-printable
 returns-clause-printable g c =
@@ -26,4 +28,4 @@ returns-clause-printable g c =
     let (text, are) = rw c.replace.ensures.value at c.over-cursor.ensures.rest in
     let d = document_view g.S.Names.bytes c.in_ok-read.field-0 in
     items_printable (split c.args.stream.now.items) d (nests_open c.args.stream.now.items text are c.requires)
-    (subst (λ (k : Items). IsDocument k d) from c.in_ok-read.ensures.derived)
+    (subst (λ (k : Items). IsDocument k d) from c.in_ok-read.ensures.reads.derived)

@@ -7,6 +7,5 @@ use Rattle.graphql_query.proofs.document.read_spans.Goals as goal
 
 pub returns : goal.returns
 returns g c items has =
-    let read = c.read_document.ensures in
     subst (λ (i : Items). ReadsDocument queries (document_view g.S.Names.bytes) i c.read_document.result)
-    (c.source-tokens.ensures ∙ c.in_ok-spans.ensures items has) (record { derived = read.derived; complete = read.complete; refused = read.refused })
+    (c.source-tokens.ensures ∙ c.in_ok-spans.ensures items has) c.read_document.ensures.reads

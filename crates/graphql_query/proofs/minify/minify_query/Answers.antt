@@ -1,8 +1,8 @@
-use Rattle.std.proofs.Common.{◌≡◌, List, ℕ, string_bytes, length, sym, ap, subst, arith}
+use Rattle.std.proofs.Common.{◌≡◌, ◌∙◌, List, ℕ, string_bytes, length, sym, ap, subst, arith}
 use Rattle.graphql_core.specs.Minified.{IsMinified}
 use Rattle.graphql_core.proofs.Minifying.{one_minified}
 use Rattle.graphql_query_tree.specs.Document.{queries, IsDocumentOf, IsReadBack}
-use Rattle.graphql_core.specs.Refusal.{Refusal, refusal_of}
+use Rattle.graphql_core.specs.Refusal.{Refusal}
 use Rattle.graphql_query.specs.Minifying.{IsMinifyRefusalOf, past_bound}
 use Rattle.graphql_values.proofs.Unplaced.{minified_document, source_document}
 use Rattle.graphql_values.proofs.Whole.{exit}
@@ -13,7 +13,7 @@ use Rattle.graphql_query.proofs.minify.minify_query.Goals as goal
 pub returns-then-len-gt-MAX_LENGTH-clause-refused : goal.returns-then-len-gt-MAX_LENGTH-clause-refused
 returns-then-len-gt-MAX_LENGTH-clause-refused c =
     let source : List ℕ = string_bytes c.args.source in
-    subst (λ (r : Refusal). IsMinifyRefusalOf source r) (sym c.text_too_long.ensures) (past_bound (omega arith))
+    subst (λ (r : Refusal). IsMinifyRefusalOf source r) (sym (c.from.ensures ∙ c.text_too_long.ensures)) (past_bound (omega arith))
 
 pub returns-in_err-text-clause-complete : goal.returns-in_err-text-clause-complete
 returns-in_err-text-clause-complete c text bound is =
@@ -26,8 +26,8 @@ returns-in_err-text-clause-refused c =
     let same : c.deref.result.now ≡ string_bytes c.args.source = c.deref.ensures in
     let e = c.in_err-text.field-0.0 in
     let source : List ℕ = string_bytes c.args.source in
-    exit _ (refusal_of e) (IsMinifyRefusalOf source) c.from_residual.ensures.1
-    (subst (λ (t : List ℕ). IsMinifyRefusalOf t (refusal_of e)) same
+    exit _ e (IsMinifyRefusalOf source) c.from_residual.ensures.1
+    (subst (λ (t : List ℕ). IsMinifyRefusalOf t e) same
     (refusal c.deref.result.now e (omega (arith, ap length same)) c.in_err-text.ensures.refused))
 
 pub returns-clause-complete : goal.returns-clause-complete

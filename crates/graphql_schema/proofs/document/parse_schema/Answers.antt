@@ -1,4 +1,4 @@
-use Rattle.std.proofs.Common.{arith}
+use Rattle.std.proofs.Common.{◌∙◌, arith}
 use Rattle.graphql_lexer.specs.Items.{start}
 use Rattle.graphql_lexer.specs.steps.Cut.{items}
 use Rattle.graphql_lexer.proofs.OneCut.{has_items}
@@ -13,7 +13,7 @@ use Rattle.graphql_schema.proofs.Printable.{printable}
 use Rattle.graphql_schema.proofs.document.parse_schema.Goals as goal
 
 pub returns-then-source-gt-MAX_LENGTH-clause-parses : goal.returns-then-source-gt-MAX_LENGTH-clause-parses
-returns-then-source-gt-MAX_LENGTH-clause-parses g c = unread schemas readable _ _ _ (omega arith) c.text_too_long.ensures
+returns-then-source-gt-MAX_LENGTH-clause-parses g c = unread schemas readable _ _ _ (omega arith) (c.from.ensures ∙ c.text_too_long.ensures)
 
 pub returns-in_err-read_text-clause-parses : goal.returns-in_err-read_text-clause-parses
 returns-in_err-read_text-clause-parses g c =

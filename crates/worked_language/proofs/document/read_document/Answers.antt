@@ -1,4 +1,4 @@
-use Rattle.graphql_values.proofs.Dialect.{refl, read_whole, read_stopped, read_refused, read_left}
+use Rattle.graphql_values.proofs.Dialect.{read_whole, read_stopped, read_refused, read_left}
 use Rattle.worked_language.specs.Language.{worked, refusals}
 use Rattle.worked_language.proofs.Readable.{readable}
 use Rattle.worked_language.proofs.document.read_document.Goals as goal
@@ -6,20 +6,21 @@ use Rattle.worked_language.proofs.document.read_document.Goals as goal
 pub returns-in-Err-Stopped-clause-reads : goal.returns-in-Err-Stopped-clause-reads
 returns-in-Err-Stopped-clause-reads g c =
     let e = c.in-Err-Stopped in
-    read_stopped worked readable refusals _ _ _ _ e.stop _ (rw e.field-0-is at e.ensures.reads) e.ensures.kept c.fault_of.ensures
+    let reads = rw e.field-0-is at e.ensures.reads in
+    read_stopped worked readable _ _ _ e.ensures.kept e.error _ reads.gives c.fault_of.ensures
 
 pub returns-in-Err-Refused-clause-reads : goal.returns-in-Err-Refused-clause-reads
 returns-in-Err-Refused-clause-reads g c =
     let e = c.in-Err-Refused in
-    read_refused worked readable refusals _ _ _ _ e.position _ _ (rw e.field-0-is at e.ensures.reads) refl
+    read_refused worked readable _ _ _ e.ensures.kept refusals _ e.position _ (rw e.field-0-is at e.ensures.reads) c.at.ensures
 
 pub returns-then-is_at_end-clause-reads : goal.returns-then-is_at_end-clause-reads
 returns-then-is_at_end-clause-reads g c =
-    read_whole worked readable refusals _ _ _ _ _ _ _ c.in-Ok.ensures.reads c.in-Ok.ensures.kept c.is_at_end.ensures c.if-is_at_end.true (λ x is. is)
+    read_whole worked readable _ _ _ c.in-Ok.ensures.kept _ _ c.in-Ok.ensures.reads.gives c.is_at_end.ensures c.if-is_at_end.true
 
 pub returns-else-is_at_end-clause-reads : goal.returns-else-is_at_end-clause-reads
 returns-else-is_at_end-clause-reads g c =
-    read_left worked readable refusals _ _ _ _ _ _ _ c.in-Ok.ensures.reads c.in-Ok.ensures.kept c.is_at_end.ensures c.if-is_at_end.false c.fault.ensures
+    read_left worked readable _ _ _ c.in-Ok.ensures.kept _ _ _ c.in-Ok.ensures.reads.gives c.is_at_end.ensures c.if-is_at_end.false c.fault.ensures
 
 pub returns-then-is_at_end-clause-end : goal.returns-then-is_at_end-clause-end
 returns-then-is_at_end-clause-end g c = c.is_at_end.ensures.0 c.if-is_at_end.true

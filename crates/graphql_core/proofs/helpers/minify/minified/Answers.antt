@@ -11,19 +11,19 @@ same_items text all only items has = ap split (sym (only items has))
 
 pub returns-clause-minified : goal.returns-clause-minified
 returns-clause-minified c =
-    ok_minified c.args.source.now _ (same_items c.args.source.now c.new-stream.result.items c.new-stream.ensures.only) c.spaced.result c.spaced.ensures.spaced
+    ok_minified c.args.source.now _ (same_items c.args.source.now c.new.result c.new.ensures.only) c.spaced.result c.spaced.ensures.spaced
     c.spaced.ensures.end
 
 pub returns-clause-tokens : goal.returns-clause-tokens
 returns-clause-tokens c =
-    ok_tokens c.args.source.now _ (same_items c.args.source.now c.new-stream.result.items c.new-stream.ensures.only) c.spaced.result c.spaced.ensures.spaced
+    ok_tokens c.args.source.now _ (same_items c.args.source.now c.new.result c.new.ensures.only) c.spaced.result c.spaced.ensures.spaced
     c.spaced.ensures.end
 
 pub returns-clause-again : goal.returns-clause-again
 returns-clause-again c =
-    ok_again c.args.source.now _ (same_items c.args.source.now c.new-stream.result.items c.new-stream.ensures.only) c.spaced.result c.spaced.ensures.spaced
+    ok_again c.args.source.now _ (same_items c.args.source.now c.new.result c.new.ensures.only) c.spaced.result c.spaced.ensures.spaced
     c.spaced.ensures.end
 
 pub returns-clause-refused : goal.returns-clause-refused
 returns-clause-refused c items has =
-    subst (λ is. IfErr c.spaced.result (IsBadPlaceOf (split is))) (sym (c.new-stream.ensures.only items has)) c.spaced.ensures.refused
+    subst (λ is. IfErr c.spaced.result (IsBadPlaceOf (split is))) (sym (c.new.ensures.only items has)) c.spaced.ensures.refused

@@ -1,13 +1,12 @@
 use Rattle.std.proofs.Common.{◌+◌, List, Some, Ok, length, map, refl, sym, ap, ◌∙◌, arith}
 use Rattle.std.proofs.lemmas.List.Elements.{All-nil, All-same, All-push}
 use Rattle.graphql_lexer.specs.declared.position.Pos.{Pos}
-use Rattle.graphql_lexer.specs.Items.{Stream}
 use Rattle.graphql_lexer.specs.Stream.{NextItem, next_place}
 use Rattle.graphql_core.specs.declared.helpers.span.Span.{Span}
 use Rattle.graphql_core.specs.Source.{split}
 use Rattle.graphql_core.specs.steps.Spans.{Marks, span_token}
 use Rattle.graphql_core.proofs.TokenPlaces.{tokens_stand}
-use Rattle.graphql_core.proofs.SpanItems.{before, next_of, next_stands, marks, is_token, before_more}
+use Rattle.graphql_core.proofs.SpanItems.{before, token_some, next_of, next_stands, marks, is_token, before_more}
 use Rattle.graphql_core.proofs.helpers.spans.cut.Given.{Over}
 use Rattle.graphql_core.proofs.helpers.spans.cut.Goals as goal
 use Rattle.graphql_core.proofs.helpers.spans.cut.Goals.{in-Some, in-None+in-Ok-Some}
@@ -17,7 +16,7 @@ items-init g c =
     let number = g.W.Width.number in
     let text = c.args.text.now in
     let none = c.in_ok-spans.ensures.items in
-    let stream = c.new-stream.result.items in
+    let stream = c.new-stream.result in
     record {
       marks = All-same (Marks number text) _ _ none (All-nil (Marks number text));
       standing = tokens_stand text stream c.utf8.text c.new-stream.ensures.items;
@@ -28,11 +27,11 @@ items-init g c =
 
 -- the token that was answered, by whichever call, is the next one
 next : (g : Over) (c : goal.After-spans-in-items-1 g)
-    → NextItem c.items.stream.items (Ok (Some c.match-near_token.token)) c.match-near_token.stream.items
+    → NextItem c.items.stream (Ok (Some c.match-near_token.token)) c.match-near_token.stream
 next g c = elim c.match-near_token.branch [
   | in-Some w ↦ rw (w.token-is, w.stream-is) w.in-Some.ensures.item
   | in-None+in-Ok-Some w ↦
-      rw (w.token-is, w.stream-is) (next_of _ _ _ _ w.in-Ok-Some.token (ap (λ (s : Stream). s.items) (w.in-None.ensures.stays refl)) w.far_item-after.ensures
+      rw (w.token-is, w.stream-is) (next_of _ _ _ _ w.in-Ok-Some.token (w.in-None.ensures.stays refl) w.far_item-after.ensures
       (w.in-Ok-Some.is ∙ ap Ok (rw w.in-Ok-Some.is at w.in-Ok-Some.field-0-is)))
 ]
 
@@ -40,6 +39,11 @@ pub span_of-requires-clause-small : goal.span_of-requires-clause-small
 span_of-requires-clause-small g c =
     let (is, token, more) = next_stands c.args.text.now _ _ _ c.match-near_token.token (next g c) refl c.items.invariant.standing in
     omega (arith, c.offset-start.ensures, token.within, c.requires.small)
+
+pub span_of-requires-clause-first : goal.span_of-requires-clause-first
+span_of-requires-clause-first g c =
+    let (is, token, more) = next_stands c.args.text.now _ _ _ c.match-near_token.token (next g c) refl c.items.invariant.standing in
+    omega (arith, c.offset-start.ensures, token.within, token_some token, c.requires.narrow)
 
 pub span_of-requires-clause-end : goal.span_of-requires-clause-end
 span_of-requires-clause-end g c =
@@ -60,8 +64,8 @@ pub items-preserved : goal.items-preserved
 items-preserved g c =
     let number = g.W.Width.number in
     let text = c.args.text.now in
-    let old = c.items.stream.items in
-    let new = c.match-near_token.stream.items in
+    let old = c.items.stream in
+    let new = c.match-near_token.stream in
     let spans = c.items.spans.items in
     let span = c.span_of.result in
     let cut = c.match-near_token.token in
@@ -69,7 +73,7 @@ items-preserved g c =
     let following : NextItem old (Ok (Some cut)) new = elim c.match-near_token.branch [
       | in-Some w ↦ rw (w.token-is, w.stream-is) w.in-Some.ensures.item
       | in-None+in-Ok-Some w ↦
-          rw (w.token-is, w.stream-is) (next_of _ _ _ _ w.in-Ok-Some.token (ap (λ (s : Stream). s.items) (w.in-None.ensures.stays refl)) w.far_item-after.ensures
+          rw (w.token-is, w.stream-is) (next_of _ _ _ _ w.in-Ok-Some.token (w.in-None.ensures.stays refl) w.far_item-after.ensures
           (w.in-Ok-Some.is ∙ ap Ok (rw w.in-Ok-Some.is at w.in-Ok-Some.field-0-is)))
     ] in
     let (is, token, more) = next_stands text old new _ cut following refl c.items.invariant.standing in
@@ -83,7 +87,7 @@ items-preserved g c =
       marks =
           All-same (Marks number text) _ _ pushed
           (All-push (Marks number text) spans span c.items.invariant.marks
-          (marks number text span w cut.kind cut.value.now token start end line column kind c.span_of.ensures.front));
+          (marks number text span w cut.kind cut.value.now token start end line column kind));
       standing = more;
       items = λ items has.
           before_more number text spans span old new cut.kind cut.value.now w (split items) (c.items.invariant.items items has) is

@@ -10,10 +10,10 @@ use Rattle.graphql_core.proofs.helpers.spans.cut.Given as goal
 abbrev pub invariant-items : goal.invariant-items
 invariant-items g l = record {
   marks : All (Marks g.W.Width.number l.text) l.spans.items;
-  standing : All (StandsIn l.text) l.stream.items;
+  standing : All (StandsIn l.text) l.stream;
   items : (items : List Item) → HasItems l.text items
-      → split items ≡ before (map (span_token g.W.Width.number l.text) l.spans.items) (split l.stream.items);
+      → split items ≡ before (map (span_token g.W.Width.number l.text) l.spans.items) (split l.stream);
 }
 
 abbrev pub decreases-items : goal.decreases-items
-decreases-items g l = length l.stream.items
+decreases-items g l = length l.stream

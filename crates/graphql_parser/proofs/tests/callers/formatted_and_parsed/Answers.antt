@@ -20,8 +20,8 @@ returns-clause-same g c =
     let back = subst (λ (t : List ℕ). IsReadBack t d) (sym same) (read_back c.requires) in
     if_passed _ _ _ (λ v. erase (document_view string_bytes v) ≡ erase d) c.map_err-2.ensures.cases c.map_err-2.ensures.variant
     (λ v is. same_document queries text d (document_view string_bytes v)
-    (λ e short has. subst (AnswersUnlessMemory _ e) is (c.parse_query.ensures.complete e short has))
-    (λ long. let past = c.parse_query.ensures.too_long long in absurd (cc (past, is))) back)
+    (λ e short has. subst (AnswersUnlessMemory _ e) is (c.parse_query.ensures.parses.complete e short has))
+    (λ long. let past = c.parse_query.ensures.parses.too_long long in absurd (cc (past, is))) back)
 
 pub returns-clause-parsed : goal.returns-clause-parsed
 returns-clause-parsed g c e h =
@@ -36,7 +36,7 @@ returns-clause-parsed g c e h =
     IfErr-at_err why h (if_mapped _ lost.Parse why c.map_err-2.ensures.cases
     (λ f is parse.
     let this : f ≡ e = cc parse in
-    elim (memory_or_length queries text d f (λ t short has. subst (AnswersUnlessMemory _ t) is (c.parse_query.ensures.complete t short has)) back) [
+    elim (memory_or_length queries text d f (λ t short has. subst (AnswersUnlessMemory _ t) is (c.parse_query.ensures.parses.complete t short has)) back) [
       | inl memory ↦ inl (sym this ∙ memory)
       | inr long ↦ inr (subst (λ (t : List ℕ). max_length < length t) (same ∙ laid_out) long)
     ])) refl

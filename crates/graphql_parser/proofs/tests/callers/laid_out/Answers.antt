@@ -13,5 +13,5 @@ pub returns : goal.returns
 returns c =
     let document = document_view _ c.in_ok-document.document in
     let derived = kept c.parse_query.result _ _ (λ d. IsDocumentOf c.args.source.now (document_view _ d))
-    c.in_ok-document.ensures.value (λ d h. h) c.parse_query.ensures.derived in
+    c.in_ok-document.ensures.value (λ d h. h) c.parse_query.ensures.parses.derived in
     kept c.format.result c.ok-2.result _ _ c.ok-2.ensures.value (λ text is. (document, derived, is)) c.format.ensures.text

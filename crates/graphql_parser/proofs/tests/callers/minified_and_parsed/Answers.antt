@@ -18,8 +18,8 @@ returns-clause-same c d h =
     let back = subst (λ (t : List ℕ). IsReadBack t d) (sym same) (document d h) in
     if_passed _ _ _ (λ v. erase (document_view string_bytes v) ≡ erase d) c.map_err-2.ensures.cases c.map_err-2.ensures.variant
     (λ v is. same_document queries text d (document_view string_bytes v)
-    (λ e short has. subst (AnswersUnlessMemory _ e) is (c.parse_query.ensures.complete e short has))
-    (λ long. let past = c.parse_query.ensures.too_long long in absurd (cc (past, is))) back)
+    (λ e short has. subst (AnswersUnlessMemory _ e) is (c.parse_query.ensures.parses.complete e short has))
+    (λ long. let past = c.parse_query.ensures.parses.too_long long in absurd (cc (past, is))) back)
 
 pub returns-clause-no_other : goal.returns-clause-no_other
 returns-clause-no_other c =
@@ -27,7 +27,7 @@ returns-clause-no_other c =
     let no_other = at_passed _ _ _ _ c.map_err.ensures.cases c.map_err.ensures.variant c.in_ok-text.was c.minify_query.ensures.no_other in
     if_passed _ _ _ (λ v. IsReadBack (string_bytes c.args.source) (document_view string_bytes v)) c.map_err-2.ensures.cases c.map_err-2.ensures.variant
     (λ v is.
-    let parsed = IfOk-at_ok _ is c.parse_query.ensures.derived in
+    let parsed = IfOk-at_ok _ is c.parse_query.ensures.parses.derived in
     no_other (document_view string_bytes v) (subst (λ (t : List ℕ). IsDocumentOf t (document_view string_bytes v)) same parsed))
 
 pub returns-clause-parsed : goal.returns-clause-parsed
@@ -40,7 +40,7 @@ returns-clause-parsed c d e has h =
     IfErr-at_err why h (if_mapped _ lost.Parse why c.map_err-2.ensures.cases
     (λ f is parse.
     let this : f ≡ e = cc parse in
-    elim (memory_or_length queries text d f (λ t short has. subst (AnswersUnlessMemory _ t) is (c.parse_query.ensures.complete t short has)) back) [
+    elim (memory_or_length queries text d f (λ t short has. subst (AnswersUnlessMemory _ t) is (c.parse_query.ensures.parses.complete t short has)) back) [
       | inl memory ↦ inl (sym this ∙ memory)
-      | inr long ↦ let past = c.parse_query.ensures.too_long long in inr (cc (past, is, this))
+      | inr long ↦ let past = c.parse_query.ensures.parses.too_long long in inr (cc (past, is, this))
     ])) refl

@@ -12,21 +12,21 @@ use Rattle.graphql_query.proofs.read.definition.fragment_definition.Goals as goa
 pub returns-in_err-position-clause-reads : goal.returns-in_err-position-clause-reads
 returns-in_err-position-clause-reads g c =
     let old = g.S.TokenSource.items c.args.source.now in
-    error_one old old (g.S.TokenSource.items c.keyword.new.source) _ _ _
+    error_one old old (g.S.TokenSource.items c.expect_keyword.new.source) _ _ _
     (before (starts fragment_definition_symbol old.tokens)) c.in_err-position.ensures c.from_residual.ensures.1
 
 pub returns-in_err-name-clause-reads : goal.returns-in_err-name-clause-reads
 returns-in_err-name-clause-reads g c =
     let old = g.S.TokenSource.items c.args.source.now in
-    let mid = g.S.TokenSource.items c.keyword.new.source in
-    let new = g.S.TokenSource.items c.name.new.source in
+    let mid = g.S.TokenSource.items c.expect_keyword.new.source in
+    let new = g.S.TokenSource.items c.expect_name.new.source in
     let begun = past (starts fragment_definition_symbol old.tokens) (takes_one reading _ _ _ _ refl c.in_ok-position.ensures.1) in
     error_one old mid new _ _ _ (before begun) c.in_err-name.ensures c.from_residual-in_err-name.ensures.1
 
 pub returns-in_err-type_condition-clause-reads : goal.returns-in_err-type_condition-clause-reads
 returns-in_err-type_condition-clause-reads g c =
     let old = g.S.TokenSource.items c.args.source.now in
-    let mid = g.S.TokenSource.items c.name.new.source in
+    let mid = g.S.TokenSource.items c.expect_name.new.source in
     let new = g.S.TokenSource.items c.type_condition.new.source in
     let begun = past (starts fragment_definition_symbol old.tokens) (takes_one reading _ _ _ _ refl c.in_ok-position.ensures.1) in
     let named = past begun (takes_one reading _ _ _ _ refl c.in_ok-name.ensures.1) in

@@ -18,9 +18,9 @@ returns-clause-reads g c =
     let items = g.S.TokenSource.items in
     let bytes = g.S.Names.Names.bytes in
     let old = items c.args.source.now in
-    let new = items c.name.new.source in
+    let new = items c.expect_name.new.source in
     gives_side reading _ (One spread_class) (Node spread_name_symbol) old new
     (λ v x. (place_next old, bytes v) ≡ spread_name_of (written changes (Node spread_name_symbol x))) _ _
     (side_node reading spread_name_symbol old.tokens (λ x. refl)) (λ v x h. h)
-    (gives_one reading spread_class old new _ _ c.name.result (λ t. refl) (λ v t h p. ap₂ (λ a b. (a, b)) (placed _ old new t h) (sym p))
-    (narrowed old new _ c.name.result (sym c.sees_spread_name.ensures ∙ c.if-not-sees_spread_name.false) c.name.ensures))
+    (gives_one reading spread_class old new _ _ c.expect_name.result (λ t. refl) (λ v t h p. ap₂ (λ a b. (a, b)) (placed _ old new t h) (sym p))
+    (narrowed old new _ c.expect_name.result (sym c.sees_spread_name.ensures ∙ c.if-not-sees_spread_name.false) c.expect_name.ensures))

@@ -8,18 +8,18 @@ use Rattle.graphql_query.proofs.read.operation.mutation.Goals as goal
 pub returns-in_err-position-clause-reads : goal.returns-in_err-position-clause-reads
 returns-in_err-position-clause-reads g c =
     let items = g.S.TokenSource.items in
-    keyword_missing (codes "mutation") (items c.args.source.now) (items c.keyword.new.source) _ _ _ c.in_err-position.ensures c.from_residual.ensures.1
+    keyword_missing (codes "mutation") (items c.args.source.now) (items c.expect_keyword.new.source) _ _ _ c.in_err-position.ensures c.from_residual.ensures.1
 
 pub returns-in_err-common-clause-reads : goal.returns-in_err-common-clause-reads
 returns-in_err-common-clause-reads g c =
     let items = g.S.TokenSource.items in
-    keyword_fails (codes "mutation") (items c.args.source.now) (items c.keyword.new.source)
+    keyword_fails (codes "mutation") (items c.args.source.now) (items c.expect_keyword.new.source)
     (items c.operation_body.new.source) _ _ _ _ c.in_ok-position.ensures.1 c.in_err-common.ensures.reads c.from_residual-in_err-common.ensures.1
 
 pub returns-clause-reads : goal.returns-clause-reads
 returns-clause-reads g c =
     let items = g.S.TokenSource.items in
     let (t, begins, at) = c.in_ok-position.ensures in
-    keyword_taken mutation_kind (codes "mutation") (items c.args.source.now) (items c.keyword.new.source) (items c.operation_body.new.source) t
+    keyword_taken mutation_kind (codes "mutation") (items c.args.source.now) (items c.expect_keyword.new.source) (items c.operation_body.new.source) t
     (place_of c.in_ok-position.position)
     (operation_body_view g.S.Names.Names.bytes c.in_ok-common.common) begins at c.in_ok-common.ensures.reads

@@ -10,7 +10,7 @@ returns-then-not-sees_name-clause-reads g c = (Second Nothing, takes_none readin
 
 pub returns-clause-reads : goal.returns-clause-reads
 returns-clause-reads g c =
-    let (t, takes, spelled) = c.in_ok-name.ensures in (
+    let (t, takes, spelled) = c.in_ok-expect_name.ensures in (
       First (Leaf t),
       takes_some reading shared.name _ _ _ (sym c.sees_name.ensures ∙ c.if-not-sees_name.false) (takes_one reading _ _ _ t refl takes),
       ap Some (sym spelled),

@@ -7,10 +7,10 @@ use Rattle.graphql_query_tree.specs.Tree.{variable_definition_view}
 use Rattle.graphql_query.proofs.VariableAlternatives.{some_variable_definitions, no_variable_definitions}
 use Rattle.graphql_query.proofs.read.operation.optional_variable_definitions.Goals as goal
 
-pub returns-then-not-sees_mark-clause-reads : goal.returns-then-not-sees_mark-clause-reads
-returns-then-not-sees_mark-clause-reads g c = (
+pub returns-then-not-sees_punctuator-clause-reads : goal.returns-then-not-sees_punctuator-clause-reads
+returns-then-not-sees_punctuator-clause-reads g c = (
   Second Nothing,
-  no_variable_definitions _ (sym c.sees_mark.ensures ∙ c.if-not-sees_mark.true),
+  no_variable_definitions _ (sym c.sees_punctuator.ensures ∙ c.if-not-sees_punctuator.true),
   adds_none
       (variable_definition_view g.S.Names.Names.bytes) _,
 )
@@ -18,5 +18,5 @@ returns-then-not-sees_mark-clause-reads g c = (
 pub returns-clause-reads : goal.returns-clause-reads
 returns-clause-reads g c =
     let old = g.S.TokenSource.items c.args.source.now in
-    let side = some_variable_definitions old.tokens (sym c.sees_mark.ensures ∙ c.if-not-sees_mark.false) in
+    let side = some_variable_definitions old.tokens (sym c.sees_punctuator.ensures ∙ c.if-not-sees_punctuator.false) in
     gives_side reading _ _ First old (g.S.TokenSource.items c.variable_definitions.new.source) _ _ _ side (λ v x h. h) c.variable_definitions.ensures.reads

@@ -13,44 +13,44 @@ use Rattle.graphql_query.proofs.read.operation.variable_definition.Goals as goal
 pub returns-in_err-position-clause-reads : goal.returns-in_err-position-clause-reads
 returns-in_err-position-clause-reads g c =
     let old = g.S.TokenSource.items c.args.source.now in
-    let new = g.S.TokenSource.items c.take_mark.new.source in
+    let new = g.S.TokenSource.items c.expect_punctuator.new.source in
     error_one old old new _ _ _ (before (starts variable_definition_symbol old.tokens)) c.in_err-position.ensures c.from_residual.ensures.1
 
 pub returns-in_err-name-clause-reads : goal.returns-in_err-name-clause-reads
 returns-in_err-name-clause-reads g c =
     let old = g.S.TokenSource.items c.args.source.now in
-    let mid = g.S.TokenSource.items c.take_mark.new.source in
-    let new = g.S.TokenSource.items c.name.new.source in
+    let mid = g.S.TokenSource.items c.expect_punctuator.new.source in
+    let new = g.S.TokenSource.items c.expect_name.new.source in
     let dollar = past (starts variable_definition_symbol old.tokens) (takes_one reading _ _ _ _ refl c.in_ok-position.ensures.1) in
     error_one old mid new _ _ _ (before dollar) c.in_err-name.ensures c.from_residual-in_err-name.ensures.1
 
-pub returns-in_err-take_mark-clause-reads : goal.returns-in_err-take_mark-clause-reads
-returns-in_err-take_mark-clause-reads g c =
+pub returns-in_err-expect_punctuator-clause-reads : goal.returns-in_err-expect_punctuator-clause-reads
+returns-in_err-expect_punctuator-clause-reads g c =
     let old = g.S.TokenSource.items c.args.source.now in
-    let mid = g.S.TokenSource.items c.name.new.source in
-    let new = g.S.TokenSource.items c.take_mark-2.new.source in
+    let mid = g.S.TokenSource.items c.expect_name.new.source in
+    let new = g.S.TokenSource.items c.expect_punctuator-2.new.source in
     let dollar = past (starts variable_definition_symbol old.tokens) (takes_one reading _ _ _ _ refl c.in_ok-position.ensures.1) in
     let named = past dollar (takes_one reading _ _ _ _ refl c.in_ok-name.ensures.1) in
-    error_one old mid new _ _ _ (before named) c.in_err-take_mark.ensures c.from_residual-in_err-take_mark.ensures.1
+    error_one old mid new _ _ _ (before named) c.in_err-expect_punctuator.ensures c.from_residual-in_err-expect_punctuator.ensures.1
 
 pub returns-in_err-var_type-clause-reads : goal.returns-in_err-var_type-clause-reads
 returns-in_err-var_type-clause-reads g c =
     let old = g.S.TokenSource.items c.args.source.now in
-    let mid = g.S.TokenSource.items c.take_mark-2.new.source in
-    let new = g.S.TokenSource.items c.parse_type.new.source in
+    let mid = g.S.TokenSource.items c.expect_punctuator-2.new.source in
+    let new = g.S.TokenSource.items c.type_reference.new.source in
     let dollar = past (starts variable_definition_symbol old.tokens) (takes_one reading _ _ _ _ refl c.in_ok-position.ensures.1) in
     let named = past dollar (takes_one reading _ _ _ _ refl c.in_ok-name.ensures.1) in
-    let colon = past named (takes_one reading _ _ _ _ refl c.in_ok-take_mark.ensures.1) in
+    let colon = past named (takes_one reading _ _ _ _ refl c.in_ok-expect_punctuator.ensures.1) in
     error_in old mid new _ _ _ (before colon) (stops_lifted _ refl _ _ _ c.in_err-var_type.ensures.reads) c.from_residual-in_err-var_type.ensures.1
 
 pub returns-in_err-default_value-clause-reads : goal.returns-in_err-default_value-clause-reads
 returns-in_err-default_value-clause-reads g c =
     let old = g.S.TokenSource.items c.args.source.now in
-    let mid = g.S.TokenSource.items c.parse_type.new.source in
+    let mid = g.S.TokenSource.items c.type_reference.new.source in
     let new = g.S.TokenSource.items c.optional_default.new.source in
     let dollar = past (starts variable_definition_symbol old.tokens) (takes_one reading _ _ _ _ refl c.in_ok-position.ensures.1) in
     let named = past dollar (takes_one reading _ _ _ _ refl c.in_ok-name.ensures.1) in
-    let colon = past named (takes_one reading _ _ _ _ refl c.in_ok-take_mark.ensures.1) in
+    let colon = past named (takes_one reading _ _ _ _ refl c.in_ok-expect_punctuator.ensures.1) in
     let (t, typed, seen) = c.in_ok-var_type.ensures.reads in
     error_in old mid new _ _ _ (before (past colon (takes_lifted _ refl _ _ _ typed)))
     (stops_lifted _ refl _ _ _ c.in_err-default_value.ensures.reads) c.from_residual-in_err-default_value.ensures.1
@@ -62,7 +62,7 @@ returns-in_err-directives-clause-reads g c =
     let new = g.S.TokenSource.items c.directives.new.source in
     let dollar = past (starts variable_definition_symbol old.tokens) (takes_one reading _ _ _ _ refl c.in_ok-position.ensures.1) in
     let named = past dollar (takes_one reading _ _ _ _ refl c.in_ok-name.ensures.1) in
-    let colon = past named (takes_one reading _ _ _ _ refl c.in_ok-take_mark.ensures.1) in
+    let colon = past named (takes_one reading _ _ _ _ refl c.in_ok-expect_punctuator.ensures.1) in
     let (t, typed, seen) = c.in_ok-var_type.ensures.reads in
     let (v, valued, view) = c.in_ok-default_value.ensures.reads in
     error_in old mid new _ _ _
@@ -73,7 +73,7 @@ pub returns-clause-reads : goal.returns-clause-reads
 returns-clause-reads g c =
     let (d, dollar, at) = c.in_ok-position.ensures in
     let (n, named, spelled) = c.in_ok-name.ensures in
-    let (m, colon, until) = c.in_ok-take_mark.ensures in
+    let (m, colon, until) = c.in_ok-expect_punctuator.ensures in
     let (t, typed, seen) = some_lifted _ refl _ _ _ c.in_ok-var_type.ensures.reads in
     let (v, valued, view) = some_lifted _ refl _ _ _ c.in_ok-default_value.ensures.reads in
     let (ds, directed, directs) = some_lifted _ refl _ _ _ c.in_ok-directives.ensures.reads in (

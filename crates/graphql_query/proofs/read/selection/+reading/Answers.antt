@@ -23,7 +23,7 @@ use Rattle.graphql_query.proofs.read.selection.+reading.Goals as goal
 pub field-returns-in_err-name-clause-reads : goal.field-returns-in_err-name-clause-reads
 field-returns-in_err-name-clause-reads g t c =
     let old = g.S.TokenSource.items c.args.source.now in
-    let new = g.S.TokenSource.items c.name.new.source in
+    let new = g.S.TokenSource.items c.expect_name.new.source in
     gives_error reading _ old new _ _ _
     (Stops-node reading field_symbol _ _ _ (Stops-before reading _ _ _ _ _ (stops_one reading _ old new _ c.in_err-name.ensures))) c.from_residual.ensures.1
 
@@ -120,20 +120,20 @@ field-returns-clause-shorter g t c =
 
 -- ---- selections of a field
 
-pub optional_selection_set-returns-then-not-sees_mark-clause-reads : goal.optional_selection_set-returns-then-not-sees_mark-clause-reads
-optional_selection_set-returns-then-not-sees_mark-clause-reads g t c =
+pub optional_selection_set-returns-then-not-sees_punctuator-clause-reads : goal.optional_selection_set-returns-then-not-sees_punctuator-clause-reads
+optional_selection_set-returns-then-not-sees_punctuator-clause-reads g t c =
     let bytes = g.S.Names.Names.bytes in
     let here = place_of c.args.position in
-    let none = no_selection_set (g.S.TokenSource.items c.args.source.now).tokens (sym c.sees_mark.ensures ∙ c.if-not-sees_mark.true) in
+    let none = no_selection_set (g.S.TokenSource.items c.args.source.now).tokens (sym c.sees_punctuator.ensures ∙ c.if-not-sees_punctuator.true) in
     (Second Nothing, none, selection_set_made bytes _ _ _ ∙ ap (λ l. set here here (trees_of (map (selection_view bytes) l))) c.new.ensures.items)
 
-pub optional_selection_set-returns-then-not-sees_mark-clause-others : goal.optional_selection_set-returns-then-not-sees_mark-clause-others
-optional_selection_set-returns-then-not-sees_mark-clause-others g t c = adds_none (selection_view g.S.Names.Names.bytes) _
+pub optional_selection_set-returns-then-not-sees_punctuator-clause-others : goal.optional_selection_set-returns-then-not-sees_punctuator-clause-others
+optional_selection_set-returns-then-not-sees_punctuator-clause-others g t c = adds_none (selection_view g.S.Names.Names.bytes) _
 
 pub optional_selection_set-returns-clause-reads : goal.optional_selection_set-returns-clause-reads
 optional_selection_set-returns-clause-reads g t c =
     let old = g.S.TokenSource.items c.args.source.now in
-    let side = some_selection_set old.tokens (sym c.sees_mark.ensures ∙ c.if-not-sees_mark.false) in
+    let side = some_selection_set old.tokens (sym c.sees_punctuator.ensures ∙ c.if-not-sees_punctuator.false) in
     gives_side reading _ _ First old (g.S.TokenSource.items c.selection_set.new.source) _ _ _ side (λ v x h. h) c.selection_set.ensures.reads
 
 -- ---- inline fragment
@@ -177,48 +177,48 @@ inline_fragment-returns-clause-reads g t c =
 
 -- ---- spread or inline fragment
 
-pub spread_or_inline-returns-in_err-take_mark-clause-reads : goal.spread_or_inline-returns-in_err-take_mark-clause-reads
-spread_or_inline-returns-in_err-take_mark-clause-reads g t c =
+pub fragment_selection-returns-in_err-expect_punctuator-clause-reads : goal.fragment_selection-returns-in_err-expect_punctuator-clause-reads
+fragment_selection-returns-in_err-expect_punctuator-clause-reads g t c =
     let old = g.S.TokenSource.items c.args.source.now in
-    let new = g.S.TokenSource.items c.take_mark.new.source in
-    gives_error reading _ old new _ _ _ (Stops-before reading _ _ _ _ _ (stops_one reading _ old new _ c.in_err-take_mark.ensures)) c.from_residual.ensures.1
+    let new = g.S.TokenSource.items c.expect_punctuator.new.source in
+    gives_error reading _ old new _ _ _ (Stops-before reading _ _ _ _ _ (stops_one reading _ old new _ c.in_err-expect_punctuator.ensures)) c.from_residual.ensures.1
 
-pub spread_or_inline-returns-then-sees_spread_name-clause-reads : goal.spread_or_inline-returns-then-sees_spread_name-clause-reads
-spread_or_inline-returns-then-sees_spread_name-clause-reads g t c =
+pub fragment_selection-returns-then-sees_spread_name-clause-reads : goal.fragment_selection-returns-then-sees_spread_name-clause-reads
+fragment_selection-returns-then-sees_spread_name-clause-reads g t c =
     let items = g.S.TokenSource.items in
-    let (d, dots, at) = c.in_ok-take_mark.ensures in
+    let (d, dots, at) = c.in_ok-expect_punctuator.ensures in
     let before = takes_one reading _ _ _ d refl dots in
-    let side = fragment_spread_side (items c.take_mark.new.source).tokens (sym c.sees_spread_name.ensures ∙ c.if-sees_spread_name.true) in
-    gives_then reading _ _ (items c.args.source.now) (items c.take_mark.new.source) (items c.fragment_spread.new.source) _ _ _
+    let side = fragment_spread_side (items c.expect_punctuator.new.source).tokens (sym c.sees_spread_name.ensures ∙ c.if-sees_spread_name.true) in
+    gives_then reading _ _ (items c.args.source.now) (items c.expect_punctuator.new.source) (items c.fragment_spread.new.source) _ _ _
     (λ v x h is. (Both (Leaf d) (First x), takes_both before (side.takes _ x h), is)) (λ o h. Stops-after reading _ _ _ _ _ _ o before (side.stops _ o h))
     c.fragment_spread.ensures.reads
 
-pub spread_or_inline-returns-clause-reads : goal.spread_or_inline-returns-clause-reads
-spread_or_inline-returns-clause-reads g t c =
+pub fragment_selection-returns-clause-reads : goal.fragment_selection-returns-clause-reads
+fragment_selection-returns-clause-reads g t c =
     let items = g.S.TokenSource.items in
-    let (d, dots, at) = c.in_ok-take_mark.ensures in
+    let (d, dots, at) = c.in_ok-expect_punctuator.ensures in
     let before = takes_one reading _ _ _ d refl dots in
-    let side = inline_fragment_side (items c.take_mark.new.source).tokens (sym c.sees_spread_name.ensures ∙ c.if-sees_spread_name.false) in
-    gives_then reading _ _ (items c.args.source.now) (items c.take_mark.new.source) (items c.inline_fragment.new.source) _ _ _
+    let side = inline_fragment_side (items c.expect_punctuator.new.source).tokens (sym c.sees_spread_name.ensures ∙ c.if-sees_spread_name.false) in
+    gives_then reading _ _ (items c.args.source.now) (items c.expect_punctuator.new.source) (items c.inline_fragment.new.source) _ _ _
     (λ v x h is. (Both (Leaf d) (Second x), takes_both before (side.takes _ x h), is)) (λ o h. Stops-after reading _ _ _ _ _ _ o before (side.stops _ o h))
     c.inline_fragment.ensures.reads
 
 -- ---- selection
 
-pub selection-returns-then-sees_mark-clause-reads : goal.selection-returns-then-sees_mark-clause-reads
-selection-returns-then-sees_mark-clause-reads g t c =
+pub selection-returns-then-sees_punctuator-clause-reads : goal.selection-returns-then-sees_punctuator-clause-reads
+selection-returns-then-sees_punctuator-clause-reads g t c =
     let old = g.S.TokenSource.items c.args.source.now in
-    let new = g.S.TokenSource.items c.spread_or_inline.new.source in
-    let side = dots_side old.tokens (sym c.sees_mark.ensures ∙ c.if-sees_mark.true) in
+    let new = g.S.TokenSource.items c.fragment_selection.new.source in
+    let side = dots_side old.tokens (sym c.sees_punctuator.ensures ∙ c.if-sees_punctuator.true) in
     let bytes = g.S.Names.Names.bytes in
     gives_then reading _ _ old old new _ _ _
     (λ v x h is. (Node selection_symbol (Second x), side.takes _ x h, is ∙ ap (λ t. map (selection_view bytes) c.args.items.now.items ++ t ∷ []) (dots_mean h)))
-    (λ o h. side.stops _ o h) c.spread_or_inline.ensures.reads
+    (λ o h. side.stops _ o h) c.fragment_selection.ensures.reads
 
 pub selection-returns-clause-reads : goal.selection-returns-clause-reads
 selection-returns-clause-reads g t c =
     let old = g.S.TokenSource.items c.args.source.now in
-    let side = field_side old.tokens (sym c.sees_mark.ensures ∙ c.if-sees_mark.false) in
+    let side = field_side old.tokens (sym c.sees_punctuator.ensures ∙ c.if-sees_punctuator.false) in
     gives_side reading _ _ (λ x. Node selection_symbol (First x)) old (g.S.TokenSource.items c.field.new.source) _ _ _ side (λ v x h. h) c.field.ensures.reads
 
 -- ---- selections in braces, after others
@@ -226,7 +226,7 @@ selection-returns-clause-reads g t c =
 pub selections-returns-in_err-start-clause-reads : goal.selections-returns-in_err-start-clause-reads
 selections-returns-in_err-start-clause-reads g t c =
     let old = g.S.TokenSource.items c.args.source.now in
-    let new = g.S.TokenSource.items c.take_mark.new.source in
+    let new = g.S.TokenSource.items c.expect_punctuator.new.source in
     gives_error reading _ old new _ _ _
     (Stops-node reading selection_set_symbol _ _ _
     (Stops-before reading _ _ _ _ _ (stops_one reading _ old new _ c.in_err-start.ensures))) c.from_residual.ensures.1
@@ -275,7 +275,7 @@ pub selections-returns-in_err-end-clause-reads : goal.selections-returns-in_err-
 selections-returns-in_err-end-clause-reads g t c =
     let sources = g.S.TokenSource.items in
     let now = sources c.more.source in
-    let new = sources c.take_mark-2.new.source in
+    let new = sources c.expect_punctuator-2.new.source in
     let before = takes_one reading _ _ _ _ refl c.in_ok-start.ensures.1 in
     let (x, first, view) = c.in_ok-selection.ensures.reads in
     let (items, turns, views) = c.more.invariant.turns in

@@ -13,8 +13,8 @@ use Rattle.graphql_query.proofs.read.selection.+reading.Given as goal
 abbrev pub decreases-field : goal.decreases-field
 decreases-field g l = 3 * length (g.S.TokenSource.items l.source.now).tokens
 
-abbrev pub decreases-spread_or_inline : goal.decreases-spread_or_inline
-decreases-spread_or_inline g l = 3 * length (g.S.TokenSource.items l.source.now).tokens
+abbrev pub decreases-fragment_selection : goal.decreases-fragment_selection
+decreases-fragment_selection g l = 3 * length (g.S.TokenSource.items l.source.now).tokens
 
 abbrev pub decreases-selections : goal.decreases-selections
 decreases-selections g l = 3 * length (g.S.TokenSource.items l.source.now).tokens

@@ -79,8 +79,8 @@ write_field-write_directives-requires g t c =
     let later = (narrower c.args.margin _ _ indent (2 ^ 32) fits).1 in
     rw c.deref-2.ensures.value (narrower c.args.margin _ _ indent (2 ^ 32) later).0
 
-pub write_field-write_selected-requires : goal.write_field-write_selected-requires
-write_field-write_selected-requires g t c κs within =
+pub write_field-write_optional_selection_set-requires : goal.write_field-write_optional_selection_set-requires
+write_field-write_optional_selection_set-requires g t c κs within =
     let indent = c.args.style.now.indent in
     let fits = rw (field_parts g.N.Names.bytes c.args.field.now) at c.requires in
     let later = (narrower c.args.margin _ _ indent (2 ^ 32) fits).1 in
@@ -95,7 +95,7 @@ write_field-returns-clause-text g t c =
     let arguments = rw c.deref.ensures.value at c.in_ok-write_arguments.ensures.text in
     let directives = rw c.deref-2.ensures.value at c.in_ok-write_directives.ensures.text in
     let written = more _ _ _ _ _ (more _ _ _ _ _ named arguments) directives in
-    and_last g.S.Sink.took more _ _ _ _ _ _ _ written c.write_selected.ensures.text
+    and_last g.S.Sink.took more _ _ _ _ _ _ _ written c.write_optional_selection_set.ensures.text
     (rw (field_parts bytes c.args.field.now, c.view.ensures) (simp (text_append, append_assoc)))
 
 pub write_field-returns-clause-lawful : goal.write_field-returns-clause-lawful
@@ -103,8 +103,8 @@ write_field-returns-clause-lawful g t c =
     let arguments = rw c.deref.ensures.value at c.in_ok-write_arguments.ensures.lawful in
     let directives = rw c.deref-2.ensures.value at c.in_ok-write_directives.ensures.lawful in
     rw (field_parts g.N.Names.bytes c.args.field.now)
-    (on_ok_weaker c.write_selected.result (λ set. (arguments, directives, set))
-    c.write_selected.ensures.lawful)
+    (on_ok_weaker c.write_optional_selection_set.result (λ set. (arguments, directives, set))
+    c.write_optional_selection_set.ensures.lawful)
 
 pub write_inline_fragment-write_selection_set-requires : goal.write_inline_fragment-write_selection_set-requires
 write_inline_fragment-write_selection_set-requires g t c κs within =
@@ -116,7 +116,7 @@ pub write_inline_fragment-returns-clause-text : goal.write_inline_fragment-retur
 write_inline_fragment-returns-clause-text g t c =
     let bytes = g.N.Names.bytes in
     let more = g.met.S.Sink.took_more in
-    let on = more _ _ _ _ _ (more _ _ _ _ _ c.in_ok-write_spaces.ensures c.in_ok-push_str.ensures) c.in_ok-write_on.ensures in
+    let on = more _ _ _ _ _ (more _ _ _ _ _ c.in_ok-write_spaces.ensures c.in_ok-push_str.ensures) c.in_ok-write_optional_type_condition.ensures in
     let directives = rw c.deref.ensures.value at c.in_ok-write_directives.ensures.text in
     let written = more _ _ _ _ _ (more _ _ _ _ _ on directives) c.in_ok-push_str-2.ensures in
     and_last g.S.Sink.took more _ _ _ _ _ _ _ written c.write_selection_set.ensures.text
@@ -128,30 +128,30 @@ write_inline_fragment-returns-clause-lawful g t c =
     rw (inline_fragment_parts g.N.Names.bytes c.args.fragment.now)
     (on_ok_weaker c.write_selection_set.result (λ set. (directives, set)) c.write_selection_set.ensures.lawful)
 
-pub write_selected-write_selection_set-requires : goal.write_selected-write_selection_set-requires
-write_selected-write_selection_set-requires g t c κs within =
+pub write_optional_selection_set-write_selection_set-requires : goal.write_optional_selection_set-write_selection_set-requires
+write_optional_selection_set-write_selection_set-requires g t c κs within =
     let bytes = g.N.Names.bytes in
     let s = c.args.set.now in
     let same = some_levels bytes s c.args.style.now (some_items bytes s (sym c.is_empty.ensures ∙ c.if-is_empty.false)) in
     let fits : c.args.margin + selection_set_levels c.args.style.now (selection_set_view bytes s) * c.args.style.now.indent < 2 ^ 32 = rw (← same) c.requires in
     search (rules, the_lemmas, fits)
 
-pub write_selected-returns-clause-text : goal.write_selected-returns-clause-text
-write_selected-returns-clause-text g t c =
+pub write_optional_selection_set-returns-clause-text : goal.write_optional_selection_set-returns-clause-text
+write_optional_selection_set-returns-clause-text g t c =
     let bytes = g.N.Names.bytes in
     let s = c.args.set.now in
     let some = some_layout bytes s c.args.style.now c.args.margin (some_items bytes s (sym c.is_empty.ensures ∙ c.if-is_empty.false)) in
     and_last g.S.Sink.took g.met.S.Sink.took_more _ _ _ _ _ _ _ c.in_ok-push_str.ensures c.write_selection_set.ensures.text (sym (ap text_of some))
 
-pub write_selected-returns-then-is_empty-clause-text : goal.write_selected-returns-then-is_empty-clause-text
-write_selected-returns-then-is_empty-clause-text g t c =
+pub write_optional_selection_set-returns-then-is_empty-clause-text : goal.write_optional_selection_set-returns-then-is_empty-clause-text
+write_optional_selection_set-returns-then-is_empty-clause-text g t c =
     let bytes = g.N.Names.bytes in
     let s = c.args.set.now in
     rw (nothing_layout bytes s c.args.style.now c.args.margin (no_items bytes s (sym c.is_empty.ensures ∙ c.if-is_empty.true)))
     c.push_str.ensures
 
-pub write_selected-returns-then-is_empty-clause-lawful : goal.write_selected-returns-then-is_empty-clause-lawful
-write_selected-returns-then-is_empty-clause-lawful g t c =
+pub write_optional_selection_set-returns-then-is_empty-clause-lawful : goal.write_optional_selection_set-returns-then-is_empty-clause-lawful
+write_optional_selection_set-returns-then-is_empty-clause-lawful g t c =
     let bytes = g.N.Names.bytes in
     let s = c.args.set.now in
     on_ok c.push_str.result (nothing_lawful bytes s (no_items bytes s (sym c.is_empty.ensures ∙ c.if-is_empty.true)))

@@ -15,8 +15,8 @@ use Rattle.graphql_schema.proofs.read.directive.locations.Goals as goal
 pub returns-in_err-location-clause-reads : goal.returns-in_err-location-clause-reads
 returns-in_err-location-clause-reads g c =
     let old = g.S.TokenSource.items c.args.source.now in
-    let mid = g.S.TokenSource.items c.optional_mark.new.source in
-    let (m, marked, none) = c.in_ok-optional_mark.ensures.reads in
+    let mid = g.S.TokenSource.items c.optional_punctuator.new.source in
+    let (m, marked, none) = c.in_ok-optional_punctuator.ensures.reads in
     let led = past (starts locations_symbol old.tokens (λ x. refl)) marked in
     error_in old mid (g.S.TokenSource.items c.location.new.source) _ _ _ (before led) c.in_err-location.ensures.reads
     c.from_residual-in_err-location.ensures.1
@@ -32,7 +32,7 @@ pub more-preserved : goal.more-preserved
 more-preserved g c =
     let now = g.S.TokenSource.items c.more.source in record {
       comes = turn_appends (Then (punctuator (codes "|")) (Sym location_symbol)) (marked_of location_at None) Some _ now _ _ _ _ c.more.invariant.comes
-          (sym c.sees_mark.ensures ∙ c.more-test.true) c.in_ok-marked_location.ensures.reads c.in_ok-marked_location.ensures.kept;
+          (sym c.sees_punctuator.ensures ∙ c.more-test.true) c.in_ok-marked_location.ensures.reads c.in_ok-marked_location.ensures.kept;
       kept = c.in_ok-marked_location.ensures.kept ∙ c.more.invariant.kept;
       within = omega (arith, c.more.invariant.within, c.in_ok-marked_location.ensures.shorter);
     }
@@ -43,34 +43,34 @@ returns-in_err-marked_location-clause-reads g c =
     let start = g.S.TokenSource.items c.location.new.source in
     let now = g.S.TokenSource.items c.more.source in
     let new = g.S.TokenSource.items c.marked_location.new.source in
-    let (m, marked, none) = c.in_ok-optional_mark.ensures.reads in
+    let (m, marked, none) = c.in_ok-optional_punctuator.ensures.reads in
     let (x, takes, is) = c.in_ok-location.ensures.reads in
     let led = past (past (starts locations_symbol old.tokens (λ x. refl)) marked) takes in
     error_in old start new _ _ _ led.stops
     (marked_stops (codes "|") (Sym location_symbol) location_at None Some start now new _ _ _ c.more.invariant.comes
-    (sym c.sees_mark.ensures ∙ c.more-test.true) c.in_err-marked_location.ensures.reads) c.from_residual-in_err-marked_location.ensures.1
+    (sym c.sees_punctuator.ensures ∙ c.more-test.true) c.in_err-marked_location.ensures.reads) c.from_residual-in_err-marked_location.ensures.1
 
 pub returns-in_err-marked_location-clause-kept : goal.returns-in_err-marked_location-clause-kept
 returns-in_err-marked_location-clause-kept g c =
-    c.in_err-marked_location.ensures.kept ∙ c.more.invariant.kept ∙ c.in_ok-location.ensures.kept ∙ c.in_ok-optional_mark.ensures.kept
+    c.in_err-marked_location.ensures.kept ∙ c.more.invariant.kept ∙ c.in_ok-location.ensures.kept ∙ c.in_ok-optional_punctuator.ensures.kept
 
 pub returns-clause-reads : goal.returns-clause-reads
 returns-clause-reads g c =
     let old = g.S.TokenSource.items c.args.source.now in
-    let mid = g.S.TokenSource.items c.optional_mark.new.source in
+    let mid = g.S.TokenSource.items c.optional_punctuator.new.source in
     let start = g.S.TokenSource.items c.location.new.source in
     let now = g.S.TokenSource.items c.more.source in
-    let (m, marked, none) = c.in_ok-optional_mark.ensures.reads in
+    let (m, marked, none) = c.in_ok-optional_punctuator.ensures.reads in
     let (x, takes, is) = c.in_ok-location.ensures.reads in
     let (xs, joined, adds) = joined_taken (codes "|") (Sym location_symbol) location_at None Some old mid start now _ _ _ m marked
-    (x, takes, adds_one Some _ _ _ _ c.in_ok-push.ensures.items is) c.more.invariant.comes (sym c.sees_mark.ensures ∙ c.more-test.false) in (
+    (x, takes, adds_one Some _ _ _ _ c.in_ok-push.ensures.items is) c.more.invariant.comes (sym c.sees_punctuator.ensures ∙ c.more-test.false) in (
       Node locations_symbol xs,
       (starts locations_symbol old.tokens (λ x. refl)).takes now.tokens xs joined,
-      c.give_back_room.ensures ∙ adds_present _ c.more.locations.items (joined_of location_at None (written changes xs)) adds,
+      c.shrink_list.ensures ∙ adds_present _ c.more.locations.items (joined_of location_at None (written changes xs)) adds,
     )
 
 pub returns-clause-kept : goal.returns-clause-kept
-returns-clause-kept g c = c.more.invariant.kept ∙ c.in_ok-location.ensures.kept ∙ c.in_ok-optional_mark.ensures.kept
+returns-clause-kept g c = c.more.invariant.kept ∙ c.in_ok-location.ensures.kept ∙ c.in_ok-optional_punctuator.ensures.kept
 
 pub returns-clause-shorter : goal.returns-clause-shorter
-returns-clause-shorter g c = omega (arith, c.more.invariant.within, c.in_ok-location.ensures.shorter, c.in_ok-optional_mark.ensures.within)
+returns-clause-shorter g c = omega (arith, c.more.invariant.within, c.in_ok-location.ensures.shorter, c.in_ok-optional_punctuator.ensures.within)

@@ -11,7 +11,7 @@ returns-then-not-sees_keyword-clause-reads g c =
 
 pub returns-clause-reads : goal.returns-clause-reads
 returns-clause-reads g c =
-    let (t, begins, at) = c.in_ok-keyword.ensures in (
+    let (t, begins, at) = c.in_ok-expect_keyword.ensures in (
       First (Leaf t),
       takes_some reading (word (codes "repeatable")) _ _ _ (sym c.sees_keyword.ensures ∙ c.if-not-sees_keyword.false) (takes_one reading _ _ _ t refl begins),
       refl,

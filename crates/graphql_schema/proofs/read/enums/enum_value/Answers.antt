@@ -15,7 +15,7 @@ pub returns-in_err-name-clause-reads : goal.returns-in_err-name-clause-reads
 returns-in_err-name-clause-reads g c =
     let old = g.S.TokenSource.items c.args.source.now in
     let mid = g.S.TokenSource.items c.optional_description.new.source in
-    let new = g.S.TokenSource.items c.name.new.source in
+    let new = g.S.TokenSource.items c.expect_name.new.source in
     let (d, described, tells) = c.in_ok-description.ensures.reads in
     error_one old mid new _ _ _ (before (past (starts enum_value_symbol old.tokens (λ x. refl)) described))
     c.in_err-name.ensures c.from_residual-in_err-name.ensures.1
@@ -23,7 +23,7 @@ returns-in_err-name-clause-reads g c =
 pub returns-in_err-directives-clause-reads : goal.returns-in_err-directives-clause-reads
 returns-in_err-directives-clause-reads g c =
     let old = g.S.TokenSource.items c.args.source.now in
-    let mid = g.S.TokenSource.items c.name.new.source in
+    let mid = g.S.TokenSource.items c.expect_name.new.source in
     let new = g.S.TokenSource.items c.directives.new.source in
     let (d, described, tells) = c.in_ok-description.ensures.reads in
     let (n, named, spelled) = c.in_ok-name.ensures in
@@ -35,7 +35,7 @@ pub returns-clause-reads : goal.returns-clause-reads
 returns-clause-reads g c =
     let old = g.S.TokenSource.items c.args.source.now in
     let mid = g.S.TokenSource.items c.optional_description.new.source in
-    let next = g.S.TokenSource.items c.name.new.source in
+    let next = g.S.TokenSource.items c.expect_name.new.source in
     let (d, described, tells) = c.in_ok-description.ensures.reads in
     let (n, named, spelled) = c.in_ok-name.ensures in
     let (ds, directed, directs) = some_lifted _ refl refl _ _ _ c.in_ok-directives.ensures.reads in

@@ -17,15 +17,15 @@ use Rattle.graphql_schema.proofs.Dialect.{reading}
 use Rattle.graphql_schema.proofs.Definitions.{of_schema, of_type, node_halts}
 use Rattle.graphql_schema.proofs.read.extension.extension.Goals as goal
 
-pub returns-in_err-keyword-clause-reads : goal.returns-in_err-keyword-clause-reads
-returns-in_err-keyword-clause-reads g c =
-    node_lacks schemas refusals _ _ _ (g.S.TokenSource.items c.args.source.now) _ _ _ (before here) c.in_err-keyword.ensures c.from_residual.ensures.1
+pub returns-in_err-expect_keyword-clause-reads : goal.returns-in_err-expect_keyword-clause-reads
+returns-in_err-expect_keyword-clause-reads g c =
+    node_lacks schemas refusals _ _ _ (g.S.TokenSource.items c.args.source.now) _ _ _ (before here) c.in_err-expect_keyword.ensures c.from_residual.ensures.1
 
 -- ---- of the schema
 
 pub returns-in_err-extension-clause-reads : goal.returns-in_err-extension-clause-reads
 returns-in_err-extension-clause-reads g c =
-    let (t, taken, at) = c.in_ok-keyword.ensures in
+    let (t, taken, at) = c.in_ok-expect_keyword.ensures in
     let old = g.S.TokenSource.items c.args.source.now in
     let new = g.S.TokenSource.items c.schema_extension.new.source in
     let lead = of_schema (past here (takes_one reading (keyword (codes "extend")) _ _ t refl taken)) (sym c.sees_keyword.ensures ∙ c.if-sees_keyword.true) in
@@ -33,7 +33,7 @@ returns-in_err-extension-clause-reads g c =
 
 pub returns-then-not-adds_to_schema-clause-reads : goal.returns-then-not-adds_to_schema-clause-reads
 returns-then-not-adds_to_schema-clause-reads g c =
-    let (t, taken, at) = c.in_ok-keyword.ensures in
+    let (t, taken, at) = c.in_ok-expect_keyword.ensures in
     let (x, takes, is) = c.in_ok-extension.ensures.reads.gives in
     let lead = of_schema (past here (takes_one reading (keyword (codes "extend")) _ _ t refl taken)) (sym c.sees_keyword.ensures ∙ c.if-sees_keyword.true) in
     let bad = ap adds_to_schema (sym is) ∙ sym c.adds_to_schema.ensures ∙ c.if-not-adds_to_schema.true in
@@ -42,7 +42,7 @@ returns-then-not-adds_to_schema-clause-reads g c =
 
 pub returns-then-sees_keyword-clause-reads : goal.returns-then-sees_keyword-clause-reads
 returns-then-sees_keyword-clause-reads g c =
-    let (t, taken, at) = c.in_ok-keyword.ensures in
+    let (t, taken, at) = c.in_ok-expect_keyword.ensures in
     let (x, takes, is) = c.in_ok-extension.ensures.reads.gives in
     let lead = of_schema (past here (takes_one reading (keyword (codes "extend")) _ _ t refl taken)) (sym c.sees_keyword.ensures ∙ c.if-sees_keyword.true) in
     node_passes schemas refusals _ _ _ _ _ (Both (Leaf t) (Second x)) (lead.takes _ x takes)
@@ -52,13 +52,13 @@ returns-then-sees_keyword-clause-reads g c =
 
 pub returns-in_err-type_body-clause-reads : goal.returns-in_err-type_body-clause-reads
 returns-in_err-type_body-clause-reads g c =
-    let (t, taken, at) = c.in_ok-keyword.ensures in
+    let (t, taken, at) = c.in_ok-expect_keyword.ensures in
     let lead = of_type (past here (takes_one reading (keyword (codes "extend")) _ _ t refl taken)) (sym c.sees_keyword.ensures ∙ c.if-sees_keyword.false) in
     node_stops schemas refusals _ _ _ _ _ _ (lead.stops _ _ c.in_err-type_body.ensures.reads) c.from_residual-in_err-type_body.ensures.1
 
 pub returns-then-not-adds-clause-reads : goal.returns-then-not-adds-clause-reads
 returns-then-not-adds-clause-reads g c =
-    let (t, taken, at) = c.in_ok-keyword.ensures in
+    let (t, taken, at) = c.in_ok-expect_keyword.ensures in
     let (x, takes, is) = c.in_ok-type_body.ensures.reads in
     let seen = c.without_description-extension.ensures None (body_of (written changes x)) is in
     let lead = of_type (past here (takes_one reading (keyword (codes "extend")) _ _ t refl taken)) (sym c.sees_keyword.ensures ∙ c.if-sees_keyword.false) in
@@ -68,7 +68,7 @@ returns-then-not-adds-clause-reads g c =
 
 pub returns-clause-reads : goal.returns-clause-reads
 returns-clause-reads g c =
-    let (t, taken, at) = c.in_ok-keyword.ensures in
+    let (t, taken, at) = c.in_ok-expect_keyword.ensures in
     let (x, takes, is) = c.in_ok-type_body.ensures.reads in
     let seen = c.without_description-extension.ensures None (body_of (written changes x)) is in
     let lead = of_type (past here (takes_one reading (keyword (codes "extend")) _ _ t refl taken)) (sym c.sees_keyword.ensures ∙ c.if-sees_keyword.false) in

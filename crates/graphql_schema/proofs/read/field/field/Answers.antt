@@ -15,7 +15,7 @@ pub returns-in_err-name-clause-reads : goal.returns-in_err-name-clause-reads
 returns-in_err-name-clause-reads g c =
     let old = g.S.TokenSource.items c.args.source.now in
     let mid = g.S.TokenSource.items c.optional_description.new.source in
-    let new = g.S.TokenSource.items c.name.new.source in
+    let new = g.S.TokenSource.items c.expect_name.new.source in
     let (d, described, tells) = c.in_ok-description.ensures.reads in
     let begun = past (starts field_symbol old.tokens (λ x. refl)) described in
     error_one old mid new _ _ _ (before begun) c.in_err-name.ensures c.from_residual-in_err-name.ensures.1
@@ -23,7 +23,7 @@ returns-in_err-name-clause-reads g c =
 pub returns-in_err-optional_argument_definitions-clause-reads : goal.returns-in_err-optional_argument_definitions-clause-reads
 returns-in_err-optional_argument_definitions-clause-reads g c =
     let old = g.S.TokenSource.items c.args.source.now in
-    let mid = g.S.TokenSource.items c.name.new.source in
+    let mid = g.S.TokenSource.items c.expect_name.new.source in
     let new = g.S.TokenSource.items c.optional_argument_definitions.new.source in
     let (d, described, tells) = c.in_ok-description.ensures.reads in
     let begun = past (starts field_symbol old.tokens (λ x. refl)) described in
@@ -31,41 +31,41 @@ returns-in_err-optional_argument_definitions-clause-reads g c =
     error_in old mid new _ _ _ (before named) c.in_err-optional_argument_definitions.ensures.reads
     c.from_residual-in_err-optional_argument_definitions.ensures.1
 
-pub returns-in_err-take_mark-clause-reads : goal.returns-in_err-take_mark-clause-reads
-returns-in_err-take_mark-clause-reads g c =
+pub returns-in_err-expect_punctuator-clause-reads : goal.returns-in_err-expect_punctuator-clause-reads
+returns-in_err-expect_punctuator-clause-reads g c =
     let old = g.S.TokenSource.items c.args.source.now in
     let mid = g.S.TokenSource.items c.optional_argument_definitions.new.source in
-    let new = g.S.TokenSource.items c.take_mark.new.source in
+    let new = g.S.TokenSource.items c.expect_punctuator.new.source in
     let (d, described, tells) = c.in_ok-description.ensures.reads in
     let (vs, defined, defines) = c.in_ok-optional_argument_definitions.ensures.reads in
     let begun = past (starts field_symbol old.tokens (λ x. refl)) described in
     let named = past begun (takes_one reading _ _ _ _ refl c.in_ok-name.ensures.1) in
-    error_one old mid new _ _ _ (before (past named defined)) c.in_err-take_mark.ensures c.from_residual-in_err-take_mark.ensures.1
+    error_one old mid new _ _ _ (before (past named defined)) c.in_err-expect_punctuator.ensures c.from_residual-in_err-expect_punctuator.ensures.1
 
 pub returns-in_err-field_type-clause-reads : goal.returns-in_err-field_type-clause-reads
 returns-in_err-field_type-clause-reads g c =
     let old = g.S.TokenSource.items c.args.source.now in
-    let mid = g.S.TokenSource.items c.take_mark.new.source in
-    let new = g.S.TokenSource.items c.parse_type.new.source in
+    let mid = g.S.TokenSource.items c.expect_punctuator.new.source in
+    let new = g.S.TokenSource.items c.type_reference.new.source in
     let (d, described, tells) = c.in_ok-description.ensures.reads in
     let (vs, defined, defines) = c.in_ok-optional_argument_definitions.ensures.reads in
     let begun = past (starts field_symbol old.tokens (λ x. refl)) described in
     let named = past begun (takes_one reading _ _ _ _ refl c.in_ok-name.ensures.1) in
-    let colon = past (past named defined) (takes_one reading _ _ _ _ refl c.in_ok-take_mark.ensures.1) in
+    let colon = past (past named defined) (takes_one reading _ _ _ _ refl c.in_ok-expect_punctuator.ensures.1) in
     error_in old mid new _ _ _ (before colon)
     (stops_lifted _ refl refl _ _ _ c.in_err-field_type.ensures.reads) c.from_residual-in_err-field_type.ensures.1
 
 pub returns-in_err-directives-clause-reads : goal.returns-in_err-directives-clause-reads
 returns-in_err-directives-clause-reads g c =
     let old = g.S.TokenSource.items c.args.source.now in
-    let mid = g.S.TokenSource.items c.parse_type.new.source in
+    let mid = g.S.TokenSource.items c.type_reference.new.source in
     let new = g.S.TokenSource.items c.directives.new.source in
     let (d, described, tells) = c.in_ok-description.ensures.reads in
     let (vs, defined, defines) = c.in_ok-optional_argument_definitions.ensures.reads in
     let (t, typed, seen) = c.in_ok-field_type.ensures.reads in
     let begun = past (starts field_symbol old.tokens (λ x. refl)) described in
     let named = past begun (takes_one reading _ _ _ _ refl c.in_ok-name.ensures.1) in
-    let colon = past (past named defined) (takes_one reading _ _ _ _ refl c.in_ok-take_mark.ensures.1) in
+    let colon = past (past named defined) (takes_one reading _ _ _ _ refl c.in_ok-expect_punctuator.ensures.1) in
     error_in old mid new _ _ _ (past colon (takes_lifted _ refl refl _ _ _ typed)).stops
     (stops_lifted _ refl refl _ _ _ c.in_err-directives.ensures.reads) c.from_residual-in_err-directives.ensures.1
 
@@ -75,7 +75,7 @@ returns-clause-reads g c =
     let (d, described, tells) = c.in_ok-description.ensures.reads in
     let (n, named, spelled) = c.in_ok-name.ensures in
     let (vs, defined, defines) = c.in_ok-optional_argument_definitions.ensures.reads in
-    let (m, colon, until) = c.in_ok-take_mark.ensures in
+    let (m, colon, until) = c.in_ok-expect_punctuator.ensures in
     let (t, typed, seen) = some_lifted _ refl refl _ _ _ c.in_ok-field_type.ensures.reads in
     let (ds, directed, directs) = some_lifted _ refl refl _ _ _ c.in_ok-directives.ensures.reads in
     let at = described_at old _ _ d n described c.in_ok-description.ensures.within named in (

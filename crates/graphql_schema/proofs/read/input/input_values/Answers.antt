@@ -42,6 +42,6 @@ returns-clause-reads g c =
     let old = g.S.TokenSource.items c.args.source.now in
     let start = g.S.TokenSource.items c.input_value.new.source in
     let now = g.S.TokenSource.items c.more.source in
-    rw c.give_back_room.ensures
+    rw c.shrink_list.ensures
     (some_taken (Sym input_value_symbol) input_value_of (input_value_view g.S.Names.Names.bytes) old start now _ _ _ c.in_ok-input_value.ensures.reads
     c.more.invariant.comes (input_value_begins now ∙ sym c.sees_described_name.ensures ∙ c.more-test.false))

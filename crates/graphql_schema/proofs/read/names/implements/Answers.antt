@@ -6,15 +6,15 @@ use Rattle.graphql_schema.proofs.Lists.{gives_led}
 use Rattle.graphql_schema.proofs.JoinedNames.{past_one}
 use Rattle.graphql_schema.proofs.read.names.implements.Goals as goal
 
-pub returns-in_err-keyword-clause-reads : goal.returns-in_err-keyword-clause-reads
-returns-in_err-keyword-clause-reads g c =
+pub returns-in_err-expect_keyword-clause-reads : goal.returns-in_err-expect_keyword-clause-reads
+returns-in_err-expect_keyword-clause-reads g c =
     let old = g.S.TokenSource.items c.args.source.now in
-    error_one old old (g.S.TokenSource.items c.keyword.new.source) _ _ _
-    (before (starts implements_symbol old.tokens (λ x. refl))) c.in_err-keyword.ensures c.from_residual.ensures.1
+    error_one old old (g.S.TokenSource.items c.expect_keyword.new.source) _ _ _
+    (before (starts implements_symbol old.tokens (λ x. refl))) c.in_err-expect_keyword.ensures c.from_residual.ensures.1
 
 pub returns-clause-reads : goal.returns-clause-reads
 returns-clause-reads g c =
     let old = g.S.TokenSource.items c.args.source.now in
-    let mid = g.S.TokenSource.items c.keyword.new.source in
-    let lead = past_one _ old mid _ (starts implements_symbol old.tokens (λ x. refl)) refl c.in_ok-keyword.ensures.1 in
+    let mid = g.S.TokenSource.items c.expect_keyword.new.source in
+    let lead = past_one _ old mid _ (starts implements_symbol old.tokens (λ x. refl)) refl c.in_ok-expect_keyword.ensures.1 in
     gives_led old mid (g.S.TokenSource.items c.joined_names.new.source) _ _ _ lead (λ v x h. h) c.joined_names.ensures.reads

@@ -1,6 +1,6 @@
 use Rattle.std.proofs.Common.{◌≡◌, ◌≤◌, [], length}
 use Rattle.graphql_core.specs.Source.{kept}
-use Rattle.graphql_core.specs.steps.Marks.{spelling_of}
+use Rattle.graphql_core.specs.steps.Punctuators.{spelling_of}
 use Rattle.graphql_values.specs.Meanings.{spelling_at}
 use Rattle.graphql_schema_tree.specs.Meanings.{marked_of}
 use Rattle.graphql_schema.proofs.JoinedNames.{marked}

@@ -13,25 +13,25 @@ returns-in_err-operation-clause-reads g c =
     (g.S.TokenSource.items c.args.source.now) _ _ _ _ (before (starts root_type_symbol _ (λ x. refl))) c.in_err-operation.ensures
     c.from_residual.ensures.1
 
-pub returns-in_err-take_mark-clause-reads : goal.returns-in_err-take_mark-clause-reads
-returns-in_err-take_mark-clause-reads g c =
+pub returns-in_err-expect_punctuator-clause-reads : goal.returns-in_err-expect_punctuator-clause-reads
+returns-in_err-expect_punctuator-clause-reads g c =
     let (n, named, spelled) = c.in_ok-operation.ensures in
     let lead = past (starts root_type_symbol _ (λ x. refl)) (takes_one reading _ _ _ n refl named) in
     error_one (g.S.TokenSource.items c.args.source.now)
-    (g.S.TokenSource.items c.name.new.source) _ _ _ _ (before lead) c.in_err-take_mark.ensures c.from_residual-in_err-take_mark.ensures.1
+    (g.S.TokenSource.items c.expect_name.new.source) _ _ _ _ (before lead) c.in_err-expect_punctuator.ensures c.from_residual-in_err-expect_punctuator.ensures.1
 
 pub returns-in_err-type_name-clause-reads : goal.returns-in_err-type_name-clause-reads
 returns-in_err-type_name-clause-reads g c =
     let (n, named, spelled) = c.in_ok-operation.ensures in
-    let (m, marked, placed) = c.in_ok-take_mark.ensures in
+    let (m, marked, placed) = c.in_ok-expect_punctuator.ensures in
     let lead = past (past (starts root_type_symbol _ (λ x. refl)) (takes_one reading _ _ _ n refl named)) (takes_one reading _ _ _ m refl marked) in
     error_one (g.S.TokenSource.items c.args.source.now)
-    (g.S.TokenSource.items c.take_mark.new.source) _ _ _ _ lead.stops c.in_err-type_name.ensures c.from_residual-in_err-type_name.ensures.1
+    (g.S.TokenSource.items c.expect_punctuator.new.source) _ _ _ _ lead.stops c.in_err-type_name.ensures c.from_residual-in_err-type_name.ensures.1
 
 pub returns-clause-reads : goal.returns-clause-reads
 returns-clause-reads g c =
     let (n, named, spelled) = c.in_ok-operation.ensures in
-    let (m, marked, placed) = c.in_ok-take_mark.ensures in
+    let (m, marked, placed) = c.in_ok-expect_punctuator.ensures in
     let (t, typed, spelled') = c.in_ok-type_name.ensures in
     let lead = past (past (starts root_type_symbol _ (λ x. refl)) (takes_one reading _ _ _ n refl named)) (takes_one reading _ _ _ m refl marked) in (
       Node root_type_symbol (Both (Leaf n) (Both (Leaf m) (Leaf t))),

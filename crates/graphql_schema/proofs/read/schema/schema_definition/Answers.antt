@@ -28,40 +28,40 @@ returns-in_err-directives-clause-reads g c =
     node_stops schemas refusals _ _ _ _ _ _ (before lead _ _ (stops_lifted (Sym directives_symbol) refl refl _ _ _ c.in_err-directives.ensures.reads))
     c.from_residual-in_err-directives.ensures.1
 
-pub returns-in_err-take_mark-clause-reads : goal.returns-in_err-take_mark-clause-reads
-returns-in_err-take_mark-clause-reads g c =
+pub returns-in_err-expect_punctuator-clause-reads : goal.returns-in_err-expect_punctuator-clause-reads
+returns-in_err-expect_punctuator-clause-reads g c =
     let (t, taken, at) = c.in_ok-position.ensures in
     let (ds, directed, added) = some_lifted (Sym directives_symbol) refl refl _ _ _ c.in_ok-directives.ensures.reads in
     let lead = past (past here (takes_one reading (keyword (codes "schema")) _ _ t refl taken)) directed in
-    node_lacks schemas refusals _ _ _ (g.S.TokenSource.items c.directives.new.source) _ _ _ (before lead) c.in_err-take_mark.ensures
-    c.from_residual-in_err-take_mark.ensures.1
+    node_lacks schemas refusals _ _ _ (g.S.TokenSource.items c.directives.new.source) _ _ _ (before lead) c.in_err-expect_punctuator.ensures
+    c.from_residual-in_err-expect_punctuator.ensures.1
 
 pub returns-in_err-root_types-clause-reads : goal.returns-in_err-root_types-clause-reads
 returns-in_err-root_types-clause-reads g c =
     let (t, taken, at) = c.in_ok-position.ensures in
     let (ds, directed, added) = some_lifted (Sym directives_symbol) refl refl _ _ _ c.in_ok-directives.ensures.reads in
-    let (o, opened, at') = c.in_ok-take_mark.ensures in
+    let (o, opened, at') = c.in_ok-expect_punctuator.ensures in
     let lead = past (past (past here (takes_one reading (keyword (codes "schema")) _ _ t refl taken)) directed) (takes_one reading _ _ _ o refl opened) in
     node_stops schemas refusals _ _ _ _ _ _ (before lead _ _ c.in_err-root_types.ensures.reads) c.from_residual-in_err-root_types.ensures.1
 
-pub returns-in_err-take_mark-2-clause-reads : goal.returns-in_err-take_mark-2-clause-reads
-returns-in_err-take_mark-2-clause-reads g c =
+pub returns-in_err-expect_punctuator-2-clause-reads : goal.returns-in_err-expect_punctuator-2-clause-reads
+returns-in_err-expect_punctuator-2-clause-reads g c =
     let (t, taken, at) = c.in_ok-position.ensures in
     let (ds, directed, added) = some_lifted (Sym directives_symbol) refl refl _ _ _ c.in_ok-directives.ensures.reads in
-    let (o, opened, at') = c.in_ok-take_mark.ensures in
+    let (o, opened, at') = c.in_ok-expect_punctuator.ensures in
     let (rs, rooted, has) = c.in_ok-root_types.ensures.reads in
     let lead =
     past (past (past (past here (takes_one reading (keyword (codes "schema")) _ _ t refl taken)) directed) (takes_one reading _ _ _ o refl opened)) rooted in
-    node_lacks schemas refusals _ _ _ (g.S.TokenSource.items c.root_types.new.source) _ _ _ lead.stops c.in_err-take_mark-2.ensures
-    c.from_residual-in_err-take_mark-2.ensures.1
+    node_lacks schemas refusals _ _ _ (g.S.TokenSource.items c.root_types.new.source) _ _ _ lead.stops c.in_err-expect_punctuator-2.ensures
+    c.from_residual-in_err-expect_punctuator-2.ensures.1
 
 pub returns-in-Some-clause-reads : goal.returns-in-Some-clause-reads
 returns-in-Some-clause-reads g c =
     let (t, taken, at) = c.in_ok-position.ensures in
     let (ds, directed, added) = some_lifted (Sym directives_symbol) refl refl _ _ _ c.in_ok-directives.ensures.reads in
-    let (o, opened, at') = c.in_ok-take_mark.ensures in
+    let (o, opened, at') = c.in_ok-expect_punctuator.ensures in
     let (rs, rooted, has) = c.in_ok-root_types.ensures.reads in
-    let (e, closed, at'') = c.in_ok-take_mark-2.ensures in
+    let (e, closed, at'') = c.in_ok-expect_punctuator-2.ensures in
     let are = all_roots g.S.Names.Names.bytes _ rooted (has [] c.no_roots-roots.ensures) in
     let lead =
     past (past (past (past here (takes_one reading (keyword (codes "schema")) _ _ t refl taken)) directed) (takes_one reading _ _ _ o refl opened)) rooted in
@@ -75,9 +75,9 @@ pub returns-in-None-clause-reads : goal.returns-in-None-clause-reads
 returns-in-None-clause-reads g c =
     let (t, taken, at) = c.in_ok-position.ensures in
     let (ds, directed, added) = some_lifted (Sym directives_symbol) refl refl _ _ _ c.in_ok-directives.ensures.reads in
-    let (o, opened, at') = c.in_ok-take_mark.ensures in
+    let (o, opened, at') = c.in_ok-expect_punctuator.ensures in
     let (rs, rooted, has) = c.in_ok-root_types.ensures.reads in
-    let (e, closed, at'') = c.in_ok-take_mark-2.ensures in
+    let (e, closed, at'') = c.in_ok-expect_punctuator-2.ensures in
     let are = all_roots g.S.Names.Names.bytes _ rooted (has [] c.no_roots-roots.ensures) in
     let lead =
     past (past (past (past here (takes_one reading (keyword (codes "schema")) _ _ t refl taken)) directed) (takes_one reading _ _ _ o refl opened)) rooted in

@@ -14,12 +14,12 @@ use Rattle.graphql_schema.proofs.read.types.implementer.Goals as goal
 pub returns-in_err-name-clause-reads : goal.returns-in_err-name-clause-reads
 returns-in_err-name-clause-reads g c =
     let old = g.S.TokenSource.items c.args.source.now in
-    error_one old old (g.S.TokenSource.items c.name.new.source) _ _ _ (before here) c.in_err-name.ensures c.from_residual.ensures.1
+    error_one old old (g.S.TokenSource.items c.expect_name.new.source) _ _ _ (before here) c.in_err-name.ensures c.from_residual.ensures.1
 
 pub returns-in_err-optional_implements-clause-reads : goal.returns-in_err-optional_implements-clause-reads
 returns-in_err-optional_implements-clause-reads g c =
     let old = g.S.TokenSource.items c.args.source.now in
-    let mid = g.S.TokenSource.items c.name.new.source in
+    let mid = g.S.TokenSource.items c.expect_name.new.source in
     let new = g.S.TokenSource.items c.optional_implements.new.source in
     error_in old mid new _ _ _ (before (past_one _ old mid _ here refl c.in_ok-name.ensures.1)) c.in_err-optional_implements.ensures.reads
     c.from_residual-in_err-optional_implements.ensures.1

@@ -11,13 +11,13 @@ use Rattle.graphql_schema.proofs.read.types.interface.Goals as goal
 pub returns-in_err-position-clause-reads : goal.returns-in_err-position-clause-reads
 returns-in_err-position-clause-reads g c =
     let old = g.S.TokenSource.items c.args.source.now in
-    error_one old old (g.S.TokenSource.items c.keyword.new.source) _ _ _
+    error_one old old (g.S.TokenSource.items c.expect_keyword.new.source) _ _ _
     (before (starts interface_symbol old.tokens (λ x. refl))) c.in_err-position.ensures c.from_residual.ensures.1
 
 pub returns-in_err-common-clause-reads : goal.returns-in_err-common-clause-reads
 returns-in_err-common-clause-reads g c =
     let old = g.S.TokenSource.items c.args.source.now in
-    let mid = g.S.TokenSource.items c.keyword.new.source in
+    let mid = g.S.TokenSource.items c.expect_keyword.new.source in
     let new = g.S.TokenSource.items c.implementer.new.source in
     error_in old mid new _ _ _ (past_one _ old mid _ (starts interface_symbol old.tokens (λ x. refl)) refl c.in_ok-position.ensures.1).stops
     c.in_err-common.ensures.reads c.from_residual-in_err-common.ensures.1

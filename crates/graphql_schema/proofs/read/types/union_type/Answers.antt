@@ -15,14 +15,14 @@ use Rattle.graphql_schema.proofs.read.types.union_type.Goals as goal
 pub returns-in_err-position-clause-reads : goal.returns-in_err-position-clause-reads
 returns-in_err-position-clause-reads g c =
     let old = g.S.TokenSource.items c.args.source.now in
-    error_one old old (g.S.TokenSource.items c.keyword.new.source) _ _ _
+    error_one old old (g.S.TokenSource.items c.expect_keyword.new.source) _ _ _
     (before (starts union_symbol old.tokens (λ x. refl))) c.in_err-position.ensures c.from_residual.ensures.1
 
 pub returns-in_err-name-clause-reads : goal.returns-in_err-name-clause-reads
 returns-in_err-name-clause-reads g c =
     let old = g.S.TokenSource.items c.args.source.now in
-    let mid = g.S.TokenSource.items c.keyword.new.source in
-    let new = g.S.TokenSource.items c.name.new.source in
+    let mid = g.S.TokenSource.items c.expect_keyword.new.source in
+    let new = g.S.TokenSource.items c.expect_name.new.source in
     error_one old mid new _ _ _
     (before (past_one _ old mid _ (starts union_symbol old.tokens (λ x. refl)) refl c.in_ok-position.ensures.1)) c.in_err-name.ensures
     c.from_residual-in_err-name.ensures.1
@@ -30,7 +30,7 @@ returns-in_err-name-clause-reads g c =
 pub returns-in_err-directives-clause-reads : goal.returns-in_err-directives-clause-reads
 returns-in_err-directives-clause-reads g c =
     let old = g.S.TokenSource.items c.args.source.now in
-    let mid = g.S.TokenSource.items c.name.new.source in
+    let mid = g.S.TokenSource.items c.expect_name.new.source in
     let new = g.S.TokenSource.items c.directives.new.source in
     let named = after_name _ old _ mid _ _ (starts union_symbol old.tokens (λ x. refl)) c.in_ok-position.ensures.1 c.in_ok-name.ensures.1 in
     error_in old mid new _ _ _ (before named)

@@ -10,17 +10,17 @@ use Rattle.graphql_values.proofs.ValueAlternatives.{begins_pair, pairs_means}
 use Rattle.graphql_values.proofs.Reading.{takes_one, stops_one, stops_some, gives_error, one_of, adds_none, adds_more}
 use Rattle.graphql_values.proofs.read.directives.arguments.Goals as goal
 
-pub returns-in_err-take_mark-clause-reads : goal.returns-in_err-take_mark-clause-reads
-returns-in_err-take_mark-clause-reads g c =
+pub returns-in_err-expect_punctuator-clause-reads : goal.returns-in_err-expect_punctuator-clause-reads
+returns-in_err-expect_punctuator-clause-reads g c =
     let old = g.S.TokenSource.items c.args.source.now in
-    let new = g.S.TokenSource.items c.take_mark.new.source in
+    let new = g.S.TokenSource.items c.expect_punctuator.new.source in
     gives_error shared _ old new _ _ _
     (Stops-node shared arguments_symbol _ _ _
-    (Stops-before shared _ _ _ _ _ (stops_one shared _ old new _ c.in_err-take_mark.ensures))) c.from_residual.ensures.1
+    (Stops-before shared _ _ _ _ _ (stops_one shared _ old new _ c.in_err-expect_punctuator.ensures))) c.from_residual.ensures.1
 
 pub returns-in_err-argument-clause-reads : goal.returns-in_err-argument-clause-reads
 returns-in_err-argument-clause-reads g c =
-    let before = takes_one shared _ _ _ _ refl c.in_ok-take_mark.ensures.1 in
+    let before = takes_one shared _ _ _ _ refl c.in_ok-expect_punctuator.ensures.1 in
     gives_error shared _ (g.S.TokenSource.items c.args.source.now) (g.S.TokenSource.items c.argument.new.source) _ _ _
     (Stops-node shared arguments_symbol _ _ _
     (Stops-after shared _ _ _ _ _ _ _ before (Stops-before shared _ _ _ _ _ (Stops-before shared _ _ _ _ _ c.in_err-argument.ensures.reads))))
@@ -46,7 +46,7 @@ more-preserved g c =
 
 pub returns-in_err-argument-2-clause-reads : goal.returns-in_err-argument-2-clause-reads
 returns-in_err-argument-2-clause-reads g c =
-    let before = takes_one shared _ _ _ _ refl c.in_ok-take_mark.ensures.1 in
+    let before = takes_one shared _ _ _ _ refl c.in_ok-expect_punctuator.ensures.1 in
     let (first, takes, view) = c.in_ok-argument.ensures.reads in
     let (items, turns, views) = c.more.invariant.turns in
     gives_error shared _ (g.S.TokenSource.items c.args.source.now) (g.S.TokenSource.items c.argument-in-more.new.source) _ _ _
@@ -55,26 +55,26 @@ returns-in_err-argument-2-clause-reads g c =
     (begins_pair Value _ ∙ sym c.sees_name.ensures ∙ c.more-test.true) c.in_err-argument-2.ensures.reads)))))
     c.from_residual-in_err-argument-2.ensures.1
 
-pub returns-in_err-take_mark-2-clause-reads : goal.returns-in_err-take_mark-2-clause-reads
-returns-in_err-take_mark-2-clause-reads g c =
+pub returns-in_err-expect_punctuator-2-clause-reads : goal.returns-in_err-expect_punctuator-2-clause-reads
+returns-in_err-expect_punctuator-2-clause-reads g c =
     let now = g.S.TokenSource.items c.more.source in
-    let new = g.S.TokenSource.items c.take_mark-2.new.source in
-    let before = takes_one shared _ _ _ _ refl c.in_ok-take_mark.ensures.1 in
+    let new = g.S.TokenSource.items c.expect_punctuator-2.new.source in
+    let before = takes_one shared _ _ _ _ refl c.in_ok-expect_punctuator.ensures.1 in
     let (first, takes, view) = c.in_ok-argument.ensures.reads in
     let (items, turns, views) = c.more.invariant.turns in
     gives_error shared _ (g.S.TokenSource.items c.args.source.now) new _ _ _
     (Stops-node shared arguments_symbol _ _ _ (Stops-after shared _ _ _ _ _ _ _ before
     (stops_some shared _ _ (one_of argument_of) _ _ _ _ first items _ takes turns (begins_pair Value _ ∙ sym c.sees_name.ensures ∙ c.more-test.false)
-    (stops_one shared _ now new _ c.in_err-take_mark-2.ensures))))
-    c.from_residual-in_err-take_mark-2.ensures.1
+    (stops_one shared _ now new _ c.in_err-expect_punctuator-2.ensures))))
+    c.from_residual-in_err-expect_punctuator-2.ensures.1
 
 pub returns-clause-reads : goal.returns-clause-reads
 returns-clause-reads g c =
     let view_one = argument_view g.S.Names.Names.bytes in
-    let (o, opens, at) = c.in_ok-take_mark.ensures in
+    let (o, opens, at) = c.in_ok-expect_punctuator.ensures in
     let (first, takes, view) = c.in_ok-argument.ensures.reads in
     let (items, turns, views) = c.more.invariant.turns in
-    let (e, ends, until) = c.in_ok-take_mark-2.ensures in
+    let (e, ends, until) = c.in_ok-expect_punctuator-2.ensures in
     let r = Turns-stop shared _ (one_of argument_of) _ _ items turns (begins_pair Value _ ∙ sym c.sees_name.ensures ∙ c.more-test.false) in
     let others = sym (pairs_means Value r.1 ∙ r.2) in (
       Node arguments_symbol (Both (Leaf o) (Both (Both first r.0) (Leaf e))),

@@ -10,19 +10,19 @@ use Rattle.graphql_values.proofs.read.directives.directive.Goals as goal
 pub returns-in_err-position-clause-reads : goal.returns-in_err-position-clause-reads
 returns-in_err-position-clause-reads g c =
     let old = g.S.TokenSource.items c.args.source.now in
-    let new = g.S.TokenSource.items c.take_mark.new.source in
+    let new = g.S.TokenSource.items c.expect_punctuator.new.source in
     gives_error shared _ old new _ _ _
     (Stops-node shared directive_symbol _ _ _
     (Stops-before shared _ _ _ _ _ (stops_one shared _ old new _ c.in_err-position.ensures))) c.from_residual.ensures.1
 
 pub returns-in_err-name-clause-reads : goal.returns-in_err-name-clause-reads
 returns-in_err-name-clause-reads g c =
-    let new = g.S.TokenSource.items c.name.new.source in
+    let new = g.S.TokenSource.items c.expect_name.new.source in
     let before = takes_one shared _ _ _ _ refl c.in_ok-position.ensures.1 in
     gives_error shared _ (g.S.TokenSource.items c.args.source.now) new _ _ _
     (Stops-node shared directive_symbol _ _ _
     (Stops-after shared _ _ _ _ _ _ _ before
-    (Stops-before shared _ _ _ _ _ (stops_one shared _ (g.S.TokenSource.items c.take_mark.new.source) new _ c.in_err-name.ensures))))
+    (Stops-before shared _ _ _ _ _ (stops_one shared _ (g.S.TokenSource.items c.expect_punctuator.new.source) new _ c.in_err-name.ensures))))
     c.from_residual-in_err-name.ensures.1
 
 pub returns-in_err-optional_arguments-clause-reads : goal.returns-in_err-optional_arguments-clause-reads

@@ -4,16 +4,16 @@ use Rattle.graphql_values.proofs.Steps.{error_in}
 use Rattle.graphql_values.proofs.ValueAlternatives.{some_default, no_default}
 use Rattle.graphql_values.proofs.read.directives.optional_default.Goals as goal
 
-pub returns-then-not-sees_mark-clause-reads : goal.returns-then-not-sees_mark-clause-reads
-returns-then-not-sees_mark-clause-reads g c = (Second Nothing, no_default _ (sym c.sees_mark.ensures ∙ c.if-not-sees_mark.true), refl)
+pub returns-then-not-sees_punctuator-clause-reads : goal.returns-then-not-sees_punctuator-clause-reads
+returns-then-not-sees_punctuator-clause-reads g c = (Second Nothing, no_default _ (sym c.sees_punctuator.ensures ∙ c.if-not-sees_punctuator.true), refl)
 
 pub returns-in_err-default_value-clause-reads : goal.returns-in_err-default_value-clause-reads
 returns-in_err-default_value-clause-reads g c =
     let old = g.S.TokenSource.items c.args.source.now in
     error_in old old (g.S.TokenSource.items c.default_value.new.source) _ _ _
-    (some_default old.tokens (sym c.sees_mark.ensures ∙ c.if-not-sees_mark.false)).stops c.in_err-default_value.ensures.reads c.from_residual.ensures.1
+    (some_default old.tokens (sym c.sees_punctuator.ensures ∙ c.if-not-sees_punctuator.false)).stops c.in_err-default_value.ensures.reads c.from_residual.ensures.1
 
 pub returns-clause-reads : goal.returns-clause-reads
 returns-clause-reads g c =
     let (x, takes, view) = c.in_ok-default_value.ensures.reads in
-    (First x, (some_default _ (sym c.sees_mark.ensures ∙ c.if-not-sees_mark.false)).takes _ x takes, ap Some view)
+    (First x, (some_default _ (sym c.sees_punctuator.ensures ∙ c.if-not-sees_punctuator.false)).takes _ x takes, ap Some view)

@@ -23,33 +23,33 @@ value_of_sort-returns-then-sees_variable-clause-reads g t c =
     let (side, same) = variable_side c.args.sort old (sym c.sees_variable.ensures ∙ c.if-sees_variable.true) in
     gives_side shared _ _ as_variable old (g.S.TokenSource.items c.variable.new.source) _ _ _ side (λ v x h. h ∙ sym (same x)) c.variable.ensures.reads
 
-pub value_of_sort-returns-then-sees_mark-clause-reads : goal.value_of_sort-returns-then-sees_mark-clause-reads
-value_of_sort-returns-then-sees_mark-clause-reads g t c =
+pub value_of_sort-returns-then-sees_punctuator-clause-reads : goal.value_of_sort-returns-then-sees_punctuator-clause-reads
+value_of_sort-returns-then-sees_punctuator-clause-reads g t c =
     let old = g.S.TokenSource.items c.args.source.now in
-    let side = list_side c.args.sort old.tokens (sym c.sees_mark.ensures ∙ c.if-sees_mark.true) in
+    let side = list_side c.args.sort old.tokens (sym c.sees_punctuator.ensures ∙ c.if-sees_punctuator.true) in
     gives_side shared _ _ (as_list c.args.sort) old (g.S.TokenSource.items c.list.new.source) _ _ _ side (λ v x h. h) c.list.ensures.reads
 
-pub value_of_sort-returns-then-sees_mark-2-clause-reads : goal.value_of_sort-returns-then-sees_mark-2-clause-reads
-value_of_sort-returns-then-sees_mark-2-clause-reads g t c =
+pub value_of_sort-returns-then-sees_punctuator-2-clause-reads : goal.value_of_sort-returns-then-sees_punctuator-2-clause-reads
+value_of_sort-returns-then-sees_punctuator-2-clause-reads g t c =
     let old = g.S.TokenSource.items c.args.source.now in
-    let side = object_side c.args.sort old.tokens (sym c.sees_mark-2.ensures ∙ c.if-sees_mark-2.true) in
+    let side = object_side c.args.sort old.tokens (sym c.sees_punctuator-2.ensures ∙ c.if-sees_punctuator-2.true) in
     gives_side shared _ _ (as_object c.args.sort) old (g.S.TokenSource.items c.object.new.source) _ _ _ side (λ v x h. h) c.object.ensures.reads
 
 pub value_of_sort-returns-clause-reads : goal.value_of_sort-returns-clause-reads
 value_of_sort-returns-clause-reads g t c =
     let old = g.S.TokenSource.items c.args.source.now in
-    let side = plain_side c.args.sort old (sym c.sees_variable.ensures ∙ c.if-sees_variable.false) (sym c.sees_mark.ensures ∙ c.if-sees_mark.false)
-    (sym c.sees_mark-2.ensures ∙ c.if-sees_mark-2.false) in
+    let side = plain_side c.args.sort old (sym c.sees_variable.ensures ∙ c.if-sees_variable.false) (sym c.sees_punctuator.ensures ∙ c.if-sees_punctuator.false)
+    (sym c.sees_punctuator-2.ensures ∙ c.if-sees_punctuator-2.false) in
     gives_side shared _ _ (as_plain c.args.sort) old (g.S.TokenSource.items c.plain_value.new.source) _ _ _ side
     (λ v x h. h ∙ sym (plain_means c.args.sort x)) c.plain_value.ensures.reads
 
 -- ---- list
 
-pub list-returns-in_err-take_mark-clause-reads : goal.list-returns-in_err-take_mark-clause-reads
-list-returns-in_err-take_mark-clause-reads g t c =
+pub list-returns-in_err-expect_punctuator-clause-reads : goal.list-returns-in_err-expect_punctuator-clause-reads
+list-returns-in_err-expect_punctuator-clause-reads g t c =
     let old = g.S.TokenSource.items c.args.source.now in
-    let new = g.S.TokenSource.items c.take_mark.new.source in
-    gives_error shared _ old new _ _ _ (Stops-before shared _ _ _ _ _ (stops_one shared _ old new _ c.in_err-take_mark.ensures)) c.from_residual.ensures.1
+    let new = g.S.TokenSource.items c.expect_punctuator.new.source in
+    gives_error shared _ old new _ _ _ (Stops-before shared _ _ _ _ _ (stops_one shared _ old new _ c.in_err-expect_punctuator.ensures)) c.from_residual.ensures.1
 
 pub list-more-init : goal.list-more-init
 list-more-init g t c = record { turns = ([], Turns-start shared _ (one_of (tree_of c.args.sort)) _, sym (append-nil _)); kept = refl; within = omega arith }
@@ -71,12 +71,12 @@ list-more-preserved g t c =
 
 pub list-returns-in_err-value_of_sort-clause-reads : goal.list-returns-in_err-value_of_sort-clause-reads
 list-returns-in_err-value_of_sort-clause-reads g t c =
-    let before = takes_one shared _ _ _ _ refl c.in_ok-take_mark.ensures.1 in
+    let before = takes_one shared _ _ _ _ refl c.in_ok-expect_punctuator.ensures.1 in
     let (items, turns, views) = c.more.invariant.turns in
     gives_error shared _ (g.S.TokenSource.items c.args.source.now) (g.S.TokenSource.items c.value_of_sort.new.source) _ _ _
     (Stops-after shared _ _ _ _ _ _ _ before
     (stops_until shared _ (mark (codes "]")) (one_of (tree_of c.args.sort)) _ _ _ items _ (unseen_value c.args.sort _) turns
-    (sym c.sees_mark.ensures ∙ c.more-test.true) c.in_err-value_of_sort.ensures.reads))
+    (sym c.sees_punctuator.ensures ∙ c.more-test.true) c.in_err-value_of_sort.ensures.reads))
     c.from_residual-in_err-value_of_sort.ensures.1
 
 pub list-returns-clause-reads : goal.list-returns-clause-reads
@@ -84,10 +84,10 @@ list-returns-clause-reads g t c =
     let s = c.args.sort in
     let f = tree_of s in
     let bytes = g.S.Names.Names.bytes in
-    let (o, opens, at) = c.in_ok-take_mark.ensures in
-    let (e, ends, until) = c.in_ok-take_mark-2.ensures in
+    let (o, opens, at) = c.in_ok-expect_punctuator.ensures in
+    let (e, ends, until) = c.in_ok-expect_punctuator-2.ensures in
     let (items, turns, views) = c.more.invariant.turns in
-    let r = Turns-stop shared _ (one_of f) _ _ items turns (ends_list s _ (sym c.sees_mark.ensures ∙ c.more-test.false)) in (
+    let r = Turns-stop shared _ (one_of f) _ _ items turns (ends_list s _ (sym c.sees_punctuator.ensures ∙ c.more-test.false)) in (
       Both (Leaf o) (Both r.0 (Leaf e)),
       takes_both (takes_one shared _ _ _ o refl opens) (takes_both r.1 (takes_one shared _ _ _ e refl ends)),
       list_made _ _ bytes _ ∙ ap list (ap items_of (fills (value_view bytes) _ _ items c.new-items.ensures.items views ∙ sym r.2) ∙ sym (trees_means s r.1))
@@ -96,11 +96,11 @@ list-returns-clause-reads g t c =
 
 -- ---- object
 
-pub object-returns-in_err-take_mark-clause-reads : goal.object-returns-in_err-take_mark-clause-reads
-object-returns-in_err-take_mark-clause-reads g t c =
+pub object-returns-in_err-expect_punctuator-clause-reads : goal.object-returns-in_err-expect_punctuator-clause-reads
+object-returns-in_err-expect_punctuator-clause-reads g t c =
     let old = g.S.TokenSource.items c.args.source.now in
-    let new = g.S.TokenSource.items c.take_mark.new.source in
-    gives_error shared _ old new _ _ _ (Stops-before shared _ _ _ _ _ (stops_one shared _ old new _ c.in_err-take_mark.ensures)) c.from_residual.ensures.1
+    let new = g.S.TokenSource.items c.expect_punctuator.new.source in
+    gives_error shared _ old new _ _ _ (Stops-before shared _ _ _ _ _ (stops_one shared _ old new _ c.in_err-expect_punctuator.ensures)) c.from_residual.ensures.1
 
 pub object-more-init : goal.object-more-init
 object-more-init g t c = record { turns = ([], Turns-start shared _ (one_of (pair_of c.args.sort)) _, refl); kept = refl; within = omega arith }
@@ -122,7 +122,7 @@ object-more-preserved g t c =
 
 pub object-returns-in_err-member-clause-reads : goal.object-returns-in_err-member-clause-reads
 object-returns-in_err-member-clause-reads g t c =
-    let before = takes_one shared _ _ _ _ refl c.in_ok-take_mark.ensures.1 in
+    let before = takes_one shared _ _ _ _ refl c.in_ok-expect_punctuator.ensures.1 in
     let (pairs, turns, views) = c.more.invariant.turns in
     gives_error shared _ (g.S.TokenSource.items c.args.source.now) (g.S.TokenSource.items c.member.new.source) _ _ _
     (Stops-after shared _ _ _ _ _ _ _ before
@@ -131,23 +131,23 @@ object-returns-in_err-member-clause-reads g t c =
     (begins_pair c.args.sort _ ∙ sym c.sees_name.ensures ∙ c.more-test.true) c.in_err-member.ensures.reads)))
     c.from_residual-in_err-member.ensures.1
 
-pub object-returns-in_err-take_mark-2-clause-reads : goal.object-returns-in_err-take_mark-2-clause-reads
-object-returns-in_err-take_mark-2-clause-reads g t c =
+pub object-returns-in_err-expect_punctuator-2-clause-reads : goal.object-returns-in_err-expect_punctuator-2-clause-reads
+object-returns-in_err-expect_punctuator-2-clause-reads g t c =
     let now = g.S.TokenSource.items c.more.source in
-    let new = g.S.TokenSource.items c.take_mark-2.new.source in
-    let before = takes_one shared _ _ _ _ refl c.in_ok-take_mark.ensures.1 in
+    let new = g.S.TokenSource.items c.expect_punctuator-2.new.source in
+    let before = takes_one shared _ _ _ _ refl c.in_ok-expect_punctuator.ensures.1 in
     let (pairs, turns, views) = c.more.invariant.turns in
     let r = Turns-stop shared _ (one_of (pair_of c.args.sort)) _ _ pairs turns (begins_pair c.args.sort _ ∙ sym c.sees_name.ensures ∙ c.more-test.false) in
     gives_error shared _ (g.S.TokenSource.items c.args.source.now) new _ _ _
-    (Stops-after shared _ _ _ _ _ _ _ before (Stops-after shared _ _ _ _ _ _ _ r.1 (stops_one shared _ now new _ c.in_err-take_mark-2.ensures)))
-    c.from_residual-in_err-take_mark-2.ensures.1
+    (Stops-after shared _ _ _ _ _ _ _ before (Stops-after shared _ _ _ _ _ _ _ r.1 (stops_one shared _ now new _ c.in_err-expect_punctuator-2.ensures)))
+    c.from_residual-in_err-expect_punctuator-2.ensures.1
 
 pub object-returns-clause-reads : goal.object-returns-clause-reads
 object-returns-clause-reads g t c =
     let s = c.args.sort in
     let bytes = g.S.Names.Names.bytes in
-    let (o, opens, at) = c.in_ok-take_mark.ensures in
-    let (e, ends, until) = c.in_ok-take_mark-2.ensures in
+    let (o, opens, at) = c.in_ok-expect_punctuator.ensures in
+    let (e, ends, until) = c.in_ok-expect_punctuator-2.ensures in
     let (pairs, turns, views) = c.more.invariant.turns in
     let r = Turns-stop shared _ (one_of (pair_of s)) _ _ pairs turns (begins_pair s _ ∙ sym c.sees_name.ensures ∙ c.more-test.false) in
     let fields = views ∙ ap₂ put_all (sym (pairs_means s r.1 ∙ r.2)) (ap (members_view bytes) c.new-fields.ensures.empty) in (
@@ -161,27 +161,27 @@ object-returns-clause-reads g t c =
 pub member-returns-in_err-name-clause-reads : goal.member-returns-in_err-name-clause-reads
 member-returns-in_err-name-clause-reads g t c =
     let old = g.S.TokenSource.items c.args.source.now in
-    let new = g.S.TokenSource.items c.name.new.source in
+    let new = g.S.TokenSource.items c.expect_name.new.source in
     gives_error shared _ old new _ _ _
     ((pair_side c.args.sort old.tokens).stops _ _
     (Stops-before shared _ _ _ _ _ (stops_one shared _ old new _ c.in_err-name.ensures))) c.from_residual.ensures.1
 
-pub member-returns-in_err-take_mark-clause-reads : goal.member-returns-in_err-take_mark-clause-reads
-member-returns-in_err-take_mark-clause-reads g t c =
+pub member-returns-in_err-expect_punctuator-clause-reads : goal.member-returns-in_err-expect_punctuator-clause-reads
+member-returns-in_err-expect_punctuator-clause-reads g t c =
     let old = g.S.TokenSource.items c.args.source.now in
-    let new = g.S.TokenSource.items c.take_mark.new.source in
+    let new = g.S.TokenSource.items c.expect_punctuator.new.source in
     let named = takes_one shared _ _ _ _ refl c.in_ok-name.ensures.1 in
     gives_error shared _ old new _ _ _
     ((pair_side c.args.sort old.tokens).stops _ _
     (Stops-after shared _ _ _ _ _ _ _ named
-    (Stops-before shared _ _ _ _ _ (stops_one shared _ (g.S.TokenSource.items c.name.new.source) new _ c.in_err-take_mark.ensures))))
-    c.from_residual-in_err-take_mark.ensures.1
+    (Stops-before shared _ _ _ _ _ (stops_one shared _ (g.S.TokenSource.items c.expect_name.new.source) new _ c.in_err-expect_punctuator.ensures))))
+    c.from_residual-in_err-expect_punctuator.ensures.1
 
 pub member-returns-in_err-value-clause-reads : goal.member-returns-in_err-value-clause-reads
 member-returns-in_err-value-clause-reads g t c =
     let old = g.S.TokenSource.items c.args.source.now in
     let named = takes_one shared _ _ _ _ refl c.in_ok-name.ensures.1 in
-    let before = takes_one shared _ _ _ _ refl c.in_ok-take_mark.ensures.1 in
+    let before = takes_one shared _ _ _ _ refl c.in_ok-expect_punctuator.ensures.1 in
     gives_error shared _ old (g.S.TokenSource.items c.value_of_sort.new.source) _ _ _
     ((pair_side c.args.sort old.tokens).stops _ _
     (Stops-after shared _ _ _ _ _ _ _ named (Stops-after shared _ _ _ _ _ _ _ before c.in_err-value.ensures.reads)))
@@ -192,7 +192,7 @@ member-returns-clause-reads g t c =
     let s = c.args.sort in
     let bytes = g.S.Names.Names.bytes in
     let (n, named, spelled) = c.in_ok-name.ensures in
-    let (m, marks, until) = c.in_ok-take_mark.ensures in
+    let (m, marks, until) = c.in_ok-expect_punctuator.ensures in
     let (x, takes, view) = c.in_ok-value.ensures.reads in
     let inserted = ap (members_view bytes) c.in_ok-insert.ensures.entries ∙ view_insert bytes g.S.Names.Value.Ord.cmp g.met.S.Names.Names.cmp_by_bytes _ _ _ in
     let pair = ap₂ (λ a b. (a, b)) (sym spelled) view ∙ sym (pair_means s (pair_symbol_of s) (Leaf n) (Leaf m) x) in (

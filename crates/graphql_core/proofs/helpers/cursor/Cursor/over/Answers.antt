@@ -1,7 +1,7 @@
 use Rattle.std.proofs.Common.{sym, ap, ◌∙◌, arith}
 use Rattle.std.proofs.lemmas.List.Elements.{All-same}
 use Rattle.graphql_core.specs.Source.{Items, IsLexeme}
-use Rattle.graphql_core.specs.steps.Marks.{front_byte}
+use Rattle.graphql_core.specs.steps.Punctuators.{front_byte}
 use Rattle.graphql_core.proofs.CursorItems.{held_stream}
 use Rattle.graphql_core.proofs.NestingDepth.{rest_lexemes}
 use Rattle.graphql_core.proofs.helpers.cursor.Cursor.over.Goals as goal

@@ -12,4 +12,4 @@ spelling-requires g c =
 pub returns-in-Some : goal.returns-in-Some
 returns-in-Some g c =
     rw (← c.self.view_is) (fault_here g.W.Width.number c.self.inside.text.now c.in-Some.span.now c.self.inside.rest.now _ _ c.position_of.result c.spelling.result.now
-    c.unexpected.result c.in-Some.ensures.cases.0 c.position_of.ensures.line c.position_of.ensures.column c.spelling.ensures c.unexpected.ensures)
+    c.unexpected.result c.in-Some.ensures.cases.0 c.position_of.ensures.line c.position_of.ensures.column c.spelling.ensures (rw c.kind.ensures at c.unexpected.ensures))

@@ -1,0 +1,103 @@
+//! Past the ignored text at the front of a text.
+ghost use Rattle.std.specs.Prelude.{◌≡◌, ◌+◌, ◌-◌, ◌*◌, ◌<◌, ◌≤◌, ◌^◌, length, slice_index, true};
+ghost use Rattle.graphql_lexer.specs.Items.{Where};
+ghost use Rattle.graphql_lexer.specs.Stream.{further};
+ghost use Rattle.graphql_lexer.specs.steps.Front.{front, IsItem};
+ghost use Rattle.graphql_lexer.specs.steps.Cut.{items};
+
+use crate::position::Pos;
+use crate::tokenizer::class::{is_blank, is_ignored, is_line_feed};
+use crate::tokenizer::piece::{byte_at, ignored_of, near_spaces_of, spaces_of};
+use crate::tokenizer::place::{position_after_line, position_after_move, position_after_spaces};
+
+/// Past the ignored text at the front, whatever it is.
+#[cold]
+#[inline(never)]
+fn skip_rare(text: &str, at: Pos) -> (&str, Pos)
+    requires small { length text.now < 2 ^ 62 }
+    requires line { at.line + length text.now < 2 ^ 62 }
+    requires column { at.column + 8 * length text.now < 2 ^ 63 }
+    ensures items { (w : Where) → w.position ≡ at
+        → items (further result.1 (length text.now - length result.0.now) w) result.0.now ≡ items w text.now }
+    ensures first { IsItem (front result.0.now) }
+    ensures within { length result.0.now ≤ length text.now }
+    ensures line { result.1.line + length result.0.now ≤ at.line + length text.now }
+    ensures column { result.1.column + 8 * length result.0.now ≤ at.column + 8 * length text.now }
+{
+    let mut rest = text;
+    let mut place = at;
+    'skips: while let Some((len, by)) = ignored_of(rest) {
+        let after = rest.split_at(len).1;
+        let spaces = spaces_of(after);
+        place = position_after_spaces(spaces, position_after_move(by, place));
+        rest = after.split_at(spaces).1;
+    }
+    (rest, place)
+}
+
+/// The first byte of a text, 0 where there is none.
+#[inline(always)]
+fn front_byte(text: &str) -> u8
+    ensures { result ≡ slice_index text.now 0 }
+{
+    byte_at(text.as_bytes(), 0)
+}
+
+/// Past plain ignored text at the front; and whether an item follows, which is not told where other ignored text or a
+/// long run of spaces does.
+#[inline(always)]
+pub fn skip_plain(text: &str, at: Pos) -> (&str, Pos, bool)
+    requires small { length text.now < 2 ^ 62 }
+    requires line { at.line + length text.now < 2 ^ 62 }
+    requires column { at.column + 8 * length text.now < 2 ^ 63 }
+    ensures items { (w : Where) → w.position ≡ at
+        → items (further result.1 (length text.now - length result.0.now) w) result.0.now ≡ items w text.now }
+    ensures first { result.2 ≡ true → IsItem (front result.0.now) }
+    ensures within { length result.0.now ≤ length text.now }
+    ensures line { result.1.line + length result.0.now ≤ at.line + length text.now }
+    ensures column { result.1.column + 8 * length result.0.now ≤ at.column + 8 * length text.now }
+{
+    let mut rest = text;
+    let mut place = at;
+    'plain: loop {
+        let byte = front_byte(rest);
+        if !is_ignored(byte) {
+            return (rest, place, true);
+        }
+        if is_blank(byte) {
+            place = position_after_spaces(1, place);
+            rest = rest.split_at(1).1;
+        } else if is_line_feed(byte) {
+            place = position_after_line(place);
+            let after = rest.split_at(1).1;
+            let Some(spaces) = near_spaces_of(after) else {
+                return (after, place, false);
+            };
+            place = position_after_spaces(spaces, place);
+            rest = after.split_at(spaces).1;
+        } else {
+            return (rest, place, false);
+        }
+    }
+}
+
+/// Past the ignored text at the front.
+#[inline(always)]
+pub fn skip_ignored(text: &str, at: Pos) -> (&str, Pos)
+    requires small { length text.now < 2 ^ 62 }
+    requires line { at.line + length text.now < 2 ^ 62 }
+    requires column { at.column + 8 * length text.now < 2 ^ 63 }
+    ensures items { (w : Where) → w.position ≡ at
+        → items (further result.1 (length text.now - length result.0.now) w) result.0.now ≡ items w text.now }
+    ensures first { IsItem (front result.0.now) }
+    ensures within { length result.0.now ≤ length text.now }
+    ensures line { result.1.line + length result.0.now ≤ at.line + length text.now }
+    ensures column { result.1.column + 8 * length result.0.now ≤ at.column + 8 * length text.now }
+{
+    let (rest, place, is_item) = skip_plain(text, at);
+    if is_item {
+        (rest, place)
+    } else {
+        skip_rare(rest, place)
+    }
+}
