@@ -5,7 +5,7 @@
  * returns, writes nowhere else, and frees what memory it took. No two calls share anything: threads may call at once.
  *
  * What nothing checks, and the caller owes:
- *  - `text` and `out` are never null, also where the length or the capacity is 0;
+ *  - `text` and `out` are never null, also where the length or the capacity is 0: the address of any object does then;
  *  - `text` points to `length` bytes that can be read, and `out` to `capacity` bytes that can be written, which do not overlap; the bytes of `out`
  *    have values (a buffer of `malloc` is to be filled once before it is passed);
  *  - nobody else reads or writes `out`, or writes `text`, while the call runs;
@@ -18,6 +18,12 @@
 #include <stdbool.h>
 #include <stddef.h>
 #include <stdint.h>
+
+/* The version of the library that this header declares. */
+#define GRAPHQL_VERSION_MAJOR 0
+#define GRAPHQL_VERSION_MINOR 1
+#define GRAPHQL_VERSION_PATCH 0
+#define GRAPHQL_VERSION "0.1.0"
 
 #ifdef __cplusplus
 extern "C" {
@@ -70,21 +76,23 @@ typedef struct graphql_answer {
 } graphql_answer;
 
 /* Lays a query document out, with `indent` spaces a level, and under `multiline` (which is 0 or 1) with a line for each argument, list item and
- * object field. */
+ * object field. On GRAPHQL_OK the layout is at the beginning of `out`; GRAPHQL_BUFFER_TOO_SHORT tells how long it is, and a second call whose buffer
+ * is that long writes it. */
 graphql_answer graphql_format_query(const uint8_t *text, size_t length, uint32_t indent, bool multiline, uint8_t *out, size_t capacity);
 
 /* The same of a schema document. */
 graphql_answer graphql_format_schema(const uint8_t *text, size_t length, uint32_t indent, bool multiline, uint8_t *out, size_t capacity);
 
-/* Writes the tokens of a text, with only the spaces that keep them apart. It refuses for GRAPHQL_BAD_TOKEN, GRAPHQL_TOO_DEEP and
- * GRAPHQL_TEXT_TOO_LONG alone. */
+/* Writes the tokens of a text, with only the spaces that keep them apart, into a buffer as above. It refuses a text for GRAPHQL_BAD_TOKEN,
+ * GRAPHQL_TOO_DEEP and GRAPHQL_TEXT_TOO_LONG alone. */
 graphql_answer graphql_minify(const uint8_t *text, size_t length, uint8_t *out, size_t capacity);
 
 /* Finds where the first definition of a query document ends, with the spaces, commas and comments after it: on GRAPHQL_OK the rest of the text
- * begins at the offset `length`. The rest may be anything, and is not looked at. Only a message is written. */
+ * begins at the offset `length`. The rest may be anything, and is not looked at. Only a message is written, so GRAPHQL_BUFFER_TOO_SHORT is never
+ * answered, and a capacity of 0 is enough where no message is wanted. */
 graphql_answer graphql_first_definition(const uint8_t *text, size_t length, uint8_t *out, size_t capacity);
 
-/* Parses a text alone: GRAPHQL_OK where it is a query document. Only a message is written. */
+/* Parses a text alone: GRAPHQL_OK where it is a query document. Only a message is written, as above. */
 graphql_answer graphql_check_query(const uint8_t *text, size_t length, uint8_t *out, size_t capacity);
 
 /* The same of a schema document. */

@@ -1,0 +1,66 @@
+//! How long the calls take of a document in memory: the least time of each in so many rounds, in microseconds.
+//!
+//! A round makes each call once, one after another, or the only one that the last word names.
+
+use graphql_proved::{check_query, check_schema, format_query, format_schema, minify, Error, Style};
+use std::time::{Duration, Instant};
+use std::{env, fs, process};
+
+const USAGE: &str = "usage: measure query|schema FILE ROUNDS [check|format|minify]";
+
+/// A call for a text, whose output is dropped.
+type Call = fn(&str) -> Result<(), Error>;
+
+/// The calls for a language, by their names.
+fn calls(language: &str) -> Option<[(&'static str, Call); 3]> {
+    let of_both: Call = |text| minify(text).map(drop);
+    match language {
+        "query" => Some([("check", check_query), ("format", |text| format_query(text, Style::default()).map(drop)), ("minify", of_both)]),
+        "schema" => Some([("check", check_schema), ("format", |text| format_schema(text, Style::default()).map(drop)), ("minify", of_both)]),
+        _ => None,
+    }
+}
+
+/// The least time of each of the calls.
+fn least_times(calls: &[(&str, Call)], text: &str, rounds: u32) -> Result<Vec<Duration>, Error> {
+    let mut least = vec![Duration::MAX; calls.len()];
+    for _ in 0..rounds {
+        for (least, (_, call)) in least.iter_mut().zip(calls) {
+            let start = Instant::now();
+            call(text)?;
+            *least = (*least).min(start.elapsed());
+        }
+    }
+    Ok(least)
+}
+
+/// What the words ask for, where they are right: the calls, a file and the rounds.
+fn order(words: &[String]) -> Option<(Vec<(&'static str, Call)>, &str, u32)> {
+    let (language, file, rounds, only) = match words {
+        [language, file, rounds] => (language, file, rounds, None),
+        [language, file, rounds, only] => (language, file, rounds, Some(only)),
+        _ => return None,
+    };
+    let calls: Vec<_> = calls(language)?.into_iter().filter(|(name, _)| only.map_or(true, |only| only == name)).collect();
+    let rounds = rounds.parse().ok().filter(|&rounds| rounds > 0)?;
+    (!calls.is_empty()).then_some((calls, file, rounds))
+}
+
+fn main() {
+    let words: Vec<_> = env::args().skip(1).collect();
+    let Some((calls, file, rounds)) = order(&words) else {
+        eprintln!("{USAGE}");
+        process::exit(2);
+    };
+    let text = fs::read_to_string(file).unwrap_or_else(|error| stop(&format!("{file}: {error}")));
+    let least = least_times(&calls, &text, rounds).unwrap_or_else(|error| stop(&error.to_string()));
+    println!("{} bytes, {rounds} rounds", text.len());
+    for ((name, _), least) in calls.iter().zip(least) {
+        println!("{name}: {:.1} us", least.as_secs_f64() * 1e6);
+    }
+}
+
+fn stop(message: &str) -> ! {
+    eprintln!("measure: {message}");
+    process::exit(1)
+}
