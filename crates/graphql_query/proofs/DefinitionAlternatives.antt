@@ -1,19 +1,20 @@
 -- Which operation or definition is read, as the next item tells.
 use Rattle.std.proofs.Common.{◌≡◌, Bool, true, false, ◌||◌, List, [], ◌∷◌, Option, Some, None, codes, refl, ap, ◌∙◌}
 use Rattle.graphql_grammar.specs.Tokens.{Token, Class, matches}
-use Rattle.graphql_grammar.specs.Trees.{Expr, Then, Either, Many, Sym, Shape, First, Second, Node, peek}
+use Rattle.graphql_grammar.specs.Trees.{Expr, Either, Many, Sym, Shape, First, Second, Node, peek}
 use Rattle.graphql_grammar.specs.Tables.{first}
 use Rattle.graphql_grammar.specs.Factored.{written}
 use Rattle.graphql_grammar.specs.Reading.{sees, Takes}
 use Rattle.graphql_grammar.specs.ReaderWords.{values}
 use Rattle.graphql_core.specs.Source.{Items}
-use Rattle.graphql_values.specs.Grammar.{mark, keyword, word, tables as shared_tables}
+use Rattle.graphql_values.specs.Grammar.{mark, keyword, tables as shared_tables}
 use Rattle.graphql_values.proofs.Reading.{FailsUnseen, unseen_one, unseen_then, unseen_either, one_of, many_means}
 use Rattle.graphql_values.proofs.Alternatives.{IsSide, through, side_node, side_first, side_second, side_left, unseen_symbol}
-use Rattle.graphql_query_tree.specs.Tree.{DefinitionTree}
-use Rattle.graphql_query_tree.specs.Grammar.{reading, changes, second_rows, tables, definition_symbol, operation_symbol, operation_body_symbol}
+use Rattle.graphql_query_tree.specs.Tree.{DefinitionTree, operation, OperationKind, query_kind, mutation_kind, subscription_kind}
+use Rattle.graphql_query_tree.specs.Grammar.{reading, changes, second_rows, tables, definition_symbol, operation_symbol}
 use Rattle.graphql_query_tree.specs.Grammar.{selection_set_symbol, fragment_definition_symbol}
-use Rattle.graphql_query_tree.specs.Meanings.{definition_of, definitions_of}
+use Rattle.graphql_query_tree.specs.Meanings.{keyword_of, operation_of, definition_of, definitions_of}
+use Rattle.graphql_query.specs.steps.Operations.{word_of, keyword_rule, Tells}
 use Rattle.graphql_query.specs.steps.Reads.{sees_definition}
 
 abbrev query_word : Class
@@ -43,66 +44,51 @@ sees_none c cs item h k = sees_more c cs item ∙ rw (h, k) refl
 
 -- ---- operations
 
-abbrev query_rule : Expr
-query_rule = Then (word (codes "query")) (Sym operation_body_symbol)
-
-abbrev mutation_rule : Expr
-mutation_rule = Then (word (codes "mutation")) (Sym operation_body_symbol)
-
-abbrev subscription_rule : Expr
-subscription_rule = Then (word (codes "subscription")) (Sym operation_body_symbol)
-
 abbrev after_query : Expr
-after_query = Either mutation_rule subscription_rule
+after_query = Either (keyword_rule mutation_kind) (keyword_rule subscription_kind)
 
 abbrev after_set : Expr
-after_set = Either query_rule after_query
+after_set = Either (keyword_rule query_kind) after_query
 
-abbrev pub as_query : Shape → Shape
-as_query x = Node operation_symbol (Second (First x))
-
-abbrev pub as_mutation : Shape → Shape
-as_mutation x = Node operation_symbol (Second (Second (First x)))
-
-abbrev pub as_subscription : Shape → Shape
-as_subscription x = Node operation_symbol (Second (Second (Second x)))
+abbrev pub as_kind : OperationKind → Shape → Shape
+as_kind query_kind x = Node operation_symbol (Second (First x))
+as_kind mutation_kind x = Node operation_symbol (Second (Second (First x)))
+as_kind subscription_kind x = Node operation_symbol (Second (Second (Second x)))
 
 abbrev pub as_short : Shape → Shape
 as_short x = Node operation_symbol (First x)
 
-pub query_side : (ts : List Token) → sees (query_word ∷ []) (peek ts) ≡ true → IsSide reading (Sym operation_symbol) query_rule as_query ts
+pub kind_side : (kind : OperationKind) (ts : List Token) → sees (word_of kind ∷ []) (peek ts) ≡ true
+    → IsSide reading (Sym operation_symbol) (keyword_rule kind) (as_kind kind) ts
 unfolding tables shared_tables
-query_side ts seen =
+kind_side query_kind ts seen =
     through reading _ _ _ _ _ ts (side_node reading operation_symbol ts (λ x. refl))
     (through reading _ _ _ _ _ ts (side_second reading (Sym selection_set_symbol) after_set query_word ts refl refl seen)
-    (side_first reading query_rule after_query query_word ts refl seen))
-
-pub mutation_side : (ts : List Token) → sees (mutation_word ∷ []) (peek ts) ≡ true → IsSide reading (Sym operation_symbol) mutation_rule as_mutation ts
-unfolding tables shared_tables
-mutation_side ts seen =
+    (side_first reading (keyword_rule query_kind) after_query query_word ts refl seen))
+kind_side mutation_kind ts seen =
     through reading _ _ _ _ _ ts (side_node reading operation_symbol ts (λ x. refl))
     (through reading _ _ _ _ _ ts (side_second reading (Sym selection_set_symbol) after_set mutation_word ts refl refl seen)
-    (through reading _ _ _ _ _ ts (side_second reading query_rule after_query mutation_word ts refl refl seen)
-    (side_first reading mutation_rule subscription_rule mutation_word ts refl seen)))
-
-pub subscription_side : (ts : List Token) → sees (subscription_word ∷ []) (peek ts) ≡ true
-    → IsSide reading (Sym operation_symbol) subscription_rule as_subscription ts
-unfolding tables shared_tables
-subscription_side ts seen =
+    (through reading _ _ _ _ _ ts (side_second reading (keyword_rule query_kind) after_query mutation_word ts refl refl seen)
+    (side_first reading (keyword_rule mutation_kind) (keyword_rule subscription_kind) mutation_word ts refl seen)))
+kind_side subscription_kind ts seen =
     through reading _ _ _ _ _ ts (side_node reading operation_symbol ts (λ x. refl))
     (through reading _ _ _ _ _ ts (side_second reading (Sym selection_set_symbol) after_set subscription_word ts refl refl seen)
-    (through reading _ _ _ _ _ ts (side_second reading query_rule after_query subscription_word ts refl refl seen)
-    (side_second reading mutation_rule subscription_rule subscription_word ts refl refl seen)))
+    (through reading _ _ _ _ _ ts (side_second reading (keyword_rule query_kind) after_query subscription_word ts refl refl seen)
+    (side_second reading (keyword_rule mutation_kind) (keyword_rule subscription_kind) subscription_word ts refl refl seen)))
+
+pub kind_means : (kind : OperationKind) (x : Shape) → operation (keyword_of kind (written changes x)) ≡ operation_of (written changes (as_kind kind x))
+kind_means query_kind x = refl
+kind_means mutation_kind x = refl
+kind_means subscription_kind x = refl
 
 unseen_selection_set : (ts : List Token) → FailsUnseen reading (Sym selection_set_symbol) ts
 unfolding tables shared_tables
 unseen_selection_set ts = unseen_symbol reading selection_set_symbol ts refl (unseen_then reading _ _ ts refl (unseen_one reading _ ts))
 
-pub short_side : (ts : List Token) → sees (query_word ∷ []) (peek ts) ≡ false → sees (mutation_word ∷ []) (peek ts) ≡ false
-    → sees (subscription_word ∷ []) (peek ts) ≡ false
-    → IsSide reading (Sym operation_symbol) (Sym selection_set_symbol) as_short ts
+pub short_side : (i : Items) → Tells i None → IsSide reading (Sym operation_symbol) (Sym selection_set_symbol) as_short i.tokens
 unfolding tables shared_tables
-short_side ts q m s =
+short_side i (q, m, s) =
+    let ts = i.tokens in
     through reading _ _ _ _ _ ts (side_node reading operation_symbol ts (λ x. refl))
     (side_left reading (Sym selection_set_symbol) after_set ts refl refl (unseen_selection_set ts)
     (sees_none query_word (mutation_word ∷ subscription_word ∷ []) (peek ts) q (sees_none mutation_word (subscription_word ∷ []) (peek ts) m s)))

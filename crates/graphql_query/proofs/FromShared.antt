@@ -16,18 +16,15 @@ use Rattle.graphql_query_tree.specs.Grammar.{changes, reading}
 use Rattle.graphql_query_tree.proofs.Readable.{readable, read_alike}
 
 -- every node passes
-pub starts : (k : ℕ) (ts : List Token) → steps.Leads reading (Sym k) (row reading k).rule (Node k) ts ts
-starts k ts = steps.starts reading k ts (λ x. refl)
-
-pub takes_lifted : (e : Expr) → is_below shared_symbols e ≡ true → (ts us : List Token) (x : Shape) → Takes shared e ts x us → Takes reading e ts x us
-takes_lifted e = every.takes_lifted queries readable e (read_alike e)
+pub begun : {ts : List Token} (k : ℕ) → steps.Leads reading (Sym k) (row reading k).rule (Node k) ts ts
+begun k = steps.begun k (λ x. refl)
 
 pub stops_lifted : (e : Expr) → is_below shared_symbols e ≡ true → (ts us : List Token) (o : Option Reason) → Stops shared e ts us o → Stops reading e ts us o
 stops_lifted e = every.stops_lifted queries readable e (read_alike e)
 
-pub some_lifted : (e : Expr) → is_below shared_symbols e ≡ true → (ts us : List Token) (P : Shape → Type 0) → TakesSome shared e ts us P
+pub lifted : {e : Expr} {ts us : List Token} {P : Shape → Type 0} → is_below shared_symbols e ≡ true → TakesSome shared e ts us P
     → TakesSome reading e ts us (λ x. P (written changes x))
-some_lifted e = every.some_lifted queries readable e (read_alike e)
+lifted {e} {ts} {us} {P} below h = every.some_lifted queries readable e (read_alike e) below ts us P h
 
 pub begins_at : (e : Expr) (old new : Items) (x : Shape) → Takes reading e old.tokens x new.tokens → length new.tokens < length old.tokens
     → first_place (leaves (written changes x)) ≡ place_next old

@@ -3,7 +3,6 @@ pub mod SelectionAlternatives
 pub mod TakenOff
 pub mod Views
 pub mod EqualParts
-pub mod Keywords
 pub mod DefinitionAlternatives
 pub mod VariableAlternatives
 pub mod Printable

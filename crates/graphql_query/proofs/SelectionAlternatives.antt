@@ -2,11 +2,11 @@
 use Rattle.std.proofs.Common.{◌≡◌, ◌||◌, ℕ, true, false, List, [], ◌∷◌, Result, Ok, Err, Option, Some, None, refl, sym, ap, ◌∙◌, codes}
 use Rattle.std.proofs.Math.Bool.{or-false}
 use Rattle.graphql_grammar.specs.Tokens.{Token, Place, Class, matches}
-use Rattle.graphql_grammar.specs.Trees.{Expr, Empty, One, Then, Either, Many, Sym, Shape, Leaf, Both, First, Second, Nothing, Node, Grammar, optional, peek}
+use Rattle.graphql_grammar.specs.Trees.{Expr, Empty, One, Then, Either, Many, Sym, Shape, Leaf, Both, First, Second, Nothing, Node, Grammar, optional, peek, leaves}
 use Rattle.graphql_grammar.specs.Tables.{first}
 use Rattle.graphql_grammar.specs.Reading.{sees, Takes, takes_nothing, takes_leaf, takes_both, takes_first, takes_second, takes_stop, takes_node, fails_one}
-use Rattle.graphql_grammar.specs.Reading.{fails_before, fails_after, fails_node}
-use Rattle.graphql_grammar.specs.ReaderWords.{values}
+use Rattle.graphql_grammar.specs.Reading.{fails_before, fails_after, fails_node, Reason}
+use Rattle.graphql_grammar.specs.ReaderWords.{values, Stops}
 use Rattle.graphql_grammar.specs.Factored.{written}
 use Rattle.graphql_grammar.proofs.Items.{sees-within}
 use Rattle.graphql_core.specs.declared.helpers.read_error.ReadError.{ReadError}
@@ -16,14 +16,16 @@ use Rattle.graphql_core.specs.Source.{Items}
 use Rattle.graphql_core.specs.steps.Matching.{TakesOne, TakesToken, sees_class}
 use Rattle.graphql_values.specs.steps.Answers.{Gives}
 use Rattle.graphql_values.specs.Grammar.{tables as shared_tables, any, keyword, mark, name, directive_symbol}
-use Rattle.graphql_values.specs.Meanings.{optional_arguments_of, directives_of}
+use Rattle.graphql_values.specs.Meanings.{first_place, optional_arguments_of, directives_of}
 use Rattle.graphql_values.specs.Values.{DirectiveTree}
 use Rattle.graphql_values.proofs.Reading.{FailsUnseen, unseen_one, unseen_then, takes_one, stops_one, takes_none, one_of, many_means}
 use Rattle.graphql_values.proofs.Alternatives.{IsSide, through, side_node, side_first, side_second, side_left, side_right, unseen_symbol}
 use Rattle.graphql_query_tree.specs.Grammar.{reading, changes, tables, spread_class, type_condition_symbol, selection_set_symbol, field_symbol}
-use Rattle.graphql_query_tree.specs.Grammar.{selection_symbol, fragment_spread_rest, inline_fragment_rest}
+use Rattle.graphql_query_tree.specs.Grammar.{selection_symbol, field_rest, fragment_spread_rest, inline_fragment_rest}
+use Rattle.graphql_values.proofs.Steps.{Leads, past}
+use Rattle.graphql_query.proofs.FromShared.{begun}
 use Rattle.graphql_query_tree.specs.Meanings.{field_of, selected_of, selection_of, selections_of}
-use Rattle.graphql_query.specs.steps.Reads.{renamed, after_dots_of}
+use Rattle.graphql_query.specs.steps.Reads.{first_names, alias_and_name_of, after_dots_of}
 use Rattle.graphql_query_tree.specs.Tree.{Arguments, SelectionTree, SelectionSetTree, field, inline, more, trees_of}
 
 -- ---- single tokens
@@ -35,10 +37,6 @@ gives_one g c old new P Q (Ok v) good means (t, h, p) = (Leaf t, takes_one g c o
 gives_one g c old new P Q (Err d) good means h = stops_one g c old new d h
 
 -- ---- names
-
--- a colon and another name
-abbrev pub renaming : Expr
-renaming = optional (Then (One (mark (codes ":"))) name)
 
 abbrev pub on : Class
 on = keyword (codes "on")
@@ -135,18 +133,30 @@ begins_selection (Some t) = ap (λ b. b || sees (dots ∷ []) (Some t)) (sym (or
 
 -- ---- what is read means
 
--- a first name, and what stands after it: the field stands at the first
-pub field_means : (n : Token) (a x y s : Shape) {ts us : List Token} → Takes reading renaming ts a us
-    → (p : Place) (first : List ℕ) (named : Option (List ℕ) × List ℕ) (arguments : Arguments) (directives : List DirectiveTree) (selected : SelectionSetTree)
-    → n.place ≡ p → n.spelling ≡ first → named ≡ renamed first (written changes a) → arguments ≡ optional_arguments_of (written changes x)
-    → directives ≡ directives_of (written changes y)
+-- the names of a field, and the rest after them
+abbrev pub field_shape : Shape → Shape → Shape
+field_shape (Both n a) rest = Node field_symbol (Both n (Both a rest))
+field_shape x rest = x
+
+pub names_taken : {ts us : List Token} {x : Shape} → Takes reading first_names ts x us → Leads reading (Sym field_symbol) field_rest (field_shape x) ts us
+names_taken (takes_both h k) = past (past (begun field_symbol) h) k
+
+pub stops_in_names : (ts us : List Token) (o : Option Reason) → Stops reading first_names ts us o → Stops reading (Sym field_symbol) ts us o
+stops_in_names ts us None h = tt
+stops_in_names ts us (Some why) (fails_before h) = fails_node (fails_before h)
+stops_in_names ts us (Some why) (fails_after t h) = fails_node (fails_after t (fails_before h))
+
+-- the field stands at the first name
+pub field_means : {ts us : List Token} (x y z s : Shape) → Takes reading first_names ts x us
+    → (p : Place) (named : Option (List ℕ) × List ℕ) (arguments : Arguments) (directives : List DirectiveTree) (selected : SelectionSetTree)
+    → first_place (leaves (written changes x)) ≡ p → named ≡ alias_and_name_of (written changes x) → arguments ≡ optional_arguments_of (written changes y)
+    → directives ≡ directives_of (written changes z)
     → selected ≡ selected_of p (written changes s)
-    → field p named.0 named.1 arguments directives selected ≡ field_of (written changes (Node field_symbol (Both (Leaf n) (Both a (Both x (Both y s))))))
-field_means n _ x y s
-    (takes_first c (takes_both (takes_leaf h) (takes_leaf k))) p first named arguments directives selected at spelled names given listed selects = rw
-    (at, spelled, names, given, listed, selects) refl
-field_means n _ x y s (takes_second c takes_nothing) p first named arguments directives selected at spelled names given listed selects = rw
-    (at, spelled, names, given, listed, selects) refl
+    → field p named.0 named.1 arguments directives selected ≡ field_of (written changes (field_shape x (Both y (Both z s))))
+field_means _ y z s (takes_both (takes_leaf i) (takes_first c (takes_both (takes_leaf h) (takes_leaf k)))) p named arguments directives selected at names given listed
+    selects = rw (at, names, given, listed, selects) refl
+field_means _ y z s (takes_both (takes_leaf i) (takes_second c takes_nothing)) p named arguments directives selected at names given listed selects = rw
+    (at, names, given, listed, selects) refl
 
 pub inline_fragment_means : (p q : Place) (c d : Option (List ℕ)) (directives others : List DirectiveTree) (s u : SelectionSetTree) → p ≡ q → c ≡ d
     → directives ≡ others → s ≡ u → inline p c directives s ≡ inline q d others u

@@ -1,38 +1,30 @@
--- Variables of operations: what may be missing, and one after the other.
-use Rattle.std.proofs.Common.{◌≡◌, true, false, List, [], ◌∷◌, Option, codes, refl, ap}
+-- Variables of operations, one after the other.
+use Rattle.std.proofs.Common.{◌≡◌, List, ◌∷◌, codes, refl, ap}
 use Rattle.graphql_grammar.specs.Tokens.{Token}
-use Rattle.graphql_grammar.specs.Trees.{Sym, Empty, Many, Shape, First, Second, Nothing, optional, peek}
-use Rattle.graphql_grammar.specs.Tables.{first}
+use Rattle.graphql_grammar.specs.Trees.{Sym, Many, Shape}
 use Rattle.graphql_grammar.specs.Factored.{written}
-use Rattle.graphql_grammar.specs.Reading.{sees, Takes}
-use Rattle.graphql_grammar.specs.ReaderWords.{values}
+use Rattle.graphql_grammar.specs.Reading.{Takes}
 use Rattle.graphql_values.specs.Grammar.{mark, tables as shared_tables}
-use Rattle.graphql_values.proofs.Reading.{takes_none, one_of, many_means}
-use Rattle.graphql_values.proofs.Alternatives.{IsSide, side_first}
-use Rattle.graphql_query_tree.specs.Tree.{VariableDefinitionTree}
-use Rattle.graphql_query_tree.specs.Grammar.{reading, changes, second_rows, tables, variable_definitions_symbol, variable_definition_symbol}
-use Rattle.graphql_query_tree.specs.Meanings.{variable_definition_of, each_variable_definition_of}
+use Rattle.graphql_values.specs.steps.Lists.{each, IsList}
+use Rattle.graphql_values.proofs.Reading.{many_means}
+use Rattle.graphql_query_tree.specs.Grammar.{reading, changes, tables, variable_definitions_symbol, variable_definition_symbol}
+use Rattle.graphql_query_tree.specs.Meanings.{variable_definitions_of, each_variable_definition_of}
+use Rattle.graphql_query.specs.steps.Reads.{read_variable_definition}
 
-pub some_variable_definitions : (ts : List Token) → sees (mark (codes "(") ∷ []) (peek ts) ≡ true
-    → IsSide reading (optional (Sym variable_definitions_symbol)) (Sym variable_definitions_symbol) First ts
-unfolding tables shared_tables
-some_variable_definitions ts seen = side_first reading (Sym variable_definitions_symbol) Empty (mark (codes "(")) ts refl seen
-
-pub no_variable_definitions : (ts : List Token) → sees (mark (codes "(") ∷ []) (peek ts) ≡ false
-    → Takes reading (optional (Sym variable_definitions_symbol)) ts (Second Nothing) ts
-unfolding tables shared_tables
-no_variable_definitions ts unseen = takes_none reading (Sym variable_definitions_symbol) ts refl unseen
-
--- ---- variables, one after the other
-
-abbrev pub read_variable_definition : Shape → VariableDefinitionTree
-read_variable_definition x = variable_definition_of (written changes x)
-
-pub begins_variable_definition : (next : Option Token) → sees (first second_rows (Sym variable_definition_symbol)) next ≡ sees (mark (codes "$") ∷ []) next
-unfolding tables shared_tables
-begins_variable_definition next = refl
-
-pub each_variable_definition_means : {ts us : List Token} {x : Shape} → Takes reading (Many (Sym variable_definition_symbol)) ts x us
-    → each_variable_definition_of (written changes x) ≡ values (one_of read_variable_definition) x
-each_variable_definition_means h = many_means reading _ read_variable_definition (λ x. each_variable_definition_of (written changes x)) (λ l. l) refl
+each_means : {ts us : List Token} {x : Shape} → Takes reading (Many (Sym variable_definition_symbol)) ts x us
+    → each_variable_definition_of (written changes x) ≡ each read_variable_definition x
+each_means h = many_means reading _ read_variable_definition (λ x. each_variable_definition_of (written changes x)) (λ l. l) refl
     (λ x y vs e. ap (λ l. read_variable_definition x ∷ l) e) h
+
+pub variable_definitions_list : IsList reading (mark (codes "(")) (mark (codes ")")) (Sym variable_definition_symbol) read_variable_definition
+    variable_definitions_symbol (λ x. variable_definitions_of (written changes x))
+unfolding tables shared_tables
+variable_definitions_list = record {
+  rule = refl;
+  passes = λ x. refl;
+  opens = λ t. refl;
+  closes = λ t. refl;
+  begins = refl;
+  is_more = refl;
+  means = λ t u x xs h. ap (λ l. read_variable_definition x ∷ l) (each_means h);
+}

@@ -1,2 +1,2 @@
-pub mod OperationBody
+pub mod Operations
 pub mod Reads

@@ -2,6 +2,7 @@
 mod alias;
 pub mod definition;
 mod fragment;
+mod keyword;
 mod operation;
 mod selection;
 

@@ -18,7 +18,9 @@ use Rattle.graphql_query_tree.specs.Tree.{field, inline, set, more, type_conditi
 use Rattle.graphql_query_tree.specs.Tree.{inline_fragment_view}
 use Rattle.graphql_query_tree.specs.Tree.{selection_set_view}
 use Rattle.graphql_query_tree.specs.Lawful.{IsLawfulSet}
-use Rattle.graphql_query_tree.specs.Layout.{selected_layout, selection_set_layout, selected_levels, selection_set_levels}
+use Rattle.graphql_query_tree.specs.Layout.{selected_layout, selection_set_layout}
+use Rattle.graphql_query_tree.specs.TreeDepth.{selected_depth, selection_set_depth}
+use Rattle.graphql_values.specs.TreeDepth.{Weights}
 
 -- ---- the parts of a tree
 
@@ -66,8 +68,8 @@ module _ {N T : Type 0} (bytes : T → List ℕ) where
   some_items s e = omega (arith, eqb-false _ _ e, (out-SelectionSet N T s).items.ok.0)
 
   -- a field that selects nothing
-  pub nothing_levels : (s : SelectionSet N T) (style : Layout) → items_of s ≡ [] → selected_levels style (selection_set_view bytes s) ≡ 0
-  nothing_levels s style e = rw (selection_set_parts s, e) refl
+  pub nothing_levels : (s : SelectionSet N T) (w : Weights) → items_of s ≡ [] → selected_depth w (selection_set_view bytes s) ≡ 0
+  nothing_levels s w e = rw (selection_set_parts s, e) refl
 
   pub nothing_lawful : (s : SelectionSet N T) → items_of s ≡ [] → IsLawfulSet (selection_set_view bytes s)
   nothing_lawful s e = rw (selection_set_parts s, e) tt
@@ -77,14 +79,14 @@ module _ {N T : Type 0} (bytes : T → List ℕ) where
   nothing_layout s style margin e = rw (selection_set_parts s, e) refl
 
   -- and one that selects something
-  some_levels_at : (s : SelectionSet N T) (style : Layout) (xs : List (Selection N T)) → items_of s ≡ xs → 0 < length xs
-      → selected_levels style (selection_set_view bytes s) ≡ selection_set_levels style (selection_set_view bytes s)
-  some_levels_at s style [] e h = absurd (omega arith)
-  some_levels_at s style (x ∷ xs) e h = rw (selection_set_parts s, e) refl
+  some_levels_at : (s : SelectionSet N T) (w : Weights) (xs : List (Selection N T)) → items_of s ≡ xs → 0 < length xs
+      → selected_depth w (selection_set_view bytes s) ≡ selection_set_depth w (selection_set_view bytes s)
+  some_levels_at s w [] e h = absurd (omega arith)
+  some_levels_at s w (x ∷ xs) e h = rw (selection_set_parts s, e) refl
 
-  pub some_levels : (s : SelectionSet N T) (style : Layout) → 0 < length (items_of s)
-      → selected_levels style (selection_set_view bytes s) ≡ selection_set_levels style (selection_set_view bytes s)
-  some_levels s style h = some_levels_at s style _ refl h
+  pub some_levels : (s : SelectionSet N T) (w : Weights) → 0 < length (items_of s)
+      → selected_depth w (selection_set_view bytes s) ≡ selection_set_depth w (selection_set_view bytes s)
+  some_levels s w h = some_levels_at s w _ refl h
 
   some_layout_at : (s : SelectionSet N T) (style : Layout) (margin : ℕ) (xs : List (Selection N T)) → items_of s ≡ xs → 0 < length xs
       → selected_layout style margin (selection_set_view bytes s) ≡ gap (codes " ") ++ selection_set_layout style margin (selection_set_view bytes s)

@@ -1,64 +1,77 @@
 -- What selection sets tell of the levels that are open, where arguments stand in one line: the rest opens one more at most.
-use Rattle.std.proofs.Common.{◌≡◌, ◌≤◌, ◌<◌, ◌+◌, ◌-◌, ◌*◌, ◌^◌, ℕ, zero, suc, false, min, max, refl, List, arith}
-use Rattle.std.proofs.Math.Nat.{mul-le-mul_left, mul-le-mul_right}
+use Rattle.std.proofs.Common.{◌≡◌, ◌≤◌, ◌+◌, ℕ, false, refl, List, [], ◌∷◌, arith}
 use Rattle.graphql_core.specs.Style.{Layout}
 use Rattle.graphql_values.specs.Values.{ValueTree, DirectiveTree}
-use Rattle.graphql_values.specs.ValueLayout.{arguments_levels, directives_levels}
-use Rattle.graphql_values.specs.ValueLayout as values
+use Rattle.graphql_values.specs.TreeDepth.{most, arguments_depth, directives_depth}
 use Rattle.graphql_values.proofs.FewLevels.{most_bounded, default_bounded, arguments_bounded, directives_bounded}
-use Rattle.graphql_query_tree.specs.Tree.{SelectionSetTree, VariableDefinitionTree}
-use Rattle.graphql_query_tree.specs.Layout.{selected_levels, selection_set_levels, variable_definition_levels, variable_definitions_levels, operation_levels_of}
-use Rattle.graphql_query_tree.specs.steps.Sets.{BoundsLevels}
+use Rattle.graphql_query_tree.specs.Tree.{SelectionTree, field, spread, inline, SelectionSetTree, set, SelectionTrees, none, more, VariableDefinitionTree}
+use Rattle.graphql_query_tree.specs.Tree.{DefinitionTree, short, operation, fragment, DocumentTree}
+use Rattle.graphql_query_tree.specs.Layout.{selection_levels, selected_levels, selection_set_levels, selections_levels, variable_definition_levels}
+use Rattle.graphql_query_tree.specs.Layout.{definition_levels, levels}
+use Rattle.graphql_query_tree.specs.Printable.{selection_set_of_definition}
+use Rattle.graphql_query_tree.specs.TreeDepth.{selection_depth, selected_depth, selection_set_depth, selections_depth, definition_depth}
+use Rattle.graphql_query_tree.specs.steps.Sets.{in_sets}
 
-pub field_bounded : (n : ℕ) (arguments : List (List ℕ × ValueTree)) (ds : List DirectiveTree) (s : SelectionSetTree)
-    → BoundsLevels n (λ style. selected_levels style s)
-    → BoundsLevels n (λ style. max (arguments_levels style arguments) (max (directives_levels style ds) (selected_levels style s)))
-field_bounded n arguments ds s inside style one_line =
-    let given = arguments_bounded style one_line arguments in
-    let directives = directives_bounded style one_line ds in
-    let selected = inside style one_line in
-    omega (arith, given, directives, selected)
+-- ---- what selection sets alone are
 
-pub spread_bounded : (ds : List DirectiveTree) → BoundsLevels 0 (λ style. directives_levels style ds)
-spread_bounded ds style one_line = let directives = directives_bounded style one_line ds in omega (arith, directives)
+no_arguments : (arguments : List (List ℕ × ValueTree)) → arguments_depth in_sets arguments ≡ 0
+no_arguments [] = refl
+no_arguments (a ∷ arguments) = refl
 
-pub braces_bounded : (n : ℕ) (ds : List DirectiveTree) (s : SelectionSetTree) → BoundsLevels n (λ style. selection_set_levels style s)
-    → BoundsLevels n (λ style. max (directives_levels style ds) (selection_set_levels style s))
-braces_bounded n ds s inside style one_line =
-    let directives = directives_bounded style one_line ds in
-    let selected = inside style one_line in
-    omega (arith, directives, selected)
+pub no_directives : (ds : List DirectiveTree) → directives_depth in_sets ds ≡ 0
+no_directives [] = refl
+no_directives (d ∷ ds) = let first = no_arguments d.arguments in let others = no_directives ds in omega (arith, first, others)
 
-variable_definition_bounded : (style : Layout) → style.multiline ≡ false → (v : VariableDefinitionTree) → variable_definition_levels style v ≤ 1
-variable_definition_bounded style one_line v =
-    let given = default_bounded style one_line v.default_value in
-    let directives = directives_bounded style one_line v.directives in
-    omega (arith, given, directives)
+pub sets_alone : (d : DefinitionTree) → definition_depth in_sets d ≡ selection_set_depth in_sets (selection_set_of_definition d)
+sets_alone (short s) = refl
+sets_alone (operation o) = rw (no_directives o.directives) (omega arith)
+sets_alone (fragment f) = rw (no_directives f.directives) (omega arith)
 
-pub operation_bounded : (n : ℕ) (vs : List VariableDefinitionTree) (ds : List DirectiveTree) (s : SelectionSetTree)
-    → BoundsLevels n (λ style. selection_set_levels style s) → BoundsLevels n (λ style. operation_levels_of style vs ds s)
-operation_bounded n vs ds s inside style one_line =
-    let variables : variable_definitions_levels style vs ≤ 1 =
-    most_bounded (variable_definition_levels style) 1 (variable_definition_bounded style one_line) vs in
-    let directives = directives_bounded style one_line ds in
-    let selected = inside style one_line in
-    let others = max (directives_levels style ds) (selection_set_levels style s) in
-    let all : min (max (variable_definitions_levels style vs) others) (2 ^ 64 - 1) ≤ n + 1 = omega (arith, variables, directives, selected) in
-    all
+-- ---- where arguments stand in one line, all levels are one more at most
 
--- where one level more than those of the sets is not too wide, neither are the levels that they bound
-pub room_left : (style : Layout) (n levels : ℕ) → min levels (2 ^ 64 - 1) ≤ n + 1 → (values.IsTooWide style (n + 1) → ⊥) → values.IsTooWide style levels → ⊥
-room_left style n levels bounded narrow wide = by_indent style.indent refl
-  where
-    by_indent : (i : ℕ) → style.indent ≡ i → ⊥
-    by_indent zero none =
-        let nothing : 2 ^ 32 ≤ levels * 0 = rw none at wide in
-        absurd (omega (arith, nothing))
-    by_indent (suc i) some =
-        let fits : (n + 1) * style.indent < 2 ^ 32 = omega (arith, narrow) in
-        let inside : (n + 1) * suc i < 2 ^ 32 = rw some at fits in
-        let over : 2 ^ 32 ≤ levels * suc i = rw some at wide in
-        let few = mul-le-mul_left {m = 1} {n = suc i} (n + 1) (omega arith) in
-        let within : levels ≤ n + 1 = omega (arith, few, inside, bounded) in
-        let more = mul-le-mul_right {m = levels} {n = n + 1} (suc i) within in
-        absurd (omega (arith, more, inside, over))
+module _ (style : Layout) (one_line : style.multiline ≡ false) where
+  mutual
+    selection_within : (s : SelectionTree) → selection_levels style s ≤ selection_depth in_sets s + 1
+    selection_within (field p alias n arguments ds s) =
+        let given = arguments_bounded style one_line arguments in
+        let directives = directives_bounded style one_line ds in
+        let selected = selected_within s in
+        omega (arith, given, directives, selected)
+    selection_within (spread p n ds) = let directives = directives_bounded style one_line ds in omega (arith, directives)
+    selection_within (inline p condition ds s) =
+        let directives = directives_bounded style one_line ds in
+        let selected = set_within s in
+        omega (arith, directives, selected)
+
+    selected_within : (s : SelectionSetTree) → selected_levels style s ≤ selected_depth in_sets s + 1
+    selected_within (set o c none) = omega arith
+    selected_within (set o c (more s ss)) = let inside = selections_within (more s ss) in omega (arith, inside)
+
+    set_within : (s : SelectionSetTree) → selection_set_levels style s ≤ selection_set_depth in_sets s + 1
+    set_within (set o c ss) = let inside = selections_within ss in omega (arith, inside)
+
+    selections_within : (ss : SelectionTrees) → selections_levels style ss ≤ selections_depth in_sets ss + 1
+    selections_within none = omega arith
+    selections_within (more s ss) = let first = selection_within s in let others = selections_within ss in omega (arith, first, others)
+
+  variable_definition_bounded : (v : VariableDefinitionTree) → variable_definition_levels style v ≤ 1
+  variable_definition_bounded v =
+      let given = default_bounded style one_line v.default_value in
+      let directives = directives_bounded style one_line v.directives in
+      omega (arith, given, directives)
+
+  definition_within : (d : DefinitionTree) → definition_levels style d ≤ definition_depth in_sets d + 1
+  definition_within (short s) = set_within s
+  definition_within (operation o) =
+      let variables = most_bounded (variable_definition_levels style) 1 variable_definition_bounded o.variables in
+      let directives = directives_bounded style one_line o.directives in
+      let selected = set_within o.selected in
+      omega (arith, variables, directives, selected)
+  definition_within (fragment f) =
+      let directives = directives_bounded style one_line f.directives in
+      let selected = set_within f.selected in
+      omega (arith, directives, selected)
+
+  pub document_within : (d : DocumentTree) → levels style d ≤ most (definition_depth in_sets) d + 1
+  document_within [] = omega arith
+  document_within (d ∷ ds) = let first = definition_within d in let others = document_within ds in omega (arith, first, others)

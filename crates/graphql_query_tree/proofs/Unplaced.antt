@@ -10,7 +10,7 @@ use Rattle.graphql_values.proofs.Unplaced.{IgnoresPlaces, spelling_bare, type_ba
 use Rattle.graphql_values.proofs.FaultsAlike.{RefusesAlike, valueless_alike}
 use Rattle.graphql_query_tree.specs.Grammar.{query}
 use Rattle.graphql_query_tree.specs.Document.{queries}
-use Rattle.graphql_query_tree.specs.Tree.{field, spread, inline, set, more, OperationKind, query_kind, mutation_kind, subscription_kind, short, operation}
+use Rattle.graphql_query_tree.specs.Tree.{field, spread, inline, set, more, OperationKind, query_kind, mutation_kind, subscription_kind, with_body, short, operation}
 use Rattle.graphql_query_tree.specs.Tree.{fragment}
 use Rattle.graphql_query_tree.specs.Tree.{erase_selection, erase_selection_set, erase_selections, erase_variable_definition, erase_operation}
 use Rattle.graphql_query_tree.specs.Tree.{erase_fragment_definition}
@@ -119,31 +119,14 @@ optional_name_bare (First n) = ap Some (spelling_bare n)
 optional_name_bare _ = refl
 
 operation_body_bare : (kind : OperationKind) (p q : Place) (c : Shape)
-    → erase_operation (record {
-      kind = kind;
-      position = p;
-      name = (operation_body_of (bare c)).name;
-      variables = (operation_body_of (bare c)).variables;
-      directives = (operation_body_of (bare c)).directives;
-      selected = (operation_body_of (bare c)).selected;
-    })
-    ≡ erase_operation (record {
-      kind = kind;
-      position = q;
-      name = (operation_body_of c).name;
-      variables = (operation_body_of c).variables;
-      directives = (operation_body_of c).directives;
-      selected = (operation_body_of c).selected;
-    })
+    → erase_operation (with_body kind p (operation_body_of (bare c))) ≡ erase_operation (with_body kind q (operation_body_of c))
 operation_body_bare kind p q (Node k (Both n (Both vs (Both ds s)))) =
-    λ i. record {
-      kind = kind;
-      position = no_place;
+    λ i. with_body kind no_place (record {
       name = optional_name_bare n i;
       variables = optional_variable_definitions_bare vs i;
       directives = directives_bare ds i;
       selected = selection_set_bare s i;
-    }
+    })
 operation_body_bare kind p q _ = refl
 
 keyword_bare : (kind : OperationKind) (x : Shape) → erase_operation (keyword_of kind (bare x)) ≡ erase_operation (keyword_of kind x)

@@ -2,10 +2,10 @@
 use Rattle.std.specs.Prelude.{ℕ, List, [], ◌∷◌, Option, Some, None}
 use Rattle.graphql_grammar.specs.Tokens.{Place, nowhere}
 use Rattle.graphql_grammar.specs.Trees.{Shape, Both, First, Second, More, Node, leaves}
-use Rattle.graphql_values.specs.Values.{DirectiveTree, named}
+use Rattle.graphql_values.specs.Values.{named}
 use Rattle.graphql_values.specs.Meanings.{place_at, first_place, spelling_at, type_of, optional_default_of, optional_arguments_of, directives_of}
 use Rattle.graphql_query_tree.specs.Tree.{SelectionTree, field, spread, inline, SelectionSetTree, set, no_selection_set, SelectionTrees, none, more}
-use Rattle.graphql_query_tree.specs.Tree.{OperationKind, query_kind, mutation_kind, subscription_kind, VariableDefinitionTree, OperationTree}
+use Rattle.graphql_query_tree.specs.Tree.{OperationKind, query_kind, mutation_kind, subscription_kind, VariableDefinitionTree, OperationTree, OperationBodyTree, with_body}
 use Rattle.graphql_query_tree.specs.Tree.{FragmentDefinitionTree, DefinitionTree, short, operation, fragment, DocumentTree}
 
 -- ---- selections
@@ -104,13 +104,6 @@ abbrev pub optional_name_of : Shape → Option (List ℕ)
 optional_name_of (First n) = Some (spelling_at n)
 optional_name_of _ = None
 
--- what every operation has after its keyword
-pub record OperationBodyTree : Type 0 where
-  pub name : Option (List ℕ)
-  pub variables : List VariableDefinitionTree
-  pub directives : List DirectiveTree
-  pub selected : SelectionSetTree
-
 abbrev pub operation_body_of : Shape → OperationBodyTree
 operation_body_of (Node k (Both n (Both vs (Both ds s)))) =
     record { name = optional_name_of n; variables = optional_variable_definitions_of vs; directives = directives_of ds; selected = selection_set_of s }
@@ -118,16 +111,8 @@ operation_body_of _ = record { name = None; variables = []; directives = []; sel
 
 -- an operation of this kind stands at its keyword
 abbrev pub keyword_of : OperationKind → Shape → OperationTree
-keyword_of kind (Both w c) =
-    record {
-      kind = kind;
-      position = place_at w;
-      name = (operation_body_of c).name;
-      variables = (operation_body_of c).variables;
-      directives = (operation_body_of c).directives;
-      selected = (operation_body_of c).selected;
-    }
-keyword_of kind _ = record { kind = kind; position = nowhere; name = None; variables = []; directives = []; selected = no_selection_set nowhere }
+keyword_of kind (Both w c) = with_body kind (place_at w) (operation_body_of c)
+keyword_of kind _ = with_body kind nowhere (record { name = None; variables = []; directives = []; selected = no_selection_set nowhere })
 
 abbrev pub operation_of : Shape → DefinitionTree
 operation_of (Node k (First s)) = short (selection_set_of s)

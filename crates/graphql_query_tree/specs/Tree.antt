@@ -2,6 +2,7 @@
 use Rattle.std.specs.Prelude.{ℕ, List, [], ◌∷◌, Option, option_map, map}
 use Rattle.graphql_grammar.specs.Tokens.{Place}
 use Rattle.graphql_core.specs.Source.{place_of}
+use Rattle.graphql_values.specs.declared.tree.Directive.{Directive}
 use Rattle.graphql_values.specs.Values.{ValueTree, TypeTree, DirectiveTree, no_place, erase_all}
 use Rattle.graphql_values.specs.ValueViews.{value_view, type_view, arguments_view, directives_view}
 use Rattle.graphql_query_tree.specs.declared.tree.TypeCondition.{TypeCondition}
@@ -67,6 +68,13 @@ pub record VariableDefinitionTree : Type 0 where
   pub default_value : Option ValueTree
   pub directives : List DirectiveTree
 
+-- what every operation has after its keyword
+pub record OperationBodyTree : Type 0 where
+  pub name : Option (List ℕ)
+  pub variables : List VariableDefinitionTree
+  pub directives : List DirectiveTree
+  pub selected : SelectionSetTree
+
 pub record OperationTree : Type 0 where
   pub kind : OperationKind
   pub position : Place
@@ -74,6 +82,17 @@ pub record OperationTree : Type 0 where
   pub variables : List VariableDefinitionTree
   pub directives : List DirectiveTree
   pub selected : SelectionSetTree
+
+-- an operation of this kind, at its keyword, with this body
+abbrev pub with_body : OperationKind → Place → OperationBodyTree → OperationTree
+with_body kind position body = record {
+  kind = kind;
+  position = position;
+  name = body.name;
+  variables = body.variables;
+  directives = body.directives;
+  selected = body.selected;
+}
 
 pub record FragmentDefinitionTree : Type 0 where
   pub position : Place
@@ -147,35 +166,22 @@ module _ {N T : Type 0} (bytes : T → List ℕ) where
   abbrev pub variable_definitions_view : List (VariableDefinition N T) → List VariableDefinitionTree
   variable_definitions_view = map variable_definition_view
 
-  abbrev pub query_view : Query N T → OperationTree
-  query_view o = record {
-    kind = query_kind;
-    position = place_of o.position;
-    name = option_map bytes o.name;
-    variables = variable_definitions_view o.variable_definitions.items;
-    directives = directives_view bytes o.directives.items;
-    selected = selection_set_view o.selection_set;
+  abbrev pub body_view : Option T → List (VariableDefinition N T) → List (Directive N T) → SelectionSet N T → OperationBodyTree
+  body_view name variables directives selected = record {
+    name = option_map bytes name;
+    variables = variable_definitions_view variables;
+    directives = directives_view bytes directives;
+    selected = selection_set_view selected;
   }
+
+  abbrev pub query_view : Query N T → OperationTree
+  query_view o = with_body query_kind (place_of o.position) (body_view o.name o.variable_definitions.items o.directives.items o.selection_set)
 
   abbrev pub mutation_view : Mutation N T → OperationTree
-  mutation_view o = record {
-    kind = mutation_kind;
-    position = place_of o.position;
-    name = option_map bytes o.name;
-    variables = variable_definitions_view o.variable_definitions.items;
-    directives = directives_view bytes o.directives.items;
-    selected = selection_set_view o.selection_set;
-  }
+  mutation_view o = with_body mutation_kind (place_of o.position) (body_view o.name o.variable_definitions.items o.directives.items o.selection_set)
 
   abbrev pub subscription_view : Subscription N T → OperationTree
-  subscription_view o = record {
-    kind = subscription_kind;
-    position = place_of o.position;
-    name = option_map bytes o.name;
-    variables = variable_definitions_view o.variable_definitions.items;
-    directives = directives_view bytes o.directives.items;
-    selected = selection_set_view o.selection_set;
-  }
+  subscription_view o = with_body subscription_kind (place_of o.position) (body_view o.name o.variable_definitions.items o.directives.items o.selection_set)
 
   abbrev pub fragment_definition_view : FragmentDefinition N T → FragmentDefinitionTree
   fragment_definition_view f = record {

@@ -1,5 +1,5 @@
 -- What begins a definition, and which kind of it.
-use Rattle.std.proofs.Common.{◌≡◌, ◌||◌, ℕ, true, false, List, [], ◌∷◌, ◌++◌, Result, Err, Option, Some, None, IsErrAnd, codes, refl, sym, ap, ◌∙◌}
+use Rattle.std.proofs.Common.{◌≡◌, ◌||◌, ℕ, true, false, List, [], ◌∷◌, ◌++◌, Result, Err, Option, Some, None, IsErrAnd, codes, refl, ap, ◌∙◌}
 use Rattle.graphql_grammar.specs.Tokens.{Token, Class}
 use Rattle.graphql_grammar.specs.Trees.{Expr, Then, Either, Sym, Shape, Leaf, First, Second, Node, Both, optional, row, peek}
 use Rattle.graphql_grammar.specs.Tables.{nullable, first}
@@ -17,11 +17,11 @@ use Rattle.graphql_values.specs.declared.read.node_error.NodeError.TheVariants.{
 use Rattle.graphql_values.specs.Grammar.{any, keyword, tables as shared_tables}
 use Rattle.graphql_values.specs.Leaves.{unquoted}
 use Rattle.graphql_values.specs.Refusing.{Refusals, halt_reason, Says, Reads as ReadsBy}
-use Rattle.graphql_values.proofs.Reading.{FailsUnseen, takes_one, gives_error_by}
+use Rattle.graphql_values.proofs.Reading.{FailsUnseen, gives_error_by}
 use Rattle.graphql_values.proofs.Alternatives.{side_left, side_right, side_second}
 use Rattle.graphql_values.proofs.Readable.{unseen}
 use Rattle.graphql_values.proofs.Refusing.{halts_led}
-use Rattle.graphql_values.proofs.Steps.{Leads, here, into, past}
+use Rattle.graphql_values.proofs.Steps.{Leads, here, begun, took, into, past}
 use Rattle.graphql_values.proofs.Whole.{exit}
 use Rattle.graphql_schema_tree.specs.Grammar.{tables, changes, item_symbol, schema_symbol, extension_symbol, schema_extension_symbol, type_body_symbol}
 use Rattle.graphql_schema_tree.specs.Grammar.{directive_definition_symbol, directive_definition_rule, description_symbol}
@@ -29,12 +29,15 @@ use Rattle.graphql_schema_tree.specs.Meanings.{directive_definition_of}
 use Rattle.graphql_schema_tree.specs.Tree.{DirectiveDefinitionTree}
 use Rattle.graphql_schema_tree.specs.Language.{schemas}
 use Rattle.graphql_schema_tree.proofs.Readable.{readable}
-use Rattle.graphql_schema.specs.steps.Keywords.{keywords, sees_definition}
+use Rattle.graphql_schema.specs.declared.read.keyword.TypeKind.{TypeKind}
+use Rattle.graphql_schema.specs.steps.Keywords.{keywords, kind_word, sees_definition}
 use Rattle.graphql_schema.specs.steps.Reads.{sees_description}
-use Rattle.graphql_schema.proofs.Dialect.{reading, starts}
+use Rattle.graphql_schema.specs.steps.TypeBodies.{symbol_of}
+use Rattle.graphql_schema.proofs.Dialect.{reading}
 use Rattle.graphql_schema.proofs.JoinedNames.{BeginsWith, seen_symbol}
 use Rattle.graphql_schema.proofs.Keywords.{sees_both}
 use Rattle.graphql_schema.proofs.Lists.{begins_description}
+use Rattle.graphql_schema.proofs.Types.{of_type, others_unseen, place}
 
 -- ---- what comes next
 
@@ -59,19 +62,19 @@ item_begins i =
 
 -- ---- which kind of definition
 
-pub schema_begins : BeginsWith schema_symbol schema_keyword
+pub schema_begins : BeginsWith schema_symbol (schema_keyword ∷ [])
 unfolding tables
 schema_begins = record { something = refl; first = refl }
 
-pub extension_begins : BeginsWith extension_symbol extend_keyword
+pub extension_begins : BeginsWith extension_symbol (extend_keyword ∷ [])
 unfolding tables
 extension_begins = record { something = refl; first = refl }
 
-pub directive_begins : BeginsWith directive_definition_symbol directive_keyword
+pub directive_begins : BeginsWith directive_definition_symbol (directive_keyword ∷ [])
 unfolding tables
 directive_begins = record { something = refl; first = refl }
 
-pub schema_extension_begins : BeginsWith schema_extension_symbol schema_keyword
+pub schema_extension_begins : BeginsWith schema_extension_symbol (schema_keyword ∷ [])
 unfolding tables
 schema_extension_begins = record { something = refl; first = refl }
 
@@ -115,11 +118,10 @@ unfolding tables shared_tables unquoted
 directive_extended ts seen = unseen schemas readable extended refl refl refl ts (sees-apart (first reading.rows extended) (directive_keyword ∷ []) (peek ts) refl seen)
 
 -- so an extension stops after `extend`
-pub not_extended : (old mid : Items) (t : Token) → TakesToken extend_keyword old mid t → Stops reading extended mid.tokens mid.tokens (Some Unexpected)
+pub not_extended : {old mid : Items} {t : Token} → TakesToken extend_keyword old mid t → Stops reading extended mid.tokens mid.tokens (Some Unexpected)
     → Stops reading (row reading extension_symbol).rule old.tokens mid.tokens (Some Unexpected)
-not_extended old mid t taken stops =
-    let lead : Leads reading (row reading extension_symbol).rule extended (λ y. Both (Leaf t) y) old.tokens mid.tokens
-    = past here (takes_one reading extend_keyword old mid t refl taken) in
+not_extended {old} {mid} {t} taken stops =
+    let lead : Leads reading (row reading extension_symbol).rule extended (λ y. Both (Leaf t) y) old.tokens mid.tokens = past here (took taken refl) in
     lead.stops mid.tokens (Some Unexpected) stops
 
 -- none is empty
@@ -135,20 +137,20 @@ type_body_is_more : nullable reading.rows (Sym type_body_symbol) ≡ false
 unfolding tables
 type_body_is_more = refl
 
-unseen_first : (k : ℕ) (c : Class) (ts : List Token) → BeginsWith k c → sees (c ∷ []) (peek ts) ≡ false → sees (first reading.rows (Sym k)) (peek ts) ≡ false
-unseen_first k c ts b h = ap (λ cs. sees cs (peek ts)) b.first ∙ h
+unseen_first : {k : ℕ} {cs : List Class} (ts : List Token) → BeginsWith k cs → sees cs (peek ts) ≡ false → sees (first reading.rows (Sym k)) (peek ts) ≡ false
+unseen_first ts b h = ap (λ ds. sees ds (peek ts)) b.first ∙ h
 
 pub an_extension : (ts : List Token) → sees (extend_keyword ∷ []) (peek ts) ≡ true
     → Leads reading (Sym item_symbol) (Sym extension_symbol) (λ x. Node item_symbol (Second x)) ts ts
 unfolding tables shared_tables
 an_extension ts seen =
-    into (starts item_symbol ts (λ x. refl)) (side_second reading with_descriptions (Sym extension_symbol) extend_keyword ts refl refl seen)
+    into (begun item_symbol (λ x. refl)) (side_second reading with_descriptions (Sym extension_symbol) extend_keyword ts refl refl seen)
 
 pub no_extension : (ts : List Token) → sees (extend_keyword ∷ []) (peek ts) ≡ false
     → Leads reading (Sym item_symbol) with_descriptions (λ x. Node item_symbol (First x)) ts ts
-no_extension ts other = into (starts item_symbol ts (λ x. refl))
+no_extension ts other = into (begun item_symbol (λ x. refl))
     (side_left reading with_descriptions (Sym extension_symbol) ts described_are_more extension_begins.something (fails_with_descriptions ts)
-    (unseen_first extension_symbol _ ts extension_begins other))
+    (unseen_first ts extension_begins other))
 
 -- after a description, or none
 module _ {ts us : List Token} {d : Shape} (other : sees (extend_keyword ∷ []) (peek ts) ≡ false)
@@ -159,29 +161,29 @@ module _ {ts us : List Token} {d : Shape} (other : sees (extend_keyword ∷ []) 
 
   pub a_schema : sees (schema_keyword ∷ []) (peek us) ≡ true
       → Leads reading (Sym item_symbol) (Sym schema_symbol) (λ y. Node item_symbol (First (Both d (First y)))) ts us
-  a_schema seen = into a_description (seen_symbol schema_symbol _ types_and_directives us schema_begins seen)
+  a_schema seen = into a_description (seen_symbol types_and_directives schema_begins seen)
 
   no_schema : sees (schema_keyword ∷ []) (peek us) ≡ false
       → Leads reading (Sym item_symbol) types_and_directives (λ y. Node item_symbol (First (Both d (Second y)))) ts us
   no_schema none = into a_description
       (side_right reading (Sym schema_symbol) types_and_directives us schema_begins.something types_are_more (fails_types_and_directives us)
-      (unseen_first schema_symbol _ us schema_begins none))
+      (unseen_first us schema_begins none))
 
-  pub a_directive : sees (schema_keyword ∷ []) (peek us) ≡ false → sees (directive_keyword ∷ []) (peek us) ≡ true
+  -- a directive is no schema
+  pub a_directive : sees (directive_keyword ∷ []) (peek us) ≡ true
       → Leads reading (Sym item_symbol) (Sym directive_definition_symbol) (λ y. Node item_symbol (First (Both d (Second (Second y))))) ts us
   unfolding tables shared_tables
-  a_directive none seen = into (no_schema none)
+  a_directive seen = into (no_schema (sees-apart (schema_keyword ∷ []) (directive_keyword ∷ []) (peek us) refl seen))
       (side_second reading (Sym type_body_symbol) (Sym directive_definition_symbol) directive_keyword us refl refl seen)
 
-  pub a_type : sees (schema_keyword ∷ []) (peek us) ≡ false → sees (directive_keyword ∷ []) (peek us) ≡ false
-      → Leads reading (Sym item_symbol) (Sym type_body_symbol) (λ y. Node item_symbol (First (Both d (Second (First y))))) ts us
-  a_type none neither = into (no_schema none)
+  -- nor is a type, or a directive
+  pub a_type : (k : TypeKind) → sees (keyword (kind_word k) ∷ []) (peek us) ≡ true
+      → Leads reading (Sym item_symbol) (Sym (symbol_of k)) (λ y. Node item_symbol (First (Both d (Second (First (Node type_body_symbol (place k y))))))) ts us
+  a_type k seen =
+      let (none, neither) = others_unseen k (peek us) seen in
+      of_type k (into (no_schema none)
       (side_left reading (Sym type_body_symbol) (Sym directive_definition_symbol) us type_body_is_more directive_begins.something (fails_type_body us)
-      (unseen_first directive_definition_symbol _ us directive_begins neither))
-
--- a directive is no schema
-pub schema_unseen : (next : Option Token) → sees (directive_keyword ∷ []) next ≡ true → sees (schema_keyword ∷ []) next ≡ false
-schema_unseen next seen = sees-apart (schema_keyword ∷ []) (directive_keyword ∷ []) next refl seen
+      (unseen_first us directive_begins neither))) seen
 
 -- ---- after `extend`
 
@@ -192,12 +194,14 @@ unfolding tables shared_tables
 of_schema {us = us} lead seen =
     into lead (side_second reading (Sym type_body_symbol) (Sym schema_extension_symbol) schema_keyword us refl refl seen)
 
-pub of_body : {e : Expr} {inside : Shape → Shape} {ts us : List Token}
-    → Leads reading e extended inside ts us → sees (schema_keyword ∷ []) (peek us) ≡ false
-    → Leads reading e (Sym type_body_symbol) (λ y. inside (First y)) ts us
-of_body {us = us} lead other = into lead
+pub of_body : (k : TypeKind) {e : Expr} {inside : Shape → Shape} {ts us : List Token}
+    → Leads reading e extended inside ts us → sees (keyword (kind_word k) ∷ []) (peek us) ≡ true
+    → Leads reading e (Sym (symbol_of k)) (λ y. inside (First (Node type_body_symbol (place k y)))) ts us
+of_body k {us = us} lead seen =
+    let (other, neither) = others_unseen k (peek us) seen in
+    of_type k (into lead
     (side_left reading (Sym type_body_symbol) (Sym schema_extension_symbol) us type_body_is_more schema_extension_begins.something (fails_type_body us)
-    (unseen_first schema_extension_symbol _ us schema_extension_begins other))
+    (unseen_first us schema_extension_begins other))) seen
 
 -- a node in a node is refused, or reading stops in it
 module _ {R : Type 0} (w : Refusals R) where

@@ -13,14 +13,14 @@ use Rattle.graphql_values.specs.Grammar.{any, location_class}
 use Rattle.graphql_values.specs.steps.Answers.{Gives, Adds}
 use Rattle.graphql_values.specs.steps.Leaf.{IsNext, Shows}
 use Rattle.graphql_values.proofs.LeafSteps.{next_matches}
-use Rattle.graphql_values.proofs.Reading.{takes_one, TakesNone}
-use Rattle.graphql_values.proofs.Steps.{error_one}
+use Rattle.graphql_values.proofs.Reading.{TakesNone}
+use Rattle.graphql_values.proofs.Steps.{begun, took, lacks_last}
 use Rattle.graphql_schema_tree.specs.declared.location.DirectiveLocation.{DirectiveLocation}
 use Rattle.graphql_schema_tree.specs.Locations.{IsNamed, is_location}
 use Rattle.graphql_schema_tree.specs.Grammar.{location_symbol}
 use Rattle.graphql_schema_tree.specs.Meanings.{present}
 use Rattle.graphql_schema_tree.specs.Tree.{InputValueTree, DirectiveDefinitionTree}
-use Rattle.graphql_schema.proofs.Dialect.{reading, starts}
+use Rattle.graphql_schema.proofs.Dialect.{reading}
 
 -- ---- what a word names
 
@@ -57,7 +57,7 @@ module _ {T : Type 0} (bytes : T → List ℕ) (i : Items) where
   -- no name comes
   pub location_missing : {A : Type 0} (P : A → Shape → Type 0) (r : Result A ReadError) (e : ReadError) → Shows bytes Name i (Err e) → IsErrAnd r (λ d. d ≡ e)
       → Gives reading (Sym location_symbol) i i P r
-  location_missing P r e s up = error_one i i i P r e (starts location_symbol i.tokens (λ x. refl)).stops (no_location_taken i e s) up
+  location_missing P r e s up = lacks_last i i P r e (begun location_symbol (λ x. refl)) (no_location_taken i e s) up
 
   module _ (t : Lexeme T) (n : IsNext bytes Name i t) where
     -- a name comes that is no location
@@ -69,8 +69,8 @@ module _ {T : Type 0} (bytes : T → List ℕ) (i : Items) where
     pub location_taken : (new : Items) → is_location (bytes t.text) ≡ true → new ≡ after i
         → Takes reading (Sym location_symbol) i.tokens (Node location_symbol (Leaf (lexeme_token bytes t))) new.tokens
     location_taken new good e =
-        (starts location_symbol i.tokens (λ x. refl)).takes new.tokens (Leaf (lexeme_token bytes t)) (takes_one reading location_class i new
-        (lexeme_token bytes t) good (takes_first location_class i new (lexeme_token bytes t) n.first e (next_matches bytes Name i t n)))
+        (begun {g = reading} location_symbol (λ x. refl)).takes new.tokens _
+        (took {g = reading} (takes_first location_class i new (lexeme_token bytes t) n.first e (next_matches bytes Name i t n)) good)
 
 -- ---- those that are there
 

@@ -18,9 +18,8 @@ use Rattle.graphql_schema_tree.specs.Meanings.{root_of, each_of}
 use Rattle.graphql_schema_tree.specs.Roots.{RootFault, unknown, duplicate, root_names, root_fault, root_cause, roots_of}
 use Rattle.graphql_schema.specs.declared.read.schema.Roots.{Roots}
 use Rattle.graphql_schema.specs.steps.Roots.{Root, root_at, names, type_in, AreRoots, HasRoots, Fills}
-use Rattle.graphql_schema.proofs.Dialect.{reading, starts}
+use Rattle.graphql_schema.proofs.Dialect.{reading}
 use Rattle.graphql_schema.proofs.JoinedNames.{BeginsWith}
-use Rattle.graphql_schema.proofs.Lists.{IsEnclosed}
 
 -- ---- the first fault, with another name at the end
 
@@ -250,11 +249,7 @@ module _ {N T : Type 0} (bytes : T → List ℕ) (v : Roots N T) where
       roots_are (More (written changes x) (written changes xs)) (turn_of x ∷ rs) (one_more taken (written changes xs) rs (roots_taken more)) h
 
 -- in braces
-
-pub roots_enclosed : IsEnclosed roots_symbol (mark (codes "{")) (mark (codes "}")) (Sym root_type_symbol)
-roots_enclosed = record { leads = λ ts. starts roots_symbol ts (λ x. refl); opens = λ t. refl; closes = λ t. refl; same = λ x. refl }
-
-pub roots_begin : BeginsWith roots_symbol (mark (codes "{"))
+pub roots_begin : BeginsWith roots_symbol (mark (codes "{") ∷ [])
 unfolding tables shared_tables
 roots_begin = record { something = refl; first = refl }
 

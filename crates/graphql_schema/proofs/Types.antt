@@ -2,31 +2,26 @@
 use Rattle.std.proofs.Common.{◌≡◌, ℕ, true, false, List, [], ◌∷◌, Result, Ok, Err, Option, Some, None, codes, refl, ◌∙◌}
 use Rattle.graphql_grammar.specs.Tables.{first, decides}
 use Rattle.graphql_grammar.specs.Tokens.{Token, Place, Class, all_within, all_apart}
-use Rattle.graphql_grammar.specs.Trees.{Expr, Empty, Then, Either, Sym, Shape, Leaf, Both, First, Second, Node, peek}
+use Rattle.graphql_grammar.specs.Trees.{Expr, Empty, Then, Either, Sym, Shape, Both, First, Second, Node, peek}
 use Rattle.graphql_grammar.specs.Factored.{written}
 use Rattle.graphql_grammar.specs.Reading.{sees, Takes, takes_nothing, takes_both, takes_node, Reason, Fails, fails_before, fails_after, fails_node}
 use Rattle.graphql_grammar.specs.ReaderWords.{TakesSome, Stops}
 use Rattle.graphql_grammar.proofs.Items.{sees-apart, sees-parts}
 use Rattle.graphql_core.specs.declared.helpers.read_error.ReadError.{ReadError}
-use Rattle.graphql_core.specs.Source.{Items}
-use Rattle.graphql_core.specs.steps.Matching.{TakesToken}
-use Rattle.graphql_lexer.specs.declared.tokenizer.token.Kind.TheVariants.{Name}
 use Rattle.graphql_values.specs.Grammar as shared
-use Rattle.graphql_values.specs.Grammar.{any, keyword, word, directives_symbol, tables as shared_tables}
+use Rattle.graphql_values.specs.Grammar.{keyword, word, directives_symbol, tables as shared_tables}
 use Rattle.graphql_values.specs.Values.{DirectiveTree}
-use Rattle.graphql_values.specs.steps.Answers.{Gives, reason_of}
+use Rattle.graphql_values.specs.steps.Answers.{Answered, reason_of}
 use Rattle.graphql_values.proofs.Alternatives.{IsSide, through, side_node, side_first, side_second}
-use Rattle.graphql_values.proofs.Steps.{Leads, here, into}
+use Rattle.graphql_values.proofs.Steps.{Leads, into}
 use Rattle.graphql_schema_tree.specs.Grammar.{changes, tables, type_body_symbol, type_body_rule}
 use Rattle.graphql_schema_tree.specs.Meanings.{body_by, no_body, body_of, interfaces_of, optional_list_of}
 use Rattle.graphql_schema_tree.specs.Tree.{PartsTree, BodyTree}
 use Rattle.graphql_schema.specs.declared.read.keyword.TypeKind.{TypeKind}
 use Rattle.graphql_schema.specs.declared.read.keyword.TypeKind.TheVariants.{Scalar, Object, Interface, Union, Enum, InputObject}
 use Rattle.graphql_schema.specs.steps.Keywords.{kind_word, has_interfaces}
-use Rattle.graphql_schema.specs.steps.Reads.{Reads}
 use Rattle.graphql_schema.specs.steps.TypeBodies.{symbol_of, means, interfaces_rule, parts_rule, parts_of}
 use Rattle.graphql_schema.proofs.Dialect.{reading}
-use Rattle.graphql_schema.proofs.JoinedNames.{past_one}
 
 -- ---- the rule of a kind
 
@@ -77,21 +72,16 @@ stops : (k : TypeKind) (ts us : List Token) (o : Option Reason) → Stops readin
 stops k ts us None h = tt
 stops k ts us (Some why) h = fails k h
 
-pub kind_taken : (k : TypeKind) (ts us : List Token) (b : BodyTree) → TakesSome reading (full_rule k) ts us (λ x. b ≡ full_means k (written changes x))
+pub kind_taken : (k : TypeKind) {ts us : List Token} {b : BodyTree} → TakesSome reading (full_rule k) ts us (λ x. b ≡ full_means k (written changes x))
     → TakesSome reading (Sym (symbol_of k)) ts us (λ x. b ≡ means k (written changes x))
-kind_taken k ts us b (x, takes, is) = let (y, node, same) = taken k takes in (y, node, is ∙ same)
+kind_taken k (x, takes, is) = let (y, node, same) = taken k takes in (y, node, is ∙ same)
 
 -- a reader of it reads the kind
-pub of_kind : {A : Type 0} (k : TypeKind) (old new : Items) (view : A → BodyTree) (r : Result A ReadError)
-    → Gives reading (full_rule k) old new (λ v x. view v ≡ full_means k (written changes x)) r → Reads (Sym (symbol_of k)) old new (λ v x. view v ≡ means k x) r
-of_kind k old new view (Ok v) h = kind_taken k old.tokens new.tokens (view v) h
-of_kind k old new view (Err d) h = stops k old.tokens new.tokens (reason_of d) h
-
--- after its keyword and its name
-pub named : (k : TypeKind) (old mid new : Items) (t n : Token) → TakesToken (keyword (kind_word k)) old mid t → TakesToken (any Name) mid new n
-    → Leads reading (full_rule k) (Then (interfaces_rule (has_interfaces k)) (Then (Sym directives_symbol) (parts_rule k)))
-    (λ y. Both (Leaf t) (Both (Leaf n) y)) old.tokens new.tokens
-named k old mid new t n begins called = past_one (any Name) mid new n (past_one (keyword (kind_word k)) old mid t here refl begins) refl called
+pub of_kind : {A : Type 0} (k : TypeKind) (ts us : List Token) (view : A → BodyTree) (r : Result A ReadError)
+    → Answered reason_of reading (full_rule k) ts us (λ v x. view v ≡ full_means k (written changes x)) r
+    → Answered reason_of reading (Sym (symbol_of k)) ts us (λ v x. view v ≡ means k (written changes x)) r
+of_kind k ts us view (Ok v) h = kind_taken k h
+of_kind k ts us view (Err d) h = stops k ts us (reason_of d) h
 
 -- bodies of the same parts
 abbrev of_parts : Place → List ℕ → List DirectiveTree → PartsTree → BodyTree

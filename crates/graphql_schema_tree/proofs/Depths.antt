@@ -6,16 +6,15 @@ use Rattle.graphql_core.specs.Depths.{bracket_of}
 use Rattle.graphql_core.specs.Parts.{Part, gap}
 use Rattle.graphql_core.specs.Style.{Layout}
 use Rattle.graphql_core.proofs.Depths.{Rises, rises_as, none_rise, flat_rise, gap_rises, level_rises, both_rise}
-use Rattle.graphql_values.specs.Printable.{directives_brackets}
 use Rattle.graphql_values.specs.TreeDepth.{most_enclosed}
 use Rattle.graphql_values.specs.TreeDepth.{most}
-use Rattle.graphql_values.specs.Values.{DirectiveTree}
 use Rattle.graphql_values.proofs.Depths.{string_rises, type_rises, directives_rise, braces_rise, line_end_rises, default_rises, lines_rise, separated_rise}
 use Rattle.graphql_values.proofs.Depths.{in_parentheses_rise}
 use Rattle.graphql_schema_tree.specs.declared.location.DirectiveLocation.{DirectiveLocation}
 use Rattle.graphql_schema_tree.specs.Layout.{description_layout, inline_layout, later_names, joined_names, interfaces_layout, members_layout, locations_layout}
 use Rattle.graphql_schema_tree.specs.Layout.{block_layout, input_value_layout, arguments_layout, input_field_layout, field_layout}
-use Rattle.graphql_schema_tree.specs.Layout.{enum_value_layout, root_layout, roots_layout, parts_layout, body_layout, repeatable_layout, definition_layout}
+use Rattle.graphql_schema_tree.specs.Layout.{enum_value_layout, root_layout, roots_layout}
+use Rattle.graphql_schema_tree.specs.Layout.{interfaces, parts_layout, body_layout, repeatable_layout, definition_layout}
 use Rattle.graphql_schema_tree.specs.Layout.{document_layout}
 use Rattle.graphql_schema_tree.specs.Locations.{word_of}
 use Rattle.graphql_schema_tree.specs.Printable.{input_value_brackets, field_brackets, enum_value_brackets, parts_brackets, body_brackets, definition_brackets}
@@ -98,22 +97,18 @@ module _ (style : Layout) where
   operations_rise true q m s = roots_rise q m s
   operations_rise false q m s = gap_rises _ none_rise
 
-  parts_rise : (ds : List DirectiveTree) (p : PartsTree) → Rises (max (directives_brackets ds) (parts_brackets p)) (parts_layout style ds p)
-  parts_rise ds scalar = both_rise (directives_rise style 0 ds) (gap_rises _ none_rise)
-  parts_rise ds (object is fs) =
-      flat_rise (interfaces_rise is)
-      (both_rise (directives_rise style 0 ds) (block_rises (field_layout style style.indent) field_brackets (field_rises style.indent) 0 fs))
-  parts_rise ds (interface is fs) =
-      flat_rise (interfaces_rise is)
-      (both_rise (directives_rise style 0 ds) (block_rises (field_layout style style.indent) field_brackets (field_rises style.indent) 0 fs))
-  parts_rise ds (union ts) = both_rise (directives_rise style 0 ds) (line_end_rises _ (members_rise ts))
-  parts_rise ds (enum vs) =
-      both_rise (directives_rise style 0 ds) (block_rises (enum_value_layout style style.indent) enum_value_brackets (enum_value_rises style.indent) 0 vs)
-  parts_rise ds (input fs) =
-      both_rise (directives_rise style 0 ds) (block_rises (input_field_layout style style.indent) input_value_brackets (input_field_rises style.indent) 0 fs)
+  parts_rise : (p : PartsTree) → Rises (parts_brackets p) (parts_layout style p)
+  parts_rise scalar = gap_rises _ none_rise
+  parts_rise (object is fs) = block_rises (field_layout style style.indent) field_brackets (field_rises style.indent) 0 fs
+  parts_rise (interface is fs) = block_rises (field_layout style style.indent) field_brackets (field_rises style.indent) 0 fs
+  parts_rise (union ts) = line_end_rises _ (members_rise ts)
+  parts_rise (enum vs) = block_rises (enum_value_layout style style.indent) enum_value_brackets (enum_value_rises style.indent) 0 vs
+  parts_rise (input fs) = block_rises (input_field_layout style style.indent) input_value_brackets (input_field_rises style.indent) 0 fs
 
   body_rises : (b : BodyTree) → Rises (body_brackets b) (body_layout style b)
-  body_rises b = level_rises refl (gap_rises _ (level_rises refl (parts_rise b.directives b.parts)))
+  body_rises b =
+      level_rises refl (gap_rises _ (level_rises refl (flat_rise (interfaces_rise (interfaces b.parts))
+      (both_rise (directives_rise style 0 b.directives) (parts_rise b.parts)))))
 
   repeatable_rises : (b : Bool) → Rises 0 (repeatable_layout b)
   repeatable_rises false = none_rise

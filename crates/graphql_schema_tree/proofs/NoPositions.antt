@@ -3,7 +3,6 @@ use Rattle.std.proofs.Common.{◌≡◌, ◌++◌, ap, ap₂, refl, codes, ℕ, 
 use Rattle.std.specs.List.{flat_map}
 use Rattle.graphql_core.specs.Style.{Layout}
 use Rattle.graphql_core.specs.Parts.{Part, text_of, gap, name}
-use Rattle.graphql_values.specs.Values.{DirectiveTree, erase_all}
 use Rattle.graphql_values.specs.Lines.{in_braces}
 use Rattle.graphql_values.proofs.NoPositions.{directives_alike, separated_alike, in_parentheses_alike}
 use Rattle.graphql_schema_tree.specs.Tree.{InputValueTree, FieldTree, EnumValueTree, PartsTree, scalar, object, interface, union, enum, input, BodyTree}
@@ -11,7 +10,7 @@ use Rattle.graphql_schema_tree.specs.Tree.{DefinitionTree, schema, type_definiti
 use Rattle.graphql_schema_tree.specs.Tree.{erase_input_value, erase_field}
 use Rattle.graphql_schema_tree.specs.Tree.{erase_enum_value, erase_parts, erase_body, erase_definition, erase}
 use Rattle.graphql_schema_tree.specs.Layout.{block_layout, description_layout, input_value_layout, arguments_layout, input_field_layout}
-use Rattle.graphql_schema_tree.specs.Layout.{field_layout, enum_value_layout, keyword, parts_layout, body_layout, definition_layout, layout}
+use Rattle.graphql_schema_tree.specs.Layout.{field_layout, enum_value_layout, keyword, interfaces, parts_layout, body_layout, definition_layout, layout}
 
 -- ---- parts in braces
 
@@ -46,17 +45,13 @@ enum_value_alike style margin v = rw (directives_alike style margin v.directives
 
 -- ---- definitions
 
-parts_alike : (style : Layout) (ds : List DirectiveTree) (p : PartsTree) → parts_layout style (erase_all ds) (erase_parts p) ≡ parts_layout style ds p
-parts_alike style ds scalar = rw (directives_alike style 0 ds) refl
-parts_alike style ds (object is fs) =
-    rw (directives_alike style 0 ds, block_alike erase_field (field_layout style style.indent) (field_alike style style.indent) 0 fs) refl
-parts_alike style ds (interface is fs) =
-    rw (directives_alike style 0 ds, block_alike erase_field (field_layout style style.indent) (field_alike style style.indent) 0 fs) refl
-parts_alike style ds (union ts) = rw (directives_alike style 0 ds) refl
-parts_alike style ds (enum vs) =
-    rw (directives_alike style 0 ds, block_alike erase_enum_value (enum_value_layout style style.indent) (enum_value_alike style style.indent) 0 vs) refl
-parts_alike style ds (input fs) =
-    rw (directives_alike style 0 ds, block_alike erase_input_value (input_field_layout style style.indent) (input_field_alike style style.indent) 0 fs) refl
+parts_alike : (style : Layout) (p : PartsTree) → parts_layout style (erase_parts p) ≡ parts_layout style p
+parts_alike style scalar = refl
+parts_alike style (object is fs) = block_alike erase_field (field_layout style style.indent) (field_alike style style.indent) 0 fs
+parts_alike style (interface is fs) = block_alike erase_field (field_layout style style.indent) (field_alike style style.indent) 0 fs
+parts_alike style (union ts) = refl
+parts_alike style (enum vs) = block_alike erase_enum_value (enum_value_layout style style.indent) (enum_value_alike style style.indent) 0 vs
+parts_alike style (input fs) = block_alike erase_input_value (input_field_layout style style.indent) (input_field_alike style style.indent) 0 fs
 
 keyword_alike : (p : PartsTree) → keyword (erase_parts p) ≡ keyword p
 keyword_alike scalar = refl
@@ -66,8 +61,17 @@ keyword_alike (union ts) = refl
 keyword_alike (enum vs) = refl
 keyword_alike (input fs) = refl
 
+interfaces_alike : (p : PartsTree) → interfaces (erase_parts p) ≡ interfaces p
+interfaces_alike scalar = refl
+interfaces_alike (object is fs) = refl
+interfaces_alike (interface is fs) = refl
+interfaces_alike (union ts) = refl
+interfaces_alike (enum vs) = refl
+interfaces_alike (input fs) = refl
+
 body_alike : (style : Layout) (b : BodyTree) → body_layout style (erase_body b) ≡ body_layout style b
-body_alike style b = ap₂ (λ w r. name w ++ (gap (codes " ") ++ (name b.name ++ r))) (keyword_alike b.parts) (parts_alike style b.directives b.parts)
+body_alike style b =
+    rw (keyword_alike b.parts, interfaces_alike b.parts, directives_alike style 0 b.directives, parts_alike style b.parts) refl
 
 definition_alike : (style : Layout) (d : DefinitionTree) → definition_layout style (erase_definition d) ≡ definition_layout style d
 definition_alike style (schema d s) = rw (directives_alike style 0 s.directives) refl

@@ -1,5 +1,5 @@
 -- The layouts of the parts of schema documents, and of types, are read back, up to positions.
-use Rattle.std.proofs.Common.{◌≡◌, ℕ, ◌+◌, ◌<◌, ◌≤◌, Bool, true, false, if◌then◌else◌, List, [], ◌∷◌, ◌++◌, Option, Some, None, codes, map, refl, sym}
+use Rattle.std.proofs.Common.{◌≡◌, ℕ, ◌+◌, ◌<◌, ◌≤◌, Bool, true, false, if◌then◌else◌, List, [], ◌∷◌, Option, Some, None, codes, map, refl, sym}
 use Rattle.std.proofs.Common.{ap, ap₂, ◌∙◌, subst, arith}
 use Rattle.std.proofs.lemmas.List.{map-id}
 use Rattle.std.specs.List.{AllByRecursion, flat_map}
@@ -9,7 +9,7 @@ use Rattle.graphql_lexer.specs.declared.tokenizer.token.Kind.TheVariants.{Punctu
 use Rattle.graphql_lexer.specs.declared.tokenizer.piece.Nesting.TheVariants.{Level}
 use Rattle.graphql_lexer.specs.Lexical.{IsName}
 use Rattle.graphql_core.specs.Style.{Layout}
-use Rattle.graphql_core.specs.Parts.{Part, token, name, gap}
+use Rattle.graphql_core.specs.Parts.{Part, token, name}
 use Rattle.graphql_values.specs.Values.{DirectiveTree, no_place, erase_all}
 use Rattle.graphql_values.specs.ValueLayout.{directives_layout, has_block_form, in_block_form, quoted, string_layout}
 use Rattle.graphql_values.specs.Lines.{in_braces}
@@ -29,7 +29,7 @@ use Rattle.graphql_schema_tree.specs.Meanings.{optional_of, optional_list_of, ea
 use Rattle.graphql_schema_tree.specs.Meanings.{field_of, enum_value_of, interfaces_of, members_of, body_of}
 use Rattle.graphql_schema_tree.specs.Layout.{description_layout, inline_layout, later_names, joined_names, interfaces_layout, members_layout, block_layout}
 use Rattle.graphql_schema_tree.specs.Layout.{input_value_layout, arguments_layout, input_field_layout, field_layout, enum_value_layout}
-use Rattle.graphql_schema_tree.specs.Layout.{keyword, parts_layout, body_layout}
+use Rattle.graphql_schema_tree.specs.Layout.{body_layout}
 use Rattle.graphql_schema_tree.specs.Printable.{IsPrintableInputValue, IsPrintableField, IsPrintableEnumValue, ArePrintableParts, IsPrintableBody}
 use Rattle.graphql_schema_tree.specs.Printable.{input_value_brackets, field_brackets, enum_value_brackets, parts_brackets, body_brackets}
 use Rattle.graphql_schema_tree.specs.Lawful.{IsLawfulInputValue, IsLawfulField, IsLawfulEnumValue, AreLawfulParts, IsLawfulBody}
@@ -233,7 +233,7 @@ module _ (style : Layout) where
 
   parts_back : (n : List ℕ) (ds : List DirectiveTree) (parts : PartsTree) (d : ℕ) → IsName n → AllByRecursion IsPrintableDirective ds
       → ArePrintableParts parts → AreLawfulDirectives ds → AreLawfulParts parts → d + directives_brackets ds ≤ 50 → d + parts_brackets parts ≤ 50
-      → Back schema (Sym type_body_symbol) false d (name (keyword parts) ++ (gap (codes " ") ++ (name n ++ parts_layout style ds parts))) false d
+      → Back schema (Sym type_body_symbol) false d (body_layout style (record { position = no_place; name = n; directives = ds; parts = parts })) false d
       (λ x. erase_body (body_of x) ≡ record { position = no_place; name = n; directives = erase_all ds; parts = erase_parts parts })
   parts_back n ds scalar d is dir are dirlaw law deep inside =
       node_back (λ x. refl) (first_back (node_back (λ x. refl) (three_back {P = Any}

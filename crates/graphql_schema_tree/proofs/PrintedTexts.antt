@@ -9,18 +9,17 @@ use Rattle.graphql_core.specs.Parts.{Part, text_of, name, gap}
 use Rattle.graphql_values.specs.Lines.{in_braces, default_layout}
 use Rattle.graphql_values.specs.TreeDepth.{most}
 use Rattle.graphql_values.specs.ValueLayout.{type_layout, directives_layout}
-use Rattle.graphql_values.specs.Values.{DirectiveTree}
 use Rattle.graphql_values.proofs.Appending.{text_append}
-use Rattle.graphql_values.proofs.Enclosed.{narrower, both_fit}
+use Rattle.graphql_values.proofs.Enclosed.{narrower}
 use Rattle.graphql_values.proofs.Seen.{most_seen}
-use Rattle.graphql_schema_tree.specs.Tree.{InputValueTree, FieldTree, EnumValueTree, SchemaTree, PartsTree, DirectiveDefinitionTree, schema}
-use Rattle.graphql_schema_tree.specs.Tree.{type_definition, schema_extension, has_operation}
+use Rattle.graphql_schema_tree.specs.Tree.{InputValueTree, FieldTree, EnumValueTree, SchemaTree, BodyTree, DirectiveDefinitionTree, schema}
+use Rattle.graphql_schema_tree.specs.Tree.{schema_extension, has_operation}
 use Rattle.graphql_schema_tree.specs.Layout.{description_layout, inline_layout, between, later_names, joined_names, interfaces_layout, members_layout}
 use Rattle.graphql_schema_tree.specs.Layout.{locations_layout, input_value_layout, arguments_layout, input_field_layout, field_layout}
-use Rattle.graphql_schema_tree.specs.Layout.{enum_value_layout, block_layout, root_layout, roots_layout, body_layout, repeatable_layout}
+use Rattle.graphql_schema_tree.specs.Layout.{enum_value_layout, block_layout, root_layout, roots_layout, repeatable_layout, keyword, interfaces}
+use Rattle.graphql_schema_tree.specs.Layout.{parts_layout, body_layout}
 use Rattle.graphql_values.specs.TreeDepth.{most_enclosed}
 use Rattle.graphql_schema_tree.specs.Layout.{directive_definition_layout, definition_layout}
-use Rattle.graphql_schema_tree.specs.steps.Body.{body, named}
 
 -- ---- names
 
@@ -91,25 +90,14 @@ pub directive_definition_text : (style : Layout) (d : DirectiveDefinitionTree)
     ++ text_of (repeatable_layout d.repeatable)) ++ text_of (locations_layout d.locations)) ++ codes "\n" ≡ text_of (directive_definition_layout style d)
 directive_definition_text style d = simp (text_append, append_assoc)
 
--- a type, whose position no text shows
-pub type_text : (style : Layout) (d : Option (List ℕ)) (n : List ℕ) (directives : List DirectiveTree) (parts : PartsTree)
-    → text_of (description_layout style 0 d) ++ text_of (body_layout style (body n directives parts))
-    ≡ text_of (definition_layout style (type_definition d (body n directives parts)))
-type_text style d n directives parts = sym (text_append (description_layout style 0 d) (body_layout style (body n directives parts)))
+-- a type, or an extension of one
+pub body_text : (style : Layout) (b : BodyTree) → ((((keyword b.parts ++ codes " ") ++ b.name) ++ text_of (interfaces_layout (interfaces b.parts)))
+    ++ text_of (directives_layout style 0 b.directives)) ++ text_of (parts_layout style b.parts) ≡ text_of (body_layout style b)
+body_text style b = simp (text_append, append_assoc)
 
--- a keyword, a name, and two parts or three
-pub two_after : (keyword n : List ℕ) (a b : List Part) → (((keyword ++ codes " ") ++ n) ++ text_of a) ++ text_of b ≡ text_of (named keyword n (a ++ b))
-two_after keyword n a b = simp (text_append, append_assoc)
-
-pub three_after : (keyword n : List ℕ) (a b c : List Part)
-    → ((((keyword ++ codes " ") ++ n) ++ text_of a) ++ text_of b) ++ text_of c ≡ text_of (named keyword n (a ++ (b ++ c)))
-three_after keyword n a b c = simp (text_append, append_assoc)
-
--- and lines in braces
-pub braces_after : (keyword n : List ℕ) (a lines : List Part)
-    → (((((keyword ++ codes " ") ++ n) ++ text_of a) ++ codes " {\n") ++ text_of lines) ++ codes "}\n"
-    ≡ text_of (named keyword n (a ++ (gap (codes " ") ++ in_braces 0 lines)))
-braces_after keyword n a lines = simp (text_append, append_assoc)
+-- lines in braces, after a name
+pub lines_text : (lines : List Part) → (codes " {\n" ++ text_of lines) ++ codes "}\n" ≡ text_of (gap (codes " ") ++ in_braces 0 lines)
+lines_text lines = simp (text_append, append_assoc)
 
 -- ---- trees in braces
 
@@ -131,11 +119,9 @@ module _ {X T : Type 0} (view : X → T) where
   block_seen margin lines (x ∷ xs) = ap (λ ls. gap (codes " ") ++ in_braces margin ls) (sym (flat_map-map lines view (x ∷ xs)))
 
   -- what is in the braces of a definition fits where the definition does
-  pub block_fits : (f : T → ℕ) (xs : List X) (others indent width : ℕ) → max others (most_enclosed f (map view xs)) * indent < width
+  pub block_fits : (f : T → ℕ) (xs : List X) (margin indent width : ℕ) → margin + most_enclosed f (map view xs) * indent < width
       → 0 + most_enclosed (λ x. f (view x)) xs * indent < width
-  block_fits f xs others indent width h =
-      let fits = (both_fit others (most_enclosed f (map view xs)) indent width h).1 in
-      rw (block_levels_seen f xs) (omega (arith, fits))
+  block_fits f xs margin indent width fits = rw (block_levels_seen f xs) (omega (arith, fits))
 
   -- and is what is written in them
   pub block_written : (lines : ℕ → T → List Part) (indent : ℕ) (xs : List X) → text_of (block_layout 0 (λ x. lines (0 + indent) (view x)) xs)

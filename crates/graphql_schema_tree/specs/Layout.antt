@@ -1,9 +1,8 @@
 -- The text of a document in a style. A line begins with a margin of so many spaces.
 use Rattle.std.specs.Prelude.{ℕ, Bool, true, false, cond, List, [], ◌∷◌, ◌++◌, Option, Some, None, codes, map}
 use Rattle.std.specs.List.{flat_map}
-use Rattle.graphql_core.specs.Style.{Layout, spaces}
+use Rattle.graphql_core.specs.Style.{Layout, spaces, default_style}
 use Rattle.graphql_core.specs.Parts.{Part, text_of, name, mark, gap}
-use Rattle.graphql_values.specs.Values.{DirectiveTree}
 use Rattle.graphql_values.specs.ValueLayout.{string_layout, type_layout, directives_layout, in_levels}
 use Rattle.graphql_values.specs.ValueLayout as values
 use Rattle.graphql_values.specs.Lines.{in_braces, separated, in_parentheses, default_layout}
@@ -115,17 +114,25 @@ keyword (union ts) = codes "union"
 keyword (enum vs) = codes "enum"
 keyword (input fs) = codes "input"
 
--- what stands after a type's name: interfaces stand before the directives, and all else after them
-abbrev pub parts_layout : Layout → List DirectiveTree → PartsTree → List Part
-parts_layout style ds scalar = directives_layout style 0 ds ++ gap (codes "\n")
-parts_layout style ds (object is fs) = interfaces_layout is ++ (directives_layout style 0 ds ++ block_layout 0 (field_layout style style.indent) fs)
-parts_layout style ds (interface is fs) = interfaces_layout is ++ (directives_layout style 0 ds ++ block_layout 0 (field_layout style style.indent) fs)
-parts_layout style ds (union ts) = directives_layout style 0 ds ++ (members_layout ts ++ gap (codes "\n"))
-parts_layout style ds (enum vs) = directives_layout style 0 ds ++ block_layout 0 (enum_value_layout style style.indent) vs
-parts_layout style ds (input fs) = directives_layout style 0 ds ++ block_layout 0 (input_field_layout style style.indent) fs
+-- the interfaces of a kind that may have them, which stand before the directives
+abbrev pub interfaces : PartsTree → List (List ℕ)
+interfaces (object is fs) = is
+interfaces (interface is fs) = is
+interfaces _ = []
+
+-- the other parts, which stand after them
+abbrev pub parts_layout : Layout → PartsTree → List Part
+parts_layout style scalar = gap (codes "\n")
+parts_layout style (object is fs) = block_layout 0 (field_layout style style.indent) fs
+parts_layout style (interface is fs) = block_layout 0 (field_layout style style.indent) fs
+parts_layout style (union ts) = members_layout ts ++ gap (codes "\n")
+parts_layout style (enum vs) = block_layout 0 (enum_value_layout style style.indent) vs
+parts_layout style (input fs) = block_layout 0 (input_field_layout style style.indent) fs
 
 abbrev pub body_layout : Layout → BodyTree → List Part
-body_layout style b = name (keyword b.parts) ++ (gap (codes " ") ++ (name b.name ++ parts_layout style b.directives b.parts))
+body_layout style b =
+    name (keyword b.parts) ++ (gap (codes " ") ++ (name b.name ++ (interfaces_layout (interfaces b.parts)
+    ++ (directives_layout style 0 b.directives ++ parts_layout style b.parts))))
 
 abbrev pub repeatable_layout : Bool → List Part
 repeatable_layout false = []
@@ -142,6 +149,10 @@ definition_layout style (type_definition d b) = description_layout style 0 d ++ 
 definition_layout style (extension b) = name (codes "extend") ++ (gap (codes " ") ++ body_layout style b)
 definition_layout style (schema_extension s) = schema_extension_layout style s
 definition_layout style (directive d) = directive_definition_layout style d
+
+-- what Display writes of a definition
+abbrev pub shown : DefinitionTree → Option (List ℕ)
+shown d = Some (text_of (definition_layout default_style d))
 
 -- the definitions, with an empty line between two
 abbrev pub document_layout : Layout → DocumentTree → List Part

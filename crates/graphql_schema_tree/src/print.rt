@@ -7,6 +7,7 @@ mod display;
 mod extensions;
 mod field;
 mod names;
+mod parts;
 mod schema;
 mod types;
 mod width;

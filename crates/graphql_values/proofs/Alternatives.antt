@@ -39,7 +39,7 @@ pub side_node : (g : Grammar) (k : ℕ) (ts : List Token) → ((x : Shape) → g
 side_node g k ts passes =
     record { takes = λ us x t. takes_node t (passes x); stops = λ us o s. Stops-node g k ts us o s; leads = λ us d l. leads_node l }
 
-side_chosen_first : (g : Grammar) (a b : Expr) (ts : List Token) → choose g.rows a b (trees.peek ts) ≡ Left → IsSide g (Either a b) a First ts
+pub side_chosen_first : (g : Grammar) (a b : Expr) (ts : List Token) → choose g.rows a b (trees.peek ts) ≡ Left → IsSide g (Either a b) a First ts
 side_chosen_first g a b ts h =
     record { takes = λ us x t. takes_first h t; stops = λ us o s. Stops-first g a b ts us o h s; leads = λ us d l. leads_first l }
 

@@ -24,6 +24,7 @@ pub mod OuterLines
 pub mod ValuesBack
 pub mod DirectivesBack
 pub mod LinesBack
+pub mod Lists
 pub mod ListsBack
 pub mod Margins
 pub mod Narrow

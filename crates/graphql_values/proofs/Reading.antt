@@ -12,12 +12,12 @@ use Rattle.graphql_grammar.specs.Reading.{fails_turn}
 use Rattle.graphql_grammar.specs.ReaderWords.{TakesSome, Stops, Turns, values}
 use Rattle.graphql_grammar.proofs.Items.{sees-parts}
 use Rattle.graphql_grammar.proofs.Deterministic.{take-or_fail, same-fail}
-use Rattle.graphql_grammar.proofs.ReaderSteps.{exits, Stops-first, Stops-after, Turns-stop, picks-first, picks-neither}
+use Rattle.graphql_grammar.proofs.ReaderSteps.{exits, Stops-after, Turns-stop, picks-first, picks-neither}
 use Rattle.graphql_core.specs.declared.helpers.read_error.ReadError.{ReadError}
 use Rattle.graphql_core.specs.declared.helpers.read_error.ReadError.TheVariants.{Memory, Item, Integer, Float, Escape, Location}
 use Rattle.graphql_core.specs.Source.{Items, kept, fault_by, place_next}
 use Rattle.graphql_core.specs.steps.Matching.{TakesToken, TakesOne}
-use Rattle.graphql_values.specs.steps.Answers.{GivesBy, Gives, Adds, reason_of}
+use Rattle.graphql_values.specs.steps.Answers.{Answered, GivesBy, Gives, Adds, reason_of}
 
 -- ---- single tokens
 
@@ -120,10 +120,6 @@ pub takes_none : (g : Grammar) (a : Expr) (ts : List Token) → nullable g.rows 
     → Takes g (optional a) ts (Second Nothing) ts
 takes_none g a ts n unseen = takes_second (picks_none g.rows a (trees.peek ts) n unseen) takes_nothing
 
-pub stops_optional : (g : Grammar) (a : Expr) (ts us : List Token) (o : Option Reason) → sees (first g.rows a) (trees.peek ts) ≡ true → Stops g a ts us o
-    → Stops g (optional a) ts us o
-stops_optional g a ts us o seen h = Stops-first g a Empty ts us o (picks-first g.rows a Empty (trees.peek ts) seen) h
-
 -- ---- what another reader gives
 
 -- the last step of a reader is another's
@@ -135,14 +131,14 @@ gives_then g e f old mid new P Q (Ok v) takes stops (x, h, p) = takes v x h p
 gives_then g e f old mid new P Q (Err d) takes stops h = stops (reason_of d) h
 
 -- an error goes up, whatever errors there are, with the reason that each has
+pub answered_error : {A E : Type 0} (reason : E → Option Reason) (g : Grammar) (e : Expr) (ts us : List Token) (P : A → Shape → Type 0) (r : Result A E) (d : E)
+    → Stops g e ts us (reason d) → IsErrAnd r (λ x. x ≡ d) → Answered reason g e ts us P r
+answered_error reason g e ts us P (Ok v) d stops h = absurd h
+answered_error reason g e ts us P (Err x) d stops h = rw h stops
+
 pub gives_error_by : {A E : Type 0} (reason : E → Option Reason) (g : Grammar) (e : Expr) (old new : Items) (P : A → Shape → Type 0) (r : Result A E) (d : E)
     → Stops g e old.tokens new.tokens (reason d) → IsErrAnd r (λ x. x ≡ d) → GivesBy reason g e old new P r
-gives_error_by reason g e old new P (Ok v) d stops h = absurd h
-gives_error_by reason g e old new P (Err x) d stops h = rw h stops
-
-pub gives_error : {A : Type 0} (g : Grammar) (e : Expr) (old new : Items) (P : A → Shape → Type 0) (r : Result A ReadError) (d : ReadError)
-    → Stops g e old.tokens new.tokens (reason_of d) → IsErrAnd r (λ x. x ≡ d) → Gives g e old new P r
-gives_error = gives_error_by reason_of
+gives_error_by reason g e old new P r d stops h = answered_error reason g e old.tokens new.tokens P r d stops h
 
 -- ---- one after the other
 

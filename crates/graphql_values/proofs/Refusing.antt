@@ -69,10 +69,10 @@ module _ {D R : Type 0} (l : Language D) (w : Refusals R) where
   }
 
   -- and so does one of a part that refuses no node
-  pub stops_led : {A : Type 0} {e f : Expr} {inside : Shape → Shape} (old mid new : Items) (P : A → Shape → Type 0) (r : Result A (NodeError R)) (d : ReadError)
-      → steps.Leads (reading l) e f inside old.tokens mid.tokens → Stops (reading l) f mid.tokens new.tokens (reason_of d)
+  pub stops_led : {A : Type 0} {e f : Expr} {inside : Shape → Shape} {us : List Token} (old new : Items) (P : A → Shape → Type 0) (r : Result A (NodeError R))
+      (d : ReadError) → steps.Leads (reading l) e f inside old.tokens us → Stops (reading l) f us new.tokens (reason_of d)
       → IsErrAnd r (λ x. x ≡ Stopped d) → Reads l w e old new P r
-  stops_led {e = e} old mid new P r d led stops up = record {
+  stops_led {e = e} old new P r d led stops up = record {
     gives = gives_error_by (halt_reason w) (reading l) e old new _ r (Stopped d) (led.stops new.tokens (reason_of d) stops) up;
     says = exit r (Stopped d) _ up tt;
   }

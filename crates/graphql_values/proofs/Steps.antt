@@ -8,13 +8,12 @@ use Rattle.graphql_grammar.specs.Leads as Derives
 use Rattle.graphql_grammar.specs.ReaderWords.{TakesSome, Stops, Turns, values}
 use Rattle.graphql_grammar.proofs.Sound.{takes-fits, takes-leaves}
 use Rattle.graphql_grammar.proofs.FirstFault.{fits-lax}
-use Rattle.graphql_grammar.proofs.ReaderSteps.{picks-second, Stops-before, Stops-after, Turns-start, Turns-more, Turns-stop}
+use Rattle.graphql_grammar.proofs.ReaderSteps.{picks-second, Stops-before, Stops-after, Stops-turn, Turns-start, Turns-more, Turns-stop}
 use Rattle.graphql_core.specs.declared.helpers.read_error.ReadError.{ReadError}
 use Rattle.graphql_core.specs.Source.{Items, kept}
 use Rattle.graphql_core.specs.steps.Matching.{TakesToken}
-use Rattle.graphql_values.specs.steps.Answers.{GivesBy, Gives, Adds, reason_of}
-use Rattle.graphql_values.specs.Grammar.{keyword, word}
-use Rattle.graphql_values.proofs.Reading.{takes_one, unseen_one, stops_one, gives_error_by, gives_error, TakesNone, one_of}
+use Rattle.graphql_values.specs.steps.Answers.{Answered, Adds, reason_of}
+use Rattle.graphql_values.proofs.Reading.{takes_one, unseen_one, stops_one, answered_error, TakesNone, one_of}
 use Rattle.graphql_values.proofs.Reading.{adds_none, adds_one, adds_more, fills}
 use Rattle.graphql_values.proofs.Alternatives.{IsSide, side_node, side_left, side_chosen_second}
 
@@ -86,41 +85,43 @@ after_right g c d a old mid t good h decided seen =
 pub before : {g : Grammar} {e a b : Expr} {inside : Shape → Shape} {ts us : List Token} → Leads g e (Then a b) inside ts us → StopsBy g e a ts us
 before {g} {e} {a} {b} {inside} {ts} {us} l vs o h = l.stops vs o (Stops-before g a b us vs o h)
 
--- an error goes up, whatever errors there are, with the reason that each has
-pub error_in_by : {A E : Type 0} (reason : E → Option Reason) {g : Grammar} {e f : Expr} (old mid new : Items) (P : A → Shape → Type 0) (r : Result A E) (d : E)
-    → StopsBy g e f old.tokens mid.tokens → Stops g f mid.tokens new.tokens (reason d) → IsErrAnd r (λ x. x ≡ d) → GivesBy reason g e old new P r
-error_in_by reason {g} {e} old mid new P r d by h up = gives_error_by reason g e old new P r d (by new.tokens (reason d) h) up
+-- ---- a reader, part by part
 
-pub error_in : {A : Type 0} {g : Grammar} {e f : Expr} (old mid new : Items) (P : A → Shape → Type 0) (r : Result A ReadError) (d : ReadError)
-    → StopsBy g e f old.tokens mid.tokens → Stops g f mid.tokens new.tokens (reason_of d) → IsErrAnd r (λ x. x ≡ d) → Gives g e old new P r
-error_in {g = g} {e = e} old mid new P r d by h up = gives_error g e old new P r d (by new.tokens (reason_of d) h) up
+-- the rule of a symbol whose nodes all pass has begun
+pub begun : {g : Grammar} {ts : List Token} (k : ℕ) → ((x : Shape) → g.check k x ≡ true) → Leads g (Sym k) (row g k).rule (Node k) ts ts
+begun {g} {ts} k passes = starts g k ts passes
 
-pub error_one : {A : Type 0} {g : Grammar} {e : Expr} {c : Class} (old mid new : Items) (P : A → Shape → Type 0) (r : Result A ReadError) (d : ReadError)
-    → StopsBy g e (One c) old.tokens mid.tokens → TakesNone c mid new d → IsErrAnd r (λ x. x ≡ d) → Gives g e old new P r
-error_one {g = g} {c = c} old mid new P r d by h up = error_in old mid new P r d by (stops_one g c mid new d h) up
+-- a token that was taken
+pub took : {g : Grammar} {c : Class} {old new : Items} {t : Token} → TakesToken c old new t → g.good c t ≡ true → Takes g (One c) old.tokens (Leaf t) new.tokens
+took {g} {c} {old} {new} {t} taken good = takes_one g c old new t good taken
 
--- ---- a keyword, and an expression after it
+-- what another reader took
+pub after : {g : Grammar} {e a b : Expr} {inside : Shape → Shape} {ts us vs : List Token} {P : Shape → Type 0}
+    → Leads g e (Then a b) inside ts us → (h : TakesSome g a us vs P) → Leads g e b (λ y. inside (Both h.0 y)) ts vs
+after l h = past l h.1
 
--- both are taken
-pub keyword_taken : (g : Grammar) (w : List ℕ) (e : Expr) (old mid new : Items) (t : Token) (P Q : Shape → Type 0) → g.good (keyword w) t ≡ true
-    → TakesToken (keyword w) old mid t → ((x : Shape) → P x → Q (Both (Leaf t) x)) → TakesSome g e mid.tokens new.tokens P
-    → TakesSome g (Then (word w) e) old.tokens new.tokens Q
-keyword_taken g w e old mid new t P Q good begins means (x, takes, p) =
-    (Both (Leaf t) x, takes_both (takes_one g (keyword w) old mid t good begins) takes, means x p)
+-- the last part makes it whole
+pub whole : {g : Grammar} {e f : Expr} {inside : Shape → Shape} {ts us vs : List Token} {x : Shape} {Q : Shape → Type 0}
+    → Leads g e f inside ts us → Takes g f us x vs → Q (inside x) → TakesSome g e ts vs Q
+whole {inside = inside} {vs = vs} {x = x} l h q = (inside x, l.takes vs x h, q)
 
--- or the keyword is missing
-pub keyword_missing : {A : Type 0} (g : Grammar) (w : List ℕ) (e : Expr) (old new : Items) (P : A → Shape → Type 0) (r : Result A ReadError) (d : ReadError)
-    → TakesNone (keyword w) old new d → IsErrAnd r (λ x. x ≡ d) → Gives g (Then (word w) e) old new P r
-keyword_missing g w e old new P r d h up =
-    gives_error g _ old new P r d (Stops-before g (word w) e old.tokens new.tokens (reason_of d) (stops_one g (keyword w) old new d h)) up
+-- an error in the last part goes up, in one before others, and that of a token that is missing
+module _ {A : Type 0} {g : Grammar} {e : Expr} where
+  pub fails_last : {f : Expr} {inside : Shape → Shape} {ts us : List Token} (vs : List Token) (P : A → Shape → Type 0) (r : Result A ReadError) (d : ReadError)
+      → Leads g e f inside ts us → Stops g f us vs (reason_of d) → IsErrAnd r (λ x. x ≡ d) → Answered reason_of g e ts vs P r
+  fails_last vs P r d l h up = answered_error reason_of g e _ vs P r d (l.stops vs (reason_of d) h) up
 
--- or an error after it goes up
-pub keyword_fails : {A : Type 0} (g : Grammar) (w : List ℕ) (e : Expr) (old mid new : Items) (P : A → Shape → Type 0) (r : Result A ReadError) (d : ReadError)
-    (t : Token) → g.good (keyword w) t ≡ true
-    → TakesToken (keyword w) old mid t → Stops g e mid.tokens new.tokens (reason_of d) → IsErrAnd r (λ x. x ≡ d) → Gives g (Then (word w) e) old new P r
-keyword_fails g w e old mid new P r d t good begins stops up =
-    gives_error g _ old new P r d
-    (Stops-after g (word w) e old.tokens mid.tokens new.tokens (Leaf t) (reason_of d) (takes_one g (keyword w) old mid t good begins) stops) up
+  pub fails : {a b : Expr} {inside : Shape → Shape} {ts us : List Token} (vs : List Token) (P : A → Shape → Type 0) (r : Result A ReadError) (d : ReadError)
+      → Leads g e (Then a b) inside ts us → Stops g a us vs (reason_of d) → IsErrAnd r (λ x. x ≡ d) → Answered reason_of g e ts vs P r
+  fails vs P r d l h up = answered_error reason_of g e _ vs P r d (before l vs (reason_of d) h) up
+
+  pub lacks : {b : Expr} {c : Class} {inside : Shape → Shape} {ts : List Token} (mid new : Items) (P : A → Shape → Type 0) (r : Result A ReadError) (d : ReadError)
+      → Leads g e (Then (One c) b) inside ts mid.tokens → TakesNone c mid new d → IsErrAnd r (λ x. x ≡ d) → Answered reason_of g e ts new.tokens P r
+  lacks {c = c} mid new P r d l h up = fails new.tokens P r d l (stops_one g c mid new d h) up
+
+  pub lacks_last : {c : Class} {inside : Shape → Shape} {ts : List Token} (mid new : Items) (P : A → Shape → Type 0) (r : Result A ReadError) (d : ReadError)
+      → Leads g e (One c) inside ts mid.tokens → TakesNone c mid new d → IsErrAnd r (λ x. x ≡ d) → Answered reason_of g e ts new.tokens P r
+  lacks_last {c = c} mid new P r d l h up = fails_last new.tokens P r d l (stops_one g c mid new d h) up
 
 -- A loop that pushes what each turn of a repetition gives, seen through view: it has come from start to now.
 pub record Pushes {V A : Type 0} (g : Grammar) (a : Expr) (f : Shape → A) (view : V → A) (start now : Items) (old new : List V) : Type 0 where
@@ -132,6 +133,13 @@ pub record Pushes {V A : Type 0} (g : Grammar) (a : Expr) (f : Shape → A) (vie
   -- what the next turn comes to, the repetition comes to
   pub leads : (ts : List Token) (d : Expr) → Derives.Leads (lax g) (Many a) ts d → Derives.Leads (lax g) (Many a) (front ++ ts) d
   pub last : kept now ≡ kept start
+
+-- a turn fails
+pub turn_fails : {V A : Type 0} {g : Grammar} {a : Expr} {f : Shape → A} {view : V → A} {start now : Items} {old new : List V} (us : List Token)
+    (o : Option Reason) → Pushes g a f view start now old new → sees (first g.rows a) (peek now.tokens) ≡ true → Stops g a now.tokens us o
+    → Stops g (Many a) start.tokens us o
+turn_fails {g = g} {a = a} {f = f} {start = start} {now = now} us o p seen stops =
+    Stops-turn g a (one_of f) start.tokens now.tokens us p.means o p.turns seen stops
 
 module _ {V A : Type 0} (g : Grammar) (a : Expr) (f : Shape → A) (view : V → A) where
   pub pushes_none : (start : Items) (old : List V) → Pushes g a f view start start old old

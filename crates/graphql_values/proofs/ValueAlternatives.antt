@@ -13,9 +13,10 @@ use Rattle.graphql_values.specs.declared.read.values.Sort.TheVariants.{Value, Co
 use Rattle.graphql_values.specs.Grammar.{shared, rows, tables, name, any, punctuator, mark, value_symbol, const_symbol, plain_symbol, argument_symbol}
 use Rattle.graphql_values.specs.Grammar.{const_pair_symbol, type_symbol, arguments_symbol, directive_symbol, default_symbol}
 use Rattle.graphql_values.specs.Meanings.{spelling_at, plain_of, put_all, value_of, values_of, argument_of, pairs_of, const_of, consts_of, const_pair_of}
-use Rattle.graphql_values.specs.Meanings.{const_pairs_of, directive_of, each_directive_of}
+use Rattle.graphql_values.specs.Meanings.{const_pairs_of, arguments_of, directive_of, each_directive_of}
 use Rattle.graphql_values.specs.steps.Constness.{symbol_of, pair_symbol_of, variable_rule, list_rule, object_rule, pair_rule, begins_variable, tree_of}
 use Rattle.graphql_values.specs.steps.Constness.{trees_of, pair_of, pairs_by, as_variable, as_plain, as_list, as_object}
+use Rattle.graphql_values.specs.steps.Lists.{IsList}
 use Rattle.graphql_values.specs.Values.{ValueTree, ValueMembers, list, object, item, no_members, put}
 use Rattle.graphql_values.specs.ValueViews.{items_of}
 use Rattle.graphql_values.proofs.Reading.{FailsUnseen, unseen_one, unseen_then, unseen_either, takes_none, one_of, many_means}
@@ -140,17 +141,17 @@ pairs_means Constant h = many_means shared _ const_pair_of const_pairs_of (λ l.
 
 -- ---- arguments and directives
 
-abbrev pub parenthesis : Class
-parenthesis = mark (codes "(")
-
-pub some_arguments : (ts : List Token) → sees (parenthesis ∷ []) (peek ts) ≡ true
-    → IsSide shared (optional (Sym arguments_symbol)) (Sym arguments_symbol) First ts
+pub arguments_list : IsList shared (mark (codes "(")) (mark (codes ")")) (Sym argument_symbol) argument_of arguments_symbol arguments_of
 unfolding tables
-some_arguments ts seen = side_first shared (Sym arguments_symbol) Empty parenthesis ts refl seen
-
-pub no_arguments : (ts : List Token) → sees (parenthesis ∷ []) (peek ts) ≡ false → Takes shared (optional (Sym arguments_symbol)) ts (Second Nothing) ts
-unfolding tables
-no_arguments ts unseen = takes_none shared (Sym arguments_symbol) ts refl unseen
+arguments_list = record {
+  rule = refl;
+  passes = λ x. refl;
+  opens = λ t. refl;
+  closes = λ t. refl;
+  begins = refl;
+  is_more = refl;
+  means = λ t u x xs h. ap (λ l. argument_of x ∷ l) (pairs_means Value h);
+}
 
 pub some_default : (ts : List Token) → sees (mark (codes "=") ∷ []) (peek ts) ≡ true
     → IsSide shared (optional (Sym default_symbol)) (Sym default_symbol) First ts
@@ -160,10 +161,6 @@ some_default ts seen = side_first shared (Sym default_symbol) Empty (mark (codes
 pub no_default : (ts : List Token) → sees (mark (codes "=") ∷ []) (peek ts) ≡ false → Takes shared (optional (Sym default_symbol)) ts (Second Nothing) ts
 unfolding tables
 no_default ts unseen = takes_none shared (Sym default_symbol) ts refl unseen
-
-pub begins_directive : (next : Option Token) → sees (first rows (Sym directive_symbol)) next ≡ sees (mark (codes "@") ∷ []) next
-unfolding tables
-begins_directive next = refl
 
 pub each_directive_means : {ts : List Token} {x : Shape} {us : List Token} → Takes shared (Many (Sym directive_symbol)) ts x us
     → each_directive_of x ≡ values (one_of directive_of) x

@@ -3,6 +3,7 @@ pub mod directives;
 pub mod laws;
 pub mod leaf;
 pub mod leaf_laws;
+pub mod lists;
 pub mod node_error;
 pub mod types;
 pub mod values;

@@ -1,7 +1,7 @@
 -- What readers of queries answer.
 use Rattle.std.specs.Prelude.{◌≡◌, ℕ, Bool, ◌||◌, List, [], Option, Some, None, Result, codes}
 use Rattle.graphql_grammar.specs.Tokens.{nowhere}
-use Rattle.graphql_grammar.specs.Trees.{Expr, Sym, Shape, Both, First, Second}
+use Rattle.graphql_grammar.specs.Trees.{Expr, Then, Sym, Shape, Both, First, Second, optional}
 use Rattle.graphql_grammar.specs.Reading.{Takes}
 use Rattle.graphql_grammar.specs.Factored.{written}
 use Rattle.graphql_core.specs.declared.helpers.read_error.ReadError.{ReadError}
@@ -9,26 +9,35 @@ use Rattle.graphql_lexer.specs.declared.position.Pos.{Pos}
 use Rattle.graphql_core.specs.Source.{Items, place_of, kept}
 use Rattle.graphql_core.specs.steps.Matching.{sees_class}
 use Rattle.graphql_values.specs.steps.Answers.{Gives, Adds}
-use Rattle.graphql_values.specs.Grammar.{mark, keyword}
+use Rattle.graphql_values.specs.Grammar.{mark, keyword, name, punctuator}
 use Rattle.graphql_values.specs.Meanings.{spelling_at}
 use Rattle.graphql_query_tree.specs.declared.tree.Selection.{Selection}
-use Rattle.graphql_query_tree.specs.Tree.{SelectionTree, SelectionSetTree, DefinitionTree, spread, set, trees_of, selection_view}
+use Rattle.graphql_query_tree.specs.Tree.{VariableDefinitionTree, SelectionTree, SelectionSetTree, DefinitionTree, spread, set, trees_of, selection_view}
 use Rattle.graphql_query_tree.specs.Grammar.{reading, changes, definition_symbol}
-use Rattle.graphql_query_tree.specs.Meanings.{fragment_spread_rest_of, inline_fragment_rest_of, definition_of}
+use Rattle.graphql_query_tree.specs.Meanings.{fragment_spread_rest_of, inline_fragment_rest_of, variable_definition_of, definition_of}
 
 -- it reads by the second rules, and its answer is what the written shape means
 abbrev pub Reads : {A : Type 0} → Expr → Items → Items → (A → Shape → Type 0) → Result A ReadError → Type 0
 Reads e old new P r = Gives reading e old new (λ v x. P v (written changes x)) r
+
+-- what is read as a variable means what its written shape does
+abbrev pub read_variable_definition : Shape → VariableDefinitionTree
+read_variable_definition x = variable_definition_of (written changes x)
 
 -- selections were appended, and with this span they are the set
 abbrev pub AddsSet : {N T : Type 0} → (T → List ℕ) → List (Selection N T) → List (Selection N T) → Pos × Pos → SelectionSetTree → Type 0
 AddsSet bytes old new span tree =
     (ss : List SelectionTree) × Adds (selection_view bytes) old new ss × (set (place_of span.0) (place_of span.1) (trees_of ss) ≡ tree)
 
--- what stands after a first name as trees of the second rule have it: the alias where there is one, and the name
-abbrev pub renamed : List ℕ → Shape → Option (List ℕ) × List ℕ
-renamed first (First (Both c n)) = (Some first, spelling_at n)
-renamed first _ = (None, first)
+-- a name, and after it a colon and another or none
+abbrev pub first_names : Expr
+first_names = Then name (optional (Then (punctuator (codes ":")) name))
+
+-- what they are as trees of the second rule: the alias where there is one, and the name
+abbrev pub alias_and_name_of : Shape → Option (List ℕ) × List ℕ
+alias_and_name_of (Both n (First (Both c m))) = (Some (spelling_at n), spelling_at m)
+alias_and_name_of (Both n _) = (None, spelling_at n)
+alias_and_name_of _ = (None, [])
 
 -- and what stands in a selection that begins with dots
 abbrev pub after_dots_of : Shape → SelectionTree

@@ -1,29 +1,27 @@
 //! Operations and their variables.
-ghost use Rattle.std.specs.Prelude.{◌≡◌, ◌≤◌, OnOk, [], ◌∷◌, length, codes, option_map};
-ghost use Rattle.graphql_grammar.specs.Trees.{Then, Sym, optional};
-ghost use Rattle.graphql_core.specs.Source.{kept};
-ghost use Rattle.graphql_values.specs.Grammar.{word};
+ghost use Rattle.std.specs.Prelude.{◌≡◌, ◌≤◌, OnOk, [], ◌∷◌, length, option_map};
+ghost use Rattle.graphql_grammar.specs.Trees.{Sym, optional};
+ghost use Rattle.graphql_core.specs.Source.{kept, place_of};
 ghost use Rattle.graphql_values.specs.Grammar as shared;
 ghost use Rattle.graphql_values.specs.steps.Answers.{Adds, Shortens};
-ghost use Rattle.graphql_query_tree.specs.Tree.{query_kind, mutation_kind, subscription_kind, variable_definition_view, query_view, mutation_view};
-ghost use Rattle.graphql_query_tree.specs.Tree.{subscription_view};
-ghost use Rattle.graphql_query_tree.specs.Tree.{operation_view};
-ghost use Rattle.graphql_query.specs.steps.OperationBody.{operation_body_view};
-ghost use Rattle.graphql_query_tree.specs.Grammar.{operation_body_symbol, variable_definitions_symbol, variable_definition_symbol, operation_symbol};
-ghost use Rattle.graphql_query_tree.specs.Meanings.{optional_name_of, variable_definition_of, variable_definitions_of, optional_variable_definitions_of};
-ghost use Rattle.graphql_query_tree.specs.Meanings.{operation_body_of, keyword_of, operation_of};
-ghost use Rattle.graphql_query.specs.steps.Reads.{Reads};
+ghost use Rattle.graphql_query_tree.specs.Tree.{variable_definition_view, operation_view, operation, with_body, VariableDefinitionTree};
+ghost use Rattle.graphql_query_tree.specs.Grammar.{operation_body_symbol, variable_definitions_symbol, variable_definition_symbol, operation_symbol, reading};
+ghost use Rattle.graphql_query_tree.specs.Meanings.{optional_name_of, optional_variable_definitions_of, operation_body_of, keyword_of, operation_of};
+ghost use Rattle.graphql_query.specs.steps.Operations.{kind_of, keyword_rule, operation_body_view};
+ghost use Rattle.graphql_query.specs.steps.Reads.{Reads, read_variable_definition};
 
+use crate::read::keyword::{Keyword, peek_keyword};
 use crate::read::selection::selection_set;
 use graphql_core::common::Names;
 use graphql_core::helpers::{
     Punctuator, ReadError, TokenSource, expect_keyword, expect_name, expect_punctuator,
-    sees_keyword, shrink_list,
 };
+use graphql_core::position::Pos;
 use graphql_query_tree::tree::{
     Mutation, OperationDefinition, Query, Selection, SelectionSet, Subscription, VariableDefinition,
 };
 use graphql_values::read::directives::{self, optional_default};
+use graphql_values::read::lists::{Elements, optional_list};
 use graphql_values::read::types::type_reference;
 use graphql_values::tree::Directive;
 use std::alloc::Global;
@@ -39,6 +37,43 @@ struct OperationBody<N: Names> {
     directives: Vec<Directive<N>>,
     /// What is selected.
     selection_set: SelectionSet<N>,
+}
+
+impl<N: Names> OperationBody<N> {
+    /// The operation that has this body after a keyword, which stands at a position.
+    fn into_operation(self, keyword: Keyword, position: Pos) -> OperationDefinition<N>
+        ensures { operation_view N.bytes result ≡ operation (with_body (kind_of keyword) (place_of position) (operation_body_view N.bytes self)) }
+    {
+        let OperationBody {
+            name,
+            variable_definitions,
+            directives,
+            selection_set,
+        } = self;
+        match keyword {
+            Keyword::Query => OperationDefinition::Query(Query {
+                position,
+                name,
+                variable_definitions,
+                directives,
+                selection_set,
+            }),
+            Keyword::Mutation => OperationDefinition::Mutation(Mutation {
+                position,
+                name,
+                variable_definitions,
+                directives,
+                selection_set,
+            }),
+            Keyword::Subscription => OperationDefinition::Subscription(Subscription {
+                position,
+                name,
+                variable_definitions,
+                directives,
+                selection_set,
+            }),
+        }
+    }
 }
 
 /// `Name?`
@@ -58,60 +93,54 @@ fn optional_name<S: TokenSource>(
     Ok(Some(expect_name(alloc, source)?))
 }
 
-/// `VariableDefinition = "$" Name ":" Type Default? Directives`, after the variables before it.
-#[tactic(auto, using(graphql_values::proofs::Reading::reading))]
-fn variable_definition<S: TokenSource>(
-    alloc: Global,
-    source: &mut S,
-    definitions: &mut Vec<VariableDefinition<S::Names>>,
-) -> Result<(), ReadError>
-    ensures reads { Reads (Sym variable_definition_symbol) (S.items source.old) (S.items source.new)
-        (λ v x. Adds (variable_definition_view S.Names.bytes) definitions.old.items definitions.new.items (variable_definition_of x ∷ [])) result }
-    ensures kept { kept (S.items source.new) ≡ kept (S.items source.old) }
-    ensures shorter { Shortens (S.items source.old) (S.items source.new) result }
-{
-    let position = expect_punctuator(source, Punctuator::Dollar)?;
-    let name = expect_name(alloc, source)?;
-    expect_punctuator(source, Punctuator::Colon)?;
-    let var_type = type_reference(alloc, source)?;
-    let default_value = optional_default(alloc, source)?;
-    let mut directives = Vec::new(alloc);
-    directives::directives(alloc, source, &mut directives)?;
-    definitions.reserve(1)?;
-    definitions.push_reserved(VariableDefinition {
-        position,
-        name,
-        var_type,
-        default_value,
-        directives,
-    });
-    Ok(())
-}
+// Variables, one after the other.
+struct VariableDefinitionList;
 
-/// `VariableDefinitions = "(" VariableDefinition+ ")"`
 #[tactic(auto, using(graphql_values::proofs::Reading::reading))]
-fn variable_definitions<S: TokenSource>(
-    alloc: Global,
-    source: &mut S,
-    definitions: &mut Vec<VariableDefinition<S::Names>>,
-) -> Result<(), ReadError>
-    ensures reads { Reads (Sym variable_definitions_symbol) (S.items source.old) (S.items source.new)
-        (λ v x. Adds (variable_definition_view S.Names.bytes) definitions.old.items definitions.new.items (variable_definitions_of x)) result }
-    ensures kept { kept (S.items source.new) ≡ kept (S.items source.old) }
-    ensures shorter { Shortens (S.items source.old) (S.items source.new) result }
-{
-    expect_punctuator(source, Punctuator::OpenParen)?;
-    variable_definition(alloc, source, definitions)?;
-    'more: while source.sees_punctuator(Punctuator::Dollar) {
-        variable_definition(alloc, source, definitions)?;
+impl<S: TokenSource> Elements<S> for VariableDefinitionList {
+    type Item = VariableDefinition<S::Names>;
+
+    ghost grammar = { reading };
+
+    ghost production = { Sym variable_definition_symbol };
+
+    ghost Tree = { VariableDefinitionTree };
+
+    ghost means = { read_variable_definition };
+
+    ghost view = { variable_definition_view S.Names.bytes };
+
+    #[tactic(auto, unfolding(graphql_query_tree::specs::Grammar::tables, graphql_values::specs::Grammar::tables))]
+    fn comes_next(source: &S) -> bool {
+        source.sees_punctuator(Punctuator::Dollar)
     }
-    expect_punctuator(source, Punctuator::CloseParen)?;
-    shrink_list(source, definitions);
-    Ok(())
+
+    /// `VariableDefinition = "$" Name ":" Type Default? Directives`
+    fn read(
+        alloc: Global,
+        source: &mut S,
+        definitions: &mut Vec<VariableDefinition<S::Names>>,
+    ) -> Result<(), ReadError> {
+        let position = expect_punctuator(source, Punctuator::Dollar)?;
+        let name = expect_name(alloc, source)?;
+        expect_punctuator(source, Punctuator::Colon)?;
+        let var_type = type_reference(alloc, source)?;
+        let default_value = optional_default(alloc, source)?;
+        let mut directives = Vec::new(alloc);
+        directives::directives(alloc, source, &mut directives)?;
+        definitions.reserve(1)?;
+        definitions.push_reserved(VariableDefinition {
+            position,
+            name,
+            var_type,
+            default_value,
+            directives,
+        });
+        Ok(())
+    }
 }
 
-/// `VariableDefinitions?`
-#[tactic(auto, using(graphql_values::proofs::Reading::reading))]
+/// `VariableDefinitions?`, `VariableDefinitions = "(" VariableDefinition+ ")"`
 fn optional_variable_definitions<S: TokenSource>(
     alloc: Global,
     source: &mut S,
@@ -122,10 +151,13 @@ fn optional_variable_definitions<S: TokenSource>(
     ensures kept { kept (S.items source.new) ≡ kept (S.items source.old) }
     ensures within { OnOk result (length (S.items source.new).tokens ≤ length (S.items source.old).tokens) }
 {
-    if !source.sees_punctuator(Punctuator::OpenParen) {
-        return Ok(());
-    }
-    variable_definitions(alloc, source, definitions)
+    optional_list::<S, VariableDefinitionList>(
+        alloc,
+        source,
+        Punctuator::OpenParen,
+        Punctuator::CloseParen,
+        definitions,
+    )
 }
 
 /// `OperationBody = Name? VariableDefinitions? Directives SelectionSet`; selections are read at the end of `scratch`.
@@ -154,73 +186,22 @@ fn operation_body<S: TokenSource>(
     })
 }
 
-/// `"query" OperationBody`
+/// `"query" OperationBody`, `"mutation" OperationBody` or `"subscription" OperationBody`, as the keyword says.
 #[tactic(auto, using(graphql_values::proofs::Reading::reading))]
-fn query<S: TokenSource>(
+fn keyword_operation<S: TokenSource>(
     alloc: Global,
     source: &mut S,
     scratch: &mut Vec<Selection<S::Names>>,
-) -> Result<Query<S::Names>, ReadError>
-    ensures reads { Reads (Then (word (codes "query")) (Sym operation_body_symbol)) (S.items source.old) (S.items source.new)
-        (λ v x. query_view S.Names.bytes v ≡ keyword_of query_kind x) result }
+    keyword: Keyword,
+) -> Result<OperationDefinition<S::Names>, ReadError>
+    ensures reads { Reads (keyword_rule (kind_of keyword)) (S.items source.old) (S.items source.new)
+        (λ v x. operation_view S.Names.bytes v ≡ operation (keyword_of (kind_of keyword) x)) result }
     ensures kept { kept (S.items source.new) ≡ kept (S.items source.old) }
     ensures shorter { Shortens (S.items source.old) (S.items source.new) result }
 {
-    let position = expect_keyword(source, "query")?;
-    let common = operation_body(alloc, source, scratch)?;
-    Ok(Query {
-        position,
-        name: common.name,
-        variable_definitions: common.variable_definitions,
-        directives: common.directives,
-        selection_set: common.selection_set,
-    })
-}
-
-/// `"mutation" OperationBody`
-#[tactic(auto, using(graphql_values::proofs::Reading::reading))]
-fn mutation<S: TokenSource>(
-    alloc: Global,
-    source: &mut S,
-    scratch: &mut Vec<Selection<S::Names>>,
-) -> Result<Mutation<S::Names>, ReadError>
-    ensures reads { Reads (Then (word (codes "mutation")) (Sym operation_body_symbol)) (S.items source.old) (S.items source.new)
-        (λ v x. mutation_view S.Names.bytes v ≡ keyword_of mutation_kind x) result }
-    ensures kept { kept (S.items source.new) ≡ kept (S.items source.old) }
-    ensures shorter { Shortens (S.items source.old) (S.items source.new) result }
-{
-    let position = expect_keyword(source, "mutation")?;
-    let common = operation_body(alloc, source, scratch)?;
-    Ok(Mutation {
-        position,
-        name: common.name,
-        variable_definitions: common.variable_definitions,
-        directives: common.directives,
-        selection_set: common.selection_set,
-    })
-}
-
-/// `"subscription" OperationBody`
-#[tactic(auto, using(graphql_values::proofs::Reading::reading))]
-fn subscription<S: TokenSource>(
-    alloc: Global,
-    source: &mut S,
-    scratch: &mut Vec<Selection<S::Names>>,
-) -> Result<Subscription<S::Names>, ReadError>
-    ensures reads { Reads (Then (word (codes "subscription")) (Sym operation_body_symbol)) (S.items source.old) (S.items source.new)
-        (λ v x. subscription_view S.Names.bytes v ≡ keyword_of subscription_kind x) result }
-    ensures kept { kept (S.items source.new) ≡ kept (S.items source.old) }
-    ensures shorter { Shortens (S.items source.old) (S.items source.new) result }
-{
-    let position = expect_keyword(source, "subscription")?;
-    let common = operation_body(alloc, source, scratch)?;
-    Ok(Subscription {
-        position,
-        name: common.name,
-        variable_definitions: common.variable_definitions,
-        directives: common.directives,
-        selection_set: common.selection_set,
-    })
+    let position = expect_keyword(source, keyword.word())?;
+    let body = operation_body(alloc, source, scratch)?;
+    Ok(body.into_operation(keyword, position))
 }
 
 /// `OperationDefinition = SelectionSet | "query" OperationBody | "mutation" OperationBody | "subscription" OperationBody`
@@ -235,14 +216,8 @@ pub fn operation_definition<S: TokenSource>(
     ensures kept { kept (S.items source.new) ≡ kept (S.items source.old) }
     ensures shorter { Shortens (S.items source.old) (S.items source.new) result }
 {
-    if sees_keyword(source, "query") {
-        return Ok(OperationDefinition::Query(query(alloc, source, scratch)?));
+    match peek_keyword(source) {
+        None => Ok(OperationDefinition::SelectionSet(selection_set(alloc, source, scratch)?)),
+        Some(keyword) => keyword_operation(alloc, source, scratch, keyword),
     }
-    if sees_keyword(source, "mutation") {
-        return Ok(OperationDefinition::Mutation(mutation(alloc, source, scratch)?));
-    }
-    if sees_keyword(source, "subscription") {
-        return Ok(OperationDefinition::Subscription(subscription(alloc, source, scratch)?));
-    }
-    Ok(OperationDefinition::SelectionSet(selection_set(alloc, source, scratch)?))
 }

@@ -11,9 +11,9 @@ ghost use Rattle.graphql_query_tree.specs.Grammar.{field_symbol, selection_set_s
 ghost use Rattle.graphql_query_tree.specs.Meanings.{field_of, selected_of, inline_fragment_rest_of, selection_of, selection_set_of};
 ghost use Rattle.graphql_query.specs.steps.Reads.{Reads, AddsSet, after_dots_of};
 
-use crate::read::alias::alias;
+use crate::read::alias::alias_and_name;
 use crate::read::fragment::{fragment_spread, optional_type_condition, sees_spread_name};
-use graphql_core::helpers::{Punctuator, ReadError, TokenSource, expect_name, expect_punctuator};
+use graphql_core::helpers::{Punctuator, ReadError, TokenSource, expect_punctuator};
 use graphql_core::position::Pos;
 use graphql_query_tree::tree::{Field, InlineFragment, Selection, SelectionSet};
 use graphql_values::read::directives::{self, optional_arguments};
@@ -33,8 +33,7 @@ fn field<S: TokenSource>(
     ensures shorter { Shortens (S.items source.old) (S.items source.new) result }
 {
     let position = source.position();
-    let mut name = expect_name(alloc, source)?;
-    let alias = alias(alloc, source, &mut name)?;
+    let (alias, name) = alias_and_name(alloc, source)?;
     let mut arguments = Vec::new(alloc);
     optional_arguments(alloc, source, &mut arguments)?;
     let mut directives = Vec::new(alloc);

@@ -1,7 +1,19 @@
--- How far selection sets alone tell how many levels are open.
-use Rattle.std.specs.Prelude.{◌≡◌, ◌≤◌, ◌+◌, ◌-◌, ◌^◌, ℕ, min, false}
+-- Selection sets alone, as they are counted to tell how many levels are open.
+use Rattle.std.specs.Prelude.{Bool, if◌then◌else◌}
 use Rattle.graphql_core.specs.Style.{Layout}
+use Rattle.graphql_values.specs.TreeDepth.{Weights}
+use Rattle.graphql_values.specs.ValueLayout.{in_levels}
 
--- where arguments stand in one line, at most so many levels are open and one more, as far as a `usize` counts
-abbrev pub BoundsLevels : ℕ → (Layout → ℕ) → Type 0
-BoundsLevels sets levels = (style : Layout) → style.multiline ≡ false → min (levels style) (2 ^ 64 - 1) ≤ sets + 1
+-- nothing weighs anything but the braces of selection sets
+abbrev pub in_sets : Weights
+in_sets = record {
+  of_string = λ text. 0;
+  of_description = λ text. 0;
+  of_type = λ t. 0;
+  around_values = λ n. 0;
+  around_definitions = λ any n. 0;
+}
+
+-- all levels of a style, or those of selection sets alone
+abbrev pub counted : Bool → Layout → Weights
+counted all style = if all then in_levels style else in_sets

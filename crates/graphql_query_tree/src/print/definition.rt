@@ -4,7 +4,6 @@ ghost use Rattle.graphql_query_tree.specs.Layout.{fragment_definition_layout, de
 ghost use Rattle.graphql_query_tree.specs.Layout.{fragment_definition_levels, definition_levels, levels};
 ghost use Rattle.graphql_query_tree.specs.Tree.{fragment_definition_view, operation_view, definition_view, document_view};
 
-use crate::print::levels::levels_in_selection_set;
 use crate::print::selection::{write_selection_set, write_type_condition};
 use crate::tree::{Definition, Document, FragmentDefinition, OperationDefinition};
 use graphql_core::common::Names;
@@ -23,7 +22,7 @@ impl<N: Names> Pretty for OperationDefinition<N> {
 
     fn levels(&self, style: &Style) -> usize {
         match self {
-            OperationDefinition::SelectionSet(set) => levels_in_selection_set(set, style),
+            OperationDefinition::SelectionSet(set) => set.levels(style),
             OperationDefinition::Query(query) => query.levels(style),
             OperationDefinition::Mutation(mutation) => mutation.levels(style),
             OperationDefinition::Subscription(subscription) => subscription.levels(style),
@@ -51,8 +50,7 @@ impl<N: Names> Pretty for FragmentDefinition<N> {
     ghost lawful = { λ f. IsLawfulFragment (fragment_definition_view N.bytes f) };
 
     fn levels(&self, style: &Style) -> usize {
-        let selected = levels_in_selection_set(&self.selection_set, style);
-        levels_in_directives(&self.directives, style).max(selected)
+        levels_in_directives(&self.directives, style).max(self.selection_set.levels(style))
     }
 
     fn write<S: Sink>(&self, out: &mut S, style: &Style, _margin: usize) -> Result<(), S::Error> {

@@ -9,7 +9,6 @@ ghost use Rattle.graphql_query_tree.specs.Layout.{operation_name_layout, variabl
 ghost use Rattle.graphql_query_tree.specs.Layout.{operation_layout};
 ghost use Rattle.graphql_query_tree.specs.Layout.{variable_definition_levels, variable_definitions_levels, operation_levels_of, operation_levels};
 
-use crate::print::levels::levels_in_selection_set;
 use crate::print::selection::write_selection_set;
 use crate::tree::{Mutation, Query, SelectionSet, Subscription, VariableDefinition};
 use graphql_core::common::Names;
@@ -88,7 +87,7 @@ fn levels_in_operation<N: Names>(
         (selection_set_view N.bytes set.now)) (2 ^ 64 - 1) }
 {
     let around = levels_in_each(variables, style).max(levels_in_directives(directives, style));
-    around.max(levels_in_selection_set(set, style))
+    around.max(set.levels(style))
 }
 
 /// Appends an operation with a keyword and these parts.

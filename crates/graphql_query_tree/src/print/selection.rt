@@ -198,7 +198,7 @@ impl<N: Names> Pretty for SelectionSet<N> {
     ghost lawful = { λ s. IsLawfulSet (selection_set_view N.bytes s) };
 
     fn levels(&self, style: &Style) -> usize {
-        levels_in_selection_set(self, style)
+        levels_in_selection_set::<N, true>(self, style)
     }
 
     fn write<S: Sink>(&self, out: &mut S, style: &Style, margin: usize) -> Result<(), S::Error> {
@@ -215,7 +215,7 @@ impl<N: Names> Pretty for Field<N> {
     ghost lawful = { λ f. IsLawfulSelection (field_view N.bytes f) };
 
     fn levels(&self, style: &Style) -> usize {
-        levels_in_field(self, style)
+        levels_in_field::<N, true>(self, style)
     }
 
     fn write<S: Sink>(&self, out: &mut S, style: &Style, margin: usize) -> Result<(), S::Error> {
@@ -232,7 +232,7 @@ impl<N: Names> Pretty for FragmentSpread<N> {
     ghost lawful = { λ s. IsLawfulSelection (fragment_spread_view N.bytes s) };
 
     fn levels(&self, style: &Style) -> usize {
-        levels_in_fragment_spread(self, style)
+        levels_in_fragment_spread::<N, true>(self, style)
     }
 
     fn write<S: Sink>(&self, out: &mut S, style: &Style, margin: usize) -> Result<(), S::Error> {
@@ -249,7 +249,7 @@ impl<N: Names> Pretty for InlineFragment<N> {
     ghost lawful = { λ f. IsLawfulSelection (inline_fragment_view N.bytes f) };
 
     fn levels(&self, style: &Style) -> usize {
-        levels_in_inline_fragment(self, style)
+        levels_in_inline_fragment::<N, true>(self, style)
     }
 
     fn write<S: Sink>(&self, out: &mut S, style: &Style, margin: usize) -> Result<(), S::Error> {

@@ -16,6 +16,10 @@ use Rattle.graphql_schema_tree.specs.Language.{schemas}
 abbrev pub Reads : {A : Type 0} → Expr → Items → Items → (A → Shape → Type 0) → Result A ReadError → Type 0
 Reads e old new P r = Gives (reading schemas) e old new (λ v x. P v (written changes x)) r
 
+-- what is read means what its written shape does
+abbrev pub as_written : {A : Type 0} → (Shape → A) → Shape → A
+as_written f x = f (written changes x)
+
 -- a description comes next
 abbrev pub sees_description : Items → Bool
 sees_description i = sees_class (any StringValue) i || sees_class (any BlockString) i

@@ -43,60 +43,39 @@ pub struct TypeBody<N: Names> {
     pub parts: TypeParts<N>,
 }
 
+// A type, or an extension of one, of this position, name and directives, and of these fields.
+macro_rules! typed {
+    ($head:expr => $either:ident::$kind:ident($record:ident { $($field:ident),* })) => {{
+        let (position, name, directives) = $head;
+        $either::$kind($record { position, name, directives, $($field),* })
+    }};
+}
+
 impl<N: Names> TypeBody<N> {
     /// The definition that has this body.
     pub fn into_definition(self, description: Option<String>) -> TypeDefinition<N>
         ensures { type_definition_view N.bytes result ≡ type_definition (option_map string_bytes description) (type_body_view N.bytes self) }
     {
-        let (position, name, directives) = (self.position, self.name, self.directives);
+        let head = (self.position, self.name, self.directives);
         match self.parts {
-            TypeParts::Scalar => TypeDefinition::Scalar(ScalarType {
-                position,
-                description,
-                name,
-                directives,
-            }),
+            TypeParts::Scalar => {
+                typed!(head => TypeDefinition::Scalar(ScalarType { description }))
+            }
             TypeParts::Object(implements_interfaces, fields) => {
-                TypeDefinition::Object(ObjectType {
-                    position,
-                    description,
-                    name,
-                    implements_interfaces,
-                    directives,
-                    fields,
-                })
+                typed!(head => TypeDefinition::Object(ObjectType { description, implements_interfaces, fields }))
             }
             TypeParts::Interface(implements_interfaces, fields) => {
-                TypeDefinition::Interface(InterfaceType {
-                    position,
-                    description,
-                    name,
-                    implements_interfaces,
-                    directives,
-                    fields,
-                })
+                typed!(head => TypeDefinition::Interface(InterfaceType { description, implements_interfaces, fields }))
             }
-            TypeParts::Union(types) => TypeDefinition::Union(UnionType {
-                position,
-                description,
-                name,
-                directives,
-                types,
-            }),
-            TypeParts::Enum(values) => TypeDefinition::Enum(EnumType {
-                position,
-                description,
-                name,
-                directives,
-                values,
-            }),
-            TypeParts::InputObject(fields) => TypeDefinition::InputObject(InputObjectType {
-                position,
-                description,
-                name,
-                directives,
-                fields,
-            }),
+            TypeParts::Union(types) => {
+                typed!(head => TypeDefinition::Union(UnionType { description, types }))
+            }
+            TypeParts::Enum(values) => {
+                typed!(head => TypeDefinition::Enum(EnumType { description, values }))
+            }
+            TypeParts::InputObject(fields) => {
+                typed!(head => TypeDefinition::InputObject(InputObjectType { description, fields }))
+            }
         }
     }
 
@@ -104,50 +83,23 @@ impl<N: Names> TypeBody<N> {
     pub fn into_extension(self) -> TypeExtension<N>
         ensures { type_extension_view N.bytes result ≡ extension (type_body_view N.bytes self) }
     {
-        let (position, name, directives) = (self.position, self.name, self.directives);
+        let head = (self.position, self.name, self.directives);
         match self.parts {
-            TypeParts::Scalar => TypeExtension::Scalar(ScalarTypeExtension {
-                position,
-                name,
-                directives,
-            }),
+            TypeParts::Scalar => { typed!(head => TypeExtension::Scalar(ScalarTypeExtension {})) }
             TypeParts::Object(implements_interfaces, fields) => {
-                TypeExtension::Object(ObjectTypeExtension {
-                    position,
-                    name,
-                    implements_interfaces,
-                    directives,
-                    fields,
-                })
+                typed!(head => TypeExtension::Object(ObjectTypeExtension { implements_interfaces, fields }))
             }
             TypeParts::Interface(implements_interfaces, fields) => {
-                TypeExtension::Interface(InterfaceTypeExtension {
-                    position,
-                    name,
-                    implements_interfaces,
-                    directives,
-                    fields,
-                })
+                typed!(head => TypeExtension::Interface(InterfaceTypeExtension { implements_interfaces, fields }))
             }
-            TypeParts::Union(types) => TypeExtension::Union(UnionTypeExtension {
-                position,
-                name,
-                directives,
-                types,
-            }),
-            TypeParts::Enum(values) => TypeExtension::Enum(EnumTypeExtension {
-                position,
-                name,
-                directives,
-                values,
-            }),
+            TypeParts::Union(types) => {
+                typed!(head => TypeExtension::Union(UnionTypeExtension { types }))
+            }
+            TypeParts::Enum(values) => {
+                typed!(head => TypeExtension::Enum(EnumTypeExtension { values }))
+            }
             TypeParts::InputObject(fields) => {
-                TypeExtension::InputObject(InputObjectTypeExtension {
-                    position,
-                    name,
-                    directives,
-                    fields,
-                })
+                typed!(head => TypeExtension::InputObject(InputObjectTypeExtension { fields }))
             }
         }
     }

@@ -1,150 +1,108 @@
-//! What a type and its extension both have: the keyword, the name, and the parts.
-ghost use Rattle.std.specs.Prelude.{◌≡◌, ◌+◌, ◌*◌, ◌^◌, ◌<◌, OnOk, List, map};
-ghost use Rattle.std.specs.List.{AllByRecursion, flat_map};
-ghost use Rattle.graphql_core.specs.Parts.{text_of};
-ghost use Rattle.graphql_values.specs.TreeDepth.{most};
-ghost use Rattle.graphql_values.specs.ValueViews.{directives_view};
-ghost use Rattle.graphql_schema_tree.specs.Lawful.{IsLawfulBody, IsLawfulInputValue};
-ghost use Rattle.graphql_schema_tree.specs.Layout.{body_layout, parts_layout, body_levels, input_field_layout, input_value_levels};
-ghost use Rattle.graphql_schema_tree.specs.Tree.{scalar, object, union, enum, input};
-ghost use Rattle.graphql_schema_tree.specs.Views.{input_value_view, field_view, enum_value_view};
-ghost use Rattle.graphql_schema_tree.specs.steps.Body.{body, named};
+//! What a type and its extension both have: a keyword, a name, directives and parts.
+ghost use Rattle.std.specs.Prelude.{◌≡◌};
+ghost use Rattle.graphql_schema_tree.specs.Lawful.{IsLawfulBody, IsLawfulDefinition};
+ghost use Rattle.graphql_schema_tree.specs.Layout.{body_layout, body_levels, definition_layout, definition_levels};
+ghost use Rattle.graphql_schema_tree.specs.Views.{body_view};
+ghost use Rattle.graphql_schema_tree.specs.steps.Body.{parts_seen, body_seen, outline_seen};
 
-use crate::print::block::write_block;
-use crate::print::names::{write_interfaces, write_members};
-use crate::tree::{EnumValue, Field, InputValue};
+use crate::print::description::{levels_in_description, write_description};
+use crate::print::names::write_interfaces;
+use crate::print::parts::Parts;
 use graphql_core::common::Names;
 use graphql_core::format::{Sink, Style};
-use graphql_values::print::{Pretty, write_directives, write_spaces};
+use graphql_core::position::Pos;
+use graphql_values::print::{Pretty, levels_in_directives, write_directives};
 use graphql_values::tree::Directive;
 
-/// Appends a scalar type.
-pub fn write_scalar<S: Sink, N: Names>(
-    out: &mut S,
-    name: &N::Value,
-    directives: &[Directive<N>],
-    style: &Style,
-) -> Result<(), S::Error>
-    requires { body_levels style.now (body (N.bytes name.now) (directives_view N.bytes directives.now) scalar) * style.now.indent < 2 ^ 32 }
-    ensures text { OnOk result (S.took out.old (text_of (body_layout style.now
-        (body (N.bytes name.now) (directives_view N.bytes directives.now) scalar))) out.new) }
-    ensures lawful { OnOk result (IsLawfulBody (body (N.bytes name.now) (directives_view N.bytes directives.now) scalar)) }
-{
-    out.push_str("scalar ")?;
-    out.push_str(N::view(name))?;
-    write_directives(out, directives, style, 0)?;
-    out.push_str("\n")
+/// What stands after `extend` or after a description.
+#[derive(Drop)]
+pub struct Body<'a, N: Names> {
+    /// The position of the keyword.
+    pub position: Pos,
+    /// The name.
+    pub name: &'a N::Value,
+    /// The directives in order.
+    pub directives: &'a [Directive<N>],
+    /// The rest, by the kind of the type.
+    pub parts: Parts<'a, N>,
 }
 
-/// Appends an object type or an interface, by its keyword.
-pub fn write_implementer<S: Sink, N: Names>(
-    out: &mut S,
-    keyword: &str,
-    name: &N::Value,
-    interfaces: &[N::Value],
-    directives: &[Directive<N>],
-    fields: &[Field<N>],
-    style: &Style,
-) -> Result<(), S::Error>
-    requires { body_levels style.now (body (N.bytes name.now) (directives_view N.bytes directives.now)
-        (object (map N.bytes interfaces.now) (map (field_view N.bytes) fields.now))) * style.now.indent < 2 ^ 32 }
-    ensures text { OnOk result (S.took out.old (text_of (named keyword.now (N.bytes name.now) (parts_layout style.now
-        (directives_view N.bytes directives.now) (object (map N.bytes interfaces.now) (map (field_view N.bytes) fields.now))))) out.new) }
-    ensures lawful { OnOk result (IsLawfulBody (body (N.bytes name.now) (directives_view N.bytes directives.now)
-        (object (map N.bytes interfaces.now) (map (field_view N.bytes) fields.now)))) }
-{
-    out.push_str(keyword)?;
-    out.push_str(" ")?;
-    out.push_str(N::view(name))?;
-    write_interfaces::<S, N>(out, interfaces)?;
-    write_directives(out, directives, style, 0)?;
-    write_block(out, fields, style, 0)
-}
-
-/// Appends a union.
-pub fn write_union<S: Sink, N: Names>(
-    out: &mut S,
-    name: &N::Value,
-    directives: &[Directive<N>],
-    types: &[N::Value],
-    style: &Style,
-) -> Result<(), S::Error>
-    requires { body_levels style.now (body (N.bytes name.now) (directives_view N.bytes directives.now) (union (map N.bytes types.now)))
-        * style.now.indent < 2 ^ 32 }
-    ensures text { OnOk result (S.took out.old (text_of (body_layout style.now
-        (body (N.bytes name.now) (directives_view N.bytes directives.now) (union (map N.bytes types.now))))) out.new) }
-    ensures lawful { OnOk result (IsLawfulBody (body (N.bytes name.now) (directives_view N.bytes directives.now) (union (map N.bytes types.now)))) }
-{
-    out.push_str("union ")?;
-    out.push_str(N::view(name))?;
-    write_directives(out, directives, style, 0)?;
-    write_members::<S, N>(out, types)?;
-    out.push_str("\n")
-}
-
-/// Appends an enum.
-pub fn write_enum<S: Sink, N: Names>(
-    out: &mut S,
-    name: &N::Value,
-    directives: &[Directive<N>],
-    values: &[EnumValue<N>],
-    style: &Style,
-) -> Result<(), S::Error>
-    requires { body_levels style.now (body (N.bytes name.now) (directives_view N.bytes directives.now)
-        (enum (map (enum_value_view N.bytes) values.now))) * style.now.indent < 2 ^ 32 }
-    ensures text { OnOk result (S.took out.old (text_of (body_layout style.now (body (N.bytes name.now) (directives_view N.bytes directives.now)
-        (enum (map (enum_value_view N.bytes) values.now))))) out.new) }
-    ensures lawful { OnOk result (IsLawfulBody (body (N.bytes name.now) (directives_view N.bytes directives.now)
-        (enum (map (enum_value_view N.bytes) values.now)))) }
-{
-    out.push_str("enum ")?;
-    out.push_str(N::view(name))?;
-    write_directives(out, directives, style, 0)?;
-    write_block(out, values, style, 0)
-}
-
-/// Appends the fields of an input object, each in a line.
-fn write_input_fields<S: Sink, N: Names>(
-    out: &mut S,
-    fields: &[InputValue<N>],
-    style: &Style,
-    margin: usize,
-) -> Result<(), S::Error>
-    requires { margin + most (input_value_levels style.now) (map (input_value_view N.bytes) fields.now) * style.now.indent < 2 ^ 32 }
-    ensures text { OnOk result (S.took out.old (text_of
-        (flat_map (input_field_layout style.now margin) (map (input_value_view N.bytes) fields.now))) out.new) }
-    ensures lawful { OnOk result (AllByRecursion IsLawfulInputValue (map (input_value_view N.bytes) fields.now)) }
-{
-    'fields: for field in fields {
-        write_spaces(out, margin)?;
-        field.write(out, style, margin)?;
-        out.push_str("\n")?;
+impl<'a, N: Names> Body<'a, N> {
+    /// The body of this position, name, directives and parts.
+    pub fn new(
+        position: Pos,
+        name: &'a N::Value,
+        directives: &'a [Directive<N>],
+        parts: Parts<'a, N>,
+    ) -> Body<'a, N>
+        ensures { body_seen N.bytes result ≡ body_view N.bytes position name.now directives.now (parts_seen N.bytes parts.entry) }
+    {
+        Body {
+            position,
+            name,
+            directives,
+            parts,
+        }
     }
-    Ok(())
 }
 
-/// Appends an input object.
-pub fn write_input_object<S: Sink, N: Names>(
-    out: &mut S,
-    name: &N::Value,
-    directives: &[Directive<N>],
-    fields: &[InputValue<N>],
-    style: &Style,
-) -> Result<(), S::Error>
-    requires { body_levels style.now (body (N.bytes name.now) (directives_view N.bytes directives.now)
-        (input (map (input_value_view N.bytes) fields.now))) * style.now.indent < 2 ^ 32 }
-    ensures text { OnOk result (S.took out.old (text_of (body_layout style.now (body (N.bytes name.now) (directives_view N.bytes directives.now)
-        (input (map (input_value_view N.bytes) fields.now))))) out.new) }
-    ensures lawful { OnOk result (IsLawfulBody (body (N.bytes name.now) (directives_view N.bytes directives.now)
-        (input (map (input_value_view N.bytes) fields.now)))) }
-{
-    out.push_str("input ")?;
-    out.push_str(N::view(name))?;
-    write_directives(out, directives, style, 0)?;
-    if fields.is_empty() {
-        return out.push_str("\n");
+impl<'a, N: Names> Pretty for Body<'a, N> {
+    ghost lines = { λ style _ b. body_layout style (body_seen N.bytes b) };
+
+    ghost opens = { λ style b. body_levels style (body_seen N.bytes b) };
+
+    ghost lawful = { λ b. IsLawfulBody (body_seen N.bytes b) };
+
+    fn levels(&self, style: &Style) -> usize {
+        levels_in_directives(self.directives, style).max(self.parts.levels(style))
     }
-    out.push_str(" {\n")?;
-    write_input_fields(out, fields, style, style.indentation() as usize)?;
-    out.push_str("}\n")
+
+    #[inline(always)]
+    fn write<S: Sink>(&self, out: &mut S, style: &Style, _margin: usize) -> Result<(), S::Error> {
+        out.push_str(self.parts.keyword())?;
+        out.push_str(N::view(self.name))?;
+        write_interfaces::<S, N>(out, self.parts.interfaces())?;
+        write_directives(out, self.directives, style, 0)?;
+        self.parts.write(out, style, 0)
+    }
+}
+
+/// A type or an extension of one, by references to what is written of it.
+#[derive(Drop)]
+pub enum Outline<'a, N: Names> {
+    /// A type, with its description.
+    Definition(&'a Option<String>, Body<'a, N>),
+    /// An extension.
+    Extension(Body<'a, N>),
+}
+
+impl<'a, N: Names> Pretty for Outline<'a, N> {
+    ghost lines = { λ style _ o. definition_layout style (outline_seen N.bytes o) };
+
+    ghost opens = { λ style o. definition_levels style (outline_seen N.bytes o) };
+
+    ghost lawful = { λ o. IsLawfulDefinition (outline_seen N.bytes o) };
+
+    fn levels(&self, style: &Style) -> usize {
+        match self {
+            Outline::Definition(description, body) => {
+                levels_in_description(description).max(body.levels(style))
+            }
+            Outline::Extension(body) => body.levels(style),
+        }
+    }
+
+    #[inline(always)]
+    fn write<S: Sink>(&self, out: &mut S, style: &Style, _margin: usize) -> Result<(), S::Error> {
+        match self {
+            Outline::Definition(description, body) => {
+                write_description(out, description, style, 0)?;
+                body.write(out, style, 0)
+            }
+            Outline::Extension(body) => {
+                out.push_str("extend ")?;
+                body.write(out, style, 0)
+            }
+        }
+    }
 }

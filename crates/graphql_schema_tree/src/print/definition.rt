@@ -47,8 +47,8 @@ impl<N: Names> Pretty for Definition<N> {
     fn levels(&self, style: &Style) -> usize {
         match self {
             Definition::SchemaDefinition(schema) => schema.levels(style),
-            Definition::TypeDefinition(definition) => definition.levels(style),
-            Definition::TypeExtension(extension) => extension.levels(style),
+            Definition::TypeDefinition(definition) => definition.outline().levels(style),
+            Definition::TypeExtension(extension) => extension.outline().levels(style),
             Definition::SchemaExtension(extension) => extension.levels(style),
             Definition::DirectiveDefinition(directive) => directive.levels(style),
         }
@@ -57,8 +57,12 @@ impl<N: Names> Pretty for Definition<N> {
     fn write<S: Sink>(&self, out: &mut S, style: &Style, margin: usize) -> Result<(), S::Error> {
         match self {
             Definition::SchemaDefinition(schema) => schema.write(out, style, margin),
-            Definition::TypeDefinition(definition) => definition.write(out, style, margin),
-            Definition::TypeExtension(extension) => extension.write(out, style, margin),
+            Definition::TypeDefinition(definition) => {
+                definition.outline().write(out, style, margin)
+            }
+            Definition::TypeExtension(extension) => {
+                extension.outline().write(out, style, margin)
+            }
             Definition::SchemaExtension(extension) => extension.write(out, style, margin),
             Definition::DirectiveDefinition(directive) => directive.write(out, style, margin),
         }

@@ -17,17 +17,24 @@ use graphql_core::common::Names;
 use graphql_core::position::Pos;
 use std::alloc::Global;
 
+// What has a name at no place, no directives, and these lists empty.
+macro_rules! named {
+    ($alloc:expr => $kind:ident { $($own:tt)* } [$($list:ident),*]) => {
+        $kind {
+            position: Pos::default(),
+            directives: Vec::new($alloc),
+            $($list: Vec::new($alloc),)*
+            $($own)*
+        }
+    };
+}
+
 impl<N: Names> ScalarType<N> {
     /// A scalar type of this name, with nothing else.
     pub fn new(alloc: Global, name: N::Value) -> ScalarType<N>
         ensures { scalar_view N.bytes result ≡ type_definition None (bare (N.bytes name) scalar) }
     {
-        ScalarType {
-            position: Pos::default(),
-            description: None,
-            name,
-            directives: Vec::new(alloc),
-        }
+        named!(alloc => ScalarType { description: None, name } [])
     }
 }
 
@@ -36,14 +43,7 @@ impl<N: Names> ObjectType<N> {
     pub fn new(alloc: Global, name: N::Value) -> ObjectType<N>
         ensures { object_view N.bytes result ≡ type_definition None (bare (N.bytes name) (object [] [])) }
     {
-        ObjectType {
-            position: Pos::default(),
-            description: None,
-            name,
-            implements_interfaces: Vec::new(alloc),
-            directives: Vec::new(alloc),
-            fields: Vec::new(alloc),
-        }
+        named!(alloc => ObjectType { description: None, name } [implements_interfaces, fields])
     }
 }
 
@@ -52,14 +52,7 @@ impl<N: Names> InterfaceType<N> {
     pub fn new(alloc: Global, name: N::Value) -> InterfaceType<N>
         ensures { interface_view N.bytes result ≡ type_definition None (bare (N.bytes name) (interface [] [])) }
     {
-        InterfaceType {
-            position: Pos::default(),
-            description: None,
-            name,
-            implements_interfaces: Vec::new(alloc),
-            directives: Vec::new(alloc),
-            fields: Vec::new(alloc),
-        }
+        named!(alloc => InterfaceType { description: None, name } [implements_interfaces, fields])
     }
 }
 
@@ -68,13 +61,7 @@ impl<N: Names> UnionType<N> {
     pub fn new(alloc: Global, name: N::Value) -> UnionType<N>
         ensures { union_view N.bytes result ≡ type_definition None (bare (N.bytes name) (union [])) }
     {
-        UnionType {
-            position: Pos::default(),
-            description: None,
-            name,
-            directives: Vec::new(alloc),
-            types: Vec::new(alloc),
-        }
+        named!(alloc => UnionType { description: None, name } [types])
     }
 }
 
@@ -83,13 +70,7 @@ impl<N: Names> EnumType<N> {
     pub fn new(alloc: Global, name: N::Value) -> EnumType<N>
         ensures { enum_view N.bytes result ≡ type_definition None (bare (N.bytes name) (enum [])) }
     {
-        EnumType {
-            position: Pos::default(),
-            description: None,
-            name,
-            directives: Vec::new(alloc),
-            values: Vec::new(alloc),
-        }
+        named!(alloc => EnumType { description: None, name } [values])
     }
 }
 
@@ -98,13 +79,7 @@ impl<N: Names> InputObjectType<N> {
     pub fn new(alloc: Global, name: N::Value) -> InputObjectType<N>
         ensures { input_view N.bytes result ≡ type_definition None (bare (N.bytes name) (input [])) }
     {
-        InputObjectType {
-            position: Pos::default(),
-            description: None,
-            name,
-            directives: Vec::new(alloc),
-            fields: Vec::new(alloc),
-        }
+        named!(alloc => InputObjectType { description: None, name } [fields])
     }
 }
 
@@ -113,11 +88,7 @@ impl<N: Names> ScalarTypeExtension<N> {
     pub fn new(alloc: Global, name: N::Value) -> ScalarTypeExtension<N>
         ensures { scalar_extension_view N.bytes result ≡ extension (bare (N.bytes name) scalar) }
     {
-        ScalarTypeExtension {
-            position: Pos::default(),
-            name,
-            directives: Vec::new(alloc),
-        }
+        named!(alloc => ScalarTypeExtension { name } [])
     }
 }
 
@@ -126,13 +97,7 @@ impl<N: Names> ObjectTypeExtension<N> {
     pub fn new(alloc: Global, name: N::Value) -> ObjectTypeExtension<N>
         ensures { object_extension_view N.bytes result ≡ extension (bare (N.bytes name) (object [] [])) }
     {
-        ObjectTypeExtension {
-            position: Pos::default(),
-            name,
-            implements_interfaces: Vec::new(alloc),
-            directives: Vec::new(alloc),
-            fields: Vec::new(alloc),
-        }
+        named!(alloc => ObjectTypeExtension { name } [implements_interfaces, fields])
     }
 }
 
@@ -141,13 +106,7 @@ impl<N: Names> InterfaceTypeExtension<N> {
     pub fn new(alloc: Global, name: N::Value) -> InterfaceTypeExtension<N>
         ensures { interface_extension_view N.bytes result ≡ extension (bare (N.bytes name) (interface [] [])) }
     {
-        InterfaceTypeExtension {
-            position: Pos::default(),
-            name,
-            implements_interfaces: Vec::new(alloc),
-            directives: Vec::new(alloc),
-            fields: Vec::new(alloc),
-        }
+        named!(alloc => InterfaceTypeExtension { name } [implements_interfaces, fields])
     }
 }
 
@@ -156,12 +115,7 @@ impl<N: Names> UnionTypeExtension<N> {
     pub fn new(alloc: Global, name: N::Value) -> UnionTypeExtension<N>
         ensures { union_extension_view N.bytes result ≡ extension (bare (N.bytes name) (union [])) }
     {
-        UnionTypeExtension {
-            position: Pos::default(),
-            name,
-            directives: Vec::new(alloc),
-            types: Vec::new(alloc),
-        }
+        named!(alloc => UnionTypeExtension { name } [types])
     }
 }
 
@@ -170,12 +124,7 @@ impl<N: Names> EnumTypeExtension<N> {
     pub fn new(alloc: Global, name: N::Value) -> EnumTypeExtension<N>
         ensures { enum_extension_view N.bytes result ≡ extension (bare (N.bytes name) (enum [])) }
     {
-        EnumTypeExtension {
-            position: Pos::default(),
-            name,
-            directives: Vec::new(alloc),
-            values: Vec::new(alloc),
-        }
+        named!(alloc => EnumTypeExtension { name } [values])
     }
 }
 
@@ -184,12 +133,7 @@ impl<N: Names> InputObjectTypeExtension<N> {
     pub fn new(alloc: Global, name: N::Value) -> InputObjectTypeExtension<N>
         ensures { input_extension_view N.bytes result ≡ extension (bare (N.bytes name) (input [])) }
     {
-        InputObjectTypeExtension {
-            position: Pos::default(),
-            name,
-            directives: Vec::new(alloc),
-            fields: Vec::new(alloc),
-        }
+        named!(alloc => InputObjectTypeExtension { name } [fields])
     }
 }
 
@@ -198,12 +142,7 @@ impl<N: Names> EnumValue<N> {
     pub fn new(alloc: Global, name: N::Value) -> EnumValue<N>
         ensures { enum_value_view N.bytes result ≡ bare_enum_value (N.bytes name) }
     {
-        EnumValue {
-            position: Pos::default(),
-            description: None,
-            name,
-            directives: Vec::new(alloc),
-        }
+        named!(alloc => EnumValue { description: None, name } [])
     }
 }
 

@@ -1,5 +1,6 @@
 -- What a reader answered, and where it left its source. The same words serve every grammar.
 use Rattle.std.specs.Prelude.{◌≡◌, ◌<◌, List, ◌++◌, map, length, Result, Ok, Err, OnOk, Option, Some, None}
+use Rattle.graphql_grammar.specs.Tokens.{Token}
 use Rattle.graphql_grammar.specs.Trees.{Expr, Shape, Grammar}
 use Rattle.graphql_grammar.specs.Reading.{Reason, Unexpected, Improper}
 use Rattle.graphql_grammar.specs.ReaderWords.{TakesSome, Stops}
@@ -19,9 +20,12 @@ reason_of Escape = Some (Improper (any StringValue))
 reason_of Location = Some (Improper location_class)
 
 -- Some shape is taken, of which P holds with what is answered; or the theory fails for the reason of the error, where it has one.
+abbrev pub Answered : {A E : Type 0} → (E → Option Reason) → Grammar → Expr → List Token → List Token → (A → Shape → Type 0) → Result A E → Type 0
+Answered reason g e ts us P (Ok v) = TakesSome g e ts us (P v)
+Answered reason g e ts us P (Err s) = Stops g e ts us (reason s)
+
 abbrev pub GivesBy : {A E : Type 0} → (E → Option Reason) → Grammar → Expr → Items → Items → (A → Shape → Type 0) → Result A E → Type 0
-GivesBy reason g e old new P (Ok v) = TakesSome g e old.tokens new.tokens (P v)
-GivesBy reason g e old new P (Err s) = Stops g e old.tokens new.tokens (reason s)
+GivesBy reason g e old new P r = Answered reason g e old.tokens new.tokens P r
 
 -- Some shape is taken, of which P holds with what is answered; or an allocation failed; or the theory fails.
 abbrev pub Gives : {A : Type 0} → Grammar → Expr → Items → Items → (A → Shape → Type 0) → Result A ReadError → Type 0

@@ -1,13 +1,15 @@
 //! Arguments, directives and default values.
-ghost use Rattle.std.specs.Prelude.{◌≡◌, ◌≤◌, OnOk, [], ◌∷◌, length, option_map};
+ghost use Rattle.std.specs.Prelude.{◌≡◌, ◌≤◌, ℕ, List, OnOk, length, option_map};
 ghost use Rattle.graphql_grammar.specs.Trees.{Sym, optional};
-ghost use Rattle.graphql_values.specs.Grammar.{shared, arguments_symbol, directive_symbol, directives_symbol, default_symbol};
-ghost use Rattle.graphql_values.specs.Meanings.{arguments_of, optional_arguments_of, directive_of, directives_of, default_of, optional_default_of};
+ghost use Rattle.graphql_values.specs.Grammar.{shared, arguments_symbol, argument_symbol, directive_symbol, directives_symbol, default_symbol};
+ghost use Rattle.graphql_values.specs.Meanings.{argument_of, optional_arguments_of, directive_of, directives_of, default_of, optional_default_of};
+ghost use Rattle.graphql_values.specs.Values.{ValueTree, DirectiveTree};
 ghost use Rattle.graphql_values.specs.ValueViews.{value_view, argument_view, directive_view};
 ghost use Rattle.graphql_core.specs.Source.{kept};
 ghost use Rattle.graphql_values.specs.steps.Answers.{Gives, Adds, Shortens};
 
-use crate::read::values::{argument, constant};
+use crate::read::lists::{Elements, read_enclosed, read_many};
+use crate::read::values::{constant, value};
 use crate::tree::{Directive, Value};
 use graphql_core::common::Names;
 use graphql_core::helpers::{Punctuator, ReadError, TokenSource, expect_name, expect_punctuator};
@@ -16,29 +18,44 @@ use std::alloc::Global;
 /// Room for so many arguments is made at first. A list of more grows.
 const FEW_ARGUMENTS: usize = 2;
 
-/// `Arguments = "(" Argument+ ")"`
-#[inline(never)]
+// Arguments, one after the other.
+struct ArgumentList;
+
 #[tactic(auto, using(crate::proofs::Reading::reading))]
-pub fn arguments<S: TokenSource>(
-    alloc: Global,
-    source: &mut S,
-    items: &mut Vec<(<S::Names as Names>::Value, Value<S::Names>)>,
-) -> Result<(), ReadError>
-    ensures reads { Gives shared (Sym arguments_symbol) (S.items source.old) (S.items source.new)
-        (λ v x. Adds (argument_view S.Names.bytes) items.old.items items.new.items (arguments_of x)) result }
-    ensures kept { kept (S.items source.new) ≡ kept (S.items source.old) }
-    ensures shorter { Shortens (S.items source.old) (S.items source.new) result }
-{
-    expect_punctuator(source, Punctuator::OpenParen)?;
-    argument(alloc, source, items)?;
-    'more: while source.sees_name() {
-        argument(alloc, source, items)?;
+impl<S: TokenSource> Elements<S> for ArgumentList {
+    type Item = (<S::Names as Names>::Value, Value<S::Names>);
+
+    ghost grammar = { shared };
+
+    ghost production = { Sym argument_symbol };
+
+    ghost Tree = { List ℕ × ValueTree };
+
+    ghost means = { argument_of };
+
+    ghost view = { argument_view S.Names.bytes };
+
+    #[tactic(auto, unfolding(crate::specs::Grammar::tables))]
+    fn comes_next(source: &S) -> bool {
+        source.sees_name()
     }
-    expect_punctuator(source, Punctuator::CloseParen)?;
-    Ok(())
+
+    /// `Argument = Name ":" Value`
+    fn read(
+        alloc: Global,
+        source: &mut S,
+        items: &mut Vec<(<S::Names as Names>::Value, Value<S::Names>)>,
+    ) -> Result<(), ReadError> {
+        let name = expect_name(alloc, source)?;
+        expect_punctuator(source, Punctuator::Colon)?;
+        let value = value(alloc, source)?;
+        items.reserve(1)?;
+        items.push_reserved((name, value));
+        Ok(())
+    }
 }
 
-/// `Arguments?`: none where they are missing.
+/// `Arguments?`, `Arguments = "(" Argument+ ")"`: none where they are missing.
 #[inline(always)]
 #[tactic(auto, using(crate::proofs::Reading::reading))]
 pub fn optional_arguments<S: TokenSource>(
@@ -53,35 +70,58 @@ pub fn optional_arguments<S: TokenSource>(
 {
     if source.sees_punctuator(Punctuator::OpenParen) {
         items.reserve_exact(FEW_ARGUMENTS)?;
-        return arguments(alloc, source, items);
+        return read_enclosed::<S, ArgumentList>(
+            alloc,
+            source,
+            Punctuator::OpenParen,
+            Punctuator::CloseParen,
+            items,
+        );
     }
     Ok(())
 }
 
-/// `Directive = "@" Name Arguments?`, after the directives before it.
-#[inline(never)]
+// Directives, one after the other.
+struct DirectiveList;
+
 #[tactic(auto, using(crate::proofs::Reading::reading))]
-pub fn directive<S: TokenSource>(
-    alloc: Global,
-    source: &mut S,
-    items: &mut Vec<Directive<S::Names>>,
-) -> Result<(), ReadError>
-    ensures reads { Gives shared (Sym directive_symbol) (S.items source.old) (S.items source.new)
-        (λ v x. Adds (directive_view S.Names.bytes) items.old.items items.new.items (directive_of x ∷ [])) result }
-    ensures kept { kept (S.items source.new) ≡ kept (S.items source.old) }
-    ensures shorter { Shortens (S.items source.old) (S.items source.new) result }
-{
-    let position = expect_punctuator(source, Punctuator::At)?;
-    let name = expect_name(alloc, source)?;
-    let mut arguments = Vec::new(alloc);
-    optional_arguments(alloc, source, &mut arguments)?;
-    items.reserve(1)?;
-    items.push_reserved(Directive {
-        position,
-        name,
-        arguments,
-    });
-    Ok(())
+impl<S: TokenSource> Elements<S> for DirectiveList {
+    type Item = Directive<S::Names>;
+
+    ghost grammar = { shared };
+
+    ghost production = { Sym directive_symbol };
+
+    ghost Tree = { DirectiveTree };
+
+    ghost means = { directive_of };
+
+    ghost view = { directive_view S.Names.bytes };
+
+    #[tactic(auto, unfolding(crate::specs::Grammar::tables))]
+    fn comes_next(source: &S) -> bool {
+        source.sees_punctuator(Punctuator::At)
+    }
+
+    /// `Directive = "@" Name Arguments?`
+    #[inline(never)]
+    fn read(
+        alloc: Global,
+        source: &mut S,
+        items: &mut Vec<Directive<S::Names>>,
+    ) -> Result<(), ReadError> {
+        let position = expect_punctuator(source, Punctuator::At)?;
+        let name = expect_name(alloc, source)?;
+        let mut arguments = Vec::new(alloc);
+        optional_arguments(alloc, source, &mut arguments)?;
+        items.reserve(1)?;
+        items.push_reserved(Directive {
+            position,
+            name,
+            arguments,
+        });
+        Ok(())
+    }
 }
 
 /// `Directives = Directive*`
@@ -100,10 +140,7 @@ pub fn directives<S: TokenSource>(
     if source.sees_punctuator(Punctuator::At) {
         items.reserve_exact(1)?;
     }
-    'more: while source.sees_punctuator(Punctuator::At) {
-        directive(alloc, source, items)?;
-    }
-    Ok(())
+    read_many::<S, DirectiveList>(alloc, source, items)
 }
 
 /// `Default = "=" Const`

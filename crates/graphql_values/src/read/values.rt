@@ -1,14 +1,14 @@
 //! Values and constants.
-ghost use Rattle.std.specs.Prelude.{◌≡◌, [], ◌∷◌};
+ghost use Rattle.std.specs.Prelude.{◌≡◌};
 ghost use Rattle.graphql_grammar.specs.Trees.{Sym};
-ghost use Rattle.graphql_values.specs.Grammar.{shared, value_symbol, const_symbol, argument_symbol};
-ghost use Rattle.graphql_values.specs.Meanings.{value_of, const_of, argument_of};
+ghost use Rattle.graphql_values.specs.Grammar.{shared, value_symbol, const_symbol};
+ghost use Rattle.graphql_values.specs.Meanings.{value_of, const_of};
 ghost use Rattle.graphql_values.specs.steps.Constness.{symbol_of, pair_symbol_of, variable_rule, list_rule, object_rule, begins_variable};
 ghost use Rattle.graphql_values.specs.steps.Constness.{tree_of, pair_of, as_variable, as_list, as_object};
 ghost use Rattle.graphql_values.specs.Values.{put};
-ghost use Rattle.graphql_values.specs.ValueViews.{value_view, argument_view, members_view};
+ghost use Rattle.graphql_values.specs.ValueViews.{value_view, members_view};
 ghost use Rattle.graphql_core.specs.Source.{kept};
-ghost use Rattle.graphql_values.specs.steps.Answers.{Gives, Adds, Shortens};
+ghost use Rattle.graphql_values.specs.steps.Answers.{Gives, Shortens};
 
 use crate::read::leaf::plain_value;
 use crate::tree::Value;
@@ -44,26 +44,6 @@ pub fn constant<S: TokenSource>(alloc: Global, source: &mut S) -> Result<Value<S
     ensures shorter { Shortens (S.items source.old) (S.items source.new) result }
 {
     value_of_sort(alloc, source, Sort::Constant)
-}
-
-/// `Argument = Name ":" Value`, after the arguments before it.
-#[tactic(auto, using(crate::proofs::Reading::reading))]
-pub fn argument<S: TokenSource>(
-    alloc: Global,
-    source: &mut S,
-    items: &mut Vec<(<S::Names as Names>::Value, Value<S::Names>)>,
-) -> Result<(), ReadError>
-    ensures reads { Gives shared (Sym argument_symbol) (S.items source.old) (S.items source.new)
-        (λ v x. Adds (argument_view S.Names.bytes) items.old.items items.new.items (argument_of x ∷ [])) result }
-    ensures kept { kept (S.items source.new) ≡ kept (S.items source.old) }
-    ensures shorter { Shortens (S.items source.old) (S.items source.new) result }
-{
-    let name = expect_name(alloc, source)?;
-    expect_punctuator(source, Punctuator::Colon)?;
-    let value = value(alloc, source)?;
-    items.reserve(1)?;
-    items.push_reserved((name, value));
-    Ok(())
 }
 
 /// Whether a variable comes next, and may.

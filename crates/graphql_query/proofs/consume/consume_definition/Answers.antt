@@ -38,11 +38,8 @@ returns-in_err-definition-clause-complete g c r bound (items, has, x, others, be
 
 pub returns-in_err-definition-clause-earlier : goal.returns-in_err-definition-clause-earlier
 returns-in_err-definition-clause-earlier g c r bound h =
-    let (none, (items, has, x, others, begins, means, rest)) = earlier_definition c.args.source.now r h in (
-      none,
-      subst (AnswersUnlessMemory _ r) (as_error _ _ c.from_residual.ensures.1) (c.in_err-definition.ensures.complete x others
-          (subst (λ (i : Items). BeginsWith i.tokens x others) (sym (c.new-cursor.ensures items has)) begins)),
-    )
+    let (none, is) = earlier_definition c.args.source.now r h in
+    (none, returns-in_err-definition-clause-complete g c r bound is)
 
 pub returns-in_err-definition-clause-refused : goal.returns-in_err-definition-clause-refused
 returns-in_err-definition-clause-refused g c =
@@ -60,23 +57,15 @@ returns-clause-first g c =
     found c.args.source.now _ _ _ c.position.result (from_stream _ _ c.new-cursor.ensures) c.in_ok-definition.ensures.takes c.position.ensures _ c.text_from-rest.ensures
 
 pub returns-clause-shorter : goal.returns-clause-shorter
-returns-clause-shorter g c =
-    shorter c.args.source.now _ _
-    (found c.args.source.now _ _ _ c.position.result (from_stream _ _ c.new-cursor.ensures) c.in_ok-definition.ensures.takes c.position.ensures _ c.text_from-rest.ensures)
+returns-clause-shorter g c = shorter c.args.source.now _ _ (returns-clause-first g c)
 
 pub returns-clause-complete : goal.returns-clause-complete
-returns-clause-complete g c r bound h =
-    one_first c.args.source.now _ r
-    (found c.args.source.now _ _ _ c.position.result (from_stream _ _ c.new-cursor.ensures) c.in_ok-definition.ensures.takes c.position.ensures _ c.text_from-rest.ensures) h
+returns-clause-complete g c r bound h = one_first c.args.source.now _ r (returns-clause-first g c) h
 
 pub returns-clause-earlier : goal.returns-clause-earlier
 returns-clause-earlier g c r bound h =
-    let (none, is) = earlier_definition c.args.source.now r h in (
-      none,
-      one_first c.args.source.now _ r
-          (found c.args.source.now _ _ _ c.position.result (from_stream _ _ c.new-cursor.ensures) c.in_ok-definition.ensures.takes c.position.ensures _ c.text_from-rest.ensures)
-          is,
-    )
+    let (none, is) = earlier_definition c.args.source.now r h in
+    (none, one_first c.args.source.now _ r (returns-clause-first g c) is)
 
 pub returns-clause-one : goal.returns-clause-one
 returns-clause-one g c = one_first c.args.source.now

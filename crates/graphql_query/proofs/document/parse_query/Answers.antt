@@ -4,9 +4,8 @@ use Rattle.graphql_lexer.specs.steps.Cut.{items}
 use Rattle.graphql_lexer.proofs.OneCut.{has_items}
 use Rattle.graphql_core.specs.Source.{split}
 use Rattle.graphql_values.proofs.Parsing.{unread, parsed, unparsed}
-use Rattle.graphql_values.proofs.Whole.{cut_first, text_document}
+use Rattle.graphql_values.proofs.Whole.{cut_first}
 use Rattle.graphql_query_tree.specs.Document.{queries}
-use Rattle.graphql_query_tree.specs.Tree.{document_view}
 use Rattle.graphql_query_tree.proofs.Readable.{readable}
 use Rattle.graphql_query.proofs.Earlier.{earlier_document}
 use Rattle.graphql_query.proofs.Printable.{printable}
@@ -23,11 +22,8 @@ returns-in_err-read_text-clause-parses g c =
 
 pub returns-in_err-read_text-clause-earlier : goal.returns-in_err-read_text-clause-earlier
 returns-in_err-read_text-clause-earlier g c d bound h =
-    let text = c.args.source.now in
-    let (none, is) = earlier_document text d h in
-    let parses = unparsed queries readable (document_view g.S.Names.bytes) text (split (items start text)) (cut_first text) (omega arith) _ _
-    (c.in_err-read_text.ensures _ (has_items text)) c.from_residual.ensures.1 in
-    (none, parses.complete d bound is)
+    let (none, is) = earlier_document c.args.source.now d h in
+    (none, (returns-in_err-read_text-clause-parses g c).complete d bound is)
 
 pub returns-clause-parses : goal.returns-clause-parses
 returns-clause-parses g c =
@@ -37,15 +33,8 @@ returns-clause-parses g c =
 
 pub returns-clause-earlier : goal.returns-clause-earlier
 returns-clause-earlier g c d bound h =
-    let text = c.args.source.now in
-    let (none, is) = earlier_document text d h in
-    let parses = parsed queries readable (document_view g.S.Names.bytes) text (split (items start text)) (cut_first text) (omega arith) _
-    (c.in_ok-read_text.ensures _ (has_items text)) in
-    (none, parses.complete d bound is)
+    let (none, is) = earlier_document c.args.source.now d h in
+    (none, (returns-clause-parses g c).complete d bound is)
 
 pub returns-clause-printable : goal.returns-clause-printable
-returns-clause-printable g c =
-    let text = c.args.source.now in
-    printable text _
-    (text_document queries text (split (items start text)) _ (cut_first text)
-    (c.in_ok-read_text.ensures _ (has_items text)).derived)
+returns-clause-printable g c = printable c.args.source.now _ (returns-clause-parses g c).derived

@@ -1,9 +1,8 @@
-use Rattle.std.proofs.Common.{subst, ap, ◌∙◌}
-use Rattle.graphql_core.specs.Source.{Items, items_of_stream, split}
+use Rattle.std.proofs.Common.{ap, ◌∙◌}
+use Rattle.graphql_core.specs.Source.{items_of_stream, split}
 use Rattle.graphql_core.proofs.NestingDepth.{nests_open}
 use Rattle.graphql_values.proofs.Parsing.{stream_parsed, stream_unparsed}
-use Rattle.graphql_query_tree.specs.Document.{queries, IsDocument}
-use Rattle.graphql_query_tree.specs.Tree.{document_view}
+use Rattle.graphql_query_tree.specs.Document.{queries}
 use Rattle.graphql_query_tree.proofs.Readable.{readable}
 use Rattle.graphql_query.proofs.Printable.{items_printable}
 use Rattle.graphql_query.proofs.document.parse_query_from.Goals as goal
@@ -24,8 +23,6 @@ returns-clause-parses g c =
 
 pub returns-clause-printable : goal.returns-clause-printable
 returns-clause-printable g c =
-    let from = c.over-cursor.ensures.items ∙ ap items_of_stream c.replace.ensures.value in
+    let items = c.args.stream.now.items in
     let (text, are) = rw c.replace.ensures.value at c.over-cursor.ensures.rest in
-    let d = document_view g.S.Names.bytes c.in_ok-read.field-0 in
-    items_printable (split c.args.stream.now.items) d (nests_open c.args.stream.now.items text are c.requires)
-    (subst (λ (k : Items). IsDocument k d) from c.in_ok-read.ensures.reads.derived)
+    items_printable (split items) _ (nests_open items text are c.requires) (returns-clause-parses g c).derived

@@ -1,15 +1,13 @@
 use Rattle.std.proofs.Common.{sym, ap, ◌∙◌}
 use Rattle.graphql_query_tree.specs.Tree.{fragment}
 use Rattle.graphql_query.proofs.DefinitionAlternatives.{operation_side, fragment_definition_side, as_operation, as_fragment}
-use Rattle.graphql_values.proofs.Steps.{error_in}
+use Rattle.graphql_values.proofs.Steps.{leads_in, fails_last}
 use Rattle.graphql_query.proofs.read.definition.definition.Goals as goal
 
 pub returns-in_err-fragment_definition-clause-reads : goal.returns-in_err-fragment_definition-clause-reads
 returns-in_err-fragment_definition-clause-reads g c =
-    let old = g.S.TokenSource.items c.args.source.now in
-    let side = fragment_definition_side old.tokens (sym c.sees_keyword.ensures ∙ c.if-sees_keyword.true) in
-    error_in old old (g.S.TokenSource.items c.fragment_definition.new.source) _ _ _ side.stops c.in_err-fragment_definition.ensures.reads
-    c.from_residual.ensures.1
+    let side = fragment_definition_side _ (sym c.sees_keyword.ensures ∙ c.if-sees_keyword.true) in
+    fails_last _ _ _ _ (leads_in side) c.in_err-fragment_definition.ensures.reads c.from_residual.ensures.1
 
 pub returns-then-sees_keyword-clause-reads : goal.returns-then-sees_keyword-clause-reads
 returns-then-sees_keyword-clause-reads g c =
@@ -18,10 +16,8 @@ returns-then-sees_keyword-clause-reads g c =
 
 pub returns-in_err-operation_definition-clause-reads : goal.returns-in_err-operation_definition-clause-reads
 returns-in_err-operation_definition-clause-reads g c =
-    let old = g.S.TokenSource.items c.args.source.now in
-    let side = operation_side old.tokens (sym c.sees_keyword.ensures ∙ c.if-sees_keyword.false) in
-    error_in old old (g.S.TokenSource.items c.operation_definition.new.source) _ _ _ side.stops c.in_err-operation_definition.ensures.reads
-    c.from_residual-in_err-operation_definition.ensures.1
+    let side = operation_side _ (sym c.sees_keyword.ensures ∙ c.if-sees_keyword.false) in
+    fails_last _ _ _ _ (leads_in side) c.in_err-operation_definition.ensures.reads c.from_residual-in_err-operation_definition.ensures.1
 
 pub returns-clause-reads : goal.returns-clause-reads
 returns-clause-reads g c =

@@ -1,18 +1,16 @@
 use Rattle.std.proofs.Common.{refl, sym, ap, ◌∙◌, [], ◌∷◌, ◌++◌, arith}
 use Rattle.graphql_grammar.specs.Trees.{Both}
 use Rattle.graphql_grammar.specs.Reading.{takes_both}
-use Rattle.graphql_grammar.proofs.ReaderSteps.{Stops-before, Stops-after, Stops-turn, Turns-start, Turns-more, Turns-stop}
-use Rattle.graphql_values.proofs.Reading.{gives_error, one_of, adds_none, adds_one, adds_more, fills}
+use Rattle.graphql_grammar.proofs.ReaderSteps.{Stops-turn, Turns-start, Turns-more, Turns-stop}
+use Rattle.graphql_values.proofs.Reading.{one_of, adds_none, adds_one, adds_more, fills}
+use Rattle.graphql_values.proofs.Steps.{here, after, fails, fails_last}
 use Rattle.graphql_query_tree.specs.Tree.{definition_view}
 use Rattle.graphql_query_tree.specs.Grammar.{reading}
 use Rattle.graphql_query.proofs.DefinitionAlternatives.{read_definition, begins_definition, each_definition_means}
 use Rattle.graphql_query.proofs.read.definition.definitions.Goals as goal
 
 pub returns-in_err-definition-clause-reads : goal.returns-in_err-definition-clause-reads
-returns-in_err-definition-clause-reads g c =
-    let items = g.S.TokenSource.items in
-    gives_error reading _ (items c.args.source.now) (items c.definition.new.source) _ _ _
-    (Stops-before reading _ _ _ _ _ c.in_err-definition.ensures.reads) c.from_residual.ensures.1
+returns-in_err-definition-clause-reads g c = fails _ _ _ _ here c.in_err-definition.ensures.reads c.from_residual.ensures.1
 
 pub more-init : goal.more-init
 more-init g c = record
@@ -36,11 +34,10 @@ more-preserved g c =
 
 pub returns-in_err-definition-2-clause-reads : goal.returns-in_err-definition-2-clause-reads
 returns-in_err-definition-2-clause-reads g c =
-    let (first, takes, view) = c.in_ok-definition.ensures.reads in
     let (items, turns, views) = c.more.invariant.turns in
     let seen = begins_definition (g.S.TokenSource.items c.more.source) ∙ sym c.sees_definition.ensures ∙ c.more-test.true in
-    gives_error reading _ (g.S.TokenSource.items c.args.source.now) (g.S.TokenSource.items c.definition-in-more.new.source) _ _ _
-    (Stops-after reading _ _ _ _ _ _ _ takes (Stops-turn reading _ (one_of read_definition) _ _ _ items _ turns seen c.in_err-definition-2.ensures.reads))
+    fails_last _ _ _ _ (after here c.in_ok-definition.ensures.reads)
+    (Stops-turn reading _ (one_of read_definition) _ _ _ items _ turns seen c.in_err-definition-2.ensures.reads)
     c.from_residual-in_err-definition-2.ensures.1
 
 pub returns-clause-reads : goal.returns-clause-reads

@@ -1,29 +1,25 @@
 use Rattle.std.proofs.Common.{refl, ap₂, ◌∙◌}
 use Rattle.graphql_grammar.specs.Trees.{Sym, Both}
 use Rattle.graphql_grammar.specs.Reading.{takes_both}
-use Rattle.graphql_grammar.proofs.ReaderSteps.{Stops-after}
 use Rattle.graphql_values.specs.Grammar.{directives_symbol}
 use Rattle.graphql_values.specs.ValueViews.{directive_view}
-use Rattle.graphql_values.proofs.Reading.{gives_error, adds_reserved, fills}
-use Rattle.graphql_query_tree.specs.Grammar.{reading}
+use Rattle.graphql_values.proofs.Reading.{adds_reserved, fills}
+use Rattle.graphql_values.proofs.Steps.{here, after, fails_last}
 use Rattle.graphql_query_tree.specs.Tree.{spread, selection_view}
-use Rattle.graphql_query.proofs.FromShared.{some_lifted, stops_lifted}
+use Rattle.graphql_query.proofs.FromShared.{stops_lifted, lifted}
 use Rattle.graphql_query.proofs.Views.{fragment_spread_selected}
 use Rattle.graphql_query.proofs.read.fragment.fragment_spread.Goals as goal
 
 pub returns-in_err-directives-clause-reads : goal.returns-in_err-directives-clause-reads
 returns-in_err-directives-clause-reads g c =
-    let items = g.S.TokenSource.items in
-    let (x, takes, view) = c.in_ok-fragment_name.ensures.reads in
-    gives_error reading _ (items c.args.source.now) (items c.directives.new.source) _ _ _
-    (Stops-after reading _ _ _ _ _ _ _ takes
-    (stops_lifted (Sym directives_symbol) refl _ _ _ c.in_err-directives.ensures.reads)) c.from_residual-in_err-directives.ensures.1
+    fails_last _ _ _ _ (after here c.in_ok-fragment_name.ensures.reads) (stops_lifted (Sym directives_symbol) refl _ _ _ c.in_err-directives.ensures.reads)
+    c.from_residual-in_err-directives.ensures.1
 
 pub returns-clause-reads : goal.returns-clause-reads
 returns-clause-reads g c =
     let bytes = g.S.Names.Names.bytes in
     let (x, named, view) = c.in_ok-fragment_name.ensures.reads in
-    let (y, listed, views) = some_lifted (Sym directives_symbol) refl _ _ _ c.in_ok-directives.ensures.reads in
+    let (y, listed, views) = lifted refl c.in_ok-directives.ensures.reads in
     let marked = fills (directive_view bytes) _ _ _ c.new-directives.ensures.items views in
     let named_there = ap₂ (λ p n. (p, n)) c.position-position.ensures refl ∙ view in (
       Both x y,

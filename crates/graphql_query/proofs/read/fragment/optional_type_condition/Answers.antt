@@ -1,7 +1,6 @@
 use Rattle.std.proofs.Common.{Some, refl, sym, ap, ◌∙◌}
 use Rattle.graphql_grammar.specs.Trees.{First, Second, Nothing}
-use Rattle.graphql_values.proofs.Reading.{gives_error}
-use Rattle.graphql_query_tree.specs.Grammar.{reading}
+use Rattle.graphql_values.proofs.Steps.{leads_in, fails_last}
 use Rattle.graphql_query.proofs.SelectionAlternatives.{some_type_condition, no_type_condition}
 use Rattle.graphql_query.proofs.read.fragment.optional_type_condition.Goals as goal
 
@@ -10,11 +9,8 @@ returns-then-not-sees_keyword-clause-reads g c = (Second Nothing, no_type_condit
 
 pub returns-in_err-type_condition-clause-reads : goal.returns-in_err-type_condition-clause-reads
 returns-in_err-type_condition-clause-reads g c =
-    let items = g.S.TokenSource.items in
-    let old = items c.args.source.now in
-    gives_error reading _ old (items c.type_condition.new.source) _ _ _
-    ((some_type_condition old.tokens
-    (sym c.sees_keyword.ensures ∙ c.if-not-sees_keyword.false)).stops _ _ c.in_err-type_condition.ensures.reads) c.from_residual.ensures.1
+    let side = some_type_condition _ (sym c.sees_keyword.ensures ∙ c.if-not-sees_keyword.false) in
+    fails_last _ _ _ _ (leads_in side) c.in_err-type_condition.ensures.reads c.from_residual.ensures.1
 
 pub returns-clause-reads : goal.returns-clause-reads
 returns-clause-reads g c =

@@ -1,118 +1,81 @@
 use Rattle.std.proofs.Common.{◌≡◌, ◌<◌, [], ◌∷◌, ◌++◌, length, map, refl, sym, ap, ◌∙◌, arith}
 use Rattle.graphql_grammar.specs.Trees.{Sym, Leaf, Both, First, Second, Nothing, Node, optional, peek}
-use Rattle.graphql_grammar.specs.Reading.{takes_node, takes_both}
+use Rattle.graphql_grammar.specs.Reading.{takes_both}
 use Rattle.graphql_grammar.specs.Factored.{written}
-use Rattle.graphql_grammar.proofs.ReaderSteps.{Stops-node, Stops-before, Stops-after, Stops-turn, Turns-start, Turns-more, Turns-stop}
+use Rattle.graphql_grammar.proofs.ReaderSteps.{Stops-before, Stops-after, Stops-turn, Turns-start, Turns-more, Turns-stop}
 use Rattle.graphql_core.specs.Source.{place_of}
 use Rattle.graphql_values.specs.ValueViews.{argument_view, directive_view}
 use Rattle.graphql_values.specs.Grammar.{arguments_symbol, directives_symbol}
-use Rattle.graphql_values.proofs.Reading.{placed, takes_one, stops_one, stops_some, gives_then, gives_error, one_of, adds_none, adds_reserved, adds_more, fills}
+use Rattle.graphql_values.proofs.Reading.{takes_one, stops_one, stops_some, gives_then, answered_error, one_of, adds_none, adds_reserved, adds_more, fills}
 use Rattle.graphql_values.proofs.Alternatives.{gives_side}
-use Rattle.graphql_query_tree.specs.Grammar.{reading, changes, selection_set_symbol, selection_symbol, field_symbol, inline_fragment_rest}
+use Rattle.graphql_query_tree.specs.Grammar.{reading, changes, selection_set_symbol, selection_symbol, inline_fragment_rest}
 use Rattle.graphql_query_tree.specs.Meanings.{selections_of}
 use Rattle.graphql_query_tree.specs.Tree.{more, set, trees_of, selection_view}
-use Rattle.graphql_query.proofs.FromShared.{some_lifted, stops_lifted, begins_at}
+use Rattle.graphql_values.proofs.Steps.{here, took, past, after, whole, fails, fails_last, lacks}
+use Rattle.graphql_query.specs.steps.Reads.{first_names}
+use Rattle.graphql_query.proofs.FromShared.{begun, lifted, stops_lifted, begins_at}
 use Rattle.graphql_query.proofs.SelectionAlternatives.{some_selection_set, no_selection_set, field_side, dots_side, fragment_spread_side, inline_fragment_side}
-use Rattle.graphql_query.proofs.SelectionAlternatives.{begins_selection, field_means, inline_fragment_means, dots_mean, selection_at, selections_mean}
+use Rattle.graphql_query.proofs.SelectionAlternatives.{begins_selection, names_taken, stops_in_names, field_means, inline_fragment_means, dots_mean, selection_at, selections_mean}
 use Rattle.graphql_query.proofs.TakenOff.{no_fewer, stays}
 use Rattle.graphql_query.proofs.Views.{field_made, inline_fragment_made, selection_set_made, selection_set_taken, field_selected, inline_fragment_selected}
 use Rattle.graphql_query.proofs.read.selection.+reading.Goals as goal
 
 -- ---- field
 
-pub field-returns-in_err-name-clause-reads : goal.field-returns-in_err-name-clause-reads
-field-returns-in_err-name-clause-reads g t c =
-    let old = g.S.TokenSource.items c.args.source.now in
-    let new = g.S.TokenSource.items c.expect_name.new.source in
-    gives_error reading _ old new _ _ _
-    (Stops-node reading field_symbol _ _ _ (Stops-before reading _ _ _ _ _ (stops_one reading _ old new _ c.in_err-name.ensures))) c.from_residual.ensures.1
-
 pub field-returns-in_err-alias-clause-reads : goal.field-returns-in_err-alias-clause-reads
 field-returns-in_err-alias-clause-reads g t c =
-    let items = g.S.TokenSource.items in
-    let named = takes_one reading _ _ _ _ refl c.in_ok-name.ensures.1 in
-    gives_error reading _ (items c.args.source.now) (items c.alias.new.source) _ _ _
-    (Stops-node reading field_symbol _ _ _ (Stops-after reading _ _ _ _ _ _ _ named (Stops-before reading _ _ _ _ _ c.in_err-alias.ensures.reads)))
-    c.from_residual-in_err-alias.ensures.1
+    answered_error _ _ _ _ _ _ _ _ (stops_in_names _ _ _ c.in_err-alias.ensures.reads) c.from_residual.ensures.1
 
 pub field-returns-in_err-optional_arguments-clause-reads : goal.field-returns-in_err-optional_arguments-clause-reads
 field-returns-in_err-optional_arguments-clause-reads g t c =
-    let items = g.S.TokenSource.items in
-    let named = takes_one reading _ _ _ _ refl c.in_ok-name.ensures.1 in
-    let renames = c.in_ok-alias.ensures.reads.1 in
-    let stops = stops_lifted (optional (Sym arguments_symbol)) refl _ _ _ c.in_err-optional_arguments.ensures.reads in
-    gives_error reading _ (items c.args.source.now) (items c.optional_arguments.new.source) _ _ _
-    (Stops-node reading field_symbol _ _ _
-    (Stops-after reading _ _ _ _ _ _ _ named (Stops-after reading _ _ _ _ _ _ _ renames (Stops-before reading _ _ _ _ _ stops))))
-    c.from_residual-in_err-optional_arguments.ensures.1
+    fails _ _ _ _ (names_taken c.in_ok-alias.ensures.reads.1)
+    (stops_lifted (optional (Sym arguments_symbol)) refl _ _ _ c.in_err-optional_arguments.ensures.reads) c.from_residual-in_err-optional_arguments.ensures.1
 
 pub field-returns-in_err-directives-clause-reads : goal.field-returns-in_err-directives-clause-reads
 field-returns-in_err-directives-clause-reads g t c =
-    let items = g.S.TokenSource.items in
-    let named = takes_one reading _ _ _ _ refl c.in_ok-name.ensures.1 in
-    let renames = c.in_ok-alias.ensures.reads.1 in
-    let given = (some_lifted (optional (Sym arguments_symbol)) refl _ _ _ c.in_ok-optional_arguments.ensures.reads).1 in
-    let stops = stops_lifted (Sym directives_symbol) refl _ _ _ c.in_err-directives.ensures.reads in
-    gives_error reading _ (items c.args.source.now) (items c.directives.new.source) _ _ _
-    (Stops-node reading field_symbol _ _ _
-    (Stops-after reading _ _ _ _ _ _ _ named
-    (Stops-after reading _ _ _ _ _ _ _ renames (Stops-after reading _ _ _ _ _ _ _ given (Stops-before reading _ _ _ _ _ stops)))))
-    c.from_residual-in_err-directives.ensures.1
+    fails _ _ _ _ (after (names_taken c.in_ok-alias.ensures.reads.1) (lifted refl c.in_ok-optional_arguments.ensures.reads))
+    (stops_lifted (Sym directives_symbol) refl _ _ _ c.in_err-directives.ensures.reads) c.from_residual-in_err-directives.ensures.1
 
 pub field-returns-in_err-selection_set-clause-reads : goal.field-returns-in_err-selection_set-clause-reads
 field-returns-in_err-selection_set-clause-reads g t c =
-    let items = g.S.TokenSource.items in
-    let named = takes_one reading _ _ _ _ refl c.in_ok-name.ensures.1 in
-    let renames = c.in_ok-alias.ensures.reads.1 in
-    let given = (some_lifted (optional (Sym arguments_symbol)) refl _ _ _ c.in_ok-optional_arguments.ensures.reads).1 in
-    let listed = (some_lifted (Sym directives_symbol) refl _ _ _ c.in_ok-directives.ensures.reads).1 in
-    gives_error reading _ (items c.args.source.now) (items c.optional_selection_set.new.source) _ _ _
-    (Stops-node reading field_symbol _ _ _
-    (Stops-after reading _ _ _ _ _ _ _ named
-    (Stops-after reading _ _ _ _ _ _ _ renames
-    (Stops-after reading _ _ _ _ _ _ _ given (Stops-after reading _ _ _ _ _ _ _ listed c.in_err-selection_set.ensures.reads)))))
+    let given = after (names_taken c.in_ok-alias.ensures.reads.1) (lifted refl c.in_ok-optional_arguments.ensures.reads) in
+    fails_last _ _ _ _ (after given (lifted refl c.in_ok-directives.ensures.reads)) c.in_err-selection_set.ensures.reads
     c.from_residual-in_err-selection_set.ensures.1
 
 pub field-returns-clause-reads : goal.field-returns-clause-reads
 field-returns-clause-reads g t c =
     let bytes = g.S.Names.Names.bytes in
-    let (n, named, spelled) = c.in_ok-name.ensures in
-    let at = sym (c.position-position.ensures ∙ placed _ _ _ n named) in
-    let (a, renames, names) = c.in_ok-alias.ensures.reads in
-    let (x, given, arguments) = some_lifted (optional (Sym arguments_symbol)) refl _ _ _ c.in_ok-optional_arguments.ensures.reads in
-    let (y, listed, directives) = some_lifted (Sym directives_symbol) refl _ _ _ c.in_ok-directives.ensures.reads in
+    let old = g.S.TokenSource.items c.args.source.now in
+    let mid = g.S.TokenSource.items c.alias_and_name.new.source in
+    let (x, named, names) = c.in_ok-alias.ensures.reads in
+    let at = begins_at first_names old mid x named c.in_ok-alias.ensures.shorter ∙ sym c.position-position.ensures in
+    let (y, given, arguments) = lifted refl c.in_ok-optional_arguments.ensures.reads in
+    let (z, listed, directives) = lifted refl c.in_ok-directives.ensures.reads in
     let (s, selects, chosen) = c.in_ok-selection_set.ensures.reads in
     let gave = fills (argument_view bytes) _ _ _ c.new-arguments.ensures.items arguments in
-    let marked = fills (directive_view bytes) _ _ _ c.new-directives.ensures.items directives in (
-      Node field_symbol (Both (Leaf n) (Both a (Both x (Both y s)))),
-      takes_node (takes_both (takes_one reading _ _ _ n refl named) (takes_both renames (takes_both given (takes_both listed selects)))) refl,
-      adds_more (selection_view bytes) _ _ _ [] _ c.in_ok-selection_set.ensures.others
-          (adds_reserved (selection_view bytes) _ _ _ _ _ c.in_ok-reserve.ensures.items c.push_reserved.ensures.items
-          (field_selected bytes _ ∙ field_made bytes _ _ _ _ _ _ ∙ field_means n a x y s renames _ _ _ _ _ _ at spelled names gave marked chosen)),
-    )
+    let marked = fills (directive_view bytes) _ _ _ c.new-directives.ensures.items directives in
+    whole (past (past (names_taken named) given) listed) selects
+    (adds_more (selection_view bytes) _ _ _ [] _ c.in_ok-selection_set.ensures.others
+    (adds_reserved (selection_view bytes) _ _ _ _ _ c.in_ok-reserve.ensures.items c.push_reserved.ensures.items
+    (field_selected bytes _ ∙ field_made bytes _ _ _ _ _ _ ∙ field_means x y z s named _ _ _ _ _ at names gave marked chosen)))
 
 pub field-returns-in_err-selection_set-clause-kept : goal.field-returns-in_err-selection_set-clause-kept
 field-returns-in_err-selection_set-clause-kept g t c =
     c.in_err-selection_set.ensures.kept ∙ c.in_ok-directives.ensures.kept ∙ c.in_ok-optional_arguments.ensures.kept ∙ c.in_ok-alias.ensures.kept
-    ∙ c.in_ok-name.ensures.1.kept
 
 pub field-returns-in_err-reserve-clause-kept : goal.field-returns-in_err-reserve-clause-kept
 field-returns-in_err-reserve-clause-kept g t c =
     c.in_ok-selection_set.ensures.kept ∙ c.in_ok-directives.ensures.kept ∙ c.in_ok-optional_arguments.ensures.kept ∙ c.in_ok-alias.ensures.kept
-    ∙ c.in_ok-name.ensures.1.kept
 
 pub field-returns-clause-kept : goal.field-returns-clause-kept
 field-returns-clause-kept g t c =
     c.in_ok-selection_set.ensures.kept ∙ c.in_ok-directives.ensures.kept ∙ c.in_ok-optional_arguments.ensures.kept ∙ c.in_ok-alias.ensures.kept
-    ∙ c.in_ok-name.ensures.1.kept
 
 pub field-returns-clause-shorter : goal.field-returns-clause-shorter
 field-returns-clause-shorter g t c =
-    let named = ap length c.in_ok-name.ensures.1.tokens in
     omega (
       arith,
-      named,
-      c.in_ok-alias.ensures.within,
+      c.in_ok-alias.ensures.shorter,
       c.in_ok-optional_arguments.ensures.within,
       c.in_ok-directives.ensures.within,
       c.in_ok-selection_set.ensures.within,
@@ -140,20 +103,13 @@ optional_selection_set-returns-clause-reads g t c =
 
 pub inline_fragment-returns-in_err-directives-clause-reads : goal.inline_fragment-returns-in_err-directives-clause-reads
 inline_fragment-returns-in_err-directives-clause-reads g t c =
-    let items = g.S.TokenSource.items in
-    let named = c.in_ok-type_condition.ensures.reads.1 in
-    let stops = stops_lifted (Sym directives_symbol) refl _ _ _ c.in_err-directives.ensures.reads in
-    gives_error reading _ (items c.args.source.now) (items c.directives.new.source) _ _ _
-    (Stops-after reading _ _ _ _ _ _ _ named (Stops-before reading _ _ _ _ _ stops)) c.from_residual-in_err-directives.ensures.1
+    fails _ _ _ _ (after here c.in_ok-type_condition.ensures.reads) (stops_lifted (Sym directives_symbol) refl _ _ _ c.in_err-directives.ensures.reads)
+    c.from_residual-in_err-directives.ensures.1
 
 pub inline_fragment-returns-in_err-selection_set-clause-reads : goal.inline_fragment-returns-in_err-selection_set-clause-reads
 inline_fragment-returns-in_err-selection_set-clause-reads g t c =
-    let items = g.S.TokenSource.items in
-    let named = c.in_ok-type_condition.ensures.reads.1 in
-    let listed = (some_lifted (Sym directives_symbol) refl _ _ _ c.in_ok-directives.ensures.reads).1 in
-    gives_error reading _ (items c.args.source.now) (items c.selection_set.new.source) _ _ _
-    (Stops-after reading _ _ _ _ _ _ _ named (Stops-after reading _ _ _ _ _ _ _ listed c.in_err-selection_set.ensures.reads))
-    c.from_residual-in_err-selection_set.ensures.1
+    let directed = after (after here c.in_ok-type_condition.ensures.reads) (lifted refl c.in_ok-directives.ensures.reads) in
+    fails_last _ _ _ _ directed c.in_err-selection_set.ensures.reads c.from_residual-in_err-selection_set.ensures.1
 
 pub inline_fragment-returns-clause-reads : goal.inline_fragment-returns-clause-reads
 inline_fragment-returns-clause-reads g t c =
@@ -161,7 +117,7 @@ inline_fragment-returns-clause-reads g t c =
     let old = g.S.TokenSource.items c.args.source.now in
     let new = g.S.TokenSource.items c.selection_set.new.source in
     let (x, named, condition) = c.in_ok-type_condition.ensures.reads in
-    let (y, listed, directives) = some_lifted (Sym directives_symbol) refl _ _ _ c.in_ok-directives.ensures.reads in
+    let (y, listed, directives) = lifted refl c.in_ok-directives.ensures.reads in
     let (s, selects, chosen) = c.in_ok-selection_set.ensures.reads in
     let takes = takes_both named (takes_both listed selects) in
     let fewer : length new.tokens < length old.tokens = omega
@@ -179,9 +135,7 @@ inline_fragment-returns-clause-reads g t c =
 
 pub fragment_selection-returns-in_err-expect_punctuator-clause-reads : goal.fragment_selection-returns-in_err-expect_punctuator-clause-reads
 fragment_selection-returns-in_err-expect_punctuator-clause-reads g t c =
-    let old = g.S.TokenSource.items c.args.source.now in
-    let new = g.S.TokenSource.items c.expect_punctuator.new.source in
-    gives_error reading _ old new _ _ _ (Stops-before reading _ _ _ _ _ (stops_one reading _ old new _ c.in_err-expect_punctuator.ensures)) c.from_residual.ensures.1
+    lacks _ _ _ _ _ here c.in_err-expect_punctuator.ensures c.from_residual.ensures.1
 
 pub fragment_selection-returns-then-sees_spread_name-clause-reads : goal.fragment_selection-returns-then-sees_spread_name-clause-reads
 fragment_selection-returns-then-sees_spread_name-clause-reads g t c =
@@ -224,21 +178,12 @@ selection-returns-clause-reads g t c =
 -- ---- selections in braces, after others
 
 pub selections-returns-in_err-start-clause-reads : goal.selections-returns-in_err-start-clause-reads
-selections-returns-in_err-start-clause-reads g t c =
-    let old = g.S.TokenSource.items c.args.source.now in
-    let new = g.S.TokenSource.items c.expect_punctuator.new.source in
-    gives_error reading _ old new _ _ _
-    (Stops-node reading selection_set_symbol _ _ _
-    (Stops-before reading _ _ _ _ _ (stops_one reading _ old new _ c.in_err-start.ensures))) c.from_residual.ensures.1
+selections-returns-in_err-start-clause-reads g t c = lacks _ _ _ _ _ (begun selection_set_symbol) c.in_err-start.ensures c.from_residual.ensures.1
 
 pub selections-returns-in_err-selection-clause-reads : goal.selections-returns-in_err-selection-clause-reads
 selections-returns-in_err-selection-clause-reads g t c =
-    let items = g.S.TokenSource.items in
-    let before = takes_one reading _ _ _ _ refl c.in_ok-start.ensures.1 in
-    gives_error reading _ (items c.args.source.now) (items c.selection.new.source) _ _ _
-    (Stops-node reading selection_set_symbol _ _ _
-    (Stops-after reading _ _ _ _ _ _ _ before (Stops-before reading _ _ _ _ _ (Stops-before reading _ _ _ _ _ c.in_err-selection.ensures.reads))))
-    c.from_residual-in_err-selection.ensures.1
+    let opened = past (begun selection_set_symbol) (took c.in_ok-start.ensures.1 refl) in
+    fails _ _ _ _ opened (Stops-before reading _ _ _ _ _ c.in_err-selection.ensures.reads) c.from_residual-in_err-selection.ensures.1
 
 pub selections-more-init : goal.selections-more-init
 selections-more-init g t c = record
@@ -261,29 +206,22 @@ selections-more-preserved g t c =
 
 pub selections-returns-in_err-selection-2-clause-reads : goal.selections-returns-in_err-selection-2-clause-reads
 selections-returns-in_err-selection-2-clause-reads g t c =
-    let sources = g.S.TokenSource.items in
-    let before = takes_one reading _ _ _ _ refl c.in_ok-start.ensures.1 in
-    let first = c.in_ok-selection.ensures.reads.1 in
+    let opened = past (begun selection_set_symbol) (took c.in_ok-start.ensures.1 refl) in
     let (items, turns, views) = c.more.invariant.turns in
-    let seen = begins_selection (peek (sources c.more.source).tokens) ∙ sym c.sees_selection.ensures ∙ c.more-test.true in
-    gives_error reading _ (sources c.args.source.now) (sources c.selection-in-more.new.source) _ _ _
-    (Stops-node reading selection_set_symbol _ _ _ (Stops-after reading _ _ _ _ _ _ _ before (Stops-before reading _ _ _ _ _
-    (Stops-after reading _ _ _ _ _ _ _ first (Stops-turn reading _ (one_of selection_at) _ _ _ items _ turns seen c.in_err-selection-2.ensures.reads)))))
+    let seen = begins_selection (peek (g.S.TokenSource.items c.more.source).tokens) ∙ sym c.sees_selection.ensures ∙ c.more-test.true in
+    fails _ _ _ _ opened (Stops-after reading _ _ _ _ _ _ _ c.in_ok-selection.ensures.reads.1
+    (Stops-turn reading _ (one_of selection_at) _ _ _ items _ turns seen c.in_err-selection-2.ensures.reads))
     c.from_residual-in_err-selection-2.ensures.1
 
 pub selections-returns-in_err-end-clause-reads : goal.selections-returns-in_err-end-clause-reads
 selections-returns-in_err-end-clause-reads g t c =
-    let sources = g.S.TokenSource.items in
-    let now = sources c.more.source in
-    let new = sources c.expect_punctuator-2.new.source in
-    let before = takes_one reading _ _ _ _ refl c.in_ok-start.ensures.1 in
+    let now = g.S.TokenSource.items c.more.source in
+    let opened = past (begun selection_set_symbol) (took c.in_ok-start.ensures.1 refl) in
     let (x, first, view) = c.in_ok-selection.ensures.reads in
     let (items, turns, views) = c.more.invariant.turns in
     let unseen = begins_selection (peek now.tokens) ∙ sym c.sees_selection.ensures ∙ c.more-test.false in
-    gives_error reading _ (sources c.args.source.now) new _ _ _
-    (Stops-node reading selection_set_symbol _ _ _ (Stops-after reading _ _ _ _ _ _ _ before
-    (stops_some reading (Sym selection_symbol) _ (one_of selection_at) _ _ _ _ x items _ first turns unseen
-    (stops_one reading _ now new _ c.in_err-end.ensures))))
+    fails_last _ _ _ _ opened (stops_some reading (Sym selection_symbol) _ (one_of selection_at) _ _ _ _ x items _ first turns unseen
+    (stops_one reading _ now (g.S.TokenSource.items c.expect_punctuator-2.new.source) _ c.in_err-end.ensures))
     c.from_residual-in_err-end.ensures.1
 
 pub selections-returns-clause-reads : goal.selections-returns-clause-reads
@@ -296,22 +234,14 @@ selections-returns-clause-reads g t c =
     let unseen = begins_selection (peek (g.S.TokenSource.items c.more.source).tokens) ∙ sym c.sees_selection.ensures ∙ c.more-test.false in
     let r = Turns-stop reading (Sym selection_symbol) (one_of selection_at) _ _ items turns unseen in
     let all : trees_of (selection_at x ∷ items) ≡ more (selection_at x) (selections_of (written changes r.0)) =
-    ap (more (selection_at x)) (sym (selections_mean r.1 ∙ ap trees_of r.2)) in (
-      Node selection_set_symbol (Both (Leaf o) (Both (Both x r.0) (Leaf e))),
-      takes_node (takes_both (takes_one reading _ _ _ o refl opens) (takes_both (takes_both takes r.1) (takes_one reading _ _ _ e refl ends))) refl,
-      (
-        selection_at x ∷ items,
-        adds_more view_one _ _ _ _ items view views,
-        rw (at, until, all) refl,
-      ),
-    )
+    ap (more (selection_at x)) (sym (selections_mean r.1 ∙ ap trees_of r.2)) in
+    whole (past (past (begun selection_set_symbol) (took opens refl)) (takes_both takes r.1)) (took ends refl)
+    (selection_at x ∷ items, adds_more view_one _ _ _ _ items view views, rw (at, until, all) refl)
 
 -- ---- selections in braces, alone
 
 pub selection_set-returns-in_err-span-clause-reads : goal.selection_set-returns-in_err-span-clause-reads
-selection_set-returns-in_err-span-clause-reads g t c =
-    let items = g.S.TokenSource.items in
-    gives_error reading _ (items c.args.source.now) (items c.selections.new.source) _ _ _ c.in_err-span.ensures.reads c.from_residual.ensures.1
+selection_set-returns-in_err-span-clause-reads g t c = fails_last _ _ _ _ here c.in_err-span.ensures.reads c.from_residual.ensures.1
 
 pub selection_set-split_off-requires : goal.selection_set-split_off-requires
 selection_set-split_off-requires g t c =

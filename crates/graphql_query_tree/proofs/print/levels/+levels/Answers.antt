@@ -1,13 +1,14 @@
-use Rattle.std.proofs.Common.{◌-◌, ◌^◌, ◌∙◌, arith, refl, sym}
+use Rattle.std.proofs.Common.{◌-◌, ◌^◌, ◌∙◌, arith, rules, refl, sym, not, nat_eq}
 use Rattle.graphql_values.proofs.Counting.{all_counted}
 use Rattle.graphql_query_tree.specs.declared.tree.SelectionSet.{the_lemmas}
 use Rattle.graphql_query_tree.specs.Tree.{selections_view}
-use Rattle.graphql_query_tree.specs.Layout.{selections_levels}
+use Rattle.graphql_query_tree.specs.TreeDepth.{selections_depth}
+use Rattle.graphql_query_tree.specs.steps.Sets.{counted}
 use Rattle.graphql_query_tree.proofs.LayoutTexts.{selection_set_parts, no_items, some_items, nothing_levels, some_levels, selection_here}
 use Rattle.graphql_query_tree.proofs.print.levels.+levels.Goals as goal
 
 pub levels_in_selection_set-levels_in_selections-requires : goal.levels_in_selection_set-levels_in_selections-requires
-levels_in_selection_set-levels_in_selections-requires g t c κs within = (rw c.deref.ensures.value (grind (arith, the_lemmas)), within)
+levels_in_selection_set-levels_in_selections-requires g t c κs within = (rw c.deref.ensures.value (grind (arith, the_lemmas)), search rules)
 
 pub levels_in_selection_set-returns : goal.levels_in_selection_set-returns
 levels_in_selection_set-returns g t c =
@@ -18,14 +19,17 @@ pub levels_in_selected-returns : goal.levels_in_selected-returns
 levels_in_selected-returns g t c =
     let bytes = g.N.Names.bytes in
     let s = c.args.set.now in
-    rw (some_levels bytes s c.args.style.now (some_items bytes s (sym c.is_empty.ensures ∙ c.if-is_empty.false))) c.levels_in_selection_set.ensures
+    rw (some_levels bytes s _ (some_items bytes s (sym c.is_empty.ensures ∙ c.if-is_empty.false))) c.levels_in_selection_set.ensures
 
 pub levels_in_selected-returns-then-is_empty : goal.levels_in_selected-returns-then-is_empty
 levels_in_selected-returns-then-is_empty g t c =
     let bytes = g.N.Names.bytes in
     let s = c.args.set.now in
-    let none = nothing_levels bytes s c.args.style.now (no_items bytes s (sym c.is_empty.ensures ∙ c.if-is_empty.true)) in
+    let none = nothing_levels bytes s (counted (not (nat_eq g.row.ALL 0)) c.args.style.now) (no_items bytes s (sym c.is_empty.ensures ∙ c.if-is_empty.true)) in
     omega (arith, none)
+
+pub levels_in_selections-levels_in_selection-requires : goal.levels_in_selections-levels_in_selection-requires
+levels_in_selections-levels_in_selection-requires g t c κs within = (grind (arith, the_lemmas), search rules)
 
 pub levels_in_selections-items-preserved : goal.levels_in_selections-items-preserved
 levels_in_selections-items-preserved g t c =
@@ -39,4 +43,4 @@ pub levels_in_selections-returns : goal.levels_in_selections-returns
 levels_in_selections-returns g t c =
     let l = c.items in
     all_counted (selections_view g.N.Names.bytes) c.args.items.now c.args.items.now l.item-index (omega arith) refl
-    (selections_levels c.args.style.now) l.most (2 ^ 64 - 1) refl l.invariant.levels
+    (selections_depth (counted (not (nat_eq g.row.ALL 0)) c.args.style.now)) l.most (2 ^ 64 - 1) refl l.invariant.levels

@@ -1,11 +1,11 @@
-use Rattle.std.proofs.Common.{◌≡◌, ◌-◌, ◌^◌, min, max, drop}
+use Rattle.std.proofs.Common.{◌≡◌, ◌-◌, ◌^◌, min, max, drop, not, nat_eq}
 use Rattle.graphql_query_tree.specs.Tree.{selections_view}
-use Rattle.graphql_query_tree.specs.Layout.{selections_levels}
+use Rattle.graphql_query_tree.specs.TreeDepth.{selections_depth}
+use Rattle.graphql_query_tree.specs.steps.Sets.{counted}
 use Rattle.graphql_query_tree.proofs.print.levels.+levels.Given as goal
 
 abbrev pub invariant-levels_in_selections-items : goal.invariant-levels_in_selections-items
 invariant-levels_in_selections-items g l =
-    let left = selections_levels l.style (selections_view g.N.Names.bytes (drop l.item-index l.items)) in
-    record {
-      levels : max l.most (min left (2 ^ 64 - 1)) ≡ min (selections_levels l.style (selections_view g.N.Names.bytes l.items)) (2 ^ 64 - 1);
-    }
+    let depth = selections_depth (counted (not (nat_eq g.row.ALL 0)) l.style) in
+    let left = depth (selections_view g.N.Names.bytes (drop l.item-index l.items)) in
+    record { levels : max l.most (min left (2 ^ 64 - 1)) ≡ min (depth (selections_view g.N.Names.bytes l.items)) (2 ^ 64 - 1) }

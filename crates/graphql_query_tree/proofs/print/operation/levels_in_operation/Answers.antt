@@ -9,4 +9,4 @@ returns g c =
     let view = variable_definition_view g.N.Names.bytes in
     let same = most_seen view (variable_definition_levels c.args.style.now) c.args.variables.now in
     let each = rw same at c.levels_in_each.ensures in
-    omega (arith, each, c.levels_in_directives.ensures, c.levels_in_selection_set.ensures, c.max.ensures, c.max-around.ensures)
+    omega (arith, each, c.levels_in_directives.ensures, c.levels.ensures, c.max.ensures, c.max-around.ensures)

@@ -1,6 +1,7 @@
 use Rattle.std.proofs.Common.{rules, arith, ◌∙◌, ◌+◌, ◌*◌, ◌++◌, ◌<◌, ◌^◌, append_assoc, ap, sym, refl, []}
 use Rattle.std.proofs.lemmas.Result.{on_ok_weaker}
 use Rattle.graphql_core.specs.Parts.{text_of}
+use Rattle.graphql_values.specs.ValueLayout.{in_levels}
 use Rattle.graphql_query_tree.specs.declared.tree.SelectionSet.{the_lemmas}
 use Rattle.graphql_query_tree.specs.Tree.{selection_set_view, selection_view, selections_view}
 use Rattle.graphql_query_tree.specs.Lawful.{AreLawfulSelections}
@@ -132,7 +133,7 @@ pub write_optional_selection_set-write_selection_set-requires : goal.write_optio
 write_optional_selection_set-write_selection_set-requires g t c κs within =
     let bytes = g.N.Names.bytes in
     let s = c.args.set.now in
-    let same = some_levels bytes s c.args.style.now (some_items bytes s (sym c.is_empty.ensures ∙ c.if-is_empty.false)) in
+    let same = some_levels bytes s (in_levels c.args.style.now) (some_items bytes s (sym c.is_empty.ensures ∙ c.if-is_empty.false)) in
     let fits : c.args.margin + selection_set_levels c.args.style.now (selection_set_view bytes s) * c.args.style.now.indent < 2 ^ 32 = rw (← same) c.requires in
     search (rules, the_lemmas, fits)
 

@@ -1,14 +1,20 @@
-use Rattle.std.proofs.Common.{◌∙◌, ◌+◌, sym}
+use Rattle.std.proofs.Common.{◌∙◌, ◌+◌, arith, sym}
+use Rattle.std.proofs.Math.Nat.{mul-le-mul_right}
 use Rattle.std.proofs.lemmas.Bool.{false≢true}
+use Rattle.graphql_values.specs.TreeDepth.{most}
 use Rattle.graphql_query_tree.specs.Layout.{levels}
 use Rattle.graphql_query_tree.specs.Tree.{document_view}
-use Rattle.graphql_query_tree.proofs.SetsTell.{room_left}
+use Rattle.graphql_query_tree.specs.TreeDepth.{definition_depth}
+use Rattle.graphql_query_tree.specs.steps.Sets.{in_sets}
+use Rattle.graphql_query_tree.proofs.SetsTell.{document_within}
 use Rattle.graphql_query_tree.proofs.print.width.leaves_room.Goals as goal
 
 pub returns : goal.returns
-returns g c told =
+returns g c told wide =
     let style = c.args.style.now in
-    let sets = c.sets_in_document.result in
+    let d = document_view g.N.Names.bytes c.args.document.now in
+    let sets = most (definition_depth in_sets) d in
     let one_line = sym c.has_multiline_arguments.ensures ∙ c.if-has_multiline_arguments.false in
-    room_left style sets (levels style (document_view g.N.Names.bytes c.args.document.now)) (c.sets_in_document.ensures style one_line)
-    (λ wide. false≢true (rw ((c.is_too_wide.ensures (sets + 1) c.saturating_add.ensures).1 wide) at told))
+    let more = mul-le-mul_right {m = levels style d} {n = sets + 1} style.indent (document_within style one_line d) in
+    let seen = c.is_too_wide.ensures (sets + 1) (omega (arith, c.sets_in_document.ensures, c.saturating_add.ensures)) in
+    false≢true (rw (seen.1 (omega (arith, wide, more))) at told)

@@ -1,11 +1,12 @@
-use Rattle.std.proofs.Common.{◌≡◌, ◌≤◌, ◌+◌, ◌-◌, ◌^◌, min, max, drop, false}
-use Rattle.graphql_core.specs.Style.{Layout}
+use Rattle.std.proofs.Common.{◌≡◌, ◌-◌, ◌^◌, min, max, drop}
+use Rattle.graphql_values.specs.TreeDepth.{most}
 use Rattle.graphql_query_tree.specs.Tree.{definitions_view}
-use Rattle.graphql_query_tree.specs.Layout.{levels}
+use Rattle.graphql_query_tree.specs.TreeDepth.{definition_depth}
+use Rattle.graphql_query_tree.specs.steps.Sets.{in_sets}
 use Rattle.graphql_query_tree.proofs.print.width.sets_in_document.Given as goal
 
 abbrev pub invariant-definitions : goal.invariant-definitions
 invariant-definitions g l =
-    (style : Layout) → style.multiline ≡ false
-    → min (levels style (definitions_view g.N.Names.bytes l.definition-items)) (2 ^ 64 - 1)
-    ≤ max (l.most + 1) (min (levels style (definitions_view g.N.Names.bytes (drop l.definition-index l.definition-items))) (2 ^ 64 - 1))
+    let left = definitions_view g.N.Names.bytes (drop l.definition-index l.definition-items) in
+    let all = definitions_view g.N.Names.bytes l.definition-items in
+    max l.most (min (most (definition_depth in_sets) left) (2 ^ 64 - 1)) ≡ min (most (definition_depth in_sets) all) (2 ^ 64 - 1)

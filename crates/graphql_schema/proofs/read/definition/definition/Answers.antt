@@ -1,15 +1,12 @@
 use Rattle.std.proofs.Common.{refl, sym, ap, ap₂, ◌∙◌}
-use Rattle.graphql_grammar.specs.Trees.{Both, First, Second, Node, peek}
-use Rattle.graphql_grammar.specs.Factored.{written}
 use Rattle.graphql_grammar.proofs.ReaderSteps.{Stops-before}
 use Rattle.graphql_values.proofs.Refusing.{reads_led, halts_led, stops_led}
-use Rattle.graphql_schema_tree.specs.Grammar.{changes, item_symbol, type_body_symbol}
+use Rattle.graphql_values.proofs.Steps.{whole}
 use Rattle.graphql_schema_tree.specs.Language.{schemas}
 use Rattle.graphql_schema_tree.specs.Tree.{schema, type_definition, directive}
 use Rattle.graphql_schema.specs.steps.Refusals.{refusals}
-use Rattle.graphql_schema.proofs.Definitions.{an_extension, no_extension, a_description, a_schema, a_directive, a_type, no_keyword, schema_unseen}
-use Rattle.graphql_schema.proofs.Definitions.{with_description, directive_means}
-use Rattle.graphql_schema.proofs.Types.{of_type, others_unseen, place, body_means}
+use Rattle.graphql_schema.proofs.Definitions.{an_extension, no_extension, a_description, a_schema, a_directive, a_type, no_keyword, with_description, directive_means}
+use Rattle.graphql_schema.proofs.Types.{body_means}
 use Rattle.graphql_schema.proofs.read.definition.definition.Goals as goal
 
 pub returns-then-sees_keyword-clause-reads : goal.returns-then-sees_keyword-clause-reads
@@ -19,17 +16,15 @@ returns-then-sees_keyword-clause-reads g c =
 
 pub returns-in_err-description-clause-reads : goal.returns-in_err-description-clause-reads
 returns-in_err-description-clause-reads g c =
-    let old = g.S.TokenSource.items c.args.source.now in
-    let new = g.S.TokenSource.items c.optional_description.new.source in
     let led = no_extension _ (sym c.sees_keyword.ensures ∙ c.if-sees_keyword.false) in
-    stops_led schemas refusals old old new _ _ _ led (Stops-before _ _ _ _ _ _ c.in_err-description.ensures.reads) c.from_residual.ensures.1
+    stops_led schemas refusals _ _ _ _ _ led (Stops-before _ _ _ _ _ _ c.in_err-description.ensures.reads) c.from_residual.ensures.1
 
 -- ---- a schema
 
 pub returns-in_err-schema-in-Some-Schema-clause-reads : goal.returns-in_err-schema-in-Some-Schema-clause-reads
 returns-in_err-schema-in-Some-Schema-clause-reads g c =
-    let (d, described, says) = c.in_ok-description.ensures.reads in
-    let led = a_schema (sym c.sees_keyword.ensures ∙ c.if-sees_keyword.false) described (rw c.in-Some-Schema.field-0-is at c.in-Some-Schema.ensures) in
+    let other = sym c.sees_keyword.ensures ∙ c.if-sees_keyword.false in
+    let led = a_schema other c.in_ok-description.ensures.reads.1 (rw c.in-Some-Schema.field-0-is at c.in-Some-Schema.ensures) in
     halts_led schemas refusals _ _ _ _ _ _ _ led c.in_err-schema-in-Some-Schema.ensures.reads c.from_residual-in_err-schema-in-Some-Schema.ensures.1
 
 pub returns-in_ok-schema-in-Some-Schema-clause-reads : goal.returns-in_ok-schema-in-Some-Schema-clause-reads
@@ -37,76 +32,43 @@ returns-in_ok-schema-in-Some-Schema-clause-reads g c =
     let (d, described, says) = c.in_ok-description.ensures.reads in
     let (x, taken, is) = c.in_ok-schema-in-Some-Schema.ensures.reads.gives in
     let led = a_schema (sym c.sees_keyword.ensures ∙ c.if-sees_keyword.false) described (rw c.in-Some-Schema.field-0-is at c.in-Some-Schema.ensures) in
-    record {
-      gives = (Node item_symbol (First (Both d (First x))), led.takes _ x taken, ap₂ schema says is);
-      says = tt;
-    }
+    record { gives = whole led taken (ap₂ schema says is); says = tt }
 
 -- ---- a type
 
 pub returns-in_err-body-in-Some-OfType-clause-reads : goal.returns-in_err-body-in-Some-OfType-clause-reads
 returns-in_err-body-in-Some-OfType-clause-reads g c =
-    let mid = g.S.TokenSource.items c.optional_description.new.source in
-    let (d, described, says) = c.in_ok-description.ensures.reads in
-    let seen = rw c.in-Some-OfType.field-0-is at c.in-Some-OfType.ensures in
-    let (no_schema, no_directive) = others_unseen c.in-Some-OfType.kind (peek mid.tokens) seen in
-    let led = of_type c.in-Some-OfType.kind (a_type (sym c.sees_keyword.ensures ∙ c.if-sees_keyword.false) described no_schema no_directive) seen in
-    let old = g.S.TokenSource.items c.args.source.now in
-    let new = g.S.TokenSource.items c.type_body.new.source in
-    stops_led schemas refusals old mid new _ _ _ led c.in_err-body-in-Some-OfType.ensures.reads c.from_residual-in_err-body-in-Some-OfType.ensures.1
+    let other = sym c.sees_keyword.ensures ∙ c.if-sees_keyword.false in
+    let led = a_type other c.in_ok-description.ensures.reads.1 c.in-Some-OfType.kind (rw c.in-Some-OfType.field-0-is at c.in-Some-OfType.ensures) in
+    stops_led schemas refusals _ _ _ _ _ led c.in_err-body-in-Some-OfType.ensures.reads c.from_residual-in_err-body-in-Some-OfType.ensures.1
 
 pub returns-in_ok-body-in-Some-OfType-clause-reads : goal.returns-in_ok-body-in-Some-OfType-clause-reads
 returns-in_ok-body-in-Some-OfType-clause-reads g c =
-    let mid = g.S.TokenSource.items c.optional_description.new.source in
     let (d, described, says) = c.in_ok-description.ensures.reads in
     let (x, taken, is) = c.in_ok-body-in-Some-OfType.ensures.reads in
     let kind = c.in-Some-OfType.kind in
-    let seen = rw c.in-Some-OfType.field-0-is at c.in-Some-OfType.ensures in
-    let (no_schema, no_directive) = others_unseen kind (peek mid.tokens) seen in
-    let led = of_type kind (a_type (sym c.sees_keyword.ensures ∙ c.if-sees_keyword.false) described no_schema no_directive) seen in
-    record {
-      gives = (
-        Node item_symbol (First (Both d (Second (First (Node type_body_symbol (place kind x)))))),
-        led.takes _ x taken,
-        c.into_definition.ensures ∙ ap₂ type_definition says (is ∙ body_means kind x),
-      );
-      says = tt;
-    }
+    let led = a_type (sym c.sees_keyword.ensures ∙ c.if-sees_keyword.false) described kind (rw c.in-Some-OfType.field-0-is at c.in-Some-OfType.ensures) in
+    record { gives = whole led taken (c.into_definition.ensures ∙ ap₂ type_definition says (is ∙ body_means kind x)); says = tt }
 
 -- ---- a directive
 
 pub returns-in_err-definition-in-Some-Directive-clause-reads : goal.returns-in_err-definition-in-Some-Directive-clause-reads
 returns-in_err-definition-in-Some-Directive-clause-reads g c =
-    let mid = g.S.TokenSource.items c.optional_description.new.source in
-    let (d, described, says) = c.in_ok-description.ensures.reads in
-    let seen = rw c.in-Some-Directive.field-0-is at c.in-Some-Directive.ensures in
-    let led = a_directive (sym c.sees_keyword.ensures ∙ c.if-sees_keyword.false) described (schema_unseen (peek mid.tokens) seen) seen in
-    let old = g.S.TokenSource.items c.args.source.now in
-    let new = g.S.TokenSource.items c.directive_definition.new.source in
-    stops_led schemas refusals old mid new _ _ _ led c.in_err-definition-in-Some-Directive.ensures.reads c.from_residual-in_err-definition-in-Some-Directive.ensures.1
+    let other = sym c.sees_keyword.ensures ∙ c.if-sees_keyword.false in
+    let led = a_directive other c.in_ok-description.ensures.reads.1 (rw c.in-Some-Directive.field-0-is at c.in-Some-Directive.ensures) in
+    stops_led schemas refusals _ _ _ _ _ led c.in_err-definition-in-Some-Directive.ensures.reads c.from_residual-in_err-definition-in-Some-Directive.ensures.1
 
 pub returns-in_ok-definition-in-Some-Directive-clause-reads : goal.returns-in_ok-definition-in-Some-Directive-clause-reads
 returns-in_ok-definition-in-Some-Directive-clause-reads g c =
-    let mid = g.S.TokenSource.items c.optional_description.new.source in
     let (d, described, says) = c.in_ok-description.ensures.reads in
     let (x, taken, is) = c.in_ok-definition-in-Some-Directive.ensures.reads in
-    let seen = rw c.in-Some-Directive.field-0-is at c.in-Some-Directive.ensures in
-    let led = a_directive (sym c.sees_keyword.ensures ∙ c.if-sees_keyword.false) described (schema_unseen (peek mid.tokens) seen) seen in
-    record {
-      gives = (
-        Node item_symbol (First (Both d (Second (Second x)))),
-        led.takes _ x taken,
-        ap directive (ap₂ with_description says is ∙ directive_means _ taken),
-      );
-      says = tt;
-    }
+    let led = a_directive (sym c.sees_keyword.ensures ∙ c.if-sees_keyword.false) described (rw c.in-Some-Directive.field-0-is at c.in-Some-Directive.ensures) in
+    record { gives = whole led taken (ap directive (ap₂ with_description says is ∙ directive_means _ taken)); says = tt }
 
 -- ---- none of them
 
 pub returns-in-None-clause-reads : goal.returns-in-None-clause-reads
 returns-in-None-clause-reads g c =
-    let (d, described, says) = c.in_ok-description.ensures.reads in
     let none = rw c.in-None.is at c.peek_keyword.ensures in
-    let old = g.S.TokenSource.items c.args.source.now in
-    let mid = g.S.TokenSource.items c.optional_description.new.source in
-    stops_led schemas refusals old mid mid _ _ _ (a_description (sym c.sees_keyword.ensures ∙ c.if-sees_keyword.false) described) (no_keyword _ none) refl
+    let led = a_description (sym c.sees_keyword.ensures ∙ c.if-sees_keyword.false) c.in_ok-description.ensures.reads.1 in
+    stops_led schemas refusals _ _ _ _ _ led (no_keyword _ none) refl

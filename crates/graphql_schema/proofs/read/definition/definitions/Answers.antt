@@ -10,7 +10,8 @@ use Rattle.graphql_schema_tree.specs.Views.{definition_view}
 use Rattle.graphql_schema.specs.steps.Refusals.{refusals}
 use Rattle.graphql_schema.proofs.Dialect.{reading}
 use Rattle.graphql_schema.proofs.Definitions.{item_begins}
-use Rattle.graphql_schema.proofs.Lists.{as_written, some_taken}
+use Rattle.graphql_schema.specs.steps.Reads.{as_written}
+use Rattle.graphql_schema.proofs.Lists.{some_taken}
 use Rattle.graphql_schema.proofs.read.definition.definitions.Goals as goal
 
 pub returns-in_err-definition-clause-reads : goal.returns-in_err-definition-clause-reads

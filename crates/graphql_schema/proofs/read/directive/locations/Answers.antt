@@ -1,25 +1,22 @@
 use Rattle.std.proofs.Common.{refl, sym, ◌∙◌, codes, Some, None, arith}
-use Rattle.graphql_grammar.specs.Trees.{Then, Sym, Node}
+use Rattle.graphql_grammar.specs.Trees.{Then, Sym}
 use Rattle.graphql_grammar.specs.Factored.{written}
 use Rattle.graphql_values.specs.Grammar.{punctuator}
 use Rattle.graphql_values.proofs.Reading.{adds_one}
-use Rattle.graphql_values.proofs.Steps.{past, before, error_in, pushes_none}
+use Rattle.graphql_values.proofs.Steps.{begun, after, whole, fails, fails_last, pushes_none, turn_fails}
 use Rattle.graphql_schema_tree.specs.Grammar.{changes, location_symbol, locations_symbol}
 use Rattle.graphql_schema_tree.specs.Meanings.{location_at, marked_of, joined_of}
-use Rattle.graphql_schema.proofs.Dialect.{reading, starts}
-use Rattle.graphql_schema.proofs.Lists.{as_written, turn_appends}
+use Rattle.graphql_schema.proofs.Dialect.{reading}
+use Rattle.graphql_schema.specs.steps.Reads.{as_written}
+use Rattle.graphql_schema.proofs.Lists.{turn_appends}
 use Rattle.graphql_schema.proofs.Directives.{adds_present}
-use Rattle.graphql_schema.proofs.JoinedNames.{joined_taken, marked_stops}
+use Rattle.graphql_schema.proofs.JoinedNames.{joined_taken}
 use Rattle.graphql_schema.proofs.read.directive.locations.Goals as goal
 
 pub returns-in_err-location-clause-reads : goal.returns-in_err-location-clause-reads
 returns-in_err-location-clause-reads g c =
-    let old = g.S.TokenSource.items c.args.source.now in
-    let mid = g.S.TokenSource.items c.optional_punctuator.new.source in
-    let (m, marked, none) = c.in_ok-optional_punctuator.ensures.reads in
-    let led = past (starts locations_symbol old.tokens (λ x. refl)) marked in
-    error_in old mid (g.S.TokenSource.items c.location.new.source) _ _ _ (before led) c.in_err-location.ensures.reads
-    c.from_residual-in_err-location.ensures.1
+    let mark = after (begun locations_symbol (λ x. refl)) c.in_ok-optional_punctuator.ensures.reads in
+    fails _ _ _ _ mark c.in_err-location.ensures.reads c.from_residual-in_err-location.ensures.1
 
 pub more-init : goal.more-init
 more-init g c = record {
@@ -39,16 +36,9 @@ more-preserved g c =
 
 pub returns-in_err-marked_location-clause-reads : goal.returns-in_err-marked_location-clause-reads
 returns-in_err-marked_location-clause-reads g c =
-    let old = g.S.TokenSource.items c.args.source.now in
-    let start = g.S.TokenSource.items c.location.new.source in
-    let now = g.S.TokenSource.items c.more.source in
-    let new = g.S.TokenSource.items c.marked_location.new.source in
-    let (m, marked, none) = c.in_ok-optional_punctuator.ensures.reads in
-    let (x, takes, is) = c.in_ok-location.ensures.reads in
-    let led = past (past (starts locations_symbol old.tokens (λ x. refl)) marked) takes in
-    error_in old start new _ _ _ led.stops
-    (marked_stops (codes "|") (Sym location_symbol) location_at None Some start now new _ _ _ c.more.invariant.comes
-    (sym c.sees_punctuator.ensures ∙ c.more-test.true) c.in_err-marked_location.ensures.reads) c.from_residual-in_err-marked_location.ensures.1
+    let first = after (after (begun locations_symbol (λ x. refl)) c.in_ok-optional_punctuator.ensures.reads) c.in_ok-location.ensures.reads in
+    let turn = turn_fails _ _ c.more.invariant.comes (sym c.sees_punctuator.ensures ∙ c.more-test.true) c.in_err-marked_location.ensures.reads in
+    fails_last _ _ _ _ first turn c.from_residual-in_err-marked_location.ensures.1
 
 pub returns-in_err-marked_location-clause-kept : goal.returns-in_err-marked_location-clause-kept
 returns-in_err-marked_location-clause-kept g c =
@@ -56,18 +46,11 @@ returns-in_err-marked_location-clause-kept g c =
 
 pub returns-clause-reads : goal.returns-clause-reads
 returns-clause-reads g c =
-    let old = g.S.TokenSource.items c.args.source.now in
-    let mid = g.S.TokenSource.items c.optional_punctuator.new.source in
-    let start = g.S.TokenSource.items c.location.new.source in
-    let now = g.S.TokenSource.items c.more.source in
-    let (m, marked, none) = c.in_ok-optional_punctuator.ensures.reads in
     let (x, takes, is) = c.in_ok-location.ensures.reads in
-    let (xs, joined, adds) = joined_taken (codes "|") (Sym location_symbol) location_at None Some old mid start now _ _ _ m marked
-    (x, takes, adds_one Some _ _ _ _ c.in_ok-push.ensures.items is) c.more.invariant.comes (sym c.sees_punctuator.ensures ∙ c.more-test.false) in (
-      Node locations_symbol xs,
-      (starts locations_symbol old.tokens (λ x. refl)).takes now.tokens xs joined,
-      c.shrink_list.ensures ∙ adds_present _ c.more.locations.items (joined_of location_at None (written changes xs)) adds,
-    )
+    let (xs, joined, adds) = joined_taken (codes "|") (Sym location_symbol) location_at None Some _ c.in_ok-optional_punctuator.ensures.reads
+    (x, takes, adds_one Some _ _ _ _ c.in_ok-push.ensures.items is) c.more.invariant.comes (sym c.sees_punctuator.ensures ∙ c.more-test.false) in
+    whole (begun locations_symbol (λ x. refl)) joined
+    (c.shrink_list.ensures ∙ adds_present _ c.more.locations.items (joined_of location_at None (written changes xs)) adds)
 
 pub returns-clause-kept : goal.returns-clause-kept
 returns-clause-kept g c = c.more.invariant.kept ∙ c.in_ok-location.ensures.kept ∙ c.in_ok-optional_punctuator.ensures.kept

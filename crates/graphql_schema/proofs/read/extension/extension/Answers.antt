@@ -1,102 +1,78 @@
-use Rattle.std.proofs.Common.{◌∙◌, Some, ap, refl, sym, codes}
+use Rattle.std.proofs.Common.{◌∙◌, Some, ap, refl, sym}
 use Rattle.graphql_grammar.specs.Tokens.{Place}
-use Rattle.graphql_grammar.specs.Trees.{Leaf, Both, First, Second, Node, peek}
-use Rattle.graphql_grammar.specs.Factored.{written}
 use Rattle.graphql_core.specs.Causes.{empty_extension}
-use Rattle.graphql_values.specs.Grammar.{keyword}
-use Rattle.graphql_values.proofs.Reading.{takes_one}
 use Rattle.graphql_values.proofs.Refusing.{node_stops, node_lacks, node_passes, node_refused}
-use Rattle.graphql_values.proofs.Steps.{here, before, past}
-use Rattle.graphql_schema_tree.specs.Grammar.{changes, extension_symbol, type_body_symbol}
+use Rattle.graphql_values.proofs.Steps.{here, before, past, took}
+use Rattle.graphql_schema_tree.specs.Grammar.{extension_symbol}
 use Rattle.graphql_schema_tree.specs.Language.{schemas}
 use Rattle.graphql_schema_tree.specs.Tree.{SchemaTree, BodyTree, schema_extension, extension, adds, adds_to_schema}
 use Rattle.graphql_schema_tree.proofs.Readable.{readable}
 use Rattle.graphql_schema.specs.steps.Refusals.{refusals}
-use Rattle.graphql_schema.proofs.Dialect.{reading}
 use Rattle.graphql_schema.proofs.Definitions.{of_schema, of_body, node_halts, none_extended, directive_extended, not_extended}
-use Rattle.graphql_schema.proofs.Types.{of_type, others_unseen, place, body_means}
+use Rattle.graphql_schema.proofs.Types.{body_means}
 use Rattle.graphql_schema.proofs.read.extension.extension.Goals as goal
 
 pub returns-in_err-expect_keyword-clause-reads : goal.returns-in_err-expect_keyword-clause-reads
 returns-in_err-expect_keyword-clause-reads g c =
-    node_lacks schemas refusals _ _ _ (g.S.TokenSource.items c.args.source.now) _ _ _ (before here) c.in_err-expect_keyword.ensures c.from_residual.ensures.1
+    node_lacks schemas refusals _ _ _ _ _ _ _ (before here) c.in_err-expect_keyword.ensures c.from_residual.ensures.1
 
 -- ---- of the schema
 
 pub returns-in_err-extension-in-Some-Schema-clause-reads : goal.returns-in_err-extension-in-Some-Schema-clause-reads
 returns-in_err-extension-in-Some-Schema-clause-reads g c =
-    let (t, taken, at) = c.in_ok-expect_keyword.ensures in
-    let old = g.S.TokenSource.items c.args.source.now in
-    let new = g.S.TokenSource.items c.schema_extension.new.source in
-    let lead = of_schema (past here (takes_one reading (keyword (codes "extend")) _ _ t refl taken)) (rw c.in-Some-Schema.field-0-is at c.in-Some-Schema.ensures) in
-    node_halts refusals extension_symbol old _ new _ _ _ _ lead c.in_err-extension-in-Some-Schema.ensures.reads c.from_residual-in_err-extension-in-Some-Schema.ensures.1
+    let lead = of_schema (past here (took c.in_ok-expect_keyword.ensures.1 refl)) (rw c.in-Some-Schema.field-0-is at c.in-Some-Schema.ensures) in
+    node_halts refusals _ _ _ _ _ _ _ _ lead c.in_err-extension-in-Some-Schema.ensures.reads c.from_residual-in_err-extension-in-Some-Schema.ensures.1
 
 pub returns-then-not-adds_to_schema-clause-reads : goal.returns-then-not-adds_to_schema-clause-reads
 returns-then-not-adds_to_schema-clause-reads g c =
-    let (t, taken, at) = c.in_ok-expect_keyword.ensures in
     let (x, takes, is) = c.in_ok-extension-in-Some-Schema.ensures.reads.gives in
-    let lead = of_schema (past here (takes_one reading (keyword (codes "extend")) _ _ t refl taken)) (rw c.in-Some-Schema.field-0-is at c.in-Some-Schema.ensures) in
+    let lead = of_schema (past here (took c.in_ok-expect_keyword.ensures.1 refl)) (rw c.in-Some-Schema.field-0-is at c.in-Some-Schema.ensures) in
     let bad = ap adds_to_schema (sym is) ∙ sym c.adds_to_schema.ensures ∙ c.if-not-adds_to_schema.true in
-    node_refused schemas refusals readable _ _ _ _ (Both (Leaf t) (Second x)) (lead.takes _ x takes) bad
+    node_refused schemas refusals readable _ _ _ _ _ (lead.takes _ x takes) bad
     (ap (λ (p : Place). Some (record { cause = empty_extension; place = p })) (sym (ap (λ (s : SchemaTree). s.position) is)))
 
 pub returns-else-not-adds_to_schema-clause-reads : goal.returns-else-not-adds_to_schema-clause-reads
 returns-else-not-adds_to_schema-clause-reads g c =
-    let (t, taken, at) = c.in_ok-expect_keyword.ensures in
     let (x, takes, is) = c.in_ok-extension-in-Some-Schema.ensures.reads.gives in
-    let lead = of_schema (past here (takes_one reading (keyword (codes "extend")) _ _ t refl taken)) (rw c.in-Some-Schema.field-0-is at c.in-Some-Schema.ensures) in
-    node_passes schemas refusals _ _ _ _ _ (Both (Leaf t) (Second x)) (lead.takes _ x takes)
+    let lead = of_schema (past here (took c.in_ok-expect_keyword.ensures.1 refl)) (rw c.in-Some-Schema.field-0-is at c.in-Some-Schema.ensures) in
+    node_passes schemas refusals _ _ _ _ _ _ (lead.takes _ x takes)
     (ap adds_to_schema (sym is) ∙ sym c.adds_to_schema.ensures ∙ c.if-not-adds_to_schema.false) (ap schema_extension is)
 
 -- ---- of a type
 
 pub returns-in_err-body-in-Some-OfType-clause-reads : goal.returns-in_err-body-in-Some-OfType-clause-reads
 returns-in_err-body-in-Some-OfType-clause-reads g c =
-    let mid = g.S.TokenSource.items c.expect_keyword.new.source in
-    let (t, taken, at) = c.in_ok-expect_keyword.ensures in
     let seen = rw c.in-Some-OfType.field-0-is at c.in-Some-OfType.ensures in
-    let lead = of_type c.in-Some-OfType.kind (of_body (past here (takes_one reading (keyword (codes "extend")) _ _ t refl taken)) (others_unseen c.in-Some-OfType.kind (peek mid.tokens) seen).0) seen in
+    let lead = of_body c.in-Some-OfType.kind (past here (took c.in_ok-expect_keyword.ensures.1 refl)) seen in
     node_stops schemas refusals _ _ _ _ _ _ (lead.stops _ _ c.in_err-body-in-Some-OfType.ensures.reads) c.from_residual-in_err-body-in-Some-OfType.ensures.1
 
 pub returns-then-not-adds-clause-reads : goal.returns-then-not-adds-clause-reads
 returns-then-not-adds-clause-reads g c =
-    let mid = g.S.TokenSource.items c.expect_keyword.new.source in
-    let (t, taken, at) = c.in_ok-expect_keyword.ensures in
     let (x, takes, is) = c.in_ok-body-in-Some-OfType.ensures.reads in
     let kind = c.in-Some-OfType.kind in
-    let seen = rw c.in-Some-OfType.field-0-is at c.in-Some-OfType.ensures in
-    let lead = of_type kind (of_body (past here (takes_one reading (keyword (codes "extend")) _ _ t refl taken)) (others_unseen kind (peek mid.tokens) seen).0) seen in
+    let lead = of_body kind (past here (took c.in_ok-expect_keyword.ensures.1 refl)) (rw c.in-Some-OfType.field-0-is at c.in-Some-OfType.ensures) in
     let same = is ∙ body_means kind x in
     let bad = ap adds (sym same) ∙ sym c.adds.ensures ∙ c.if-not-adds.true in
-    node_refused schemas refusals readable _ _ _ _ (Both (Leaf t) (First (Node type_body_symbol (place kind x)))) (lead.takes _ x takes) bad
+    node_refused schemas refusals readable _ _ _ _ _ (lead.takes _ x takes) bad
     (ap (λ (p : Place). Some (record { cause = empty_extension; place = p })) (sym (ap (λ (b : BodyTree). b.position) same)))
 
 pub returns-else-not-adds-clause-reads : goal.returns-else-not-adds-clause-reads
 returns-else-not-adds-clause-reads g c =
-    let mid = g.S.TokenSource.items c.expect_keyword.new.source in
-    let (t, taken, at) = c.in_ok-expect_keyword.ensures in
     let (x, takes, is) = c.in_ok-body-in-Some-OfType.ensures.reads in
     let kind = c.in-Some-OfType.kind in
-    let seen = rw c.in-Some-OfType.field-0-is at c.in-Some-OfType.ensures in
-    let lead = of_type kind (of_body (past here (takes_one reading (keyword (codes "extend")) _ _ t refl taken)) (others_unseen kind (peek mid.tokens) seen).0) seen in
+    let lead = of_body kind (past here (took c.in_ok-expect_keyword.ensures.1 refl)) (rw c.in-Some-OfType.field-0-is at c.in-Some-OfType.ensures) in
     let same = is ∙ body_means kind x in
-    node_passes schemas refusals _ _ _ _ _ (Both (Leaf t) (First (Node type_body_symbol (place kind x)))) (lead.takes _ x takes)
+    node_passes schemas refusals _ _ _ _ _ _ (lead.takes _ x takes)
     (ap adds (sym same) ∙ sym c.adds.ensures ∙ c.if-not-adds.false) (c.into_extension.ensures ∙ ap extension same)
 
 -- ---- of nothing
 
 pub returns-in-Some-Directive-clause-reads : goal.returns-in-Some-Directive-clause-reads
 returns-in-Some-Directive-clause-reads g c =
-    let old = g.S.TokenSource.items c.args.source.now in
-    let mid = g.S.TokenSource.items c.expect_keyword.new.source in
-    let (t, taken, at) = c.in_ok-expect_keyword.ensures in
     let seen = rw c.in-Some-Directive.field-0-is at c.in-Some-Directive.ensures in
-    node_stops schemas refusals extension_symbol old mid _ _ _ (not_extended old mid t taken (directive_extended mid.tokens seen)) refl
+    node_stops schemas refusals extension_symbol _ _ _ _ _ (not_extended c.in_ok-expect_keyword.ensures.1 (directive_extended _ seen)) refl
 
 pub returns-in-None-clause-reads : goal.returns-in-None-clause-reads
 returns-in-None-clause-reads g c =
-    let old = g.S.TokenSource.items c.args.source.now in
-    let mid = g.S.TokenSource.items c.expect_keyword.new.source in
-    let (t, taken, at) = c.in_ok-expect_keyword.ensures in
     let none = rw c.in-None.is at c.peek_keyword.ensures in
-    node_stops schemas refusals extension_symbol old mid _ _ _ (not_extended old mid t taken (none_extended mid.tokens none)) refl
+    node_stops schemas refusals extension_symbol _ _ _ _ _ (not_extended c.in_ok-expect_keyword.ensures.1 (none_extended _ none)) refl

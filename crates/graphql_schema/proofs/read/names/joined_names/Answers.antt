@@ -3,21 +3,18 @@ use Rattle.graphql_grammar.specs.Trees.{Leaf}
 use Rattle.graphql_core.specs.steps.Punctuators.{spelling_of}
 use Rattle.graphql_values.specs.Grammar as shared
 use Rattle.graphql_values.specs.Meanings.{spelling_at}
-use Rattle.graphql_values.proofs.Reading.{takes_one, adds_one}
-use Rattle.graphql_values.proofs.Steps.{before, error_in, error_one, pushes_none}
+use Rattle.graphql_values.proofs.Reading.{adds_one}
+use Rattle.graphql_values.proofs.Steps.{here, took, past, after, fails_last, lacks, pushes_none, turn_fails}
 use Rattle.graphql_schema_tree.specs.Meanings.{marked_of}
 use Rattle.graphql_schema.proofs.Dialect.{reading}
-use Rattle.graphql_schema.proofs.Lists.{as_written, turn_appends}
-use Rattle.graphql_schema.proofs.JoinedNames.{marked, after_mark, after_first, joined_taken, marked_stops}
+use Rattle.graphql_schema.specs.steps.Reads.{as_written}
+use Rattle.graphql_schema.proofs.Lists.{turn_appends}
+use Rattle.graphql_schema.proofs.JoinedNames.{marked, joined_taken}
 use Rattle.graphql_schema.proofs.read.names.joined_names.Goals as goal
 
 pub returns-in_err-expect_name-clause-reads : goal.returns-in_err-expect_name-clause-reads
 returns-in_err-expect_name-clause-reads g c =
-    let old = g.S.TokenSource.items c.args.source.now in
-    let mid = g.S.TokenSource.items c.optional_punctuator.new.source in
-    let new = g.S.TokenSource.items c.expect_name.new.source in
-    let (m, mark, none) = c.in_ok-optional_punctuator.ensures.reads in
-    error_one old mid new _ _ _ (before (after_mark _ mark)) c.in_err-expect_name.ensures c.from_residual-in_err-expect_name.ensures.1
+    lacks _ _ _ _ _ (after here c.in_ok-optional_punctuator.ensures.reads) c.in_err-expect_name.ensures c.from_residual-in_err-expect_name.ensures.1
 
 pub more-init : goal.more-init
 more-init g c = record {
@@ -37,15 +34,9 @@ more-preserved g c =
 
 pub returns-in_err-marked_name-clause-reads : goal.returns-in_err-marked_name-clause-reads
 returns-in_err-marked_name-clause-reads g c =
-    let old = g.S.TokenSource.items c.args.source.now in
-    let start = g.S.TokenSource.items c.expect_name.new.source in
-    let now = g.S.TokenSource.items c.more.source in
-    let new = g.S.TokenSource.items c.marked_name.new.source in
-    let (m, mark, none) = c.in_ok-optional_punctuator.ensures.reads in
-    let (t, named, spelled) = c.in_ok-expect_name.ensures in
-    error_in old start new _ _ _ (after_first _ _ start t mark named).stops
-    (marked_stops (spelling_of c.args.mark) shared.name spelling_at [] g.S.Names.Names.bytes start now new _ _ _ c.more.invariant.comes
-    (sym c.sees_punctuator.ensures ∙ c.more-test.true) c.in_err-marked_name.ensures.reads) c.from_residual-in_err-marked_name.ensures.1
+    let first = past (after here c.in_ok-optional_punctuator.ensures.reads) (took c.in_ok-expect_name.ensures.1 refl) in
+    let turn = turn_fails _ _ c.more.invariant.comes (sym c.sees_punctuator.ensures ∙ c.more-test.true) c.in_err-marked_name.ensures.reads in
+    fails_last _ _ _ _ first turn c.from_residual-in_err-marked_name.ensures.1
 
 pub returns-in_err-marked_name-clause-kept : goal.returns-in_err-marked_name-clause-kept
 returns-in_err-marked_name-clause-kept g c =
@@ -53,16 +44,10 @@ returns-in_err-marked_name-clause-kept g c =
 
 pub returns-clause-reads : goal.returns-clause-reads
 returns-clause-reads g c =
-    let old = g.S.TokenSource.items c.args.source.now in
-    let mid = g.S.TokenSource.items c.optional_punctuator.new.source in
-    let start = g.S.TokenSource.items c.expect_name.new.source in
-    let now = g.S.TokenSource.items c.more.source in
     let bytes = g.S.Names.Names.bytes in
-    let (m, mark, none) = c.in_ok-optional_punctuator.ensures.reads in
     let (t, named, spelled) = c.in_ok-expect_name.ensures in
-    rw c.shrink_list.ensures
-    (joined_taken (spelling_of c.args.mark) shared.name spelling_at [] bytes old mid start now _ _ _ m mark
-    (Leaf t, takes_one reading _ _ _ t refl named, adds_one bytes _ _ _ t.spelling c.in_ok-push.ensures.items (sym spelled))
+    rw c.shrink_list.ensures (joined_taken (spelling_of c.args.mark) shared.name spelling_at [] bytes _ c.in_ok-optional_punctuator.ensures.reads
+    (Leaf t, took named refl, adds_one bytes _ _ _ t.spelling c.in_ok-push.ensures.items (sym spelled))
     c.more.invariant.comes (sym c.sees_punctuator.ensures ∙ c.more-test.false))
 
 pub returns-clause-kept : goal.returns-clause-kept

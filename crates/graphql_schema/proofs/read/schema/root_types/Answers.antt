@@ -1,12 +1,13 @@
 use Rattle.std.proofs.Common.{◌≡◌, ◌∙◌, [], ◌∷◌, ◌++◌, List, arith, refl, sym, subst, append_assoc, append-nil}
 use Rattle.graphql_grammar.specs.Tokens.{Token}
-use Rattle.graphql_grammar.specs.Trees.{Many, Sym, peek}
+use Rattle.graphql_grammar.specs.Trees.{Sym, peek}
 use Rattle.graphql_grammar.specs.Tables.{first}
 use Rattle.graphql_grammar.specs.Reading.{sees}
 use Rattle.graphql_grammar.proofs.ReaderSteps.{Turns-start, Turns-more, Turns-stop, Stops-turn}
 use Rattle.graphql_lexer.specs.declared.tokenizer.token.Kind.TheVariants.{Name}
 use Rattle.graphql_values.specs.Grammar.{any, tables as core_tables}
-use Rattle.graphql_values.proofs.Reading.{one_of, gives_error}
+use Rattle.graphql_values.proofs.Reading.{one_of}
+use Rattle.graphql_values.proofs.Steps.{here, fails_last}
 use Rattle.graphql_schema_tree.specs.Grammar.{tables, root_type_symbol}
 use Rattle.graphql_schema.specs.steps.Roots.{Root, root_at, HasRoots}
 use Rattle.graphql_schema.proofs.Dialect.{reading}
@@ -46,13 +47,13 @@ more-preserved g c =
 pub returns-in_err-root_type-clause-reads : goal.returns-in_err-root_type-clause-reads
 returns-in_err-root_type-clause-reads g c =
     let (new, turns, has) = c.more.invariant.roots in
-    gives_error reading (Many (Sym root_type_symbol)) (g.S.TokenSource.items c.args.source.now) (g.S.TokenSource.items c.root_type.new.source) _ _ _
-    (Stops-turn reading _ (one_of turn_of) _ _ _ new _ turns (begins _ ∙ sym c.sees_name.ensures ∙ c.more-test.true) c.in_err-root_type.ensures.reads)
-    c.from_residual.ensures.1
+    let seen = begins _ ∙ sym c.sees_name.ensures ∙ c.more-test.true in
+    let turn = Stops-turn reading _ (one_of turn_of) _ _ _ new _ turns seen c.in_err-root_type.ensures.reads in
+    fails_last _ _ _ _ here turn c.from_residual.ensures.1
 
 pub returns-clause-reads : goal.returns-clause-reads
 returns-clause-reads g c =
     let (new, turns, has) = c.more.invariant.roots in
     let (x, takes, is) = Turns-stop reading _ (one_of turn_of) _ _ new turns (begins _ ∙ sym c.sees_name.ensures ∙ c.more-test.false) in
-    let same = sym is ∙ sym (each_means (Sym root_type_symbol) root_at (λ (r : Root). r) takes) in
+    let same = sym is ∙ sym (each_means (Sym root_type_symbol) root_at takes) in
     (x, takes, λ rs h. subst (λ (l : List Root). HasRoots g.S.Names.Names.bytes c.more.roots (rs ++ l)) same (has rs h))

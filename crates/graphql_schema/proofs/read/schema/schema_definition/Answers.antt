@@ -1,90 +1,69 @@
-use Rattle.std.proofs.Common.{[], ◌∙◌, Some, option_map, ap, refl, sym, codes}
+use Rattle.std.proofs.Common.{[], ◌∙◌, Some, option_map, ap, refl, sym}
 use Rattle.graphql_grammar.specs.Tokens.{Place}
-use Rattle.graphql_grammar.specs.Trees.{Sym, Leaf, Both}
 use Rattle.graphql_grammar.specs.Factored.{written}
 use Rattle.graphql_core.specs.Causes.{cause_text}
-use Rattle.graphql_values.specs.Grammar.{keyword, directives_symbol}
 use Rattle.graphql_values.specs.ValueViews.{directive_view}
-use Rattle.graphql_values.proofs.Reading.{takes_one, fills}
+use Rattle.graphql_values.proofs.Reading.{fills}
 use Rattle.graphql_values.proofs.Refusing.{node_stops, node_lacks, node_passes, node_refused}
-use Rattle.graphql_values.proofs.Steps.{here, before, past}
+use Rattle.graphql_values.proofs.Steps.{here, before, took, past, after}
 use Rattle.graphql_schema_tree.specs.Grammar.{changes}
 use Rattle.graphql_schema_tree.specs.Language.{schemas}
 use Rattle.graphql_schema_tree.specs.Roots.{root_fault, roots_of}
 use Rattle.graphql_schema_tree.proofs.Readable.{readable}
 use Rattle.graphql_schema.specs.steps.Refusals.{refusals}
-use Rattle.graphql_schema.proofs.Dialect.{reading, stops_lifted, some_lifted}
+use Rattle.graphql_schema.proofs.Dialect.{lifted, stops_lifted}
 use Rattle.graphql_schema.proofs.RootNames.{all_roots, told_at, fault_told, none_told}
 use Rattle.graphql_schema.proofs.read.schema.schema_definition.Goals as goal
 
 pub returns-in_err-position-clause-reads : goal.returns-in_err-position-clause-reads
 returns-in_err-position-clause-reads g c =
-    node_lacks schemas refusals _ _ _ (g.S.TokenSource.items c.args.source.now) _ _ _ (before here) c.in_err-position.ensures c.from_residual.ensures.1
+    node_lacks schemas refusals _ _ _ _ _ _ _ (before here) c.in_err-position.ensures c.from_residual.ensures.1
 
 pub returns-in_err-directives-clause-reads : goal.returns-in_err-directives-clause-reads
 returns-in_err-directives-clause-reads g c =
-    let (t, taken, at) = c.in_ok-position.ensures in
-    let lead = past here (takes_one reading (keyword (codes "schema")) _ _ t refl taken) in
-    node_stops schemas refusals _ _ _ _ _ _ (before lead _ _ (stops_lifted (Sym directives_symbol) refl refl _ _ _ c.in_err-directives.ensures.reads))
+    let keyword = past here (took c.in_ok-position.ensures.1 refl) in
+    node_stops schemas refusals _ _ _ _ _ _ (before keyword _ _ (stops_lifted _ refl refl _ _ _ c.in_err-directives.ensures.reads))
     c.from_residual-in_err-directives.ensures.1
 
 pub returns-in_err-expect_punctuator-clause-reads : goal.returns-in_err-expect_punctuator-clause-reads
 returns-in_err-expect_punctuator-clause-reads g c =
-    let (t, taken, at) = c.in_ok-position.ensures in
-    let (ds, directed, added) = some_lifted (Sym directives_symbol) refl refl _ _ _ c.in_ok-directives.ensures.reads in
-    let lead = past (past here (takes_one reading (keyword (codes "schema")) _ _ t refl taken)) directed in
-    node_lacks schemas refusals _ _ _ (g.S.TokenSource.items c.directives.new.source) _ _ _ (before lead) c.in_err-expect_punctuator.ensures
-    c.from_residual-in_err-expect_punctuator.ensures.1
+    let directed = after (past here (took c.in_ok-position.ensures.1 refl)) (lifted refl refl c.in_ok-directives.ensures.reads) in
+    node_lacks schemas refusals _ _ _ _ _ _ _ (before directed) c.in_err-expect_punctuator.ensures c.from_residual-in_err-expect_punctuator.ensures.1
 
 pub returns-in_err-root_types-clause-reads : goal.returns-in_err-root_types-clause-reads
 returns-in_err-root_types-clause-reads g c =
-    let (t, taken, at) = c.in_ok-position.ensures in
-    let (ds, directed, added) = some_lifted (Sym directives_symbol) refl refl _ _ _ c.in_ok-directives.ensures.reads in
-    let (o, opened, at') = c.in_ok-expect_punctuator.ensures in
-    let lead = past (past (past here (takes_one reading (keyword (codes "schema")) _ _ t refl taken)) directed) (takes_one reading _ _ _ o refl opened) in
-    node_stops schemas refusals _ _ _ _ _ _ (before lead _ _ c.in_err-root_types.ensures.reads) c.from_residual-in_err-root_types.ensures.1
+    let directed = after (past here (took c.in_ok-position.ensures.1 refl)) (lifted refl refl c.in_ok-directives.ensures.reads) in
+    let opened = past directed (took c.in_ok-expect_punctuator.ensures.1 refl) in
+    node_stops schemas refusals _ _ _ _ _ _ (before opened _ _ c.in_err-root_types.ensures.reads) c.from_residual-in_err-root_types.ensures.1
 
 pub returns-in_err-expect_punctuator-2-clause-reads : goal.returns-in_err-expect_punctuator-2-clause-reads
 returns-in_err-expect_punctuator-2-clause-reads g c =
-    let (t, taken, at) = c.in_ok-position.ensures in
-    let (ds, directed, added) = some_lifted (Sym directives_symbol) refl refl _ _ _ c.in_ok-directives.ensures.reads in
-    let (o, opened, at') = c.in_ok-expect_punctuator.ensures in
-    let (rs, rooted, has) = c.in_ok-root_types.ensures.reads in
-    let lead =
-    past (past (past (past here (takes_one reading (keyword (codes "schema")) _ _ t refl taken)) directed) (takes_one reading _ _ _ o refl opened)) rooted in
-    node_lacks schemas refusals _ _ _ (g.S.TokenSource.items c.root_types.new.source) _ _ _ lead.stops c.in_err-expect_punctuator-2.ensures
-    c.from_residual-in_err-expect_punctuator-2.ensures.1
+    let directed = after (past here (took c.in_ok-position.ensures.1 refl)) (lifted refl refl c.in_ok-directives.ensures.reads) in
+    let rooted = after (past directed (took c.in_ok-expect_punctuator.ensures.1 refl)) c.in_ok-root_types.ensures.reads in
+    node_lacks schemas refusals _ _ _ _ _ _ _ rooted.stops c.in_err-expect_punctuator-2.ensures c.from_residual-in_err-expect_punctuator-2.ensures.1
 
 pub returns-in-Some-clause-reads : goal.returns-in-Some-clause-reads
 returns-in-Some-clause-reads g c =
     let (t, taken, at) = c.in_ok-position.ensures in
-    let (ds, directed, added) = some_lifted (Sym directives_symbol) refl refl _ _ _ c.in_ok-directives.ensures.reads in
-    let (o, opened, at') = c.in_ok-expect_punctuator.ensures in
     let (rs, rooted, has) = c.in_ok-root_types.ensures.reads in
-    let (e, closed, at'') = c.in_ok-expect_punctuator-2.ensures in
+    let directed = after (past here (took taken refl)) (lifted refl refl c.in_ok-directives.ensures.reads) in
+    let lead = past (past directed (took c.in_ok-expect_punctuator.ensures.1 refl)) rooted in
     let are = all_roots g.S.Names.Names.bytes _ rooted (has [] c.no_roots-roots.ensures) in
-    let lead =
-    past (past (past (past here (takes_one reading (keyword (codes "schema")) _ _ t refl taken)) directed) (takes_one reading _ _ _ o refl opened)) rooted in
-    let whole = lead.takes _ (Leaf e) (takes_one reading _ _ _ e refl closed) in
     let (bad, said) = fault_told c.in-Some.cause (root_fault [] (roots_of (written changes rs))) t.place
     (ap (option_map cause_text) (sym c.in-Some.is) ∙ are.fault) in
-    node_refused schemas refusals readable _ _ _ _ (Both (Leaf t) (Both ds (Both (Leaf o) (Both rs (Leaf e))))) whole bad
+    node_refused schemas refusals readable _ _ _ _ _ (lead.takes _ _ (took c.in_ok-expect_punctuator-2.ensures.1 refl)) bad
     (said ∙ ap (λ (p : Place). Some (told_at (cause_text c.in-Some.cause) p)) at)
 
 pub returns-in-None-clause-reads : goal.returns-in-None-clause-reads
 returns-in-None-clause-reads g c =
     let (t, taken, at) = c.in_ok-position.ensures in
-    let (ds, directed, added) = some_lifted (Sym directives_symbol) refl refl _ _ _ c.in_ok-directives.ensures.reads in
-    let (o, opened, at') = c.in_ok-expect_punctuator.ensures in
+    let (ds, directed, added) = lifted refl refl c.in_ok-directives.ensures.reads in
     let (rs, rooted, has) = c.in_ok-root_types.ensures.reads in
-    let (e, closed, at'') = c.in_ok-expect_punctuator-2.ensures in
+    let lead = past (past (past (past here (took taken refl)) directed) (took c.in_ok-expect_punctuator.ensures.1 refl)) rooted in
     let are = all_roots g.S.Names.Names.bytes _ rooted (has [] c.no_roots-roots.ensures) in
-    let lead =
-    past (past (past (past here (takes_one reading (keyword (codes "schema")) _ _ t refl taken)) directed) (takes_one reading _ _ _ o refl opened)) rooted in
     let (good, none) = none_told (root_fault [] (roots_of (written changes rs))) (ap (option_map cause_text) (sym c.in-None.is) ∙ are.fault) in
     let all = fills (directive_view g.S.Names.Names.bytes) _ _ _ c.new-directives.ensures.items added in
-    node_passes schemas refusals _ _ _ _ _ (Both (Leaf t) (Both ds (Both (Leaf o) (Both rs (Leaf e)))))
-    (lead.takes _ (Leaf e) (takes_one reading _ _ _ e refl closed)) good
+    node_passes schemas refusals _ _ _ _ _ _ (lead.takes _ _ (took c.in_ok-expect_punctuator-2.ensures.1 refl)) good
     (λ k. record {
       position = sym at k;
       directives = all k;

@@ -1,4 +1,4 @@
-use Rattle.std.proofs.Common.{◌-◌, ◌∙◌, IsUtf8, arith, drop, length-drop, subst, sym, take, take_all}
+use Rattle.std.proofs.Common.{◌-◌, ◌∙◌, IsUtf8, arith, drop, length-drop, subst, sym, take_all}
 use Rattle.std.proofs.lemmas.Fmt.{IsAscii-decimal}
 use Rattle.std.proofs.lemmas.Str.{IsUtf8-from_ascii}
 use Rattle.graphql_values.proofs.print.integers.write_digits.Goals as goal

@@ -1,6 +1,6 @@
 use Rattle.std.proofs.Common.{refl, sym, ap, ◌∙◌, Some}
 use Rattle.graphql_grammar.specs.Trees.{First, Second, Nothing}
-use Rattle.graphql_values.proofs.Steps.{error_in}
+use Rattle.graphql_values.proofs.Steps.{leads_in, fails_last}
 use Rattle.graphql_values.proofs.ValueAlternatives.{some_default, no_default}
 use Rattle.graphql_values.proofs.read.directives.optional_default.Goals as goal
 
@@ -9,9 +9,8 @@ returns-then-not-sees_punctuator-clause-reads g c = (Second Nothing, no_default 
 
 pub returns-in_err-default_value-clause-reads : goal.returns-in_err-default_value-clause-reads
 returns-in_err-default_value-clause-reads g c =
-    let old = g.S.TokenSource.items c.args.source.now in
-    error_in old old (g.S.TokenSource.items c.default_value.new.source) _ _ _
-    (some_default old.tokens (sym c.sees_punctuator.ensures ∙ c.if-not-sees_punctuator.false)).stops c.in_err-default_value.ensures.reads c.from_residual.ensures.1
+    let side = some_default _ (sym c.sees_punctuator.ensures ∙ c.if-not-sees_punctuator.false) in
+    fails_last _ _ _ _ (leads_in side) c.in_err-default_value.ensures.reads c.from_residual.ensures.1
 
 pub returns-clause-reads : goal.returns-clause-reads
 returns-clause-reads g c =

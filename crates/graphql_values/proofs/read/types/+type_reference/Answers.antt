@@ -1,44 +1,32 @@
 use Rattle.std.proofs.Common.{refl, sym, ap, ◌∙◌}
 use Rattle.graphql_grammar.specs.Trees.{Leaf, Both, First, Second, Node}
 use Rattle.graphql_grammar.specs.Reading.{takes_both}
-use Rattle.graphql_grammar.proofs.ReaderSteps.{Stops-before, Stops-after}
+use Rattle.graphql_grammar.proofs.ReaderSteps.{Stops-after}
 use Rattle.graphql_values.specs.Grammar.{shared, type_symbol}
 use Rattle.graphql_values.specs.Meanings.{optional_non_null}
 use Rattle.graphql_values.specs.Values.{named, list_of}
 use Rattle.graphql_values.specs.ValueViews.{type_view}
 use Rattle.graphql_values.proofs.ValueAlternatives.{named_side, list_type_side}
-use Rattle.graphql_values.proofs.Reading.{takes_one, stops_one, gives_then, gives_error}
+use Rattle.graphql_values.proofs.Reading.{takes_one, gives_then}
+use Rattle.graphql_values.proofs.Steps.{leads_in, took, past, after, fails, lacks}
 use Rattle.graphql_values.proofs.Views.{named_made, list_type_made}
 use Rattle.graphql_values.proofs.read.types.+type_reference.Goals as goal
 
 pub returns-in_err-items-clause-reads : goal.returns-in_err-items-clause-reads
 returns-in_err-items-clause-reads g t c =
-    let items = g.S.TokenSource.items in
-    let before = takes_one shared _ _ _ _ refl c.in_ok-expect_punctuator.ensures.1 in
-    gives_error shared _ (items c.args.source.now) (items c.type_reference.new.source) _ _ _
-    ((list_type_side _ (sym c.sees_punctuator.ensures ∙ c.if-sees_punctuator.true)).stops _ _
-    (Stops-after shared _ _ _ _ _ _ _ before (Stops-before shared _ _ _ _ _ c.in_err-items.ensures.reads)))
-    c.from_residual-in_err-items.ensures.1
+    let side = leads_in (list_type_side _ (sym c.sees_punctuator.ensures ∙ c.if-sees_punctuator.true)) in
+    fails _ _ _ _ (past side (took c.in_ok-expect_punctuator.ensures.1 refl)) c.in_err-items.ensures.reads c.from_residual-in_err-items.ensures.1
 
 pub returns-in_err-expect_punctuator-2-clause-reads : goal.returns-in_err-expect_punctuator-2-clause-reads
 returns-in_err-expect_punctuator-2-clause-reads g t c =
-    let items = g.S.TokenSource.items in
-    let before = takes_one shared _ _ _ _ refl c.in_ok-expect_punctuator.ensures.1 in
-    let (x, takes, view) = c.in_ok-items.ensures.reads in
-    let stops = Stops-before shared _ _ _ _ _
-    (stops_one shared _ (items c.type_reference.new.source) (items c.expect_punctuator-then-sees_punctuator.new.source) _ c.in_err-expect_punctuator-2.ensures) in
-    gives_error shared _ (items c.args.source.now) (items c.expect_punctuator-then-sees_punctuator.new.source) _ _ _
-    ((list_type_side _ (sym c.sees_punctuator.ensures ∙ c.if-sees_punctuator.true)).stops _ _
-    (Stops-after shared _ _ _ _ _ _ _ before (Stops-after shared _ _ _ _ _ _ _ takes stops)))
+    let side = leads_in (list_type_side _ (sym c.sees_punctuator.ensures ∙ c.if-sees_punctuator.true)) in
+    lacks _ _ _ _ _ (after (past side (took c.in_ok-expect_punctuator.ensures.1 refl)) c.in_ok-items.ensures.reads) c.in_err-expect_punctuator-2.ensures
     c.from_residual-in_err-expect_punctuator-2.ensures.1
 
 pub returns-in_err-name-clause-reads : goal.returns-in_err-name-clause-reads
 returns-in_err-name-clause-reads g t c =
-    let items = g.S.TokenSource.items in
-    gives_error shared _ (items c.args.source.now) (items c.expect_name.new.source) _ _ _
-    ((named_side _ (sym c.sees_punctuator.ensures ∙ c.if-sees_punctuator.false)).stops _ _
-    (Stops-before shared _ _ _ _ _ (stops_one shared _ (items c.args.source.now) (items c.expect_name.new.source) _ c.in_err-name.ensures)))
-    c.from_residual-in_err-name.ensures.1
+    let side = leads_in (named_side _ (sym c.sees_punctuator.ensures ∙ c.if-sees_punctuator.false)) in
+    lacks _ _ _ _ _ side c.in_err-name.ensures c.from_residual-in_err-name.ensures.1
 
 pub returns-then-sees_punctuator-clause-reads : goal.returns-then-sees_punctuator-clause-reads
 returns-then-sees_punctuator-clause-reads g t c =

@@ -1,7 +1,6 @@
 use Rattle.std.proofs.Common.{refl, sym, ap, ap₂, ◌∙◌, [], ◌++◌, arith, append-nil, codes}
-use Rattle.graphql_grammar.specs.Trees.{Leaf, Both, Node}
-use Rattle.graphql_grammar.specs.Reading.{takes_both}
-use Rattle.graphql_grammar.proofs.ReaderSteps.{Stops-before, Stops-after, Stops-turn, Turns-start, Turns-more, Turns-stop}
+use Rattle.graphql_grammar.specs.Trees.{Leaf}
+use Rattle.graphql_grammar.proofs.ReaderSteps.{Stops-turn, Turns-start, Turns-more, Turns-stop}
 use Rattle.graphql_values.specs.Grammar.{shared, mark}
 use Rattle.graphql_values.specs.Meanings.{put_all}
 use Rattle.graphql_values.specs.steps.Constness.{pair_symbol_of, tree_of, pair_of, as_variable, as_plain, as_list, as_object}
@@ -10,7 +9,8 @@ use Rattle.graphql_values.specs.ValueViews.{value_view, items_of, members_view}
 use Rattle.graphql_values.proofs.ValueAlternatives.{variable_side, list_side, object_side, plain_side, pair_side, plain_means, list_means, object_means}
 use Rattle.graphql_values.proofs.ValueAlternatives.{pair_means, unseen_value, ends_list, begins_pair, put_more, trees_means, pairs_means}
 use Rattle.graphql_values.proofs.ObjectMembers.{view_insert}
-use Rattle.graphql_values.proofs.Reading.{takes_one, stops_one, stops_until, takes_seen, gives_error, one_of, adds_one, adds_more, fills}
+use Rattle.graphql_values.proofs.Reading.{stops_until, takes_seen, one_of, adds_one, adds_more, fills}
+use Rattle.graphql_values.proofs.Steps.{leads_in, here, took, past, whole, fails, fails_last, lacks, lacks_last}
 use Rattle.graphql_values.proofs.Alternatives.{gives_side}
 use Rattle.graphql_values.proofs.Views.{list_made, object_made}
 use Rattle.graphql_values.proofs.read.values.+values.Goals as goal
@@ -46,10 +46,7 @@ value_of_sort-returns-clause-reads g t c =
 -- ---- list
 
 pub list-returns-in_err-expect_punctuator-clause-reads : goal.list-returns-in_err-expect_punctuator-clause-reads
-list-returns-in_err-expect_punctuator-clause-reads g t c =
-    let old = g.S.TokenSource.items c.args.source.now in
-    let new = g.S.TokenSource.items c.expect_punctuator.new.source in
-    gives_error shared _ old new _ _ _ (Stops-before shared _ _ _ _ _ (stops_one shared _ old new _ c.in_err-expect_punctuator.ensures)) c.from_residual.ensures.1
+list-returns-in_err-expect_punctuator-clause-reads g t c = lacks _ _ _ _ _ here c.in_err-expect_punctuator.ensures c.from_residual.ensures.1
 
 pub list-more-init : goal.list-more-init
 list-more-init g t c = record { turns = ([], Turns-start shared _ (one_of (tree_of c.args.sort)) _, sym (append-nil _)); kept = refl; within = omega arith }
@@ -71,12 +68,10 @@ list-more-preserved g t c =
 
 pub list-returns-in_err-value_of_sort-clause-reads : goal.list-returns-in_err-value_of_sort-clause-reads
 list-returns-in_err-value_of_sort-clause-reads g t c =
-    let before = takes_one shared _ _ _ _ refl c.in_ok-expect_punctuator.ensures.1 in
     let (items, turns, views) = c.more.invariant.turns in
-    gives_error shared _ (g.S.TokenSource.items c.args.source.now) (g.S.TokenSource.items c.value_of_sort.new.source) _ _ _
-    (Stops-after shared _ _ _ _ _ _ _ before
+    fails_last _ _ _ _ (past here (took c.in_ok-expect_punctuator.ensures.1 refl))
     (stops_until shared _ (mark (codes "]")) (one_of (tree_of c.args.sort)) _ _ _ items _ (unseen_value c.args.sort _) turns
-    (sym c.sees_punctuator.ensures ∙ c.more-test.true) c.in_err-value_of_sort.ensures.reads))
+    (sym c.sees_punctuator.ensures ∙ c.more-test.true) c.in_err-value_of_sort.ensures.reads)
     c.from_residual-in_err-value_of_sort.ensures.1
 
 pub list-returns-clause-reads : goal.list-returns-clause-reads
@@ -87,20 +82,15 @@ list-returns-clause-reads g t c =
     let (o, opens, at) = c.in_ok-expect_punctuator.ensures in
     let (e, ends, until) = c.in_ok-expect_punctuator-2.ensures in
     let (items, turns, views) = c.more.invariant.turns in
-    let r = Turns-stop shared _ (one_of f) _ _ items turns (ends_list s _ (sym c.sees_punctuator.ensures ∙ c.more-test.false)) in (
-      Both (Leaf o) (Both r.0 (Leaf e)),
-      takes_both (takes_one shared _ _ _ o refl opens) (takes_both r.1 (takes_one shared _ _ _ e refl ends)),
-      list_made _ _ bytes _ ∙ ap list (ap items_of (fills (value_view bytes) _ _ items c.new-items.ensures.items views ∙ sym r.2) ∙ sym (trees_means s r.1))
-          ∙ sym (list_means s (Leaf o) r.0 (Leaf e)),
-    )
+    let r = Turns-stop shared _ (one_of f) _ _ items turns (ends_list s _ (sym c.sees_punctuator.ensures ∙ c.more-test.false)) in
+    whole (past (past here (took opens refl)) r.1) (took ends refl)
+    (list_made _ _ bytes _ ∙ ap list (ap items_of (fills (value_view bytes) _ _ items c.new-items.ensures.items views ∙ sym r.2) ∙ sym (trees_means s r.1))
+    ∙ sym (list_means s (Leaf o) r.0 (Leaf e)))
 
 -- ---- object
 
 pub object-returns-in_err-expect_punctuator-clause-reads : goal.object-returns-in_err-expect_punctuator-clause-reads
-object-returns-in_err-expect_punctuator-clause-reads g t c =
-    let old = g.S.TokenSource.items c.args.source.now in
-    let new = g.S.TokenSource.items c.expect_punctuator.new.source in
-    gives_error shared _ old new _ _ _ (Stops-before shared _ _ _ _ _ (stops_one shared _ old new _ c.in_err-expect_punctuator.ensures)) c.from_residual.ensures.1
+object-returns-in_err-expect_punctuator-clause-reads g t c = lacks _ _ _ _ _ here c.in_err-expect_punctuator.ensures c.from_residual.ensures.1
 
 pub object-more-init : goal.object-more-init
 object-more-init g t c = record { turns = ([], Turns-start shared _ (one_of (pair_of c.args.sort)) _, refl); kept = refl; within = omega arith }
@@ -122,24 +112,17 @@ object-more-preserved g t c =
 
 pub object-returns-in_err-member-clause-reads : goal.object-returns-in_err-member-clause-reads
 object-returns-in_err-member-clause-reads g t c =
-    let before = takes_one shared _ _ _ _ refl c.in_ok-expect_punctuator.ensures.1 in
     let (pairs, turns, views) = c.more.invariant.turns in
-    gives_error shared _ (g.S.TokenSource.items c.args.source.now) (g.S.TokenSource.items c.member.new.source) _ _ _
-    (Stops-after shared _ _ _ _ _ _ _ before
-    (Stops-before shared _ _ _ _ _
+    fails _ _ _ _ (past here (took c.in_ok-expect_punctuator.ensures.1 refl))
     (Stops-turn shared _ (one_of (pair_of c.args.sort)) _ _ _ pairs _ turns
-    (begins_pair c.args.sort _ ∙ sym c.sees_name.ensures ∙ c.more-test.true) c.in_err-member.ensures.reads)))
+    (begins_pair c.args.sort _ ∙ sym c.sees_name.ensures ∙ c.more-test.true) c.in_err-member.ensures.reads)
     c.from_residual-in_err-member.ensures.1
 
 pub object-returns-in_err-expect_punctuator-2-clause-reads : goal.object-returns-in_err-expect_punctuator-2-clause-reads
 object-returns-in_err-expect_punctuator-2-clause-reads g t c =
-    let now = g.S.TokenSource.items c.more.source in
-    let new = g.S.TokenSource.items c.expect_punctuator-2.new.source in
-    let before = takes_one shared _ _ _ _ refl c.in_ok-expect_punctuator.ensures.1 in
     let (pairs, turns, views) = c.more.invariant.turns in
     let r = Turns-stop shared _ (one_of (pair_of c.args.sort)) _ _ pairs turns (begins_pair c.args.sort _ ∙ sym c.sees_name.ensures ∙ c.more-test.false) in
-    gives_error shared _ (g.S.TokenSource.items c.args.source.now) new _ _ _
-    (Stops-after shared _ _ _ _ _ _ _ before (Stops-after shared _ _ _ _ _ _ _ r.1 (stops_one shared _ now new _ c.in_err-expect_punctuator-2.ensures)))
+    lacks_last _ _ _ _ _ (past (past here (took c.in_ok-expect_punctuator.ensures.1 refl)) r.1) c.in_err-expect_punctuator-2.ensures
     c.from_residual-in_err-expect_punctuator-2.ensures.1
 
 pub object-returns-clause-reads : goal.object-returns-clause-reads
@@ -150,42 +133,23 @@ object-returns-clause-reads g t c =
     let (e, ends, until) = c.in_ok-expect_punctuator-2.ensures in
     let (pairs, turns, views) = c.more.invariant.turns in
     let r = Turns-stop shared _ (one_of (pair_of s)) _ _ pairs turns (begins_pair s _ ∙ sym c.sees_name.ensures ∙ c.more-test.false) in
-    let fields = views ∙ ap₂ put_all (sym (pairs_means s r.1 ∙ r.2)) (ap (members_view bytes) c.new-fields.ensures.empty) in (
-      Both (Leaf o) (Both r.0 (Leaf e)),
-      takes_both (takes_one shared _ _ _ o refl opens) (takes_both r.1 (takes_one shared _ _ _ e refl ends)),
-      object_made _ _ bytes _ ∙ ap object fields ∙ sym (object_means s (Leaf o) r.0 (Leaf e)),
-    )
+    let fields = views ∙ ap₂ put_all (sym (pairs_means s r.1 ∙ r.2)) (ap (members_view bytes) c.new-fields.ensures.empty) in
+    whole (past (past here (took opens refl)) r.1) (took ends refl) (object_made _ _ bytes _ ∙ ap object fields ∙ sym (object_means s (Leaf o) r.0 (Leaf e)))
 
 -- ---- member
 
 pub member-returns-in_err-name-clause-reads : goal.member-returns-in_err-name-clause-reads
-member-returns-in_err-name-clause-reads g t c =
-    let old = g.S.TokenSource.items c.args.source.now in
-    let new = g.S.TokenSource.items c.expect_name.new.source in
-    gives_error shared _ old new _ _ _
-    ((pair_side c.args.sort old.tokens).stops _ _
-    (Stops-before shared _ _ _ _ _ (stops_one shared _ old new _ c.in_err-name.ensures))) c.from_residual.ensures.1
+member-returns-in_err-name-clause-reads g t c = lacks _ _ _ _ _ (leads_in (pair_side c.args.sort _)) c.in_err-name.ensures c.from_residual.ensures.1
 
 pub member-returns-in_err-expect_punctuator-clause-reads : goal.member-returns-in_err-expect_punctuator-clause-reads
 member-returns-in_err-expect_punctuator-clause-reads g t c =
-    let old = g.S.TokenSource.items c.args.source.now in
-    let new = g.S.TokenSource.items c.expect_punctuator.new.source in
-    let named = takes_one shared _ _ _ _ refl c.in_ok-name.ensures.1 in
-    gives_error shared _ old new _ _ _
-    ((pair_side c.args.sort old.tokens).stops _ _
-    (Stops-after shared _ _ _ _ _ _ _ named
-    (Stops-before shared _ _ _ _ _ (stops_one shared _ (g.S.TokenSource.items c.expect_name.new.source) new _ c.in_err-expect_punctuator.ensures))))
-    c.from_residual-in_err-expect_punctuator.ensures.1
+    let named = past (leads_in (pair_side c.args.sort _)) (took c.in_ok-name.ensures.1 refl) in
+    lacks _ _ _ _ _ named c.in_err-expect_punctuator.ensures c.from_residual-in_err-expect_punctuator.ensures.1
 
 pub member-returns-in_err-value-clause-reads : goal.member-returns-in_err-value-clause-reads
 member-returns-in_err-value-clause-reads g t c =
-    let old = g.S.TokenSource.items c.args.source.now in
-    let named = takes_one shared _ _ _ _ refl c.in_ok-name.ensures.1 in
-    let before = takes_one shared _ _ _ _ refl c.in_ok-expect_punctuator.ensures.1 in
-    gives_error shared _ old (g.S.TokenSource.items c.value_of_sort.new.source) _ _ _
-    ((pair_side c.args.sort old.tokens).stops _ _
-    (Stops-after shared _ _ _ _ _ _ _ named (Stops-after shared _ _ _ _ _ _ _ before c.in_err-value.ensures.reads)))
-    c.from_residual-in_err-value.ensures.1
+    let named = past (leads_in (pair_side c.args.sort _)) (took c.in_ok-name.ensures.1 refl) in
+    fails_last _ _ _ _ (past named (took c.in_ok-expect_punctuator.ensures.1 refl)) c.in_err-value.ensures.reads c.from_residual-in_err-value.ensures.1
 
 pub member-returns-clause-reads : goal.member-returns-clause-reads
 member-returns-clause-reads g t c =
@@ -195,8 +159,6 @@ member-returns-clause-reads g t c =
     let (m, marks, until) = c.in_ok-expect_punctuator.ensures in
     let (x, takes, view) = c.in_ok-value.ensures.reads in
     let inserted = ap (members_view bytes) c.in_ok-insert.ensures.entries ∙ view_insert bytes g.S.Names.Value.Ord.cmp g.met.S.Names.Names.cmp_by_bytes _ _ _ in
-    let pair = ap₂ (λ a b. (a, b)) (sym spelled) view ∙ sym (pair_means s (pair_symbol_of s) (Leaf n) (Leaf m) x) in (
-      Node (pair_symbol_of s) (Both (Leaf n) (Both (Leaf m) x)),
-      (pair_side s _).takes _ _ (takes_both (takes_one shared _ _ _ n refl named) (takes_both (takes_one shared _ _ _ m refl marks) takes)),
-      inserted ∙ ap (λ p. put p.0 p.1 (members_view bytes c.args.fields.now.entries)) pair,
-    )
+    let pair = ap₂ (λ a b. (a, b)) (sym spelled) view ∙ sym (pair_means s (pair_symbol_of s) (Leaf n) (Leaf m) x) in
+    whole (past (past (leads_in (pair_side s _)) (took named refl)) (took marks refl)) takes
+    (inserted ∙ ap (λ p. put p.0 p.1 (members_view bytes c.args.fields.now.entries)) pair)

@@ -1,0 +1,35 @@
+-- Operations with a keyword: which it is, and what is seen of the body after it.
+use Rattle.std.specs.Prelude.{◌≡◌, ℕ, List, Option, Some, None, true, false}
+use Rattle.graphql_grammar.specs.Tokens.{Class}
+use Rattle.graphql_grammar.specs.Trees.{Expr, One, Then, Sym}
+use Rattle.graphql_core.specs.Source.{Items}
+use Rattle.graphql_core.specs.steps.Matching.{sees_class}
+use Rattle.graphql_values.specs.Grammar.{keyword}
+use Rattle.graphql_query.specs.declared.read.keyword.Keyword.{Keyword}
+use Rattle.graphql_query.specs.declared.read.keyword.Keyword.TheVariants.{Query, Mutation, Subscription}
+use Rattle.graphql_query.specs.declared.read.operation.OperationBody.{OperationBody}
+use Rattle.graphql_query_tree.specs.Grammar.{operation_body_symbol}
+use Rattle.graphql_query_tree.specs.Layout as layout
+use Rattle.graphql_query_tree.specs.Tree.{OperationKind, query_kind, mutation_kind, subscription_kind, OperationBodyTree, body_view}
+
+abbrev pub kind_of : Keyword → OperationKind
+kind_of Query = query_kind
+kind_of Mutation = mutation_kind
+kind_of Subscription = subscription_kind
+
+abbrev pub word_of : OperationKind → Class
+word_of kind = keyword (layout.keyword kind)
+
+-- the keyword, and the body
+abbrev pub keyword_rule : OperationKind → Expr
+keyword_rule kind = Then (One (word_of kind)) (Sym operation_body_symbol)
+
+-- this one comes next, or none of the three does
+abbrev pub Tells : Items → Option Keyword → Type 0
+Tells i (Some k) = sees_class (word_of (kind_of k)) i ≡ true
+Tells i None =
+    (sees_class (word_of query_kind) i ≡ false) × (sees_class (word_of mutation_kind) i ≡ false)
+    × (sees_class (word_of subscription_kind) i ≡ false)
+
+abbrev pub operation_body_view : {N T : Type 0} → (T → List ℕ) → OperationBody N T → OperationBodyTree
+operation_body_view bytes c = body_view bytes c.name c.variable_definitions.items c.directives.items c.selection_set
