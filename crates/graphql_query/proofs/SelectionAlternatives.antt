@@ -2,7 +2,8 @@
 use Rattle.std.proofs.Common.{◌≡◌, ◌||◌, ℕ, true, false, List, [], ◌∷◌, Result, Ok, Err, Option, Some, None, refl, sym, ap, ◌∙◌, codes}
 use Rattle.std.proofs.Math.Bool.{or-false}
 use Rattle.graphql_grammar.specs.Tokens.{Token, Place, Class, matches}
-use Rattle.graphql_grammar.specs.Trees.{Expr, Empty, One, Then, Either, Many, Sym, Shape, Leaf, Both, First, Second, Nothing, Node, Grammar, optional, peek, leaves}
+use Rattle.graphql_grammar.specs.Trees.{Expr, Empty, One, Then, Either, Many, Sym, Shape, Leaf, Both, First, Second, Nothing, Node, Grammar, optional}
+use Rattle.graphql_grammar.specs.Trees.{peek, leaves}
 use Rattle.graphql_grammar.specs.Tables.{first}
 use Rattle.graphql_grammar.specs.Reading.{sees, Takes, takes_nothing, takes_leaf, takes_both, takes_first, takes_second, takes_stop, takes_node, fails_one}
 use Rattle.graphql_grammar.specs.Reading.{fails_before, fails_after, fails_node, Reason}
@@ -153,9 +154,9 @@ pub field_means : {ts us : List Token} (x y z s : Shape) → Takes reading first
     → directives ≡ directives_of (written changes z)
     → selected ≡ selected_of p (written changes s)
     → field p named.0 named.1 arguments directives selected ≡ field_of (written changes (field_shape x (Both y (Both z s))))
-field_means _ y z s (takes_both (takes_leaf i) (takes_first c (takes_both (takes_leaf h) (takes_leaf k)))) p named arguments directives selected at names given listed
-    selects = rw (at, names, given, listed, selects) refl
-field_means _ y z s (takes_both (takes_leaf i) (takes_second c takes_nothing)) p named arguments directives selected at names given listed selects = rw
+field_means _ y z s (takes_both (takes_leaf i) (takes_first c (takes_both (takes_leaf h) (takes_leaf k)))) _ _ _ _ _ at names given listed selects = rw
+    (at, names, given, listed, selects) refl
+field_means _ y z s (takes_both (takes_leaf i) (takes_second c takes_nothing)) _ _ _ _ _ at names given listed selects = rw
     (at, names, given, listed, selects) refl
 
 pub inline_fragment_means : (p q : Place) (c d : Option (List ℕ)) (directives others : List DirectiveTree) (s u : SelectionSetTree) → p ≡ q → c ≡ d

@@ -10,8 +10,8 @@ use Rattle.graphql_values.proofs.Unplaced.{IgnoresPlaces, spelling_bare, type_ba
 use Rattle.graphql_values.proofs.FaultsAlike.{RefusesAlike, valueless_alike}
 use Rattle.graphql_query_tree.specs.Grammar.{query}
 use Rattle.graphql_query_tree.specs.Document.{queries}
-use Rattle.graphql_query_tree.specs.Tree.{field, spread, inline, set, more, OperationKind, query_kind, mutation_kind, subscription_kind, with_body, short, operation}
-use Rattle.graphql_query_tree.specs.Tree.{fragment}
+use Rattle.graphql_query_tree.specs.Tree.{field, spread, inline, set, more, OperationKind, query_kind, mutation_kind, subscription_kind, with_body, short}
+use Rattle.graphql_query_tree.specs.Tree.{operation, fragment}
 use Rattle.graphql_query_tree.specs.Tree.{erase_selection, erase_selection_set, erase_selections, erase_variable_definition, erase_operation}
 use Rattle.graphql_query_tree.specs.Tree.{erase_fragment_definition}
 use Rattle.graphql_query_tree.specs.Tree.{erase_definition, erase}

@@ -5,8 +5,8 @@ use Rattle.graphql_grammar.specs.Trees.{Shape, Both, First, Second, More, Node, 
 use Rattle.graphql_values.specs.Values.{named}
 use Rattle.graphql_values.specs.Meanings.{place_at, first_place, spelling_at, type_of, optional_default_of, optional_arguments_of, directives_of}
 use Rattle.graphql_query_tree.specs.Tree.{SelectionTree, field, spread, inline, SelectionSetTree, set, no_selection_set, SelectionTrees, none, more}
-use Rattle.graphql_query_tree.specs.Tree.{OperationKind, query_kind, mutation_kind, subscription_kind, VariableDefinitionTree, OperationTree, OperationBodyTree, with_body}
-use Rattle.graphql_query_tree.specs.Tree.{FragmentDefinitionTree, DefinitionTree, short, operation, fragment, DocumentTree}
+use Rattle.graphql_query_tree.specs.Tree.{OperationKind, query_kind, mutation_kind, subscription_kind, VariableDefinitionTree, OperationTree, OperationBodyTree}
+use Rattle.graphql_query_tree.specs.Tree.{with_body, FragmentDefinitionTree, DefinitionTree, short, operation, fragment, DocumentTree}
 
 -- ---- selections
 

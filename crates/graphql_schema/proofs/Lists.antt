@@ -1,5 +1,6 @@
 -- What comes next, loops whose readers append by themselves, and lists between an opener and a closer.
-use Rattle.std.proofs.Common.{◌≡◌, ◌||◌, ◌≤◌, true, false, List, [], ◌∷◌, ◌++◌, map, length, arith, Result, Ok, Err, Option, Some, None, refl, sym, ap, subst, ◌∙◌, append_assoc}
+use Rattle.std.proofs.Common.{◌≡◌, ◌||◌, ◌≤◌, true, false, List, [], ◌∷◌, ◌++◌, map, length, arith, Result, Ok, Err, Option}
+use Rattle.std.proofs.Common.{Some, None, refl, sym, ap, subst, ◌∙◌, append_assoc}
 use Rattle.std.proofs.Math.Bool.{or-false, or_assoc}
 use Rattle.graphql_grammar.specs.Tokens.{Token, Class, matches, in_any}
 use Rattle.graphql_grammar.specs.Trees.{Expr, One, Then, Many, Sym, Shape, Leaf, Both, optional, some_of, leaves, peek}

@@ -115,7 +115,8 @@ module _ {A : Type 0} {g : Grammar} {e : Expr} where
       → Leads g e (Then a b) inside ts us → Stops g a us vs (reason_of d) → IsErrAnd r (λ x. x ≡ d) → Answered reason_of g e ts vs P r
   fails vs P r d l h up = answered_error reason_of g e _ vs P r d (before l vs (reason_of d) h) up
 
-  pub lacks : {b : Expr} {c : Class} {inside : Shape → Shape} {ts : List Token} (mid new : Items) (P : A → Shape → Type 0) (r : Result A ReadError) (d : ReadError)
+  pub lacks : {b : Expr} {c : Class} {inside : Shape → Shape} {ts : List Token} (mid new : Items) (P : A → Shape → Type 0) (r : Result A ReadError)
+      (d : ReadError)
       → Leads g e (Then (One c) b) inside ts mid.tokens → TakesNone c mid new d → IsErrAnd r (λ x. x ≡ d) → Answered reason_of g e ts new.tokens P r
   lacks {c = c} mid new P r d l h up = fails new.tokens P r d l (stops_one g c mid new d h) up
 

@@ -15,7 +15,8 @@ use Rattle.graphql_values.proofs.Steps.{here, took, past, after, whole, fails, f
 use Rattle.graphql_query.specs.steps.Reads.{first_names}
 use Rattle.graphql_query.proofs.FromShared.{begun, lifted, stops_lifted, begins_at}
 use Rattle.graphql_query.proofs.SelectionAlternatives.{some_selection_set, no_selection_set, field_side, dots_side, fragment_spread_side, inline_fragment_side}
-use Rattle.graphql_query.proofs.SelectionAlternatives.{begins_selection, names_taken, stops_in_names, field_means, inline_fragment_means, dots_mean, selection_at, selections_mean}
+use Rattle.graphql_query.proofs.SelectionAlternatives.{names_taken, stops_in_names}
+use Rattle.graphql_query.proofs.SelectionAlternatives.{begins_selection, field_means, inline_fragment_means, dots_mean, selection_at, selections_mean}
 use Rattle.graphql_query.proofs.TakenOff.{no_fewer, stays}
 use Rattle.graphql_query.proofs.Views.{field_made, inline_fragment_made, selection_set_made, selection_set_taken, field_selected, inline_fragment_selected}
 use Rattle.graphql_query.proofs.read.selection.+reading.Goals as goal

@@ -5,7 +5,8 @@ use Rattle.graphql_values.proofs.Steps.{whole}
 use Rattle.graphql_schema_tree.specs.Language.{schemas}
 use Rattle.graphql_schema_tree.specs.Tree.{schema, type_definition, directive}
 use Rattle.graphql_schema.specs.steps.Refusals.{refusals}
-use Rattle.graphql_schema.proofs.Definitions.{an_extension, no_extension, a_description, a_schema, a_directive, a_type, no_keyword, with_description, directive_means}
+use Rattle.graphql_schema.proofs.Definitions.{an_extension, no_extension, a_description, a_schema, a_directive, a_type, no_keyword}
+use Rattle.graphql_schema.proofs.Definitions.{with_description, directive_means}
 use Rattle.graphql_schema.proofs.Types.{body_means}
 use Rattle.graphql_schema.proofs.read.definition.definition.Goals as goal
 

@@ -29,9 +29,9 @@ more-preserved g c =
 pub returns-in_err-read-clause-reads : goal.returns-in_err-read-clause-reads
 returns-in_err-read-clause-reads g c =
     let (trees, turns, adds) = c.more.invariant.turns in
+    let seen = sym c.comes_next.ensures ∙ c.more-test.true in
     fails_last _ _ _ _ here
-    (Stops-turn g.E.Elements.grammar _ (one_of g.E.Elements.means) _ _ _ trees _ turns (sym c.comes_next.ensures ∙ c.more-test.true) c.in_err-read.ensures.reads)
-    c.from_residual.ensures.1
+    (Stops-turn g.E.Elements.grammar _ (one_of g.E.Elements.means) _ _ _ trees _ turns seen c.in_err-read.ensures.reads) c.from_residual.ensures.1
 
 pub returns-clause-reads : goal.returns-clause-reads
 returns-clause-reads g c =
