@@ -1,3 +1,6 @@
+pub mod Laid
 pub mod Numbers
 pub mod Options
-pub mod Refused
+pub use Laid.*
+pub use Numbers.*
+pub use Options.*

@@ -1,12 +1,10 @@
 -- What words say: options after what was said so far, and commands.
 use Rattle.std.proofs.Common.{◌≡◌, ◌∙◌, ℕ, Bool, true, false, List, [], ◌∷◌, Option, Some, None, refl, sym, ap, subst, arith}
 use Rattle.std.specs.Prelude.{◌↔◌, codes, nat_eq}
-use Rattle.std.specs.Cmp.Lexicographic.{pointwise}
-use Rattle.std.specs.Str.Parse.{digits_value}
 use Rattle.std.proofs.lemmas.Bool.{and_parts, eqb-true, false≢true}
-use Rattle.graphql_core.specs.Style.{Layout, default_style}
-use Rattle.gql.specs.Words.{is_indent, is_multiline, is_number, number_of, style_said, Says, SaysStyle, all_said, says_multiline, says_indent}
-use Rattle.gql.specs.Words.{Means, means_styled, means_minify, styled_command}
+use Rattle.graphql_core.specs.{pointwise, digits_value, Layout, default_style}
+use Rattle.gql.specs.{is_indent, is_multiline, is_number, number_of, style_said, Says, SaysStyle, all_said, says_multiline, says_indent, Means, means_styled}
+use Rattle.gql.specs.{means_minify, styled_command}
 use Rattle.gql.specs.declared.command.Command.{Command}
 use Rattle.gql.specs.declared.command.Command.TheVariants.{Minify}
 

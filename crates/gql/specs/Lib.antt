@@ -3,3 +3,8 @@ pub mod Faults
 pub mod Output
 pub mod Status
 pub mod Words
+pub use Counting.*
+pub use Faults.*
+pub use Output.*
+pub use Status.*
+pub use Words.*

@@ -1,43 +1,24 @@
 -- What is written for what is read.
-use Rattle.std.specs.Prelude.{◌≡◌, ◌≢◌, ◌<◌, ◌++◌, ◌⊎◌, ℕ, List, [], ◌∷◌, length, Option, IfSome}
+use Rattle.std.specs.Prelude.{◌≡◌, ◌++◌, ℕ, List, [], ◌∷◌, Option, IfSome}
 use Rattle.std.specs.Io.KnownBytes.{Appends, IsAtEnd}
-use Rattle.graphql_core.specs.Style.{Layout}
-use Rattle.graphql_core.specs.Minified.{IsMinified}
-use Rattle.graphql_values.specs.Language.{Language}
-use Rattle.graphql_values.specs.Document.{IsDocumentOf}
-use Rattle.graphql_values.specs.Faults.{IsRefusalOf}
-use Rattle.graphql_query_tree.specs.Document.{queries}
+use Rattle.graphql_values.specs.{Refusal, Layout, IsMinified, IsDocumentOf}
+use Rattle.graphql_query_tree.specs.{queries, DefinitionTree}
 use Rattle.graphql_query_tree.specs.Layout as query
-use Rattle.graphql_query_tree.specs.Tree.{DefinitionTree}
-use Rattle.graphql_schema_tree.specs.Language.{schemas}
+use Rattle.graphql_query.specs.{one_definition, IsFirstDefinition, IsMinifyRefusalOf}
+use Rattle.graphql_schema_tree.specs.{schemas}
 use Rattle.graphql_schema_tree.specs.Layout as schema
-use Rattle.graphql_query.specs.FirstDefinition.{one_definition, IsFirstDefinition}
-use Rattle.graphql_query.specs.Minifying.{IsMinifyRefusalOf}
-use Rattle.graphql_core.specs.Refusal.{Refusal, no_memory, max_length}
 use Rattle.graphql_core.specs.declared.format.error.FormatError.{FormatError}
 use Rattle.graphql_core.specs.declared.format.error.FormatError.TheVariants.{TooWide}
 use Rattle.graphql_core.specs.declared.format.error.FormatError.TheVariants as layout_error
 use Rattle.gql.specs.Faults.{HasFault}
+use Rattle.graphql_values.specs.Outputs.{IsWrittenOf, HasNone, IsWide}
 use Rattle.gql.specs.declared.error.RunError.{RunError}
 use Rattle.gql.specs.declared.error.RunError.TheVariants.{Read, NotUtf8, Format, Write, OutOfMemory}
 use Rattle.gql.specs.declared.error.RunError.TheVariants as error
 use Rattle.gql.specs.declared.command.Command.{Command}
 use Rattle.gql.specs.declared.command.Command.TheVariants.{Query, Schema, Minify, First}
 
--- ---- what a text has: its document, or its first definition and the rest
-
-module _ {T : Type 0} (Has : List ℕ → T → Type 0) where
-  -- what the text has is written so
-  abbrev pub IsLaidOut : (T → List ℕ) → List ℕ → List ℕ → Type 0
-  IsLaidOut written text output = (t : T) × Has text t × (output ≡ written t)
-
-  -- this is why the text is refused in this language, and, unless an allocation failed, it is too long or has no such thing
-  abbrev pub IsRefused : {D : Type 0} → Language D → List ℕ → Refusal → Type 0
-  IsRefused l text e = IsRefusalOf l text e × (e ≢ no_memory → (max_length < length text) ⊎ ((t : T) → Has text t → ⊥))
-
-  -- what the text has is too wide
-  abbrev pub IsWide : (T → Type 0) → List ℕ → Type 0
-  IsWide IsTooWide text = (t : T) × Has text t × IsTooWide t
+-- ---- first definitions
 
 -- a definition as a document of its own, and then the rest as it is
 abbrev pub definition_and_rest : Layout → DefinitionTree × List ℕ → List ℕ
@@ -51,22 +32,22 @@ IsTooWideAlone style (d, rest) = query.IsTooWide style (d ∷ [])
 
 -- a command makes this output of a text
 abbrev pub IsOutputOf : Command → Layout → List ℕ → List ℕ → Type 0
-IsOutputOf Query style text output = IsLaidOut (IsDocumentOf queries) (query.layout style) text output
-IsOutputOf Schema style text output = IsLaidOut (IsDocumentOf schemas) (schema.layout style) text output
+IsOutputOf Query style text output = IsWrittenOf (IsDocumentOf queries) (query.layout style) text output
+IsOutputOf Schema style text output = IsWrittenOf (IsDocumentOf schemas) (schema.layout style) text output
 IsOutputOf Minify style text output = IsMinified text output
-IsOutputOf First style text output = IsLaidOut IsFirstDefinition (definition_and_rest style) text output
+IsOutputOf First style text output = IsWrittenOf IsFirstDefinition (definition_and_rest style) text output
 
 -- this is why the text is no query document, or begins with no definition of one
 abbrev pub HasNoQuery : Command → List ℕ → Refusal → Type 0
-HasNoQuery Query text e = IsRefused (IsDocumentOf queries) queries text e
+HasNoQuery Query text e = HasNone (IsDocumentOf queries) queries text e
 HasNoQuery Schema text e = ⊥
 HasNoQuery Minify text e = ⊥
-HasNoQuery First text e = IsRefused IsFirstDefinition one_definition text e
+HasNoQuery First text e = HasNone IsFirstDefinition one_definition text e
 
 -- this is why the text is no schema document
 abbrev pub HasNoSchema : Command → List ℕ → Refusal → Type 0
 HasNoSchema Query text e = ⊥
-HasNoSchema Schema text e = IsRefused (IsDocumentOf schemas) schemas text e
+HasNoSchema Schema text e = HasNone (IsDocumentOf schemas) schemas text e
 HasNoSchema Minify text e = ⊥
 HasNoSchema First text e = ⊥
 

@@ -1,9 +1,7 @@
 //! The words of a command.
 ghost use Rattle.std.specs.Prelude.{◌≡◌, ◌↔◌, Some, map, string_bytes};
-ghost use Rattle.std.specs.List.{list_all};
-ghost use Rattle.std.specs.Char.{is_ascii_digit};
-ghost use Rattle.graphql_core.specs.Style.{Layout};
-ghost use Rattle.gql.specs.Words.{is_indent, is_multiline, number_of, style_said, styled_command, SaysStyle, Means};
+ghost use Rattle.graphql_core.specs.{list_all, is_ascii_digit, Layout};
+ghost use Rattle.gql.specs.{is_indent, is_multiline, number_of, style_said, styled_command, SaysStyle, Means};
 
 use graphql_parser::Style;
 

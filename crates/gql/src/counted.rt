@@ -2,7 +2,7 @@
 ghost use Rattle.std.specs.Prelude.{◌≡◌, ◌<◌, ◌+◌, ◌-◌, ◌^◌, length};
 ghost use Rattle.std.specs.Io.{ReadsAtMost, WritesAtMost};
 ghost use Rattle.std.specs.Io.KnownBytes.{ReadConsumes, WriteAppends, Keeps};
-ghost use Rattle.gql.specs.Faults.{faults_after_read, faults_after_write, faults_after_flush};
+ghost use Rattle.gql.specs.{faults_after_read, faults_after_write, faults_after_flush};
 
 use std::io;
 use std::io::{Read, Write};

@@ -1,17 +1,15 @@
 //! All of the input, and then all of the output.
-ghost use Rattle.std.specs.Prelude.{◌≡◌, ◌≢◌, List, ℕ, Err, string_bytes, OnOk, IfOk, IfErr, IfSome};
+ghost use Rattle.std.specs.Prelude.{◌≡◌, ◌≢◌, List, ℕ, Err, string_bytes, MatchResult, OnOk, IfOk, IfErr, IfSome};
 ghost use Rattle.std.specs.Str.{IsUtf8};
 ghost use Rattle.std.specs.Io.KnownBytes.{Keeps, Appends, Consumes, IsAtEnd};
-ghost use Rattle.graphql_core.specs.Refusal.{Refusal};
-ghost use Rattle.gql.specs.Faults.{HasFault};
-ghost use Rattle.gql.specs.Output.{IsOutputOf, HasNoQuery, HasNoSchema, HasBadPlace, HasNoLayout};
-ghost use Rattle.gql.specs.Output.{ReadsAll, EndsReading, EndsEngine, WritesPart};
+ghost use Rattle.graphql_values.specs.{Refusal};
+ghost use Rattle.gql.specs.{HasFault, IsOutputOf, HasNoQuery, HasNoSchema, HasBadPlace, HasNoLayout, ReadsAll, EndsReading, EndsEngine, WritesPart};
 
 use crate::command::Command;
 use crate::counted::Counted;
 use crate::error::RunError;
 use graphql_parser::query::consume_definition;
-use graphql_parser::{FormatError, Style, minify_query, parse_query, parse_schema, query, schema};
+use graphql_parser::{FormatError, Style, minify_query, parse_query, parse_schema, query};
 use std::alloc::Global;
 use std::io::{Read, Write};
 
@@ -55,26 +53,28 @@ fn write_all<W: Write>(writer: &mut Counted<W>, bytes: &[u8]) -> Result<(), RunE
 
 /// The query document of a text, laid out.
 fn query_laid_out(alloc: Global, style: &Style, text: &str) -> Result<String, RunError>
-    ensures ok { IfOk result (λ s. IsOutputOf Command.Query style.now text.now (string_bytes s)) }
-    ensures err { IfErr result (EndsEngine Command.Query style.now text.now) }
+    ensures { MatchResult result (λ s. IsOutputOf Command.Query style.now text.now (string_bytes s)) (EndsEngine Command.Query style.now text.now) }
 {
-    let document: query::Document<'_, &str> = parse_query(alloc, text).map_err(RunError::Query)?;
-    document.format(alloc, style).map_err(RunError::Format)
+    match parse_query::<&str>(alloc, text) {
+        Ok(document) => document.format(alloc, style).map_err(RunError::Format),
+        Err(error) => Err(RunError::Query(error)),
+    }
 }
 
 /// The schema document of a text, laid out.
 fn schema_laid_out(alloc: Global, style: &Style, text: &str) -> Result<String, RunError>
-    ensures ok { IfOk result (λ s. IsOutputOf Command.Schema style.now text.now (string_bytes s)) }
-    ensures err { IfErr result (EndsEngine Command.Schema style.now text.now) }
+    ensures { MatchResult result (λ s. IsOutputOf Command.Schema style.now text.now (string_bytes s)) (EndsEngine Command.Schema style.now text.now) }
 {
-    let document: schema::Document<'_, &str> = parse_schema(alloc, text).map_err(RunError::Schema)?;
-    document.format(alloc, style).map_err(RunError::Format)
+    match parse_schema::<&str>(alloc, text) {
+        Ok(document) => document.format(alloc, style).map_err(RunError::Format),
+        Err(error) => Err(RunError::Schema(error)),
+    }
 }
 
 /// The tokens of a text, with no more spaces between them than keep them apart.
 fn minified(alloc: Global, style: &Style, text: String) -> Result<String, RunError>
-    ensures ok { IfOk result (λ s. IsOutputOf Command.Minify style.now (string_bytes text) (string_bytes s)) }
-    ensures err { IfErr result (EndsEngine Command.Minify style.now (string_bytes text)) }
+    ensures { MatchResult result (λ s. IsOutputOf Command.Minify style.now (string_bytes text) (string_bytes s))
+        (EndsEngine Command.Minify style.now (string_bytes text)) }
 {
     let _ = style;
     minify_query(alloc, text).map_err(RunError::Minify)
@@ -82,8 +82,7 @@ fn minified(alloc: Global, style: &Style, text: String) -> Result<String, RunErr
 
 /// The first definition of a text, laid out as a document of its own, and then the rest as it is.
 fn first_laid_out(alloc: Global, style: &Style, text: &str) -> Result<String, RunError>
-    ensures ok { IfOk result (λ s. IsOutputOf Command.First style.now text.now (string_bytes s)) }
-    ensures err { IfErr result (EndsEngine Command.First style.now text.now) }
+    ensures { MatchResult result (λ s. IsOutputOf Command.First style.now text.now (string_bytes s)) (EndsEngine Command.First style.now text.now) }
 {
     let (definition, rest) = consume_definition::<&str>(alloc, text).map_err(RunError::Query)?;
     let Ok(definitions) = vec![in alloc; definition] else {
@@ -102,8 +101,7 @@ fn output_of(
     style: &Style,
     text: String,
 ) -> Result<String, RunError>
-    ensures ok { IfOk result (λ s. IsOutputOf command style.now (string_bytes text) (string_bytes s)) }
-    ensures err { IfErr result (EndsEngine command style.now (string_bytes text)) }
+    ensures { MatchResult result (λ s. IsOutputOf command style.now (string_bytes text) (string_bytes s)) (EndsEngine command style.now (string_bytes text)) }
 {
     match command {
         Command::Query => query_laid_out(alloc, style, &text),

@@ -1,6 +1,6 @@
 //! Why a run ends early.
 ghost use Rattle.std.specs.Prelude.{◌≡◌, option_map};
-ghost use Rattle.gql.specs.Status.{ends_its_line, status_of};
+ghost use Rattle.gql.specs.{ends_its_line, status_of};
 
 use graphql_parser::query::{self, MinifyError};
 use graphql_parser::{FormatError, schema};

@@ -1,4 +1,4 @@
-pub mod Refused
 pub mod Rest
-pub mod Results
 pub mod Told
+pub use Rest.*
+pub use Told.*

@@ -3,9 +3,9 @@ use Rattle.std.proofs.Common.{◌≡◌, ◌∙◌, ◌-◌, ℕ, List, [], leng
 use Rattle.std.proofs.lemmas.Bool.{cases_lt}
 use Rattle.std.proofs.lemmas.List.{length-drop}
 use Rattle.std.proofs.Math.ListN.{drop_of_length-le}
-use Rattle.graphql_query_tree.specs.Tree.{DefinitionTree}
-use Rattle.graphql_query.specs.FirstDefinition.{IsFirstDefinition}
-use Rattle.graphql_c.specs.Output.{EndsAt}
+use Rattle.graphql_query_tree.specs.{DefinitionTree}
+use Rattle.graphql_query.specs.{IsFirstDefinition}
+use Rattle.graphql_c.specs.{EndsAt}
 
 -- what is left of a list begins as far before its end as it is long
 drop_back : (xs : List ℕ) (k : ℕ) → drop (length xs - length (drop k xs)) xs ≡ drop k xs

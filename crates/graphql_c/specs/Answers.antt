@@ -1,10 +1,9 @@
 -- What a call answers, and what it leaves in the caller's buffer.
 use Rattle.std.specs.Prelude.{◌≡◌, ◌<◌, ◌≤◌, ◌++◌, ℕ, nat_le, List, length, drop, string_bytes, Option, Some, None, if◌then◌else◌}
 use Rattle.std.specs.Str.{IsUtf8}
-use Rattle.graphql_grammar.specs.Tokens.{Place}
-use Rattle.graphql_lexer.specs.BadTexts.{too_deep}
-use Rattle.graphql_core.specs.Causes.{CauseText, no_token, unexpected_token, unexpected_end, int_out_of_range, malformed_float, bad_escape, unknown_location}
-use Rattle.graphql_core.specs.Causes.{duplicate_operation, unknown_operation, empty_extension, text_too_long, out_of_memory}
+use Rattle.graphql_core.specs.{too_deep, Place, CauseText, no_token, unexpected_token, int_out_of_range, malformed_float, bad_escape, unknown_location}
+use Rattle.graphql_core.specs.{duplicate_operation, unknown_operation, empty_extension}
+use Rattle.graphql_core.specs.Causes.{unexpected_end, text_too_long, out_of_memory}
 use Rattle.graphql_core.specs.Refusal.{Refusal}
 use Rattle.graphql_core.specs.declared.format.error.FormatError.{FormatError}
 use Rattle.graphql_core.specs.declared.format.error.FormatError.TheVariants.{TooWide, OutOfMemory}
@@ -51,6 +50,10 @@ column_of None = 0
 abbrev pub layout_status : FormatError → ℕ
 layout_status TooWide = status_too_wide
 layout_status OutOfMemory = status_of out_of_memory
+
+-- the failure has this status and the numbers of this place
+abbrev pub HasNumbers : ℕ → Option Place → Failure → Type 0
+HasNumbers status place f = (f.status ≡ status) × (f.line ≡ line_of place) × (f.column ≡ column_of place)
 
 -- ---- buffers
 

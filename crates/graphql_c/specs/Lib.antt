@@ -1,2 +1,4 @@
 pub mod Answers
 pub mod Output
+pub use Answers.*
+pub use Output.*

@@ -1,6 +1,6 @@
 //! What a call answers, and what it writes into the caller's buffer.
-ghost use Rattle.std.specs.Prelude.{◌≡◌, length, string_bytes, nat_le, IfOk, IfErr};
-ghost use Rattle.graphql_c.specs.Answers.{put, Writes, Finds, IsToldOf};
+ghost use Rattle.std.specs.Prelude.{◌≡◌, length, string_bytes, nat_le, MatchResult};
+ghost use Rattle.graphql_c.specs.{put, Writes, Finds, IsToldOf};
 
 use crate::failure::Failure;
 
@@ -66,8 +66,7 @@ fn told(out: &mut [u8], failure: Failure) -> Answer
 
 /// Hands an output to the caller, or tells why there is none.
 pub fn answer_of(out: &mut [u8], made: Result<String, Failure>) -> Answer
-    ensures ok { IfOk made (λ s. Writes (λ text. text ≡ string_bytes s) out.old out.new result) }
-    ensures err { IfErr made (λ f. IsToldOf f out.old out.new result) }
+    ensures { MatchResult made (λ s. Writes (λ text. text ≡ string_bytes s) out.old out.new result) (λ f. IsToldOf f out.old out.new result) }
 {
     match made {
         Ok(output) => written(out, &output),
@@ -77,8 +76,7 @@ pub fn answer_of(out: &mut [u8], made: Result<String, Failure>) -> Answer
 
 /// Tells the caller an offset, or why there is none.
 pub fn offset_of(out: &mut [u8], found: Result<usize, Failure>) -> Answer
-    ensures ok { IfOk found (λ n. Finds (λ offset. offset ≡ n) out.old out.new result) }
-    ensures err { IfErr found (λ f. IsToldOf f out.old out.new result) }
+    ensures { MatchResult found (λ n. Finds (λ offset. offset ≡ n) out.old out.new result) (λ f. IsToldOf f out.old out.new result) }
 {
     match found {
         Ok(length) => Answer {

@@ -1,21 +1,19 @@
 //! What the calls make of bytes.
-ghost use Rattle.std.specs.Prelude.{◌≡◌, string_bytes, IfOk, IfErr};
-ghost use Rattle.graphql_core.specs.Minified.{IsMinified};
-ghost use Rattle.graphql_query.specs.Minifying.{IsMinifyRefusalOf};
-ghost use Rattle.graphql_query_tree.specs.Document.{queries};
+ghost use Rattle.std.specs.Prelude.{◌≡◌, string_bytes, Ok, None, MatchResult, IsErrAnd};
+ghost use Rattle.graphql_core.specs.{IsMinified};
+ghost use Rattle.graphql_values.specs.{IsDocumentOf};
+ghost use Rattle.graphql_query_tree.specs.{queries};
 ghost use Rattle.graphql_query_tree.specs.Tree as query;
-ghost use Rattle.graphql_schema_tree.specs.Language.{schemas};
+ghost use Rattle.graphql_query.specs.{IsMinifyRefusalOf};
+ghost use Rattle.graphql_schema_tree.specs.{schemas};
 ghost use Rattle.graphql_schema_tree.specs.Views as schema;
-ghost use Rattle.graphql_values.specs.Document.{IsDocumentOf};
-ghost use Rattle.graphql_c.specs.Answers.{Fails};
-ghost use Rattle.graphql_c.specs.Output.{layout_in, IsQueryLaidOut, IsSchemaLaidOut, IsQueryChecked, IsSchemaChecked};
-ghost use Rattle.graphql_c.specs.Output.{HasNoQuery, HasNoSchema, HasNoFirst, IsQueryTooWide, IsSchemaTooWide, EndsAt};
+ghost use Rattle.graphql_c.specs.{Fails, HasNumbers, layout_status, layout_in, IsQueryLaidOut, IsSchemaLaidOut, IsQueryChecked, IsSchemaChecked};
+ghost use Rattle.graphql_c.specs.{HasNoQuery, HasNoSchema, HasNoFirst, IsQueryTooWide, IsSchemaTooWide, EndsAt};
 
 use crate::failure::Failure;
-use graphql_core::common::Text;
-use graphql_core::format::Style;
-use graphql_query::{consume_definition, minify_query, parse_query};
-use graphql_schema::parse_schema;
+use graphql_core::format::{FormatError, Style};
+use graphql_query::{Document as QueryDocument, consume_definition, minify_query, parse_query};
+use graphql_schema::{Document as SchemaDocument, parse_schema};
 use std::alloc::Global;
 use std::str;
 
@@ -28,35 +26,41 @@ pub fn style_in(indent: u32, multiline: bool) -> Style
     style
 }
 
-/// The query document of these bytes.
-fn query_of<'a, S: Text<'a>>(
-    alloc: Global,
-    bytes: &'a [u8],
-) -> Result<graphql_query::Document<'a, S>, Failure>
-    ensures ok { IfOk result (λ d. IsDocumentOf queries bytes.now (query.document_view S.Names.bytes d)) }
-    ensures err { IfErr result (Fails (HasNoQuery bytes.now) ⊥ bytes.now) }
+/// The text that these bytes are.
+fn text_of(alloc: Global, bytes: &[u8]) -> Result<&str, Failure>
+    ensures { MatchResult result (λ text. text.now ≡ bytes.now) (Fails (λ e. ⊥) ⊥ bytes.now) }
 {
-    let Ok(text) = str::from_utf8(bytes) else {
-        return Err(Failure::not_utf8(alloc));
-    };
-    match parse_query(alloc, text) {
+    match str::from_utf8(bytes) {
+        Ok(text) => Ok(text),
+        Err(_) => Err(Failure::not_utf8(alloc)),
+    }
+}
+
+/// A layout, or why there is none.
+fn output_of(alloc: Global, made: Result<String, FormatError>) -> Result<String, Failure>
+    ensures { MatchResult made (λ s. result ≡ Ok s) (λ e. IsErrAnd result (HasNumbers (layout_status e) None)) }
+{
+    match made {
+        Ok(output) => Ok(output),
+        Err(error) => Err(Failure::no_layout(alloc, &error)),
+    }
+}
+
+/// The query document of these bytes.
+fn query_of(alloc: Global, bytes: &[u8]) -> Result<QueryDocument<'_, &str>, Failure>
+    ensures { MatchResult result (λ d. IsDocumentOf queries bytes.now (query.document_view (λ name. name.now) d)) (Fails (HasNoQuery bytes.now) ⊥ bytes.now) }
+{
+    match parse_query(alloc, text_of(alloc, bytes)?) {
         Ok(document) => Ok(document),
         Err(error) => Err(Failure::refused(alloc, error.cause(), error.position(), &error)),
     }
 }
 
 /// The schema document of these bytes.
-fn schema_of<'a, S: Text<'a>>(
-    alloc: Global,
-    bytes: &'a [u8],
-) -> Result<graphql_schema::Document<'a, S>, Failure>
-    ensures ok { IfOk result (λ d. IsDocumentOf schemas bytes.now (schema.document_view S.Names.bytes d)) }
-    ensures err { IfErr result (Fails (HasNoSchema bytes.now) ⊥ bytes.now) }
+fn schema_of(alloc: Global, bytes: &[u8]) -> Result<SchemaDocument<'_, &str>, Failure>
+    ensures { MatchResult result (λ d. IsDocumentOf schemas bytes.now (schema.document_view (λ name. name.now) d)) (Fails (HasNoSchema bytes.now) ⊥ bytes.now) }
 {
-    let Ok(text) = str::from_utf8(bytes) else {
-        return Err(Failure::not_utf8(alloc));
-    };
-    match parse_schema(alloc, text) {
+    match parse_schema(alloc, text_of(alloc, bytes)?) {
         Ok(document) => Ok(document),
         Err(error) => Err(Failure::refused(alloc, error.cause(), error.position(), &error)),
     }
@@ -64,57 +68,43 @@ fn schema_of<'a, S: Text<'a>>(
 
 /// The query document of these bytes, laid out.
 pub fn query_laid_out(alloc: Global, bytes: &[u8], style: &Style) -> Result<String, Failure>
-    ensures ok { IfOk result (λ s. IsQueryLaidOut style.now bytes.now (string_bytes s)) }
-    ensures err { IfErr result (Fails (HasNoQuery bytes.now) (IsQueryTooWide style.now bytes.now) bytes.now) }
+    ensures { MatchResult result (λ s. IsQueryLaidOut style.now bytes.now (string_bytes s))
+        (Fails (HasNoQuery bytes.now) (IsQueryTooWide style.now bytes.now) bytes.now) }
 {
-    let document = query_of::<&str>(alloc, bytes)?;
-    match document.format(alloc, style) {
-        Ok(output) => Ok(output),
-        Err(error) => Err(Failure::no_layout(alloc, &error)),
-    }
+    let document = query_of(alloc, bytes)?;
+    output_of(alloc, document.format(alloc, style))
 }
 
 /// The schema document of these bytes, laid out.
 pub fn schema_laid_out(alloc: Global, bytes: &[u8], style: &Style) -> Result<String, Failure>
-    ensures ok { IfOk result (λ s. IsSchemaLaidOut style.now bytes.now (string_bytes s)) }
-    ensures err { IfErr result (Fails (HasNoSchema bytes.now) (IsSchemaTooWide style.now bytes.now) bytes.now) }
+    ensures { MatchResult result (λ s. IsSchemaLaidOut style.now bytes.now (string_bytes s))
+        (Fails (HasNoSchema bytes.now) (IsSchemaTooWide style.now bytes.now) bytes.now) }
 {
-    let document = schema_of::<&str>(alloc, bytes)?;
-    match document.format(alloc, style) {
-        Ok(output) => Ok(output),
-        Err(error) => Err(Failure::no_layout(alloc, &error)),
-    }
+    let document = schema_of(alloc, bytes)?;
+    output_of(alloc, document.format(alloc, style))
 }
 
 /// Nothing, where these bytes have a query document.
 pub fn query_checked(alloc: Global, bytes: &[u8]) -> Result<String, Failure>
-    ensures ok { IfOk result (λ s. IsQueryChecked bytes.now (string_bytes s)) }
-    ensures err { IfErr result (Fails (HasNoQuery bytes.now) ⊥ bytes.now) }
+    ensures { MatchResult result (λ s. IsQueryChecked bytes.now (string_bytes s)) (Fails (HasNoQuery bytes.now) ⊥ bytes.now) }
 {
-    let document = query_of::<&str>(alloc, bytes)?;
-    drop(document);
+    query_of(alloc, bytes)?;
     Ok(String::new(alloc))
 }
 
 /// Nothing, where these bytes have a schema document.
 pub fn schema_checked(alloc: Global, bytes: &[u8]) -> Result<String, Failure>
-    ensures ok { IfOk result (λ s. IsSchemaChecked bytes.now (string_bytes s)) }
-    ensures err { IfErr result (Fails (HasNoSchema bytes.now) ⊥ bytes.now) }
+    ensures { MatchResult result (λ s. IsSchemaChecked bytes.now (string_bytes s)) (Fails (HasNoSchema bytes.now) ⊥ bytes.now) }
 {
-    let document = schema_of::<&str>(alloc, bytes)?;
-    drop(document);
+    schema_of(alloc, bytes)?;
     Ok(String::new(alloc))
 }
 
 /// The tokens of these bytes, with only the spaces that keep them apart.
 pub fn minified(alloc: Global, bytes: &[u8]) -> Result<String, Failure>
-    ensures ok { IfOk result (λ s. IsMinified bytes.now (string_bytes s)) }
-    ensures err { IfErr result (Fails (IsMinifyRefusalOf bytes.now) ⊥ bytes.now) }
+    ensures { MatchResult result (λ s. IsMinified bytes.now (string_bytes s)) (Fails (IsMinifyRefusalOf bytes.now) ⊥ bytes.now) }
 {
-    let Ok(text) = str::from_utf8(bytes) else {
-        return Err(Failure::not_utf8(alloc));
-    };
-    let Ok(source) = String::from_str(alloc, text) else {
+    let Ok(source) = String::from_str(alloc, text_of(alloc, bytes)?) else {
         return Err(Failure::out_of_memory(alloc));
     };
     match minify_query(alloc, source) {
@@ -125,12 +115,9 @@ pub fn minified(alloc: Global, bytes: &[u8]) -> Result<String, Failure>
 
 /// The offset of the rest of these bytes, after their first definition and the ignored text after that.
 pub fn first_end(alloc: Global, bytes: &[u8]) -> Result<usize, Failure>
-    ensures ok { IfOk result (EndsAt bytes.now) }
-    ensures err { IfErr result (Fails (HasNoFirst bytes.now) ⊥ bytes.now) }
+    ensures { MatchResult result (EndsAt bytes.now) (Fails (HasNoFirst bytes.now) ⊥ bytes.now) }
 {
-    let Ok(text) = str::from_utf8(bytes) else {
-        return Err(Failure::not_utf8(alloc));
-    };
+    let text = text_of(alloc, bytes)?;
     match consume_definition::<&str>(alloc, text) {
         Ok(first) => Ok(text.len() - first.1.len()),
         Err(error) => Err(Failure::refused(alloc, error.cause(), error.position(), &error)),

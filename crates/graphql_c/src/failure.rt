@@ -1,8 +1,8 @@
 //! Why a call makes nothing of its text.
-ghost use Rattle.std.specs.Prelude.{◌≡◌, option_map};
-ghost use Rattle.graphql_core.specs.Causes.{cause_text, out_of_memory};
-ghost use Rattle.graphql_core.specs.Source.{place_of};
-ghost use Rattle.graphql_c.specs.Answers.{status_of, status_not_utf8, layout_status, line_of, column_of};
+ghost use Rattle.std.specs.Prelude.{◌≡◌, None, option_map};
+ghost use Rattle.graphql_core.specs.{cause_text, place_of};
+ghost use Rattle.graphql_core.specs.Causes.{out_of_memory};
+ghost use Rattle.graphql_c.specs.{status_of, status_not_utf8, layout_status, HasNumbers};
 
 use graphql_core::common::Cause;
 use graphql_core::format::FormatError;
@@ -44,9 +44,7 @@ fn status_of(cause: &Cause) -> u32
 impl Failure {
     /// A failure with this status, at no place.
     fn nowhere<E: Display>(alloc: Global, status: u32, error: &E) -> Failure
-        ensures status { result.status ≡ status }
-        ensures line { result.line ≡ 0 }
-        ensures column { result.column ≡ 0 }
+        ensures { HasNumbers status None result }
     {
         let message = match format!(in alloc; "{error}") {
             Ok(message) => message,
@@ -67,9 +65,7 @@ impl Failure {
         position: Option<Pos>,
         error: &E,
     ) -> Failure
-        ensures status { result.status ≡ status_of (cause_text cause.now) }
-        ensures line { result.line ≡ line_of (option_map place_of position) }
-        ensures column { result.column ≡ column_of (option_map place_of position) }
+        ensures { HasNumbers (status_of (cause_text cause.now)) (option_map place_of position) result }
     {
         let failure = Failure::nowhere(alloc, status_of(cause), error);
         match position {
@@ -84,9 +80,7 @@ impl Failure {
 
     /// A document is not laid out.
     pub fn no_layout(alloc: Global, error: &FormatError) -> Failure
-        ensures status { result.status ≡ layout_status error.now }
-        ensures line { result.line ≡ 0 }
-        ensures column { result.column ≡ 0 }
+        ensures { HasNumbers (layout_status error.now) None result }
     {
         let status = match error {
             FormatError::TooWide => 14,
@@ -97,18 +91,14 @@ impl Failure {
 
     /// A text is not UTF-8.
     pub fn not_utf8(alloc: Global) -> Failure
-        ensures status { result.status ≡ status_not_utf8 }
-        ensures line { result.line ≡ 0 }
-        ensures column { result.column ≡ 0 }
+        ensures { HasNumbers status_not_utf8 None result }
     {
         Failure::nowhere(alloc, 15, &"text is not UTF-8")
     }
 
     /// An allocation failed.
     pub fn out_of_memory(alloc: Global) -> Failure
-        ensures status { result.status ≡ status_of out_of_memory }
-        ensures line { result.line ≡ 0 }
-        ensures column { result.column ≡ 0 }
+        ensures { HasNumbers (status_of out_of_memory) None result }
     {
         Failure::nowhere(alloc, 13, &"out of memory")
     }

@@ -3,11 +3,11 @@
 //! A `Global` is no parameter in C, and a slice is two: a pointer, which is never null, and a length.
 #![tactic(auto)]
 
-ghost use Rattle.graphql_core.specs.Minified.{IsMinified};
-ghost use Rattle.graphql_query.specs.Minifying.{IsMinifyRefusalOf};
-ghost use Rattle.graphql_c.specs.Answers.{Answers, Writes, Finds};
-ghost use Rattle.graphql_c.specs.Output.{layout_in, IsQueryLaidOut, IsSchemaLaidOut, IsQueryChecked, IsSchemaChecked};
-ghost use Rattle.graphql_c.specs.Output.{HasNoQuery, HasNoSchema, HasNoFirst, IsQueryTooWide, IsSchemaTooWide, EndsAt};
+ghost use Rattle.graphql_core.specs.{IsMinified};
+ghost use Rattle.graphql_query.specs.{IsMinifyRefusalOf};
+ghost use Rattle.graphql_c.specs.Answers.{Answers};
+ghost use Rattle.graphql_c.specs.{Writes, Finds, layout_in, IsQueryLaidOut, IsSchemaLaidOut, IsQueryChecked, IsSchemaChecked, HasNoQuery};
+ghost use Rattle.graphql_c.specs.{HasNoSchema, HasNoFirst, IsQueryTooWide, IsSchemaTooWide, EndsAt};
 
 mod answer;
 mod calls;

@@ -1,22 +1,13 @@
 -- Layouts that are read back: their parts may stand together, and wherever their tokens stand, the grammar derives them, with a shape of which R holds.
 use Rattle.std.proofs.Common.{◌≡◌, ℕ, ◌+◌, ◌<◌, Bool, true, false, List, [], ◌∷◌, ◌++◌, refl, sym, ap, ap₂, ◌∙◌, subst}
-use Rattle.std.specs.List.{list_all}
-use Rattle.graphql_grammar.specs.Tokens.{Token, Place, Class}
-use Rattle.graphql_grammar.specs.Trees.{Expr, Empty, One, Then, Either, Many, Sym, Shape, Nothing, Leaf, Both, First, Second, Stop, More, Node, Grammar, row}
-use Rattle.graphql_grammar.specs.Trees.{accepts, leaves, Derives, Fits, fits_nothing, fits_leaf, fits_both, fits_first, fits_second, fits_stop, fits_more}
-use Rattle.graphql_grammar.specs.Trees.{fits_node}
-use Rattle.graphql_grammar.specs.Extended.{Extends, TestsAlike, is_below}
-use Rattle.graphql_grammar.proofs.Extending.{reads_on}
-use Rattle.graphql_lexer.specs.declared.tokenizer.token.Kind.{Kind}
-use Rattle.graphql_lexer.specs.declared.tokenizer.token.Kind.TheVariants.{Punctuator}
-use Rattle.graphql_lexer.specs.declared.tokenizer.piece.Nesting.{Nesting}
-use Rattle.graphql_lexer.specs.declared.tokenizer.piece.Nesting.TheVariants.{Level, Opens, Closes}
-use Rattle.graphql_core.specs.Causes.{kind_number}
-use Rattle.graphql_lexer.specs.Lexical.{is_mark, nesting_of}
-use Rattle.graphql_lexer.specs.Items.{Item, HasItems}
-use Rattle.graphql_core.specs.Source.{split, IsEnd}
-use Rattle.graphql_core.specs.Parts.{Part, token, ignored, text_of}
-use Rattle.graphql_core.proofs.Laid.{IsWord, is_blank, Nests, Laid, done, as_word, margin, gap, word, mark, dots, anywhere, after, Spells, spells_split}
+use Rattle.graphql_grammar.specs.{Derives}
+use Rattle.graphql_grammar.proofs.{reads_on}
+use Rattle.graphql_lexer.specs.{nesting_of}
+use Rattle.graphql_core.specs.{list_all, Token, Place, Class, Expr, Empty, One, Then, Either, Many, Sym, Shape, Nothing, Leaf, Both, First, Second, Stop, More}
+use Rattle.graphql_core.specs.{Node, Grammar, row, accepts, leaves, Fits, fits_nothing, fits_leaf, fits_both, fits_first, fits_second, fits_stop, fits_more}
+use Rattle.graphql_core.specs.{fits_node, Extends, TestsAlike, is_below, Kind, Punctuator, Nesting, Level, Opens, Closes, kind_number, is_mark, Item, HasItems}
+use Rattle.graphql_core.specs.{split, IsEnd, Part, token, ignored, text_of}
+use Rattle.graphql_core.proofs.Laid.{IsWord, is_blank, Deepens, Laid, done, as_word, margin, gap, word, mark, dots, anywhere, after, Spells, spells_split}
 use Rattle.graphql_core.proofs.Laid.{has_tokens}
 
 -- these tokens have a tree of the expression, of which R holds
@@ -92,11 +83,11 @@ abbrev pub IsMark : Nesting → List ℕ → Type 0
 IsMark n (b ∷ []) = (is_mark b ≡ true) × (nesting_of b ≡ n)
 IsMark n s = ⊥
 
-mark_of : {g : Grammar} {c : Class} {p : Bool} {d e : ℕ} (n : Nesting) (s : List ℕ) → IsMark n s → Nests n d e → Takes g c Punctuator s
+mark_of : {g : Grammar} {c : Class} {p : Bool} {d e : ℕ} (n : Nesting) (s : List ℕ) → IsMark n s → Deepens n d e → Takes g c Punctuator s
     → Back g (One c) p d (token Punctuator s ∷ []) false e Any
 mark_of n [] h nests takes = absurd h
 mark_of {c = c} {d = d} {e = e} n (b ∷ []) (m, is) nests takes =
-    record { laid = mark m (subst (λ (x : Nesting). Nests x d e) (sym is) nests) done; reads = leaf_of c Punctuator (b ∷ []) takes (λ t h. tt) }
+    record { laid = mark m (subst (λ (x : Nesting). Deepens x d e) (sym is) nests) done; reads = leaf_of c Punctuator (b ∷ []) takes (λ t h. tt) }
 mark_of n (b ∷ c ∷ cs) h nests takes = absurd h
 
 -- a mark that is no bracket, an opening one, where fewer than 50 are open, and a closing one
@@ -121,16 +112,22 @@ dots_back {c = c} takes = record { laid = dots done; reads = leaf_of c Punctuato
 pub nothing_back : {g : Grammar} {p : Bool} {d : ℕ} {R : Shape → Type 0} → R Nothing → Back g Empty p d [] p d R
 nothing_back r = record { laid = done; reads = λ ts h. (Nothing, fits_nothing, h, r) }
 
-pub both_back : {g : Grammar} {a b : Expr} {p q r : Bool} {d e f : ℕ} {ps qs : List Part} {P Q R : Shape → Type 0}
-    → Back g a p d ps q e P → Back g b q e qs r f Q → ((x y : Shape) → P x → Q y → R (Both x y)) → Back g (Then a b) p d (ps ++ qs) r f R
-both_back {ps = ps} {qs = qs} h k both = record {
+-- two parts, one after the other, in a shape that has both
+two_back : {g : Grammar} {a b c : Expr} {p q r : Bool} {d e f : ℕ} {ps qs : List Part} {P Q R : Shape → Type 0} (put : Shape → Shape → Shape)
+    → ((x y : Shape) → leaves (put x y) ≡ leaves x ++ leaves y) → ((x y : Shape) → Fits g a x → Fits g b y → Fits g c (put x y))
+    → Back g a p d ps q e P → Back g b q e qs r f Q → ((x y : Shape) → P x → Q y → R (put x y)) → Back g c p d (ps ++ qs) r f R
+two_back {ps = ps} {qs = qs} put same fit h k both = record {
   laid = after h.laid k.laid;
   reads = λ ts s.
       let (us, vs, parts, s1, s2) = spells_split ps qs ts s in
       let (x, fx, lx, rx) = h.reads us s1 in
       let (y, fy, ly, ry) = k.reads vs s2 in
-      (Both x y, fits_both fx fy, parts ∙ ap₂ (λ (l m : List Token). l ++ m) lx ly, both x y rx ry);
+      (put x y, fit x y fx fy, parts ∙ ap₂ (λ (l m : List Token). l ++ m) lx ly ∙ sym (same x y), both x y rx ry);
 }
+
+pub both_back : {g : Grammar} {a b : Expr} {p q r : Bool} {d e f : ℕ} {ps qs : List Part} {P Q R : Shape → Type 0}
+    → Back g a p d ps q e P → Back g b q e qs r f Q → ((x y : Shape) → P x → Q y → R (Both x y)) → Back g (Then a b) p d (ps ++ qs) r f R
+both_back h k both = two_back Both (λ x y. refl) (λ x y fx fy. fits_both fx fy) h k both
 
 pub first_back : {g : Grammar} {a b : Expr} {p q : Bool} {d f : ℕ} {ps : List Part} {R : Shape → Type 0} → Back g a p d ps q f (λ x. R (First x))
     → Back g (Either a b) p d ps q f R
@@ -156,14 +153,7 @@ stop_back r = record { laid = done; reads = λ ts h. (Stop, fits_stop, h, r) }
 
 pub more_back : {g : Grammar} {a : Expr} {p q r : Bool} {d e f : ℕ} {ps qs : List Part} {P Q R : Shape → Type 0}
     → Back g a p d ps q e P → Back g (Many a) q e qs r f Q → ((x y : Shape) → P x → Q y → R (More x y)) → Back g (Many a) p d (ps ++ qs) r f R
-more_back {ps = ps} {qs = qs} h k more = record {
-  laid = after h.laid k.laid;
-  reads = λ ts s.
-      let (us, vs, parts, s1, s2) = spells_split ps qs ts s in
-      let (x, fx, lx, rx) = h.reads us s1 in
-      let (y, fy, ly, ry) = k.reads vs s2 in
-      (More x y, fits_more fx fy, parts ∙ ap₂ (λ (l m : List Token). l ++ m) lx ly, more x y rx ry);
-}
+more_back h k more = two_back More (λ x y. refl) (λ x y fx fy. fits_more fx fy) h k more
 
 -- ---- longer rules
 

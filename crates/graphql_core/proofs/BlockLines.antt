@@ -1,10 +1,8 @@
 -- Lines of block strings: indents, blank ends, escapes and what is written of them.
+use Rattle.std.specs.List.{filter, reduce, fold, enumerate_from}
+use Rattle.std.specs.Result.{is_ok, OnOk}
 use Rattle.std.proofs.Common.{◌≡◌, ◌≢◌, ◌&&◌, ℕ, zero, suc, ◌+◌, ◌-◌, ◌<◌, ◌≤◌, ◌⊎◌, min, Bool, true, false, not, ◌==◌, if◌then◌else◌, List, [], ◌∷◌, ◌++◌}
 use Rattle.std.proofs.Common.{length, map, get_or, take, drop, Result, Ok, Err, refl, sym, ap, ◌∙◌, inl, inr, arith, append_assoc, zero-add}
-use Rattle.std.specs.List.{filter, prefix_len, suffix_len, reduce, fold, join_by, flat_map, enumerate_from}
-use Rattle.std.specs.Option.{unwrap_or}
-use Rattle.std.specs.Result.{is_ok, OnOk}
-use Rattle.std.specs.Str.{IsUtf8, IsCharBoundary}
 use Rattle.std.proofs.Math.Nat.{min-le_left, min-le_right, min-zero}
 use Rattle.std.proofs.lemmas.Bool.{and_parts, cases_Bool, eqb-true, false_from_ne_true, false≢true, ne_eqb}
 use Rattle.std.proofs.lemmas.Bool.Decides.{nat_tests}
@@ -14,8 +12,9 @@ use Rattle.std.proofs.lemmas.List.Folds.{flat_map-map}
 use Rattle.std.proofs.lemmas.List.Sums.{prefix_len-le-length, prefix_len_passes, suffix_len-take_no, suffix_len-take_yes}
 use Rattle.std.proofs.lemmas.List.FromFn.{length-enumerate_from, get_or-enumerate_from}
 use Rattle.std.proofs.lemmas.Str.{IsCharBoundary-start, IsCharBoundary-after_ascii}
-use Rattle.graphql_lexer.specs.Lexical.{begins_escape, begins_quotes, ClosesBlock, closing, escape, unit}
-use Rattle.graphql_core.specs.BlockStrings.{is_white, is_blank, indent, common_indent, unindented, unescaped, value_of_lines}
+use Rattle.graphql_lexer.specs.{begins_escape, escape}
+use Rattle.graphql_core.specs.{prefix_len, suffix_len, join_by, flat_map, unwrap_or, IsUtf8, IsCharBoundary, begins_quotes, is_white, is_blank, indent}
+use Rattle.graphql_core.specs.{common_indent, unindented, unescaped, value_of_lines}
 
 -- ---- indents
 
@@ -252,15 +251,3 @@ kept_at first through ls k i l h e =
     place ∙ zero-add (first + k)
 
 -- ---- tokens
-
-closing_more : (b : ℕ) (more : List ℕ) → (content : List ℕ) × (more ≡ content ++ 34 ∷ 34 ∷ 34 ∷ []) → (content : List ℕ)
-    × (b ∷ more ≡ content ++ 34 ∷ 34 ∷ 34 ∷ [])
-closing_more b more (content, e) = (b ∷ content, ap (λ t. b ∷ t) e)
-
--- what closes a block string ends with its quotes
-pub closing_quotes : {body : List ℕ} → ClosesBlock body → (content : List ℕ) × (body ≡ content ++ 34 ∷ 34 ∷ 34 ∷ [])
-closing_quotes closing = ([], refl)
-closing_quotes (escape {more} h) =
-    let (content, e) = closing_quotes h in
-    (92 ∷ 34 ∷ 34 ∷ 34 ∷ content, ap (λ t. 92 ∷ 34 ∷ 34 ∷ 34 ∷ t) e)
-closing_quotes (unit {b} {more} _ _ h) = closing_more b more (closing_quotes h)

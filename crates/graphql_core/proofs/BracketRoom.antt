@@ -1,16 +1,10 @@
 -- Trees of a grammar whose rules close the brackets that they open.
 use Rattle.std.proofs.Common.{◌≡◌, ◌≤◌, ℕ, zero, suc, ◌+◌, ◌-◌, Bool, true, ◌&&◌, ◌==◌, List, [], ◌∷◌, refl, sym, ap, ◌∙◌, subst, arith, eqb-true}
-use Rattle.std.specs.List.{AllByRecursion}
 use Rattle.std.proofs.lemmas.Bool.{and_parts}
-use Rattle.graphql_grammar.specs.Tokens.{Token, Class, matches}
-use Rattle.graphql_grammar.specs.Trees.{Expr, Empty, One, Then, Either, Many, Sym, Shape, Nothing, Leaf, Both, First, Second, Stop, More, Node, Row, Grammar}
-use Rattle.graphql_grammar.specs.Trees.{row_at, row, accepts, Fits, fits_nothing, fits_leaf, fits_both, fits_first, fits_second, fits_stop, fits_more}
-use Rattle.graphql_grammar.specs.Trees.{fits_node}
-use Rattle.graphql_grammar.specs.Extended.{is_below, TestsAlike, Extends}
-use Rattle.graphql_grammar.proofs.Extending.{below_is, row_same, rule_alike, rule_below}
-use Rattle.graphql_core.specs.Source.{IsLexeme}
-use Rattle.graphql_lexer.specs.declared.tokenizer.piece.Nesting.{Nesting}
-use Rattle.graphql_lexer.specs.declared.tokenizer.piece.Nesting.TheVariants.{Level, Opens, Closes}
+use Rattle.graphql_grammar.proofs.{below_is, row_same, rule_alike, rule_below}
+use Rattle.graphql_core.specs.{AllByRecursion, Token, Class, matches, Expr, Empty, One, Then, Either, Many, Sym, Shape, Nothing, Leaf, Both, First, Second}
+use Rattle.graphql_core.specs.{Stop, More, Node, Row, Grammar, row_at, row, accepts, Fits, fits_nothing, fits_leaf, fits_both, fits_first, fits_second}
+use Rattle.graphql_core.specs.{fits_stop, fits_more, fits_node, is_below, TestsAlike, Extends, IsLexeme, Nesting, Level, Opens, Closes}
 use Rattle.graphql_core.proofs.NestingDepth.{Past, NestsTree, class_nesting, has_nesting, past}
 
 -- ---- brackets of an expression

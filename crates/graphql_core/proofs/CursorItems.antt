@@ -1,22 +1,15 @@
 -- A source over a token stream.
-use Rattle.std.proofs.Common.{◌≡◌, ◌≤◌, ◌-◌, ◌^◌, ℕ, false, List, [], ◌∷◌, length, Option, Some, None, Result, Ok, Err, All, refl, sym, ap, subst, ◌∙◌}
-use Rattle.std.proofs.Common.{le_refl, arith}
+use Rattle.std.proofs.Common.{◌≡◌, ◌≤◌, ◌-◌, ◌^◌, ℕ, false, List, [], ◌∷◌, length, Option, Some, None, Result, Ok, Err, All, refl, sym, ap, subst, ◌∙◌, le_refl}
+use Rattle.std.proofs.Common.{arith}
 use Rattle.std.proofs.lemmas.List.Elements.{All-cons, All-head, All-tail, All-same}
-use Rattle.graphql_lexer.specs.declared.position.Pos.{Pos}
 use Rattle.graphql_lexer.specs.declared.tokenizer.token.Token.{Token}
-use Rattle.graphql_lexer.specs.declared.tokenizer.token.Bad.{Bad}
+use Rattle.graphql_lexer.specs.{bad_text, End, Wrong, is_token, one_more, last_alone, asked_once}
+use Rattle.graphql_core.specs.{Bad, Pos, Kind, Token as Word, Where, Item, item, Lexeme, Stream, NextItem, next_place, no_token, Items, split, held}
+use Rattle.graphql_core.specs.{items_of_stream, then_items, only_last, IsLexeme, token_of, place_of, shown}
 use Rattle.graphql_core.specs.declared.helpers.cursor.Ending.{Ending}
 use Rattle.graphql_core.specs.declared.helpers.cursor.Ending.TheVariants.{Open}
 use Rattle.graphql_core.specs.declared.helpers.cursor.Ending.TheVariants as ending
-use Rattle.graphql_lexer.specs.declared.tokenizer.token.Kind.{Kind}
-use Rattle.graphql_lexer.specs.BadTexts.{bad_text}
-use Rattle.graphql_grammar.specs.Tokens.{Token as Word}
-use Rattle.graphql_lexer.specs.Items.{Where, Item, item, Lexeme, End, Wrong, is_token, Stream}
-use Rattle.graphql_lexer.specs.Stream.{NextItem, next_place, one_more, last_alone, asked_once}
-use Rattle.graphql_core.specs.Causes.{no_token}
-use Rattle.graphql_core.specs.Source.{Items, split, held, items_of_stream, then_items, only_last, IsLexeme, token_of, place_of}
 use Rattle.graphql_core.specs.Source as source
-use Rattle.graphql_core.specs.steps.Endings.{shown}
 
 -- a stream that was asked for a token is asked for one item less
 spent_same : (old new : Stream) (k : Kind) (bytes : List ℕ) (w : Where) → old.items ≡ item (Lexeme k bytes) w ∷ new.items → new.cuts ≡ one_more old.cuts

@@ -1,10 +1,7 @@
 -- How deep parts go, by what they are made of.
-use Rattle.std.proofs.Common.{◌≡◌, ℕ, suc, ◌+◌, ◌-◌, ◌≤◌, max, Bool, true, false, if◌then◌else◌, List, [], ◌∷◌, ◌++◌, ap, ◌∙◌, subst, arith}
-use Rattle.std.proofs.Common.{append_assoc, append-nil}
-use Rattle.graphql_lexer.specs.declared.tokenizer.token.Kind.{Kind}
-use Rattle.graphql_lexer.specs.declared.tokenizer.piece.Nesting.TheVariants.{Level, Opens, Closes}
-use Rattle.graphql_core.specs.Parts.{Part, token, ignored}
-use Rattle.graphql_core.specs.Depths.{bracket_of, open_after, deepest_from, deepest}
+use Rattle.std.proofs.Common.{◌≡◌, ℕ, suc, ◌+◌, ◌-◌, ◌≤◌, max, Bool, true, false, if◌then◌else◌, List, [], ◌∷◌, ◌++◌, ap, ◌∙◌, subst, arith, append_assoc}
+use Rattle.std.proofs.Common.{append-nil}
+use Rattle.graphql_core.specs.{Kind, Level, Opens, Closes, Part, token, ignored, bracket_of, open_after, deepest_from, deepest}
 
 -- parts that leave as many brackets open as were open before them, and open n more at most
 pub record Rises (n : ℕ) (ps : List Part) : Type 0 where

@@ -1,13 +1,12 @@
 -- Units of strings, found from the front of a text.
-use Rattle.std.proofs.Common.{◌≡◌, ◌≢◌, ℕ, suc, ◌-◌, ◌<◌, ◌^◌, ◌⊎◌, true, ◌==◌, if◌then◌else◌, List, [], ◌∷◌, ◌++◌, length, get_or, take, drop, Option, Some}
-use Rattle.std.proofs.Common.{None, Result, Ok, Err, refl, sym, ap, ◌∙◌, subst, inl, inr, arith, length-append}
-use denote.Ref.{Bor}
-use Rattle.std.specs.Char.{encode_utf8, is_ascii_hexdigit, digit_value}
-use Rattle.std.specs.List.{list_all, slice_range}
-use Rattle.std.specs.Option.{SomeIff, IfSome, IfNone}
+use Rattle.std.specs.Char.{digit_value}
+use Rattle.std.specs.List.{slice_range}
+use Rattle.std.specs.Option.{SomeIff, IfNone}
 use Rattle.std.specs.Result.{result_ok}
-use Rattle.std.specs.Str.{IsUtf8, IsAscii, IsCharBoundary}
-use Rattle.std.specs.Str.Parse.{AllDigits, IsNumeral, ParsesUnsigned, digits_value, without_leading_plus}
+use Rattle.std.specs.Str.{IsAscii}
+use Rattle.std.specs.Str.Parse.{AllDigits, IsNumeral, ParsesUnsigned, without_leading_plus}
+use Rattle.std.proofs.Common.{◌≡◌, ◌≢◌, ℕ, suc, ◌-◌, ◌<◌, ◌^◌, ◌⊎◌, true, ◌==◌, if◌then◌else◌, List, [], ◌∷◌, ◌++◌, length, get_or, take, drop, Option, Some}
+use Rattle.std.proofs.Common.{None, Result, Ok, Err, refl, sym, ap, ◌∙◌, subst, inl, inr, arith, length-append, Bor}
 use Rattle.std.proofs.lemmas.Bool.{and_parts, ne_eqb}
 use Rattle.std.proofs.lemmas.Bool.Decides.{nat_tests}
 use Rattle.std.proofs.lemmas.Int.Digits.{digits_value-lt}
@@ -15,8 +14,9 @@ use Rattle.std.proofs.lemmas.List.{take_at, drop_at, get_or_append_left, append-
 use Rattle.std.proofs.lemmas.Str.{IsCharBoundary-after_ascii, encode_ascii, char_from_byte}
 use Rattle.std.proofs.lemmas.Str.Ascii.{IsAscii-cons, IsAscii-nil}
 use Rattle.std.proofs.lemmas.Str.Parse.{without_leading_plus_none}
-use Rattle.graphql_core.specs.Strings.{NamesCharacter, StandsFor, HasValue, IsInQuotes, BeginsName, BeginsNoName, BeginsEscape, BeginsNoEscape, plain, quote}
-use Rattle.graphql_core.specs.Strings.{backslash, slash, backspace, form_feed, line_feed, carriage_return, tab, unicode, empty, more}
+use Rattle.graphql_core.specs.{encode_utf8, is_ascii_hexdigit, list_all, IfSome, IsUtf8, IsCharBoundary, digits_value, NamesCharacter, StandsFor, HasValue}
+use Rattle.graphql_core.specs.{IsInQuotes, BeginsName, BeginsNoName, BeginsEscape, BeginsNoEscape, plain, quote, backslash, slash, backspace, form_feed}
+use Rattle.graphql_core.specs.{line_feed, carriage_return, tab, unicode, empty, more}
 
 -- ---- hexadecimal digits
 

@@ -1,14 +1,11 @@
 -- Literals of floats are the floats that end in a digit.
-use Rattle.std.proofs.Common.{◌≡◌, ℕ, ◌+◌, ◌-◌, ◌<◌, true, false, ◌||◌, ◌==◌, List, [], ◌∷◌, ◌++◌, length, get_or, refl, sym, ap, ◌∙◌, subst}
-use Rattle.std.proofs.Common.{inl, inr, arith}
-use Rattle.std.specs.List.{list_all, list_any}
-use Rattle.std.specs.Char.{is_ascii_digit}
+use Rattle.std.proofs.Common.{◌≡◌, ℕ, ◌+◌, ◌-◌, ◌<◌, true, false, ◌||◌, ◌==◌, List, [], ◌∷◌, ◌++◌, length, get_or, refl, sym, ap, ◌∙◌, subst, inl, inr, arith}
 use Rattle.std.proofs.lemmas.Bool.{cases_Bool, and_parts, and_from, false≢true}
 use Rattle.std.proofs.lemmas.Bool.Decides.{nat_tests}
 use Rattle.std.proofs.lemmas.List.{get_or-append-add, length-append}
 use Rattle.std.proofs.lemmas.List.Folds.{list_all_at, list_any_at}
-use Rattle.graphql_lexer.specs.Lexical.{is_in, is_integer, is_fraction, is_exponent, IsFloat, with_fraction, with_exponent, with_both}
-use Rattle.graphql_core.specs.Literals.{is_whole_exponent, EndsFloat, fraction, exponent, both, IsFloatLiteral}
+use Rattle.graphql_lexer.specs.{is_in, is_integer, is_fraction, is_exponent, IsFloat, with_fraction, with_exponent, with_both}
+use Rattle.graphql_core.specs.{list_all, list_any, is_ascii_digit, is_whole_exponent, EndsFloat, fraction, exponent, both, IsFloatLiteral}
 
 -- ---- the last byte
 

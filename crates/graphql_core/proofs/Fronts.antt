@@ -2,23 +2,14 @@
 use Rattle.std.proofs.Common.{◌≡◌, ℕ, true, false, Bool, ◌&&◌, ◌||◌, ◌==◌, List, [], ◌∷◌, All, refl, sym, ap, ◌∙◌, arith}
 use Rattle.std.proofs.lemmas.Bool.Decides.{nat_tests}
 use Rattle.std.proofs.lemmas.List.Elements.{All-head}
-use Rattle.graphql_grammar.specs.Tokens.{Token, AnyOf, same_spelling, matches}
-use Rattle.graphql_grammar.specs.Trees.{peek}
-use Rattle.graphql_grammar.specs.Reading.{sees}
+use Rattle.graphql_lexer.specs.{name, mark, starts_number}
+use Rattle.graphql_lexer.proofs.{differs, NumberRun, integer_run, float_run}
+use Rattle.graphql_core.specs.{Token, AnyOf, same_spelling, matches, peek, sees, Kind, Name, Nesting, kind_number, is_name_start, is_mark, Word, Stands, spread}
+use Rattle.graphql_core.specs.{integer, float, string, block_string, spelling_of, class_of, first_byte, front_byte, IsLexeme}
 use Rattle.graphql_core.specs.declared.helpers.punctuator.Punctuator.{Punctuator}
-use Rattle.graphql_core.specs.declared.helpers.punctuator.Punctuator.TheVariants.{Bang, Dollar, Ampersand, OpenParen, CloseParen, Spread, Colon, Equals, At, OpenBracket}
-use Rattle.graphql_core.specs.declared.helpers.punctuator.Punctuator.TheVariants.{CloseBracket, OpenBrace, Pipe, CloseBrace}
-use Rattle.graphql_lexer.specs.declared.tokenizer.token.Kind.{Kind}
-use Rattle.graphql_lexer.specs.declared.tokenizer.token.Kind.TheVariants.{Name}
+use Rattle.graphql_core.specs.declared.helpers.punctuator.Punctuator.TheVariants.{Bang, Dollar, Ampersand, OpenParen, CloseParen, Spread, Colon, Equals, At}
+use Rattle.graphql_core.specs.declared.helpers.punctuator.Punctuator.TheVariants.{OpenBracket, CloseBracket, OpenBrace, Pipe, CloseBrace}
 use Rattle.graphql_lexer.specs.declared.tokenizer.token.Kind.TheVariants as kinds
-use Rattle.graphql_lexer.specs.declared.tokenizer.piece.Nesting.{Nesting}
-use Rattle.graphql_core.specs.Causes.{kind_number}
-use Rattle.graphql_lexer.specs.Lexical.{is_name_start, is_mark, Word, Stands, name, mark, spread, integer, float, string, block_string}
-use Rattle.graphql_core.specs.steps.Punctuators.{spelling_of, class_of, first_byte, front_byte}
-use Rattle.graphql_core.specs.Source.{IsLexeme}
-use Rattle.graphql_lexer.proofs.Runs.{differs}
-use Rattle.graphql_lexer.specs.steps.Numbers.{starts_number}
-use Rattle.graphql_lexer.proofs.Numbers.{NumberRun, integer_run, float_run}
 
 byte_back : (x y : ℕ) → (x == y) ≡ (y == x)
 byte_back x y = grind (arith)

@@ -3,23 +3,12 @@ use Rattle.std.proofs.Common.{◌≡◌, ℕ, ◌+◌, ◌<◌, Bool, true, fals
 use Rattle.std.proofs.Common.{append_assoc}
 use Rattle.std.proofs.lemmas.Bool.{cases_eq, and_parts}
 use Rattle.std.proofs.lemmas.Bool.Decides.{nat_tests}
-use Rattle.std.specs.List.{list_all}
-use Rattle.graphql_grammar.specs.Tokens.{Token}
-use Rattle.graphql_lexer.specs.declared.tokenizer.token.Kind.{Kind}
-use Rattle.graphql_lexer.specs.declared.tokenizer.token.Kind.TheVariants.{Punctuator}
-use Rattle.graphql_lexer.specs.declared.tokenizer.piece.Move.{Move}
-use Rattle.graphql_lexer.specs.declared.tokenizer.piece.Move.TheVariants.{Over, Down}
-use Rattle.graphql_lexer.specs.declared.tokenizer.piece.Nesting.{Nesting}
-use Rattle.graphql_lexer.specs.declared.tokenizer.piece.Nesting.TheVariants.{Level, Opens, Closes}
 use Rattle.graphql_lexer.specs.declared.tokenizer.piece.Piece.TheVariants.{AtEnd}
-use Rattle.graphql_core.specs.Causes.{kind_number}
-use Rattle.graphql_lexer.specs.steps.Front.{front}
-use Rattle.graphql_lexer.specs.Lexical.{is_mark, is_delimiter, nesting_of, EndsRun, Ignored, Word, Stands, line_feed, space, comma, mark as a_mark, spread}
-use Rattle.graphql_lexer.specs.Lexical.{BeginsNone, Piece, IsCutInto}
-use Rattle.graphql_lexer.specs.Items.{Where, Item, HasItems, start, past_ignored, past_token, is_too_deep, items_of}
-use Rattle.graphql_core.specs.Source.{split, IsEnd}
-use Rattle.graphql_core.specs.Parts.{Part, token, ignored, text_of}
-use Rattle.graphql_lexer.proofs.FrontIsPiece.{shape, stands_front}
+use Rattle.graphql_lexer.specs.{is_delimiter, nesting_of, EndsRun, line_feed, comma, mark as a_mark, BeginsNone}
+use Rattle.graphql_lexer.proofs.{shape, stands_front}
+use Rattle.graphql_core.specs.{Move, Down, space, list_all, Token, Kind, Punctuator, Over, Nesting, Level, Opens, Closes, kind_number, front, is_mark, Ignored}
+use Rattle.graphql_core.specs.{Word, Stands, spread, Piece, IsCutInto, Where, Item, HasItems, start, past_ignored, past_token, is_too_deep, items_of, split}
+use Rattle.graphql_core.specs.{IsEnd, Part, token, ignored, text_of}
 
 -- ---- parts that may stand together
 
@@ -32,10 +21,10 @@ abbrev pub is_blank : ℕ → Bool
 is_blank b = b == 32 || (b == 10 || b == 44)
 
 -- a mark at this depth, of which at most 50 brackets are open, leaves it at that depth
-abbrev pub Nests : Nesting → ℕ → ℕ → Type 0
-Nests Level d e = d ≡ e
-Nests Opens d e = (d < 50) × (e ≡ d + 1)
-Nests Closes d e = d ≡ e + 1
+abbrev pub Deepens : Nesting → ℕ → ℕ → Type 0
+Deepens Level d e = d ≡ e
+Deepens Opens d e = (d < 50) × (e ≡ d + 1)
+Deepens Closes d e = d ≡ e + 1
 
 -- Laid p d ps q e: after a word (p) or not, and d brackets deep, these parts may stand. After them it is q, and e.
 pub data Laid : Bool → ℕ → List Part → Bool → ℕ → Type 0 where
@@ -47,7 +36,7 @@ pub data Laid : Bool → ℕ → List Part → Bool → ℕ → Type 0 where
   gap : {p q : Bool} {d e b : ℕ} {text : List ℕ} {ps : List Part} → list_all is_blank (b ∷ text) ≡ true → Laid false d ps q e
       → Laid p d (ignored (b ∷ text) ∷ ps) q e
   word : {q : Bool} {d e : ℕ} {k : Kind} {s : List ℕ} {ps : List Part} → IsWord k s → Laid true d ps q e → Laid false d (token k s ∷ ps) q e
-  mark : {p q : Bool} {d e f b : ℕ} {ps : List Part} → is_mark b ≡ true → Nests (nesting_of b) d e → Laid false e ps q f
+  mark : {p q : Bool} {d e f b : ℕ} {ps : List Part} → is_mark b ≡ true → Deepens (nesting_of b) d e → Laid false e ps q f
       → Laid p d (token Punctuator (b ∷ []) ∷ ps) q f
   dots : {q : Bool} {d e : ℕ} {ps : List Part} → Laid false d ps q e → Laid false d (token Punctuator (46 ∷ 46 ∷ 46 ∷ []) ∷ ps) q e
 
@@ -133,7 +122,7 @@ unfolding items_of
 cut_token k t s ps w fits st (pieces, cut, spells, end) =
     (record { bytes = s; meaning = Word k t } ∷ pieces, (text_of ps, refl, st, cut), rw fits (refl, refl, spells), rw fits end)
 
-cut_mark : (b : ℕ) (t : Nesting) (ps : List Part) (d e : ℕ) (w : Where) → Nests t d e → IsDeep d w → Stands (b ∷ []) (Word Punctuator t) (text_of ps)
+cut_mark : (b : ℕ) (t : Nesting) (ps : List Part) (d e : ℕ) (w : Where) → Deepens t d e → IsDeep d w → Stands (b ∷ []) (Word Punctuator t) (text_of ps)
     → ((v : Where) → IsDeep e v → IsCut v ps) → IsCut w (token Punctuator (b ∷ []) ∷ ps)
 cut_mark b Level ps d e w n deep st k = cut_token Punctuator Level (b ∷ []) ps w refl st (k _ (omega arith))
 cut_mark b Opens ps d e w n deep st k = cut_token Punctuator Opens (b ∷ []) ps w (grind (arith, nat_tests)) st (k _ (omega arith))

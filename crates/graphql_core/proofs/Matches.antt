@@ -1,15 +1,9 @@
 -- One token against a class.
-use Rattle.std.proofs.Common.{Bool, ◌||◌, rules, ◌≡◌, ℕ, true, false, eqb, nat_eq, ◌==◌, List, [], ◌∷◌, drop, refl, sym, ap, ◌∙◌, arith}
-use Rattle.std.specs.Cmp.Lexicographic.{pointwise}
 use denote.Enum.Bare.{sameb, same_true}
-use Rattle.graphql_grammar.specs.Tokens.{Token, Class, same_spelling, matches}
-use Rattle.graphql_grammar.specs.Trees.{peek}
-use Rattle.graphql_grammar.specs.Reading.{sees}
+use Rattle.std.proofs.Common.{Bool, ◌||◌, rules, ◌≡◌, ℕ, true, false, eqb, nat_eq, ◌==◌, List, [], ◌∷◌, drop, refl, sym, ap, ◌∙◌, arith}
 use Rattle.graphql_lexer.specs.contracts.tokenizer.token.Kind.{the_type}
-use Rattle.graphql_lexer.specs.declared.tokenizer.token.Kind.{Kind}
-use Rattle.graphql_core.specs.Causes.{kind_number}
-use Rattle.graphql_core.specs.Source.{Items, Last, after, kept, fault_by, place_next}
-use Rattle.graphql_core.specs.steps.Matching.{sees_class, TakesToken}
+use Rattle.graphql_core.specs.{pointwise, Token, Class, same_spelling, matches, peek, sees, Kind, kind_number, Items, Last, after, kept, fault_by, place_next}
+use Rattle.graphql_core.specs.{sees_class, TakesToken}
 
 eqb-comm : (m n : ℕ) → nat_eq m n ≡ eqb n m
 eqb-comm m n = grind (arith)
@@ -24,9 +18,6 @@ same_text_spelling (x ∷ xs) (y ∷ ys) = rw (eqb-comm x y, same_text_spelling 
 -- tokens of one kind have one number
 pub same_kind_number : (a b : Kind) → sameb the_type a b ≡ true → (kind_number b == kind_number a) ≡ true
 same_kind_number a b e = rw (same_true the_type (search rules) a b e) (grind (arith))
-
-pub sees_none : (c : Class) (i : Items) → i.tokens ≡ [] → sees_class c i ≡ false
-sees_none c i e = ap (λ (ts : List Token). sees (c ∷ []) (peek ts)) e
 
 pub takes_first : (c : Class) (old new : Items) (t : Token) → old.tokens ≡ t ∷ drop 1 old.tokens → new ≡ after old → matches c t ≡ true → TakesToken c old new t
 takes_first c old new t e a m = record {

@@ -1,28 +1,16 @@
 -- Spaced tokens are cut into just these tokens.
+use Rattle.std.specs.Global.{Global}
 use Rattle.std.proofs.Common.{◌≡◌, ◌≢◌, ℕ, Bool, true, false, not, ◌&&◌, ◌||◌, List, [], ◌∷◌, ◌++◌, length, get_or, map, Result, Ok, Err, IfOk, string_bytes}
 use Rattle.std.proofs.Common.{String, refl, sym, ap, ◌∙◌, subst, arith}
 use Rattle.std.proofs.lemmas.Bool.Decides.{nat_tests}
-use Rattle.std.specs.Global.{Global}
-use Rattle.graphql_grammar.specs.Tokens.{Token, Place, nowhere}
-use Rattle.graphql_lexer.specs.declared.tokenizer.token.Kind.{Kind}
-use Rattle.graphql_lexer.specs.declared.tokenizer.token.Kind.TheVariants.{Punctuator, Name, IntValue, FloatValue, StringValue, BlockString}
-use Rattle.graphql_lexer.specs.declared.tokenizer.piece.Move.TheVariants.{Over}
-use Rattle.graphql_lexer.specs.declared.tokenizer.piece.Nesting.{Nesting}
-use Rattle.graphql_lexer.specs.declared.tokenizer.piece.Nesting.TheVariants.{Level, Opens, Closes}
 use Rattle.graphql_lexer.specs.declared.tokenizer.piece.Piece.TheVariants.{AtEnd}
-use Rattle.graphql_core.specs.Causes.{kind_number}
-use Rattle.graphql_lexer.specs.BadTexts.{too_deep}
-use Rattle.graphql_lexer.specs.steps.Front.{front}
-use Rattle.graphql_lexer.specs.Lexical.{is_name_continue, is_mark, EndsRun, Meaning, Ignored, Word, Stands, space, name, mark, spread, integer, float, string}
-use Rattle.graphql_lexer.specs.Lexical.{block_string, BeginsNone, Piece, IsCutInto}
-use Rattle.graphql_lexer.specs.Items.{Where, Item, item, Lexeme, Wrong, HasItems, start, past_ignored, past_token, openers_after, closers_after, is_too_deep}
-use Rattle.graphql_lexer.specs.Items.{token_then, piece_then, items_of}
-use Rattle.graphql_core.specs.Source.{Items, split, token_of, IsEnd}
-use Rattle.graphql_lexer.specs.steps.Cut.{items}
-use Rattle.graphql_core.specs.Minified.{is_past, AreLexemes, is_punctuator, is_number, is_spaced, space_if, spaced_after, spaced, unplaced, IsMinified}
-use Rattle.graphql_core.specs.Minified.{HasTokens}
-use Rattle.graphql_lexer.proofs.OneCut.{has_items, items_unique}
-use Rattle.graphql_lexer.proofs.FrontIsPiece.{shape, stands_front}
+use Rattle.graphql_lexer.specs.{is_name_continue, EndsRun, name, mark, BeginsNone, Wrong, openers_after, closers_after, items}
+use Rattle.graphql_lexer.proofs.{has_items, items_unique, shape, stands_front}
+use Rattle.graphql_core.specs.{space, Token, Place, nowhere, Kind, Punctuator, Name, IntValue, FloatValue, StringValue, BlockString, Over, Nesting, Level}
+use Rattle.graphql_core.specs.{Opens, Closes, kind_number, too_deep, front, is_mark, Meaning, Ignored, Word, Stands, spread, integer, float, string}
+use Rattle.graphql_core.specs.{block_string, Piece, IsCutInto, Where, Item, item, Lexeme, HasItems, start, past_ignored, past_token, is_too_deep, token_then}
+use Rattle.graphql_core.specs.{piece_then, items_of, Items, split, token_of, IsEnd, is_past, AreLexemes, is_punctuator, is_number, is_spaced, space_if}
+use Rattle.graphql_core.specs.{spaced_after, spaced, unplaced, IsMinified, HasTokens}
 
 -- ---- what may follow a token
 
@@ -135,8 +123,8 @@ are_lexemes (p ∷ ps) text stop (rest, e, st, h) w = piece_lexeme p.meaning p.b
 -- ---- spaced tokens
 
 -- from this place on, the text has just these tokens, at any places, and then the end
-abbrev pub IsCut : Where → List ℕ → List Token → Type 0
-IsCut w text ts =
+abbrev pub IsSpacedCut : Where → List ℕ → List Token → Type 0
+IsSpacedCut w text ts =
     (pieces : List Piece) × IsCutInto text pieces [] × (map unplaced (split (items_of w pieces [])).tokens ≡ map unplaced ts)
     × IsEnd (split (items_of w pieces [])).last
 
@@ -145,8 +133,8 @@ unfolding front
 no_piece bytes (Ignored m) rest st e = let h : AtEnd ≡ shape (Ignored m) (length bytes) = ap front e ∙ stands_front st in absurd cc
 no_piece bytes (Word k t) rest st e = let h : AtEnd ≡ shape (Word k t) (length bytes) = ap front e ∙ stands_front st in absurd cc
 
-cut_spaced : (b : Bool) (o c : ℕ) (text : List ℕ) (ts : List Token) → ((v : Where) → v.openers ≡ o → v.closers ≡ c → IsCut v text ts)
-    → (w : Where) → w.openers ≡ o → w.closers ≡ c → IsCut w (space_if b ++ text) ts
+cut_spaced : (b : Bool) (o c : ℕ) (text : List ℕ) (ts : List Token) → ((v : Where) → v.openers ≡ o → v.closers ≡ c → IsSpacedCut v text ts)
+    → (w : Where) → w.openers ≡ o → w.closers ≡ c → IsSpacedCut w (space_if b ++ text) ts
 unfolding items_of
 cut_spaced false o c text ts f w p q = f w p q
 cut_spaced true o c text ts f w p q =
@@ -154,7 +142,7 @@ cut_spaced true o c text ts f w p q =
     (record { bytes = 32 ∷ []; meaning = Ignored (Over 1) } ∷ pieces, (text, refl, space, cut), alike, end)
 
 cut_token : (k : Kind) (n : Nesting) (s text : List ℕ) (t : Token) (ts : List Token) (w : Where) → is_too_deep n w ≡ false → Stands s (Word k n) text
-    → t.kind ≡ kind_number k → t.spelling ≡ s → IsCut (past_token n s w) text ts → IsCut w (s ++ text) (t ∷ ts)
+    → t.kind ≡ kind_number k → t.spelling ≡ s → IsSpacedCut (past_token n s w) text ts → IsSpacedCut w (s ++ text) (t ∷ ts)
 unfolding items_of
 cut_token k n s text t ts w fits st kind spelling (pieces, cut, alike, end) =
     let one : unplaced (token_of w.position k s) ≡ unplaced t = λ i. record { kind = sym kind i; spelling = sym spelling i; place = nowhere } in
@@ -170,14 +158,14 @@ spaced_may_follow k o c (t ∷ ts) (j, n, rest, kind, st, fits, l) =
     (token_follows k st t.place (spaced_after t.kind ts))
 
 -- Any list of tokens that are pieces, spaced, is cut into just these tokens.
-pub cut : (kind o c : ℕ) (ts : List Token) → AreLexemes o c ts → (w : Where) → w.openers ≡ o → w.closers ≡ c → IsCut w (spaced_after kind ts) ts
+pub tokens_cut : (kind o c : ℕ) (ts : List Token) → AreLexemes o c ts → (w : Where) → w.openers ≡ o → w.closers ≡ c → IsSpacedCut w (spaced_after kind ts) ts
 unfolding items_of
-cut kind o c [] l w p q = ([], (refl, no_piece), refl, tt)
-cut kind o c (t ∷ ts) (k, n, rest, is, st, fits, l) w p q =
+tokens_cut kind o c [] l w p q = ([], (refl, no_piece), refl, tt)
+tokens_cut kind o c (t ∷ ts) (k, n, rest, is, st, fits, l) w p q =
     let follows = subst (λ (j : ℕ). MayFollow k (spaced_after j ts)) (sym is) (spaced_may_follow k _ _ ts l) in
     cut_spaced (is_spaced kind t) o c (t.spelling ++ spaced_after t.kind ts) (t ∷ ts) (λ v p q.
     cut_token k n t.spelling (spaced_after t.kind ts) t ts v (past_is n v ∙ rw (p, q) fits) (stands_before st _ follows) is refl
-    (cut t.kind _ _ ts l (past_token n t.spelling v) (ap (openers_after n) p) (ap (closers_after n) q))) w p q
+    (tokens_cut t.kind _ _ ts l (past_token n t.spelling v) (ap (openers_after n) p) (ap (closers_after n) q))) w p q
 
 -- nothing stands before the first token, as after a punctuator
 pub spaced_first : (ts : List Token) → spaced_after 0 ts ≡ spaced ts
@@ -186,15 +174,15 @@ spaced_first (t ∷ ts) = refl
 
 -- ---- minified texts
 
-pub has_tokens : (ts : List Token) → AreLexemes 0 0 ts → HasTokens (spaced ts) ts
-has_tokens ts l =
-    let (pieces, is, alike, end) = subst (λ (text : List ℕ). IsCut start text ts) (spaced_first ts) (cut 0 0 0 ts l start refl refl) in
+pub has_spaced_tokens : (ts : List Token) → AreLexemes 0 0 ts → HasTokens (spaced ts) ts
+has_spaced_tokens ts l =
+    let (pieces, is, alike, end) = subst (λ (text : List ℕ). IsSpacedCut start text ts) (spaced_first ts) (tokens_cut 0 0 0 ts l start refl refl) in
     (items_of start pieces [], (pieces, [], is, refl), alike, end)
 
 -- the tokens of a text, spaced, are those of the text
 pub spaced_items : (source : List ℕ) (items : List Item) → HasItems source items → HasTokens (spaced (split items).tokens) (split items).tokens
 spaced_items source items (pieces, stop, is, e) =
-    has_tokens (split items).tokens (subst (λ (l : List Item). AreLexemes 0 0 (split l).tokens) (sym e) (are_lexemes pieces source stop is start))
+    has_spaced_tokens (split items).tokens (subst (λ (l : List Item). AreLexemes 0 0 (split l).tokens) (sym e) (are_lexemes pieces source stop is start))
 
 pub minified_tokens : (source text : List ℕ) → IsMinified source text → (items : List Item) → HasItems source items → HasTokens text (split items).tokens
 minified_tokens source text (others, has, end, e) items h =

@@ -1,25 +1,18 @@
 -- What the tokens of a text are, and how deep their brackets are nested.
-use Rattle.std.proofs.Common.{◌≡◌, ◌≤◌, ℕ, zero, suc, ◌+◌, ◌-◌, Bool, true, false, cond, ◌||◌, ◌&&◌, ◌==◌, List, [], ◌∷◌, ◌++◌, length, drop, All}
-use Rattle.std.proofs.Common.{refl, append-nil, sym, ap, ap₂, ◌∙◌, subst, arith, inl, inr, codes, eqb-true}
-use Rattle.std.specs.Prelude.{replicate, pos, ◌≤ℤ◌}
+use Rattle.std.proofs.Common.{◌≡◌, ◌≤◌, ℕ, zero, suc, ◌+◌, ◌-◌, Bool, true, false, cond, ◌||◌, ◌&&◌, ◌==◌, List, [], ◌∷◌, ◌++◌, length, drop, All, refl}
+use Rattle.std.proofs.Common.{append-nil, sym, ap, ap₂, ◌∙◌, subst, arith, inl, inr, codes, eqb-true, replicate, pos, ◌≤ℤ◌}
 use Rattle.std.proofs.lemmas.Int.{ints}
 use Rattle.std.proofs.lemmas.Bool.Decides.{nat_tests}
 use Rattle.std.proofs.lemmas.List.Elements.{All-nil, All-cons}
 use Rattle.std.proofs.lemmas.Bool.{cases_Bool, and_parts, or_cases, false_from_ne_true, eq-eqb, both_ways}
-use Rattle.graphql_grammar.specs.Tokens.{Token, Place, Class, Spelled, kind_of, takes_spelling, matches, in_any, apart_from, within_any}
-use Rattle.graphql_grammar.specs.Trees.{Shape, Nothing, Leaf, Both, First, Second, Stop, More, Node, leaves}
-use Rattle.graphql_grammar.proofs.Classes.{all_within-sound, apart_from-sound}
-use Rattle.graphql_lexer.specs.declared.tokenizer.token.Kind.{Kind}
-use Rattle.graphql_lexer.specs.declared.tokenizer.token.Kind.TheVariants.{Punctuator, Name}
-use Rattle.graphql_lexer.specs.declared.tokenizer.piece.Nesting.{Nesting}
-use Rattle.graphql_lexer.specs.declared.tokenizer.piece.Nesting.TheVariants.{Level, Opens, Closes}
-use Rattle.graphql_core.specs.Causes.{kind_number}
-use Rattle.graphql_lexer.specs.Lexical.{IsName, Meaning, Ignored, Word, Stands, name, mark, spread, integer, float, string, block_string, Piece, IsCutInto}
-use Rattle.graphql_lexer.specs.Lexical.{is_opener, is_closer}
-use Rattle.graphql_lexer.specs.Items.{Where, Item, item, Lexeme, HasItemsFrom, HasItems, start, depth_of, past_ignored, past_token, is_full, last_item, piece_then, items_of}
-use Rattle.graphql_core.specs.Source.{Last, split, place_of, token_of, IsLexeme}
 use Rattle.std.proofs.lemmas.List.{drop_at, drop-drop, length-replicate}
-use Rattle.graphql_lexer.specs.Stream.{AreItemsOfRest, next_place}
+use Rattle.graphql_grammar.specs.{kind_of, takes_spelling, in_any, apart_from, within_any}
+use Rattle.graphql_grammar.proofs.{all_within-sound, apart_from-sound}
+use Rattle.graphql_lexer.specs.{name, mark, is_opener, is_closer, HasItemsFrom, depth_of, is_full, last_item, AreItemsOfRest}
+use Rattle.graphql_core.specs.{Token, Place, Class, Spelled, matches, Shape, Nothing, Leaf, Both, First, Second, Stop, More, Node, leaves, Kind, Punctuator}
+use Rattle.graphql_core.specs.{Name, Nesting, Level, Opens, Closes, kind_number, IsName, Meaning, Ignored, Word, Stands, spread, integer, float, string}
+use Rattle.graphql_core.specs.{block_string, Piece, IsCutInto, Where, Item, item, Lexeme, HasItems, start, past_ignored, past_token, piece_then, items_of, Last}
+use Rattle.graphql_core.specs.{split, place_of, token_of, IsLexeme, next_place}
 
 -- ---- what a token does to the depth
 
@@ -211,10 +204,6 @@ past_inside Closes n P h = (suc n, h)
 nests-lexemes : (ts : List Token) (n : ℕ) (P : ℕ → Type 0) → Nests ts n P → All IsLexeme ts
 nests-lexemes [] n P h = All-nil IsLexeme
 nests-lexemes (t ∷ ts) n P (l, h) = let (m, more) = past_inside (nesting_of t) n _ h in All-cons IsLexeme t ts l (nests-lexemes ts m P more)
-
--- the tokens of a text are of the lexical grammar
-pub lexemes : (text : List ℕ) (items : List Item) → HasItems text items → All IsLexeme (split items).tokens
-lexemes text items has = nests-lexemes _ 50 Anything (nests text items has)
 
 -- ---- the tokens of the rest of a text
 

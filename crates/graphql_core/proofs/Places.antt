@@ -1,9 +1,7 @@
 -- Writes at places of one buffer, one after another.
-use Rattle.std.proofs.Common.{◌≡◌, ℕ, ◌+◌, ◌-◌, ◌≤◌, List, ◌++◌, length, take, drop, ap, sym, ◌∙◌, arith}
-use Rattle.std.proofs.Common.{append_assoc, length-append, length-take-le, length-drop, take-add, take-take, take_at, drop_at, take_all, take-append-drop}
-use Rattle.std.proofs.lemmas.Slice.{take-put_mid}
-use borrow.Rule.Slice.PartMut.{put_mid, same_len_mid}
-use Rattle.graphql_core.specs.steps.Placed.{Placed}
+use Rattle.std.proofs.Common.{◌≡◌, ℕ, ◌+◌, ◌-◌, ◌≤◌, List, ◌++◌, length, take, drop, ap, sym, ◌∙◌, arith, append_assoc, length-append, length-take-le}
+use Rattle.std.proofs.Common.{length-drop, take-add, take-take, take_at, drop_at, take_all, take-append-drop}
+use Rattle.graphql_core.specs.{Placed}
 
 -- a second write begins where the first ended
 pub Placed-then : {a b c xs ys : List ℕ} {i j k : ℕ} → Placed a b i xs j → Placed b c j ys k → Placed a c i (xs ++ ys) k
@@ -23,15 +21,6 @@ Placed-less {a} {b} {xs} {i} {j} n within few p =
       moved = omega (arith, length-take-le n xs few);
       len = p.len;
     }
-
--- a part of the buffer was written, and its first n bytes count
-pub Placed-put_mid : (a ys : List ℕ) (i k n : ℕ) → i + k ≤ length a → length ys ≡ k → n ≤ k → Placed a (put_mid i k a ys) i (take n ys) (i + n)
-Placed-put_mid a ys i k n fits long few =
-    Placed-less n (omega arith) (omega arith) (record {
-      bytes = take-put_mid i k a ys (i + k) (omega arith) (omega arith);
-      moved = omega arith;
-      len = same_len_mid i k a ys (omega (arith, length-take-le k (drop i a) (omega (arith, length-drop i a))));
-    })
 
 -- the first and the last `half` bytes of src, laid over each other, are src
 pub Placed-ends : {a b c : List ℕ} {i j k : ℕ} (src : List ℕ) (half : ℕ) → i ≤ length a → half ≤ length src → length src ≤ half + half

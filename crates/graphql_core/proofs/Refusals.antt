@@ -1,9 +1,7 @@
 -- What a refusal tells.
 use Rattle.std.proofs.Common.{◌≡◌, Option, Some, None, Result, Ok, Err, IsErrAnd, refl, sym, ap, subst}
-use Rattle.graphql_grammar.specs.Tokens.{Place}
-use Rattle.graphql_core.specs.Causes.{CauseText}
-use Rattle.graphql_core.specs.Source.{FaultText}
-use Rattle.graphql_core.specs.Refusal.{Refusal, Tells, TellsAt, at, no_memory}
+use Rattle.graphql_core.specs.{Place, CauseText, FaultText, Tells, TellsAt, at, no_memory}
+use Rattle.graphql_core.specs.Refusal.{Refusal}
 
 -- what holds where an allocation failed, and of each fault, holds of the refusal
 pub by_fault : (P : FaultText → Type 0) (Q : Refusal → Type 0) → Q no_memory → ((f : FaultText) → P f → Q (at f)) → (r : Refusal) → Tells P r → Q r

@@ -1,24 +1,14 @@
 -- Items as the spans of their tokens.
-use Rattle.std.proofs.Common.{◌≡◌, ℕ, zero, suc, ◌+◌, ◌-◌, ◌<◌, ◌≤◌, get_or, List, [], ◌∷◌, ◌++◌, length, take, drop, map, Option, Some, None, Result, Ok, Err, All, refl, sym, ap, ◌∙◌}
-use Rattle.std.proofs.Common.{subst, arith, append_assoc, add-zero, length-drop}
-use Rattle.std.proofs.lemmas.List.{take_at, append-nil, map-append, length-take, get_or-drop}
+use Rattle.std.proofs.Common.{◌≡◌, ℕ, zero, suc, ◌+◌, ◌-◌, ◌<◌, ◌≤◌, get_or, List, [], ◌∷◌, ◌++◌, length, take, drop, map, Option, Some, Result, Ok, All, refl}
+use Rattle.std.proofs.Common.{sym, ap, ◌∙◌, subst, arith, append_assoc, add-zero, length-drop}
+use Rattle.std.proofs.lemmas.List.{take_at, map-append, length-take, get_or-drop}
 use Rattle.std.proofs.lemmas.List.Elements.{All-head, All-tail, All-same, All-map, All-weaker}
-use Rattle.std.specs.Str.{IsCharBoundary}
-use Rattle.graphql_lexer.specs.declared.position.Pos.{Pos}
-use Rattle.graphql_lexer.specs.declared.tokenizer.token.Kind.{Kind}
 use Rattle.graphql_lexer.specs.declared.tokenizer.token.Token.{Token as Cut}
-use Rattle.graphql_lexer.specs.declared.tokenizer.token.Bad.{Bad}
-use Rattle.graphql_lexer.specs.Items.{Where, Item, item, Lexeme}
-use Rattle.graphql_lexer.specs.Stream.{NextItem, next_place}
-use Rattle.graphql_grammar.specs.Tokens.{Token}
+use Rattle.graphql_core.specs.{Bad, IsCharBoundary, Pos, Kind, Where, Item, item, Lexeme, NextItem, next_place, Token, kind_number, Items, Last, IsLexeme}
+use Rattle.graphql_core.specs.{split, then_items, token_of, IsFaultOf, first_byte, Marks, start_of, kind_of, span_token, span_items, Word, Punctuator, Name}
+use Rattle.graphql_core.specs.{IntValue, FloatValue, StringValue, BlockString}
 use Rattle.graphql_core.specs.declared.helpers.span.Span.{Span}
-use Rattle.graphql_core.specs.Causes.{kind_number}
-use Rattle.graphql_core.specs.Source.{Items, Last, IsLexeme, split, then_items, tokens_then, token_of}
-use Rattle.graphql_core.specs.Refusal.{Refusal, IsFaultOf}
-use Rattle.graphql_core.specs.steps.Punctuators.{first_byte}
-use Rattle.graphql_core.specs.steps.Spans.{Marks, start_of, kind_of, span_token, span_items, last_of}
-use Rattle.graphql_lexer.specs.Lexical.{Word}
-use Rattle.graphql_lexer.specs.declared.tokenizer.token.Kind.TheVariants.{Punctuator, Name, IntValue, FloatValue, StringValue, BlockString}
+use Rattle.graphql_core.specs.Refusal.{Refusal}
 use Rattle.graphql_core.proofs.TokenPlaces.{IsToken, StandsIn, part}
 
 -- ---- what one number tells of a place and a kind
@@ -110,28 +100,6 @@ module _ {W : Type 0} (number : W → ℕ) (text : List ℕ) where
       ∙ ap (λ (x : Token). before (map f spans) (then_items x (split new))) (sym token)
       ∙ ap (λ (ts : List Token). let i : Items = record { tokens = ts; last = (split new).last; spent = (split new).spent } in i)
       (sym (append_assoc (map f spans) (f s ∷ []) (split new).tokens) ∙ ap (λ (ts : List Token). ts ++ (split new).tokens) (sym (map-append f spans (s ∷ []))))
-
-  -- at the end
-  pub before_end : (spans : List (Span W)) (old new : List Item) (r : Result (Option Cut) Bad) (p : Pos) (all : Items)
-      → all ≡ before (map (span_token number text) spans) (split old) → NextItem old r new → r ≡ Ok None → p ≡ (next_place old).position
-      → span_items number text spans (last_of p None) ≡ all
-  before_end spans old new r p all is next e place =
-      let (w, only, same) = subst (λ (x : Result (Option Cut) Bad). NextItem old x new) e next in
-      let f = span_token number text in
-      let at : p ≡ w.position = place ∙ ap (λ (l : List Item). (next_place l).position) only in
-      sym (is ∙ ap (λ (l : List Item). before (map f spans) (split l)) only
-      ∙ (λ i. tokens_then (append-nil (map f spans) i) (last_of (sym at i) None)))
-
-  -- at a bad place
-  pub before_bad : (spans : List (Span W)) (old new : List Item) (r : Result (Option Cut) Bad) (p : Pos) (bad : Bad) (all : Items)
-      → all ≡ before (map (span_token number text) spans) (split old) → NextItem old r new → r ≡ Err bad → p ≡ (next_place old).position
-      → span_items number text spans (last_of p (Some bad)) ≡ all
-  before_bad spans old new r p bad all is next e place =
-      let (w, only, same) = subst (λ (x : Result (Option Cut) Bad). NextItem old x new) e next in
-      let f = span_token number text in
-      let at : p ≡ w.position = place ∙ ap (λ (l : List Item). (next_place l).position) only in
-      sym (is ∙ ap (λ (l : List Item). before (map f spans) (split l)) only
-      ∙ (λ i. tokens_then (append-nil (map f spans) i) (last_of (sym at i) (Some bad))))
 
   -- ---- what is left
 

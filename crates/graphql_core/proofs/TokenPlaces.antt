@@ -4,20 +4,11 @@ use Rattle.std.proofs.Common.{length-append, length-drop}
 use Rattle.std.proofs.lemmas.List.{drop_at, take_at, drop-drop}
 use Rattle.std.proofs.lemmas.List.Elements.{All-nil, All-cons}
 use Rattle.std.proofs.lemmas.Str.{IsUtf8-take, IsUtf8-drop, IsCharBoundary-from_drop}
-use Rattle.std.specs.Str.{chars, IsCharBoundary}
-use Rattle.graphql_lexer.specs.declared.position.Pos.{Pos}
-use Rattle.graphql_lexer.specs.declared.tokenizer.token.Kind.{Kind}
-use Rattle.graphql_lexer.specs.declared.tokenizer.piece.Move.{Move}
-use Rattle.graphql_lexer.specs.declared.tokenizer.piece.Move.TheVariants.{Stay, Over, Down}
-use Rattle.graphql_lexer.specs.declared.tokenizer.piece.Nesting.{Nesting}
-use Rattle.graphql_lexer.specs.BadTexts.{too_deep}
-use Rattle.graphql_lexer.specs.Lexical.{Meaning, Ignored, Word, Stands, Piece, IsCutInto, steps_over}
-use Rattle.graphql_lexer.specs.Items.{Where, Item, Content, item, Lexeme, End, Wrong, HasItems, start, past_character, past_characters, past_ignored, past_token, is_too_deep}
-use Rattle.graphql_lexer.specs.Items.{token_then, piece_then, items_of}
-use Rattle.graphql_lexer.proofs.FrontFits.{Part, Within, front_within}
-use Rattle.graphql_lexer.proofs.FrontIsPiece.{stands_front}
-use Rattle.graphql_lexer.proofs.Positions.{characters_fit, character_bounds}
-use Rattle.graphql_core.specs.Source.{IsLexeme, token_of}
+use Rattle.graphql_lexer.specs.declared.tokenizer.piece.Move.TheVariants.{Stay}
+use Rattle.graphql_lexer.specs.{steps_over, End, Wrong, past_character, past_characters, Content}
+use Rattle.graphql_lexer.proofs.{Part, Within, front_within, stands_front, characters_fit, character_bounds}
+use Rattle.graphql_core.specs.{Move, Down, chars, IsCharBoundary, Pos, Kind, Over, Nesting, too_deep, Meaning, Ignored, Word, Stands, Piece, IsCutInto, Where}
+use Rattle.graphql_core.specs.{Item, item, Lexeme, HasItems, start, past_ignored, past_token, is_too_deep, token_then, piece_then, items_of, IsLexeme, token_of}
 
 -- ---- pieces
 

@@ -3,7 +3,7 @@ use Rattle.std.specs.Prelude.{◌≡◌, ℕ, Bool, not, ◌-◌, ◌||◌, ◌=
 use Rattle.std.specs.List.{list_all, filter, prefix_len, suffix_len, reduce, join_by}
 use Rattle.std.specs.Option.{unwrap_or}
 use Rattle.std.specs.Str.Lines.{lines}
-use Rattle.graphql_lexer.specs.Lexical.{begins_escape}
+use Rattle.graphql_lexer.specs.{begins_escape}
 
 -- a space or a tab
 abbrev pub is_white : ℕ → Bool

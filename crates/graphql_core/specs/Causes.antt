@@ -2,10 +2,10 @@
 use Rattle.std.specs.Prelude.{ℕ, Bool, true, false, List, string_bytes}
 use Rattle.graphql_lexer.specs.declared.tokenizer.token.Kind.{Kind}
 use Rattle.graphql_lexer.specs.declared.tokenizer.token.Kind.TheVariants.{Punctuator, Name, IntValue, FloatValue, StringValue, BlockString}
-use Rattle.graphql_lexer.specs.BadTexts.{BadText, bad_character, bare_dot, bad_integer, bad_float, unterminated_string, unterminated_block_string, too_deep}
+use Rattle.graphql_lexer.specs.{BadText, bad_character, bare_dot, bad_integer, bad_float, unterminated_string, unterminated_block_string, too_deep}
 use Rattle.graphql_core.specs.declared.common.cause.BadToken.{BadToken}
-use Rattle.graphql_core.specs.declared.common.cause.BadToken.TheVariants as token
 use Rattle.graphql_core.specs.declared.common.cause.Cause.{Cause}
+use Rattle.graphql_core.specs.declared.common.cause.BadToken.TheVariants as token
 use Rattle.graphql_core.specs.declared.common.cause.Cause.TheVariants as cause
 
 -- the kinds of tokens in grammars

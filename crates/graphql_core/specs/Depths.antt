@@ -4,7 +4,7 @@ use Rattle.graphql_lexer.specs.declared.tokenizer.token.Kind.{Kind}
 use Rattle.graphql_lexer.specs.declared.tokenizer.token.Kind.TheVariants.{Punctuator}
 use Rattle.graphql_lexer.specs.declared.tokenizer.piece.Nesting.{Nesting}
 use Rattle.graphql_lexer.specs.declared.tokenizer.piece.Nesting.TheVariants.{Level, Opens, Closes}
-use Rattle.graphql_lexer.specs.Lexical.{nesting_of}
+use Rattle.graphql_lexer.specs.{nesting_of}
 use Rattle.graphql_core.specs.Parts.{Part, token, ignored}
 
 -- a punctuator of one character may be a bracket

@@ -2,7 +2,7 @@
 use Rattle.std.specs.Prelude.{◌≡◌, ℕ, true, Bool, ◌&&◌, List, ◌++◌}
 use Rattle.std.specs.List.{list_any}
 use Rattle.std.specs.Char.{is_ascii_digit}
-use Rattle.graphql_lexer.specs.Lexical.{is_integer, is_fraction, is_exponent}
+use Rattle.graphql_lexer.specs.{is_integer, is_fraction, is_exponent}
 
 -- an exponent with a digit
 abbrev pub is_whole_exponent : List ℕ → Bool

@@ -1,13 +1,12 @@
 -- A minified text: the spellings of a text's tokens, with no more spaces between them than keep them apart.
 use Rattle.std.specs.Prelude.{◌≡◌, ℕ, Bool, true, false, not, ◌&&◌, ◌||◌, ◌==◌, ◌+◌, List, [], ◌∷◌, ◌++◌, map}
-use Rattle.graphql_grammar.specs.Tokens.{Token, Spelled, matches, nowhere}
+use Rattle.graphql_grammar.specs.{Token, Spelled, matches, nowhere}
 use Rattle.graphql_lexer.specs.declared.tokenizer.token.Kind.TheVariants.{Punctuator, IntValue, FloatValue}
 use Rattle.graphql_lexer.specs.declared.tokenizer.token.Kind.{Kind}
 use Rattle.graphql_lexer.specs.declared.tokenizer.piece.Nesting.{Nesting}
 use Rattle.graphql_lexer.specs.declared.tokenizer.piece.Nesting.TheVariants.{Level, Opens, Closes}
-use Rattle.graphql_lexer.specs.Lexical.{Stands, Word}
+use Rattle.graphql_lexer.specs.{Stands, Word, Item, HasItems, openers_after, closers_after}
 use Rattle.graphql_core.specs.Causes.{kind_number}
-use Rattle.graphql_lexer.specs.Items.{Item, HasItems, openers_after, closers_after}
 use Rattle.graphql_core.specs.Source.{Items, Wrong, IsEnd, split}
 use Rattle.graphql_core.specs.Refusal.{Refusal, Tells}
 

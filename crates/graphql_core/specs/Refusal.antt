@@ -1,6 +1,6 @@
 -- Why a text is refused: a cause, and its place where it has one.
 use Rattle.std.specs.Prelude.{◌≡◌, ℕ, ◌-◌, ◌^◌, ◌/◌, Option, Some, None}
-use Rattle.graphql_grammar.specs.Tokens.{Place}
+use Rattle.graphql_grammar.specs.{Place}
 use Rattle.graphql_core.specs.Causes.{CauseText, text_too_long, out_of_memory}
 use Rattle.graphql_core.specs.Source.{Items, FaultText, fault_at}
 

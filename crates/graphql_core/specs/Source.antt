@@ -1,18 +1,16 @@
 -- The items of a text as the grammar's tokens, and what stands after the last of them.
 use Rattle.std.specs.Prelude.{◌≡◌, ℕ, List, [], ◌∷◌, drop, Option, Some, None, Result, Ok, Err}
-use Rattle.graphql_grammar.specs.Tokens.{Token, Place}
+use Rattle.graphql_grammar.specs.{Token, Place}
 use Rattle.graphql_lexer.specs.declared.position.Pos.{Pos}
 use Rattle.graphql_lexer.specs.declared.tokenizer.token.Kind.{Kind}
 use Rattle.graphql_lexer.specs.declared.tokenizer.token.Bad.{Bad}
 use Rattle.graphql_lexer.specs.declared.tokenizer.token.Token.{Token as Cut}
-use Rattle.graphql_core.specs.declared.helpers.source.Lexeme.{Lexeme}
 use Rattle.graphql_lexer.specs.declared.tokenizer.piece.Nesting.{Nesting}
-use Rattle.graphql_lexer.specs.Lexical.{Stands, Word}
-use Rattle.graphql_lexer.specs.Items.{Item, Content, Stream}
-use Rattle.graphql_lexer.specs.Stream.{asked_once}
-use Rattle.graphql_lexer.specs.Items as items
+use Rattle.graphql_lexer.specs.{Stands, Word, Item, Content, asked_once, bad_text}
+use Rattle.graphql_lexer.specs.Items.{Stream}
+use Rattle.graphql_core.specs.declared.helpers.source.Lexeme.{Lexeme}
 use Rattle.graphql_core.specs.Causes.{CauseText, no_token, kind_number}
-use Rattle.graphql_lexer.specs.BadTexts.{bad_text}
+use Rattle.graphql_lexer.specs.Items as items
 use Rattle.graphql_core.specs.Causes as causes
 
 -- after the last token: the end, or a bad place

@@ -1,8 +1,8 @@
 -- The tests on classes say what they are meant to say.
 use Rattle.std.proofs.Common.{◌≡◌, ℕ, Bool, true, false, not, eqb, List, [], ◌∷◌, ◌++◌, refl, sym, ap₂, ◌∙◌, inl, inr}
 use Rattle.std.proofs.lemmas.Bool.{eqb-true, eq-eqb, and_parts, and_from, or_cases, or_left, or_right}
-use Rattle.graphql_grammar.specs.Tokens.{Token, Class, Spelled, AnyOf, Except, same_spelling, kind_of, takes_spelling, matches, spellings_apart, apart}
-use Rattle.graphql_grammar.specs.Tokens.{same_spellings, spellings_within, within, in_any, apart_from, all_apart, within_any, all_within}
+use Rattle.graphql_grammar.specs.{Token, Class, Spelled, AnyOf, Except, same_spelling, kind_of, takes_spelling, matches, spellings_apart, apart, same_spellings}
+use Rattle.graphql_grammar.specs.{spellings_within, within, in_any, apart_from, all_apart, within_any, all_within}
 
 pub same_spelling-true : (xs ys : List ℕ) → same_spelling xs ys ≡ true → xs ≡ ys
 same_spelling-true [] [] h = refl

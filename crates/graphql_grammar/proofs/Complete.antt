@@ -2,12 +2,10 @@
 use Rattle.std.proofs.Common.{◌≡◌, ℕ, zero, suc, Bool, true, false, not, ◌&&◌, ◌||◌, List, [], ◌∷◌, ◌++◌, Option, Some, refl, sym, ap, subst, append_assoc, inl}
 use Rattle.std.proofs.Common.{inr}
 use Rattle.std.proofs.lemmas.Bool.{and_parts, and_from, or_left, or_right, cases_Bool, not-true, both_ways}
-use Rattle.graphql_grammar.specs.Tokens.{Token, Class, matches, in_any, all_apart, all_within}
-use Rattle.graphql_grammar.specs.Trees.{Expr, Then, Many, Shape, Both, More, Row, Grammar, no_row, row_at, row, leaves, peek, Fits, fits_nothing, fits_leaf}
-use Rattle.graphql_grammar.specs.Trees.{fits_both, fits_first, fits_second, fits_stop, fits_more, fits_node}
-use Rattle.graphql_grammar.specs.Tables.{only_if, nullable, first, cont, decides, ranked, is_row, are_rows, is_ll1}
-use Rattle.graphql_grammar.specs.Reading.{sees, choose, Left, Right, Takes, takes_nothing, takes_leaf, takes_both, takes_first, takes_second, takes_stop}
-use Rattle.graphql_grammar.specs.Reading.{takes_more, takes_node}
+use Rattle.graphql_grammar.specs.{Token, Class, matches, in_any, all_apart, all_within, Expr, Then, Either, Many, Shape, Both, More, Row, Grammar, no_row}
+use Rattle.graphql_grammar.specs.{row_at, row, leaves, peek, Fits, fits_nothing, fits_leaf, fits_both, fits_first, fits_second, fits_stop, fits_more, fits_node}
+use Rattle.graphql_grammar.specs.{only_if, nullable, first, cont, decides, ranked, is_row, are_rows, is_ll1, sees, choose, Left, Right, Takes, takes_nothing}
+use Rattle.graphql_grammar.specs.{takes_leaf, takes_both, takes_first, takes_second, takes_stop, takes_more, takes_node}
 use Rattle.graphql_grammar.proofs.Classes.{all_within-sound, in_any-left, in_any-right}
 use Rattle.graphql_grammar.proofs.Items.{peek-append, append-empty, sees-parts, sees-only, sees-within, sees-apart}
 
@@ -147,49 +145,64 @@ starts g ok a x rest p n = go (leaves x) refl
     go [] h = absurd (both_ways (nullable g.rows a) (not-true (nullable g.rows a) n) (fits-nullable g ok p h))
     go (t ∷ ts) h = fits-first g ok p t (ap peek h)
 
+-- what the test says of an expression's parts
+pub both : (g : Grammar) (a b : Expr) → decides g.rows (Then a b) ≡ true
+    → (decides g.rows a ≡ true) × (decides g.rows b ≡ true) × (all_apart (cont g.rows a) (first g.rows b) ≡ true)
+both g a b d = let p = and_parts (decides g.rows a && decides g.rows b) _ d in let q = and_parts (decides g.rows a) (decides g.rows b) p.0 in (q.0, q.1, p.1)
+
+pub either : (g : Grammar) (a b : Expr) → decides g.rows (Either a b) ≡ true
+    → (decides g.rows a ≡ true) × (decides g.rows b ≡ true) × (all_apart (first g.rows a) (first g.rows b) ≡ true)
+    × (not (nullable g.rows a && nullable g.rows b) ≡ true)
+either g a b d =
+    let p = and_parts ((decides g.rows a && decides g.rows b) && all_apart (first g.rows a) (first g.rows b)) _ d in
+    let r = and_parts (decides g.rows a && decides g.rows b) (all_apart (first g.rows a) (first g.rows b)) p.0 in
+    let q = and_parts (decides g.rows a) (decides g.rows b) r.0 in
+    (q.0, q.1, r.1, p.1)
+
+pub many : (g : Grammar) (a : Expr) → decides g.rows (Many a) ≡ true
+    → (decides g.rows a ≡ true) × (not (nullable g.rows a) ≡ true) × (all_apart (cont g.rows a) (first g.rows a) ≡ true)
+many g a d =
+    let p = and_parts (decides g.rows a && not (nullable g.rows a)) _ d in
+    let q = and_parts (decides g.rows a) (not (nullable g.rows a)) p.0 in
+    (q.0, q.1, p.1)
+
+-- an item that cannot go on with a choice
+after_either : (g : Grammar) (a b : Expr) (item : Option Token) → sees (cont g.rows (Either a b)) item ≡ false
+    → (sees (cont g.rows a) item ≡ false) × (sees (cont g.rows b) item ≡ false)
+    × (nullable g.rows a ≡ true → sees (first g.rows b) item ≡ false) × (nullable g.rows b ≡ true → sees (first g.rows a) item ≡ false)
+after_either g a b item n =
+    let p = sees-parts (cont g.rows a ++ cont g.rows b) (only_if (nullable g.rows a) (first g.rows b) ++ only_if (nullable g.rows b) (first g.rows a)) item n in
+    let q = sees-parts (cont g.rows a) (cont g.rows b) item p.0 in
+    let r = sees-parts (only_if (nullable g.rows a) (first g.rows b)) (only_if (nullable g.rows b) (first g.rows a)) item p.1 in
+    (q.0, q.1, λ z. sees-only (nullable g.rows a) (first g.rows b) item z r.0, λ z. sees-only (nullable g.rows b) (first g.rows a) item z r.1)
+
 pub complete : (g : Grammar) → is_ll1 g.rows ≡ true → {e : Expr} {x : Shape} → Fits g e x → decides g.rows e ≡ true → (rest : List Token)
     → sees (cont g.rows e) (peek rest) ≡ false → Takes g e (leaves x ++ rest) x rest
 complete g ok fits_nothing d rest n = takes_nothing
 complete g ok (fits_leaf h) d rest n = takes_leaf h
 complete g ok (fits_both {a = a} {b = b} {x = x} {y = y} p q) d rest n =
-    let d0 = and_parts (decides g.rows a && decides g.rows b) (all_apart (cont g.rows a) (first g.rows b)) d in
-    let d1 = and_parts (decides g.rows a) (decides g.rows b) d0.0 in
+    let i = both g a b d in
     let n0 = sees-parts (cont g.rows b) (only_if (nullable g.rows b) (first g.rows b ++ cont g.rows a)) (peek rest) n in
     let gone : sees (cont g.rows a) (peek (leaves y ++ rest)) ≡ false =
-    apart-front g ok (cont g.rows a) b y rest q d0.1
+    apart-front g ok (cont g.rows a) b y rest q i.2
     (λ z. (sees-parts (first g.rows b) (cont g.rows a) (peek rest)
     (sees-only (nullable g.rows b) (first g.rows b ++ cont g.rows a) (peek rest) z n0.1)).1) in
     subst (λ (l : List Token). Takes g (Then a b) l (Both x y) rest) (sym (append_assoc (leaves x) (leaves y) rest))
-    (takes_both (complete g ok p d1.0 (leaves y ++ rest) gone) (complete g ok q d1.1 rest n0.0))
+    (takes_both (complete g ok p i.0 (leaves y ++ rest) gone) (complete g ok q i.1 rest n0.0))
 complete g ok (fits_first {a = a} {b = b} {x = x} p) d rest n =
-    let d0 = and_parts ((decides g.rows a && decides g.rows b) && all_apart (first g.rows a) (first g.rows b))
-    (not (nullable g.rows a && nullable g.rows b)) d in
-    let d1 = and_parts (decides g.rows a && decides g.rows b) (all_apart (first g.rows a) (first g.rows b)) d0.0 in
-    let n0 = sees-parts (cont g.rows a ++ cont g.rows b) (only_if (nullable g.rows a) (first g.rows b) ++ only_if (nullable g.rows b) (first g.rows a))
-    (peek rest) n in
-    let n1 = sees-parts (cont g.rows a) (cont g.rows b) (peek rest) n0.0 in
-    let n2 = sees-parts (only_if (nullable g.rows a) (first g.rows b)) (only_if (nullable g.rows b) (first g.rows a)) (peek rest) n0.1 in
-    takes_first (chooses-left g ok a b x rest p (λ z. sees-only (nullable g.rows a) (first g.rows b) (peek rest) z n2.0))
-    (complete g ok p (and_parts (decides g.rows a) (decides g.rows b) d1.0).0 rest n1.0)
+    let r = after_either g a b (peek rest) n in
+    takes_first (chooses-left g ok a b x rest p r.2) (complete g ok p (either g a b d).0 rest r.0)
 complete g ok (fits_second {a = a} {b = b} {y = y} p) d rest n =
-    let d0 = and_parts ((decides g.rows a && decides g.rows b) && all_apart (first g.rows a) (first g.rows b))
-    (not (nullable g.rows a && nullable g.rows b)) d in
-    let d1 = and_parts (decides g.rows a && decides g.rows b) (all_apart (first g.rows a) (first g.rows b)) d0.0 in
-    let n0 = sees-parts (cont g.rows a ++ cont g.rows b) (only_if (nullable g.rows a) (first g.rows b) ++ only_if (nullable g.rows b) (first g.rows a))
-    (peek rest) n in
-    let n1 = sees-parts (cont g.rows a) (cont g.rows b) (peek rest) n0.0 in
-    let n2 = sees-parts (only_if (nullable g.rows a) (first g.rows b)) (only_if (nullable g.rows b) (first g.rows a)) (peek rest) n0.1 in
-    takes_second (chooses-right g ok a b y rest p d1.1
-    (λ z. (not_and (nullable g.rows a) (nullable g.rows b) d0.1 z, sees-only (nullable g.rows b) (first g.rows a) (peek rest) z n2.1)))
-    (complete g ok p (and_parts (decides g.rows a) (decides g.rows b) d1.0).1 rest n1.1)
+    let i = either g a b d in
+    let r = after_either g a b (peek rest) n in
+    takes_second (chooses-right g ok a b y rest p i.2 (λ z. (not_and (nullable g.rows a) (nullable g.rows b) i.3 z, r.3 z))) (complete g ok p i.1 rest r.1)
 complete g ok (fits_stop {a = a}) d rest n = takes_stop (sees-parts (first g.rows a) (cont g.rows a) (peek rest) n).0
 complete g ok (fits_more {a = a} {x = x} {y = y} p q) d rest n =
-    let d0 = and_parts (decides g.rows a && not (nullable g.rows a)) (all_apart (cont g.rows a) (first g.rows a)) d in
-    let d1 = and_parts (decides g.rows a) (not (nullable g.rows a)) d0.0 in
+    let i = many g a d in
     let gone : sees (cont g.rows a) (peek (leaves y ++ rest)) ≡ false =
-    apart-front g ok (cont g.rows a) (Many a) y rest q d0.1 (λ z. (sees-parts (first g.rows a) (cont g.rows a) (peek rest) n).1) in
+    apart-front g ok (cont g.rows a) (Many a) y rest q i.2 (λ z. (sees-parts (first g.rows a) (cont g.rows a) (peek rest) n).1) in
     subst (λ (l : List Token). Takes g (Many a) l (More x y) rest) (sym (append_assoc (leaves x) (leaves y) rest))
-    (takes_more (starts g ok a x (leaves y ++ rest) p d1.1) (complete g ok p d1.0 (leaves y ++ rest) gone) (complete g ok q d rest n))
+    (takes_more (starts g ok a x (leaves y ++ rest) p i.1) (complete g ok p i.0 (leaves y ++ rest) gone) (complete g ok q d rest n))
 complete g ok (fits_node {k = k} p c) d rest n =
     let r = IsRow-each g.rows ok k in
     takes_node (complete g ok p r.decides rest (sees-within (cont g.rows (row g k).rule) (row g k).cont (peek rest) r.cont n)) c

@@ -1,11 +1,10 @@
 -- The reader has one answer.
 use Rattle.std.proofs.Common.{◌≡◌, true, false, ◌&&◌, List, [], ◌∷◌, refl, sym, ap, ap₂, subst}
 use Rattle.std.proofs.lemmas.Bool.{and_parts, both_ways, or_left}
-use Rattle.graphql_grammar.specs.Tokens.{Token, Class, matches, in_any}
-use Rattle.graphql_grammar.specs.Trees.{Expr, Many, Shape, Both, First, Second, More, Node, Grammar}
-use Rattle.graphql_grammar.specs.Reading.{Choice, Left, Right, Neither, Takes, takes_nothing, takes_leaf, takes_both, takes_first, takes_second, takes_stop}
-use Rattle.graphql_grammar.specs.Reading.{takes_more, takes_node, Reason, Fails, fails_one, fails_value, fails_before, fails_after, fails_first, fails_second}
-use Rattle.graphql_grammar.specs.Reading.{fails_neither, fails_turn, fails_later, fails_node, fails_check}
+use Rattle.graphql_grammar.specs.{Token, Class, matches, in_any, Expr, Many, Shape, Both, First, Second, More, Node, Grammar, Choice, Left, Right, Neither}
+use Rattle.graphql_grammar.specs.{Takes, takes_nothing, takes_leaf, takes_both, takes_first, takes_second, takes_stop, takes_more, takes_node, Reason, Fails}
+use Rattle.graphql_grammar.specs.{fails_one, fails_value, fails_before, fails_after, fails_first, fails_second, fails_neither, fails_turn, fails_later}
+use Rattle.graphql_grammar.specs.{fails_node, fails_check}
 
 left_right : {c : Choice} → c ≡ Left → c ≡ Right → ⊥
 left_right h k = cc

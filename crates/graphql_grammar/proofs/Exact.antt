@@ -1,10 +1,7 @@
 -- The reader answers what the grammar derives.
 use Rattle.std.proofs.Common.{◌≡◌, true, false, List, [], ◌++◌, refl, sym, ap, ap₂, subst, ◌∙◌}
-use Rattle.graphql_grammar.specs.Tokens.{Token}
-use Rattle.graphql_grammar.specs.Trees.{Expr, Shape, Grammar, leaves, peek, Derives}
-use Rattle.graphql_grammar.specs.Tables.{cont, decides, is_ll1, has_samples, is_productive}
-use Rattle.graphql_grammar.specs.Reading.{sees, Takes, Reason, Unexpected, Fails, Outcome, Done, Fault, Reads, lax}
-use Rattle.graphql_grammar.specs.Theorems.{IsFirstFault, IsExact}
+use Rattle.graphql_grammar.specs.{Token, Expr, Shape, Grammar, leaves, peek, Derives, cont, decides, is_ll1, has_samples, is_productive, sees, Takes, Reason}
+use Rattle.graphql_grammar.specs.{Unexpected, Fails, Outcome, Done, Fault, Reads, lax, IsFirstFault, IsExact}
 use Rattle.graphql_grammar.proofs.Sound.{takes-fits, takes-leaves}
 use Rattle.graphql_grammar.proofs.Complete.{complete}
 use Rattle.graphql_grammar.proofs.Deterministic.{same-take, take-or_fail, same-fail}

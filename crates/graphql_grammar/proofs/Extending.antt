@@ -2,15 +2,12 @@
 use Rattle.std.proofs.Common.{◌≡◌, ◌<◌, ℕ, zero, suc, Bool, true, ◌&&◌, List, [], ◌∷◌, ◌++◌, Option, length, replicate, refl, sym, ap, ap₂, subst, ◌∙◌, arith}
 use Rattle.std.proofs.lemmas.Bool.{and_parts}
 use Rattle.std.proofs.lemmas.Bool.Decides.{nat_tests}
-use Rattle.graphql_grammar.specs.Tokens.{Token, Class, matches}
-use Rattle.graphql_grammar.specs.Trees.{Expr, Empty, One, Then, Either, Many, Sym, Shape, Both, First, Second, More, Node, Row, Grammar, row_at, row, accepts}
-use Rattle.graphql_grammar.specs.Trees.{peek, Fits, fits_nothing, fits_leaf, fits_both, fits_first, fits_second, fits_stop, fits_more, fits_node}
-use Rattle.graphql_grammar.specs.Tables.{nullable, first}
-use Rattle.graphql_grammar.specs.Reading.{sees, choose, Takes, takes_nothing, takes_leaf, takes_both, takes_first, takes_second, takes_stop, takes_more}
-use Rattle.graphql_grammar.specs.Reading.{takes_node, Reason, Fails, fails_one, fails_value, fails_before, fails_after, fails_first, fails_second}
-use Rattle.graphql_grammar.specs.Reading.{fails_neither, fails_turn, fails_later, fails_node, fails_check}
-use Rattle.graphql_grammar.specs.Extended.{is_below, TestsAlike, Extends, ReadsOn, LeavesAlone}
-use Rattle.graphql_grammar.specs.Factored.{Change, unchanged, change_at, written}
+use Rattle.graphql_grammar.specs.{Token, Class, matches, Expr, Empty, One, Then, Either, Many, Sym, Shape, Both, First, Second, More, Node, Row, Grammar}
+use Rattle.graphql_grammar.specs.{row_at, row, accepts, peek, Fits, fits_nothing, fits_leaf, fits_both, fits_first, fits_second, fits_stop, fits_more}
+use Rattle.graphql_grammar.specs.{fits_node, nullable, first, sees, choose, Takes, takes_nothing, takes_leaf, takes_both, takes_first, takes_second, takes_stop}
+use Rattle.graphql_grammar.specs.{takes_more, takes_node, Reason, Fails, fails_one, fails_value, fails_before, fails_after, fails_first, fails_second}
+use Rattle.graphql_grammar.specs.{fails_neither, fails_turn, fails_later, fails_node, fails_check, is_below, TestsAlike, Extends, ReadsOn, LeavesAlone, Change}
+use Rattle.graphql_grammar.specs.{unchanged, change_at, written}
 
 pub below_is : (k n : ℕ) → is_below n (Sym k) ≡ true → k < n
 below_is k n h = grind (arith, nat_tests)

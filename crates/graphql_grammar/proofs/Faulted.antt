@@ -2,17 +2,14 @@
 use Rattle.std.proofs.Common.{◌≡◌, ℕ, suc, ◌+◌, ◌-◌, ◌<◌, ◌≤◌, true, false, List, [], ◌∷◌, ◌++◌, length, Some, refl, sym, ap, subst, ◌∙◌, append_assoc}
 use Rattle.std.proofs.Common.{append-nil, length-append, arith, inl, inr, ◌⊎◌}
 use Rattle.std.proofs.lemmas.Bool.{and_parts, or_left}
-use Rattle.graphql_grammar.specs.Tokens.{Token, Class, matches}
-use Rattle.graphql_grammar.specs.Trees.{Expr, One, Then, Either, Many, Sym, Shape, Node, Grammar, row, leaves, peek, Fits, fits_node, Begins, Ends}
-use Rattle.graphql_grammar.specs.Tables.{first, decides, is_ll1, is_tight, has_samples, is_productive}
-use Rattle.graphql_grammar.specs.Reading.{sees, Takes, Reason, Unexpected, Improper, Refused, Fails, fails_one, fails_value, fails_before, fails_after}
-use Rattle.graphql_grammar.specs.Reading.{fails_first, fails_second, fails_neither, fails_turn, fails_later, fails_node, fails_check, Outcome, Done, Fault}
-use Rattle.graphql_grammar.specs.Reading.{Reads, unchecked, lax}
-use Rattle.graphql_grammar.specs.Theorems.{IsFirstFault}
-use Rattle.graphql_grammar.specs.Leads.{Leads, leads_here, leads_before, leads_after, leads_first, leads_second, leads_turn, leads_later, leads_node}
-use Rattle.graphql_grammar.specs.Texts.{Text, Ending, End, Bad, Answer, Tree, Wrong, answer_of}
-use Rattle.graphql_grammar.specs.Faults.{StopsBefore, IsFault, bad_place, unexpected, leaf_refused, node_refused, IsLeast, index_of, AnswersLeast}
-use Rattle.graphql_grammar.specs.Faults.{IsRefused, RefusesTokens}
+use Rattle.graphql_grammar.specs.{Token, Class, matches, Expr, One, Then, Either, Many, Sym, Shape, Node, Grammar, row, leaves, peek, Fits, fits_node, Begins}
+use Rattle.graphql_grammar.specs.{Ends, first, decides, is_ll1, is_tight, has_samples, is_productive, sees, Takes, Reason, Unexpected, Improper, Refused, Fails}
+use Rattle.graphql_grammar.specs.{fails_one, fails_value, fails_before, fails_after, fails_first, fails_second, fails_neither, fails_turn, fails_later}
+use Rattle.graphql_grammar.specs.{fails_node, fails_check, Outcome, Done, Fault, Reads, unchecked, lax, IsFirstFault, leads_here, leads_before, leads_after}
+use Rattle.graphql_grammar.specs.{leads_first, leads_second, leads_turn, leads_later, leads_node, Text, Ending, End, Bad, Answer, Tree, Wrong, answer_of}
+use Rattle.graphql_grammar.specs.{StopsBefore, IsFault, bad_place, unexpected, leaf_refused, node_refused, IsLeast, index_of, AnswersLeast, IsRefused}
+use Rattle.graphql_grammar.specs.{RefusesTokens}
+use Rattle.graphql_grammar.specs.Leads.{Leads}
 use Rattle.graphql_grammar.proofs.OneClass.{Fronts, fronts, cancel}
 use Rattle.graphql_grammar.proofs.Sound.{takes-fits, takes-leaves}
 use Rattle.graphql_grammar.proofs.Complete.{IsRow-each, fits-first}

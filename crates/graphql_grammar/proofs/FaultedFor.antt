@@ -1,13 +1,10 @@
 -- The faults of a text by a written grammar are those by its second rules.
 use Rattle.std.proofs.Common.{◌≡◌, ℕ, true, false, List, [], ◌∷◌, ◌++◌, length, Option, refl, sym, ap, subst, ◌∙◌}
-use Rattle.graphql_grammar.specs.Tokens.{Token}
-use Rattle.graphql_grammar.specs.Trees.{Expr, Then, Many, Sym, Shape, Node, Row, Grammar, row_at, row, leaves, peek, Fits, Begins, Ends}
-use Rattle.graphql_grammar.specs.Tables.{decides, is_ll1, is_tight, has_samples, is_productive}
-use Rattle.graphql_grammar.specs.Reading.{Reason, Refused, lax}
-use Rattle.graphql_grammar.specs.Factored.{Change, change_at, written, with_rows, EachIsSecond}
-use Rattle.graphql_grammar.specs.Leads.{Leads, leads_here, leads_before, leads_after, leads_first, leads_second, leads_turn, leads_later, leads_node, IsTested}
-use Rattle.graphql_grammar.specs.Texts.{Text}
-use Rattle.graphql_grammar.specs.Faults.{IsFault, bad_place, unexpected, leaf_refused, node_refused, IsRefused, AnswersLeast, RefusesTokens}
+use Rattle.graphql_grammar.specs.{Token, Expr, Then, Many, Sym, Shape, Node, Row, Grammar, row_at, row, leaves, peek, Fits, Begins, Ends, decides, is_ll1}
+use Rattle.graphql_grammar.specs.{is_tight, has_samples, is_productive, Reason, Refused, lax, Change, change_at, written, with_rows, EachIsSecond, leads_here}
+use Rattle.graphql_grammar.specs.{leads_before, leads_after, leads_first, leads_second, leads_turn, leads_later, leads_node, IsTested, Text, IsFault, bad_place}
+use Rattle.graphql_grammar.specs.{unexpected, leaf_refused, node_refused, IsRefused, AnswersLeast, RefusesTokens}
+use Rattle.graphql_grammar.specs.Leads.{Leads}
 use Rattle.graphql_grammar.proofs.SecondRules.{seconds, written-fits, written-leaves, seconds-fits, written-seconds, to-second, begins-written, ends-written}
 use Rattle.graphql_grammar.proofs.OneIndex.{least, one_node}
 

@@ -2,16 +2,13 @@
 use Rattle.std.proofs.Common.{◌≡◌, ℕ, zero, suc, Bool, true, false, ◌&&◌, eqb, List, [], ◌∷◌, ◌++◌, Some, refl, sym, ap, subst, ◌∙◌, append_assoc, append-nil}
 use Rattle.std.proofs.Common.{inl, inr}
 use Rattle.std.proofs.lemmas.Bool.{and_parts, and_from, or_cases, eqb-true}
-use Rattle.graphql_grammar.specs.Tokens.{Token, Class, matches}
-use Rattle.graphql_grammar.specs.Trees.{Expr, Empty, One, Then, Either, Many, Sym, Shape, Nothing, Leaf, Both, First, Second, Stop, More, Node, Row, Grammar}
-use Rattle.graphql_grammar.specs.Trees.{row_at, row, accepts, leaves, peek, Derives, Begins, Ends, Fits, fits_nothing, fits_leaf, fits_both, fits_first}
-use Rattle.graphql_grammar.specs.Trees.{fits_second, fits_stop, fits_more, fits_node}
-use Rattle.graphql_grammar.specs.Tables.{first, decides, is_ll1, sample_in, has_samples, has_tree, are_full, is_productive}
-use Rattle.graphql_grammar.specs.Reading.{sees, choose, Takes, takes_nothing, takes_leaf, takes_both, takes_first, takes_second, takes_stop, takes_more}
-use Rattle.graphql_grammar.specs.Reading.{takes_node, Reason, Unexpected, Improper, Refused, Fails, fails_one, fails_value, fails_before, fails_after}
-use Rattle.graphql_grammar.specs.Reading.{fails_first, fails_second, fails_neither, fails_turn, fails_later, fails_node, fails_check, with_tests, unchecked}
-use Rattle.graphql_grammar.specs.Reading.{lax}
-use Rattle.graphql_grammar.specs.Theorems.{IsValue, IsRefused}
+use Rattle.graphql_grammar.specs.{Token, Class, matches, Expr, Empty, One, Then, Either, Many, Sym, Shape, Nothing, Leaf, Both, First, Second, Stop, More, Node}
+use Rattle.graphql_grammar.specs.{Row, Grammar, row_at, row, accepts, leaves, peek, Derives, Begins, Ends, Fits, fits_nothing, fits_leaf, fits_both, fits_first}
+use Rattle.graphql_grammar.specs.{fits_second, fits_stop, fits_more, fits_node, first, decides, is_ll1, sample_in, has_samples, has_tree, are_full}
+use Rattle.graphql_grammar.specs.{is_productive, sees, choose, Takes, takes_nothing, takes_leaf, takes_both, takes_first, takes_second, takes_stop, takes_more}
+use Rattle.graphql_grammar.specs.{takes_node, Reason, Unexpected, Improper, Refused, Fails, fails_one, fails_value, fails_before, fails_after, fails_first}
+use Rattle.graphql_grammar.specs.{fails_second, fails_neither, fails_turn, fails_later, fails_node, fails_check, with_tests, unchecked, lax, IsValue}
+use Rattle.graphql_grammar.specs.Theorems.{IsRefused}
 use Rattle.graphql_grammar.proofs.Sound.{takes-fits, takes-leaves, takes-local, same_item}
 use Rattle.graphql_grammar.proofs.Complete.{complete}
 use Rattle.graphql_grammar.proofs.Deterministic.{same-take, take-or_fail}
@@ -173,6 +170,11 @@ at-check g k ts us x p h = record {
     refused_is : (a b : ℕ) → Refused a ≡ Refused b → a ≡ b
     refused_is a b e = cc
 
+-- the same token without a value, after other tokens of another expression
+pub value_in : {g h : Grammar} {a e : Expr} {front before us : List Token} {c : Class} (v : IsValue g a front c us) → h.good c v.token ≡ false
+    → Begins (lax h) e (before ++ v.token ∷ []) → IsValue h e before c us
+value_in v bad begins = record { token = v.token; rest = v.rest; is = v.is; of_class = v.of_class; not_good = bad; begins = begins }
+
 -- another expression around it, where what is read stays the same
 around : (g : Grammar) (a e : Expr) (ts us : List Token) (why : Reason) (s : Stuck g a ts why us) (wrap : Shape → Shape) (end : List Token)
     → ((x : Shape) → Fits (unchecked g) a x → Fits (unchecked g) e (wrap x)) → ((x : Shape) → Fits (lax g) a x → Fits (lax g) e (wrap x))
@@ -182,14 +184,7 @@ around g a e ts us why s wrap end fit lax_fit same again = record {
   front = s.front;
   parts = s.parts;
   begins = begins-around (unchecked g) a e s.front wrap end fit same s.begins;
-  value = λ c i. let v = s.value c i in record {
-    token = v.token;
-    rest = v.rest;
-    is = v.is;
-    of_class = v.of_class;
-    not_good = v.not_good;
-    begins = begins-around (lax g) a e (s.front ++ v.token ∷ []) wrap end lax_fit same v.begins;
-  };
+  value = λ c i. let v = s.value c i in value_in v v.not_good (begins-around (lax g) a e (s.front ++ v.token ∷ []) wrap end lax_fit same v.begins);
   refused = s.refused;
   again = λ vs k. again vs (same_item ts s.front us vs s.parts k) (s.again vs k);
 }
@@ -204,15 +199,8 @@ after g a b e ts us vs x why p s wrap fit lax_fit same again = record {
   front = leaves x ++ s.front;
   parts = takes-leaves g p ∙ ap (λ (l : List Token). leaves x ++ l) s.parts ∙ sym (append_assoc (leaves x) s.front vs);
   begins = begins-after (unchecked g) b e (leaves x) s.front wrap fit same s.begins;
-  value = λ c i. let v = s.value c i in record {
-    token = v.token;
-    rest = v.rest;
-    is = v.is;
-    of_class = v.of_class;
-    not_good = v.not_good;
-    begins = subst (Begins (lax g) e) (sym (append_assoc (leaves x) s.front (v.token ∷ [])))
-        (begins-after (lax g) b e (leaves x) (s.front ++ v.token ∷ []) wrap lax_fit same v.begins);
-  };
+  value = λ c i. let v = s.value c i in value_in v v.not_good (subst (Begins (lax g) e) (sym (append_assoc (leaves x) s.front (v.token ∷ [])))
+      (begins-after (lax g) b e (leaves x) (s.front ++ v.token ∷ []) wrap lax_fit same v.begins));
   refused = λ k i. let r = s.refused k i in record {
     tree = r.tree;
     before = leaves x ++ r.before;

@@ -2,14 +2,10 @@
 use Rattle.std.proofs.Common.{◌≡◌, ◌<◌, ℕ, zero, suc, true, ◌&&◌, List, [], ◌∷◌, ◌++◌, length, Option, Some, None, refl, sym, ap, ap₂, subst, ◌∙◌, arith}
 use Rattle.std.proofs.Common.{append-nil, ◌⊎◌, inl, inr}
 use Rattle.std.proofs.lemmas.Bool.{and_parts}
-use Rattle.graphql_grammar.specs.Tokens.{Token, Class, matches}
-use Rattle.graphql_grammar.specs.Trees.{Expr, Then, Either, Many, Sym, Shape, Grammar}
-use Rattle.graphql_grammar.specs.Trees.{row, accepts, leaves, Derives, Fits, fits_nothing, fits_leaf, fits_both, fits_first, fits_second, fits_stop}
-use Rattle.graphql_grammar.specs.Trees.{fits_more, fits_node}
-use Rattle.graphql_grammar.specs.Tables.{has_tree}
-use Rattle.graphql_grammar.specs.Extended.{is_below}
-use Rattle.graphql_grammar.specs.Grown.{Growth, Same, InParts, InSides, InTurns, Before, After, AsFirst, AsSecond, put, growth_at, either_way, grown}
-use Rattle.graphql_grammar.specs.Grown.{same_rule, no_tokens, has_empty, grows, is_none, is_whole, rule_grows, rules_grow, Grows}
+use Rattle.graphql_grammar.specs.{Token, Class, matches, Expr, Then, Either, Many, Sym, Shape, Grammar, row, accepts, leaves, Derives, Fits, fits_nothing}
+use Rattle.graphql_grammar.specs.{fits_leaf, fits_both, fits_first, fits_second, fits_stop, fits_more, fits_node, has_tree, is_below, Growth, Same, InParts}
+use Rattle.graphql_grammar.specs.{InSides, InTurns, Before, After, AsFirst, AsSecond, put, growth_at, either_way, grown, same_rule, no_tokens, has_empty, grows}
+use Rattle.graphql_grammar.specs.{is_none, is_whole, rule_grows, rules_grow, Grows}
 use Rattle.graphql_grammar.proofs.Unchanged.{same_rule-true}
 use Rattle.graphql_grammar.proofs.FirstFault.{fits-from_test}
 use Rattle.graphql_grammar.proofs.Extending.{below_is}

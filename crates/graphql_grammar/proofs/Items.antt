@@ -1,10 +1,7 @@
 -- The next item of a list, and what it says of lists of classes.
 use Rattle.std.proofs.Common.{◌≡◌, Bool, true, false, List, [], ◌∷◌, ◌++◌, Option, Some, None, refl, inl, inr, ◌⊎◌}
 use Rattle.std.proofs.lemmas.Bool.{false_from_ne_true, both_ways}
-use Rattle.graphql_grammar.specs.Tokens.{Token, Class, in_any, all_apart, all_within}
-use Rattle.graphql_grammar.specs.Trees.{peek}
-use Rattle.graphql_grammar.specs.Tables.{only_if}
-use Rattle.graphql_grammar.specs.Reading.{sees}
+use Rattle.graphql_grammar.specs.{Token, Class, in_any, all_apart, all_within, peek, only_if, sees}
 use Rattle.graphql_grammar.proofs.Classes.{all_apart-sound, all_within-sound, in_any-left, in_any-right}
 
 -- it depends on no more of what comes after than the next item of that
@@ -19,10 +16,6 @@ peek-append (x ∷ xs) ys t h = inl h
 pub append-empty : (xs ys : List Token) → xs ++ ys ≡ [] → (xs ≡ []) × (ys ≡ [])
 append-empty [] ys h = (refl, h)
 append-empty (x ∷ xs) ys h = absurd cc
-
-pub sees-none : (item : Option Token) → sees [] item ≡ false
-sees-none None = refl
-sees-none (Some t) = refl
 
 pub sees-parts : (cs ds : List Class) (item : Option Token) → sees (cs ++ ds) item ≡ false → (sees cs item ≡ false) × (sees ds item ≡ false)
 sees-parts cs ds None h = (refl, refl)
@@ -42,7 +35,3 @@ sees-within cs ds (Some t) w h = false_from_ne_true (in_any cs t) (λ k. both_wa
 pub sees-apart : (cs ds : List Class) (item : Option Token) → all_apart cs ds ≡ true → sees ds item ≡ true → sees cs item ≡ false
 sees-apart cs ds None a h = refl
 sees-apart cs ds (Some t) a h = false_from_ne_true (in_any cs t) (λ k. all_apart-sound cs ds t a k h)
-
-pub sees-apart_other : (cs ds : List Class) (item : Option Token) → all_apart cs ds ≡ true → sees cs item ≡ true → sees ds item ≡ false
-sees-apart_other cs ds None a h = refl
-sees-apart_other cs ds (Some t) a h = false_from_ne_true (in_any ds t) (λ k. all_apart-sound cs ds t a h k)

@@ -1,18 +1,17 @@
 -- Where a place in a tree comes next, the reader comes to it, or has failed before.
-use Rattle.std.proofs.Common.{◌≡◌, ℕ, ◌+◌, ◌≤◌, Bool, true, false, not, ◌&&◌, List, [], ◌∷◌, ◌++◌, length, Option, Some, None, refl, sym, ap, subst, ◌∙◌}
-use Rattle.std.proofs.Common.{append_assoc, length-append, arith, inl, inr, ◌⊎◌}
-use Rattle.std.proofs.lemmas.Bool.{and_parts, both_ways}
-use Rattle.graphql_grammar.specs.Tokens.{Token, Class, all_apart}
-use Rattle.graphql_grammar.specs.Trees.{Expr, Then, Either, Many, Shape, Grammar, row, leaves, peek, Fits}
-use Rattle.graphql_grammar.specs.Tables.{only_if, nullable, first, cont, decides, is_ll1}
-use Rattle.graphql_grammar.specs.Reading.{sees, choose, Left, Right, Neither, Takes, takes_nothing, takes_leaf, takes_both, takes_first, takes_second}
-use Rattle.graphql_grammar.specs.Reading.{takes_stop, takes_more, takes_node, Reason, Refused, Fails, fails_one, fails_value, fails_before, fails_after}
-use Rattle.graphql_grammar.specs.Reading.{fails_first, fails_second, fails_neither, fails_turn, fails_later, fails_node, fails_check, lax}
-use Rattle.graphql_grammar.specs.Leads.{Leads, leads_here, leads_before, leads_after, leads_first, leads_second, leads_turn, leads_later, leads_node}
+use Rattle.std.proofs.Common.{◌≡◌, ℕ, ◌+◌, ◌≤◌, Bool, true, false, List, [], ◌∷◌, ◌++◌, length, Option, Some, None, refl, sym, ap, subst, ◌∙◌, append_assoc}
+use Rattle.std.proofs.Common.{length-append, arith, inl, inr, ◌⊎◌}
+use Rattle.std.proofs.lemmas.Bool.{both_ways}
+use Rattle.graphql_grammar.specs.{Token, Class, all_apart, Expr, Then, Many, Shape, Grammar, row, leaves, peek, Fits, only_if, nullable, first, cont, decides}
+use Rattle.graphql_grammar.specs.{is_ll1, sees, choose, Left, Right, Neither, Takes, takes_nothing, takes_leaf, takes_both, takes_first, takes_second}
+use Rattle.graphql_grammar.specs.{takes_stop, takes_more, takes_node, Reason, Refused, Fails, fails_one, fails_value, fails_before, fails_after, fails_first}
+use Rattle.graphql_grammar.specs.{fails_second, fails_neither, fails_turn, fails_later, fails_node, fails_check, lax, leads_here, leads_before, leads_after}
+use Rattle.graphql_grammar.specs.{leads_first, leads_second, leads_turn, leads_later, leads_node}
+use Rattle.graphql_grammar.specs.Leads.{Leads}
 use Rattle.graphql_grammar.proofs.Classes.{all_within-sound, in_any-left, in_any-right}
 use Rattle.graphql_grammar.proofs.Items.{sees-apart}
 use Rattle.graphql_grammar.proofs.Sound.{takes-leaves}
-use Rattle.graphql_grammar.proofs.Complete.{IsRow-each, fits-nullable, fits-first, complete}
+use Rattle.graphql_grammar.proofs.Complete.{IsRow-each, fits-nullable, fits-first, both, either, many, complete}
 use Rattle.graphql_grammar.proofs.Deterministic.{same-take, take-or_fail}
 use Rattle.graphql_grammar.proofs.FirstFault.{takes-lax}
 
@@ -78,24 +77,6 @@ module _ (g : Grammar) (ok : is_ll1 g.rows ≡ true) where
       → sees (cont g.rows a) (peek w) ≡ false → us ≡ w
   past a d ts us w x y p f e n = (same-take (lax g) (takes-lax g p) (subst (λ (l : List Token). Takes (lax g) a l y w) (sym e) (complete (lax g) ok f d w n))).1
 
-  pub both : (a b : Expr) → decides g.rows (Then a b) ≡ true
-      → (decides g.rows a ≡ true) × (decides g.rows b ≡ true) × (all_apart (cont g.rows a) (first g.rows b) ≡ true)
-  both a b d = let p = and_parts (decides g.rows a && decides g.rows b) _ d in let q = and_parts (decides g.rows a) (decides g.rows b) p.0 in (q.0, q.1, p.1)
-
-  pub either : (a b : Expr) → decides g.rows (Either a b) ≡ true
-      → (decides g.rows a ≡ true) × (decides g.rows b ≡ true) × (all_apart (first g.rows a) (first g.rows b) ≡ true)
-  either a b d =
-      let p = and_parts ((decides g.rows a && decides g.rows b) && all_apart (first g.rows a) (first g.rows b)) _ d in
-      let r = and_parts (decides g.rows a && decides g.rows b) (all_apart (first g.rows a) (first g.rows b)) p.0 in
-      let q = and_parts (decides g.rows a) (decides g.rows b) r.0 in
-      (q.0, q.1, r.1)
-
-  pub many : (a : Expr) → decides g.rows (Many a) ≡ true
-      → (decides g.rows a ≡ true) × (not (nullable g.rows a) ≡ true) × (all_apart (cont g.rows a) (first g.rows a) ≡ true)
-  many a d =
-      let p = and_parts (decides g.rows a && not (nullable g.rows a)) _ d in let q = and_parts (decides g.rows a) (not (nullable g.rows a))
-      p.0 in (q.0, q.1, p.1)
-
   pub goes-left : (a b : Expr) (item : Option Token) → sees (first g.rows a) item ≡ true → choose g.rows a b item ≡ Left
   goes-left a b item h = rw h refl
 
@@ -107,26 +88,26 @@ module _ (g : Grammar) (ok : is_ll1 g.rows ≡ true) where
       → sees (first g.rows d) (peek rest) ≡ true
       → {x : Shape} {us : List Token} → Takes g e ts x us → (z : Shape) × (vs : List Token) × Takes g d rest z vs
   run-takes (leads_here {e}) dc ts rest h s {x} {us} t = (x, us, subst (λ (l : List Token). Takes g e l x us) h t)
-  run-takes (leads_before {a} {b} l f) dc ts rest h s (takes_both p q) = run-takes l (both a b dc).0 ts rest h s p
+  run-takes (leads_before {a} {b} l f) dc ts rest h s (takes_both p q) = run-takes l (both g a b dc).0 ts rest h s p
   run-takes (leads_after {a} {b} {ts = fr} {x = x} f l) dc ts rest h s (takes_both {us = vs} {x = z} p q) =
-      let i = both a b dc in
+      let i = both g a b dc in
       let w = past a i.0 ts vs (fr ++ rest) z x p f (h ∙ append_assoc (leaves x) fr rest)
       (sees-apart (cont g.rows a) (first g.rows b) (peek (fr ++ rest)) i.2 (leads-first l rest s)) in
       run-takes l i.1 vs rest w s q
-  run-takes (leads_first {a} {b} l) dc ts rest h s (takes_first c p) = run-takes l (either a b dc).0 ts rest h s p
+  run-takes (leads_first {a} {b} l) dc ts rest h s (takes_first c p) = run-takes l (either g a b dc).0 ts rest h s p
   run-takes (leads_first {a} {b} l) dc ts rest h s (takes_second c p) =
       absurd (left_right g a b (peek ts) (goes-left a b (peek ts) (ap (λ (m : List Token). sees (first g.rows a) (peek m)) h ∙ leads-first l rest s)) c)
   run-takes (leads_second {a} {b} l) dc ts rest h s (takes_first c p) =
-      absurd (left_right g a b (peek ts) c (goes-right a b (peek ts) (either a b dc).2 (ap (λ (m : List Token). sees (first g.rows b) (peek m)) h
+      absurd (left_right g a b (peek ts) c (goes-right a b (peek ts) (either g a b dc).2 (ap (λ (m : List Token). sees (first g.rows b) (peek m)) h
       ∙ leads-first l rest s)))
-  run-takes (leads_second {a} {b} l) dc ts rest h s (takes_second c p) = run-takes l (either a b dc).1 ts rest h s p
+  run-takes (leads_second {a} {b} l) dc ts rest h s (takes_second c p) = run-takes l (either g a b dc).1 ts rest h s p
   run-takes (leads_turn {a} l) dc ts rest h s (takes_stop c) =
       absurd (both_ways (sees (first g.rows a) (peek ts)) c (ap (λ (m : List Token). sees (first g.rows a) (peek m)) h ∙ leads-first l rest s))
-  run-takes (leads_turn {a} l) dc ts rest h s (takes_more c p q) = run-takes l (many a dc).0 ts rest h s p
+  run-takes (leads_turn {a} l) dc ts rest h s (takes_more c p q) = run-takes l (many g a dc).0 ts rest h s p
   run-takes (leads_later {a} {ts = fr} {x = x} f l) dc ts rest h s (takes_stop c) =
       absurd (both_ways (sees (first g.rows a) (peek ts)) c (ap (λ (m : List Token). sees (first g.rows a) (peek m)) h ∙ leads-first (leads_later f l) rest s))
   run-takes (leads_later {a} {ts = fr} {x = x} f l) dc ts rest h s (takes_more {us = vs} {x = z} c p q) =
-      let i = many a dc in
+      let i = many g a dc in
       let w = past a i.0 ts vs (fr ++ rest) z x p f (h ∙ append_assoc (leaves x) fr rest)
       (sees-apart (cont g.rows a) (first g.rows a) (peek (fr ++ rest)) i.2 (leads-first l rest s)) in
       run-takes l dc vs rest w s q
@@ -169,42 +150,42 @@ module _ (g : Grammar) (ok : is_ll1 g.rows ≡ true) where
       → sees (first g.rows d) (peek rest) ≡ true
       → {why : Reason} {us : List Token} → Fails g e ts why us → Comes d rest why us
   run-fails (leads_here {e}) dc ts rest h s {why} {us} t = inr (inl (subst (λ (l : List Token). Fails g e l why us) h t))
-  run-fails (leads_before {a} {b} l f) dc ts rest h s (fails_before p) = run-fails l (both g ok a b dc).0 ts rest h s p
-  run-fails (leads_before {a} {b} l f) dc ts rest h s (fails_after p q) = inr (inr (run-takes g ok l (both g ok a b dc).0 ts rest h s p))
+  run-fails (leads_before {a} {b} l f) dc ts rest h s (fails_before p) = run-fails l (both g a b dc).0 ts rest h s p
+  run-fails (leads_before {a} {b} l f) dc ts rest h s (fails_after p q) = inr (inr (run-takes g ok l (both g a b dc).0 ts rest h s p))
   run-fails (leads_after {a} {b} {ts = fr} {x = x} f l) dc ts rest h s {why} {us} (fails_before p) =
-      let i = both g ok a b dc in
+      let i = both g a b dc in
       let n = sees-apart (cont g.rows a) (first g.rows b) (peek (fr ++ rest)) i.2 (leads-first g ok l rest s) in
       let t = complete (lax g) ok f i.0 (fr ++ rest) n in
       let p2 = subst (λ (m : List Token). Fails g a m why us) (h ∙ append_assoc (leaves x) fr rest) p in
       inl (omega (arith, fails-within g t p2, length-append fr rest))
   run-fails (leads_after {a} {b} {ts = fr} {x = x} f l) dc ts rest h s (fails_after {us = vs} {x = z} p q) =
-      let i = both g ok a b dc in
+      let i = both g a b dc in
       let w = past g ok a i.0 ts vs (fr ++ rest) z x p f (h ∙ append_assoc (leaves x) fr rest)
       (sees-apart (cont g.rows a) (first g.rows b) (peek (fr ++ rest)) i.2 (leads-first g ok l rest s)) in
       run-fails l i.1 vs rest w s q
-  run-fails (leads_first {a} {b} l) dc ts rest h s (fails_first c p) = run-fails l (either g ok a b dc).0 ts rest h s p
+  run-fails (leads_first {a} {b} l) dc ts rest h s (fails_first c p) = run-fails l (either g a b dc).0 ts rest h s p
   run-fails (leads_first {a} {b} l) dc ts rest h s (fails_second c p) =
       absurd (left_right g a b (peek ts) (goes-left g ok a b (peek ts) (ap (λ (m : List Token). sees (first g.rows a) (peek m)) h ∙ leads-first g ok l rest s))
       c)
   run-fails (leads_first {a} {b} l) dc ts rest h s (fails_neither c) =
       absurd (left_neither (sym (goes-left g ok a b (peek ts) (ap (λ (m : List Token). sees (first g.rows a) (peek m)) h ∙ leads-first g ok l rest s)) ∙ c))
   run-fails (leads_second {a} {b} l) dc ts rest h s (fails_first c p) =
-      absurd (left_right g a b (peek ts) c (goes-right g ok a b (peek ts) (either g ok a b dc).2
+      absurd (left_right g a b (peek ts) c (goes-right g ok a b (peek ts) (either g a b dc).2
       (ap (λ (m : List Token). sees (first g.rows b) (peek m)) h ∙ leads-first g ok l rest s)))
-  run-fails (leads_second {a} {b} l) dc ts rest h s (fails_second c p) = run-fails l (either g ok a b dc).1 ts rest h s p
+  run-fails (leads_second {a} {b} l) dc ts rest h s (fails_second c p) = run-fails l (either g a b dc).1 ts rest h s p
   run-fails (leads_second {a} {b} l) dc ts rest h s (fails_neither c) =
-      absurd (right_neither (sym (goes-right g ok a b (peek ts) (either g ok a b dc).2
+      absurd (right_neither (sym (goes-right g ok a b (peek ts) (either g a b dc).2
       (ap (λ (m : List Token). sees (first g.rows b) (peek m)) h ∙ leads-first g ok l rest s)) ∙ c))
-  run-fails (leads_turn {a} l) dc ts rest h s (fails_turn c p) = run-fails l (many g ok a dc).0 ts rest h s p
-  run-fails (leads_turn {a} l) dc ts rest h s (fails_later c p q) = inr (inr (run-takes g ok l (many g ok a dc).0 ts rest h s p))
+  run-fails (leads_turn {a} l) dc ts rest h s (fails_turn c p) = run-fails l (many g a dc).0 ts rest h s p
+  run-fails (leads_turn {a} l) dc ts rest h s (fails_later c p q) = inr (inr (run-takes g ok l (many g a dc).0 ts rest h s p))
   run-fails (leads_later {a} {ts = fr} {x = x} f l) dc ts rest h s {why} {us} (fails_turn c p) =
-      let i = many g ok a dc in
+      let i = many g a dc in
       let n = sees-apart (cont g.rows a) (first g.rows a) (peek (fr ++ rest)) i.2 (leads-first g ok l rest s) in
       let t = complete (lax g) ok f i.0 (fr ++ rest) n in
       let p2 = subst (λ (m : List Token). Fails g a m why us) (h ∙ append_assoc (leaves x) fr rest) p in
       inl (omega (arith, fails-within g t p2, length-append fr rest))
   run-fails (leads_later {a} {ts = fr} {x = x} f l) dc ts rest h s (fails_later {us = vs} {x = z} c p q) =
-      let i = many g ok a dc in
+      let i = many g a dc in
       let w = past g ok a i.0 ts vs (fr ++ rest) z x p f (h ∙ append_assoc (leaves x) fr rest)
       (sees-apart (cont g.rows a) (first g.rows a) (peek (fr ++ rest)) i.2 (leads-first g ok l rest s)) in
       run-fails l dc vs rest w s q

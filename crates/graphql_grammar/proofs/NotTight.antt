@@ -1,14 +1,10 @@
 -- Why the tables must be tight.
 use Rattle.std.proofs.Common.{◌≡◌, ℕ, zero, Bool, true, false, List, [], ◌∷◌, refl, sym, ap, subst, ◌∙◌}
 use Rattle.std.proofs.lemmas.Bool.{and_parts}
-use Rattle.graphql_grammar.specs.Tokens.{Token, AnyOf, nowhere, matches}
-use Rattle.graphql_grammar.specs.Trees.{Empty, One, Then, Either, Sym, Shape, Nothing, Leaf, Both, First, Second, Node, Grammar, leaves, Fits, fits_leaf}
-use Rattle.graphql_grammar.specs.Trees.{fits_both, fits_first, fits_second, fits_nothing, fits_node}
-use Rattle.graphql_grammar.specs.Tables.{is_ll1, is_tight, is_productive}
-use Rattle.graphql_grammar.specs.Reading.{Unexpected, Refused, Fails, takes_leaf, fails_node, fails_after, fails_first, fails_one, lax}
-use Rattle.graphql_grammar.specs.Leads.{leads_here}
-use Rattle.graphql_grammar.specs.Texts.{End}
-use Rattle.graphql_grammar.specs.Faults.{IsFault, node_refused, StopsBefore}
+use Rattle.graphql_grammar.specs.{Token, AnyOf, nowhere, matches, Empty, One, Then, Either, Sym, Shape, Nothing, Leaf, Both, First, Second, Node, Grammar}
+use Rattle.graphql_grammar.specs.{leaves, Fits, fits_leaf, fits_both, fits_first, fits_second, fits_nothing, fits_node, is_ll1, is_tight, is_productive}
+use Rattle.graphql_grammar.specs.{Unexpected, Refused, Fails, takes_leaf, fails_node, fails_after, fails_first, fails_one, lax, leads_here, End, IsFault}
+use Rattle.graphql_grammar.specs.{node_refused, StopsBefore}
 
 abbrev token : ℕ → Token
 token k = record { kind = k; spelling = []; place = nowhere }

@@ -1,13 +1,9 @@
 -- The class that a token stands for depends on it and on what stands before it.
 use Rattle.std.proofs.Common.{◌≡◌, suc, true, List, [], ◌∷◌, ◌++◌, length, Some, refl, sym, ap, ap₂, subst, ◌∙◌, append_assoc, length-append, inl, inr, ◌⊎◌}
 use Rattle.std.proofs.Common.{arith}
-use Rattle.graphql_grammar.specs.Tokens.{Token, Class}
-use Rattle.graphql_grammar.specs.Trees.{Expr, Many, Shape, Grammar, leaves, peek, Fits, fits_nothing, fits_leaf, fits_both, fits_first, fits_second, fits_stop}
-use Rattle.graphql_grammar.specs.Trees.{fits_more, fits_node}
-use Rattle.graphql_grammar.specs.Tables.{decides, is_ll1}
-use Rattle.graphql_grammar.specs.Reading.{choose, Choice, Left, Right, Takes, takes_nothing, takes_leaf, takes_both, takes_first, takes_second, takes_stop}
-use Rattle.graphql_grammar.specs.Reading.{takes_more, takes_node}
-use Rattle.graphql_grammar.specs.Theorems.{classes, ReadsAlike}
+use Rattle.graphql_grammar.specs.{Token, Class, Expr, Many, Shape, Grammar, leaves, peek, Fits, fits_nothing, fits_leaf, fits_both, fits_first, fits_second}
+use Rattle.graphql_grammar.specs.{fits_stop, fits_more, fits_node, decides, is_ll1, choose, Choice, Left, Right, Takes, takes_nothing, takes_leaf, takes_both}
+use Rattle.graphql_grammar.specs.{takes_first, takes_second, takes_stop, takes_more, takes_node, classes, ReadsAlike}
 use Rattle.graphql_grammar.proofs.Sound.{takes-fits, takes-leaves, takes-local}
 use Rattle.graphql_grammar.proofs.Deterministic.{same-take}
 use Rattle.graphql_grammar.proofs.FirstFault.{reads_all}

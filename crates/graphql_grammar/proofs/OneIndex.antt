@@ -1,22 +1,20 @@
 -- No two faults have one index.
-use Rattle.std.proofs.Common.{◌≡◌, ℕ, suc, ◌≤◌, true, false, List, [], ◌∷◌, ◌++◌, length, refl, sym, ap, subst, ◌∙◌, append_assoc, append-nil, length-append}
-use Rattle.std.proofs.Common.{arith, inl, inr, ◌⊎◌}
+use Rattle.std.proofs.Common.{◌≡◌, ℕ, suc, ◌+◌, ◌<◌, ◌≤◌, true, false, List, [], ◌∷◌, ◌++◌, length, refl, sym, ap, subst, ◌∙◌, append_assoc, append-nil}
+use Rattle.std.proofs.Common.{length-append, arith, inl, inr, ◌⊎◌}
 use Rattle.std.proofs.lemmas.Bool.{both_ways, and_from}
-use Rattle.graphql_grammar.specs.Tokens.{Token, Class, matches}
-use Rattle.graphql_grammar.specs.Trees.{Expr, One, Then, Either, Many, Sym, Shape, Leaf, Both, First, Second, Stop, More, Node, Grammar, row, leaves, peek}
-use Rattle.graphql_grammar.specs.Trees.{Fits, fits_leaf, fits_both, fits_first, fits_second, fits_stop, fits_more, fits_node, Begins, Ends}
-use Rattle.graphql_grammar.specs.Tables.{first, cont, decides, is_ll1, is_tight, has_samples, is_productive}
-use Rattle.graphql_grammar.specs.Reading.{sees, Left, Right, Takes, takes_leaf, Reason, Improper, Refused, fails_value, takes_both, takes_first, takes_second}
-use Rattle.graphql_grammar.specs.Reading.{takes_stop, takes_more, takes_node, lax}
-use Rattle.graphql_grammar.specs.Leads.{Leads, leads_here, leads_before, leads_after, leads_first, leads_second, leads_turn, leads_later, leads_node}
-use Rattle.graphql_grammar.specs.Texts.{Text}
-use Rattle.graphql_grammar.specs.Faults.{StopsBefore, IsFault, IsRefused, bad_place, unexpected, leaf_refused, node_refused, AnswersLeast, RefusesTokens}
+use Rattle.graphql_grammar.specs.{Token, Class, matches, Expr, One, Then, Either, Many, Sym, Shape, Both, First, Second, Stop, More, Node, Grammar, row, leaves}
+use Rattle.graphql_grammar.specs.{peek, Fits, fits_leaf, fits_both, fits_first, fits_second, fits_stop, fits_more, fits_node, Begins, Ends, first, cont}
+use Rattle.graphql_grammar.specs.{decides, is_ll1, is_tight, has_samples, is_productive, sees, Left, Right, Takes, takes_leaf, Reason, Improper, Refused}
+use Rattle.graphql_grammar.specs.{fails_value, takes_both, takes_first, takes_second, takes_stop, takes_more, takes_node, lax, leads_here, leads_before}
+use Rattle.graphql_grammar.specs.{leads_after, leads_first, leads_second, leads_turn, leads_later, leads_node, Text, StopsBefore, IsFault, IsRefused, bad_place}
+use Rattle.graphql_grammar.specs.{unexpected, leaf_refused, node_refused, AnswersLeast, RefusesTokens}
+use Rattle.graphql_grammar.specs.Leads.{Leads}
 use Rattle.graphql_grammar.proofs.FirstFault.{begins-around, begins-after, fits-lax, takes-lax}
 use Rattle.graphql_grammar.proofs.Items.{sees-apart}
 use Rattle.graphql_grammar.proofs.Sound.{takes-leaves}
-use Rattle.graphql_grammar.proofs.Complete.{IsRow-each, complete}
+use Rattle.graphql_grammar.proofs.Complete.{IsRow-each, complete, both, either, many}
 use Rattle.graphql_grammar.proofs.Deterministic.{same-take, take-or_fail}
-use Rattle.graphql_grammar.proofs.Leading.{both, either, many, goes-left, goes-right, leads-first, past, run-takes}
+use Rattle.graphql_grammar.proofs.Leading.{goes-left, goes-right, leads-first, past, run-takes}
 use Rattle.graphql_grammar.proofs.Faulted.{sees_leaf, sees_node, positive, node_takes, node_fails, past as past_front, answers_least}
 
 left_right : Left ≡ Right → ⊥
@@ -38,28 +36,28 @@ module _ (g : Grammar) (ok : is_ll1 g.rows ≡ true) where
       → {x : Shape} {us : List Token} → Takes (lax g) e ts x us → Within d rest us
   visits (leads_here {e}) dc ts rest h s {x} {us} t = (x, us, subst (λ (l : List Token). Takes (lax g) e l x us) h t, omega arith)
   visits (leads_before {a} {b} {d} l f) dc ts rest h s {us = us} (takes_both {us = vs} p q) =
-      farther d rest vs us (no_more q) (visits l (both g ok a b dc).0 ts rest h s p)
+      farther d rest vs us (no_more q) (visits l (both g a b dc).0 ts rest h s p)
   visits (leads_after {a} {b} {ts = fr} {x = x} f l) dc ts rest h s (takes_both {us = vs} {x = z} p q) =
-      let i = both g ok a b dc in
+      let i = both g a b dc in
       let w = past (lax g) ok a i.0 ts vs (fr ++ rest) z x p f (h ∙ append_assoc (leaves x) fr rest)
       (sees-apart (cont g.rows a) (first g.rows b) (peek (fr ++ rest)) i.2 (leads-first g ok l rest s)) in
       visits l i.1 vs rest w s q
-  visits (leads_first {a} {b} l) dc ts rest h s (takes_first c p) = visits l (either g ok a b dc).0 ts rest h s p
+  visits (leads_first {a} {b} l) dc ts rest h s (takes_first c p) = visits l (either g a b dc).0 ts rest h s p
   visits (leads_first {a} {b} l) dc ts rest h s (takes_second c p) =
       absurd (left_right (sym (goes-left g ok a b (peek ts) (ap (λ (m : List Token). sees (first g.rows a) (peek m)) h ∙ leads-first g ok l rest s)) ∙ c))
   visits (leads_second {a} {b} l) dc ts rest h s (takes_first c p) =
-      absurd (left_right (sym c ∙ goes-right g ok a b (peek ts) (either g ok a b dc).2
+      absurd (left_right (sym c ∙ goes-right g ok a b (peek ts) (either g a b dc).2
       (ap (λ (m : List Token). sees (first g.rows b) (peek m)) h ∙ leads-first g ok l rest s)))
-  visits (leads_second {a} {b} l) dc ts rest h s (takes_second c p) = visits l (either g ok a b dc).1 ts rest h s p
+  visits (leads_second {a} {b} l) dc ts rest h s (takes_second c p) = visits l (either g a b dc).1 ts rest h s p
   visits (leads_turn {a} l) dc ts rest h s (takes_stop c) =
       absurd (both_ways (sees (first g.rows a) (peek ts)) c (ap (λ (m : List Token). sees (first g.rows a) (peek m)) h ∙ leads-first g ok l rest s))
   visits (leads_turn {a} {d} l) dc ts rest h s {us = us} (takes_more {us = vs} c p q) =
-      farther d rest vs us (no_more q) (visits l (many g ok a dc).0 ts rest h s p)
+      farther d rest vs us (no_more q) (visits l (many g a dc).0 ts rest h s p)
   visits (leads_later {a} {ts = fr} {x = x} f l) dc ts rest h s (takes_stop c) =
       absurd (both_ways (sees (first g.rows a) (peek ts)) c
       (ap (λ (m : List Token). sees (first g.rows a) (peek m)) h ∙ leads-first g ok (leads_later f l) rest s))
   visits (leads_later {a} {ts = fr} {x = x} f l) dc ts rest h s (takes_more {us = vs} {x = z} c p q) =
-      let i = many g ok a dc in
+      let i = many g a dc in
       let w = past (lax g) ok a i.0 ts vs (fr ++ rest) z x p f (h ∙ append_assoc (leaves x) fr rest)
       (sees-apart (cont g.rows a) (first g.rows a) (peek (fr ++ rest)) i.2 (leads-first g ok l rest s)) in
       visits l dc vs rest w s q
@@ -81,45 +79,45 @@ module _ (g : Grammar) (ok : is_ll1 g.rows ≡ true) where
       → sees (first g.rows d) (peek rest) ≡ true → sees (first g.rows d2) (peek rest2) ≡ true → Compared fr d rest fr2 d2 rest2
   compare {fr2 = fr2} leads_here m dc ts rest rest2 h k s r = inl (inl (fr2, m, sym h ∙ k))
   compare {fr = fr} l leads_here dc ts rest rest2 h k s r = inl (inr (fr, l, sym k ∙ h))
-  compare (leads_before {a} {b} l f) (leads_before m f2) dc ts rest rest2 h k s r = compare l m (both g ok a b dc).0 ts rest rest2 h k s r
+  compare (leads_before {a} {b} l f) (leads_before m f2) dc ts rest rest2 h k s r = compare l m (both g a b dc).0 ts rest rest2 h k s r
   compare (leads_before {a} {b} {d} l f) (leads_after {ts = us} {x = x} f2 m) dc ts rest rest2 h k s r =
-      let i = both g ok a b dc in
+      let i = both g a b dc in
       let t = apart-from a x ts (us ++ rest2) i.0 f2 (k ∙ append_assoc (leaves x) us rest2)
       (sees-apart (cont g.rows a) (first g.rows b) (peek (us ++ rest2)) i.2 (leads-first g ok m rest2 r)) in
       inr (inl (farther d rest (us ++ rest2) rest2 (omega (arith, length-append us rest2)) (visits l i.0 ts rest h s t)))
   compare (leads_after {a} {b} {ts = us} {x = x} f l) (leads_before {d = d2} m f2) dc ts rest rest2 h k s r =
-      let i = both g ok a b dc in
+      let i = both g a b dc in
       let t = apart-from a x ts (us ++ rest) i.0 f (h ∙ append_assoc (leaves x) us rest)
       (sees-apart (cont g.rows a) (first g.rows b) (peek (us ++ rest)) i.2 (leads-first g ok l rest s)) in
       inr (inr (farther d2 rest2 (us ++ rest) rest (omega (arith, length-append us rest)) (visits m i.0 ts rest2 k r t)))
   compare (leads_after {a} {b} {ts = us} {x = x} f l) (leads_after {ts = vs} {x = y} f2 m) dc ts rest rest2 h k s r =
-      let i = both g ok a b dc in
+      let i = both g a b dc in
       let t = apart-from a x ts (us ++ rest) i.0 f (h ∙ append_assoc (leaves x) us rest)
       (sees-apart (cont g.rows a) (first g.rows b) (peek (us ++ rest)) i.2 (leads-first g ok l rest s)) in
       let t2 = apart-from a y ts (vs ++ rest2) i.0 f2 (k ∙ append_assoc (leaves y) vs rest2)
       (sees-apart (cont g.rows a) (first g.rows b) (peek (vs ++ rest2)) i.2 (leads-first g ok m rest2 r)) in
       compare l m i.1 (us ++ rest) rest rest2 refl (same-take (lax g) t t2).1 s r
-  compare (leads_first {a} {b} l) (leads_first m) dc ts rest rest2 h k s r = compare l m (either g ok a b dc).0 ts rest rest2 h k s r
+  compare (leads_first {a} {b} l) (leads_first m) dc ts rest rest2 h k s r = compare l m (either g a b dc).0 ts rest rest2 h k s r
   compare (leads_first {a} {b} l) (leads_second m) dc ts rest rest2 h k s r =
       absurd (left_right (sym (goes-left g ok a b (peek ts) (ap (λ (m : List Token). sees (first g.rows a) (peek m)) h ∙ leads-first g ok l rest s))
-      ∙ goes-right g ok a b (peek ts) (either g ok a b dc).2 (ap (λ (m : List Token). sees (first g.rows b) (peek m)) k ∙ leads-first g ok m rest2 r)))
+      ∙ goes-right g ok a b (peek ts) (either g a b dc).2 (ap (λ (m : List Token). sees (first g.rows b) (peek m)) k ∙ leads-first g ok m rest2 r)))
   compare (leads_second {a} {b} l) (leads_first m) dc ts rest rest2 h k s r =
       absurd (left_right (sym (goes-left g ok a b (peek ts) (ap (λ (m : List Token). sees (first g.rows a) (peek m)) k ∙ leads-first g ok m rest2 r))
-      ∙ goes-right g ok a b (peek ts) (either g ok a b dc).2 (ap (λ (m : List Token). sees (first g.rows b) (peek m)) h ∙ leads-first g ok l rest s)))
-  compare (leads_second {a} {b} l) (leads_second m) dc ts rest rest2 h k s r = compare l m (either g ok a b dc).1 ts rest rest2 h k s r
-  compare (leads_turn {a} l) (leads_turn m) dc ts rest rest2 h k s r = compare l m (many g ok a dc).0 ts rest rest2 h k s r
+      ∙ goes-right g ok a b (peek ts) (either g a b dc).2 (ap (λ (m : List Token). sees (first g.rows b) (peek m)) h ∙ leads-first g ok l rest s)))
+  compare (leads_second {a} {b} l) (leads_second m) dc ts rest rest2 h k s r = compare l m (either g a b dc).1 ts rest rest2 h k s r
+  compare (leads_turn {a} l) (leads_turn m) dc ts rest rest2 h k s r = compare l m (many g a dc).0 ts rest rest2 h k s r
   compare (leads_turn {a} {d} l) (leads_later {ts = us} {x = x} f2 m) dc ts rest rest2 h k s r =
-      let i = many g ok a dc in
+      let i = many g a dc in
       let t = apart-from a x ts (us ++ rest2) i.0 f2 (k ∙ append_assoc (leaves x) us rest2)
       (sees-apart (cont g.rows a) (first g.rows a) (peek (us ++ rest2)) i.2 (leads-first g ok m rest2 r)) in
       inr (inl (farther d rest (us ++ rest2) rest2 (omega (arith, length-append us rest2)) (visits l i.0 ts rest h s t)))
   compare (leads_later {a} {ts = us} {x = x} f l) (leads_turn {d = d2} m) dc ts rest rest2 h k s r =
-      let i = many g ok a dc in
+      let i = many g a dc in
       let t = apart-from a x ts (us ++ rest) i.0 f (h ∙ append_assoc (leaves x) us rest)
       (sees-apart (cont g.rows a) (first g.rows a) (peek (us ++ rest)) i.2 (leads-first g ok l rest s)) in
       inr (inr (farther d2 rest2 (us ++ rest) rest (omega (arith, length-append us rest)) (visits m i.0 ts rest2 k r t)))
   compare (leads_later {a} {ts = us} {x = x} f l) (leads_later {ts = vs} {x = y} f2 m) dc ts rest rest2 h k s r =
-      let i = many g ok a dc in
+      let i = many g a dc in
       let t = apart-from a x ts (us ++ rest) i.0 f (h ∙ append_assoc (leaves x) us rest)
       (sees-apart (cont g.rows a) (first g.rows a) (peek (us ++ rest)) i.2 (leads-first g ok l rest s)) in
       let t2 = apart-from a y ts (vs ++ rest2) i.0 f2 (k ∙ append_assoc (leaves y) vs rest2)
@@ -162,6 +160,16 @@ symbol_is k j x y h = cc
 no_leaf : (c : Class) (k : ℕ) → Sym k ≡ One c → ⊥
 no_leaf c k h = cc
 
+-- A list of e may have one of d after front: xs, the next tokens, of which the last has the index n. All that d takes there ends with it.
+record Stands (g : Grammar) (e d : Expr) (ts front xs us : List Token) (n : ℕ) : Type 0 where
+  pub parts : ts ≡ front ++ (xs ++ us)
+  pub leads : Leads (lax g) e front d
+  pub begins : Begins (lax g) e (front ++ xs)
+  pub seen : sees (first g.rows d) (peek (xs ++ us)) ≡ true
+  pub some : 0 < length xs
+  pub ends : (z : Shape) (vs : List Token) → Takes (lax g) d (xs ++ us) z vs → length vs ≡ length us
+  pub index : n ≡ length front + length xs
+
 module _ (g : Grammar) (ok : is_ll1 g.rows ≡ true) (full : is_productive g ≡ true) (tight : is_tight g.rows ≡ true) (e : Expr) (d : decides g.rows e ≡ true)
     (f : has_samples g e ≡ true) where
   -- the plain grammar takes a refused node where it ends
@@ -189,176 +197,123 @@ module _ (g : Grammar) (ok : is_ll1 g.rows ≡ true) (full : is_productive g ≡
       (node_takes g ok full tight e d f k x us p n) in
       absurd (take-or_fail g t.2 (node_fails g ok full tight e d f j y vs q c r))
 
-  leaf_fits : (c : Class) (u : Token) → matches c u ≡ true → Fits (lax g) (One c) (Leaf u)
-  leaf_fits c u m = fits_leaf (and_from (matches c u) true m refl)
+  leaf_stands : (ts front us : List Token) (u : Token) (c : Class) → ts ≡ front ++ u ∷ us → Leads (lax g) e front (One c) → matches c u ≡ true
+      → Stands g e (One c) ts front (u ∷ []) us (suc (length front))
+  leaf_stands ts front us u c p l m = record {
+    parts = p;
+    leads = l;
+    begins = leads-begins g l (fits_leaf {t = u} (and_from (matches c u) true m refl));
+    seen = sees_leaf g ok full tight e d f c u us m;
+    some = omega arith;
+    ends = λ z vs t. leaf_takes (lax g) t;
+    index = omega arith;
+  }
 
-  -- an unexpected item, and a token with which a list begins
-  not_unexpected : (ts front vs front0 us : List Token) → ts ≡ front ++ vs → ts ≡ front0 ++ us → Ends (lax g) e front (peek vs) → Begins (lax g) e front0
-      → suc (length front) ≡ length front0 → ⊥
-  not_unexpected ts front vs front0 us p q n b h =
-      elim (past_front g ok full tight e d f ts us front vs front0 q p b n) [
-        | inl l ↦ omega (arith, l, h, ap length q, length-append front0 us)
-        | inr l ↦ omega (arith, h, ap length l.0)
+  node_stands : (ts before us : List Token) (k : ℕ) (x : Shape) → IsRefused g e ts k x before us
+      → Stands g e (Sym k) ts before (leaves x) us (length (before ++ leaves x))
+  node_stands ts before us k x (p, ne, l, w, c, n) = record {
+    parts = p;
+    leads = l;
+    begins = leads-begins g {z = Node k x} l (fits_node (fits-lax g w) refl);
+    seen = sees_node g ok full tight e d f k x us w ne;
+    some = positive g ok full tight e d f (leaves x) ne;
+    ends = λ z vs t. ap length (node_ends k x us vs z w n t);
+    index = length-append before (leaves x);
+  }
+
+  -- no index past the tokens
+  not_past : {a : Expr} {ts front xs us : List Token} {m n : ℕ} → Stands g e a ts front xs us n → m ≡ n → m ≡ suc (length ts) → ⊥
+  not_past {front = front} {xs = xs} {us = us} s h k =
+      omega (arith, h, k, s.index, ap length s.parts, length-append front (xs ++ us), length-append xs us)
+
+  -- nor that of an unexpected item
+  not_unexpected : {a : Expr} {ts front2 xs us : List Token} {m n : ℕ} (front vs : List Token) → ts ≡ front ++ vs → Ends (lax g) e front (peek vs)
+      → Stands g e a ts front2 xs us n → m ≡ n → m ≡ suc (length front) → ⊥
+  not_unexpected {ts = ts} {front2 = front2} {xs = xs} {us = us} front vs p n s h k =
+      elim (past_front g ok full tight e d f ts us front vs (front2 ++ xs) (s.parts ∙ sym (append_assoc front2 xs us)) p s.begins n) [
+        | inl l ↦ omega (arith, l, h, k, s.index, ap length s.parts, length-append front2 (xs ++ us), length-append xs us)
+        | inr l ↦ omega (arith, h, k, s.index, length-append front2 xs, ap length l.0)
       ]
 
-  split : (front us : List Token) (u : Token) → front ++ u ∷ us ≡ (front ++ u ∷ []) ++ us
-  split front us u = sym (append_assoc front (u ∷ []) us)
+  -- of two with one index, neither ends before the other
+  not_before : {a b : Expr} {ts front xs us front2 ys vs : List Token} {m n : ℕ} → Stands g e a ts front xs us m → Stands g e b ts front2 ys vs n → m ≡ n
+      → Within g ok a (xs ++ us) (ys ++ vs) → ⊥
+  not_before {front = front} {xs = xs} {us = us} {front2 = front2} {ys = ys} {vs = vs} s r h w = omega (
+    arith,
+    h,
+    s.index,
+    r.index,
+    r.some,
+    w.3,
+    s.ends w.0 w.1 w.2,
+    ap length s.parts,
+    ap length r.parts,
+    length-append front (xs ++ us),
+    length-append xs us,
+    length-append front2 (ys ++ vs),
+    length-append ys vs,
+  )
+
+  -- so one stands within the other
+  abbrev Inside : Expr → Expr → List Token → List Token → Type 0
+  Inside a b rest rest2 = (mid : List Token) × Leads (lax g) a mid b × (rest ≡ mid ++ rest2)
+
+  inside : {a b : Expr} {ts front xs us front2 ys vs : List Token} {m n : ℕ} → Stands g e a ts front xs us m → Stands g e b ts front2 ys vs n → m ≡ n
+      → Inside a b (xs ++ us) (ys ++ vs) ⊎ Inside b a (ys ++ vs) (xs ++ us)
+  inside {ts = ts} {xs = xs} {us = us} {ys = ys} {vs = vs} s r h =
+      elim (compare g ok s.leads r.leads d ts (xs ++ us) (ys ++ vs) s.parts r.parts s.seen r.seen) [
+        | inl o ↦ o
+        | inr o ↦ elim o [
+          | inl w ↦ absurd (not_before s r h w)
+          | inr w ↦ absurd (not_before r s (sym h) w)
+        ]
+      ]
 
   leaf_node : (ts front us before vs : List Token) (u : Token) (c : Class) (k : ℕ) (x : Shape) → ts ≡ front ++ u ∷ us → Leads (lax g) e front (One c)
-      → matches c u ≡ true → g.good c u ≡ false
-      → ts ≡ before ++ (leaves x ++ vs) → (leaves x ≡ [] → ⊥) → Leads (lax g) e before (Sym k) → Fits g (row g k).rule x
-      → StopsBefore (lax g) (Sym k) (leaves x) vs
-      → suc (length front) ≡ length (before ++ leaves x) → ⊥
-  leaf_node ts front us before vs u c k x p l m b q ne r w n h =
-      elim (compare g ok l r d ts (u ∷ us) (leaves x ++ vs) p q (sees_leaf g ok full tight e d f c u us m) (sees_node g ok full tight e d f k x vs w ne)) [
-        | inl o ↦ elim o [
-          | inl i ↦ no_leaf c k (one_leads (lax g) i.1)
-          | inr i ↦ leaf_within k x vs c u us i.0 w n m b i.2 i.1
-        ]
-        | inr o ↦ elim o [
-          | inl i ↦ omega (
-            arith,
-            h,
-            ap length p,
-            ap length q,
-            length-append front (u ∷ us),
-            length-append before (leaves x ++ vs),
-            length-append before
-                (leaves x),
-            length-append (leaves x) vs,
-            i.3,
-            leaf_takes (lax g) i.2,
-            positive g ok full tight e d f (leaves x) ne,
-          )
-          | inr i ↦ omega (
-            arith,
-            h,
-            ap length p,
-            ap length q,
-            length-append front (u ∷ us),
-            length-append before (leaves x ++ vs),
-            length-append before
-                (leaves x),
-            length-append (leaves x) vs,
-            i.3,
-            ap length (node_ends k x vs i.1 i.0 w n i.2),
-          )
-        ]
-      ]
-
-  leaf_leaf : (ts front us front2 vs : List Token) (u v : Token) (c k : Class) → ts ≡ front ++ u ∷ us → Leads (lax g) e front (One c) → matches c u ≡ true
-      → ts ≡ front2 ++ v ∷ vs → Leads (lax g) e front2 (One k) → matches k v ≡ true → suc (length front) ≡ suc (length front2) → Improper c ≡ Improper k
-  leaf_leaf ts front us front2 vs u v c k p l m q r w h =
-      elim (compare g ok l r d ts (u ∷ us) (v ∷ vs) p q (sees_leaf g ok full tight e d f c u us m) (sees_leaf g ok full tight e d f k v vs w)) [
-        | inl o ↦ elim o [
-          | inl i ↦ class_is k c (one_leads (lax g) i.1)
-          | inr i ↦ sym (class_is c k (one_leads (lax g) i.1))
-        ]
-        | inr o ↦ elim o [
-          | inl i ↦ absurd (omega (
-            arith,
-            h,
-            ap length p,
-            ap length q,
-            length-append front (u ∷ us),
-            length-append front2 (v ∷ vs),
-            i.3,
-            leaf_takes (lax g)
-                i.2,
-          ))
-          | inr i ↦ absurd (omega (
-            arith,
-            h,
-            ap length p,
-            ap length q,
-            length-append front (u ∷ us),
-            length-append front2 (v ∷ vs),
-            i.3,
-            leaf_takes (lax g)
-                i.2,
-          ))
-        ]
+      → matches c u ≡ true → g.good c u ≡ false → IsRefused g e ts k x before vs → suc (length front) ≡ length (before ++ leaves x) → ⊥
+  leaf_node ts front us before vs u c k x p l m b r h =
+      elim (inside (leaf_stands ts front us u c p l m) (node_stands ts before vs k x r) h) [
+        | inl i ↦ no_leaf c k (one_leads (lax g) i.1)
+        | inr i ↦ leaf_within k x vs c u us i.0 r.3 r.5 m b i.2 i.1
       ]
 
   -- no two refused nodes end at one place
   pub one_node : (ts before us before2 vs : List Token) (k j : ℕ) (x y : Shape) → IsRefused g e ts k x before us → IsRefused g e ts j y before2 vs
       → length (before ++ leaves x) ≡ length (before2 ++ leaves y) → Node k x ≡ Node j y
-  one_node ts before us before2 vs k j x y (p, ne, l, w, c, n) (q, ne2, r, w2, c2, n2) h =
-      elim (compare g ok l r d ts (leaves x ++ us) (leaves y ++ vs) p q (sees_node g ok full tight e d f k x us w ne)
-      (sees_node g ok full tight e d f j y vs w2 ne2)) [
-        | inl o ↦ elim o [
-          | inl i ↦ node_within k j x y us vs i.0 w n w2 c2 ne2 n2 i.2 i.1
-          | inr i ↦ sym (node_within j k y x vs us i.0 w2 n2 w c ne n i.2 i.1)
-        ]
-        | inr o ↦ elim o [
-          | inl i ↦ absurd (omega (
-            arith,
-            h,
-            ap length p,
-            ap length q,
-            length-append before (leaves x ++ us),
-            length-append before (leaves x),
-            length-append
-                (leaves x) us,
-            length-append before2 (leaves y ++ vs),
-            length-append before2 (leaves y),
-            length-append (leaves y) vs,
-            i.3,
-            ap length
-                (node_ends k x us i.1 i.0 w n i.2),
-            positive g ok full tight e d f (leaves y) ne2,
-          ))
-          | inr i ↦ absurd (omega (
-            arith,
-            h,
-            ap length p,
-            ap length q,
-            length-append before (leaves x ++ us),
-            length-append before (leaves x),
-            length-append
-                (leaves x) us,
-            length-append before2 (leaves y ++ vs),
-            length-append before2 (leaves y),
-            length-append (leaves y) vs,
-            i.3,
-            ap length
-                (node_ends j y vs i.1 i.0 w2 n2 i.2),
-            positive g ok full tight e d f (leaves x) ne,
-          ))
-        ]
+  one_node ts before us before2 vs k j x y r q h =
+      elim (inside (node_stands ts before us k x r) (node_stands ts before2 vs j y q) h) [
+        | inl i ↦ node_within k j x y us vs i.0 r.3 r.5 q.3 q.4 q.1 q.5 i.2 i.1
+        | inr i ↦ sym (node_within j k y x vs us i.0 q.3 q.5 r.3 r.4 r.1 r.5 i.2 i.1)
       ]
 
   pub one_index : (t : Text) (why other : Reason) (m n : ℕ) → IsFault g e t why m → IsFault g e t other n → m ≡ n → why ≡ other
   one_index t _ _ _ _ (bad_place b) (bad_place b2) h = refl
   one_index t _ _ _ _ (bad_place b) (unexpected front us p i b2 n) h = refl
-  one_index t _ _ _ _ (bad_place b) (leaf_refused front us u c p l m n) h = absurd (omega (arith, h, ap length p, length-append front (u ∷ us)))
-  one_index t _ _ _ _ (bad_place b) (node_refused before us k x (p, ne, l, w, c, n)) h =
-      absurd (omega (arith, h, ap length p, length-append before (leaves x ++ us), length-append before (leaves x), length-append (leaves x) us))
+  one_index t _ _ _ _ (bad_place b) (leaf_refused front us u c p l m n) h = absurd (not_past (leaf_stands t.tokens front us u c p l m) h refl)
+  one_index t _ _ _ _ (bad_place b) (node_refused before us k x r) h = absurd (not_past (node_stands t.tokens before us k x r) h refl)
   one_index t _ _ _ _ (unexpected front us p i b n) (bad_place b2) h = refl
   one_index t _ _ _ _ (unexpected front us p i b n) (unexpected front2 us2 p2 i2 b2 n2) h = refl
   one_index t _ _ _ _ (unexpected front us p i b n) (leaf_refused front2 us2 u c p2 l m n2) h =
-      absurd (not_unexpected t.tokens front us (front2 ++ u ∷ []) us2 p (p2 ∙ split front2 us2 u) n (leads-begins g l (leaf_fits c u m))
-      (omega (arith, h, length-append front2 (u ∷ []))))
-  one_index t _ _ _ _ (unexpected front us p i b n) (node_refused before us2 k x (p2, ne, l, w, c, n2)) h =
-      absurd (not_unexpected t.tokens front us (before ++ leaves x) us2 p (p2 ∙ sym (append_assoc before (leaves x) us2)) n
-      (leads-begins g {z = Node k x} l (fits_node (fits-lax g w) refl)) h)
-  one_index t _ _ _ _ (leaf_refused front us u c p l m n) (bad_place b) h = absurd (omega (arith, h, ap length p, length-append front (u ∷ us)))
-  one_index t _ _ _ _ (leaf_refused front2 us2 u c p2 l m n2) (unexpected front us p i b n) h =
-      absurd (not_unexpected t.tokens front us (front2 ++ u ∷ []) us2 p (p2 ∙ split front2 us2 u) n (leads-begins g l (leaf_fits c u m))
-      (omega (arith, h, length-append front2 (u ∷ []))))
+      absurd (not_unexpected front us p n (leaf_stands t.tokens front2 us2 u c p2 l m) h refl)
+  one_index t _ _ _ _ (unexpected front us p i b n) (node_refused before us2 k x r) h =
+      absurd (not_unexpected front us p n (node_stands t.tokens before us2 k x r) h refl)
   one_index t _ _ _ _ (leaf_refused front us u c p l m n) (leaf_refused front2 us2 v k p2 l2 m2 n2) h =
-      leaf_leaf t.tokens front us front2 us2 u v c k p l m p2 l2 m2 h
-  one_index t _ _ _ _ (leaf_refused front us u c p l m n) (node_refused before vs k x (q, ne, r, w, b, n2)) h =
-      absurd (leaf_node t.tokens front us before vs u c k x p l m n q ne r w n2 h)
-  one_index t _ _ _ _ (node_refused before us k x (p, ne, l, w, c, n)) (bad_place b) h =
-      absurd (omega (arith, h, ap length p, length-append before (leaves x ++ us), length-append before (leaves x), length-append (leaves x) us))
-  one_index t _ _ _ _ (node_refused before us2 k x (p2, ne, l, w, c, n2)) (unexpected front us p i b n) h =
-      absurd (not_unexpected t.tokens front us (before ++ leaves x) us2 p (p2 ∙ sym (append_assoc before (leaves x) us2)) n
-      (leads-begins g {z = Node k x} l (fits_node (fits-lax g w) refl)) (sym h))
-  one_index t _ _ _ _ (node_refused before vs k x (q, ne, r, w, b, n2)) (leaf_refused front us u c p l m n) h =
-      absurd (leaf_node t.tokens front us before vs u c k x p l m n q ne r w n2 (sym h))
-  one_index t _ _ _ _ (node_refused before us k x a) (node_refused before2 vs j y b) h =
-      symbol_is k j x y (one_node t.tokens before us before2 vs k j x y a b h)
+      elim (inside (leaf_stands t.tokens front us u c p l m) (leaf_stands t.tokens front2 us2 v k p2 l2 m2) h) [
+        | inl i ↦ class_is k c (one_leads (lax g) i.1)
+        | inr i ↦ sym (class_is c k (one_leads (lax g) i.1))
+      ]
+  one_index t _ _ _ _ (leaf_refused front us u c p l m n) (node_refused before vs k x r) h =
+      absurd (leaf_node t.tokens front us before vs u c k x p l m n r h)
+  one_index t _ _ _ _ (node_refused before us k x r) (node_refused before2 vs j y q) h =
+      symbol_is k j x y (one_node t.tokens before us before2 vs k j x y r q h)
+  one_index t _ _ _ _ (leaf_refused front us u c p l m n) (bad_place b) h = absurd (not_past (leaf_stands t.tokens front us u c p l m) (sym h) refl)
+  one_index t _ _ _ _ (leaf_refused front2 us2 u c p2 l m n2) (unexpected front us p i b n) h =
+      absurd (not_unexpected front us p n (leaf_stands t.tokens front2 us2 u c p2 l m) (sym h) refl)
+  one_index t _ _ _ _ (node_refused before us k x r) (bad_place b) h = absurd (not_past (node_stands t.tokens before us k x r) (sym h) refl)
+  one_index t _ _ _ _ (node_refused before us2 k x r) (unexpected front us p i b n) h =
+      absurd (not_unexpected front us p n (node_stands t.tokens before us2 k x r) (sym h) refl)
+  one_index t _ _ _ _ (node_refused before vs k x r) (leaf_refused front us u c p l m n) h =
+      absurd (leaf_node t.tokens front us before vs u c k x p l m n r (sym h))
 
   pub least : RefusesTokens g → AnswersLeast g g e
   least tokens = answers_least g ok full tight e d f tokens (λ t why other n x y. one_index t why other n n x y refl)

@@ -1,12 +1,9 @@
 -- The steps of a function that reads: a loop over a repetition, an error that goes up, and a choice.
 use Rattle.std.proofs.Common.{◌≡◌, ℕ, true, false, not, ◌&&◌, List, [], ◌++◌, Option, Some, None, refl, sym, ◌∙◌, append_assoc, append-nil}
 use Rattle.std.proofs.lemmas.Bool.{and_parts}
-use Rattle.graphql_grammar.specs.Tokens.{Token, all_apart}
-use Rattle.graphql_grammar.specs.Trees.{Expr, Then, Either, Many, Sym, Shape, Stop, More, Row, Grammar, row, peek}
-use Rattle.graphql_grammar.specs.Tables.{nullable, first, decides}
-use Rattle.graphql_grammar.specs.Reading.{sees, choose, Left, Right, Neither, Takes, takes_stop, takes_more, Reason, Fails, fails_before, fails_after}
-use Rattle.graphql_grammar.specs.Reading.{fails_first, fails_second, fails_node, fails_turn, fails_later}
-use Rattle.graphql_grammar.specs.ReaderWords.{TakesSome, Stops, values, Turns}
+use Rattle.graphql_grammar.specs.{Token, all_apart, Expr, Then, Either, Many, Sym, Shape, Stop, More, Row, Grammar, row, peek, nullable, first, decides, sees}
+use Rattle.graphql_grammar.specs.{choose, Left, Right, Neither, Takes, takes_stop, takes_more, Reason, fails_before, fails_after, fails_first, fails_second}
+use Rattle.graphql_grammar.specs.{fails_node, fails_turn, fails_later, TakesSome, Stops, values, Turns}
 use Rattle.graphql_grammar.proofs.Items.{sees-parts, sees-apart}
 
 pub Turns-start : {A : Type 0} (g : Grammar) (a : Expr) (f : Shape → List A) (ts : List Token) → Turns g a f ts ts []
@@ -23,11 +20,6 @@ Turns-more g a f start now next items x t s h = record {
 pub Turns-stop : {A : Type 0} (g : Grammar) (a : Expr) (f : Shape → List A) (start now : List Token) (items : List A) → Turns g a f start now items
     → sees (first g.rows a) (peek now) ≡ false → TakesSome g (Many a) start now (λ x. values f x ≡ items)
 Turns-stop g a f start now items t s = let r = t.takes Stop now (takes_stop s) in (r.0, r.1, r.2 ∙ append-nil items)
-
-pub Turns-fail : {A : Type 0} (g : Grammar) (a : Expr) (f : Shape → List A) (start now us : List Token) (items : List A) (why : Reason)
-    → Turns g a f start now items
-    → sees (first g.rows a) (peek now) ≡ true → Fails g a now why us → Fails g (Many a) start why us
-Turns-fail g a f start now us items why t s h = t.fails why us (fails_turn s h)
 
 -- ---- how an error goes up
 
@@ -73,14 +65,6 @@ pub picks-second : (rs : List Row) (a b : Expr) (item : Option Token) → decide
 picks-second rs a b item d h =
     let p = and_parts (decides rs a && decides rs b) (all_apart (first rs a) (first rs b)) (and_parts _ (not (nullable rs a && nullable rs b)) d).0 in
     rw (sees-apart (first rs a) (first rs b) item p.1 h, h) refl
-
-pub picks-empty_first : (rs : List Row) (a b : Expr) (item : Option Token) → nullable rs a ≡ true → sees (first rs (Either a b)) item ≡ false
-    → choose rs a b item ≡ Left
-picks-empty_first rs a b item n h = let p = sees-parts (first rs a) (first rs b) item h in rw (p.0, p.1, n) refl
-
-pub picks-empty_second : (rs : List Row) (a b : Expr) (item : Option Token) → nullable rs a ≡ false → nullable rs b ≡ true
-    → sees (first rs (Either a b)) item ≡ false → choose rs a b item ≡ Right
-picks-empty_second rs a b item n m h = let p = sees-parts (first rs a) (first rs b) item h in rw (p.0, p.1, n, m) refl
 
 pub picks-neither : (rs : List Row) (a b : Expr) (item : Option Token) → nullable rs a ≡ false → nullable rs b ≡ false
     → sees (first rs (Either a b)) item ≡ false → choose rs a b item ≡ Neither

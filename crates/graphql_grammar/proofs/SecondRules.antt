@@ -1,18 +1,14 @@
 -- Trees of the second rules and trees of the written ones are the same.
 use Rattle.std.proofs.Common.{◌≡◌, ℕ, zero, suc, true, List, [], ◌∷◌, ◌++◌, take, drop, Option, Some, None, refl, sym, ap, ap₂, subst, ◌∙◌, append_assoc}
 use Rattle.std.proofs.lemmas.Bool.{both_ways}
-use Rattle.graphql_grammar.specs.Tokens.{Token, Class}
-use Rattle.graphql_grammar.specs.Trees.{Expr, Empty, Then, Either, Sym, Shape, Nothing, Leaf, Both, First, Second, Stop, More, Node, Row, Grammar, row_at}
-use Rattle.graphql_grammar.specs.Trees.{leaves, peek, Derives, Begins, Ends, Fits, fits_nothing, fits_leaf, fits_both, fits_first, fits_second, fits_stop}
-use Rattle.graphql_grammar.specs.Trees.{fits_more, fits_node}
-use Rattle.graphql_grammar.specs.Tables.{decides, is_ll1, has_samples, is_productive}
-use Rattle.graphql_grammar.specs.Reading.{unchecked, lax}
-use Rattle.graphql_grammar.specs.Theorems.{IsValue, classes}
-use Rattle.graphql_grammar.specs.Factored.{Change, unchanged, change_at, written, with_rows, IsSecond, AreSecond, EachIsSecond, out_of_head, in_second}
-use Rattle.graphql_grammar.specs.Factored.{out_of_prefix, out_of_symbols, IsExactFor}
-use Rattle.graphql_grammar.specs.Leads.{Leads, leads_here, leads_before, leads_after, leads_first, leads_second, leads_node, IsTested}
-use Rattle.graphql_grammar.specs.Texts.{Ending, End, Bad, EndsAt, IsWholeFor}
+use Rattle.graphql_grammar.specs.{Token, Class, Expr, Empty, Then, Either, Sym, Shape, Both, First, Second, More, Node, Row, Grammar, row_at, leaves, peek}
+use Rattle.graphql_grammar.specs.{Derives, Begins, Ends, Fits, fits_nothing, fits_leaf, fits_both, fits_first, fits_second, fits_stop, fits_more, fits_node}
+use Rattle.graphql_grammar.specs.{decides, is_ll1, has_samples, is_productive, unchecked, lax, IsValue, classes, Change, unchanged, change_at, written}
+use Rattle.graphql_grammar.specs.{with_nodes, with_rows, IsSecond, AreSecond, EachIsSecond, out_of_head, in_second, out_of_prefix, out_of_symbols, IsExactFor}
+use Rattle.graphql_grammar.specs.{leads_here, leads_before, leads_after, leads_first, leads_second, leads_node, IsTested, Ending, End, Bad, EndsAt, IsWholeFor}
+use Rattle.graphql_grammar.specs.Leads.{Leads}
 use Rattle.graphql_grammar.proofs.Exact.{exact}
+use Rattle.graphql_grammar.proofs.FirstFault.{value_in}
 use Rattle.graphql_grammar.proofs.OneClass.{reads_alike}
 use Rattle.graphql_grammar.proofs.WholeTexts.{whole}
 
@@ -40,14 +36,7 @@ pub each_is_second : (g : Grammar) (rs : List Row) (cs : List Change) → AreSec
 each_is_second g rs cs h k = second-at g rs cs g.rows rs cs h k
 
 abbrev pub seconds : List Change → Shape → Shape
-seconds cs Nothing = Nothing
-seconds cs (Leaf t) = Leaf t
-seconds cs (Both x y) = Both (seconds cs x) (seconds cs y)
-seconds cs (First x) = First (seconds cs x)
-seconds cs (Second y) = Second (seconds cs y)
-seconds cs Stop = Stop
-seconds cs (More x y) = More (seconds cs x) (seconds cs y)
-seconds cs (Node k x) = Node k ((change_at cs k).to_second (seconds cs x))
+seconds cs = with_nodes (λ k x y. (change_at cs k).to_second y)
 
 module _ (g : Grammar) (rs : List Row) (cs : List Change) (each : EachIsSecond g rs cs) where
   pub written-fits : {e : Expr} {x : Shape} → Fits (with_rows g rs cs) e x → Fits g e (written cs x)
@@ -124,14 +113,7 @@ module _ (g : Grammar) (rs : List Row) (cs : List Change) (each : EachIsSecond g
 -- a token without a value, that would go on with a list were all values good
 value-written : (g : Grammar) (rs : List Row) (cs : List Change) → EachIsSecond (lax g) rs cs → (e : Expr) (front us : List Token) (c : Class)
     → IsValue (with_rows g rs cs) e front c us → IsValue g e front c us
-value-written g rs cs each_lax e front us c v = record {
-  token = v.token;
-  rest = v.rest;
-  is = v.is;
-  of_class = v.of_class;
-  not_good = v.not_good;
-  begins = begins-written (lax g) rs cs each_lax e (front ++ v.token ∷ []) v.begins;
-}
+value-written g rs cs each_lax e front us c v = value_in v v.not_good (begins-written (lax g) rs cs each_lax e (front ++ v.token ∷ []) v.begins)
 
 module _ (g : Grammar) (rs : List Row) (cs : List Change) (each : EachIsSecond g rs cs) (each_unchecked : EachIsSecond (unchecked g) rs cs)
     (each_lax : EachIsSecond (lax g) rs cs) where

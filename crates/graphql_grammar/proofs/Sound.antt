@@ -1,11 +1,8 @@
 -- What is read is derived, and reading looks at no more than the next item after it.
 use Rattle.std.proofs.Common.{◌≡◌, List, ◌++◌, refl, sym, ap, subst, ◌∙◌, append_assoc}
-use Rattle.graphql_grammar.specs.Tokens.{Token}
-use Rattle.graphql_grammar.specs.Trees.{Expr, Then, Many, Shape, Both, More, Grammar, leaves, peek, Fits, fits_nothing, fits_leaf, fits_both, fits_first}
-use Rattle.graphql_grammar.specs.Trees.{fits_second, fits_stop, fits_more, fits_node}
-use Rattle.graphql_grammar.specs.Tables.{first}
-use Rattle.graphql_grammar.specs.Reading.{sees, choose, Takes, takes_nothing, takes_leaf, takes_both, takes_first, takes_second, takes_stop, takes_more}
-use Rattle.graphql_grammar.specs.Reading.{takes_node}
+use Rattle.graphql_grammar.specs.{Token, Expr, Then, Many, Shape, Both, More, Grammar, leaves, peek, Fits, fits_nothing, fits_leaf, fits_both, fits_first}
+use Rattle.graphql_grammar.specs.{fits_second, fits_stop, fits_more, fits_node, first, sees, choose, Takes, takes_nothing, takes_leaf, takes_both, takes_first}
+use Rattle.graphql_grammar.specs.{takes_second, takes_stop, takes_more, takes_node}
 use Rattle.graphql_grammar.proofs.Items.{peek-seam}
 
 pub takes-fits : (g : Grammar) {e : Expr} {ts : List Token} {x : Shape} {us : List Token} → Takes g e ts x us → Fits g e x

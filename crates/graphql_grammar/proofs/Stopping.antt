@@ -1,17 +1,14 @@
 -- What is derived is read, where no longer list goes on with the next item.
 use Rattle.std.proofs.Common.{◌≡◌, true, false, not, ◌&&◌, List, [], ◌∷◌, ◌++◌, Some, refl, sym, ap, subst, ◌∙◌, append_assoc, append-nil, inl, inr}
 use Rattle.std.proofs.lemmas.Bool.{and_parts, both_ways, not-true, cases_Bool, false_from_ne_true}
-use Rattle.graphql_grammar.specs.Tokens.{Token, in_any, all_apart}
-use Rattle.graphql_grammar.specs.Trees.{Expr, Then, Either, Many, Sym, Shape, Both, First, Second, Stop, More, Node, Grammar, row, leaves, peek, Fits}
-use Rattle.graphql_grammar.specs.Trees.{fits_nothing, fits_leaf, fits_both, fits_first, fits_second, fits_stop, fits_more, fits_node, Begins}
-use Rattle.graphql_grammar.specs.Tables.{nullable, first, cont, decides, is_ll1, is_tight, has_samples, is_productive}
-use Rattle.graphql_grammar.specs.Reading.{sees, choose, Left, Right, Takes, takes_nothing, takes_leaf, takes_both, takes_first, takes_second, takes_stop}
-use Rattle.graphql_grammar.specs.Reading.{takes_more, takes_node, lax}
-use Rattle.graphql_grammar.specs.Faults.{StopsBefore}
+use Rattle.graphql_grammar.specs.{Token, in_any, all_apart, Expr, Then, Either, Many, Sym, Shape, Both, First, Second, Stop, More, Node, Grammar, row, leaves}
+use Rattle.graphql_grammar.specs.{peek, Fits, fits_nothing, fits_leaf, fits_both, fits_first, fits_second, fits_stop, fits_more, fits_node, Begins, nullable}
+use Rattle.graphql_grammar.specs.{first, cont, decides, is_ll1, is_tight, has_samples, is_productive, sees, choose, Left, Right, Takes, takes_nothing}
+use Rattle.graphql_grammar.specs.{takes_leaf, takes_both, takes_first, takes_second, takes_stop, takes_more, takes_node, lax, StopsBefore}
 use Rattle.graphql_grammar.proofs.Items.{sees-apart}
-use Rattle.graphql_grammar.proofs.Complete.{IsRow-each, fits-nullable, fits-first, complete}
+use Rattle.graphql_grammar.proofs.Complete.{IsRow-each, fits-nullable, fits-first, complete, both, either, many}
 use Rattle.graphql_grammar.proofs.FirstFault.{samples-at, begins-around, begins-after, fits-lax}
-use Rattle.graphql_grammar.proofs.Leading.{both, either, many, goes-left, goes-right}
+use Rattle.graphql_grammar.proofs.Leading.{goes-left, goes-right}
 use Rattle.graphql_grammar.proofs.Tight.{real}
 
 module _ (g : Grammar) (ok : is_ll1 g.rows ≡ true) (full : is_productive g ≡ true) (tight : is_tight g.rows ≡ true) where
@@ -26,9 +23,7 @@ module _ (g : Grammar) (ok : is_ll1 g.rows ≡ true) (full : is_productive g ≡
 
   not-both : (a b : Expr) → decides g.rows (Either a b) ≡ true → nullable g.rows a ≡ true → nullable g.rows b ≡ true → ⊥
   not-both a b d h k =
-      let p = and_parts ((decides g.rows a && decides g.rows b) && all_apart (first g.rows a) (first g.rows b)) (not (nullable g.rows a && nullable g.rows b))
-      d in
-      both_ways (nullable g.rows a && nullable g.rows b) (not-true (nullable g.rows a && nullable g.rows b) p.1) (rw (h, k) refl)
+      both_ways (nullable g.rows a && nullable g.rows b) (not-true (nullable g.rows a && nullable g.rows b) (either g a b d).3) (rw (h, k) refl)
 
   begins-left : (a b : Expr) (ts : List Token) → Begins (lax g) a ts → Begins (lax g) (Either a b) ts
   begins-left a b ts h = begins-around (lax g) a (Either a b) ts First [] (λ x w. fits_first w) (λ x. sym (append-nil (leaves x))) h
@@ -77,7 +72,7 @@ module _ (g : Grammar) (ok : is_ll1 g.rows ≡ true) (full : is_productive g ≡
 
       go : (xs : List Token) → leaves y ≡ xs → StopsBefore (lax g) (Either a b) xs us → choose g.rows a b (peek (xs ++ us)) ≡ Right
       go [] i n = none us i n
-      go (t ∷ xs) i n = goes-right g ok a b (Some t) (either g ok a b d).2 (fits-first g ok p t (ap peek i))
+      go (t ∷ xs) i n = goes-right g ok a b (Some t) (either g a b d).2 (fits-first g ok p t (ap peek i))
 
   no_turn : (a : Expr) (us : List Token) → has_samples g a ≡ true → StopsBefore (lax g) (Many a) [] us → sees (first g.rows a) (peek us) ≡ false
   no_turn a [] f n = refl
@@ -100,7 +95,7 @@ module _ (g : Grammar) (ok : is_ll1 g.rows ≡ true) (full : is_productive g ≡
   stops fits_nothing d f us n = takes_nothing
   stops (fits_leaf h) d f us n = takes_leaf h
   stops (fits_both {a = a} {b = b} {x = x} {y = y} p q) d f us n =
-      let i = both g ok a b d in
+      let i = both g a b d in
       let f1 = and_parts (has_samples g a) (has_samples g b) f in
       subst (λ (l : List Token). Takes g (Then a b) l (Both x y) us) (sym (append_assoc (leaves x) (leaves y) us))
       (takes_both
@@ -110,16 +105,16 @@ module _ (g : Grammar) (ok : is_ll1 g.rows ≡ true) (full : is_productive g ≡
       (stops q i.1 f1.1 us (λ u rest h k. n u rest h (subst (Begins (lax g) (Then a b)) (sym (append_assoc (leaves x) (leaves y) (u ∷ [])))
       (begins-after (lax g) b (Then a b) (leaves x) (leaves y ++ u ∷ []) (Both x) (λ z w. fits_both (fits-lax g p) w) (λ z. refl) k)))))
   stops (fits_first {a = a} {b = b} {x = x} p) d f us n =
-      let i = either g ok a b d in
+      let i = either g a b d in
       let f1 = and_parts (has_samples g a) (has_samples g b) f in
       takes_first (picks-left a b x us d f1.1 p n) (stops p i.0 f1.0 us (λ u rest h k. n u rest h (begins-left a b (leaves x ++ u ∷ []) k)))
   stops (fits_second {a = a} {b = b} {y = y} p) d f us n =
-      let i = either g ok a b d in
+      let i = either g a b d in
       let f1 = and_parts (has_samples g a) (has_samples g b) f in
       takes_second (picks-right a b y us d f1.0 p n) (stops p i.1 f1.1 us (λ u rest h k. n u rest h (begins-right a b (leaves y ++ u ∷ []) k)))
   stops (fits_stop {a = a}) d f us n = takes_stop (no_turn a us f n)
   stops (fits_more {a = a} {x = x} {y = y} p q) d f us n =
-      let i = many g ok a d in
+      let i = many g a d in
       subst (λ (l : List Token). Takes g (Many a) l (More x y) us) (sym (append_assoc (leaves x) (leaves y) us))
       (takes_more (has-turn a x (leaves y ++ us) i.1 p)
       (join a (Many a) x y us i.0 i.2 p q (λ j. stops p i.0 f us (λ u rest h k. n u rest h (subst (Begins (lax g) (Many a))

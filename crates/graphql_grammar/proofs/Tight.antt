@@ -2,12 +2,10 @@
 use Rattle.std.proofs.Common.{◌≡◌, ℕ, zero, suc, ◌<◌, Bool, true, false, not, ◌&&◌, ◌||◌, List, [], ◌∷◌, ◌++◌, refl, sym, ap, ◌∙◌, append-nil, arith, inl, inr}
 use Rattle.std.proofs.Common.{◌⊎◌}
 use Rattle.std.proofs.lemmas.Bool.{and_parts, and_from, or_cases, or_left, or_right, ltb-true}
-use Rattle.graphql_grammar.specs.Tokens.{Token, Class, matches, in_any, all_within}
-use Rattle.graphql_grammar.specs.Trees.{Expr, Empty, One, Then, Either, Many, Sym, Shape, Nothing, Leaf, Both, First, Second, Stop, More, Node, Row, Grammar}
-use Rattle.graphql_grammar.specs.Trees.{row_at, row, leaves, Fits, fits_nothing, fits_leaf, fits_both, fits_first, fits_second, fits_stop, fits_more, fits_node}
-use Rattle.graphql_grammar.specs.Trees.{Begins}
-use Rattle.graphql_grammar.specs.Tables.{only_if, nullable, first, ranked, is_ll1, are_tight, is_tight, has_samples, is_productive}
-use Rattle.graphql_grammar.specs.Reading.{lax}
+use Rattle.graphql_grammar.specs.{Token, Class, matches, in_any, all_within, Expr, Empty, One, Then, Either, Many, Sym, Shape, Nothing, Leaf, Both, First}
+use Rattle.graphql_grammar.specs.{Second, Stop, More, Node, Row, Grammar, row_at, row, leaves, Fits, fits_nothing, fits_leaf, fits_both, fits_first}
+use Rattle.graphql_grammar.specs.{fits_second, fits_stop, fits_more, fits_node, Begins, only_if, nullable, first, ranked, is_ll1, are_tight, is_tight}
+use Rattle.graphql_grammar.specs.{has_samples, is_productive, lax}
 use Rattle.graphql_grammar.proofs.Classes.{all_within-sound}
 use Rattle.graphql_grammar.proofs.Complete.{IsRow-each, implied}
 use Rattle.graphql_grammar.proofs.Total.{ranked-more, highest, ranked-highest}

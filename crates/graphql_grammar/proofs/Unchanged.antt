@@ -1,10 +1,8 @@
 -- Second rules of which most are the written ones.
 use Rattle.std.proofs.Common.{◌≡◌, ℕ, zero, suc, Bool, true, false, ◌&&◌, eqb, List, [], ◌∷◌, ◌++◌, drop, replicate, refl, ap, ap₂, subst}
 use Rattle.std.proofs.lemmas.Bool.{eqb-true, and_parts}
-use Rattle.graphql_grammar.specs.Tokens.{Class, Spelled, AnyOf, Except, same_spelling, same_spellings}
-use Rattle.graphql_grammar.specs.Trees.{Expr, Empty, One, Then, Either, Many, Sym, Row, Grammar}
-use Rattle.graphql_grammar.specs.Grown.{same_class, same_rule}
-use Rattle.graphql_grammar.specs.Factored.{Change, unchanged, IsSecond, AreSecond}
+use Rattle.graphql_grammar.specs.{Class, Spelled, AnyOf, Except, same_spelling, same_spellings, Expr, Empty, One, Then, Either, Many, Sym, Row, Grammar}
+use Rattle.graphql_grammar.specs.{same_class, same_rule, Change, unchanged, IsSecond, AreSecond}
 use Rattle.graphql_grammar.proofs.Classes.{same_spelling-true, same_spellings-true}
 use Rattle.graphql_grammar.proofs.SecondRules.{IsSecond-unchanged}
 

@@ -1,12 +1,9 @@
 -- Where the next item begins no list of an expression, the expression is not read: it fails there.
 use Rattle.std.proofs.Common.{◌≡◌, ℕ, true, false, List, [], ◌∷◌, ◌++◌, refl, sym, ap, subst, ◌∙◌}
 use Rattle.std.proofs.lemmas.Bool.{false≢true}
-use Rattle.graphql_grammar.specs.Tokens.{Token, in_any}
-use Rattle.graphql_grammar.specs.Trees.{Expr, Shape, Grammar, leaves, peek, Fits, Begins}
-use Rattle.graphql_grammar.specs.Tables.{nullable, first, decides, is_ll1, has_samples, is_productive}
-use Rattle.graphql_grammar.specs.Reading.{sees, Takes, Reason, Unexpected, Improper, Refused, Fails, Outcome, Done, Fault, Reads, unchecked, lax}
-use Rattle.graphql_grammar.specs.Theorems.{IsFirstFault}
-use Rattle.graphql_grammar.specs.Faults.{RefusesTokens}
+use Rattle.graphql_grammar.specs.{Token, in_any, Expr, Shape, Grammar, leaves, peek, Fits, Begins, nullable, first, decides, is_ll1, has_samples, is_productive}
+use Rattle.graphql_grammar.specs.{sees, Takes, Reason, Unexpected, Improper, Refused, Fails, Outcome, Done, Fault, Reads, unchecked, lax, IsFirstFault}
+use Rattle.graphql_grammar.specs.{RefusesTokens}
 use Rattle.graphql_grammar.proofs.Items.{append-empty}
 use Rattle.graphql_grammar.proofs.Sound.{takes-fits, takes-leaves}
 use Rattle.graphql_grammar.proofs.Complete.{fits-first, fits-nullable}

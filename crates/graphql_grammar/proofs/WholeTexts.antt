@@ -2,12 +2,10 @@
 use Rattle.std.proofs.Common.{◌≡◌, ℕ, ◌+◌, ◌-◌, List, [], ◌∷◌, ◌++◌, length, take, drop, Option, Some, refl, sym, ap, subst, ◌∙◌, arith, append-nil}
 use Rattle.std.proofs.Common.{length-append}
 use Rattle.std.proofs.lemmas.List.{take_at, drop_at}
-use Rattle.graphql_grammar.specs.Tokens.{Token, Class}
-use Rattle.graphql_grammar.specs.Trees.{Expr, Shape, Grammar, leaves, peek, Derives, Begins, Ends}
-use Rattle.graphql_grammar.specs.Reading.{Takes, Reason, Unexpected, Improper, Outcome, Done, Fault, Reads, unchecked, lax}
-use Rattle.graphql_grammar.specs.Theorems.{IsExact, IsValue}
+use Rattle.graphql_grammar.specs.{Token, Class, Expr, Shape, Grammar, leaves, peek, Derives, Begins, Ends, Takes, Reason, Unexpected, Improper, Outcome, Done}
+use Rattle.graphql_grammar.specs.{Fault, Reads, unchecked, lax, IsExact, IsValue, Text, Ending, End, Bad, Tree, Wrong, answer_of, Answers, EndsAt, IsFaultAt}
+use Rattle.graphql_grammar.specs.{IsWhole}
 use Rattle.graphql_grammar.proofs.FirstFault.{fits-unchecked, fits-lax}
-use Rattle.graphql_grammar.specs.Texts.{Text, Ending, End, Bad, Tree, Wrong, answer_of, Answers, EndsAt, IsFaultAt, IsWhole}
 
 module _ (g : Grammar) (e : Expr) (x : IsExact g e) where
   gives-tree : (ts : List Token) (ending : Ending) (y : Shape) (o : Outcome) → Reads g e ts o

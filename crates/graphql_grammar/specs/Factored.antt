@@ -1,8 +1,7 @@
 -- A written grammar, and a second list of rules for the same symbols, which one item of lookahead can read.
 use Rattle.std.specs.Prelude.{◌≡◌, ℕ, zero, suc, false, List, [], ◌∷◌, ◌++◌}
 use Rattle.graphql_grammar.specs.Tokens.{Token, Class}
-use Rattle.graphql_grammar.specs.Trees.{Expr, Shape, Nothing, Leaf, Both, First, Second, Stop, More, Node, Row, Grammar, row_at, leaves, peek, Fits, Derives}
-use Rattle.graphql_grammar.specs.Trees.{Begins, Ends}
+use Rattle.graphql_grammar.specs.Trees.{Expr, Shape, Both, First, Second, Node, Row, Grammar, row_at, leaves, peek, with_nodes, Fits, Derives, Begins, Ends}
 use Rattle.graphql_grammar.specs.Tables.{cont}
 use Rattle.graphql_grammar.specs.Reading.{sees, Takes, Reason, Unexpected, Improper, Fails, unchecked, lax}
 use Rattle.graphql_grammar.specs.Theorems.{IsValue, classes, ReadsAlike}
@@ -23,14 +22,7 @@ change_at (c ∷ cs) (suc k) = change_at cs k
 
 -- the same in the whole of a tree
 abbrev pub written : List Change → Shape → Shape
-written cs Nothing = Nothing
-written cs (Leaf t) = Leaf t
-written cs (Both x y) = Both (written cs x) (written cs y)
-written cs (First x) = First (written cs x)
-written cs (Second y) = Second (written cs y)
-written cs Stop = Stop
-written cs (More x y) = More (written cs x) (written cs y)
-written cs (Node k x) = Node k ((change_at cs k).to_written (written cs x))
+written cs = with_nodes (λ k x y. (change_at cs k).to_written y)
 
 -- the grammar with the second rules
 abbrev pub with_rows : Grammar → List Row → List Change → Grammar
@@ -72,6 +64,22 @@ out_of_head = record { to_written = spread; to_second = gather }
     gather (First (Both h x)) = Both h (First x)
     gather (Second (Both h y)) = Both h (Second y)
     gather s = s
+
+-- the head before one side of a choice, and before both sides of symbol k
+abbrev pub out_of_sides : ℕ → Change
+out_of_sides k = record { to_written = spread; to_second = gather }
+  where
+    spread : Shape → Shape
+    spread (First (Both h (First x))) = First (Both h x)
+    spread (First (Both h (Second x))) = Second (Second (Node k (out_of_head.to_written (Both h x))))
+    spread (Second x) = Second (First x)
+    spread x = x
+
+    gather : Shape → Shape
+    gather (First (Both h x)) = First (Both h (First x))
+    gather (Second (First x)) = Second x
+    gather (Second (Second (Node j (Both h x)))) = First (Both h (Second x))
+    gather x = x
 
 -- the same in the second side of a choice
 abbrev pub in_second : Change → Change

@@ -1,8 +1,8 @@
 -- A grammar that grows: what is derived before is derived after, by the same trees but for new parts that are empty in them.
 use Rattle.std.specs.Prelude.{◌≡◌, ℕ, zero, suc, Bool, true, false, ◌&&◌, ◌==◌, List, [], ◌∷◌, length, Option, Some, None}
 use Rattle.graphql_grammar.specs.Tokens.{Token, Class, Spelled, AnyOf, Except, same_spelling, same_spellings}
-use Rattle.graphql_grammar.specs.Trees.{Expr, Empty, One, Then, Either, Many, Sym, Shape, Nothing, Leaf, Both, First, Second, Stop, More, Node, Grammar}
-use Rattle.graphql_grammar.specs.Trees.{row, Fits, Derives, leaves}
+use Rattle.graphql_grammar.specs.Trees.{Expr, Empty, One, Then, Either, Many, Sym, Shape, Both, First, Second, More, Grammar, row, Fits, Derives, leaves}
+use Rattle.graphql_grammar.specs.Trees.{with_nodes}
 use Rattle.graphql_grammar.specs.Tables.{has_tree}
 use Rattle.graphql_grammar.specs.Extended.{is_below}
 
@@ -42,14 +42,7 @@ either_way (Some p) x y = put p y
 
 -- the same in the whole of a tree
 abbrev pub grown : List (Option Growth) → Shape → Shape
-grown ps Nothing = Nothing
-grown ps (Leaf t) = Leaf t
-grown ps (Both x y) = Both (grown ps x) (grown ps y)
-grown ps (First x) = First (grown ps x)
-grown ps (Second y) = Second (grown ps y)
-grown ps Stop = Stop
-grown ps (More x y) = More (grown ps x) (grown ps y)
-grown ps (Node k x) = Node k (either_way (growth_at ps k) x (grown ps x))
+grown ps = with_nodes (λ k x y. either_way (growth_at ps k) x y)
 
 -- ---- the test
 

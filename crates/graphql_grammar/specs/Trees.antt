@@ -37,6 +37,17 @@ leaves Stop = []
 leaves (More x y) = leaves x ++ leaves y
 leaves (Node k x) = leaves x
 
+-- A tree with each of its nodes changed, the inner ones first: f tells, of a node's symbol, what stands in the node before and after.
+abbrev pub with_nodes : (ℕ → Shape → Shape → Shape) → Shape → Shape
+with_nodes f Nothing = Nothing
+with_nodes f (Leaf t) = Leaf t
+with_nodes f (Both x y) = Both (with_nodes f x) (with_nodes f y)
+with_nodes f (First x) = First (with_nodes f x)
+with_nodes f (Second y) = Second (with_nodes f y)
+with_nodes f Stop = Stop
+with_nodes f (More x y) = More (with_nodes f x) (with_nodes f y)
+with_nodes f (Node k x) = Node k (f k x (with_nodes f x))
+
 -- what stands for one symbol: its rule, and the tables that the test below compares with the rule
 pub record Row : Type 0 where
   pub rule : Expr

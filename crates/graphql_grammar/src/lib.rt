@@ -4,16 +4,10 @@
 #![tactic(auto)]
 
 ghost use Rattle.std.specs.Prelude.{◌≡◌, ℕ, List, Option, length, true};
-ghost use Rattle.graphql_grammar.specs.Trees.{Expr, Empty, Then, Either, Sym, Shape, Row, Grammar, Fits, row_at};
-ghost use Rattle.graphql_grammar.specs.Tables.{is_ll1, is_tight, is_productive, decides, has_samples};
-ghost use Rattle.graphql_grammar.specs.Reading.{unchecked, lax};
-ghost use Rattle.graphql_grammar.specs.Theorems.{IsExact, ReadsAlike};
-ghost use Rattle.graphql_grammar.specs.Texts.{IsWhole, IsWholeFor};
-ghost use Rattle.graphql_grammar.specs.Extended.{Extends, TestsAlike, ReadsOn, LeavesAlone, is_below};
-ghost use Rattle.graphql_grammar.specs.Grown.{Growth, Grows, DerivesOn};
-ghost use Rattle.graphql_grammar.specs.Faults.{AnswersLeast, RefusesTokens};
-ghost use Rattle.graphql_grammar.specs.Factored.{Change, change_at, unchanged, out_of_head, in_second, out_of_prefix, out_of_symbols, written, with_rows};
-ghost use Rattle.graphql_grammar.specs.Factored.{IsSecond, AreSecond, EachIsSecond, IsExactFor};
+ghost use Rattle.graphql_grammar.specs.{Expr, Empty, Then, Either, Sym, Shape, Row, Grammar, Fits, row_at, is_ll1, is_tight, is_productive, decides};
+ghost use Rattle.graphql_grammar.specs.{has_samples, unchecked, lax, IsExact, ReadsAlike, IsWhole, IsWholeFor, Extends, TestsAlike, ReadsOn, LeavesAlone};
+ghost use Rattle.graphql_grammar.specs.{is_below, Growth, Grows, DerivesOn, AnswersLeast, RefusesTokens, Change, change_at, unchanged, out_of_head, in_second};
+ghost use Rattle.graphql_grammar.specs.{out_of_prefix, out_of_symbols, written, with_rows, IsSecond, AreSecond, EachIsSecond, IsExactFor};
 
 /// A grammar whose tables pass the test is read with one item of lookahead, exactly.
 pub fn reading()

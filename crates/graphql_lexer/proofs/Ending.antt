@@ -1,7 +1,7 @@
 -- Items are tokens, and then one last item.
 use Rattle.std.proofs.Common.{◌≡◌, ℕ, Bool, true, false, List, [], ◌∷◌, refl, sym, ap, subst}
-use Rattle.graphql_lexer.specs.Lexical.{Piece, Meaning, Ignored, Word}
-use Rattle.graphql_lexer.specs.Items.{Where, Item, EndsOnce, HasItems, is_token, is_too_deep, items_of, last_item, piece_then, token_then}
+use Rattle.graphql_lexer.specs.{Piece, Meaning, Ignored, Word, Where, Item, EndsOnce, HasItems, is_token, is_too_deep, items_of, last_item, piece_then}
+use Rattle.graphql_lexer.specs.{token_then}
 
 alone : (i : Item) → is_token i.content ≡ false → EndsOnce (i ∷ [])
 alone i e = record { tokens = []; last = i; all = refl; before = refl; ends = e }

@@ -1,4 +1,7 @@
 -- What the front of a text takes, and the items one step on.
+use Rattle.std.specs.Str.{IsCharBoundary}
+use Rattle.std.specs.Char.{encode_utf8, is_ascii_digit}
+use Rattle.std.specs.List.{prefix_len}
 use Rattle.std.proofs.Common.{◌≡◌, ℕ, zero, suc, ◌+◌, ◌-◌, ◌<◌, ◌≤◌, Bool, true, false, cond, ◌&&◌, ◌||◌, ◌==◌, List, [], ◌∷◌, ◌++◌, Option, Some, None}
 use Rattle.std.proofs.Common.{append_assoc, length-append, length, get_or, take, drop, IsUtf8, refl, sym, ap, ◌∙◌, subst, inl, inr, arith, add-zero, add_assoc}
 use Rattle.std.proofs.Common.{eqb-true, length-drop}
@@ -7,22 +10,15 @@ use Rattle.std.proofs.lemmas.Bool.Decides.{nat_tests}
 use Rattle.std.proofs.lemmas.List.{get_or_past, get_or-drop, get_or_at}
 use Rattle.std.proofs.lemmas.List.Sums.{prefix_len-le-length, prefix_len_passes, prefix_len_stops}
 use Rattle.std.proofs.lemmas.Str.{IsCharBoundary-end, IsCharBoundary-after_ascii, IsCharBoundary-at_seam, IsUtf8-past_char}
-use Rattle.std.specs.Str.{IsCharBoundary}
-use Rattle.std.specs.Char.{encode_utf8, is_ascii_digit}
-use Rattle.std.specs.List.{prefix_len}
 use Rattle.graphql_lexer.specs.declared.position.Pos.{Pos}
 use Rattle.graphql_lexer.specs.declared.tokenizer.token.Kind.TheVariants.{StringValue, BlockString}
 use Rattle.graphql_lexer.specs.declared.tokenizer.piece.Move.{Move}
 use Rattle.graphql_lexer.specs.declared.tokenizer.piece.Piece.{Piece}
 use Rattle.graphql_lexer.specs.declared.tokenizer.piece.Piece.TheVariants.{AtEnd, Skips, Takes, Stops}
-use Rattle.graphql_lexer.specs.BadTexts.{too_deep}
-use Rattle.graphql_lexer.specs.Lexical.{is_name_start, is_name_continue, is_in_line, is_mark, is_in_run, is_integer, begins_quotes, steps_over}
-use Rattle.graphql_lexer.specs.steps.Numbers.{is_float, number}
-use Rattle.graphql_lexer.specs.steps.Quoted.{string_end, block_end, closed, quoted}
-use Rattle.graphql_lexer.specs.steps.Front.{front, comment, line_end, dots, token_of, FitsIn, IsItem}
-use Rattle.graphql_lexer.specs.Items.{Where, Item, item, Lexeme, Wrong, past_ignored, past_token, is_too_deep, last_item, moved, token_then, run_at, cause_at}
-use Rattle.graphql_lexer.specs.Stream.{further, next_place}
-use Rattle.graphql_lexer.specs.steps.Cut.{items_by, items_in, items}
+use Rattle.graphql_lexer.specs.{too_deep, is_name_start, is_name_continue, is_in_line, is_mark, is_in_run, is_integer, begins_quotes, steps_over, is_float}
+use Rattle.graphql_lexer.specs.{number, string_end, block_end, closed, quoted, front, comment, line_end, dots, token_of, FitsIn, IsItem, Where, Item, item}
+use Rattle.graphql_lexer.specs.{Lexeme, Wrong, past_ignored, past_token, is_too_deep, last_item, moved, token_then, run_at, cause_at, further, next_place}
+use Rattle.graphql_lexer.specs.{items_by, items_in, items}
 use Rattle.graphql_lexer.proofs.Numbers.{run_boundary}
 use Rattle.graphql_lexer.proofs.Strings.{string_found, block_found, block_last}
 

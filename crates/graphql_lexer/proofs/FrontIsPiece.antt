@@ -1,23 +1,20 @@
 -- The front of a text is its first piece, and so a text has one cut into pieces.
-use Rattle.std.proofs.Common.{◌≡◌, ℕ, ◌+◌, true, false, List, [], ◌∷◌, ◌++◌, length, get_or, take, drop, le_refl, refl, sym, ap, ◌∙◌, subst, arith}
-use Rattle.std.proofs.Common.{length-append, append_assoc}
-use Rattle.std.proofs.lemmas.Bool.Decides.{nat_tests}
-use Rattle.std.proofs.lemmas.List.{take_at, drop_at, drop_all, append-nil}
 use Rattle.std.specs.List.{prefix_len, list_all}
+use Rattle.std.proofs.Common.{◌≡◌, ℕ, ◌+◌, true, false, List, [], ◌∷◌, ◌++◌, length, get_or, le_refl, refl, ap, ◌∙◌, arith, length-append, append_assoc}
+use Rattle.std.proofs.lemmas.Bool.Decides.{nat_tests}
+use Rattle.std.proofs.lemmas.List.{drop_at, drop_all, append-nil}
 use Rattle.graphql_lexer.specs.declared.tokenizer.token.Kind.TheVariants.{Punctuator, Name, StringValue, BlockString}
 use Rattle.graphql_lexer.specs.declared.tokenizer.piece.Move.{Move}
 use Rattle.graphql_lexer.specs.declared.tokenizer.piece.Move.TheVariants.{Stay, Down}
 use Rattle.graphql_lexer.specs.declared.tokenizer.piece.Piece.{Piece as Ahead}
 use Rattle.graphql_lexer.specs.declared.tokenizer.piece.Piece.TheVariants.{Skips, Takes}
 use Rattle.graphql_lexer.specs.declared.tokenizer.piece.Nesting.TheVariants.{Level}
-use Rattle.graphql_lexer.specs.steps.Front.{front, front_of, token_of, comment, line_end}
-use Rattle.graphql_lexer.specs.steps.Numbers.{starts_number, number}
+use Rattle.graphql_lexer.specs.{front, front_of, token_of, comment, line_end, starts_number, number, is_name_start, is_name_continue, is_in_line, is_mark}
+use Rattle.graphql_lexer.specs.{nesting_of, Meaning, Ignored, Word, Stands, tab, line_feed, carriage_return, space, comma, byte_order_mark, comment_at_end}
+use Rattle.graphql_lexer.specs.{comment_feed, comment_return_feed, comment_return, name, mark, spread, integer, float, string, block_string}
 use Rattle.graphql_lexer.proofs.Runs.{run, run_all, not_equal, differs}
 use Rattle.graphql_lexer.proofs.Numbers.{NumberRun, integer_run, float_run, integer_front, float_front}
 use Rattle.graphql_lexer.proofs.Strings.{string_front, block_front}
-use Rattle.graphql_lexer.specs.Lexical.{is_name_start, is_name_continue, is_in_line, is_mark, nesting_of, Meaning, Ignored, Word, Stands, tab, line_feed}
-use Rattle.graphql_lexer.specs.Lexical.{carriage_return, space, comma, byte_order_mark, comment_at_end, comment_feed, comment_return_feed, comment_return, name}
-use Rattle.graphql_lexer.specs.Lexical.{mark, spread, integer, float, string, block_string, Piece, IsCutInto}
 
 -- what the front is where a piece of this meaning has n bytes
 abbrev pub shape : Meaning → ℕ → Ahead
@@ -96,29 +93,3 @@ stands_front (string body {rest} valid some) =
     ap (λ l. front (34 ∷ l)) (append_assoc body (34 ∷ []) rest) ∙ string_front valid rest some
     ∙ ap (λ n. Takes n StringValue Level) (omega (arith, length-append body (34 ∷ [])))
 stands_front (block_string {body} {rest} closes) = block_front closes rest ∙ ap (λ n. Takes n BlockString Level) (omega arith)
-
-shape_same : (m n : Meaning) (i j : ℕ) → shape m i ≡ shape n j → (m ≡ n) × (i ≡ j)
-shape_same (Ignored m) (Ignored n) i j e = (cc, cc)
-shape_same (Ignored m) (Word k t) i j e = absurd cc
-shape_same (Word k t) (Ignored n) i j e = absurd cc
-shape_same (Word k t) (Word l u) i j e = (cc, cc)
-
--- two pieces that begin one text are one
-first_same : (a b rest more : List ℕ) (m n : Meaning) → Stands a m rest → Stands b n more → a ++ rest ≡ b ++ more → (a ≡ b) × (m ≡ n) × (rest ≡ more)
-first_same a b rest more m n s t h =
-    let same = shape_same m n (length a) (length b) (sym (stands_front s) ∙ ap front h ∙ stands_front t) in (
-      sym (take_at a rest (length b) same.1) ∙ ap (take (length b)) h ∙ take_at b more (length b) refl,
-      same.0,
-      sym (drop_at a rest (length b) same.1) ∙ ap (drop (length b)) h ∙ drop_at b more (length b) refl,
-    )
-
--- a text has one cut into pieces
-pub one_cut : (ps qs : List Piece) (text s t : List ℕ) → IsCutInto text ps s → IsCutInto text qs t → (ps ≡ qs) × (s ≡ t)
-one_cut [] [] text s t (e, f) (g, h) = (refl, sym e ∙ g)
-one_cut [] (q ∷ qs) text s t (e, none) (rest, g, st, more) = absurd (none q.bytes q.meaning rest st (sym e ∙ g))
-one_cut (p ∷ ps) [] text s t (rest, g, st, more) (e, none) = absurd (none p.bytes p.meaning rest st (sym e ∙ g))
-one_cut (p ∷ ps) (q ∷ qs) text s t (r, e, sp, more) (r', e', sq, more') =
-    let same = first_same p.bytes q.bytes r r' p.meaning q.meaning sp sq (sym e ∙ e') in
-    let (others, stops) = one_cut ps qs r' s t (subst (λ x. IsCutInto x ps s) same.2 more) more' in
-    let one : p ≡ q = λ i. record { bytes = same.0 i; meaning = same.1 i } in
-    (rw (one, others) refl, stops)

@@ -1,12 +1,12 @@
 -- From the mask of one load to the bytes that pass a test, and from one load to a run.
+use lib.Lanes.{zip2, mask_l, top}
+use Rattle.std.specs.List.{prefix_len}
 use Rattle.std.proofs.Common.{◌≡◌, ℕ, zero, suc, ◌+◌, ◌%◌, ◌^◌, ◌<◌, ◌≤◌, Bool, true, false, not, List, [], ◌∷◌, map, take, drop, length, get_or, replicate}
 use Rattle.std.proofs.Common.{Fits, w8, refl, sym, ap, ap₂, ◌∙◌, arith, inl, inr}
 use Rattle.std.proofs.lemmas.Bool.{cases_Bool, agree_below, agree_below_at, cases_eq, eq-eqb, ne_eqb, cond-true, cond-false}
 use Rattle.std.proofs.lemmas.Simd.{map-map, mask_l-mod, length-chunk, leading_from_mask_l, trailing_mask_l}
 use Rattle.std.proofs.lemmas.List.{length-map}
-use Rattle.std.specs.List.{prefix_len}
-use lib.Lanes.{zip2, mask_l, top}
-use Rattle.graphql_lexer.specs.steps.Ahead.{first_set}
+use Rattle.graphql_lexer.specs.{first_set}
 
 zip2-map : (h : ℕ → ℕ → ℕ) (f g : ℕ → ℕ) (xs : List ℕ) → zip2 h (map f xs) (map g xs) ≡ map (λ x. h (f x) (g x)) xs
 zip2-map h f g [] = refl
@@ -41,13 +41,13 @@ same_prefix p q agree (suc n) (x ∷ xs) fits =
 
 -- a lane stops just where q fails
 pub lanes_run : (q : ℕ → Bool) (d : List ℕ) (n r : ℕ) (z : List ℕ) → n ≤ length d → n ≤ 64 → ((k : ℕ) → Fits w8 (get_or d k 0))
-    → r ≡ first_set (mask_l (map (top 7) z) % 2 ^ 64) n → (f : ℕ → ℕ) → z ≡ map f (take n d)
+    → r ≡ first_set (mask_l (map (top 7) z) % 2 ^ 64) n → (f : ℕ → ℕ) → (length (take n d) ≡ n → z ≡ map f (take n d))
     → agree_below (λ x. top 7 (f x)) (λ x. not (q x)) 256 ≡ true → r ≡ prefix_len q (take n d)
 lanes_run q d n r z room few fits found f lanes all =
     let v = take n d in
     let long : length v ≡ n = length-chunk 0 n d (omega arith) in
     let stops : ℕ → Bool = λ x. top 7 (f x) in
-    let mask = ap (λ l. mask_l l % 2 ^ 64) (ap (map (top 7)) lanes ∙ map-map (top 7) f v)
+    let mask = ap (λ l. mask_l l % 2 ^ 64) (ap (map (top 7)) (lanes long) ∙ map-map (top 7) f v)
     ∙ mask_l-mod (map stops v) 64 (omega (arith, length-map v stops, long)) in
     found ∙ ap (λ m. first_set m n) mask ∙ run_is stops v n long few
     ∙ same_prefix stops q (λ b lt. agree_below_at stops (λ x. not (q x)) 256 b all lt) n d (λ k. (fits k).fits)

@@ -1,15 +1,12 @@
 -- Tokens that one look shows, and that they are ASCII in one line.
-use Rattle.std.proofs.Common.{◌≡◌, ℕ, Bool, true, false, not, List, ◌∷◌, Option, Some, None, take, refl, sym, ◌∙◌}
-use Rattle.std.proofs.lemmas.Bool.{not-true}
-use Rattle.std.specs.Prelude.{IfSome}
 use Rattle.std.specs.List.{list_all}
+use Rattle.std.proofs.Common.{◌≡◌, ℕ, Bool, true, false, not, List, ◌∷◌, Option, Some, None, take, refl, sym, ◌∙◌, IfSome}
+use Rattle.std.proofs.lemmas.Bool.{not-true}
 use Rattle.graphql_lexer.specs.declared.tokenizer.token.Kind.{Kind}
 use Rattle.graphql_lexer.specs.declared.tokenizer.piece.Nesting.{Nesting}
 use Rattle.graphql_lexer.specs.declared.tokenizer.piece.Nesting.TheVariants.{Level}
 use Rattle.graphql_lexer.specs.declared.tokenizer.piece.Piece.TheVariants.{Takes}
-use Rattle.graphql_lexer.specs.steps.Front.{front, token_of, is_flat, is_quoted}
-use Rattle.graphql_lexer.specs.steps.Numbers.{starts_number, number}
-use Rattle.graphql_lexer.specs.steps.Quoted.{quoted}
+use Rattle.graphql_lexer.specs.{front, token_of, is_flat, is_quoted, starts_number, number, quoted}
 use Rattle.graphql_lexer.proofs.FrontIsPiece.{number_first}
 use Rattle.graphql_lexer.proofs.Positions.{token_flat}
 

@@ -1,4 +1,7 @@
 -- Runs and numbers.
+use Rattle.std.specs.Char.{is_ascii_digit}
+use Rattle.std.specs.List.{prefix_len, list_all}
+use Rattle.std.specs.Str.{IsCharBoundary}
 use Rattle.std.proofs.Common.{◌≡◌, ℕ, suc, ◌<◌, ◌≤◌, Bool, true, false, not, ◌&&◌, ◌||◌, ◌==◌, List, [], ◌∷◌, ◌++◌, length, get_or, take, drop, refl, sym, ap}
 use Rattle.std.proofs.Common.{◌∙◌, subst, inl, inr, arith, eqb-true}
 use Rattle.std.proofs.lemmas.Bool.{cases_lt, cases_Bool, and_parts, not-true, not-false}
@@ -6,18 +9,12 @@ use Rattle.std.proofs.lemmas.Bool.Decides.{nat_tests}
 use Rattle.std.proofs.lemmas.List.{take_at, drop_at, take-append-drop, append-nil}
 use Rattle.std.proofs.lemmas.List.Sums.{prefix_len-le-length, prefix_len_stops}
 use Rattle.std.proofs.lemmas.Str.{IsCharBoundary-end, IsCharBoundary-before_ascii}
-use Rattle.std.specs.Char.{is_ascii_digit}
-use Rattle.std.specs.List.{prefix_len, list_all}
-use Rattle.std.specs.Str.{IsCharBoundary}
 use Rattle.graphql_lexer.specs.declared.tokenizer.token.Kind.TheVariants.{IntValue, FloatValue}
 use Rattle.graphql_lexer.specs.declared.tokenizer.piece.Nesting.TheVariants.{Level}
 use Rattle.graphql_lexer.specs.declared.tokenizer.piece.Piece.TheVariants.{Takes}
-use Rattle.graphql_lexer.specs.Lexical.{is_in_run, is_delimiter, is_natural, is_integer, is_fraction, is_exponent, is_in, EndsRun, IsFloat, with_fraction}
-use Rattle.graphql_lexer.specs.Lexical.{with_exponent, with_both}
-use Rattle.graphql_lexer.specs.Items.{run_at}
-use Rattle.graphql_lexer.specs.steps.Front.{is_flat}
-use Rattle.graphql_lexer.specs.steps.Numbers.{starts_number, digits_len, is_exponent_or_none, is_after_dot, is_after_integer, is_unsigned, is_float}
-use Rattle.graphql_lexer.specs.steps.Numbers.{number_of, number}
+use Rattle.graphql_lexer.specs.{is_in_run, is_delimiter, is_natural, is_integer, is_fraction, is_exponent, is_in, EndsRun, IsFloat, with_fraction}
+use Rattle.graphql_lexer.specs.{with_exponent, with_both, run_at, is_flat, starts_number, digits_len, is_exponent_or_none, is_after_dot, is_after_integer}
+use Rattle.graphql_lexer.specs.{is_unsigned, is_float, number_of, number}
 use Rattle.graphql_lexer.proofs.Runs.{run, run_all, run_of, all_weaken, all_append}
 
 ends_run_ascii : (b : ℕ) → is_in_run b ≡ false → b < 128

@@ -1,25 +1,21 @@
 -- Each text has a cut into pieces, and its items are those of its pieces.
+use Rattle.std.specs.Char.{is_ascii_digit}
+use Rattle.std.specs.List.{prefix_len, list_all}
 use Rattle.std.proofs.Common.{◌≡◌, ◌≢◌, ℕ, zero, suc, ◌<◌, ◌≤◌, Bool, true, false, cond, ◌&&◌, ◌||◌, ◌==◌, List, [], ◌∷◌, ◌++◌, Option, Some, None, length}
 use Rattle.std.proofs.Common.{get_or, drop, refl, sym, ap, ◌∙◌, subst, inl, inr, arith, length-append, append_assoc, eqb-true, le_refl, ◌⊎◌}
 use Rattle.std.proofs.lemmas.Bool.{cases_eq}
 use Rattle.std.proofs.lemmas.Bool.Decides.{nat_tests}
 use Rattle.std.proofs.lemmas.List.{take_at, drop_at}
-use Rattle.std.specs.Char.{is_ascii_digit}
-use Rattle.std.specs.List.{prefix_len, list_all}
 use Rattle.graphql_lexer.specs.declared.tokenizer.piece.Nesting.TheVariants.{Level}
 use Rattle.graphql_lexer.specs.declared.tokenizer.token.Kind.TheVariants.{Punctuator, Name, IntValue, FloatValue, StringValue, BlockString}
 use Rattle.graphql_lexer.specs.declared.tokenizer.piece.Move.TheVariants.{Stay, Down}
 use Rattle.graphql_lexer.specs.declared.tokenizer.piece.Piece.{Piece as Ahead}
 use Rattle.graphql_lexer.specs.declared.tokenizer.piece.Piece.TheVariants.{AtEnd, Skips, Takes, Stops}
-use Rattle.graphql_lexer.specs.steps.Front.{front, token_of, comment, line_end}
-use Rattle.graphql_lexer.specs.steps.Numbers.{is_float, number}
-use Rattle.graphql_lexer.specs.steps.Quoted.{string_end, block_end, closed, quoted}
-use Rattle.graphql_lexer.specs.Items.{Where, Item, HasItemsFrom, HasItems, start, past_ignored, past_token, last_item, piece_then, items_of, run_at}
-use Rattle.graphql_lexer.specs.steps.Cut.{items_by, items}
-use Rattle.graphql_lexer.specs.Lexical.{is_name_start, is_name_continue, is_in_line, is_mark, nesting_of, is_integer, begins_quotes, Meaning, Ignored, Word}
-use Rattle.graphql_lexer.specs.Lexical.{Stands, tab, line_feed, carriage_return, space, comma, byte_order_mark, comment_at_end, comment_feed}
-use Rattle.graphql_lexer.specs.Lexical.{comment_return_feed, comment_return, name, mark, spread, integer, float, string, block_string, BeginsNone, Piece}
-use Rattle.graphql_lexer.specs.Lexical.{IsCutInto}
+use Rattle.graphql_lexer.specs.{front, token_of, comment, line_end, is_float, number, string_end, block_end, closed, quoted, Where, Item, HasItemsFrom}
+use Rattle.graphql_lexer.specs.{HasItems, start, past_ignored, past_token, last_item, piece_then, items_of, run_at, items_by, items, is_name_start}
+use Rattle.graphql_lexer.specs.{is_name_continue, is_in_line, is_mark, nesting_of, is_integer, begins_quotes, Meaning, Ignored, Word, Stands, tab, line_feed}
+use Rattle.graphql_lexer.specs.{carriage_return, space, comma, byte_order_mark, comment_at_end, comment_feed, comment_return_feed, comment_return, name, mark}
+use Rattle.graphql_lexer.specs.{spread, integer, float, string, block_string, BeginsNone, Piece, IsCutInto}
 use Rattle.graphql_lexer.proofs.Runs.{run_of}
 use Rattle.graphql_lexer.proofs.Numbers.{float_is, run_parts, integer_run, float_run}
 use Rattle.graphql_lexer.proofs.Strings.{HasBody, string_found, block_found}

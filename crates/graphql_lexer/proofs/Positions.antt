@@ -1,23 +1,21 @@
 -- The position after a token.
-use Rattle.std.proofs.Common.{◌≡◌, ℕ, ◌+◌, ◌<◌, ◌≤◌, true, false, ◌==◌, List, [], ◌∷◌, ◌++◌, zero, suc, length, get_or, take, drop, IsUtf8, refl, sym, ap, ◌∙◌, subst}
-use Rattle.std.proofs.Common.{inl, inr, arith}
-use Rattle.std.proofs.lemmas.Bool.{and_parts, cases_Bool}
-use Rattle.std.proofs.lemmas.Bool.Decides.{nat_tests}
-use Rattle.std.proofs.lemmas.List.{take_at, take-append-drop, at_drop_more}
-use Rattle.std.proofs.lemmas.Str.{chars-IsAscii, chars-append, chars_past_char, encodes-chars, length-le-encodes, IsUtf8-take}
 use Rattle.std.specs.List.{list_all}
 use Rattle.std.specs.Str.{chars, IsAscii, IsCharBoundary}
 use Rattle.std.specs.Char.{encode_utf8}
+use Rattle.std.proofs.Common.{◌≡◌, ℕ, ◌+◌, ◌<◌, ◌≤◌, true, false, ◌==◌, List, [], ◌∷◌, ◌++◌, zero, suc, length, take, drop, IsUtf8, refl, sym, ap, ◌∙◌, subst}
+use Rattle.std.proofs.Common.{inl, inr, arith}
+use Rattle.std.proofs.lemmas.Bool.{and_parts, cases_Bool}
+use Rattle.std.proofs.lemmas.Bool.Decides.{nat_tests}
+use Rattle.std.proofs.lemmas.List.{take_at, take-append-drop}
+use Rattle.std.proofs.lemmas.Str.{chars-IsAscii, chars-append, chars_past_char, encodes-chars, length-le-encodes, IsUtf8-take}
 use Rattle.graphql_lexer.specs.declared.position.Pos.{Pos}
 use Rattle.graphql_lexer.specs.declared.tokenizer.token.Kind.{Kind}
 use Rattle.graphql_lexer.specs.declared.tokenizer.piece.Nesting.{Nesting}
 use Rattle.graphql_lexer.specs.declared.tokenizer.piece.Piece.{Piece as Ahead}
 use Rattle.graphql_lexer.specs.declared.tokenizer.piece.Piece.TheVariants.{AtEnd, Skips, Takes, Stops}
-use Rattle.graphql_lexer.specs.steps.Front.{front, is_flat, IsFlat}
-use Rattle.graphql_lexer.specs.Items.{past, past_character, past_characters}
-use Rattle.graphql_lexer.specs.Lexical.{is_name_start, is_name_continue, is_mark, Meaning, Ignored, Word, Stands, tab, line_feed, carriage_return, space, comma}
-use Rattle.graphql_lexer.specs.Lexical.{byte_order_mark, comment_at_end, comment_feed, comment_return_feed, comment_return, name, mark, spread, integer, float}
-use Rattle.graphql_lexer.specs.Lexical.{string, block_string}
+use Rattle.graphql_lexer.specs.{front, is_flat, IsFlat, past, past_character, past_characters, is_name_start, is_name_continue, is_mark, Meaning, Ignored, Word}
+use Rattle.graphql_lexer.specs.{Stands, tab, line_feed, carriage_return, space, comma, byte_order_mark, comment_at_end, comment_feed, comment_return_feed}
+use Rattle.graphql_lexer.specs.{comment_return, name, mark, spread, integer, float, string, block_string}
 use Rattle.graphql_lexer.proofs.Runs.{all_weaken}
 use Rattle.graphql_lexer.proofs.Numbers.{integer_run, float_run}
 use Rattle.graphql_lexer.proofs.FrontIsPiece.{shape, stands_front}
@@ -117,10 +115,6 @@ token_flat text n k t e = flat_by text n k t (front text) refl e (front_sees tex
 
 pub characters_fit : (bytes : List ℕ) → IsUtf8 bytes → length (chars bytes) ≤ length bytes
 characters_fit bytes utf8 = omega (arith, length-le-encodes (chars bytes), ap length (encodes-chars bytes utf8))
-
-pub characters_step : (cs : List ℕ) (i c : ℕ) (p : Pos) → (i < length cs) × (c ≡ get_or cs i c)
-    → past_characters (drop i cs) p ≡ past_characters (drop (i + 1) cs) (past_character c p)
-characters_step cs i c p h = at_drop_more (λ l. past_characters l p) cs i c h.0 ∙ ap (λ x. past_characters (drop (i + 1) cs) (past_character x p)) (sym h.1)
 
 -- a character moves the position on by at most one line and one column
 pub character_bounds : (c : ℕ) (p : Pos) → ((past_character c p).line ≤ p.line + 1) × ((past_character c p).column ≤ p.column + 1)

@@ -1,28 +1,21 @@
 -- Spaces at the front of a text, and the quick test for ignored text.
-use Rattle.std.proofs.Common.{◌≡◌, ℕ, zero, suc, ◌+◌, ◌<◌, ◌≤◌, Bool, true, false, cond, ◌&&◌, ◌||◌, ◌==◌, List, [], ◌∷◌, Option, Some, None, get_or, drop, IsUtf8}
-use Rattle.std.proofs.Common.{refl, ap, ◌∙◌, subst, inl, inr, arith, add-zero, eqb-true}
+use Rattle.std.specs.Str.{IsCharBoundary}
+use Rattle.std.specs.Char.{is_ascii_digit}
+use Rattle.std.specs.List.{prefix_len}
+use Rattle.std.proofs.Common.{◌≡◌, ℕ, zero, suc, ◌+◌, ◌<◌, ◌≤◌, Bool, true, false, cond, ◌&&◌, ◌||◌, ◌==◌, List, [], ◌∷◌, Option, Some, None, get_or, drop}
+use Rattle.std.proofs.Common.{IsUtf8, refl, ap, ◌∙◌, subst, inl, inr, arith, add-zero, eqb-true, IfSome}
 use Rattle.std.proofs.lemmas.Bool.{cases_Bool}
 use Rattle.std.proofs.lemmas.Bool.Decides.{nat_tests}
 use Rattle.std.proofs.lemmas.List.Sums.{prefix_len-le-length, prefix_len_passes}
 use Rattle.std.proofs.lemmas.Str.{IsCharBoundary-start, IsCharBoundary-after_ascii}
-use Rattle.std.specs.Prelude.{IfSome}
-use Rattle.std.specs.Str.{IsCharBoundary}
-use Rattle.std.specs.Char.{is_ascii_digit}
-use Rattle.std.specs.List.{prefix_len}
 use Rattle.graphql_lexer.specs.declared.position.Pos.{Pos}
 use Rattle.graphql_lexer.specs.declared.tokenizer.token.Kind.{Kind}
 use Rattle.graphql_lexer.specs.declared.tokenizer.piece.Move.{Move}
 use Rattle.graphql_lexer.specs.declared.tokenizer.piece.Move.TheVariants.{Over}
 use Rattle.graphql_lexer.specs.declared.tokenizer.piece.Piece.{Piece}
 use Rattle.graphql_lexer.specs.declared.tokenizer.piece.Piece.TheVariants.{AtEnd, Skips, Takes, Stops}
-use Rattle.graphql_lexer.specs.Lexical.{is_name_start, is_mark, is_integer, begins_quotes}
-use Rattle.graphql_lexer.specs.steps.Numbers.{is_float, number}
-use Rattle.graphql_lexer.specs.steps.Quoted.{closed, quoted}
-use Rattle.graphql_lexer.specs.steps.Front.{front, token_of, FitsIn, IsItem, is_flat}
-use Rattle.graphql_lexer.specs.Items.{Where, run_at}
-use Rattle.graphql_lexer.specs.Stream.{further}
-use Rattle.graphql_lexer.specs.steps.Cut.{items}
-use Rattle.graphql_lexer.specs.steps.Ahead.{is_space, ignored, FitsIgnored}
+use Rattle.graphql_lexer.specs.{is_name_start, is_mark, is_integer, begins_quotes, is_float, number, closed, quoted, front, token_of, FitsIn, IsItem, is_flat}
+use Rattle.graphql_lexer.specs.{Where, run_at, further, items, is_space, ignored, FitsIgnored}
 use Rattle.graphql_lexer.proofs.FrontFits.{further_skip, front_fits}
 
 abbrev over : ℕ → Pos → Pos

@@ -1,18 +1,16 @@
 -- Strings, block strings, and where they end.
-use Rattle.std.proofs.Common.{◌≡◌, ◌≢◌, ℕ, zero, suc, ◌+◌, ◌<◌, ◌≤◌, Bool, true, false, not, cond, ◌&&◌, ◌||◌, ◌==◌, List, [], ◌∷◌, ◌++◌, length, get_or}
-use Rattle.std.proofs.Common.{take, drop, Some, None, refl, sym, ap, ◌∙◌, subst, inl, inr, arith, le_refl, append_assoc, length-append}
+use Rattle.std.specs.List.{prefix_len, list_all}
+use Rattle.std.proofs.Common.{◌≡◌, ◌≢◌, ℕ, zero, suc, ◌+◌, ◌<◌, ◌≤◌, Bool, true, false, not, cond, ◌&&◌, ◌||◌, ◌==◌, List, [], ◌∷◌, ◌++◌, length, get_or, take}
+use Rattle.std.proofs.Common.{drop, Some, None, refl, sym, ap, ◌∙◌, subst, inl, inr, arith, le_refl, append_assoc, length-append}
 use Rattle.std.proofs.lemmas.Bool.{cases_eq, cases_Bool, and_parts}
 use Rattle.std.proofs.lemmas.Bool.Decides.{nat_tests}
-use Rattle.std.proofs.lemmas.List.{at_drop_more, at_drop_all, drop-drop, length-drop, take_at, get_or-append-add}
-use Rattle.graphql_lexer.specs.Lexical.{begins_quotes, begins_escape, IsStringBody, empty, plain, escaped, ClosesBlock, closing, escape, unit}
-use Rattle.graphql_lexer.proofs.Runs.{not_equal, run_of, all_weaken, all_append}
-use Rattle.std.specs.List.{prefix_len, list_all}
-use Rattle.graphql_lexer.specs.steps.Front.{is_flat}
-use Rattle.graphql_lexer.specs.steps.Ahead.{is_plain_in_string, is_plain_in_block}
-use Rattle.graphql_lexer.specs.steps.Quoted.{string_end, block_end, quoted}
+use Rattle.std.proofs.lemmas.List.{at_drop_more, at_drop_all, length-drop, take_at, get_or-append-add}
+use Rattle.graphql_lexer.specs.{begins_quotes, begins_escape, IsStringBody, empty, plain, escaped, ClosesBlock, closing, escape, unit, is_flat}
+use Rattle.graphql_lexer.specs.{is_plain_in_string, is_plain_in_block, string_end, block_end, quoted}
 use Rattle.graphql_lexer.specs.declared.tokenizer.token.Kind.TheVariants.{StringValue, BlockString}
 use Rattle.graphql_lexer.specs.declared.tokenizer.piece.Nesting.TheVariants.{Level}
 use Rattle.graphql_lexer.specs.declared.tokenizer.piece.Piece.TheVariants.{Takes}
+use Rattle.graphql_lexer.proofs.Runs.{not_equal, run_of, all_weaken, all_append}
 
 -- ---- one byte or unit on
 
@@ -47,17 +45,6 @@ skips_escape n (b ∷ x ∷ []) q e = absurd (grind (arith, nat_tests))
 skips_escape n (b ∷ x ∷ y ∷ []) q e = absurd (grind (arith, nat_tests))
 skips_escape n (b ∷ x ∷ y ∷ z ∷ more) q e = rw (q, e) (ap (λ m. block_end m 0 more) (omega arith))
 
-pub block_escape : (i : ℕ) (bs : List ℕ) → begins_quotes (drop i bs) ≡ false → begins_escape (drop i bs) ≡ true
-    → block_end i 0 (drop i bs) ≡ block_end (i + 4) 0 (drop (i + 4) bs)
-block_escape i bs q e = skips_escape i (drop i bs) q e ∙ ap (block_end (i + 4) 0) (drop-drop 4 i bs)
-
-pub escape_some : (bs : List ℕ) → begins_escape bs ≡ true → 4 ≤ length bs
-escape_some [] e = absurd cc
-escape_some (b ∷ []) e = absurd (grind (arith, nat_tests))
-escape_some (b ∷ x ∷ []) e = absurd (grind (arith, nat_tests))
-escape_some (b ∷ x ∷ y ∷ []) e = absurd (grind (arith, nat_tests))
-escape_some (b ∷ x ∷ y ∷ z ∷ more) e = omega arith
-
 pub quotes_some : (bs : List ℕ) → begins_quotes bs ≡ true → 3 ≤ length bs
 quotes_some [] e = absurd cc
 quotes_some (b ∷ []) e = absurd cc
@@ -68,10 +55,6 @@ pub skips_unit : (n : ℕ) (bs : List ℕ) → 0 < length bs → begins_quotes b
 unfolding block_end
 skips_unit n [] h q e = absurd (omega arith)
 skips_unit n (b ∷ bs) h q e = rw (q, e) refl
-
-pub block_unit : (i : ℕ) (bs : List ℕ) → i < length bs → begins_quotes (drop i bs) ≡ false → begins_escape (drop i bs) ≡ false
-    → block_end i 0 (drop i bs) ≡ block_end (i + 1) 0 (drop (i + 1) bs)
-block_unit i bs h q e = skips_unit i (drop i bs) (omega (arith, length-drop i bs)) q e ∙ ap (block_end (i + 1) 0) (drop-drop 1 i bs)
 
 plain_quotes : (b : ℕ) (bs : List ℕ) → is_plain_in_block b ≡ true → begins_quotes (b ∷ bs) ≡ false
 plain_quotes b [] h = refl

@@ -1,12 +1,12 @@
 -- Tokens and plain ignored text at the front of a text.
-use Rattle.std.proofs.Common.{◌≡◌, ℕ, ◌+◌, ◌<◌, ◌≤◌, Bool, true, false, ◌==◌, List, [], ◌∷◌, Option, Some, None, length, take, drop, get_or, IsUtf8}
-use Rattle.std.proofs.Common.{refl, sym, ap, ◌∙◌, arith, eqb-true}
-use Rattle.std.proofs.lemmas.Bool.{false≢true, eqb-false}
-use Rattle.std.proofs.lemmas.List.{length-take, take_min}
-use Rattle.std.proofs.lemmas.Bool.Decides.{nat_tests}
-use Rattle.std.specs.Prelude.{IfSome}
 use Rattle.std.specs.Str.{IsCharBoundary}
 use Rattle.std.specs.List.{prefix_len}
+use Rattle.std.proofs.Common.{◌≡◌, ℕ, ◌+◌, ◌-◌, ◌<◌, ◌≤◌, Bool, true, false, ◌==◌, List, [], ◌∷◌, Option, Some, None, length, take, drop, get_or, IsUtf8, refl}
+use Rattle.std.proofs.Common.{sym, ap, ◌∙◌, arith, eqb-true, IfSome, cond, slice_index, inl, inr, ◌&&◌, ◌||◌}
+use Rattle.std.proofs.lemmas.Bool.{false≢true, eqb-false, and_parts, or_cases, both_ways, cases_Bool}
+use Rattle.std.proofs.lemmas.List.{length-take, take_min}
+use Rattle.std.proofs.lemmas.Bool.Decides.{nat_tests}
+use Rattle.graphql_lexer.specs.declared.position.Pos.{Pos}
 use Rattle.graphql_lexer.specs.declared.tokenizer.token.Kind.{Kind}
 use Rattle.graphql_lexer.specs.declared.tokenizer.token.Kind.TheVariants.{Punctuator, Name}
 use Rattle.graphql_lexer.specs.declared.tokenizer.piece.Move.{Move}
@@ -15,13 +15,9 @@ use Rattle.graphql_lexer.specs.declared.tokenizer.piece.Nesting.{Nesting}
 use Rattle.graphql_lexer.specs.declared.tokenizer.piece.Nesting.TheVariants.{Level, Opens, Closes}
 use Rattle.graphql_lexer.specs.declared.tokenizer.piece.Piece.{Piece}
 use Rattle.graphql_lexer.specs.declared.tokenizer.piece.Piece.TheVariants.{AtEnd, Skips, Takes, Stops}
-use Rattle.graphql_lexer.specs.Lexical.{is_name_start, is_name_continue, is_mark, nesting_of}
-use Rattle.graphql_lexer.specs.BadTexts.{too_deep}
-use Rattle.graphql_lexer.specs.Items.{Where, Item, Content, item, Lexeme, End, Wrong, is_token, is_too_deep, openers_after, closers_after, past_token, token_then}
-use Rattle.graphql_lexer.specs.steps.Cut.{items, items_by}
-use Rattle.graphql_lexer.specs.Stream.{BeginsWithNext, AreItemsOfRest}
-use Rattle.graphql_lexer.specs.steps.Front.{front, token_of, FitsIn, IsItem}
-use Rattle.graphql_lexer.specs.steps.Ahead.{taken, FitsTaken, is_blank, is_line_feed, is_ignored}
+use Rattle.graphql_lexer.specs.{is_name_start, is_name_continue, is_mark, nesting_of, too_deep, Where, Item, Content, item, Lexeme, End, Wrong, is_token}
+use Rattle.graphql_lexer.specs.{is_too_deep, openers_after, closers_after, past_token, token_then, items, items_by, BeginsWithNext, AreItemsOfRest, front}
+use Rattle.graphql_lexer.specs.{further, token_of, comment, line_end, is_in_line, FitsIn, IsItem, taken, FitsTaken, is_blank, is_line_feed, is_ignored}
 use Rattle.graphql_lexer.proofs.Runs.{differs}
 use Rattle.graphql_lexer.proofs.FrontFits.{front_fits, front_within, items_at, next_place_items, Within}
 use Rattle.graphql_lexer.proofs.OneCut.{has_items_from}
@@ -79,6 +75,39 @@ takes_first AtEnd n k t e = absurd cc
 takes_first Stops n k t e = absurd cc
 takes_first (Skips i m) n k t e = absurd cc
 takes_first (Takes i j s) n k t e = ap back e
+
+no_token_in_line : (n : ℕ) (bytes : List ℕ) → taken (line_end n bytes) ≡ None
+no_token_in_line n [] = refl
+no_token_in_line n (b ∷ bs) =
+    elim (cases_Bool (b == 13 && slice_index bs 0 == 10)) [
+      | inl e ↦ rw e refl
+      | inr e ↦ rw e refl
+    ]
+
+one_test : (t : Bool) (x y z : Piece) → (t ≡ true → taken x ≡ taken z) → (t ≡ false → taken y ≡ taken z) → taken (cond t x y) ≡ taken z
+one_test true x y z h k = h refl
+one_test false x y z h k = k refl
+
+no_token_of : (b k : ℕ) (bs : List ℕ) → (b == k) ≡ true → taken (token_of k (k ∷ bs)) ≡ None → None ≡ taken (token_of b (b ∷ bs))
+no_token_of b k bs e none = sym (ap (λ x. taken (token_of x (x ∷ bs))) (eqb-true b k e) ∙ none)
+
+-- where no name begins, the token at the front is that of its first byte: ignored text begins with none
+pub token_front : (b : ℕ) (bs : List ℕ) → is_name_start b ≡ false → taken (front (b ∷ bs)) ≡ taken (token_of b (b ∷ bs))
+unfolding front token_of comment
+token_front b bs n =
+    let z = token_of b (b ∷ bs) in
+    one_test (b == 9) _ _ z (λ e. no_token_of b 9 bs e refl)
+    (λ _. one_test (b == 10) _ _ z (λ e. no_token_of b 10 bs e refl)
+    (λ _. one_test (b == 13) _ _ z (λ e. no_token_of b 13 bs e refl)
+    (λ _. one_test (b == 32 || b == 44) _ _ z
+    (λ e. elim (or_cases (b == 32) (b == 44) e) [
+      | inl i ↦ no_token_of b 32 bs i refl
+      | inr i ↦ no_token_of b 44 bs i refl
+    ])
+    (λ _. one_test (is_name_start b) _ _ z (λ e. absurd (both_ways (is_name_start b) n e))
+    (λ _. one_test (b == 35) _ _ z (λ e. no_token_in_line _ (drop (prefix_len is_in_line bs) bs) ∙ no_token_of b 35 bs e refl)
+    (λ _. one_test (b == 239 && (slice_index bs 0 == 187 && slice_index bs 1 == 191)) _ _ z (λ e. no_token_of b 239 bs (and_parts (b == 239) _ e).0 refl)
+    (λ _. refl)))))))
 
 -- where no token stands, a text is empty or no piece begins it
 pub end_front : (bytes : List ℕ) → length bytes ≡ 0 → front bytes ≡ AtEnd
@@ -159,6 +188,17 @@ pub not_too_deep : (n : Nesting) (w : Where) → (n ≡ Opens → ⊥) → is_to
 not_too_deep Level w other = refl
 not_too_deep Opens w other = absurd (other refl)
 not_too_deep Closes w other = refl
+
+-- The next item is a token, which opens at most one bracket more; the others are those of what is left, which stands after ignored text, at this place.
+pub token_then_rest : (w : Where) (text value after rest : List ℕ) (size n : ℕ) (k : Kind) (t : Nesting) (place : Pos) → Some (n, k, t) ≡ taken (front text)
+    → is_too_deep t w ≡ false → value ≡ take n text → after ≡ drop n text
+    → items (further place (length after - length rest) (past_token t value w)) rest ≡ items (past_token t value w) after
+    → w.offset + length value + (length after - length rest) ≡ size - length rest
+    → items w text ≡ item (Lexeme k value) w
+    ∷ items (record { position = place; offset = size - length rest; openers = openers_after t w.openers; closers = closers_after t w.closers }) rest
+token_then_rest w text value after rest size n k t place is deep value_is after_is more offset =
+    let here = items_at w text (Takes n k t) (takes_first (front text) n k t (sym is)) in
+    rw (← offset, more, value_is, after_is) (rw deep at here)
 
 -- ---- plain ignored text
 

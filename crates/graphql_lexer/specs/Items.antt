@@ -1,11 +1,10 @@
 -- The items of a text: its tokens in order, and then its end or its first bad place.
-use Rattle.std.specs.Prelude.{◌≡◌, ℕ, ◌+◌, Bool, true, false, ◌||◌, ◌==◌, if◌then◌else◌, List, [], ◌∷◌, ◌++◌, length, take, slice_index, ℤ, pos}
-use Rattle.std.specs.Prelude.{◌-ℤ◌}
+use Rattle.std.specs.Prelude.{◌≡◌, ℕ, ◌+◌, Bool, true, false, ◌||◌, ◌==◌, if◌then◌else◌, List, [], ◌∷◌, ◌++◌, length, take, slice_index, ℤ, pos, ◌-ℤ◌}
 use Rattle.std.specs.Str.{chars}
-use Rattle.graphql_lexer.specs.declared.position.Pos.{Pos}
-use Rattle.graphql_lexer.specs.declared.tokenizer.token.Kind.{Kind}
 use Rattle.std.specs.List.{prefix_len, list_all, list_any}
 use Rattle.std.specs.Char.{is_ascii_digit}
+use Rattle.graphql_lexer.specs.declared.position.Pos.{Pos}
+use Rattle.graphql_lexer.specs.declared.tokenizer.token.Kind.{Kind}
 use Rattle.graphql_lexer.specs.declared.tokenizer.piece.Move.{Move}
 use Rattle.graphql_lexer.specs.declared.tokenizer.piece.Move.TheVariants.{Stay, Over, Down}
 use Rattle.graphql_lexer.specs.declared.tokenizer.piece.Nesting.{Nesting}

@@ -1,1 +1,4 @@
+pub mod Again
 pub mod Mapped
+pub use Again.*
+pub use Mapped.*

@@ -1,13 +1,10 @@
 -- What version 0.4.1 has as a document, or as the first definition of a text, is so today, with none of the parts that are new since then.
 use Rattle.std.proofs.Common.{ℕ, List, ◌++◌, length, refl, sym, ap, subst, ◌∙◌}
-use Rattle.graphql_grammar.specs.Tokens.{Token}
-use Rattle.graphql_grammar.specs.Grown.{grown}
-use Rattle.graphql_values.proofs.Growing.{IsGrown, later_shape, later_document_of}
-use Rattle.graphql_query_tree.specs.Tree.{DefinitionTree, DocumentTree}
-use Rattle.graphql_query_tree.specs.Document.{queries, IsDocumentOf}
-use Rattle.graphql_query_tree.specs.Earlier.{queries_0_4_1, IsDocumentOf_0_4_1, HasNoNewPart, HasNoNewParts}
-use Rattle.graphql_query_tree.proofs.Earlier.{new_parts, queries_grow, definition_grown, definition_has_none, document_has_none}
-use Rattle.graphql_query.specs.FirstDefinition.{one_definition_of, one_definition, text_after, IsFirstDefinition, IsFirstDefinition_0_4_1}
+use Rattle.graphql_values.specs.{Token, grown}
+use Rattle.graphql_values.proofs.{IsGrown, later_shape, later_document_of}
+use Rattle.graphql_query_tree.specs.{DefinitionTree, DocumentTree, queries, IsDocumentOf, queries_0_4_1, IsDocumentOf_0_4_1, HasNoNewPart, HasNoNewParts}
+use Rattle.graphql_query_tree.proofs.{new_parts, queries_grow, definition_grown, definition_has_none, document_has_none}
+use Rattle.graphql_query.specs.{one_definition_of, one_definition, text_after, IsFirstDefinition, IsFirstDefinition_0_4_1}
 
 pub earlier_document : (text : List ℕ) (d : DocumentTree) → IsDocumentOf_0_4_1 text d → HasNoNewParts d × IsDocumentOf text d
 earlier_document text d h =

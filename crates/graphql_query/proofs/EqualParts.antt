@@ -1,9 +1,7 @@
 -- Trees of the same parts are the same.
 use Rattle.std.proofs.Common.{◌≡◌, ℕ, List, Option, refl}
-use Rattle.graphql_grammar.specs.Tokens.{Place}
-use Rattle.graphql_values.specs.Values.{ValueTree, TypeTree, DirectiveTree}
-use Rattle.graphql_query_tree.specs.Tree.{SelectionSetTree, OperationKind, VariableDefinitionTree, OperationBodyTree, with_body, operation}
-use Rattle.graphql_query_tree.specs.Tree.{FragmentDefinitionTree}
+use Rattle.graphql_values.specs.{Place, ValueTree, TypeTree, DirectiveTree}
+use Rattle.graphql_query_tree.specs.{SelectionSetTree, VariableDefinitionTree, OperationBodyTree, FragmentDefinitionTree}
 
 abbrev variable : Place → List ℕ → TypeTree → Option ValueTree → List DirectiveTree → VariableDefinitionTree
 variable p n t v ds = record { position = p; name = n; var_type = t; default_value = v; directives = ds }
@@ -18,10 +16,6 @@ common n vs ds s = record { name = n; variables = vs; directives = ds; selected 
 pub same_operation_body : {n m : Option (List ℕ)} {vs ws : List VariableDefinitionTree} {ds es : List DirectiveTree} {s t : SelectionSetTree} → n ≡ m
     → vs ≡ ws → ds ≡ es → s ≡ t → common n vs ds s ≡ common m ws es t
 same_operation_body a b c d = rw (a, b, c, d) refl
-
-pub same_operation : (kind : OperationKind) {p q : Place} {c d : OperationBodyTree} → q ≡ p → c ≡ d
-    → operation (with_body kind p c) ≡ operation (with_body kind q d)
-same_operation kind a b = rw (a, b) refl
 
 abbrev fragment : Place → List ℕ → List ℕ → List DirectiveTree → SelectionSetTree → FragmentDefinitionTree
 fragment p n c ds s = record { position = p; name = n; condition = c; directives = ds; selected = s }

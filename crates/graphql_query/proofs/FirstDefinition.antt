@@ -1,24 +1,14 @@
 -- The first definition of a list of tokens is what the reader of definitions takes.
 use Rattle.std.proofs.Common.{◌≡◌, false, List, [], ◌∷◌, ◌++◌, Option, Some, None, refl, sym, ap, subst, ◌∙◌}
-use Rattle.graphql_grammar.specs.Tokens.{Token}
-use Rattle.graphql_grammar.specs.Trees.{Sym, Shape, leaves, peek, row}
-use Rattle.graphql_grammar.specs.Factored.{written}
-use Rattle.graphql_grammar.specs.Tables.{cont}
-use Rattle.graphql_grammar.specs.Reading.{sees, Takes, Reason, Fails, fails_node, fails_check}
-use Rattle.graphql_grammar.specs.ReaderWords.{Stops}
-use Rattle.graphql_grammar.proofs.Deterministic.{take-or_fail}
-use Rattle.graphql_core.specs.Refusal.{Refusal, no_memory}
-use Rattle.graphql_core.specs.declared.helpers.read_error.ReadError.{ReadError}
-use Rattle.graphql_core.specs.declared.helpers.read_error.ReadError.TheVariants.{Memory, Item, Integer, Float, Escape, Location}
-use Rattle.graphql_core.specs.Source.{Items, kept}
-use Rattle.graphql_core.specs.steps.ReadErrors.{IsFaultFor}
-use Rattle.graphql_values.specs.Faults.{IsRefusalFor}
-use Rattle.graphql_values.specs.steps.Answers.{reason_of}
-use Rattle.graphql_values.proofs.Readable.{IsReadable, exact, exact_lax}
-use Rattle.graphql_values.proofs.Whole.{least_stop}
-use Rattle.graphql_query_tree.specs.Grammar.{tables, second_rows, reading, changes, definition_symbol}
-use Rattle.graphql_query_tree.proofs.Readable.{readable}
-use Rattle.graphql_query.specs.FirstDefinition.{one_definition, BeginsWith, NoneBeginsAnother}
+use Rattle.graphql_grammar.specs.{cont, fails_check}
+use Rattle.graphql_grammar.proofs.{take-or_fail}
+use Rattle.graphql_core.specs.declared.helpers.read_error.ReadError.TheVariants.{Item}
+use Rattle.graphql_values.specs.{Token, Sym, Shape, leaves, peek, row, written, sees, Takes, Reason, Fails, fails_node, Stops, Refusal, no_memory, ReadError}
+use Rattle.graphql_values.specs.{Memory, Integer, Float, Escape, Location, Items, kept, IsFaultFor, IsRefusalFor, reason_of}
+use Rattle.graphql_values.proofs.{IsReadable, exact, exact_lax, least_stop}
+use Rattle.graphql_query_tree.specs.{tables, second_rows, reading, changes, definition_symbol}
+use Rattle.graphql_query_tree.proofs.{readable}
+use Rattle.graphql_query.specs.{one_definition, BeginsWith, NoneBeginsAnother}
 
 pub readable_one : IsReadable one_definition
 unfolding tables

@@ -1,13 +1,10 @@
 -- What a call of the minifier answers.
 use Rattle.std.proofs.Common.{◌≡◌, ◌≤◌, ℕ, List, length, String, Result, IsErrAnd, subst}
-use Rattle.std.specs.Global.{Global}
-use Rattle.graphql_lexer.specs.Items.{Item, HasItems}
-use Rattle.graphql_core.specs.Source.{FaultText, Wrong, split, IsEnd}
-use Rattle.graphql_core.specs.Minified.{IsMinified, IsBadPlaceOf}
-use Rattle.graphql_core.specs.Refusal.{Refusal, max_length}
-use Rattle.graphql_core.proofs.Refusals.{by_fault, only_memory, as_error}
-use Rattle.graphql_lexer.proofs.OneCut.{has_items}
-use Rattle.graphql_query.specs.Minifying.{IsMinifyRefusalOf, ran_out, bad_place, TellsUnlessMemory}
+use Rattle.graphql_core.specs.{IsBadPlaceOf}
+use Rattle.graphql_core.proofs.{by_fault, only_memory, as_error}
+use Rattle.graphql_values.specs.{Wrong, Global, Item, HasItems, FaultText, split, IsEnd, IsMinified, Refusal, max_length}
+use Rattle.graphql_values.proofs.{has_items}
+use Rattle.graphql_query.specs.{IsMinifyRefusalOf, ran_out, bad_place, TellsUnlessMemory}
 
 -- the items of the source end in the bad place of this fault
 abbrev pub IsBadPlace : List ℕ → Refusal → Type 0

@@ -1,37 +1,24 @@
 -- What the grammar derives from a text can be printed.
 use Rattle.std.proofs.Common.{◌≡◌, ◌≤◌, ◌-◌, ℕ, true, List, ◌∷◌, codes, refl, sym, subst, arith}
-use Rattle.std.specs.List.{AllByRecursion}
-use Rattle.std.specs.Option.{IfSome, option_map_or}
-use Rattle.graphql_grammar.specs.Tokens.{Token, Place}
-use Rattle.graphql_grammar.specs.Trees.{Expr, Many, Sym, Shape, Both, leaves, optional}
-use Rattle.graphql_grammar.specs.Extended.{is_below}
-use Rattle.graphql_lexer.specs.Lexical.{IsName}
-use Rattle.graphql_core.specs.Source.{Items, split}
-use Rattle.graphql_core.proofs.NestingDepth.{Nests, Anything, nests, nests_tree}
-use Rattle.graphql_core.proofs.BracketRoom.{HasRoom, room_nothing, room_leaf, room_both, room_first, room_second, room_stop, room_more, room_node, has_room}
-use Rattle.graphql_core.proofs.BracketRoom.{room_back, all_turns}
-use Rattle.graphql_values.specs.Grammar.{shared, name, default_symbol, shared_symbols}
-use Rattle.graphql_values.specs.Meanings.{first_place, optional_default_of}
-use Rattle.graphql_values.specs.Printable.{IsPrintableDefault, value_brackets}
-use Rattle.graphql_values.proofs.Leaves.{leaf_name, leaf_except}
-use Rattle.graphql_values.proofs.Printable.{Within, all_within, optional_arguments_printable, directives_printable, type_printable, default_printable}
-use Rattle.graphql_query_tree.specs.Tree.{SelectionTree, SelectionSetTree, set, none, more, OperationKind, query_kind, mutation_kind, subscription_kind}
-use Rattle.graphql_query_tree.specs.Tree.{DefinitionTree, operation, DocumentTree}
-use Rattle.graphql_query_tree.specs.Grammar.{query, document_symbol, definition_symbol, operation_symbol, operation_body_symbol, variable_definitions_symbol}
-use Rattle.graphql_query_tree.specs.Grammar.{variable_definition_symbol}
-use Rattle.graphql_query_tree.specs.Grammar.{selection_set_symbol, selection_symbol, field_symbol, alias_symbol, fragment_spread_symbol, inline_fragment_symbol}
-use Rattle.graphql_query_tree.specs.Grammar.{type_condition_symbol}
-use Rattle.graphql_query_tree.specs.Meanings.{alias_of, type_condition_of, optional_type_condition_of, fragment_spread_of, field_of, selected_of}
-use Rattle.graphql_query_tree.specs.Meanings.{inline_fragment_of, selection_of, selection_set_of}
-use Rattle.graphql_query_tree.specs.Meanings.{selections_of, variable_definition_of, each_variable_definition_of, variable_definitions_of}
-use Rattle.graphql_query_tree.specs.Meanings.{optional_variable_definitions_of, optional_name_of, keyword_of}
-use Rattle.graphql_query_tree.specs.Meanings.{operation_of, definition_of, definitions_of, document_of}
-use Rattle.graphql_query_tree.specs.Document.{IsDocument, IsDocumentOf}
-use Rattle.graphql_query_tree.proofs.Readable.{tested_alike, written_goes_on}
-use Rattle.graphql_query_tree.specs.Printable.{IsPrintable, IsPrintableSelection, IsPrintableSet, ArePrintableSelections, IsPrintableVariable}
-use Rattle.graphql_query_tree.specs.Printable.{IsPrintableDefinition, Selects, SelectsInside, SelectInside, AllSelectInside, DefinitionSelects}
-use Rattle.graphql_query_tree.specs.Printable.{selection_brackets, selected_brackets, selection_set_brackets, selections_brackets, variable_definition_brackets}
-use Rattle.graphql_query_tree.specs.Printable.{variable_definitions_brackets, definition_brackets}
+use Rattle.graphql_core.proofs.{Nests, Anything, nests, HasRoom, room_nothing, room_leaf, room_both, room_first, room_second, room_stop, room_more, room_node}
+use Rattle.graphql_core.proofs.{has_room, room_back, all_turns}
+use Rattle.graphql_values.specs.{AllByRecursion, IfSome, option_map_or, Token, Place, Expr, Many, Sym, Shape, Both, leaves, optional, is_below, IsName, Items}
+use Rattle.graphql_values.specs.{split, shared, name, default_symbol, shared_symbols, first_place, optional_default_of, IsPrintableDefault, value_brackets}
+use Rattle.graphql_values.specs.{optional_of, optional_list_of, enclosed_of, each_of, spelling_at}
+use Rattle.graphql_values.proofs.{nests_tree, leaf_name, leaf_except, Within, all_within, optional_arguments_printable, directives_printable, type_printable}
+use Rattle.graphql_values.proofs.{some_printable, enclosed_printable, each_of_both, optional_default_printable, part_printable}
+use Rattle.graphql_query_tree.specs.{more, SelectionTree, SelectionSetTree, OperationKind, query_kind, mutation_kind, subscription_kind, DefinitionTree}
+use Rattle.graphql_query_tree.specs.{operation, DocumentTree, query, document_symbol, definition_symbol, operation_symbol, operation_body_symbol}
+use Rattle.graphql_query_tree.specs.{variable_definitions_symbol, variable_definition_symbol, selection_set_symbol, selection_symbol, field_symbol}
+use Rattle.graphql_query_tree.specs.{alias_symbol, fragment_spread_symbol, inline_fragment_symbol, type_condition_symbol, alias_of, type_condition_of}
+use Rattle.graphql_query_tree.specs.{fragment_spread_of, field_of, selected_of, inline_fragment_of, selection_of, selection_set_of, selections_of}
+use Rattle.graphql_query_tree.specs.{variable_definition_of, keyword_of, operation_of, definition_of, document_of, IsDocument, IsDocumentOf, IsPrintable}
+use Rattle.graphql_query_tree.specs.{IsPrintableSelection, IsPrintableSet, ArePrintableSelections, IsPrintableVariable, IsPrintableDefinition, Selects}
+use Rattle.graphql_query_tree.specs.{SelectsInside, SelectInside, AllSelectInside, DefinitionSelects, selection_brackets, selected_brackets}
+use Rattle.graphql_query_tree.specs.{selection_set_brackets, selections_brackets, variable_definition_brackets, variable_definitions_brackets}
+use Rattle.graphql_query_tree.specs.{definition_brackets, set, none, queries}
+use Rattle.graphql_query_tree.proofs.{tested_alike, written_goes_on}
+use Rattle.graphql_values.proofs.Printable as values
 
 -- ---- the symbols that are room_shared
 
@@ -46,11 +33,6 @@ alias_printable (room_second room_nothing) = tt
 
 type_condition_printable : {n : ℕ} {x : Shape} → HasRoom query n (Sym type_condition_symbol) x → IsName (type_condition_of x)
 type_condition_printable (room_node (room_both o n) c) = leaf_name refl n
-
-optional_type_condition_printable : {n : ℕ} {x : Shape} → HasRoom query n (optional (Sym type_condition_symbol)) x
-    → IfSome (optional_type_condition_of x) IsName
-optional_type_condition_printable (room_first f) = type_condition_printable f
-optional_type_condition_printable (room_second room_nothing) = tt
 
 abbrev IsSelection : ℕ → SelectionTree → Type 0
 IsSelection n s = IsPrintableSelection s × SelectsInside s × (selection_brackets s ≤ n)
@@ -87,7 +69,7 @@ mutual
   inline_fragment_printable (room_node (room_both dots (room_both condition (room_both ds s))) c) =
       let (are, b) = directives_printable (room_shared ds refl) in
       let (is, selects, inside, e) = selection_set_printable s in
-      ((optional_type_condition_printable condition, are, is), (selects, inside), omega arith)
+      ((part_printable type_condition_of IsName (λ y. type_condition_printable) condition, are, is), (selects, inside), omega arith)
 
   selection_printable : {n : ℕ} {x : Shape} → HasRoom query n (Sym selection_symbol) x → IsSelection n (selection_of x)
   selection_printable (room_node (room_first f) c) = field_printable f
@@ -110,49 +92,31 @@ mutual
 
 -- ---- variables
 
-optional_default_printable : {n : ℕ} {x : Shape} → HasRoom query n (optional (Sym default_symbol)) x
-    → IfSome (optional_default_of x) IsPrintableDefault × (option_map_or value_brackets (optional_default_of x) 0 ≤ n)
-optional_default_printable (room_first f) = default_printable (room_shared f refl)
-optional_default_printable (room_second room_nothing) = (tt, omega arith)
-
-variable_definition_printable : {n : ℕ} (x : Shape) → HasRoom query n (Sym variable_definition_symbol) x
+variable_definition_printable : (n : ℕ) (x : Shape) → HasRoom query n (Sym variable_definition_symbol) x
     → Within IsPrintableVariable variable_definition_brackets n (variable_definition_of x)
-variable_definition_printable _ (room_node (room_both sign (room_both called (room_both colon (room_both t (room_both v ds))))) c) =
+variable_definition_printable n _ (room_node (room_both sign (room_both called (room_both colon (room_both t (room_both v ds))))) c) =
     let (is, b) = type_printable (room_shared t refl) in
-    let (default, d) = optional_default_printable v in
+    let (default, d) = optional_default_printable (room_shared v refl) in
     let (are, e) = directives_printable (room_shared ds refl) in
     ((leaf_name refl called, is, default, are), omega arith)
 
-variable_definitions_printable : {n : ℕ} {x : Shape} → HasRoom query n (Sym variable_definitions_symbol) x
-    → Within (AllByRecursion IsPrintableVariable) variable_definitions_brackets n (variable_definitions_of x)
-variable_definitions_printable {n} (room_node (room_both (room_leaf a l d) (room_both (room_both {x = x} {y = xs} f fs) e)) c) =
-    let others = all_turns (Within IsPrintableVariable variable_definition_brackets (n - 1)) variable_definition_of each_variable_definition_of refl
-    (λ x y. refl) variable_definition_printable fs in
-    let (are, b) = all_within IsPrintableVariable variable_definition_brackets (n - 1) (variable_definition_of x ∷ each_variable_definition_of xs)
-    (variable_definition_printable x f, others) in
-    (are, omega arith)
-
-optional_variable_definitions_printable : {n : ℕ} {x : Shape} → HasRoom query n (optional (Sym variable_definitions_symbol)) x
-    → Within (AllByRecursion IsPrintableVariable) variable_definitions_brackets n (optional_variable_definitions_of x)
-optional_variable_definitions_printable (room_first f) = variable_definitions_printable f
-optional_variable_definitions_printable (room_second room_nothing) = (tt, omega arith)
+variable_definitions_printable : {n : ℕ} {x : Shape} → HasRoom query n (optional (Sym variable_definitions_symbol)) x
+    → Within (AllByRecursion IsPrintableVariable) variable_definitions_brackets n (optional_list_of (enclosed_of variable_definition_of) x)
+variable_definitions_printable = enclosed_printable variable_definition_symbol variable_definition_of IsPrintableVariable variable_definition_brackets
+    variable_definition_printable refl refl (λ m. refl)
 
 -- ---- definitions
 
 abbrev IsDefinition : ℕ → DefinitionTree → Type 0
 IsDefinition n d = IsPrintableDefinition d × DefinitionSelects d × (definition_brackets d ≤ n)
 
-optional_name_printable : {n : ℕ} {x : Shape} → HasRoom query n (optional name) x → IfSome (optional_name_of x) IsName
-optional_name_printable (room_first f) = leaf_name refl f
-optional_name_printable (room_second room_nothing) = tt
-
 keyword_printable : {n : ℕ} {x : Shape} (kind : OperationKind) (w : Shape) → HasRoom query n (Sym operation_body_symbol) x
     → IsDefinition n (operation (keyword_of kind (Both w x)))
 keyword_printable kind w (room_node (room_both called (room_both vs (room_both ds s))) c) =
-    let (variables, d) = optional_variable_definitions_printable vs in
+    let (variables, d) = variable_definitions_printable vs in
     let (are, b) = directives_printable (room_shared ds refl) in
     let (is, selects, inside, e) = selection_set_printable s in
-    ((optional_name_printable called, variables, are, is), (selects, inside), omega arith)
+    ((part_printable spelling_at IsName (λ y. leaf_name refl) called, variables, are, is), (selects, inside), omega arith)
 
 operation_printable : {n : ℕ} {x : Shape} → HasRoom query n (Sym operation_symbol) x → IsDefinition n (operation_of x)
 operation_printable (room_node (room_first s) c) = let (is, selects, inside, b) = selection_set_printable s in (is, (selects, inside), b)
@@ -167,25 +131,21 @@ definition_printable (room_node (room_second (room_node (room_both w (room_both 
     let (is, selects, inside, d) = selection_set_printable s in
     ((leaf_name refl called, type_condition_printable condition, are, is), (selects, inside), omega arith)
 
-definition_within : {n : ℕ} (x : Shape) → HasRoom query n (Sym definition_symbol) x → Within IsPrintableDefinition definition_brackets n (definition_of x)
-definition_within x f = let (is, selects, b) = definition_printable f in (is, b)
-
-definition_selects : {n : ℕ} (x : Shape) → HasRoom query n (Sym definition_symbol) x → DefinitionSelects (definition_of x)
-definition_selects x f = let (is, selects, b) = definition_printable f in selects
+definition_within : (n : ℕ) (x : Shape) → HasRoom query n (Sym definition_symbol) x
+    → Within (λ d. IsPrintableDefinition d × DefinitionSelects d) definition_brackets n (definition_of x)
+definition_within n x f = let (is, selects, b) = definition_printable f in ((is, selects), b)
 
 -- ---- documents
 
-document_printable : {x : Shape} → HasRoom query 50 (Sym document_symbol) x → IsPrintable (document_of x)
-document_printable (room_node (room_both {x = x} {y = xs} f fs) c) =
-    let others = all_turns (Within IsPrintableDefinition definition_brackets 50) definition_of definitions_of refl (λ x y. refl) definition_within fs in
-    let (are, b) = all_within IsPrintableDefinition definition_brackets 50 (definition_of x ∷ definitions_of xs) (definition_within x f, others) in
-    let select = all_turns DefinitionSelects definition_of definitions_of refl (λ x y. refl) definition_selects fs in
-    record { definition = tt; names = are; selections = (definition_selects x f, select); depth = b }
+document_printable : (x : Shape) → HasRoom query 50 (Sym document_symbol) x → IsPrintable (document_of x)
+document_printable _ (room_node (room_both {x = x} {y = xs} f fs) c) =
+    let (are, b) = some_printable definition_symbol definition_of (λ d. IsPrintableDefinition d × DefinitionSelects d) definition_brackets definition_within
+    (room_both f fs) in
+    let (names, select) = each_of_both IsPrintableDefinition DefinitionSelects (definition_of x ∷ each_of definition_of xs) are in
+    record { definition = tt; names = names; selections = select; depth = b }
 
 pub items_printable : (i : Items) (d : DocumentTree) → Nests i.tokens 50 Anything → IsDocument i d → IsPrintable d
-items_printable i d nested (x, (fits, is), end, e) =
-    let room = nests_tree x 50 Anything (subst (λ (ts : List Token). Nests ts 50 Anything) is nested) in
-    subst IsPrintable (sym e) (document_printable (has_room query refl fits 50 Anything room))
+items_printable = values.tokens_printable queries refl IsPrintable document_printable
 
 pub printable : (text : List ℕ) (d : DocumentTree) → IsDocumentOf text d → IsPrintable d
-printable text d (items, has, document) = items_printable (split items) d (nests text items has) document
+printable = values.text_printable queries refl IsPrintable document_printable

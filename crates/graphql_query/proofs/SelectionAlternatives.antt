@@ -1,33 +1,22 @@
 -- Which side of each choice of selections is read, and what is read there means.
 use Rattle.std.proofs.Common.{◌≡◌, ◌||◌, ℕ, true, false, List, [], ◌∷◌, Result, Ok, Err, Option, Some, None, refl, sym, ap, ◌∙◌, codes}
 use Rattle.std.proofs.Math.Bool.{or-false}
-use Rattle.graphql_grammar.specs.Tokens.{Token, Place, Class, matches}
-use Rattle.graphql_grammar.specs.Trees.{Expr, Empty, One, Then, Either, Many, Sym, Shape, Leaf, Both, First, Second, Nothing, Node, Grammar, optional}
-use Rattle.graphql_grammar.specs.Trees.{peek, leaves}
-use Rattle.graphql_grammar.specs.Tables.{first}
-use Rattle.graphql_grammar.specs.Reading.{sees, Takes, takes_nothing, takes_leaf, takes_both, takes_first, takes_second, takes_stop, takes_node, fails_one}
-use Rattle.graphql_grammar.specs.Reading.{fails_before, fails_after, fails_node, Reason}
-use Rattle.graphql_grammar.specs.ReaderWords.{values, Stops}
-use Rattle.graphql_grammar.specs.Factored.{written}
-use Rattle.graphql_grammar.proofs.Items.{sees-within}
-use Rattle.graphql_core.specs.declared.helpers.read_error.ReadError.{ReadError}
-use Rattle.graphql_core.specs.declared.helpers.read_error.ReadError.TheVariants.{Memory, Item, Integer, Float, Escape, Location}
-use Rattle.graphql_lexer.specs.declared.tokenizer.token.Kind.TheVariants.{Name}
-use Rattle.graphql_core.specs.Source.{Items}
-use Rattle.graphql_core.specs.steps.Matching.{TakesOne, TakesToken, sees_class}
-use Rattle.graphql_values.specs.steps.Answers.{Gives}
-use Rattle.graphql_values.specs.Grammar.{tables as shared_tables, any, keyword, mark, name, directive_symbol}
-use Rattle.graphql_values.specs.Meanings.{first_place, optional_arguments_of, directives_of}
-use Rattle.graphql_values.specs.Values.{DirectiveTree}
-use Rattle.graphql_values.proofs.Reading.{FailsUnseen, unseen_one, unseen_then, takes_one, stops_one, takes_none, one_of, many_means}
-use Rattle.graphql_values.proofs.Alternatives.{IsSide, through, side_node, side_first, side_second, side_left, side_right, unseen_symbol}
-use Rattle.graphql_query_tree.specs.Grammar.{reading, changes, tables, spread_class, type_condition_symbol, selection_set_symbol, field_symbol}
-use Rattle.graphql_query_tree.specs.Grammar.{selection_symbol, field_rest, fragment_spread_rest, inline_fragment_rest}
-use Rattle.graphql_values.proofs.Steps.{Leads, past}
-use Rattle.graphql_query.proofs.FromShared.{begun}
-use Rattle.graphql_query_tree.specs.Meanings.{field_of, selected_of, selection_of, selections_of}
-use Rattle.graphql_query.specs.steps.Reads.{first_names, alias_and_name_of, after_dots_of}
-use Rattle.graphql_query_tree.specs.Tree.{Arguments, SelectionTree, SelectionSetTree, field, inline, more, trees_of}
+use Rattle.graphql_grammar.specs.{takes_leaf, takes_stop}
+use Rattle.graphql_core.specs.{Grammar, TakesOne}
+use Rattle.graphql_core.specs.declared.helpers.read_error.ReadError.TheVariants.{Item}
+use Rattle.graphql_values.specs.{Token, Place, Class, matches, Expr, Empty, One, Then, Either, Many, Sym, Shape, Leaf, Both, First, Second, Nothing, Node}
+use Rattle.graphql_values.specs.{optional, peek, leaves, first, sees, Takes, takes_nothing, takes_both, takes_first, takes_second, takes_node, fails_one}
+use Rattle.graphql_values.specs.{fails_before, fails_after, fails_node, Reason, values, Stops, written, ReadError, Memory, Integer, Float, Escape, Location}
+use Rattle.graphql_values.specs.{Name, Items, TakesToken, sees_class, Gives, tables as shared_tables, any, keyword, mark, name, directive_symbol, first_place}
+use Rattle.graphql_values.specs.{optional_arguments_of, directives_of, DirectiveTree}
+use Rattle.graphql_values.proofs.{sees-within, FailsUnseen, unseen_one, unseen_then, takes_one, stops_one, takes_none, one_of, many_means, IsSide, through}
+use Rattle.graphql_values.proofs.{side_node, side_first, side_second, side_left, side_right, unseen_symbol, Leads, past, none_within, side_in, side_nth}
+use Rattle.graphql_values.proofs.{sees_both, BegunBy}
+use Rattle.graphql_query_tree.specs.{more, reading, changes, tables, spread_class, type_condition_symbol, selection_set_symbol, field_symbol, selection_symbol}
+use Rattle.graphql_query_tree.specs.{field_rest, fragment_spread_rest, inline_fragment_rest, field_of, selected_of, selection_of, selections_of, Arguments}
+use Rattle.graphql_query_tree.specs.{SelectionTree, SelectionSetTree, trees_of, field, inline}
+use Rattle.graphql_query.specs.{first_names, alias_and_name_of, after_dots_of}
+use Rattle.graphql_query.proofs.Lifted.{begun}
 
 -- ---- single tokens
 
@@ -55,33 +44,18 @@ narrowed old new P (Ok v) seen (t, h, p) = (
   },
   p,
 )
-narrowed old new P (Err Memory) seen h = h
-narrowed old new P (Err Item) seen (same, unseen) = (same, sees-within (spread_class ∷ []) (any Name ∷ []) (peek old.tokens) refl unseen)
-narrowed old new P (Err Integer) seen h = h
-narrowed old new P (Err Float) seen h = h
-narrowed old new P (Err Escape) seen h = h
-narrowed old new P (Err Location) seen h = h
+narrowed old new P (Err e) seen h =
+    none_within (any Name) spread_class old new P e (sees-within (spread_class ∷ []) (any Name ∷ []) (peek old.tokens) refl) h
 
 -- ---- what may be missing
 
-pub some_type_condition : (ts : List Token) → sees (on ∷ []) (peek ts) ≡ true
-    → IsSide reading (optional (Sym type_condition_symbol)) (Sym type_condition_symbol) First ts
+pub type_condition_begins : BegunBy reading type_condition_symbol (on ∷ [])
 unfolding tables
-some_type_condition ts seen = side_first reading (Sym type_condition_symbol) Empty on ts refl seen
+type_condition_begins = record { something = refl; first = refl }
 
-pub no_type_condition : (ts : List Token) → sees (on ∷ []) (peek ts) ≡ false → Takes reading (optional (Sym type_condition_symbol)) ts (Second Nothing) ts
+pub selection_set_begins : BegunBy reading selection_set_symbol (mark (codes "{") ∷ [])
 unfolding tables
-no_type_condition ts unseen = takes_none reading (Sym type_condition_symbol) ts refl unseen
-
-pub some_selection_set : (ts : List Token) → sees (mark (codes "{") ∷ []) (peek ts) ≡ true
-    → IsSide reading (optional (Sym selection_set_symbol)) (Sym selection_set_symbol) First ts
-unfolding tables
-some_selection_set ts seen = side_first reading (Sym selection_set_symbol) Empty (mark (codes "{")) ts refl seen
-
-pub no_selection_set : (ts : List Token) → sees (mark (codes "{") ∷ []) (peek ts) ≡ false
-    → Takes reading (optional (Sym selection_set_symbol)) ts (Second Nothing) ts
-unfolding tables
-no_selection_set ts unseen = takes_none reading (Sym selection_set_symbol) ts refl unseen
+selection_set_begins = record { something = refl; first = refl }
 
 -- ---- the sides of a selection
 
@@ -101,14 +75,12 @@ unseen_field ts = unseen_symbol reading field_symbol ts refl (unseen_then readin
 pub field_side : (ts : List Token) → sees (dots ∷ []) (peek ts) ≡ false
     → IsSide reading (Sym selection_symbol) (Sym field_symbol) (λ x. Node selection_symbol (First x)) ts
 unfolding tables
-field_side ts unseen = through reading _ _ _ _ _ ts (side_node reading selection_symbol ts (λ x. refl))
-    (side_left reading (Sym field_symbol) dots_rule ts refl refl (unseen_field ts) unseen)
+field_side ts unseen = side_in selection_symbol (λ x. refl) (side_left reading (Sym field_symbol) dots_rule ts refl refl (unseen_field ts) unseen)
 
 pub dots_side : (ts : List Token) → sees (dots ∷ []) (peek ts) ≡ true
     → IsSide reading (Sym selection_symbol) dots_rule (λ x. Node selection_symbol (Second x)) ts
 unfolding tables shared_tables
-dots_side ts seen = through reading _ _ _ _ _ ts (side_node reading selection_symbol ts (λ x. refl))
-    (side_second reading (Sym field_symbol) dots_rule dots ts refl refl seen)
+dots_side ts seen = side_in selection_symbol (λ x. refl) (side_nth dots _ 1 refl seen)
 
 pub fragment_spread_side : (ts : List Token) → sees (spread_class ∷ []) (peek ts) ≡ true → IsSide reading after_dots fragment_spread_rest First ts
 unfolding tables
@@ -120,7 +92,8 @@ unfolding tables shared_tables
 unseen_inline_fragment ts h =
     let no_brace = sees-within (mark (codes "{") ∷ []) (first reading.rows inline_fragment_rest) (peek ts) refl h in
     let no_directive = sees-within (first reading.rows (Sym directive_symbol)) (first reading.rows inline_fragment_rest) (peek ts) refl h in
-    fails_after (no_type_condition ts (sees-within (on ∷ []) (first reading.rows inline_fragment_rest) (peek ts) refl h))
+    let no_condition = sees-within (on ∷ []) (first reading.rows inline_fragment_rest) (peek ts) refl h in
+    fails_after (takes_none reading (Sym type_condition_symbol) ts refl no_condition)
     (fails_after (takes_node (takes_stop no_directive) refl) (fails_node (fails_before (fails_one no_brace))))
 
 pub inline_fragment_side : (ts : List Token) → sees (spread_class ∷ []) (peek ts) ≡ false → IsSide reading after_dots inline_fragment_rest Second ts
@@ -129,8 +102,7 @@ inline_fragment_side ts unseen = side_right reading fragment_spread_rest inline_
 
 pub begins_selection : (item : Option Token) → sees (first reading.rows (Sym selection_symbol)) item ≡ (sees (any Name ∷ []) item || sees (dots ∷ []) item)
 unfolding tables
-begins_selection None = refl
-begins_selection (Some t) = ap (λ b. b || sees (dots ∷ []) (Some t)) (sym (or-false (matches (any Name) t)))
+begins_selection item = sees_both (any Name ∷ []) (dots ∷ []) item
 
 -- ---- what is read means
 

@@ -1,10 +1,8 @@
 -- What is seen of selections as they are made.
 use Rattle.std.proofs.Common.{◌≡◌, ℕ, List, length, drop, map, option_map, Option, Vec, Global, rules, ap, ◌∙◌}
-use Rattle.graphql_lexer.specs.declared.position.Pos.{Pos}
-use Rattle.graphql_core.specs.Source.{place_of}
+use Rattle.graphql_values.specs.{Pos, place_of, arguments_view, directives_view}
 use Rattle.graphql_values.specs.declared.tree.Value.{Value}
 use Rattle.graphql_values.specs.declared.tree.Directive.{Directive}
-use Rattle.graphql_values.specs.ValueViews.{arguments_view, directives_view}
 use Rattle.graphql_query_tree.specs.declared.tree.TypeCondition.{TypeCondition}
 use Rattle.graphql_query_tree.specs.declared.tree.FragmentSpread.{FragmentSpread}
 use Rattle.graphql_query_tree.specs.declared.tree.Field.{Field}
@@ -12,12 +10,12 @@ use Rattle.graphql_query_tree.specs.declared.tree.InlineFragment.{InlineFragment
 use Rattle.graphql_query_tree.specs.declared.tree.SelectionSet.{SelectionSet}
 use Rattle.graphql_query_tree.specs.declared.tree.Selection.{Selection, the_lemmas}
 use Rattle.graphql_query_tree.specs.declared.tree.Selection.TheViews.{roll-Field, roll-InlineFragment, roll-SelectionSet}
+use Rattle.graphql_query_tree.specs.{field, inline, set, SelectionSetTree, trees_of, type_condition_view, field_view, fragment_spread_view}
+use Rattle.graphql_query_tree.specs.{inline_fragment_view, selection_view, selection_set_view}
+use Rattle.graphql_query.specs.{AddsSet}
+use Rattle.graphql_query.proofs.TakenOff.{taken_off}
 use Rattle.graphql_query_tree.specs.declared.tree.Selection.TheViews as made
 use Rattle.graphql_query_tree.specs.declared.tree.Selection.TheBlock as block
-use Rattle.graphql_query.specs.steps.Reads.{AddsSet}
-use Rattle.graphql_query.proofs.TakenOff.{taken_off}
-use Rattle.graphql_query_tree.specs.Tree.{field, inline, set, SelectionSetTree, trees_of, type_condition_view, field_view, fragment_spread_view}
-use Rattle.graphql_query_tree.specs.Tree.{inline_fragment_view, selection_view, selection_set_view}
 
 module _ {N T : Type 0} (b : T → List ℕ) where
   pub field_made : (p : Pos) (a : Option T) (n : T) (xs : Vec (T × Value N T) Global) (ds : Vec (Directive N T) Global) (s : SelectionSet N T)

@@ -1,17 +1,9 @@
 -- The first definition of a text, and the rest of the text after it.
 use Rattle.std.specs.Prelude.{◌≡◌, ℕ, List, [], ◌∷◌, ◌++◌, length, drop}
-use Rattle.graphql_grammar.specs.Tokens.{Token}
-use Rattle.graphql_grammar.specs.Trees.{Sym, Shape, leaves, Fits}
-use Rattle.graphql_grammar.specs.Reading.{lax}
-use Rattle.graphql_core.specs.Source.{split}
-use Rattle.graphql_lexer.specs.Items.{Item, HasItems}
-use Rattle.graphql_lexer.specs.Stream.{next_place}
+use Rattle.graphql_values.specs.{Token, Sym, Shape, leaves, Fits, lax, split, Item, HasItems, next_place}
 use Rattle.graphql_values.specs.Language.{Language}
-use Rattle.graphql_query_tree.specs.Document.{queries, IsReadBack}
-use Rattle.graphql_query_tree.specs.Earlier.{queries_0_4_1}
-use Rattle.graphql_query_tree.specs.Tree.{DefinitionTree, DocumentTree, erase_definition}
-use Rattle.graphql_query_tree.specs.Grammar.{query, definition_symbol}
-use Rattle.graphql_query_tree.specs.Meanings.{definition_of}
+use Rattle.graphql_query_tree.specs.{queries, IsReadBack, queries_0_4_1, DefinitionTree, DocumentTree, erase_definition, query, definition_symbol}
+use Rattle.graphql_query_tree.specs.{definition_of}
 
 -- The language of one definition: as that of documents, but that a text of it is one definition.
 abbrev pub one_definition_of : Language DocumentTree → Language DefinitionTree

@@ -1,11 +1,6 @@
 -- Why a text is not minified, and what answers that it is.
 use Rattle.std.specs.Prelude.{◌≡◌, ◌≤◌, ◌<◌, ℕ, List, length, Some, string_bytes, String, Result, Ok, Err}
-use Rattle.std.specs.Global.{Global}
-use Rattle.graphql_grammar.specs.Tokens.{Place}
-use Rattle.graphql_core.specs.Causes.{CauseText}
-use Rattle.graphql_lexer.specs.Items.{Item, HasItems}
-use Rattle.graphql_core.specs.Source.{Wrong, split}
-use Rattle.graphql_core.specs.Refusal.{Refusal, no_memory, max_length, too_long}
+use Rattle.graphql_values.specs.{Wrong, Global, Place, CauseText, Item, HasItems, split, Refusal, no_memory, max_length, too_long}
 
 -- An allocation failed, or the text is too long, or its items end in a bad place, with this cause there.
 pub data IsMinifyRefusalOf (text : List ℕ) : Refusal → Type 0 where

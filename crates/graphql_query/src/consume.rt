@@ -1,18 +1,10 @@
 //! The first definition of a text.
 ghost use Rattle.std.specs.Prelude.{◌≡◌, ◌<◌, ◌≤◌, ◌/◌, ℕ, List, ◌∷◌, ◌++◌, length, drop, IfOk, IfErr, IsErrOf};
-ghost use Rattle.graphql_grammar.specs.Tokens.{Token};
-ghost use Rattle.graphql_grammar.specs.Trees.{Shape};
-ghost use Rattle.graphql_core.specs.Refusal.{no_memory, max_length, too_long};
-ghost use Rattle.graphql_lexer.specs.Items.{Item, HasItems};
-ghost use Rattle.graphql_lexer.specs.Stream.{next_place};
-ghost use Rattle.graphql_values.specs.Document.{AnswersUnlessMemory};
-ghost use Rattle.graphql_values.specs.Faults.{IsRefusalFor, IsRefusalOf, HasOneFaultEach};
-ghost use Rattle.graphql_query_tree.specs.Document.{IsDocumentOf};
-ghost use Rattle.graphql_query_tree.specs.Earlier.{HasNoNewPart};
-ghost use Rattle.graphql_query_tree.specs.Tree.{DefinitionTree, definition_view};
-ghost use Rattle.graphql_query.specs.FirstDefinition.{one_definition, text_after, BeginsWith, IsFirstDefinition, BeginsWithDefinition};
-ghost use Rattle.graphql_query.specs.FirstDefinition.{IsFirstDefinition_0_4_1, HasDefinitions, IsFirstShape, BeginsWithShape, NoneBeginsAnother};
-ghost use Rattle.graphql_query.specs.steps.Reads.{TakesDefinition};
+ghost use Rattle.graphql_values.specs.{Token, Shape, no_memory, max_length, too_long, Item, HasItems, next_place, AnswersUnlessMemory, IsRefusalFor};
+ghost use Rattle.graphql_values.specs.{IsRefusalOf, HasOneFaultEach};
+ghost use Rattle.graphql_query_tree.specs.{IsDocumentOf, HasNoNewPart, DefinitionTree, definition_view};
+ghost use Rattle.graphql_query.specs.{one_definition, text_after, BeginsWith, IsFirstDefinition, BeginsWithDefinition, IsFirstDefinition_0_4_1, HasDefinitions};
+ghost use Rattle.graphql_query.specs.{IsFirstShape, BeginsWithShape, NoneBeginsAnother, TakesDefinition};
 
 use crate::error::ParseError;
 use crate::read::definition::definition;

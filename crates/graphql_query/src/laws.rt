@@ -1,14 +1,8 @@
 //! Laws of the definitions alone.
 ghost use Rattle.std.specs.Prelude.{◌≡◌, ℕ, true, List, Result};
-ghost use Rattle.graphql_lexer.specs.Items.{Item};
-ghost use Rattle.graphql_core.specs.Causes.{is_unexpected};
-ghost use Rattle.graphql_core.specs.Minified.{IsMinified};
-ghost use Rattle.graphql_query_tree.specs.Tree.{DocumentTree};
-ghost use Rattle.graphql_core.specs.Source.{FaultText, split};
-ghost use Rattle.graphql_values.specs.Faults.{IsLeastFault, NoneGoesOn};
-ghost use Rattle.graphql_query.specs.FirstDefinition.{one_definition};
-ghost use Rattle.graphql_query_tree.specs.Document.{queries, IsParsed, AreAlike, IsFirstFaultOf, IsLeastFaultOf};
-ghost use Rattle.graphql_core.specs.Refusal.{Refusal};
+ghost use Rattle.graphql_values.specs.{Item, is_unexpected, IsMinified, FaultText, split, IsLeastFault, NoneGoesOn, Refusal};
+ghost use Rattle.graphql_query_tree.specs.{DocumentTree, queries, IsParsed, AreAlike, IsFirstFaultOf, IsLeastFaultOf};
+ghost use Rattle.graphql_query.specs.{one_definition};
 
 /// The fault of least index of a text is one, and it is the first: some document begins with the items before it, were
 /// the item good or another, and none goes on with it.

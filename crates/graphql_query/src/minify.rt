@@ -1,12 +1,9 @@
 //! Texts with no more between their tokens than keeps them apart.
 ghost use Rattle.std.specs.Prelude.{◌≡◌, ◌<◌, ◌≤◌, ℕ, List, length, IfOk, IfErr, IsErrOf, string_bytes};
-ghost use Rattle.graphql_lexer.specs.Items.{HasItems, Item};
-ghost use Rattle.graphql_core.specs.Source.{split};
-ghost use Rattle.graphql_core.specs.Minified.{IsMinified, HasTokens};
-ghost use Rattle.graphql_core.specs.Refusal.{max_length, too_long};
-ghost use Rattle.graphql_query_tree.specs.Document.{IsDocumentOf, IsReadBack};
-ghost use Rattle.graphql_query_tree.specs.Tree.{DocumentTree};
-ghost use Rattle.graphql_query.specs.Minifying.{IsMinifyRefusalOf, TellsUnlessMemory};
+ghost use Rattle.graphql_core.specs.{HasTokens};
+ghost use Rattle.graphql_values.specs.{HasItems, Item, split, IsMinified, max_length, too_long};
+ghost use Rattle.graphql_query_tree.specs.{IsDocumentOf, IsReadBack, DocumentTree};
+ghost use Rattle.graphql_query.specs.{IsMinifyRefusalOf, TellsUnlessMemory};
 
 mod error;
 

@@ -1,18 +1,13 @@
 -- The brackets of a document are those that its layout opens at once.
 use Rattle.std.proofs.Common.{ℕ, ◌+◌, List, Option, Some, None, refl}
-use Rattle.graphql_core.specs.Style.{Layout}
-use Rattle.graphql_core.proofs.Depths.{Rises, none_rise, flat_rise, gap_rises, level_rises, both_rise}
-use Rattle.graphql_values.specs.TreeDepth.{most}
-use Rattle.graphql_values.proofs.Depths.{type_rises, arguments_rise, directives_rise, braces_rise, line_end_rises, default_rises, separated_rise}
-use Rattle.graphql_values.proofs.Depths.{in_parentheses_rise}
-use Rattle.graphql_query_tree.specs.Tree.{SelectionTree, field, spread, inline, SelectionSetTree, set, SelectionTrees, none, more, VariableDefinitionTree}
-use Rattle.graphql_query_tree.specs.Tree.{DefinitionTree, short, operation, fragment, DocumentTree}
-use Rattle.graphql_query_tree.specs.Printable.{selection_brackets, selected_brackets, selection_set_brackets, selections_brackets, variable_definition_brackets}
-use Rattle.graphql_query_tree.specs.Printable.{variable_definitions_brackets}
-use Rattle.graphql_query_tree.specs.Printable.{definition_brackets}
-use Rattle.graphql_query_tree.specs.Layout.{alias_layout, type_condition_layout, on_layout, selection_layout, selected_layout, selection_set_layout}
-use Rattle.graphql_query_tree.specs.Layout.{selections_layout}
-use Rattle.graphql_query_tree.specs.Layout.{operation_name_layout, variable_definition_layout, variable_definitions_layout, definition_layout, document_layout}
+use Rattle.graphql_core.proofs.{Rises, none_rise, flat_rise, gap_rises, level_rises, both_rise}
+use Rattle.graphql_values.specs.{Layout, most}
+use Rattle.graphql_values.proofs.{type_rises, arguments_rise, directives_rise, braces_rise, line_end_rises, default_rises, separated_rise, in_parentheses_rise}
+use Rattle.graphql_query_tree.specs.{spread, more, SelectionTree, SelectionSetTree, SelectionTrees, VariableDefinitionTree, DefinitionTree, short, operation}
+use Rattle.graphql_query_tree.specs.{fragment, DocumentTree, selection_brackets, selected_brackets, selection_set_brackets, selections_brackets}
+use Rattle.graphql_query_tree.specs.{variable_definition_brackets, variable_definitions_brackets, definition_brackets, alias_layout, type_condition_layout}
+use Rattle.graphql_query_tree.specs.{on_layout, selection_layout, selected_layout, selection_set_layout, selections_layout, operation_name_layout}
+use Rattle.graphql_query_tree.specs.{variable_definition_layout, variable_definitions_layout, definition_layout, document_layout, field, inline, set, none}
 
 -- ---- selections
 

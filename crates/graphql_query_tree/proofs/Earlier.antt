@@ -1,19 +1,14 @@
 -- What version 0.4.1 has as a document is one today, with the same meaning, and has none of the parts that are new since then.
-use Rattle.std.proofs.Common.{◌≡◌, true, List, [], ◌∷◌, ◌++◌, Option, Some, None, replicate, refl, ap, ap₂}
-use Rattle.std.specs.List.{AllByRecursion}
-use Rattle.graphql_grammar.specs.Trees.{Many, Sym, Shape, Leaf, Both, Node, Stop, optional, Fits, fits_leaf, fits_nothing, fits_both, fits_first, fits_second}
-use Rattle.graphql_grammar.specs.Trees.{fits_stop, fits_more, fits_node}
-use Rattle.graphql_grammar.specs.Grown.{Growth, Same, InParts, After, grown}
-use Rattle.graphql_values.specs.Grammar.{name, directives_symbol, shared_symbols}
-use Rattle.graphql_values.specs.Meanings.{place_at, directives_of}
-use Rattle.graphql_values.proofs.Growing.{IsGrown}
-use Rattle.graphql_query_tree.specs.Tree.{OperationKind, query_kind, mutation_kind, subscription_kind, operation}
-use Rattle.graphql_query_tree.specs.Grammar.{document_symbol, definition_symbol, operation_symbol, operation_body_symbol, variable_definitions_symbol}
-use Rattle.graphql_query_tree.specs.Grammar.{variable_definition_symbol}
-use Rattle.graphql_query_tree.specs.Meanings.{variable_definition_of, each_variable_definition_of, optional_variable_definitions_of, optional_name_of}
-use Rattle.graphql_query_tree.specs.Meanings.{selection_set_of, keyword_of, operation_of, definition_of, definitions_of, document_of}
-use Rattle.graphql_query_tree.specs.Document.{queries}
-use Rattle.graphql_query_tree.specs.Earlier.{query_0_4_1, queries_0_4_1, HasNoDirectives, HasNoNewPart, HasNoNewParts}
+use Rattle.std.proofs.Common.{◌≡◌, List, [], ◌∷◌, ◌++◌, Option, Some, None, replicate, refl, ap, ap₂}
+use Rattle.graphql_grammar.specs.{Same, InParts, After}
+use Rattle.graphql_values.specs.{AllByRecursion, Many, Sym, Shape, Leaf, Both, Node, Stop, optional, Fits, fits_leaf, fits_nothing, fits_both, fits_first}
+use Rattle.graphql_values.specs.{fits_second, fits_stop, fits_more, fits_node, Growth, grown, name, directives_symbol, shared_symbols, optional_of}
+use Rattle.graphql_values.specs.{optional_list_of, enclosed_of, each_of, spelling_at}
+use Rattle.graphql_values.proofs.{IsGrown}
+use Rattle.graphql_query_tree.specs.{OperationKind, query_kind, mutation_kind, subscription_kind, operation, document_symbol, definition_symbol}
+use Rattle.graphql_query_tree.specs.{operation_symbol, operation_body_symbol, variable_definitions_symbol, variable_definition_symbol, variable_definition_of}
+use Rattle.graphql_query_tree.specs.{keyword_of, operation_of, definition_of, document_of, queries, query_0_4_1, queries_0_4_1, HasNoDirectives, HasNoNewPart}
+use Rattle.graphql_query_tree.specs.{HasNoNewParts}
 
 -- no directives after a variable's default value; from a document down to it, nothing else is new
 abbrev pub new_parts : List (Option Growth)
@@ -31,17 +26,17 @@ variable_definition_grown (fits_node (fits_both (fits_leaf d) (fits_both (fits_l
     (fits_both (fits_node t e) (fits_second fits_nothing))))) c) = refl
 
 each_variable_definition_grown : {x : Shape} → Fits query_0_4_1 (Many (Sym variable_definition_symbol)) x
-    → each_variable_definition_of (grown new_parts x) ≡ each_variable_definition_of x
+    → each_of variable_definition_of (grown new_parts x) ≡ each_of variable_definition_of x
 each_variable_definition_grown fits_stop = refl
 each_variable_definition_grown (fits_more f fs) = ap₂ (λ v vs. v ∷ vs) (variable_definition_grown f) (each_variable_definition_grown fs)
 
 variable_definitions_grown : {x : Shape} → Fits query_0_4_1 (optional (Sym variable_definitions_symbol)) x
-    → optional_variable_definitions_of (grown new_parts x) ≡ optional_variable_definitions_of x
+    → optional_list_of (enclosed_of variable_definition_of) (grown new_parts x) ≡ optional_list_of (enclosed_of variable_definition_of) x
 variable_definitions_grown (fits_first (fits_node (fits_both (fits_leaf o) (fits_both (fits_both f fs) (fits_leaf e))) c)) =
     ap₂ (λ v vs. v ∷ vs) (variable_definition_grown f) (each_variable_definition_grown fs)
 variable_definitions_grown (fits_second fits_nothing) = refl
 
-name_grown : {x : Shape} → Fits query_0_4_1 (optional name) x → optional_name_of (grown new_parts x) ≡ optional_name_of x
+name_grown : {x : Shape} → Fits query_0_4_1 (optional name) x → optional_of spelling_at (grown new_parts x) ≡ optional_of spelling_at x
 name_grown (fits_first (fits_leaf n)) = refl
 name_grown (fits_second fits_nothing) = refl
 
@@ -61,7 +56,7 @@ pub definition_grown : {x : Shape} → Fits query_0_4_1 (Sym definition_symbol) 
 definition_grown (fits_node (fits_first f) c) = operation_grown f
 definition_grown (fits_node (fits_second (fits_node f e)) c) = refl
 
-definitions_grown : {x : Shape} → Fits query_0_4_1 (Many (Sym definition_symbol)) x → definitions_of (grown new_parts x) ≡ definitions_of x
+definitions_grown : {x : Shape} → Fits query_0_4_1 (Many (Sym definition_symbol)) x → each_of definition_of (grown new_parts x) ≡ each_of definition_of x
 definitions_grown fits_stop = refl
 definitions_grown (fits_more f fs) = ap₂ (λ d ds. d ∷ ds) (definition_grown f) (definitions_grown fs)
 
@@ -83,12 +78,12 @@ no_directives (fits_node (fits_both d (fits_both n (fits_both m (fits_both t (fi
 no_directives (fits_node (fits_both d (fits_both n (fits_both m (fits_both t (fits_second v))))) c) = refl
 
 none_has_directives : {x : Shape} → Fits query_0_4_1 (Many (Sym variable_definition_symbol)) x
-    → AllByRecursion HasNoDirectives (each_variable_definition_of x)
+    → AllByRecursion HasNoDirectives (each_of variable_definition_of x)
 none_has_directives fits_stop = tt
 none_has_directives (fits_more f fs) = (no_directives f, none_has_directives fs)
 
 no_variable_has_directives : {x : Shape} → Fits query_0_4_1 (optional (Sym variable_definitions_symbol)) x
-    → AllByRecursion HasNoDirectives (optional_variable_definitions_of x)
+    → AllByRecursion HasNoDirectives (optional_list_of (enclosed_of variable_definition_of) x)
 no_variable_has_directives (fits_first (fits_node (fits_both o (fits_both (fits_both f fs) e)) c)) = (no_directives f, none_has_directives fs)
 no_variable_has_directives (fits_second z) = tt
 
@@ -104,7 +99,7 @@ pub definition_has_none : {x : Shape} → Fits query_0_4_1 (Sym definition_symbo
 definition_has_none (fits_node (fits_first f) c) = operation_has_none f
 definition_has_none (fits_node (fits_second f) c) = tt
 
-definitions_have_none : {x : Shape} → Fits query_0_4_1 (Many (Sym definition_symbol)) x → HasNoNewParts (definitions_of x)
+definitions_have_none : {x : Shape} → Fits query_0_4_1 (Many (Sym definition_symbol)) x → HasNoNewParts (each_of definition_of x)
 definitions_have_none fits_stop = tt
 definitions_have_none (fits_more f fs) = (definition_has_none f, definitions_have_none fs)
 

@@ -1,26 +1,20 @@
 -- Trees beside what they stand for, and their layouts in the pieces that are written.
-use Rattle.std.proofs.Common.{◌≡◌, ◌++◌, ◌∙◌, ap, sym, refl, codes, ℕ, ◌+◌, ◌<◌, length, List, [], ◌∷◌, get_or, drop, option_map, append_assoc, rules}
-use Rattle.std.proofs.Common.{arith, true, false, ◌==◌, vec_len}
+use Rattle.std.proofs.Common.{◌≡◌, ◌++◌, ◌∙◌, ap, sym, refl, codes, ℕ, ◌+◌, ◌<◌, length, List, [], ◌∷◌, get_or, drop, option_map, append_assoc, rules, arith}
+use Rattle.std.proofs.Common.{true, false, ◌==◌, vec_len}
 use Rattle.std.proofs.lemmas.Bool.{eqb-true, eqb-false}
 use Rattle.std.proofs.lemmas.List.{at_drop_more, nil_from_length}
-use Rattle.graphql_core.specs.Source.{place_of}
-use Rattle.graphql_core.specs.Style.{Layout}
-use Rattle.graphql_core.specs.Parts.{Part, text_of, name, mark, gap}
-use Rattle.graphql_values.proofs.Appending.{text_append}
-use Rattle.graphql_values.specs.ValueViews.{arguments_view, directives_view}
+use Rattle.graphql_core.specs.{name, mark}
+use Rattle.graphql_values.specs.{text_of, place_of, Layout, Part, gap, arguments_view, directives_view, Weights}
+use Rattle.graphql_values.proofs.{text_append}
+use Rattle.graphql_query_tree.specs.{more, field, inline, set, type_condition_view, selection_view, selections_view, field_view, fragment_spread_view}
+use Rattle.graphql_query_tree.specs.{inline_fragment_view, selection_set_view, IsLawfulSet, selected_layout, selection_set_layout, selected_depth}
+use Rattle.graphql_query_tree.specs.{selection_set_depth}
 use Rattle.graphql_query_tree.specs.declared.tree.Selection.{Selection}
 use Rattle.graphql_query_tree.specs.declared.tree.Field.{Field}
-use Rattle.graphql_query_tree.specs.declared.tree.Selection.TheVariants as selections
 use Rattle.graphql_query_tree.specs.declared.tree.FragmentSpread.{FragmentSpread}
 use Rattle.graphql_query_tree.specs.declared.tree.InlineFragment.{InlineFragment}
 use Rattle.graphql_query_tree.specs.declared.tree.SelectionSet.{SelectionSet, out-SelectionSet, the_lemmas}
-use Rattle.graphql_query_tree.specs.Tree.{field, inline, set, more, type_condition_view, selection_view, selections_view, field_view, fragment_spread_view}
-use Rattle.graphql_query_tree.specs.Tree.{inline_fragment_view}
-use Rattle.graphql_query_tree.specs.Tree.{selection_set_view}
-use Rattle.graphql_query_tree.specs.Lawful.{IsLawfulSet}
-use Rattle.graphql_query_tree.specs.Layout.{selected_layout, selection_set_layout}
-use Rattle.graphql_query_tree.specs.TreeDepth.{selected_depth, selection_set_depth}
-use Rattle.graphql_values.specs.TreeDepth.{Weights}
+use Rattle.graphql_query_tree.specs.declared.tree.Selection.TheVariants as selections
 
 -- ---- the parts of a tree
 

@@ -1,16 +1,13 @@
 -- Layouts say nothing of positions.
 use Rattle.std.proofs.Common.{◌≡◌, ◌++◌, ◌+◌, ap, ap₂, refl, codes, ℕ, List, map}
-use Rattle.graphql_core.specs.Style.{Layout}
-use Rattle.graphql_core.specs.Parts.{text_of, gap}
-use Rattle.graphql_query_tree.specs.Tree.{SelectionTree, field, spread, inline, SelectionSetTree, set, SelectionTrees, none, more, VariableDefinitionTree}
-use Rattle.graphql_query_tree.specs.Tree.{OperationTree, FragmentDefinitionTree, DefinitionTree, short, operation, fragment, DocumentTree, erase_selection}
-use Rattle.graphql_query_tree.specs.Tree.{erase_selection_set, erase_selections, erase_variable_definition, erase_operation, erase_fragment_definition}
-use Rattle.graphql_query_tree.specs.Tree.{erase_definition, erase}
-use Rattle.graphql_values.specs.Lines.{in_braces}
-use Rattle.graphql_values.proofs.NoPositions.{directives_alike, separated_alike, in_parentheses_alike}
-use Rattle.graphql_query_tree.specs.Layout.{selection_layout, selected_layout, selection_set_layout, selections_layout, variable_definition_layout}
-use Rattle.graphql_query_tree.specs.Layout.{variable_definitions_layout, operation_layout, fragment_definition_layout}
-use Rattle.graphql_query_tree.specs.Layout.{definition_layout, layout}
+use Rattle.graphql_values.specs.{text_of, Layout, gap, in_braces}
+use Rattle.graphql_values.proofs.{directives_alike, separated_alike, in_parentheses_alike}
+use Rattle.graphql_query_tree.specs.{spread, more, SelectionTree, SelectionSetTree, SelectionTrees, VariableDefinitionTree, OperationTree}
+use Rattle.graphql_query_tree.specs.{FragmentDefinitionTree, DefinitionTree, short, operation, fragment, DocumentTree, erase_selection, erase_selection_set}
+use Rattle.graphql_query_tree.specs.{erase_selections, erase_variable_definition, erase_operation, erase_fragment_definition, erase_definition, erase}
+use Rattle.graphql_query_tree.specs.{selection_layout, selected_layout, selection_set_layout, selections_layout, variable_definition_layout}
+use Rattle.graphql_query_tree.specs.{variable_definitions_layout, operation_layout, fragment_definition_layout, definition_layout, layout, field, inline, set}
+use Rattle.graphql_query_tree.specs.{none}
 
 mutual
   selection_alike : (style : Layout) (margin : ℕ) (s : SelectionTree) → selection_layout style margin (erase_selection s) ≡ selection_layout style margin s

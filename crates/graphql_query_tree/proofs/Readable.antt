@@ -1,38 +1,12 @@
 -- The grammar of queries is read exactly, and goes on from that of values, types and directives.
-use Rattle.std.proofs.Common.{◌≡◌, Bool, true, List, [], drop, refl}
-use Rattle.graphql_grammar.specs.Tokens.{Token, Class}
-use Rattle.graphql_grammar.specs.Trees.{Expr, Grammar, row_at}
-use Rattle.graphql_grammar.specs.Tables.{is_ll1, is_tight, is_productive}
-use Rattle.graphql_grammar.specs.Reading.{lax}
-use Rattle.graphql_grammar.specs.Factored.{Change, EachIsSecond, with_rows}
-use Rattle.graphql_grammar.specs.Faults.{RefusesTokens}
-use Rattle.graphql_grammar.specs.Extended.{Extends, TestsAlike}
-use Rattle.graphql_grammar.proofs.SecondRules.{each_is_second, IsSecond-second, IsSecond-symbols, IsSecond-prefix}
-use Rattle.graphql_grammar.proofs.Unchanged.{unchanged_then}
-use Rattle.graphql_grammar.proofs.Extending.{tests_alike, with_more, alone_before}
-use Rattle.graphql_values.specs.Grammar.{shared, tables as shared_tables, name, shared_symbols}
-use Rattle.graphql_values.specs.Leaves.{unquoted}
-use Rattle.graphql_values.proofs.Readable.{IsReadable, one_cause}
-use Rattle.graphql_query_tree.specs.Document.{queries}
-use Rattle.graphql_query_tree.specs.Grammar.{query, second_rows, changes, reading, tables, samples, fragment_spread_symbol, inline_fragment_symbol}
-use Rattle.graphql_query_tree.specs.Grammar.{alias_symbol, fragment_spread_rest}
-use Rattle.graphql_query_tree.specs.Grammar.{inline_fragment_rest, field_rest}
-
-ll1 : is_ll1 second_rows ≡ true
-unfolding tables shared_tables
-ll1 = refl
-
-tight : is_tight second_rows ≡ true
-unfolding tables shared_tables
-tight = refl
-
-productive : is_productive reading ≡ true
-unfolding tables shared_tables unquoted
-productive = refl
-
-productive_lax : is_productive (with_rows (lax query) second_rows changes) ≡ true
-unfolding tables shared_tables unquoted
-productive_lax = refl
+use Rattle.std.proofs.Common.{Bool, true, List, [], drop, refl}
+use Rattle.graphql_grammar.proofs.{each_is_second, IsSecond-second, IsSecond-symbols, IsSecond-prefix, unchanged_then, tests_alike, with_more, alone_before}
+use Rattle.graphql_core.specs.{Grammar}
+use Rattle.graphql_values.specs.{Token, Class, Expr, row_at, Change, EachIsSecond, RefusesTokens, Extends, TestsAlike, shared, tables as shared_tables, name}
+use Rattle.graphql_values.specs.{shared_symbols, unquoted}
+use Rattle.graphql_values.proofs.{IsReadable, one_cause}
+use Rattle.graphql_query_tree.specs.{queries, query, second_rows, changes, reading, tables, samples, fragment_spread_symbol, inline_fragment_symbol}
+use Rattle.graphql_query_tree.specs.{alias_symbol, fragment_spread_rest, inline_fragment_rest, field_rest}
 
 -- the written grammar with other leaf tests
 abbrev tested : (Class → Token → Bool) → Grammar
@@ -75,12 +49,12 @@ goes_on : Extends shared_symbols shared reading
 goes_on = with_more shared _ shared.good (λ k x. true) samples refl (λ k h. read_alike (row_at shared.rows k).rule) (λ k x h. refl)
 
 pub readable : IsReadable queries
-unfolding tables
+unfolding tables shared_tables unquoted
 readable = record {
-  ll1 = ll1;
-  tight = tight;
-  productive = productive;
-  productive_lax = productive_lax;
+  ll1 = refl;
+  tight = refl;
+  productive = refl;
+  productive_lax = refl;
   decides = refl;
   samples = refl;
   samples_lax = refl;

@@ -1,16 +1,11 @@
 -- What selection sets tell of the levels that are open, where arguments stand in one line: the rest opens one more at most.
 use Rattle.std.proofs.Common.{◌≡◌, ◌≤◌, ◌+◌, ℕ, false, refl, List, [], ◌∷◌, arith}
-use Rattle.graphql_core.specs.Style.{Layout}
-use Rattle.graphql_values.specs.Values.{ValueTree, DirectiveTree}
-use Rattle.graphql_values.specs.TreeDepth.{most, arguments_depth, directives_depth}
-use Rattle.graphql_values.proofs.FewLevels.{most_bounded, default_bounded, arguments_bounded, directives_bounded}
-use Rattle.graphql_query_tree.specs.Tree.{SelectionTree, field, spread, inline, SelectionSetTree, set, SelectionTrees, none, more, VariableDefinitionTree}
-use Rattle.graphql_query_tree.specs.Tree.{DefinitionTree, short, operation, fragment, DocumentTree}
-use Rattle.graphql_query_tree.specs.Layout.{selection_levels, selected_levels, selection_set_levels, selections_levels, variable_definition_levels}
-use Rattle.graphql_query_tree.specs.Layout.{definition_levels, levels}
-use Rattle.graphql_query_tree.specs.Printable.{selection_set_of_definition}
-use Rattle.graphql_query_tree.specs.TreeDepth.{selection_depth, selected_depth, selection_set_depth, selections_depth, definition_depth}
-use Rattle.graphql_query_tree.specs.steps.Sets.{in_sets}
+use Rattle.graphql_values.specs.{Layout, ValueTree, DirectiveTree, most, arguments_depth, directives_depth}
+use Rattle.graphql_values.proofs.{most_bounded, default_bounded, arguments_bounded, directives_bounded}
+use Rattle.graphql_query_tree.specs.{spread, more, SelectionTree, SelectionSetTree, SelectionTrees, VariableDefinitionTree, DefinitionTree, short, operation}
+use Rattle.graphql_query_tree.specs.{fragment, DocumentTree, selection_levels, selected_levels, selection_set_levels, selections_levels}
+use Rattle.graphql_query_tree.specs.{variable_definition_levels, definition_levels, levels, selection_set_of_definition, selection_depth, selected_depth}
+use Rattle.graphql_query_tree.specs.{selection_set_depth, selections_depth, definition_depth, in_sets, field, inline, set, none}
 
 -- ---- what selection sets alone are
 

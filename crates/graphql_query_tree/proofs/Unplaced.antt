@@ -1,27 +1,15 @@
 -- What queries mean but for positions does not hang on places, and neither do the causes for which they are refused.
-use Rattle.std.proofs.Common.{◌≡◌, [], ◌∷◌, map, Some, refl, ap}
-use Rattle.graphql_grammar.specs.Tokens.{Token, Class, Spelled, AnyOf, Except, Place}
-use Rattle.graphql_grammar.specs.Trees.{Shape, Both, First, Second, More, Node, leaves, accepts}
-use Rattle.graphql_core.specs.Minified.{unplaced}
-use Rattle.graphql_values.specs.Values.{no_place}
-use Rattle.graphql_values.specs.Meanings.{first_place, place_at}
-use Rattle.graphql_values.proofs.Bare.{bare}
-use Rattle.graphql_values.proofs.Unplaced.{IgnoresPlaces, spelling_bare, type_bare, optional_default_bare, optional_arguments_bare, directives_bare}
-use Rattle.graphql_values.proofs.FaultsAlike.{RefusesAlike, valueless_alike}
-use Rattle.graphql_query_tree.specs.Grammar.{query}
-use Rattle.graphql_query_tree.specs.Document.{queries}
-use Rattle.graphql_query_tree.specs.Tree.{field, spread, inline, set, more, OperationKind, query_kind, mutation_kind, subscription_kind, with_body, short}
-use Rattle.graphql_query_tree.specs.Tree.{operation, fragment}
-use Rattle.graphql_query_tree.specs.Tree.{erase_selection, erase_selection_set, erase_selections, erase_variable_definition, erase_operation}
-use Rattle.graphql_query_tree.specs.Tree.{erase_fragment_definition}
-use Rattle.graphql_query_tree.specs.Tree.{erase_definition, erase}
-use Rattle.graphql_query_tree.specs.Meanings.{alias_of, type_condition_of, optional_type_condition_of, spread_name_of, fragment_spread_rest_of}
-use Rattle.graphql_query_tree.specs.Meanings.{fragment_spread_of, field_of}
-use Rattle.graphql_query_tree.specs.Meanings.{selected_of, inline_fragment_rest_of, inline_fragment_of, selection_of, selection_set_of, selections_of}
-use Rattle.graphql_query_tree.specs.Meanings.{variable_definition_of}
-use Rattle.graphql_query_tree.specs.Meanings.{each_variable_definition_of, variable_definitions_of, optional_variable_definitions_of, optional_name_of}
-use Rattle.graphql_query_tree.specs.Meanings.{operation_body_of, keyword_of, operation_of}
-use Rattle.graphql_query_tree.specs.Meanings.{fragment_definition_of, definition_of, definitions_of, document_of}
+use Rattle.std.proofs.Common.{◌≡◌, [], map, Some, refl, ap}
+use Rattle.graphql_values.specs.{Token, Class, Spelled, AnyOf, Except, Place, Shape, Both, First, Second, More, Node, leaves, accepts, unplaced, no_place}
+use Rattle.graphql_values.specs.{first_place, place_at, optional_list_of, enclosed_of, spelling_at}
+use Rattle.graphql_values.proofs.{bare, IgnoresPlaces, spelling_bare, type_bare, optional_default_bare, optional_arguments_bare, directives_bare, RefusesAlike}
+use Rattle.graphql_values.proofs.{valueless_alike, Ignores, optional_bare, optional_list_bare, each_bare, enclosed_bare}
+use Rattle.graphql_query_tree.specs.{spread, more, query, queries, OperationKind, query_kind, mutation_kind, subscription_kind, with_body, short, operation}
+use Rattle.graphql_query_tree.specs.{fragment, erase_selection, erase_selection_set, erase_selections, erase_variable_definition, erase_operation}
+use Rattle.graphql_query_tree.specs.{erase_fragment_definition, erase_definition, erase, alias_of, type_condition_of, spread_name_of, fragment_spread_rest_of}
+use Rattle.graphql_query_tree.specs.{fragment_spread_of, field_of, selected_of, inline_fragment_rest_of, inline_fragment_of, selection_of, selection_set_of}
+use Rattle.graphql_query_tree.specs.{selections_of, variable_definition_of, operation_body_of, keyword_of, operation_of, fragment_definition_of, definition_of}
+use Rattle.graphql_query_tree.specs.{document_of, field, inline, set}
 
 -- ---- what selections mean
 
@@ -33,24 +21,20 @@ type_condition_bare : (x : Shape) → type_condition_of (bare x) ≡ type_condit
 type_condition_bare (Node k (Both o n)) = spelling_bare n
 type_condition_bare _ = refl
 
-optional_type_condition_bare : (x : Shape) → optional_type_condition_of (bare x) ≡ optional_type_condition_of x
-optional_type_condition_bare (First c) = ap Some (type_condition_bare c)
-optional_type_condition_bare _ = refl
-
 spread_name_bare : (x : Shape) → (spread_name_of (bare x)).1 ≡ (spread_name_of x).1
 spread_name_bare (Node k n) = spelling_bare n
 spread_name_bare _ = refl
 
-fragment_spread_rest_bare : (x : Shape) → erase_selection (fragment_spread_rest_of (bare x)) ≡ erase_selection (fragment_spread_rest_of x)
+fragment_spread_rest_bare : Ignores erase_selection fragment_spread_rest_of
 fragment_spread_rest_bare (Both n ds) = λ i. spread no_place (spread_name_bare n i) (directives_bare ds i)
 fragment_spread_rest_bare _ = refl
 
-fragment_spread_bare : (x : Shape) → erase_selection (fragment_spread_of (bare x)) ≡ erase_selection (fragment_spread_of x)
+fragment_spread_bare : Ignores erase_selection fragment_spread_of
 fragment_spread_bare (Node k (Both dots rest)) = fragment_spread_rest_bare rest
 fragment_spread_bare _ = refl
 
 mutual
-  field_bare : (x : Shape) → erase_selection (field_of (bare x)) ≡ erase_selection (field_of x)
+  field_bare : Ignores erase_selection field_of
   field_bare (Node k (Both a (Both n (Both arguments (Both ds s))))) =
       λ i. field no_place (alias_bare a i) (spelling_bare n i) (optional_arguments_bare arguments i) (directives_bare ds i)
       (selected_bare (first_place (leaves (Both (bare a) (bare n)))) (first_place (leaves (Both a n))) s i)
@@ -60,32 +44,33 @@ mutual
   selected_bare p q (First s) = selection_set_bare s
   selected_bare p q _ = refl
 
-  inline_fragment_rest_bare : (x : Shape) → erase_selection (inline_fragment_rest_of (bare x)) ≡ erase_selection (inline_fragment_rest_of x)
-  inline_fragment_rest_bare (Both c (Both ds s)) = λ i. inline no_place (optional_type_condition_bare c i) (directives_bare ds i) (selection_set_bare s i)
+  inline_fragment_rest_bare : Ignores erase_selection inline_fragment_rest_of
+  inline_fragment_rest_bare (Both c (Both ds s)) =
+      λ i. inline no_place (optional_bare type_condition_of type_condition_bare c i) (directives_bare ds i) (selection_set_bare s i)
   inline_fragment_rest_bare _ = refl
 
-  inline_fragment_bare : (x : Shape) → erase_selection (inline_fragment_of (bare x)) ≡ erase_selection (inline_fragment_of x)
+  inline_fragment_bare : Ignores erase_selection inline_fragment_of
   inline_fragment_bare (Node k (Both dots rest)) = inline_fragment_rest_bare rest
   inline_fragment_bare _ = refl
 
-  selection_bare : (x : Shape) → erase_selection (selection_of (bare x)) ≡ erase_selection (selection_of x)
+  selection_bare : Ignores erase_selection selection_of
   selection_bare (Node k (First f)) = field_bare f
   selection_bare (Node k (Second (First s))) = fragment_spread_bare s
   selection_bare (Node k (Second (Second i))) = inline_fragment_bare i
   selection_bare _ = refl
 
-  selection_set_bare : (x : Shape) → erase_selection_set (selection_set_of (bare x)) ≡ erase_selection_set (selection_set_of x)
+  selection_set_bare : Ignores erase_selection_set selection_set_of
   selection_set_bare (Node k (Both o (Both ss c))) = ap (set no_place no_place) (selections_bare ss)
   selection_set_bare _ = refl
 
-  selections_bare : (x : Shape) → erase_selections (selections_of (bare x)) ≡ erase_selections (selections_of x)
+  selections_bare : Ignores erase_selections selections_of
   selections_bare (Both x xs) = λ i. more (selection_bare x i) (selections_bare xs i)
   selections_bare (More x xs) = λ i. more (selection_bare x i) (selections_bare xs i)
   selections_bare _ = refl
 
 -- ---- what definitions mean
 
-variable_definition_bare : (x : Shape) → erase_variable_definition (variable_definition_of (bare x)) ≡ erase_variable_definition (variable_definition_of x)
+variable_definition_bare : Ignores erase_variable_definition variable_definition_of
 variable_definition_bare (Node k (Both d (Both n (Both c (Both t (Both v ds)))))) =
     λ i. record {
       position = no_place;
@@ -98,49 +83,33 @@ variable_definition_bare (Node k (Both d (Both n (Both c (Both t v))))) =
     λ i. record { position = no_place; name = spelling_bare n i; var_type = type_bare t i; default_value = optional_default_bare v i; directives = [] }
 variable_definition_bare _ = refl
 
-each_variable_definition_bare : (x : Shape)
-    → map erase_variable_definition (each_variable_definition_of (bare x)) ≡ map erase_variable_definition (each_variable_definition_of x)
-each_variable_definition_bare (Both x xs) = λ i. variable_definition_bare x i ∷ each_variable_definition_bare xs i
-each_variable_definition_bare (More x xs) = λ i. variable_definition_bare x i ∷ each_variable_definition_bare xs i
-each_variable_definition_bare _ = refl
-
-variable_definitions_bare : (x : Shape)
-    → map erase_variable_definition (variable_definitions_of (bare x)) ≡ map erase_variable_definition (variable_definitions_of x)
-variable_definitions_bare (Node k (Both o (Both vs c))) = each_variable_definition_bare vs
-variable_definitions_bare _ = refl
-
-optional_variable_definitions_bare : (x : Shape)
-    → map erase_variable_definition (optional_variable_definitions_of (bare x)) ≡ map erase_variable_definition (optional_variable_definitions_of x)
-optional_variable_definitions_bare (First vs) = variable_definitions_bare vs
-optional_variable_definitions_bare _ = refl
-
-optional_name_bare : (x : Shape) → optional_name_of (bare x) ≡ optional_name_of x
-optional_name_bare (First n) = ap Some (spelling_bare n)
-optional_name_bare _ = refl
+variable_definitions_bare : Ignores (map erase_variable_definition) (optional_list_of (enclosed_of variable_definition_of))
+variable_definitions_bare = optional_list_bare (map erase_variable_definition) (enclosed_of variable_definition_of)
+    (enclosed_bare erase_variable_definition variable_definition_of variable_definition_bare)
 
 operation_body_bare : (kind : OperationKind) (p q : Place) (c : Shape)
     → erase_operation (with_body kind p (operation_body_of (bare c))) ≡ erase_operation (with_body kind q (operation_body_of c))
 operation_body_bare kind p q (Node k (Both n (Both vs (Both ds s)))) =
     λ i. with_body kind no_place (record {
-      name = optional_name_bare n i;
-      variables = optional_variable_definitions_bare vs i;
+      name = optional_bare spelling_at spelling_bare n i;
+      variables = variable_definitions_bare vs i;
       directives = directives_bare ds i;
       selected = selection_set_bare s i;
     })
 operation_body_bare kind p q _ = refl
 
-keyword_bare : (kind : OperationKind) (x : Shape) → erase_operation (keyword_of kind (bare x)) ≡ erase_operation (keyword_of kind x)
+keyword_bare : (kind : OperationKind) → Ignores erase_operation (keyword_of kind)
 keyword_bare kind (Both w c) = operation_body_bare kind (place_at (bare w)) (place_at w) c
 keyword_bare kind _ = refl
 
-operation_bare : (x : Shape) → erase_definition (operation_of (bare x)) ≡ erase_definition (operation_of x)
+operation_bare : Ignores erase_definition operation_of
 operation_bare (Node k (First s)) = ap short (selection_set_bare s)
 operation_bare (Node k (Second (First o))) = ap operation (keyword_bare query_kind o)
 operation_bare (Node k (Second (Second (First o)))) = ap operation (keyword_bare mutation_kind o)
 operation_bare (Node k (Second (Second (Second o)))) = ap operation (keyword_bare subscription_kind o)
 operation_bare _ = refl
 
-fragment_definition_bare : (x : Shape) → erase_fragment_definition (fragment_definition_of (bare x)) ≡ erase_fragment_definition (fragment_definition_of x)
+fragment_definition_bare : Ignores erase_fragment_definition fragment_definition_of
 fragment_definition_bare (Node k (Both w (Both n (Both c (Both ds s))))) =
     λ i. record {
       position = no_place;
@@ -151,18 +120,13 @@ fragment_definition_bare (Node k (Both w (Both n (Both c (Both ds s))))) =
     }
 fragment_definition_bare _ = refl
 
-definition_bare : (x : Shape) → erase_definition (definition_of (bare x)) ≡ erase_definition (definition_of x)
+definition_bare : Ignores erase_definition definition_of
 definition_bare (Node k (First o)) = operation_bare o
 definition_bare (Node k (Second f)) = ap fragment (fragment_definition_bare f)
 definition_bare _ = refl
 
-definitions_bare : (x : Shape) → erase (definitions_of (bare x)) ≡ erase (definitions_of x)
-definitions_bare (Both x xs) = λ i. definition_bare x i ∷ definitions_bare xs i
-definitions_bare (More x xs) = λ i. definition_bare x i ∷ definitions_bare xs i
-definitions_bare _ = refl
-
-document_bare : (x : Shape) → erase (document_of (bare x)) ≡ erase (document_of x)
-document_bare (Node k x) = definitions_bare x
+document_bare : Ignores erase document_of
+document_bare (Node k x) = each_bare erase_definition definition_of definition_bare x
 document_bare _ = refl
 
 -- ---- the language

@@ -1,56 +1,32 @@
 -- The layouts of query documents are read back, up to positions.
 use Rattle.std.proofs.Common.{◌≡◌, ℕ, ◌+◌, ◌<◌, ◌≤◌, Bool, true, false, List, [], ◌∷◌, ◌++◌, Option, Some, None, codes, map, refl, ap, ap₂, arith}
-use Rattle.std.specs.List.{AllByRecursion}
-use Rattle.std.specs.Option.{IfSome, option_map_or}
-use Rattle.graphql_grammar.specs.Tokens.{Place}
-use Rattle.graphql_grammar.specs.Trees.{Expr, Many, Sym, Shape, Both, leaves, optional}
-use Rattle.graphql_grammar.specs.Extended.{is_below}
-use Rattle.graphql_lexer.specs.declared.tokenizer.token.Kind.TheVariants.{Name}
-use Rattle.graphql_lexer.specs.Lexical.{IsName}
-use Rattle.graphql_core.specs.Style.{Layout}
-use Rattle.graphql_core.specs.Parts.{Part, name, gap}
-use Rattle.graphql_values.specs.Values.{ValueTree, DirectiveTree, no_place, erase_all}
-use Rattle.graphql_values.specs.ValueLayout.{arguments_layout, directives_layout}
-use Rattle.graphql_values.specs.Grammar.{shared, arguments_symbol, directives_symbol, default_symbol, shared_symbols, name as a_name}
-use Rattle.graphql_values.specs.Meanings.{place_at, first_place, optional_default_of, spelling_at, optional_arguments_of, directives_of}
-use Rattle.graphql_values.specs.Printable.{IsNameBut, IsPrintableArgument, IsPrintableDirective, IsPrintableDefault, arguments_brackets}
-use Rattle.graphql_values.specs.Printable.{directives_brackets, value_brackets}
-use Rattle.graphql_query_tree.specs.Tree.{SelectionTree, field, spread, inline, SelectionSetTree, set, SelectionTrees, none, more, OperationKind, query_kind}
-use Rattle.graphql_query_tree.specs.Tree.{mutation_kind}
-use Rattle.graphql_query_tree.specs.Tree.{subscription_kind, VariableDefinitionTree, OperationTree, DefinitionTree, short, operation, fragment, DocumentTree}
-use Rattle.graphql_query_tree.specs.Tree.{erase_selection}
-use Rattle.graphql_query_tree.specs.Tree.{erase_selection_set, erase_selections, erase_variable_definition, erase_operation, erase_definition}
-use Rattle.graphql_query_tree.specs.Grammar.{query, spread_class, definition_symbol, operation_symbol, operation_body_symbol}
-use Rattle.graphql_query_tree.specs.Grammar.{variable_definitions_symbol}
-use Rattle.graphql_query_tree.specs.Grammar.{variable_definition_symbol, selection_set_symbol, selection_symbol, alias_symbol, type_condition_symbol}
-use Rattle.graphql_query_tree.specs.Meanings.{spread_name_of, alias_of, type_condition_of, optional_type_condition_of, selected_of, selection_of}
-use Rattle.graphql_query_tree.specs.Meanings.{selection_set_of}
-use Rattle.graphql_query_tree.specs.Meanings.{selections_of, variable_definition_of, each_variable_definition_of, optional_variable_definitions_of}
-use Rattle.graphql_query_tree.specs.Meanings.{optional_name_of, operation_body_of}
-use Rattle.graphql_query_tree.specs.Meanings.{operation_of, definition_of, definitions_of}
-use Rattle.graphql_values.specs.Lines.{in_braces}
-use Rattle.graphql_query_tree.specs.Layout.{alias_layout, type_condition_layout, on_layout, selection_layout, selected_layout, selection_set_layout}
-use Rattle.graphql_query_tree.specs.Layout.{selections_layout}
-use Rattle.graphql_query_tree.specs.Layout.{keyword, operation_name_layout, default_layout, variable_definition_layout}
-use Rattle.graphql_query_tree.specs.Layout.{variable_definitions_layout, definition_layout, layout}
-use Rattle.graphql_query_tree.specs.Printable.{IsPrintable, IsPrintableSelection, IsPrintableSet, ArePrintableSelections, IsPrintableVariable}
-use Rattle.graphql_query_tree.specs.Printable.{IsPrintableOperation}
-use Rattle.graphql_query_tree.specs.Printable.{IsPrintableDefinition, Selects, SelectsInside, SelectInside, AllSelectInside, DefinitionSelects}
-use Rattle.graphql_query_tree.specs.Printable.{selection_brackets}
-use Rattle.graphql_query_tree.specs.Printable.{selected_brackets, selection_set_brackets, selections_brackets, variable_definition_brackets}
-use Rattle.graphql_query_tree.specs.Printable.{variable_definitions_brackets, definition_brackets}
-use Rattle.graphql_query_tree.specs.Document.{queries, IsReadBack}
-use Rattle.graphql_values.specs.Lawful.{IsLawful, AreLawfulArguments, AreLawfulDirectives}
-use Rattle.graphql_query_tree.specs.Lawful.{IsLawfulSelection, IsLawfulSet, AreLawfulSelections, IsLawfulVariable, IsLawfulDefinition, IsLawfulDocument}
-use Rattle.graphql_values.proofs.LeavesBack.{name_word, not_listed}
-use Rattle.graphql_values.proofs.TypesBack.{type_back}
-use Rattle.graphql_core.proofs.Back.{Back, Any, Takes, as_word_back, means, margin_back, gap_back, then_gap, word_back, mark_back, open_back}
-use Rattle.graphql_core.proofs.Back.{close_back, dots_back, nothing_back, both_back, first_back, second_back, node_back, stop_back, more_back, three_back}
-use Rattle.graphql_core.proofs.Back.{four_back, five_back, six_back, lift_back}
-use Rattle.graphql_values.proofs.ValuesBack.{spaces_blank}
-use Rattle.graphql_values.proofs.ListsBack.{both_of_each, some_back, in_parentheses_back, document_back}
-use Rattle.graphql_query_tree.proofs.Readable.{tested_alike, written_goes_on}
-use Rattle.graphql_values.proofs.DirectivesBack.{arguments_back, directives_back, optional_default_back}
+use Rattle.graphql_core.specs.{name}
+use Rattle.graphql_core.proofs.{Takes, as_word_back, open_back, close_back, dots_back, four_back, five_back, six_back, lift_back}
+use Rattle.graphql_values.specs.{AllByRecursion, IfSome, option_map_or, Place, Expr, Many, Sym, Shape, Both, leaves, optional, is_below, Name, IsName, Layout}
+use Rattle.graphql_values.specs.{Part, gap, ValueTree, DirectiveTree, no_place, erase_all, arguments_layout, directives_layout, shared, arguments_symbol}
+use Rattle.graphql_values.specs.{directives_symbol, default_symbol, shared_symbols, name as a_name, place_at, first_place, optional_default_of, spelling_at}
+use Rattle.graphql_values.specs.{optional_arguments_of, directives_of, IsNameBut, IsPrintableArgument, IsPrintableDirective, IsPrintableDefault}
+use Rattle.graphql_values.specs.{arguments_brackets, directives_brackets, value_brackets, in_braces, IsLawful, AreLawfulArguments, AreLawfulDirectives}
+use Rattle.graphql_values.specs.{optional_of, optional_list_of, enclosed_of, AreReadBack, each_of}
+use Rattle.graphql_values.proofs.{name_word, not_listed, type_back, Back, Any, means, margin_back, gap_back, then_gap, word_back, mark_back, nothing_back}
+use Rattle.graphql_values.proofs.{both_back, first_back, second_back, node_back, stop_back, more_back, three_back, spaces_blank, both_of_each, some_back}
+use Rattle.graphql_values.proofs.{in_parentheses_back, document_back, arguments_back, directives_back, optional_default_back}
+use Rattle.graphql_query_tree.specs.{spread, more, SelectionTree, SelectionSetTree, SelectionTrees, OperationKind, query_kind, mutation_kind, subscription_kind}
+use Rattle.graphql_query_tree.specs.{VariableDefinitionTree, OperationTree, DefinitionTree, short, operation, fragment, DocumentTree, erase_selection}
+use Rattle.graphql_query_tree.specs.{erase_selection_set, erase_selections, erase_variable_definition, erase_operation, erase_definition, query, spread_class}
+use Rattle.graphql_query_tree.specs.{definition_symbol, operation_symbol, operation_body_symbol, variable_definitions_symbol, variable_definition_symbol}
+use Rattle.graphql_query_tree.specs.{selection_set_symbol, selection_symbol, alias_symbol, type_condition_symbol, spread_name_of, alias_of, type_condition_of}
+use Rattle.graphql_query_tree.specs.{selected_of, selection_of, selection_set_of, selections_of, variable_definition_of, operation_body_of, operation_of}
+use Rattle.graphql_query_tree.specs.{definition_of, alias_layout, type_condition_layout, on_layout, selection_layout, selected_layout, selection_set_layout}
+use Rattle.graphql_query_tree.specs.{selections_layout, keyword, operation_name_layout, variable_definition_layout, variable_definitions_layout}
+use Rattle.graphql_query_tree.specs.{definition_layout, IsPrintable, IsPrintableSelection, IsPrintableSet, ArePrintableSelections, IsPrintableVariable}
+use Rattle.graphql_query_tree.specs.{IsPrintableOperation, IsPrintableDefinition, Selects, SelectsInside, SelectInside, AllSelectInside, DefinitionSelects}
+use Rattle.graphql_query_tree.specs.{selection_brackets, selected_brackets, selection_set_brackets, selections_brackets, variable_definition_brackets}
+use Rattle.graphql_query_tree.specs.{variable_definitions_brackets, definition_brackets, queries, IsReadBack, IsLawfulSelection, IsLawfulSet}
+use Rattle.graphql_query_tree.specs.{AreLawfulSelections, IsLawfulVariable, IsLawfulDefinition, IsLawfulDocument, field, inline, set, none, layout}
+use Rattle.graphql_query_tree.proofs.Readable.{tested_alike, written_goes_on, readable}
+use Rattle.graphql_query_tree.proofs.NoPositions.{layout_alike}
+use Rattle.graphql_values.proofs.RoundTrip as round
 
 -- what is shared is read back in queries too
 shared_back : {e : Expr} {p q : Bool} {d f : ℕ} {ps : List Part} {R : Shape → Type 0} → is_below shared_symbols e ≡ true → Back shared e p d ps q f R
@@ -76,7 +52,7 @@ type_condition_back c d is =
     (λ o x ho hx. hx))
 
 on_back : (c : Option (List ℕ)) (d : ℕ) → IfSome c IsName
-    → Back query (optional (Sym type_condition_symbol)) false d (on_layout c) true d (λ x. optional_type_condition_of x ≡ c)
+    → Back query (optional (Sym type_condition_symbol)) false d (on_layout c) true d (λ x. optional_of type_condition_of x ≡ c)
 on_back None d is = as_word_back (second_back (nothing_back refl))
 on_back (Some c) d is = first_back (gap_back refl (means (λ x h. ap Some h) (type_condition_back c d is)))
 
@@ -158,17 +134,14 @@ module _ (style : Layout) where
 
   -- ---- variables
 
-  default_part : (v : Option ValueTree) (d : ℕ) → IfSome v IsPrintableDefault → IfSome v IsLawful → d + option_map_or value_brackets v 0 ≤ 50
-      → Back query (optional (Sym default_symbol)) true d (default_layout style v) true d (λ x. optional_default_of x ≡ v)
-  default_part v d is law deep = shared_back refl (optional_default_back style 0 v d is law deep)
-
   variable_definition_back : (v : VariableDefinitionTree) (d : ℕ) → IsPrintableVariable v → IsLawfulVariable v → d + variable_definition_brackets v ≤ 50
       → Back query (Sym variable_definition_symbol) false d (variable_definition_layout style v) true d
       (λ x. erase_variable_definition (variable_definition_of x) ≡ erase_variable_definition v)
   variable_definition_back v d (is, type, default, dir) (defaultlaw, dirlaw) deep =
       node_back (λ x. refl) (six_back
       (mark_back (codes "$") (refl, refl) (λ p. refl)) (named_back v.name d is) (mark_back (codes ":") (refl, refl) (λ p. refl))
-      (gap_back refl (shared_back refl (type_back v.var_type d type (omega arith)))) (default_part v.default_value d default defaultlaw (omega arith))
+      (gap_back refl (shared_back refl (type_back v.var_type d type (omega arith))))
+      (shared_back refl (optional_default_back style 0 v.default_value d default defaultlaw (omega arith)))
       (dirs 0 v.directives d dir dirlaw (omega arith))
       (λ x y z w k l hx hy hz hw hk hl. λ i.
       record { position = no_place; name = hy i; var_type = hw i; default_value = hk i; directives = hl i }))
@@ -176,20 +149,15 @@ module _ (style : Layout) where
   variable_definitions_back : (vs : List VariableDefinitionTree) (d : ℕ) → AllByRecursion IsPrintableVariable vs → AllByRecursion IsLawfulVariable vs
       → d + variable_definitions_brackets vs ≤ 50
       → Back query (optional (Sym variable_definitions_symbol)) true d (variable_definitions_layout style vs) true d
-      (λ x. map erase_variable_definition (optional_variable_definitions_of x) ≡ map erase_variable_definition vs)
-  variable_definitions_back [] d is law deep = second_back (nothing_back refl)
-  variable_definitions_back (v ∷ vs) d is law deep =
-      in_parentheses_back (variable_definition_layout style) v vs refl (λ x. refl) (λ p. refl) (λ p. refl) (omega arith)
-      (some_back (d + 1) (Sym variable_definition_symbol) variable_definition_of each_variable_definition_of erase_variable_definition
-      (variable_definition_layout style) (λ t. IsPrintableVariable t × IsLawfulVariable t) variable_definition_brackets refl (λ x y. refl) (λ x y. refl)
-      (λ t h b. variable_definition_back t (d + 1) h.0 h.1 b) 44 (32 ∷ []) refl v vs
-      (both_of_each IsPrintableVariable IsLawfulVariable (v ∷ vs) is law) (omega arith))
-      (λ o x c h. h)
+      (λ x. map erase_variable_definition (optional_list_of (enclosed_of variable_definition_of) x) ≡ map erase_variable_definition vs)
+  variable_definitions_back =
+      in_parentheses_back variable_definition_of erase_variable_definition (variable_definition_layout style) IsPrintableVariable IsLawfulVariable
+      variable_definition_brackets refl (λ x. refl) (λ p. refl) (λ p. refl) variable_definition_back
 
   -- ---- definitions
 
   operation_name_back : (n : Option (List ℕ)) (d : ℕ) → IfSome n IsName
-      → Back query (optional a_name) true d (operation_name_layout n) true d (λ x. optional_name_of x ≡ n)
+      → Back query (optional a_name) true d (operation_name_layout n) true d (λ x. optional_of spelling_at x ≡ n)
   operation_name_back None d is = second_back (nothing_back refl)
   operation_name_back (Some n) d is = first_back (gap_back refl (means (λ x h. ap Some h) (named_back n d is)))
 
@@ -248,8 +216,9 @@ module _ (style : Layout) where
   pub way_back : (ts : DocumentTree) → IsPrintable ts → IsLawfulDocument ts → IsReadBack (layout style ts) ts
   way_back [] is law = absurd is.definition
   way_back (t ∷ ts) is law =
-      document_back queries (t ∷ ts) (node_back (λ x. refl) (some_back 0 (Sym definition_symbol) definition_of definitions_of erase_definition
-      (definition_layout style) (λ u. IsPrintableDefinition u × (DefinitionSelects u × IsLawfulDefinition u)) definition_brackets
-      refl (λ x y. refl) (λ x y. refl) (λ u h b. definition_back u 0 h.0 h.1.0 h.1.1 b) 10 [] refl t ts
-      (both_of_each IsPrintableDefinition (λ u. DefinitionSelects u × IsLawfulDefinition u) (t ∷ ts) is.names
-      (both_of_each DefinitionSelects IsLawfulDefinition (t ∷ ts) is.selections law)) (omega (arith, is.depth))))
+      document_back queries (t ∷ ts) (node_back (λ x. refl) (some_back 0 definition_of erase_definition (definition_layout style) IsPrintableDefinition
+      (λ u. DefinitionSelects u × IsLawfulDefinition u) definition_brackets (λ u p h b. definition_back u 0 p h.0 h.1 b) 10 [] refl t ts
+      is.names (both_of_each DefinitionSelects IsLawfulDefinition (t ∷ ts) is.selections law) (omega (arith, is.depth))))
+
+pub are_read_back : AreReadBack queries layout (λ d. IsPrintable d × IsLawfulDocument d)
+are_read_back = round.are_read_back queries readable layout layout_alike (λ d. IsPrintable d × IsLawfulDocument d) (λ style d is. way_back style d is.0 is.1)

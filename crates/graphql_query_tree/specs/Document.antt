@@ -1,13 +1,12 @@
 -- The language of queries: what a text's document is, and what is said of a text that has none.
 use Rattle.std.specs.Prelude.{ℕ, List, Result}
-use Rattle.graphql_core.specs.Refusal.{Refusal}
-use Rattle.graphql_core.specs.Source.{Items, FaultText}
+use Rattle.graphql_values.specs.{Refusal, Items, FaultText}
 use Rattle.graphql_values.specs.Language.{Language}
-use Rattle.graphql_values.specs.Document as document
-use Rattle.graphql_values.specs.Faults as fault
 use Rattle.graphql_query_tree.specs.Tree.{DocumentTree, erase}
 use Rattle.graphql_query_tree.specs.Grammar.{query, document_symbol, second_rows, changes}
 use Rattle.graphql_query_tree.specs.Meanings.{document_of}
+use Rattle.graphql_values.specs.Document as document
+use Rattle.graphql_values.specs.Faults as fault
 
 -- no node of a query document is refused
 abbrev pub queries : Language DocumentTree

@@ -1,15 +1,13 @@
 -- The language of queries as version 0.4.1 has it: no variable definition has directives.
 use Rattle.std.specs.Prelude.{◌≡◌, ℕ, List, [], ◌∷◌, ◌++◌, codes, take, drop}
-use Rattle.std.specs.List.{AllByRecursion}
-use Rattle.graphql_grammar.specs.Trees.{Expr, Then, Sym, Grammar, optional}
-use Rattle.graphql_grammar.specs.Solve.{with_tables}
-use Rattle.graphql_values.specs.Grammar as shared
-use Rattle.graphql_values.specs.Grammar.{type_symbol, default_symbol, punctuator, name}
+use Rattle.graphql_core.specs.{Grammar}
+use Rattle.graphql_values.specs.{AllByRecursion, Expr, Then, Sym, optional, with_tables, type_symbol, default_symbol, punctuator, name}
 use Rattle.graphql_values.specs.Language.{Language}
-use Rattle.graphql_values.specs.Document as document
 use Rattle.graphql_query_tree.specs.Grammar.{query, rules}
 use Rattle.graphql_query_tree.specs.Tree.{VariableDefinitionTree, DefinitionTree, operation, DocumentTree}
 use Rattle.graphql_query_tree.specs.Document.{queries}
+use Rattle.graphql_values.specs.Grammar as shared
+use Rattle.graphql_values.specs.Document as document
 
 -- VariableDefinition = "$" Name ":" Type Default?
 abbrev pub variable_definition_rule_0_4_1 : Expr
@@ -25,16 +23,7 @@ query_0_4_1 = record { rows = shared.rows ++ with_tables rules_0_4_1 []; good = 
 
 -- it is not read by rules of its own, so the second rules play no part
 abbrev pub queries_0_4_1 : Language DocumentTree
-queries_0_4_1 = record {
-  grammar = query_0_4_1;
-  document = queries.document;
-  means = queries.means;
-  erase = queries.erase;
-  lacks = queries.lacks;
-  refuses = queries.refuses;
-  second_rows = queries.second_rows;
-  changes = queries.changes;
-}
+queries_0_4_1 = record queries { grammar = query_0_4_1 }
 
 -- the items of the text are a document of version 0.4.1 that means this
 abbrev pub IsDocumentOf_0_4_1 : List ℕ → DocumentTree → Type 0

@@ -1,8 +1,7 @@
 -- What some small texts mean, and how their documents are laid out, written out.
 use Rattle.std.specs.Prelude.{◌≡◌, ℕ, ◌+◌, List, [], ◌∷◌, ◌++◌, Some, None, codes}
-use Rattle.graphql_grammar.specs.Tokens.{Place}
-use Rattle.graphql_core.specs.Style.{default_style}
-use Rattle.graphql_query_tree.specs.Tree.{SelectionTree, field, spread, SelectionSetTree, set, none, more, no_selection_set, DefinitionTree, short, operation}
+use Rattle.graphql_values.specs.{Place, default_style}
+use Rattle.graphql_query_tree.specs.Tree.{spread, more, SelectionTree, field, SelectionSetTree, set, none, no_selection_set, DefinitionTree, short, operation}
 use Rattle.graphql_query_tree.specs.Tree.{query_kind, DocumentTree}
 use Rattle.graphql_query_tree.specs.Document.{IsDocumentOf}
 use Rattle.graphql_query_tree.specs.Layout.{layout}

@@ -1,14 +1,11 @@
 -- The grammar of query documents, as it is written, and the rules by which it is read.
 use Rattle.std.specs.Prelude.{ℕ, true, List, [], ◌∷◌, ◌++◌, codes, drop, replicate}
-use Rattle.graphql_grammar.specs.Tokens.{Token, Class, Except, matches}
-use Rattle.graphql_grammar.specs.Trees.{Expr, One, Then, Either, Sym, Row, Grammar, optional, some_of}
-use Rattle.graphql_grammar.specs.Solve.{solve, with_tables}
-use Rattle.graphql_grammar.specs.Factored.{Change, unchanged, in_second, out_of_symbols, out_of_prefix, with_rows}
-use Rattle.graphql_core.specs.Causes.{kind_number}
-use Rattle.graphql_lexer.specs.declared.tokenizer.token.Kind.TheVariants.{Punctuator, Name}
-use Rattle.graphql_values.specs.Leaves.{is_good}
+use Rattle.graphql_grammar.specs.{in_second, out_of_symbols, out_of_prefix, with_rows}
+use Rattle.graphql_core.specs.{Grammar}
+use Rattle.graphql_values.specs.{Token, Class, Except, matches, Expr, One, Then, Either, Sym, Row, optional, some_of, solve, with_tables, Change, unchanged}
+use Rattle.graphql_values.specs.{kind_number, Punctuator, Name, is_good, type_symbol, arguments_symbol, directives_symbol, default_symbol, shared_symbols}
+use Rattle.graphql_values.specs.{punctuator, word, name, sample}
 use Rattle.graphql_values.specs.Grammar as shared
-use Rattle.graphql_values.specs.Grammar.{type_symbol, arguments_symbol, directives_symbol, default_symbol, shared_symbols, punctuator, word, name, sample}
 
 -- ---- the symbols, after those of values, types and directives
 

@@ -1,12 +1,8 @@
 -- What holds of the values of every document that a program can make.
 use Rattle.std.specs.Prelude.{List}
-use Rattle.std.specs.List.{AllByRecursion}
-use Rattle.std.specs.Option.{IfSome}
-use Rattle.graphql_query_tree.specs.Tree.{SelectionTree, field, spread, inline, SelectionSetTree, set, SelectionTrees, none, more, VariableDefinitionTree}
-use Rattle.graphql_query_tree.specs.Tree.{FragmentDefinitionTree, DefinitionTree}
-use Rattle.graphql_query_tree.specs.Tree.{short, operation, fragment, DocumentTree}
-use Rattle.graphql_values.specs.Values.{DirectiveTree}
-use Rattle.graphql_values.specs.Lawful.{IsLawful, AreLawfulArguments, AreLawfulDirectives}
+use Rattle.graphql_values.specs.{AllByRecursion, IfSome, DirectiveTree, IsLawful, AreLawfulArguments, AreLawfulDirectives}
+use Rattle.graphql_query_tree.specs.Tree.{spread, more, SelectionTree, field, inline, SelectionSetTree, set, SelectionTrees, none, VariableDefinitionTree}
+use Rattle.graphql_query_tree.specs.Tree.{FragmentDefinitionTree, DefinitionTree, short, operation, fragment, DocumentTree}
 
 abbrev mutual
   pub IsLawfulSelection : SelectionTree → Type 0

@@ -1,18 +1,14 @@
 -- The text of a document in a style. A line begins with a margin of so many spaces.
 use Rattle.std.specs.Prelude.{ℕ, ◌+◌, List, [], ◌++◌, Option, Some, None, codes}
-use Rattle.graphql_core.specs.Style.{Layout, spaces}
-use Rattle.graphql_core.specs.Parts.{Part, text_of, name, mark, gap}
-use Rattle.graphql_values.specs.Values.{ValueTree, DirectiveTree}
-use Rattle.graphql_values.specs.ValueLayout.{type_layout, arguments_layout, directives_layout, in_levels}
-use Rattle.graphql_values.specs.ValueLayout as values
-use Rattle.graphql_values.specs.Lines as lines
-use Rattle.graphql_values.specs.Lines.{in_braces}
-use Rattle.graphql_values.specs.TreeDepth.{most}
-use Rattle.graphql_query_tree.specs.Tree.{SelectionTree, field, spread, inline, SelectionSetTree, set, SelectionTrees, none, more, OperationKind, query_kind}
+use Rattle.graphql_core.specs.{name, mark}
+use Rattle.graphql_values.specs.{text_of, Layout, spaces, Part, gap, ValueTree, DirectiveTree, type_layout, arguments_layout, directives_layout, in_levels}
+use Rattle.graphql_values.specs.{in_braces, most, default_layout, in_parentheses, separated}
+use Rattle.graphql_query_tree.specs.Tree.{spread, more, SelectionTree, field, inline, SelectionSetTree, set, SelectionTrees, none, OperationKind, query_kind}
 use Rattle.graphql_query_tree.specs.Tree.{mutation_kind, subscription_kind, VariableDefinitionTree, OperationTree, FragmentDefinitionTree, DefinitionTree}
 use Rattle.graphql_query_tree.specs.Tree.{short, operation, fragment, DocumentTree}
 use Rattle.graphql_query_tree.specs.TreeDepth.{selection_depth, selected_depth, selection_set_depth, selections_depth, variable_definition_depth}
 use Rattle.graphql_query_tree.specs.TreeDepth.{variable_definitions_depth, operation_depth_of, operation_depth, fragment_definition_depth, definition_depth}
+use Rattle.graphql_values.specs.ValueLayout as values
 
 -- ---- selections
 
@@ -66,25 +62,22 @@ abbrev pub operation_name_layout : Option (List ℕ) → List Part
 operation_name_layout None = []
 operation_name_layout (Some n) = gap (codes " ") ++ name n
 
-abbrev pub default_layout : Layout → Option ValueTree → List Part
-default_layout style = lines.default_layout style 0
-
 abbrev pub variable_definition_layout : Layout → VariableDefinitionTree → List Part
 variable_definition_layout style v = mark (codes "$")
     ++ (name v.name ++ (mark (codes ":") ++ (gap (codes " ")
-    ++ (type_layout v.var_type ++ (default_layout style v.default_value ++ directives_layout style 0 v.directives)))))
+    ++ (type_layout v.var_type ++ (default_layout style 0 v.default_value ++ directives_layout style 0 v.directives)))))
 
 abbrev pub variable_definitions_layout : Layout → List VariableDefinitionTree → List Part
-variable_definitions_layout style = lines.in_parentheses (variable_definition_layout style)
+variable_definitions_layout style = in_parentheses (variable_definition_layout style)
 
 -- an operation by its keyword and its parts
-abbrev pub operation_of : Layout → List ℕ → Option (List ℕ) → List VariableDefinitionTree → List DirectiveTree → SelectionSetTree → List Part
-operation_of style word n vs ds s = name word
+abbrev pub operation_layout_of : Layout → List ℕ → Option (List ℕ) → List VariableDefinitionTree → List DirectiveTree → SelectionSetTree → List Part
+operation_layout_of style word n vs ds s = name word
     ++ (operation_name_layout n
     ++ (variable_definitions_layout style vs ++ (directives_layout style 0 ds ++ (gap (codes " ") ++ selection_set_layout style 0 s))))
 
 abbrev pub operation_layout : Layout → OperationTree → List Part
-operation_layout style o = operation_of style (keyword o.kind) o.name o.variables o.directives o.selected
+operation_layout style o = operation_layout_of style (keyword o.kind) o.name o.variables o.directives o.selected
 
 abbrev pub fragment_definition_layout : Layout → FragmentDefinitionTree → List Part
 fragment_definition_layout style f =
@@ -98,7 +91,7 @@ definition_layout style (fragment f) = fragment_definition_layout style f
 
 -- the definitions, with an empty line between two
 abbrev pub document_layout : Layout → DocumentTree → List Part
-document_layout style = lines.separated (definition_layout style)
+document_layout style = separated (definition_layout style)
 
 -- the text of a document
 abbrev pub layout : Layout → DocumentTree → List ℕ

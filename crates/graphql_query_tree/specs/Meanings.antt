@@ -1,10 +1,8 @@
 -- What the shapes of query documents mean, a line or two for each production.
-use Rattle.std.specs.Prelude.{ℕ, List, [], ◌∷◌, Option, Some, None}
-use Rattle.graphql_grammar.specs.Tokens.{Place, nowhere}
-use Rattle.graphql_grammar.specs.Trees.{Shape, Both, First, Second, More, Node, leaves}
-use Rattle.graphql_values.specs.Values.{named}
-use Rattle.graphql_values.specs.Meanings.{place_at, first_place, spelling_at, type_of, optional_default_of, optional_arguments_of, directives_of}
-use Rattle.graphql_query_tree.specs.Tree.{SelectionTree, field, spread, inline, SelectionSetTree, set, no_selection_set, SelectionTrees, none, more}
+use Rattle.std.specs.Prelude.{ℕ, List, [], Option, Some, None}
+use Rattle.graphql_values.specs.{Place, nowhere, Shape, Both, First, Second, More, Node, leaves, named, place_at, first_place, spelling_at, type_of}
+use Rattle.graphql_values.specs.{optional_default_of, optional_arguments_of, directives_of, optional_of, optional_list_of, each_of, enclosed_of}
+use Rattle.graphql_query_tree.specs.Tree.{spread, more, SelectionTree, field, inline, SelectionSetTree, set, no_selection_set, SelectionTrees, none}
 use Rattle.graphql_query_tree.specs.Tree.{OperationKind, query_kind, mutation_kind, subscription_kind, VariableDefinitionTree, OperationTree, OperationBodyTree}
 use Rattle.graphql_query_tree.specs.Tree.{with_body, FragmentDefinitionTree, DefinitionTree, short, operation, fragment, DocumentTree}
 
@@ -18,10 +16,6 @@ alias_of _ = None
 abbrev pub type_condition_of : Shape → List ℕ
 type_condition_of (Node k (Both o n)) = spelling_at n
 type_condition_of _ = []
-
-abbrev pub optional_type_condition_of : Shape → Option (List ℕ)
-optional_type_condition_of (First c) = Some (type_condition_of c)
-optional_type_condition_of _ = None
 
 -- the position and the text of a spread's name
 abbrev pub spread_name_of : Shape → Place × List ℕ
@@ -52,7 +46,7 @@ abbrev mutual
 
   -- what stands after the dots of an inline fragment; the fragment stands at its first token
   pub inline_fragment_rest_of : Shape → SelectionTree
-  inline_fragment_rest_of (Both c (Both ds s)) = inline (first_place (leaves (Both c (Both ds s)))) (optional_type_condition_of c) (directives_of ds)
+  inline_fragment_rest_of (Both c (Both ds s)) = inline (first_place (leaves (Both c (Both ds s)))) (optional_of type_condition_of c) (directives_of ds)
       (selection_set_of s)
   inline_fragment_rest_of _ = spread nowhere [] []
 
@@ -87,26 +81,14 @@ variable_definition_of (Node k (Both d (Both n (Both c (Both t v))))) =
     record { position = place_at d; name = spelling_at n; var_type = type_of t; default_value = optional_default_of v; directives = [] }
 variable_definition_of _ = record { position = nowhere; name = []; var_type = named []; default_value = None; directives = [] }
 
-abbrev pub each_variable_definition_of : Shape → List VariableDefinitionTree
-each_variable_definition_of (Both x xs) = variable_definition_of x ∷ each_variable_definition_of xs
-each_variable_definition_of (More x xs) = variable_definition_of x ∷ each_variable_definition_of xs
-each_variable_definition_of _ = []
-
-abbrev pub variable_definitions_of : Shape → List VariableDefinitionTree
-variable_definitions_of (Node k (Both o (Both vs c))) = each_variable_definition_of vs
-variable_definitions_of _ = []
-
-abbrev pub optional_variable_definitions_of : Shape → List VariableDefinitionTree
-optional_variable_definitions_of (First vs) = variable_definitions_of vs
-optional_variable_definitions_of _ = []
-
-abbrev pub optional_name_of : Shape → Option (List ℕ)
-optional_name_of (First n) = Some (spelling_at n)
-optional_name_of _ = None
-
 abbrev pub operation_body_of : Shape → OperationBodyTree
 operation_body_of (Node k (Both n (Both vs (Both ds s)))) =
-    record { name = optional_name_of n; variables = optional_variable_definitions_of vs; directives = directives_of ds; selected = selection_set_of s }
+    record {
+      name = optional_of spelling_at n;
+      variables = optional_list_of (enclosed_of variable_definition_of) vs;
+      directives = directives_of ds;
+      selected = selection_set_of s;
+    }
 operation_body_of _ = record { name = None; variables = []; directives = []; selected = no_selection_set nowhere }
 
 -- an operation of this kind stands at its keyword
@@ -132,11 +114,6 @@ definition_of (Node k (First o)) = operation_of o
 definition_of (Node k (Second f)) = fragment (fragment_definition_of f)
 definition_of _ = short (no_selection_set nowhere)
 
-abbrev pub definitions_of : Shape → DocumentTree
-definitions_of (Both x xs) = definition_of x ∷ definitions_of xs
-definitions_of (More x xs) = definition_of x ∷ definitions_of xs
-definitions_of _ = []
-
 abbrev pub document_of : Shape → DocumentTree
-document_of (Node k x) = definitions_of x
+document_of (Node k x) = each_of definition_of x
 document_of _ = []

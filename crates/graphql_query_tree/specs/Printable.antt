@@ -1,12 +1,8 @@
 -- Documents that are read from their layouts as what they are.
 use Rattle.std.specs.Prelude.{ℕ, ◌+◌, ◌≤◌, max, List, [], ◌∷◌, codes}
-use Rattle.std.specs.List.{AllByRecursion}
-use Rattle.std.specs.Option.{IfSome, option_map_or}
-use Rattle.graphql_lexer.specs.Lexical.{IsName}
-use Rattle.graphql_values.specs.Printable.{IsNameBut, IsPrintableArgument, IsPrintableDirective, IsPrintableType, IsPrintableDefault}
-use Rattle.graphql_values.specs.Printable.{in_brackets}
-use Rattle.graphql_values.specs.TreeDepth.{most}
-use Rattle.graphql_query_tree.specs.Tree.{SelectionTree, field, spread, inline, SelectionSetTree, set, SelectionTrees, none, more, VariableDefinitionTree}
+use Rattle.graphql_values.specs.{AllByRecursion, IfSome, option_map_or, IsName, IsNameBut, IsPrintableArgument, IsPrintableDirective, IsPrintableType}
+use Rattle.graphql_values.specs.{IsPrintableDefault, in_brackets, most}
+use Rattle.graphql_query_tree.specs.Tree.{spread, more, SelectionTree, field, inline, SelectionSetTree, set, SelectionTrees, none, VariableDefinitionTree}
 use Rattle.graphql_query_tree.specs.Tree.{OperationTree, FragmentDefinitionTree, DefinitionTree, short, operation, fragment, DocumentTree}
 use Rattle.graphql_query_tree.specs.TreeDepth.{selection_depth, selected_depth, selection_set_depth, selections_depth, variable_definition_depth}
 use Rattle.graphql_query_tree.specs.TreeDepth.{variable_definitions_depth, definition_depth}

@@ -1,10 +1,8 @@
 -- What a tree stands for: names as their bytes, positions kept.
 use Rattle.std.specs.Prelude.{ℕ, List, [], ◌∷◌, Option, option_map, map}
-use Rattle.graphql_grammar.specs.Tokens.{Place}
-use Rattle.graphql_core.specs.Source.{place_of}
+use Rattle.graphql_values.specs.{Place, place_of, ValueTree, TypeTree, DirectiveTree, no_place, erase_all, value_view, type_view, arguments_view}
+use Rattle.graphql_values.specs.{directives_view}
 use Rattle.graphql_values.specs.declared.tree.Directive.{Directive}
-use Rattle.graphql_values.specs.Values.{ValueTree, TypeTree, DirectiveTree, no_place, erase_all}
-use Rattle.graphql_values.specs.ValueViews.{value_view, type_view, arguments_view, directives_view}
 use Rattle.graphql_query_tree.specs.declared.tree.TypeCondition.{TypeCondition}
 use Rattle.graphql_query_tree.specs.declared.tree.TypeCondition.TheVariants.{On}
 use Rattle.graphql_query_tree.specs.declared.tree.VariableDefinition.{VariableDefinition}
@@ -19,10 +17,10 @@ use Rattle.graphql_query_tree.specs.declared.tree.Mutation.{Mutation}
 use Rattle.graphql_query_tree.specs.declared.tree.Subscription.{Subscription}
 use Rattle.graphql_query_tree.specs.declared.tree.FragmentDefinition.{FragmentDefinition}
 use Rattle.graphql_query_tree.specs.declared.tree.OperationDefinition.{OperationDefinition}
-use Rattle.graphql_query_tree.specs.declared.tree.OperationDefinition.TheVariants as operations
 use Rattle.graphql_query_tree.specs.declared.tree.Definition.{Definition}
-use Rattle.graphql_query_tree.specs.declared.tree.Definition.TheVariants as definitions
 use Rattle.graphql_query_tree.specs.declared.tree.Document.{Document}
+use Rattle.graphql_query_tree.specs.declared.tree.OperationDefinition.TheVariants as operations
+use Rattle.graphql_query_tree.specs.declared.tree.Definition.TheVariants as definitions
 
 -- ---- selections
 

@@ -1,8 +1,7 @@
 -- How deep selections and definitions nest, by the fold of values.
 use Rattle.std.specs.Prelude.{ℕ, ◌+◌, max, List}
-use Rattle.graphql_values.specs.Values.{DirectiveTree}
-use Rattle.graphql_values.specs.TreeDepth.{Weights, most, most_around, default_depth, arguments_depth, directives_depth}
-use Rattle.graphql_query_tree.specs.Tree.{SelectionTree, field, spread, inline, SelectionSetTree, set, SelectionTrees, none, more, VariableDefinitionTree}
+use Rattle.graphql_values.specs.{DirectiveTree, Weights, most, most_around, default_depth, arguments_depth, directives_depth}
+use Rattle.graphql_query_tree.specs.Tree.{spread, more, SelectionTree, field, inline, SelectionSetTree, set, SelectionTrees, none, VariableDefinitionTree}
 use Rattle.graphql_query_tree.specs.Tree.{OperationTree, FragmentDefinitionTree, DefinitionTree, short, operation, fragment}
 
 -- ---- selections

@@ -1,13 +1,7 @@
 //! Laws of the definitions alone.
 ghost use Rattle.std.specs.Prelude.{◌≡◌};
-ghost use Rattle.graphql_core.specs.Depths.{deepest};
-ghost use Rattle.graphql_core.specs.Style.{Layout};
-ghost use Rattle.graphql_values.specs.TreeDepth.{most};
-ghost use Rattle.graphql_query_tree.specs.Tree.{DocumentTree, erase};
-ghost use Rattle.graphql_query_tree.specs.Document.{IsDocumentOf};
-ghost use Rattle.graphql_query_tree.specs.Lawful.{IsLawfulDocument};
-ghost use Rattle.graphql_query_tree.specs.Layout.{document_layout, layout};
-ghost use Rattle.graphql_query_tree.specs.Printable.{IsPrintable, definition_brackets};
+ghost use Rattle.graphql_values.specs.{deepest, Layout, most, AreReadBack};
+ghost use Rattle.graphql_query_tree.specs.{DocumentTree, erase, queries, IsLawfulDocument, document_layout, layout, IsPrintable, definition_brackets};
 ghost use Rattle.graphql_query_tree.specs.Examples as example;
 
 /// The documents of some small texts, and their layouts.
@@ -35,16 +29,5 @@ pub fn text_has_no_positions()
 
 /// What is read of the text of a printable document is the document, but for positions.
 pub fn printed_documents_are_read_back()
-    // Some document is read, in any style.
-    ensures read_back { (style : Layout) (d : DocumentTree) → IsPrintable d → IsLawfulDocument d
-        → (e : DocumentTree) × IsDocumentOf (layout style d) e × (erase e ≡ erase d) }
-    // Each that is read is the same, and its text in that style is the same text.
-    ensures printed_again { (style : Layout) (d e : DocumentTree) → IsPrintable d → IsLawfulDocument d → IsDocumentOf (layout style d) e
-        → (erase e ≡ erase d) × (layout style e ≡ layout style d) }
-    // What is read of the texts in two styles is the same.
-    ensures styles_agree { (style other : Layout) (d e f : DocumentTree) → IsPrintable d → IsLawfulDocument d
-        → IsDocumentOf (layout style d) e → IsDocumentOf (layout other d) f → erase e ≡ erase f }
-    // Documents that have one text are the same.
-    ensures one_text { (style : Layout) (d e : DocumentTree) → IsPrintable d → IsLawfulDocument d → IsPrintable e → IsLawfulDocument e
-        → layout style d ≡ layout style e → erase d ≡ erase e }
+    ensures { AreReadBack queries layout (λ d. IsPrintable d × IsLawfulDocument d) }
 {}

@@ -7,11 +7,7 @@ mod selection;
 mod width;
 
 ghost use Rattle.std.specs.Prelude.{◌≡◌, ◌↔◌, IfOk, OnOk, IsErrOf, string_bytes};
-ghost use Rattle.graphql_query_tree.specs.Document.{IsReadBack};
-ghost use Rattle.graphql_query_tree.specs.Printable.{IsPrintable};
-ghost use Rattle.graphql_query_tree.specs.Lawful.{IsLawfulDocument};
-ghost use Rattle.graphql_query_tree.specs.Tree.{DocumentTree, document_view, erase};
-ghost use Rattle.graphql_query_tree.specs.Layout.{layout, IsTooWide};
+ghost use Rattle.graphql_query_tree.specs.{IsReadBack, IsPrintable, IsLawfulDocument, DocumentTree, document_view, erase, layout, IsTooWide};
 
 use crate::print::width::is_document_too_wide;
 use crate::tree::Document;

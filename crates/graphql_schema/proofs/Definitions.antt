@@ -1,41 +1,20 @@
 -- What begins a definition, and which kind of it.
 use Rattle.std.proofs.Common.{◌≡◌, ◌||◌, ℕ, true, false, List, [], ◌∷◌, ◌++◌, Result, Err, Option, Some, None, IsErrAnd, codes, refl, ap, ◌∙◌}
-use Rattle.graphql_grammar.specs.Tokens.{Token, Class}
-use Rattle.graphql_grammar.specs.Trees.{Expr, Then, Either, Sym, Shape, Leaf, First, Second, Node, Both, optional, row, peek}
-use Rattle.graphql_grammar.specs.Tables.{nullable, first}
-use Rattle.graphql_grammar.specs.Factored.{written}
-use Rattle.graphql_grammar.specs.Reading.{sees, Takes, takes_both, takes_node, Unexpected}
-use Rattle.graphql_grammar.specs.Leads.{leads_node}
-use Rattle.graphql_grammar.specs.ReaderWords.{Stops}
-use Rattle.graphql_grammar.proofs.Items.{sees-within, sees-apart}
-use Rattle.graphql_grammar.proofs.ReaderSteps.{Stops-node}
-use Rattle.graphql_lexer.specs.declared.tokenizer.token.Kind.TheVariants.{StringValue, BlockString}
-use Rattle.graphql_core.specs.Source.{Items}
-use Rattle.graphql_core.specs.steps.Matching.{TakesToken}
+use Rattle.graphql_grammar.proofs.{sees-apart, Stops-node}
+use Rattle.graphql_values.specs.{Token, Class, Expr, Then, Either, Sym, Shape, Leaf, First, Second, Node, Both, optional, row, peek, first, written, sees}
+use Rattle.graphql_values.specs.{Takes, takes_both, takes_node, Unexpected, leads_node, Stops, StringValue, BlockString, Items, TakesToken, any, keyword}
+use Rattle.graphql_values.specs.{tables as shared_tables, unquoted, Refusals, halt_reason, Reads as ReadsBy, SaysNode}
 use Rattle.graphql_values.specs.declared.read.node_error.NodeError.{NodeError}
 use Rattle.graphql_values.specs.declared.read.node_error.NodeError.TheVariants.{Stopped, Refused}
-use Rattle.graphql_values.specs.Grammar.{any, keyword, tables as shared_tables}
-use Rattle.graphql_values.specs.Leaves.{unquoted}
-use Rattle.graphql_values.specs.Refusing.{Refusals, halt_reason, Says, Reads as ReadsBy}
-use Rattle.graphql_values.proofs.Reading.{FailsUnseen, gives_error_by}
-use Rattle.graphql_values.proofs.Alternatives.{side_left, side_right, side_second}
-use Rattle.graphql_values.proofs.Readable.{unseen}
-use Rattle.graphql_values.proofs.Refusing.{halts_led}
-use Rattle.graphql_values.proofs.Steps.{Leads, here, begun, took, into, past}
-use Rattle.graphql_values.proofs.Whole.{exit}
-use Rattle.graphql_schema_tree.specs.Grammar.{tables, changes, item_symbol, schema_symbol, extension_symbol, schema_extension_symbol, type_body_symbol}
-use Rattle.graphql_schema_tree.specs.Grammar.{directive_definition_symbol, directive_definition_rule, description_symbol}
-use Rattle.graphql_schema_tree.specs.Meanings.{directive_definition_of}
-use Rattle.graphql_schema_tree.specs.Tree.{DirectiveDefinitionTree}
-use Rattle.graphql_schema_tree.specs.Language.{schemas}
-use Rattle.graphql_schema_tree.proofs.Readable.{readable}
+use Rattle.graphql_values.proofs.{sees-within, FailsUnseen, gives_error_by, side_left, side_right, unseen, halts_led, Leads, here, side_nth, sees_both, begun}
+use Rattle.graphql_values.proofs.{took, into, past, exit}
+use Rattle.graphql_schema_tree.specs.{tables, changes, item_symbol, schema_symbol, extension_symbol, schema_extension_symbol, type_body_symbol}
+use Rattle.graphql_schema_tree.specs.{directive_definition_symbol, directive_definition_rule, description_symbol, directive_definition_of}
+use Rattle.graphql_schema_tree.specs.{DirectiveDefinitionTree, schemas}
+use Rattle.graphql_schema_tree.proofs.{readable}
 use Rattle.graphql_schema.specs.declared.read.keyword.TypeKind.{TypeKind}
-use Rattle.graphql_schema.specs.steps.Keywords.{keywords, kind_word, sees_definition}
-use Rattle.graphql_schema.specs.steps.Reads.{sees_description}
-use Rattle.graphql_schema.specs.steps.TypeBodies.{symbol_of}
-use Rattle.graphql_schema.proofs.Dialect.{reading}
-use Rattle.graphql_schema.proofs.JoinedNames.{BeginsWith, seen_symbol}
-use Rattle.graphql_schema.proofs.Keywords.{sees_both}
+use Rattle.graphql_schema.specs.{keywords, kind_word, sees_definition, sees_description, symbol_of}
+use Rattle.graphql_schema.proofs.Lifted.{reading}
 use Rattle.graphql_schema.proofs.Lists.{begins_description}
 use Rattle.graphql_schema.proofs.Types.{of_type, others_unseen, place}
 
@@ -62,22 +41,6 @@ item_begins i =
 
 -- ---- which kind of definition
 
-pub schema_begins : BeginsWith schema_symbol (schema_keyword ∷ [])
-unfolding tables
-schema_begins = record { something = refl; first = refl }
-
-pub extension_begins : BeginsWith extension_symbol (extend_keyword ∷ [])
-unfolding tables
-extension_begins = record { something = refl; first = refl }
-
-pub directive_begins : BeginsWith directive_definition_symbol (directive_keyword ∷ [])
-unfolding tables
-directive_begins = record { something = refl; first = refl }
-
-pub schema_extension_begins : BeginsWith schema_extension_symbol (schema_keyword ∷ [])
-unfolding tables
-schema_extension_begins = record { something = refl; first = refl }
-
 -- what may have a description
 abbrev types_and_directives : Expr
 types_and_directives = Either (Sym type_body_symbol) (Sym directive_definition_symbol)
@@ -87,14 +50,6 @@ described = Either (Sym schema_symbol) types_and_directives
 
 abbrev with_descriptions : Expr
 with_descriptions = Then (optional (Sym description_symbol)) described
-
-fails_with_descriptions : (ts : List Token) → FailsUnseen reading with_descriptions ts
-unfolding tables shared_tables unquoted
-fails_with_descriptions ts = unseen schemas readable with_descriptions refl refl refl ts
-
-fails_types_and_directives : (ts : List Token) → FailsUnseen reading types_and_directives ts
-unfolding tables shared_tables unquoted
-fails_types_and_directives ts = unseen schemas readable types_and_directives refl refl refl ts
 
 fails_type_body : (ts : List Token) → FailsUnseen reading (Sym type_body_symbol) ts
 unfolding tables shared_tables unquoted
@@ -124,33 +79,16 @@ not_extended {old} {mid} {t} taken stops =
     let lead : Leads reading (row reading extension_symbol).rule extended (λ y. Both (Leaf t) y) old.tokens mid.tokens = past here (took taken refl) in
     lead.stops mid.tokens (Some Unexpected) stops
 
--- none is empty
-described_are_more : nullable reading.rows with_descriptions ≡ false
-unfolding tables
-described_are_more = refl
-
-types_are_more : nullable reading.rows types_and_directives ≡ false
-unfolding tables
-types_are_more = refl
-
-type_body_is_more : nullable reading.rows (Sym type_body_symbol) ≡ false
-unfolding tables
-type_body_is_more = refl
-
-unseen_first : {k : ℕ} {cs : List Class} (ts : List Token) → BeginsWith k cs → sees cs (peek ts) ≡ false → sees (first reading.rows (Sym k)) (peek ts) ≡ false
-unseen_first ts b h = ap (λ ds. sees ds (peek ts)) b.first ∙ h
-
 pub an_extension : (ts : List Token) → sees (extend_keyword ∷ []) (peek ts) ≡ true
     → Leads reading (Sym item_symbol) (Sym extension_symbol) (λ x. Node item_symbol (Second x)) ts ts
 unfolding tables shared_tables
-an_extension ts seen =
-    into (begun item_symbol (λ x. refl)) (side_second reading with_descriptions (Sym extension_symbol) extend_keyword ts refl refl seen)
+an_extension ts seen = into (begun item_symbol (λ x. refl)) (side_nth extend_keyword _ 1 refl seen)
 
 pub no_extension : (ts : List Token) → sees (extend_keyword ∷ []) (peek ts) ≡ false
     → Leads reading (Sym item_symbol) with_descriptions (λ x. Node item_symbol (First x)) ts ts
+unfolding tables shared_tables unquoted
 no_extension ts other = into (begun item_symbol (λ x. refl))
-    (side_left reading with_descriptions (Sym extension_symbol) ts described_are_more extension_begins.something (fails_with_descriptions ts)
-    (unseen_first ts extension_begins other))
+    (side_left reading with_descriptions (Sym extension_symbol) ts refl refl (unseen schemas readable with_descriptions refl refl refl ts) other)
 
 -- after a description, or none
 module _ {ts us : List Token} {d : Shape} (other : sees (extend_keyword ∷ []) (peek ts) ≡ false)
@@ -161,29 +99,30 @@ module _ {ts us : List Token} {d : Shape} (other : sees (extend_keyword ∷ []) 
 
   pub a_schema : sees (schema_keyword ∷ []) (peek us) ≡ true
       → Leads reading (Sym item_symbol) (Sym schema_symbol) (λ y. Node item_symbol (First (Both d (First y)))) ts us
-  a_schema seen = into a_description (seen_symbol types_and_directives schema_begins seen)
+  unfolding tables shared_tables
+  a_schema seen = into a_description (side_nth schema_keyword _ 0 refl seen)
 
   no_schema : sees (schema_keyword ∷ []) (peek us) ≡ false
       → Leads reading (Sym item_symbol) types_and_directives (λ y. Node item_symbol (First (Both d (Second y)))) ts us
+  unfolding tables shared_tables unquoted
   no_schema none = into a_description
-      (side_right reading (Sym schema_symbol) types_and_directives us schema_begins.something types_are_more (fails_types_and_directives us)
-      (unseen_first us schema_begins none))
+      (side_right reading (Sym schema_symbol) types_and_directives us refl refl (unseen schemas readable types_and_directives refl refl refl us) none)
 
   -- a directive is no schema
   pub a_directive : sees (directive_keyword ∷ []) (peek us) ≡ true
       → Leads reading (Sym item_symbol) (Sym directive_definition_symbol) (λ y. Node item_symbol (First (Both d (Second (Second y))))) ts us
   unfolding tables shared_tables
-  a_directive seen = into (no_schema (sees-apart (schema_keyword ∷ []) (directive_keyword ∷ []) (peek us) refl seen))
-      (side_second reading (Sym type_body_symbol) (Sym directive_definition_symbol) directive_keyword us refl refl seen)
+  a_directive seen =
+      into (no_schema (sees-apart (schema_keyword ∷ []) (directive_keyword ∷ []) (peek us) refl seen)) (side_nth directive_keyword _ 1 refl seen)
 
   -- nor is a type, or a directive
   pub a_type : (k : TypeKind) → sees (keyword (kind_word k) ∷ []) (peek us) ≡ true
       → Leads reading (Sym item_symbol) (Sym (symbol_of k)) (λ y. Node item_symbol (First (Both d (Second (First (Node type_body_symbol (place k y))))))) ts us
+  unfolding tables shared_tables
   a_type k seen =
       let (none, neither) = others_unseen k (peek us) seen in
-      of_type k (into (no_schema none)
-      (side_left reading (Sym type_body_symbol) (Sym directive_definition_symbol) us type_body_is_more directive_begins.something (fails_type_body us)
-      (unseen_first us directive_begins neither))) seen
+      let side = side_left reading (Sym type_body_symbol) (Sym directive_definition_symbol) us refl refl (fails_type_body us) neither in
+      of_type k (into (no_schema none) side) seen
 
 -- ---- after `extend`
 
@@ -191,21 +130,20 @@ pub of_schema : {e : Expr} {inside : Shape → Shape} {ts us : List Token}
     → Leads reading e extended inside ts us → sees (schema_keyword ∷ []) (peek us) ≡ true
     → Leads reading e (Sym schema_extension_symbol) (λ y. inside (Second y)) ts us
 unfolding tables shared_tables
-of_schema {us = us} lead seen =
-    into lead (side_second reading (Sym type_body_symbol) (Sym schema_extension_symbol) schema_keyword us refl refl seen)
+of_schema lead seen = into lead (side_nth schema_keyword _ 1 refl seen)
 
 pub of_body : (k : TypeKind) {e : Expr} {inside : Shape → Shape} {ts us : List Token}
     → Leads reading e extended inside ts us → sees (keyword (kind_word k) ∷ []) (peek us) ≡ true
     → Leads reading e (Sym (symbol_of k)) (λ y. inside (First (Node type_body_symbol (place k y)))) ts us
+unfolding tables shared_tables
 of_body k {us = us} lead seen =
     let (other, neither) = others_unseen k (peek us) seen in
-    of_type k (into lead
-    (side_left reading (Sym type_body_symbol) (Sym schema_extension_symbol) us type_body_is_more schema_extension_begins.something (fails_type_body us)
-    (unseen_first us schema_extension_begins other))) seen
+    let side = side_left reading (Sym type_body_symbol) (Sym schema_extension_symbol) us refl refl (fails_type_body us) other in
+    of_type k (into lead side) seen
 
 -- a node in a node is refused, or reading stops in it
 module _ {R : Type 0} (w : Refusals R) where
-  node_says : (k : ℕ) (old new : Items) (d : NodeError R) → Says schemas w (row reading k).rule old new d → Says schemas w (Sym k) old new d
+  node_says : (k : ℕ) (old new : Items) (d : NodeError R) → SaysNode schemas w (row reading k).rule old new d → SaysNode schemas w (Sym k) old new d
   node_says k old new (Stopped s) said = tt
   node_says k old new (Refused n) (before, x, (p, ne, led, fits, bad, stops), said) = (before, x, (p, ne, leads_node led, fits, bad, stops), said)
 

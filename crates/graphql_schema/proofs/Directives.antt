@@ -1,26 +1,13 @@
 -- Locations of directives, and their definitions.
 use Rattle.std.proofs.Common.{◌≡◌, ℕ, Bool, true, false, List, [], ◌∷◌, ◌++◌, map, Result, Ok, Err, Option, Some, None, IsErrAnd, refl, sym, ap, subst, ◌∙◌}
-use Rattle.graphql_grammar.specs.Tokens.{Token, Place}
-use Rattle.graphql_grammar.specs.Trees.{Sym, Shape, Leaf, Node, peek}
-use Rattle.graphql_grammar.specs.Reading.{sees, Takes, Improper, Fails, fails_node, fails_value}
-use Rattle.graphql_core.specs.declared.helpers.read_error.ReadError.{ReadError}
-use Rattle.graphql_core.specs.declared.helpers.read_error.ReadError.TheVariants.{Memory, Item, Integer, Float, Escape, Location}
-use Rattle.graphql_core.specs.declared.helpers.source.Lexeme.{Lexeme}
-use Rattle.graphql_lexer.specs.declared.tokenizer.token.Kind.TheVariants.{Name}
-use Rattle.graphql_core.specs.Source.{Items, after, lexeme_token}
-use Rattle.graphql_core.proofs.Matches.{takes_first}
-use Rattle.graphql_values.specs.Grammar.{any, location_class}
-use Rattle.graphql_values.specs.steps.Answers.{Gives, Adds}
-use Rattle.graphql_values.specs.steps.Leaf.{IsNext, Shows}
-use Rattle.graphql_values.proofs.LeafSteps.{next_matches}
-use Rattle.graphql_values.proofs.Reading.{TakesNone}
-use Rattle.graphql_values.proofs.Steps.{begun, took, lacks_last}
+use Rattle.graphql_grammar.specs.{fails_value}
+use Rattle.graphql_core.proofs.{takes_first}
+use Rattle.graphql_values.specs.{Lexeme, Token, Place, Sym, Shape, Leaf, Node, peek, sees, Takes, Improper, Fails, fails_node, ReadError, Name, Items, after}
+use Rattle.graphql_values.specs.{lexeme_token, any, location_class, Gives, Adds, IsNext, Shows}
+use Rattle.graphql_values.proofs.{next_matches, TakesNone, none_within, begun, took, lacks_last}
 use Rattle.graphql_schema_tree.specs.declared.location.DirectiveLocation.{DirectiveLocation}
-use Rattle.graphql_schema_tree.specs.Locations.{IsNamed, is_location}
-use Rattle.graphql_schema_tree.specs.Grammar.{location_symbol}
-use Rattle.graphql_schema_tree.specs.Meanings.{present}
-use Rattle.graphql_schema_tree.specs.Tree.{InputValueTree, DirectiveDefinitionTree}
-use Rattle.graphql_schema.proofs.Dialect.{reading}
+use Rattle.graphql_schema_tree.specs.{IsNamed, is_location, location_symbol, present, InputValueTree, DirectiveDefinitionTree}
+use Rattle.graphql_schema.proofs.Lifted.{reading}
 
 -- ---- what a word names
 
@@ -46,12 +33,7 @@ no_location None h = refl
 no_location (Some t) h = h
 
 no_location_taken : (i : Items) (s : ReadError) → TakesNone (any Name) i i s → TakesNone location_class i i s
-no_location_taken i Memory h = h
-no_location_taken i Item (same, unseen) = (same, no_location (peek i.tokens) unseen)
-no_location_taken i Integer h = h
-no_location_taken i Float h = h
-no_location_taken i Escape h = h
-no_location_taken i Location h = h
+no_location_taken i s = none_within {A = Unit {0}} (any Name) location_class i i (λ v t. Unit {0}) s (no_location (peek i.tokens))
 
 module _ {T : Type 0} (bytes : T → List ℕ) (i : Items) where
   -- no name comes

@@ -1,17 +1,13 @@
 -- Keywords: what one is that is told, and what begins with one.
-use Rattle.std.proofs.Common.{◌≡◌, ◌≢◌, ◌||◌, ℕ, true, false, List, [], ◌∷◌, ◌++◌, Option, Some, None, codes, is_some, refl, sym, ap, ◌∙◌}
-use Rattle.std.proofs.Math.Bool.{or_assoc, and-false}
+use Rattle.std.proofs.Common.{◌≡◌, ◌≢◌, ℕ, true, false, List, [], ◌∷◌, Option, Some, None, codes, is_some, refl, sym}
+use Rattle.std.proofs.Math.Bool.{and-false}
 use Rattle.std.proofs.lemmas.Bool.{true_from_ne_false, both_ways}
-use Rattle.graphql_grammar.specs.Tokens.{Token, Class, Spelled, matches, in_any, all_within}
-use Rattle.graphql_grammar.specs.Trees.{peek}
-use Rattle.graphql_grammar.specs.Reading.{sees}
-use Rattle.graphql_grammar.proofs.Items.{sees-within}
-use Rattle.graphql_core.specs.Source.{Items}
-use Rattle.graphql_values.proofs.PlainAlternatives.{differs}
+use Rattle.graphql_values.specs.{Token, Spelled, matches, all_within, peek, sees, Items}
+use Rattle.graphql_values.proofs.{sees-within, differs}
 use Rattle.graphql_schema.specs.declared.read.keyword.TypeKind.TheVariants.{Scalar, Object, Interface, Union, Enum, InputObject}
 use Rattle.graphql_schema.specs.declared.read.keyword.Keyword.{Keyword}
 use Rattle.graphql_schema.specs.declared.read.keyword.Keyword.TheVariants.{Schema, OfType, Directive}
-use Rattle.graphql_schema.specs.steps.Keywords.{class_of, keywords, TellsToken, Tells}
+use Rattle.graphql_schema.specs.{class_of, keywords, TellsToken, Tells}
 
 -- a token that is spelled otherwise
 other_word : (k : ℕ) (w : List ℕ) (t : Token) → w ≢ t.spelling → matches (Spelled k w) t ≡ false
@@ -29,12 +25,6 @@ no_word t a b c d e f g h = rw (
   other_word _ _ t g,
   other_word _ _ t h,
 ) refl
-
--- one of these classes comes next, or of those
-pub sees_both : (cs ds : List Class) (next : Option Token) → sees (cs ++ ds) next ≡ sees cs next || sees ds next
-sees_both cs ds None = refl
-sees_both [] ds (Some t) = refl
-sees_both (c ∷ cs) ds (Some t) = ap (λ b. matches c t || b) (sees_both cs ds (Some t)) ∙ sym (or_assoc (matches c t) (in_any cs t) (in_any ds t))
 
 -- a keyword that is told is one of them
 is_keyword : (k : Keyword) → all_within (class_of k ∷ []) keywords ≡ true

@@ -1,27 +1,18 @@
 -- Types by their kinds: the rule of a kind and what it means, and where a kind stands in a type's body.
 use Rattle.std.proofs.Common.{◌≡◌, ℕ, true, false, List, [], ◌∷◌, Result, Ok, Err, Option, Some, None, codes, refl, ◌∙◌}
-use Rattle.graphql_grammar.specs.Tables.{first, decides}
-use Rattle.graphql_grammar.specs.Tokens.{Token, Place, Class, all_within, all_apart}
-use Rattle.graphql_grammar.specs.Trees.{Expr, Empty, Then, Either, Sym, Shape, Both, First, Second, Node, peek}
-use Rattle.graphql_grammar.specs.Factored.{written}
-use Rattle.graphql_grammar.specs.Reading.{sees, Takes, takes_nothing, takes_both, takes_node, Reason, Fails, fails_before, fails_after, fails_node}
-use Rattle.graphql_grammar.specs.ReaderWords.{TakesSome, Stops}
-use Rattle.graphql_grammar.proofs.Items.{sees-apart, sees-parts}
-use Rattle.graphql_core.specs.declared.helpers.read_error.ReadError.{ReadError}
-use Rattle.graphql_values.specs.Grammar as shared
-use Rattle.graphql_values.specs.Grammar.{keyword, word, directives_symbol, tables as shared_tables}
-use Rattle.graphql_values.specs.Values.{DirectiveTree}
-use Rattle.graphql_values.specs.steps.Answers.{Answered, reason_of}
-use Rattle.graphql_values.proofs.Alternatives.{IsSide, through, side_node, side_first, side_second}
-use Rattle.graphql_values.proofs.Steps.{Leads, into}
-use Rattle.graphql_schema_tree.specs.Grammar.{changes, tables, type_body_symbol, type_body_rule}
-use Rattle.graphql_schema_tree.specs.Meanings.{body_by, no_body, body_of, interfaces_of, optional_list_of}
-use Rattle.graphql_schema_tree.specs.Tree.{PartsTree, BodyTree}
+use Rattle.graphql_grammar.specs.{all_apart}
+use Rattle.graphql_grammar.proofs.{sees-apart, sees-parts}
+use Rattle.graphql_values.specs.{first, decides, Token, Place, Class, all_within, Expr, Empty, Then, Either, Sym, Shape, Both, First, Second, Node, peek}
+use Rattle.graphql_values.specs.{written, sees, Takes, takes_nothing, takes_both, takes_node, Reason, Fails, fails_before, fails_after, fails_node, TakesSome}
+use Rattle.graphql_values.specs.{Stops, ReadError, keyword, word, directives_symbol, tables as shared_tables, DirectiveTree, Answered, reason_of}
+use Rattle.graphql_values.specs.{optional_list_of}
+use Rattle.graphql_values.proofs.{IsSide, through, side_node, side_first, side_second, Leads, into, side_in, side_nth}
+use Rattle.graphql_schema_tree.specs.{changes, tables, type_body_symbol, type_body_rule, body_by, no_body, body_of, interfaces_of, PartsTree, BodyTree}
 use Rattle.graphql_schema.specs.declared.read.keyword.TypeKind.{TypeKind}
 use Rattle.graphql_schema.specs.declared.read.keyword.TypeKind.TheVariants.{Scalar, Object, Interface, Union, Enum, InputObject}
-use Rattle.graphql_schema.specs.steps.Keywords.{kind_word, has_interfaces}
-use Rattle.graphql_schema.specs.steps.TypeBodies.{symbol_of, means, interfaces_rule, parts_rule, parts_of}
-use Rattle.graphql_schema.proofs.Dialect.{reading}
+use Rattle.graphql_schema.specs.{kind_word, has_interfaces, symbol_of, means, interfaces_rule, parts_rule, parts_of}
+use Rattle.graphql_schema.proofs.Lifted.{reading}
+use Rattle.graphql_values.specs.Grammar as shared
 
 -- ---- the rule of a kind
 
@@ -109,30 +100,19 @@ body_means Union x = refl
 body_means Enum x = refl
 body_means InputObject x = refl
 
--- a side that comes later, which the keyword c tells
-later : {a b h : Expr} {j : Shape → Shape} {ts : List Token} (c : Class) → decides reading.rows (Either a b) ≡ true
-    → all_within (c ∷ []) (first reading.rows b) ≡ true → sees (c ∷ []) (peek ts) ≡ true → IsSide reading b h j ts
-    → IsSide reading (Either a b) h (λ x. Second (j x)) ts
-later {a} {b} {h} {j} {ts} c decided within seen side =
-    through reading (Either a b) b h (λ x. Second x) j ts (side_second reading a b c ts decided within seen) side
-
 chosen : (k : TypeKind) (ts : List Token) → sees (keyword (kind_word k) ∷ []) (peek ts) ≡ true → IsSide reading type_body_rule (Sym (symbol_of k)) (place k) ts
 unfolding tables shared_tables
-chosen Scalar ts s = side_first reading _ _ (keyword (codes "scalar")) ts refl s
-chosen Object ts s = let c = keyword (codes "type") in later c refl refl s (side_first reading _ _ c ts refl s)
-chosen Interface ts s = let c = keyword (codes "interface") in later c refl refl s (later c refl refl s (side_first reading _ _ c ts refl s))
-chosen Union ts s = let c = keyword (codes "union") in later c refl refl s (later c refl refl s (later c refl refl s (side_first reading _ _ c ts refl s)))
-chosen Enum ts s =
-    let c = keyword (codes "enum") in
-    later c refl refl s (later c refl refl s (later c refl refl s (later c refl refl s (side_first reading _ _ c ts refl s))))
-chosen InputObject ts s =
-    let c = keyword (codes "input") in
-    later c refl refl s (later c refl refl s (later c refl refl s (later c refl refl s (side_second reading _ _ c ts refl refl s))))
+chosen Scalar ts s = side_nth (keyword (codes "scalar")) type_body_rule 0 refl s
+chosen Object ts s = side_nth (keyword (codes "type")) type_body_rule 1 refl s
+chosen Interface ts s = side_nth (keyword (codes "interface")) type_body_rule 2 refl s
+chosen Union ts s = side_nth (keyword (codes "union")) type_body_rule 3 refl s
+chosen Enum ts s = side_nth (keyword (codes "enum")) type_body_rule 4 refl s
+chosen InputObject ts s = side_nth (keyword (codes "input")) type_body_rule 5 refl s
 
 -- its keyword tells it
 pub of_type : (k : TypeKind) {e : Expr} {inside : Shape → Shape} {ts us : List Token} → Leads reading e (Sym type_body_symbol) inside ts us
     → sees (keyword (kind_word k) ∷ []) (peek us) ≡ true → Leads reading e (Sym (symbol_of k)) (λ x. inside (Node type_body_symbol (place k x))) ts us
-of_type k {us = us} lead seen = into (into lead (side_node reading type_body_symbol us (λ x. refl))) (chosen k us seen)
+of_type k {us = us} lead seen = into lead (side_in type_body_symbol (λ x. refl) (chosen k us seen))
 
 -- and is none of these
 no_other : (k : TypeKind) → all_apart (keyword (codes "schema") ∷ keyword (codes "directive") ∷ []) (keyword (kind_word k) ∷ []) ≡ true

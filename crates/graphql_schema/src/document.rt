@@ -1,16 +1,9 @@
 //! Whole documents.
 ghost use Rattle.std.specs.Prelude.{◌≡◌, ◌*◌, ◌/◌, ◌<◌, ◌≤◌, ◌≤ℤ◌, pos, List, length, IfOk};
-ghost use Rattle.graphql_lexer.specs.Items.{HasItems, Item, depth_of};
-ghost use Rattle.graphql_lexer.specs.Stream.{next_place};
-ghost use Rattle.graphql_core.specs.Refusal.{max_length};
-ghost use Rattle.graphql_core.specs.Source.{IsAtEnd, kept, split};
-ghost use Rattle.graphql_values.specs.Document.{AnswersUnlessMemory};
-ghost use Rattle.graphql_values.specs.Parsing.{ReadsDocument, ParsesDocument, ParsesStream};
-ghost use Rattle.graphql_schema_tree.specs.Tree.{DocumentTree};
-ghost use Rattle.graphql_schema_tree.specs.Views.{document_view};
-ghost use Rattle.graphql_schema_tree.specs.Printable.{IsPrintable};
-ghost use Rattle.graphql_schema_tree.specs.Language.{schemas};
-ghost use Rattle.graphql_schema_tree.specs.Earlier.{IsDocumentOf_0_4_1, HasNoNewParts};
+ghost use Rattle.graphql_lexer.specs.{depth_of};
+ghost use Rattle.graphql_values.specs.{HasItems, Item, next_place, max_length, IsAtEnd, kept, split, AnswersUnlessMemory, ReadsDocument, ParsesDocument};
+ghost use Rattle.graphql_values.specs.{ParsesStream};
+ghost use Rattle.graphql_schema_tree.specs.{DocumentTree, document_view, IsPrintable, schemas, IsDocumentOf_0_4_1, HasNoNewParts};
 
 use crate::error::ParseError;
 use crate::read::definitions;

@@ -1,7 +1,6 @@
 //! Why a text is no schema document.
 ghost use Rattle.std.specs.Prelude.{◌≡◌, option_map};
-ghost use Rattle.graphql_core.specs.Causes.{cause_text};
-ghost use Rattle.graphql_core.specs.Source.{place_of};
+ghost use Rattle.graphql_values.specs.{cause_text, place_of};
 
 use graphql_core::common::{Cause, Fault};
 use graphql_core::position::Pos;
@@ -16,7 +15,7 @@ pub struct ParseError {
 }
 
 impl Model for ParseError {
-    ghost use Rattle.graphql_core.specs.Refusal.{Refusal};
+    ghost use Rattle.graphql_values.specs.{Refusal};
 
     ghost Value = { Refusal };
 

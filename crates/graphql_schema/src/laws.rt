@@ -1,14 +1,7 @@
 //! Laws of the definitions alone.
 ghost use Rattle.std.specs.Prelude.{◌≡◌, ℕ, true, List, Result};
-ghost use Rattle.graphql_lexer.specs.Items.{Item};
-ghost use Rattle.graphql_core.specs.Causes.{is_unexpected};
-ghost use Rattle.graphql_core.specs.Minified.{IsMinified};
-ghost use Rattle.graphql_core.specs.Refusal.{Refusal};
-ghost use Rattle.graphql_core.specs.Source.{FaultText, split};
-ghost use Rattle.graphql_values.specs.Document.{IsParsed, AreAlike};
-ghost use Rattle.graphql_values.specs.Faults.{IsLeastFault, NoneGoesOn};
-ghost use Rattle.graphql_schema_tree.specs.Language.{schemas, IsDocumentOf, IsReadBack, IsLeastFaultOf};
-ghost use Rattle.graphql_schema_tree.specs.Tree.{DocumentTree};
+ghost use Rattle.graphql_values.specs.{Item, is_unexpected, IsMinified, Refusal, FaultText, split, IsParsed, AreAlike, IsLeastFault, NoneGoesOn};
+ghost use Rattle.graphql_schema_tree.specs.{schemas, IsDocumentOf, IsReadBack, IsLeastFaultOf, DocumentTree};
 
 /// Where the fault of least index is an unexpected token or end, some list that the plain grammar derives begins with the
 /// items before it, and none with them and it. The plain grammar tests no leaf and no node; the items are those of a text,

@@ -1,10 +1,9 @@
 -- What an extension adds is seen without positions.
 use Rattle.std.proofs.Common.{◌≡◌, ◌||◌, false, List, [], ◌∷◌, map, refl, ap, ap₂}
-use Rattle.graphql_values.specs.Values.{DirectiveTree, no_place, erase as erase_one}
-use Rattle.graphql_values.specs.TreeDepth.{has_any}
-use Rattle.graphql_schema_tree.specs.Tree.{PartsTree, scalar, object, interface, union, enum, input, BodyTree, adds, has_operation, extends}
-use Rattle.graphql_schema_tree.specs.Tree.{DefinitionTree, schema, type_definition, extension, schema_extension, directive}
-use Rattle.graphql_schema_tree.specs.Tree.{erase_input_value, erase_field, erase_enum_value, erase_body, erase_definition}
+use Rattle.graphql_values.specs.{DirectiveTree, no_place, erase as erase_one, has_any}
+use Rattle.graphql_schema_tree.specs.{PartsTree, scalar, object, interface, union, enum, input, BodyTree, adds, has_operation, extends, DefinitionTree, schema}
+use Rattle.graphql_schema_tree.specs.{type_definition, extension, schema_extension, directive, erase_input_value, erase_field, erase_enum_value, erase_body}
+use Rattle.graphql_schema_tree.specs.{erase_definition}
 
 any_alike : {A B : Type 0} (f : A → B) (xs : List A) → has_any (map f xs) ≡ has_any xs
 any_alike f [] = refl

@@ -1,25 +1,17 @@
 -- The brackets of a document are those that its layout opens at once.
 use Rattle.std.proofs.Common.{◌≡◌, ℕ, max, cond, Bool, true, false, List, [], ◌∷◌, Option, Some, None, codes, map, refl, arith}
-use Rattle.graphql_lexer.specs.declared.tokenizer.piece.Nesting.TheVariants.{Level}
-use Rattle.graphql_lexer.specs.declared.tokenizer.token.Kind.TheVariants.{Punctuator}
-use Rattle.graphql_core.specs.Depths.{bracket_of}
-use Rattle.graphql_core.specs.Parts.{Part, gap}
-use Rattle.graphql_core.specs.Style.{Layout}
-use Rattle.graphql_core.proofs.Depths.{Rises, rises_as, none_rise, flat_rise, gap_rises, level_rises, both_rise}
-use Rattle.graphql_values.specs.TreeDepth.{most_enclosed}
-use Rattle.graphql_values.specs.TreeDepth.{most}
-use Rattle.graphql_values.proofs.Depths.{string_rises, type_rises, directives_rise, braces_rise, line_end_rises, default_rises, lines_rise, separated_rise}
-use Rattle.graphql_values.proofs.Depths.{in_parentheses_rise}
+use Rattle.graphql_core.specs.{bracket_of}
+use Rattle.graphql_core.proofs.{Rises, rises_as, none_rise, flat_rise, gap_rises, level_rises, both_rise}
+use Rattle.graphql_values.specs.{Level, Punctuator, Part, gap, Layout, most_enclosed, most}
+use Rattle.graphql_values.proofs.{string_rises, type_rises, directives_rise, braces_rise, line_end_rises, default_rises, lines_rise, separated_rise}
+use Rattle.graphql_values.proofs.{in_parentheses_rise}
 use Rattle.graphql_schema_tree.specs.declared.location.DirectiveLocation.{DirectiveLocation}
-use Rattle.graphql_schema_tree.specs.Layout.{description_layout, inline_layout, later_names, joined_names, interfaces_layout, members_layout, locations_layout}
-use Rattle.graphql_schema_tree.specs.Layout.{block_layout, input_value_layout, arguments_layout, input_field_layout, field_layout}
-use Rattle.graphql_schema_tree.specs.Layout.{enum_value_layout, root_layout, roots_layout}
-use Rattle.graphql_schema_tree.specs.Layout.{interfaces, parts_layout, body_layout, repeatable_layout, definition_layout}
-use Rattle.graphql_schema_tree.specs.Layout.{document_layout}
-use Rattle.graphql_schema_tree.specs.Locations.{word_of}
-use Rattle.graphql_schema_tree.specs.Printable.{input_value_brackets, field_brackets, enum_value_brackets, parts_brackets, body_brackets, definition_brackets}
-use Rattle.graphql_schema_tree.specs.Tree.{InputValueTree, FieldTree, EnumValueTree, PartsTree, scalar, object, interface, union, enum, input, BodyTree}
-use Rattle.graphql_schema_tree.specs.Tree.{DefinitionTree, schema, type_definition, extension, schema_extension, directive, DocumentTree, has_operation}
+use Rattle.graphql_schema_tree.specs.{description_layout, inline_layout, later_names, joined_names, interfaces_layout, members_layout, locations_layout}
+use Rattle.graphql_schema_tree.specs.{block_layout, input_value_layout, arguments_layout, input_field_layout, field_layout, enum_value_layout, root_layout}
+use Rattle.graphql_schema_tree.specs.{roots_layout, interfaces, parts_layout, body_layout, repeatable_layout, definition_layout, document_layout, word_of}
+use Rattle.graphql_schema_tree.specs.{input_value_brackets, field_brackets, enum_value_brackets, parts_brackets, body_brackets, definition_brackets}
+use Rattle.graphql_schema_tree.specs.{InputValueTree, FieldTree, EnumValueTree, PartsTree, scalar, object, interface, union, enum, input, BodyTree}
+use Rattle.graphql_schema_tree.specs.{DefinitionTree, schema, type_definition, extension, schema_extension, directive, DocumentTree, has_operation}
 
 -- ---- parts in braces
 

@@ -1,16 +1,11 @@
 -- What version 0.4.1 has as a document is one today, with the same meaning, and has none of the parts that are new since then.
 use Rattle.std.proofs.Common.{◌≡◌, ◌==◌, ℕ, true, List, [], ◌∷◌, ◌++◌, Option, Some, None, replicate, refl, sym, ap₂, subst, arith, inl, inr}
-use Rattle.std.proofs.lemmas.Bool.{cases_Bool}
-use Rattle.std.proofs.lemmas.Bool.Decides.{nat_tests}
-use Rattle.graphql_grammar.specs.Trees.{Many, Sym, Shape, Nothing, Second, Fits, fits_leaf, fits_both, fits_first, fits_second, fits_stop}
-use Rattle.graphql_grammar.specs.Trees.{fits_more, fits_node, row}
-use Rattle.graphql_grammar.specs.Grown.{Growth, Same, InSides, Before, AsFirst, growth_at, either_way, grown}
-use Rattle.graphql_values.specs.Grammar.{shared_symbols}
-use Rattle.graphql_values.proofs.Growing.{IsGrown}
-use Rattle.graphql_schema_tree.specs.Grammar.{document_symbol, item_symbol, schema_symbol, extension_symbol, schema_extension_symbol, passes}
-use Rattle.graphql_schema_tree.specs.Meanings.{each_of, item_of, document_of}
-use Rattle.graphql_schema_tree.specs.Language.{schemas}
-use Rattle.graphql_schema_tree.specs.Earlier.{schema_0_4_1, schemas_0_4_1, HasNoNewPart, HasNoNewParts}
+use Rattle.graphql_grammar.specs.{Same, InSides, Before, AsFirst, growth_at, either_way}
+use Rattle.graphql_values.specs.{Many, Sym, Shape, Nothing, Second, Fits, fits_leaf, fits_both, fits_first, fits_second, fits_stop, fits_more, fits_node, row}
+use Rattle.graphql_values.specs.{Growth, grown, shared_symbols, each_of}
+use Rattle.graphql_values.proofs.{cases_Bool, nat_tests, IsGrown}
+use Rattle.graphql_schema_tree.specs.{document_symbol, item_symbol, schema_symbol, extension_symbol, schema_extension_symbol, passes, item_of, document_of}
+use Rattle.graphql_schema_tree.specs.{schemas, schema_0_4_1, schemas_0_4_1, HasNoNewPart, HasNoNewParts}
 
 -- no description before a schema, and after `extend` a type
 abbrev pub new_parts : List (Option Growth)

@@ -1,17 +1,12 @@
 -- Where arguments stand in one line, a document opens two levels at most: a block, and in it a string in block form.
-use Rattle.std.proofs.Common.{◌≡◌, ◌≤◌, ◌+◌, ℕ, cond, Bool, true, false, List, [], ◌∷◌, Option, Some, None, Result, Ok, Err, OnOk}
-use Rattle.std.proofs.Common.{arith, refl}
+use Rattle.std.proofs.Common.{◌≡◌, ◌≤◌, ◌+◌, ℕ, cond, Bool, true, false, List, [], ◌∷◌, Option, Some, None, Result, Ok, Err, OnOk, arith, refl}
 use Rattle.std.proofs.Math.Nat.{mul-le-mul_left}
-use Rattle.graphql_core.specs.Style.{Layout, default_style}
-use Rattle.graphql_values.specs.ValueLayout.{IsNarrow}
+use Rattle.graphql_values.specs.{Layout, default_style, IsNarrow, description_levels, most_enclosed}
+use Rattle.graphql_values.proofs.{most_bounded, string_bounded, default_bounded, directives_bounded}
+use Rattle.graphql_schema_tree.specs.{input_value_levels, field_levels, enum_value_levels, parts_levels, body_levels, definition_levels, levels, IsTooWide}
+use Rattle.graphql_schema_tree.specs.{InputValueTree, FieldTree, EnumValueTree, PartsTree, BodyTree, DefinitionTree, DocumentTree}
 use Rattle.graphql_values.specs.ValueLayout as values
-use Rattle.graphql_values.proofs.FewLevels.{most_bounded, string_bounded, default_bounded, directives_bounded}
-use Rattle.graphql_schema_tree.specs.Layout.{input_value_levels, field_levels, enum_value_levels, parts_levels}
-use Rattle.graphql_values.specs.ValueLayout.{description_levels}
-use Rattle.graphql_values.specs.TreeDepth.{most_enclosed}
-use Rattle.graphql_schema_tree.specs.Layout.{body_levels, definition_levels, levels, IsTooWide}
 use Rattle.graphql_schema_tree.specs.Tree as trees
-use Rattle.graphql_schema_tree.specs.Tree.{InputValueTree, FieldTree, EnumValueTree, PartsTree, BodyTree, DefinitionTree, DocumentTree}
 
 -- ---- lists of trees
 

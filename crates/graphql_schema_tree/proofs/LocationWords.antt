@@ -1,48 +1,33 @@
 -- Each location's word is a name, and names the location.
 use Rattle.std.proofs.Common.{◌≡◌, Some, refl}
-use Rattle.graphql_lexer.specs.Lexical.{IsName}
+use Rattle.graphql_values.specs.{IsName}
 use Rattle.graphql_schema_tree.specs.declared.location.DirectiveLocation.{DirectiveLocation}
+use Rattle.graphql_schema_tree.specs.{word_of, location_of}
 use Rattle.graphql_schema_tree.specs.declared.location.DirectiveLocation.TheVariants as declared
-use Rattle.graphql_schema_tree.specs.Locations.{word_of, location_of}
+
+named : (l : DirectiveLocation) → (location_of (word_of l) ≡ Some l) × IsName (word_of l)
+named declared.Query = (refl, (refl, refl))
+named declared.Mutation = (refl, (refl, refl))
+named declared.Subscription = (refl, (refl, refl))
+named declared.Field = (refl, (refl, refl))
+named declared.FragmentDefinition = (refl, (refl, refl))
+named declared.FragmentSpread = (refl, (refl, refl))
+named declared.InlineFragment = (refl, (refl, refl))
+named declared.Schema = (refl, (refl, refl))
+named declared.Scalar = (refl, (refl, refl))
+named declared.Object = (refl, (refl, refl))
+named declared.FieldDefinition = (refl, (refl, refl))
+named declared.ArgumentDefinition = (refl, (refl, refl))
+named declared.Interface = (refl, (refl, refl))
+named declared.Union = (refl, (refl, refl))
+named declared.Enum = (refl, (refl, refl))
+named declared.EnumValue = (refl, (refl, refl))
+named declared.InputObject = (refl, (refl, refl))
+named declared.InputFieldDefinition = (refl, (refl, refl))
+named declared.VariableDefinition = (refl, (refl, refl))
 
 pub location_named : (l : DirectiveLocation) → location_of (word_of l) ≡ Some l
-location_named declared.Query = refl
-location_named declared.Mutation = refl
-location_named declared.Subscription = refl
-location_named declared.Field = refl
-location_named declared.FragmentDefinition = refl
-location_named declared.FragmentSpread = refl
-location_named declared.InlineFragment = refl
-location_named declared.Schema = refl
-location_named declared.Scalar = refl
-location_named declared.Object = refl
-location_named declared.FieldDefinition = refl
-location_named declared.ArgumentDefinition = refl
-location_named declared.Interface = refl
-location_named declared.Union = refl
-location_named declared.Enum = refl
-location_named declared.EnumValue = refl
-location_named declared.InputObject = refl
-location_named declared.InputFieldDefinition = refl
-location_named declared.VariableDefinition = refl
+location_named l = (named l).0
 
 pub location_name : (l : DirectiveLocation) → IsName (word_of l)
-location_name declared.Query = (refl, refl)
-location_name declared.Mutation = (refl, refl)
-location_name declared.Subscription = (refl, refl)
-location_name declared.Field = (refl, refl)
-location_name declared.FragmentDefinition = (refl, refl)
-location_name declared.FragmentSpread = (refl, refl)
-location_name declared.InlineFragment = (refl, refl)
-location_name declared.Schema = (refl, refl)
-location_name declared.Scalar = (refl, refl)
-location_name declared.Object = (refl, refl)
-location_name declared.FieldDefinition = (refl, refl)
-location_name declared.ArgumentDefinition = (refl, refl)
-location_name declared.Interface = (refl, refl)
-location_name declared.Union = (refl, refl)
-location_name declared.Enum = (refl, refl)
-location_name declared.EnumValue = (refl, refl)
-location_name declared.InputObject = (refl, refl)
-location_name declared.InputFieldDefinition = (refl, refl)
-location_name declared.VariableDefinition = (refl, refl)
+location_name l = (named l).1

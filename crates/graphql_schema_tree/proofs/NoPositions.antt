@@ -1,16 +1,13 @@
 -- Layouts of schemas say nothing of positions.
 use Rattle.std.proofs.Common.{◌≡◌, ◌++◌, ap, ap₂, refl, codes, ℕ, List, [], ◌∷◌, map}
-use Rattle.std.specs.List.{flat_map}
-use Rattle.graphql_core.specs.Style.{Layout}
-use Rattle.graphql_core.specs.Parts.{Part, text_of, gap, name}
-use Rattle.graphql_values.specs.Lines.{in_braces}
-use Rattle.graphql_values.proofs.NoPositions.{directives_alike, separated_alike, in_parentheses_alike}
-use Rattle.graphql_schema_tree.specs.Tree.{InputValueTree, FieldTree, EnumValueTree, PartsTree, scalar, object, interface, union, enum, input, BodyTree}
-use Rattle.graphql_schema_tree.specs.Tree.{DefinitionTree, schema, type_definition, extension, schema_extension, directive, DocumentTree}
-use Rattle.graphql_schema_tree.specs.Tree.{erase_input_value, erase_field}
-use Rattle.graphql_schema_tree.specs.Tree.{erase_enum_value, erase_parts, erase_body, erase_definition, erase}
-use Rattle.graphql_schema_tree.specs.Layout.{block_layout, description_layout, input_value_layout, arguments_layout, input_field_layout}
-use Rattle.graphql_schema_tree.specs.Layout.{field_layout, enum_value_layout, keyword, interfaces, parts_layout, body_layout, definition_layout, layout}
+use Rattle.graphql_core.specs.{name}
+use Rattle.graphql_values.specs.{text_of, flat_map, Layout, Part, gap, in_braces}
+use Rattle.graphql_values.proofs.{directives_alike, separated_alike, in_parentheses_alike}
+use Rattle.graphql_schema_tree.specs.{InputValueTree, FieldTree, EnumValueTree, PartsTree, scalar, object, interface, union, enum, input, BodyTree}
+use Rattle.graphql_schema_tree.specs.{DefinitionTree, schema, type_definition, extension, schema_extension, directive, DocumentTree, erase_input_value}
+use Rattle.graphql_schema_tree.specs.{erase_field, erase_enum_value, erase_parts, erase_body, erase_definition, erase, block_layout, description_layout}
+use Rattle.graphql_schema_tree.specs.{input_value_layout, arguments_layout, input_field_layout, field_layout, enum_value_layout, keyword, interfaces}
+use Rattle.graphql_schema_tree.specs.{parts_layout, body_layout, definition_layout, layout}
 
 -- ---- parts in braces
 
@@ -45,33 +42,21 @@ enum_value_alike style margin v = rw (directives_alike style margin v.directives
 
 -- ---- definitions
 
-parts_alike : (style : Layout) (p : PartsTree) → parts_layout style (erase_parts p) ≡ parts_layout style p
-parts_alike style scalar = refl
-parts_alike style (object is fs) = block_alike erase_field (field_layout style style.indent) (field_alike style style.indent) 0 fs
-parts_alike style (interface is fs) = block_alike erase_field (field_layout style style.indent) (field_alike style style.indent) 0 fs
-parts_alike style (union ts) = refl
-parts_alike style (enum vs) = block_alike erase_enum_value (enum_value_layout style style.indent) (enum_value_alike style style.indent) 0 vs
-parts_alike style (input fs) = block_alike erase_input_value (input_field_layout style style.indent) (input_field_alike style style.indent) 0 fs
-
-keyword_alike : (p : PartsTree) → keyword (erase_parts p) ≡ keyword p
-keyword_alike scalar = refl
-keyword_alike (object is fs) = refl
-keyword_alike (interface is fs) = refl
-keyword_alike (union ts) = refl
-keyword_alike (enum vs) = refl
-keyword_alike (input fs) = refl
-
-interfaces_alike : (p : PartsTree) → interfaces (erase_parts p) ≡ interfaces p
-interfaces_alike scalar = refl
-interfaces_alike (object is fs) = refl
-interfaces_alike (interface is fs) = refl
-interfaces_alike (union ts) = refl
-interfaces_alike (enum vs) = refl
-interfaces_alike (input fs) = refl
+parts_alike : (style : Layout) (p : PartsTree)
+    → (keyword (erase_parts p) ≡ keyword p) × (interfaces (erase_parts p) ≡ interfaces p) × (parts_layout style (erase_parts p) ≡ parts_layout style p)
+parts_alike style scalar = (refl, refl, refl)
+parts_alike style (object is fs) = (refl, refl, block_alike erase_field (field_layout style style.indent) (field_alike style style.indent) 0 fs)
+parts_alike style (interface is fs) = (refl, refl, block_alike erase_field (field_layout style style.indent) (field_alike style style.indent) 0 fs)
+parts_alike style (union ts) = (refl, refl, refl)
+parts_alike style (enum vs) =
+    (refl, refl, block_alike erase_enum_value (enum_value_layout style style.indent) (enum_value_alike style style.indent) 0 vs)
+parts_alike style (input fs) =
+    (refl, refl, block_alike erase_input_value (input_field_layout style style.indent) (input_field_alike style style.indent) 0 fs)
 
 body_alike : (style : Layout) (b : BodyTree) → body_layout style (erase_body b) ≡ body_layout style b
 body_alike style b =
-    rw (keyword_alike b.parts, interfaces_alike b.parts, directives_alike style 0 b.directives, parts_alike style b.parts) refl
+    let (word, names, parts) = parts_alike style b.parts in
+    rw (word, names, directives_alike style 0 b.directives, parts) refl
 
 definition_alike : (style : Layout) (d : DefinitionTree) → definition_layout style (erase_definition d) ≡ definition_layout style d
 definition_alike style (schema d s) = rw (directives_alike style 0 s.directives) refl

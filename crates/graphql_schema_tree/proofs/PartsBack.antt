@@ -1,49 +1,27 @@
 -- The layouts of the parts of schema documents, and of types, are read back, up to positions.
-use Rattle.std.proofs.Common.{◌≡◌, ℕ, ◌+◌, ◌<◌, ◌≤◌, Bool, true, false, if◌then◌else◌, List, [], ◌∷◌, Option, Some, None, codes, map, refl, sym}
-use Rattle.std.proofs.Common.{ap, ap₂, ◌∙◌, subst, arith}
+use Rattle.std.proofs.Common.{◌≡◌, ℕ, ◌+◌, ◌<◌, ◌≤◌, Bool, true, false, if◌then◌else◌, List, [], ◌∷◌, Option, Some, None, codes, map, refl, sym, ap, ap₂, ◌∙◌}
+use Rattle.std.proofs.Common.{subst, arith}
 use Rattle.std.proofs.lemmas.List.{map-id}
-use Rattle.std.specs.List.{AllByRecursion, flat_map}
-use Rattle.graphql_grammar.specs.Trees.{Expr, Then, Many, Sym, Shape, Both, Node, optional, some_of, row}
-use Rattle.graphql_grammar.specs.Extended.{is_below}
-use Rattle.graphql_lexer.specs.declared.tokenizer.token.Kind.TheVariants.{Punctuator, StringValue, BlockString}
-use Rattle.graphql_lexer.specs.declared.tokenizer.piece.Nesting.TheVariants.{Level}
-use Rattle.graphql_lexer.specs.Lexical.{IsName}
-use Rattle.graphql_core.specs.Style.{Layout}
-use Rattle.graphql_core.specs.Parts.{Part, token, name}
-use Rattle.graphql_values.specs.Values.{DirectiveTree, no_place, erase_all}
-use Rattle.graphql_values.specs.ValueLayout.{directives_layout, has_block_form, in_block_form, quoted, string_layout}
-use Rattle.graphql_values.specs.Lines.{in_braces}
-use Rattle.graphql_values.specs.Grammar.{shared, directives_symbol, shared_symbols, punctuator, name as a_name, mark as a_mark}
-use Rattle.graphql_values.specs.Leaves.{string_of, block_string_of}
-use Rattle.graphql_values.specs.Meanings.{spelling_at, directives_of}
-use Rattle.graphql_values.specs.Printable.{IsPrintableDirective, directives_brackets}
-use Rattle.graphql_values.specs.TreeDepth.{most_enclosed}
-use Rattle.graphql_values.specs.TreeDepth.{most}
-use Rattle.graphql_values.specs.Lawful.{AreLawfulDirectives}
-use Rattle.graphql_schema_tree.specs.Tree.{InputValueTree, FieldTree, EnumValueTree, PartsTree, scalar, object, interface, union, enum, input, BodyTree}
-use Rattle.graphql_schema_tree.specs.Tree.{erase_input_value, erase_field, erase_enum_value, erase_parts, erase_body}
-use Rattle.graphql_schema_tree.specs.Grammar.{schema, joined_by, description_symbol, type_body_symbol, implements_symbol, fields_symbol, field_symbol}
-use Rattle.graphql_schema_tree.specs.Grammar.{argument_definitions_symbol, input_value_symbol, members_symbol, enum_values_symbol, enum_value_symbol}
-use Rattle.graphql_schema_tree.specs.Grammar.{input_fields_symbol}
-use Rattle.graphql_schema_tree.specs.Meanings.{optional_of, optional_list_of, each_of, enclosed_of, marked_of, joined_of, description_of, input_value_of}
-use Rattle.graphql_schema_tree.specs.Meanings.{field_of, enum_value_of, interfaces_of, members_of, body_of}
-use Rattle.graphql_schema_tree.specs.Layout.{description_layout, inline_layout, later_names, joined_names, interfaces_layout, members_layout, block_layout}
-use Rattle.graphql_schema_tree.specs.Layout.{input_value_layout, arguments_layout, input_field_layout, field_layout, enum_value_layout}
-use Rattle.graphql_schema_tree.specs.Layout.{body_layout}
-use Rattle.graphql_schema_tree.specs.Printable.{IsPrintableInputValue, IsPrintableField, IsPrintableEnumValue, ArePrintableParts, IsPrintableBody}
-use Rattle.graphql_schema_tree.specs.Printable.{input_value_brackets, field_brackets, enum_value_brackets, parts_brackets, body_brackets}
-use Rattle.graphql_schema_tree.specs.Lawful.{IsLawfulInputValue, IsLawfulField, IsLawfulEnumValue, AreLawfulParts, IsLawfulBody}
-use Rattle.graphql_core.proofs.Back.{Back, Any, Takes, IsMark, means, margin_back, gap_back, then_gap, word_back, mark_back}
-use Rattle.graphql_core.proofs.Back.{nothing_back, both_back, first_back, second_back, node_back, stop_back, more_back, three_back}
-use Rattle.graphql_core.proofs.Back.{four_back, five_back, six_back, lift_back}
-use Rattle.graphql_values.proofs.LeavesBack.{name_word, quoted_word, quoted_takes, quoted_means}
-use Rattle.graphql_values.proofs.BlockForm.{block_word}
-use Rattle.graphql_values.proofs.BlockValues.{block_means}
-use Rattle.graphql_values.proofs.ValuesBack.{spaces_blank}
-use Rattle.graphql_values.proofs.LinesBack.{in_braces_back}
-use Rattle.graphql_values.proofs.ListsBack.{both_of_each, some_back, in_parentheses_back}
-use Rattle.graphql_values.proofs.TypesBack.{type_back}
-use Rattle.graphql_values.proofs.DirectivesBack.{directives_back, optional_default_back}
+use Rattle.graphql_core.specs.{name}
+use Rattle.graphql_core.proofs.{Takes, IsMark, four_back, five_back, six_back, lift_back}
+use Rattle.graphql_values.specs.{AllByRecursion, flat_map, Expr, Then, Many, Sym, Shape, Both, Node, optional, some_of, row, is_below, Punctuator, StringValue}
+use Rattle.graphql_values.specs.{BlockString, Level, IsName, Layout, Part, token, DirectiveTree, no_place, erase_all, directives_layout, has_block_form}
+use Rattle.graphql_values.specs.{in_block_form, quoted, string_layout, in_braces, shared, directives_symbol, shared_symbols, punctuator, name as a_name}
+use Rattle.graphql_values.specs.{mark as a_mark, string_of, block_string_of, spelling_at, directives_of, IsPrintableDirective, directives_brackets}
+use Rattle.graphql_values.specs.{most_enclosed, most, AreLawfulDirectives, optional_of, optional_list_of, each_of, enclosed_of, marked_of, joined_of}
+use Rattle.graphql_values.proofs.{Back, Any, means, margin_back, gap_back, then_gap, word_back, mark_back, nothing_back, both_back, first_back, second_back}
+use Rattle.graphql_values.proofs.{node_back, stop_back, more_back, three_back, name_word, quoted_word, quoted_takes, quoted_means, block_word, block_means}
+use Rattle.graphql_values.proofs.{spaces_blank, in_braces_back, in_parentheses_back, type_back, directives_back, optional_default_back}
+use Rattle.graphql_schema_tree.specs.{InputValueTree, FieldTree, EnumValueTree, PartsTree, scalar, object, interface, union, enum, input, BodyTree}
+use Rattle.graphql_schema_tree.specs.{erase_input_value, erase_field, erase_enum_value, erase_parts, erase_body, joined_by, description_symbol}
+use Rattle.graphql_schema_tree.specs.{type_body_symbol, implements_symbol, fields_symbol, field_symbol, argument_definitions_symbol, input_value_symbol}
+use Rattle.graphql_schema_tree.specs.{members_symbol, enum_value_symbol, description_of, input_value_of, field_of, enum_value_of, interfaces_of, members_of}
+use Rattle.graphql_schema_tree.specs.{body_of, description_layout, inline_layout, later_names, joined_names, interfaces_layout, members_layout, block_layout}
+use Rattle.graphql_schema_tree.specs.{input_value_layout, arguments_layout, input_field_layout, field_layout, enum_value_layout, body_layout}
+use Rattle.graphql_schema_tree.specs.{IsPrintableInputValue, IsPrintableField, IsPrintableEnumValue, ArePrintableParts, IsPrintableBody, input_value_brackets}
+use Rattle.graphql_schema_tree.specs.{field_brackets, enum_value_brackets, parts_brackets, body_brackets, IsLawfulInputValue, IsLawfulField, IsLawfulEnumValue}
+use Rattle.graphql_schema_tree.specs.{AreLawfulParts, IsLawfulBody, enum_values_symbol, input_fields_symbol}
+use Rattle.graphql_schema_tree.specs.Grammar.{schema}
 use Rattle.graphql_schema_tree.proofs.Readable.{shares, tested_alike, written_goes_on}
 
 -- what is shared is read back in schemas too
@@ -102,7 +80,7 @@ pub braces_back : {e : Expr} {p : Bool} {d : ℕ} {lines : List Part} {P R : Sha
 braces_back margin room inside all = in_braces_back margin (λ p. refl) (λ p. refl) room inside all
 
 -- lines of which each is read back
-module _ {A : Type 0} (one : Expr) (f : Shape → A) (erase : A → A) (lines : A → List Part) (P Q : A → Type 0) (brackets : A → ℕ)
+module _ {A : Type 0} {one : Expr} (f : Shape → A) (erase : A → A) (lines : A → List Part) (P Q : A → Type 0) (brackets : A → ℕ)
     (each : (a : A) (d : ℕ) → P a → Q a → d + brackets a ≤ 50 → Back schema one false d (lines a) false d (λ x. erase (f x) ≡ erase a)) where
   later_lines_back : (vs : List A) (d : ℕ) → AllByRecursion P vs → AllByRecursion Q vs → d + most brackets vs ≤ 50
       → Back schema (Many one) false d (flat_map lines vs) false d (λ x. map erase (each_of f x) ≡ map erase vs)
@@ -111,12 +89,12 @@ module _ {A : Type 0} (one : Expr) (f : Shape → A) (erase : A → A) (lines : 
       more_back (each v d is law (omega arith)) (later_lines_back vs d are laws (omega arith)) (λ x y hx hy. ap₂ (λ t ts. t ∷ ts) hx hy)
 
   -- the lines of a symbol in braces, where there are any
-  block_back : (k : ℕ) → (row schema k).rule ≡ Then (punctuator (codes "{")) (Then (some_of one) (punctuator (codes "}")))
+  block_back : {k : ℕ} → (row schema k).rule ≡ Then (punctuator (codes "{")) (Then (some_of one) (punctuator (codes "}")))
       → ((x : Shape) → schema.check k x ≡ true)
       → (margin : ℕ) (vs : List A) (d : ℕ) → AllByRecursion P vs → AllByRecursion Q vs → d + most_enclosed brackets vs ≤ 50
       → Back schema (optional (Sym k)) true d (block_layout margin lines vs) false d (λ x. map erase (optional_list_of (enclosed_of f) x) ≡ map erase vs)
-  block_back k rule passes margin [] d is law deep = gap_back refl (second_back (nothing_back refl))
-  block_back k rule passes margin (v ∷ vs) d (is, are) (law, laws) deep =
+  block_back rule passes margin [] d is law deep = gap_back refl (second_back (nothing_back refl))
+  block_back {k} rule passes margin (v ∷ vs) d (is, are) (law, laws) deep =
       gap_back refl (first_back (node_back passes (subst (λ (e : Expr). Back schema e false d (in_braces margin (flat_map lines (v ∷ vs))) false d
       (λ x. map erase (enclosed_of f (Node k x)) ≡ map erase (v ∷ vs))) (sym rule)
       (braces_back {P = λ x. map erase (each_of f x) ≡ map erase (v ∷ vs)} margin (omega arith)
@@ -174,14 +152,9 @@ module _ (style : Layout) where
       → AllByRecursion IsLawfulInputValue vs → d + most_enclosed input_value_brackets vs ≤ 50
       → Back schema (optional (Sym argument_definitions_symbol)) true d (arguments_layout style margin vs) true d
       (λ x. map erase_input_value (optional_list_of (enclosed_of input_value_of) x) ≡ map erase_input_value vs)
-  argument_definitions_back margin [] d is law deep = second_back (nothing_back refl)
-  argument_definitions_back margin (v ∷ vs) d is law deep =
-      in_parentheses_back (input_value_layout style margin) v vs refl (λ x. refl) (λ p. refl) (λ p. refl) (omega arith)
-      (some_back (d + 1) (Sym input_value_symbol) input_value_of (each_of input_value_of) erase_input_value
-      (input_value_layout style margin) (λ t. IsPrintableInputValue t × IsLawfulInputValue t) input_value_brackets refl (λ x y. refl) (λ x y. refl)
-      (λ t h b. input_value_back margin t (d + 1) h.0 h.1 b) 44 (32 ∷ []) refl v vs
-      (both_of_each IsPrintableInputValue IsLawfulInputValue (v ∷ vs) is law) (omega arith))
-      (λ o x c h. h)
+  argument_definitions_back margin =
+      in_parentheses_back input_value_of erase_input_value (input_value_layout style margin) IsPrintableInputValue IsLawfulInputValue input_value_brackets
+      refl (λ x. refl) (λ p. refl) (λ p. refl) (input_value_back margin)
 
   input_field_back : (margin : ℕ) (v : InputValueTree) (d : ℕ) → IsPrintableInputValue v → IsLawfulInputValue v → d + input_value_brackets v ≤ 50
       → Back schema (Sym input_value_symbol) false d (input_field_layout style margin v) false d
@@ -211,25 +184,9 @@ module _ (style : Layout) where
   fields_back : (fs : List FieldTree) (d : ℕ) → AllByRecursion IsPrintableField fs → AllByRecursion IsLawfulField fs → d + most_enclosed field_brackets fs ≤ 50
       → Back schema (optional (Sym fields_symbol)) true d (block_layout 0 (field_layout style style.indent) fs) false d
       (λ x. map erase_field (optional_list_of (enclosed_of field_of) x) ≡ map erase_field fs)
-  fields_back fs d is law deep =
-      block_back (Sym field_symbol) field_of erase_field (field_layout style style.indent) IsPrintableField IsLawfulField field_brackets
-      (field_back style.indent) fields_symbol refl (λ x. refl) 0 fs d is law deep
-
-  enum_values_back : (vs : List EnumValueTree) (d : ℕ) → AllByRecursion IsPrintableEnumValue vs → AllByRecursion IsLawfulEnumValue vs
-      → d + most_enclosed enum_value_brackets vs ≤ 50
-      → Back schema (optional (Sym enum_values_symbol)) true d (block_layout 0 (enum_value_layout style style.indent) vs) false d
-      (λ x. map erase_enum_value (optional_list_of (enclosed_of enum_value_of) x) ≡ map erase_enum_value vs)
-  enum_values_back vs d is law deep =
-      block_back (Sym enum_value_symbol) enum_value_of erase_enum_value (enum_value_layout style style.indent) IsPrintableEnumValue IsLawfulEnumValue
-      enum_value_brackets (enum_value_back style.indent) enum_values_symbol refl (λ x. refl) 0 vs d is law deep
-
-  input_fields_back : (fs : List InputValueTree) (d : ℕ) → AllByRecursion IsPrintableInputValue fs → AllByRecursion IsLawfulInputValue fs
-      → d + most_enclosed input_value_brackets fs ≤ 50
-      → Back schema (optional (Sym input_fields_symbol)) true d (block_layout 0 (input_field_layout style style.indent) fs) false d
-      (λ x. map erase_input_value (optional_list_of (enclosed_of input_value_of) x) ≡ map erase_input_value fs)
-  input_fields_back fs d is law deep =
-      block_back (Sym input_value_symbol) input_value_of erase_input_value (input_field_layout style style.indent) IsPrintableInputValue IsLawfulInputValue
-      input_value_brackets (input_field_back style.indent) input_fields_symbol refl (λ x. refl) 0 fs d is law deep
+  fields_back =
+      block_back field_of erase_field (field_layout style style.indent) IsPrintableField IsLawfulField field_brackets (field_back style.indent)
+      refl (λ x. refl) 0
 
   parts_back : (n : List ℕ) (ds : List DirectiveTree) (parts : PartsTree) (d : ℕ) → IsName n → AllByRecursion IsPrintableDirective ds
       → ArePrintableParts parts → AreLawfulDirectives ds → AreLawfulParts parts → d + directives_brackets ds ≤ 50 → d + parts_brackets parts ≤ 50
@@ -258,12 +215,16 @@ module _ (style : Layout) where
   parts_back n ds (enum vs) d is dir are dirlaw law deep inside =
       node_back (λ x. refl) (second_back (second_back (second_back (second_back (first_back (node_back (λ x. refl) (four_back {P = Any}
       (word_back (name_word (codes "enum") (refl, refl)) (λ p. refl) (λ t e. tt)) (gap_back refl (named_back n d is))
-      (directives_in 0 ds d dir dirlaw deep) (enum_values_back vs d are law inside)
+      (directives_in 0 ds d dir dirlaw deep) (block_back enum_value_of erase_enum_value
+      (enum_value_layout style style.indent) IsPrintableEnumValue IsLawfulEnumValue enum_value_brackets (enum_value_back style.indent)
+      refl (λ x. refl) 0 vs d are law inside)
       (λ x y z w hx hy hz hw. λ i. record { position = no_place; name = hy i; directives = hz i; parts = enum (hw i) }))))))))
   parts_back n ds (input fs) d is dir are dirlaw law deep inside =
       node_back (λ x. refl) (second_back (second_back (second_back (second_back (second_back (node_back (λ x. refl) (four_back {P = Any}
       (word_back (name_word (codes "input") (refl, refl)) (λ p. refl) (λ t e. tt)) (gap_back refl (named_back n d is))
-      (directives_in 0 ds d dir dirlaw deep) (input_fields_back fs d are law inside)
+      (directives_in 0 ds d dir dirlaw deep) (block_back input_value_of erase_input_value
+      (input_field_layout style style.indent) IsPrintableInputValue IsLawfulInputValue input_value_brackets (input_field_back style.indent)
+      refl (λ x. refl) 0 fs d are law inside)
       (λ x y z w hx hy hz hw. λ i. record { position = no_place; name = hy i; directives = hz i; parts = input (hw i) }))))))))
 
   pub body_back : (b : BodyTree) (d : ℕ) → IsPrintableBody b → IsLawfulBody b → d + body_brackets b ≤ 50

@@ -1,25 +1,16 @@
 -- Lists of trees, each of which is seen, and layouts in the pieces that are written.
-use Rattle.std.proofs.Common.{◌≡◌, ◌<◌, ◌+◌, ◌*◌, ◌++◌, ◌∙◌, [], ◌∷◌, Option, Some, ap, sym, refl, codes, ℕ, List, length, get_or, drop, map, max}
-use Rattle.std.proofs.Common.{append_assoc, arith, Bool, cond}
-use Rattle.std.specs.List.{flat_map}
+use Rattle.std.proofs.Common.{◌≡◌, ◌<◌, ◌+◌, ◌*◌, ◌++◌, ◌∙◌, [], ◌∷◌, Option, Some, ap, sym, refl, codes, ℕ, List, length, get_or, drop, map, max, append_assoc}
+use Rattle.std.proofs.Common.{arith, Bool, cond}
 use Rattle.std.proofs.lemmas.List.{at_drop_more}
 use Rattle.std.proofs.lemmas.List.Folds.{flat_map-map}
-use Rattle.graphql_core.specs.Style.{Layout, spaces}
-use Rattle.graphql_core.specs.Parts.{Part, text_of, name, gap}
-use Rattle.graphql_values.specs.Lines.{in_braces, default_layout}
-use Rattle.graphql_values.specs.TreeDepth.{most}
-use Rattle.graphql_values.specs.ValueLayout.{type_layout, directives_layout}
-use Rattle.graphql_values.proofs.Appending.{text_append}
-use Rattle.graphql_values.proofs.Enclosed.{narrower}
-use Rattle.graphql_values.proofs.Seen.{most_seen}
-use Rattle.graphql_schema_tree.specs.Tree.{InputValueTree, FieldTree, EnumValueTree, SchemaTree, BodyTree, DirectiveDefinitionTree, schema}
-use Rattle.graphql_schema_tree.specs.Tree.{schema_extension, has_operation}
-use Rattle.graphql_schema_tree.specs.Layout.{description_layout, inline_layout, between, later_names, joined_names, interfaces_layout, members_layout}
-use Rattle.graphql_schema_tree.specs.Layout.{locations_layout, input_value_layout, arguments_layout, input_field_layout, field_layout}
-use Rattle.graphql_schema_tree.specs.Layout.{enum_value_layout, block_layout, root_layout, roots_layout, repeatable_layout, keyword, interfaces}
-use Rattle.graphql_schema_tree.specs.Layout.{parts_layout, body_layout}
-use Rattle.graphql_values.specs.TreeDepth.{most_enclosed}
-use Rattle.graphql_schema_tree.specs.Layout.{directive_definition_layout, definition_layout}
+use Rattle.graphql_core.specs.{name}
+use Rattle.graphql_values.specs.{text_of, flat_map, Layout, spaces, Part, gap, in_braces, default_layout, most, type_layout, directives_layout, most_enclosed}
+use Rattle.graphql_values.proofs.{text_append, narrower, most_seen}
+use Rattle.graphql_schema_tree.specs.{InputValueTree, FieldTree, EnumValueTree, SchemaTree, BodyTree, DirectiveDefinitionTree, schema, schema_extension}
+use Rattle.graphql_schema_tree.specs.{has_operation, description_layout, inline_layout, between, later_names, joined_names, interfaces_layout, members_layout}
+use Rattle.graphql_schema_tree.specs.{locations_layout, input_value_layout, arguments_layout, input_field_layout, field_layout, enum_value_layout, block_layout}
+use Rattle.graphql_schema_tree.specs.{root_layout, roots_layout, repeatable_layout, keyword, interfaces, parts_layout, body_layout, directive_definition_layout}
+use Rattle.graphql_schema_tree.specs.{definition_layout}
 
 -- ---- names
 

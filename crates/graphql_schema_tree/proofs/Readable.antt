@@ -1,57 +1,18 @@
 -- The language of schemas is readable.
-use Rattle.std.proofs.Common.{codes, ◌≡◌, ◌<◌, ◌==◌, ◌&&◌, ℕ, zero, suc, Bool, true, false, List, [], ◌∷◌, length, drop, Option, Some}
-use Rattle.std.proofs.Common.{inl, inr, refl, sym, subst, ◌∙◌, arith}
-use Rattle.std.proofs.lemmas.Bool.{cases_Bool, and_parts, both_ways}
-use Rattle.std.proofs.lemmas.Bool.Decides.{nat_tests}
-use Rattle.graphql_grammar.specs.Tokens.{Token, Class, Spelled, AnyOf, Except}
-use Rattle.graphql_grammar.specs.Trees.{Expr, Empty, One, Then, Either, Many, Sym, Shape, Row, Grammar, row, row_at, optional, leaves}
-use Rattle.graphql_grammar.specs.Trees.{Fits, fits_both, fits_leaf, fits_first, fits_second}
-use Rattle.graphql_grammar.specs.Solve.{with_tables}
-use Rattle.graphql_grammar.specs.Tables.{is_ll1, is_tight, is_productive, has_samples}
-use Rattle.graphql_grammar.specs.Reading.{lax}
-use Rattle.graphql_grammar.specs.Factored.{EachIsSecond, change_at, written, with_rows}
-use Rattle.graphql_grammar.specs.Faults.{RefusesTokens}
-use Rattle.graphql_grammar.specs.Extended.{Extends, TestsAlike}
-use Rattle.graphql_grammar.proofs.SecondRules.{each_is_second, IsSecond-head}
-use Rattle.graphql_grammar.proofs.Unchanged.{unchanged_then}
-use Rattle.graphql_grammar.proofs.Extending.{with_more, alone_before}
-use Rattle.graphql_core.specs.Causes.{CauseText}
-use Rattle.graphql_core.specs.Source.{FaultText}
-use Rattle.graphql_values.specs.Grammar.{shared, tables as core_tables, shared_symbols, word}
-use Rattle.graphql_values.specs.Leaves.{unquoted, is_good as leaves_good}
-use Rattle.graphql_values.specs.Language.{reading}
-use Rattle.graphql_values.proofs.Faults.{none_there}
-use Rattle.graphql_values.proofs.Readable.{IsReadable, shared_rows, one_cause}
-use Rattle.graphql_schema_tree.specs.Locations.{location_of}
-use Rattle.graphql_schema_tree.specs.Grammar.{schema, is_good, rules, second_rules, second_rows, tables, changes, passes}
-use Rattle.graphql_schema_tree.specs.Grammar.{document_symbol, schema_symbol, extension_symbol, described_symbol, description_symbol, type_body_symbol}
-use Rattle.graphql_schema_tree.specs.Grammar.{directive_definition_symbol, schema_extension_symbol}
-use Rattle.graphql_schema_tree.proofs.SecondItems.{IsSecond-description}
-use Rattle.graphql_schema_tree.specs.Language.{schemas, Lacks, said_of}
-
-ll1 : is_ll1 second_rows ≡ true
-unfolding tables core_tables
-ll1 = refl
-
-tight : is_tight second_rows ≡ true
-unfolding tables core_tables
-tight = refl
-
-productive : is_productive (reading schemas) ≡ true
-unfolding tables core_tables unquoted
-productive = refl
-
-productive_lax : is_productive (with_rows (lax schema) second_rows changes) ≡ true
-unfolding tables core_tables unquoted
-productive_lax = refl
-
-samples : has_samples (reading schemas) (Sym document_symbol) ≡ true
-unfolding tables core_tables unquoted
-samples = refl
-
-samples_lax : has_samples (with_rows (lax schema) second_rows changes) (Sym document_symbol) ≡ true
-unfolding tables core_tables unquoted
-samples_lax = refl
+use Rattle.std.proofs.Common.{codes, ◌≡◌, ◌<◌, ◌==◌, ◌&&◌, ℕ, zero, suc, Bool, true, false, List, [], ◌∷◌, length, drop, Option, Some, inl, inr, refl, sym}
+use Rattle.std.proofs.Common.{subst, ◌∙◌, arith}
+use Rattle.std.proofs.lemmas.Bool.{both_ways}
+use Rattle.graphql_grammar.proofs.{each_is_second, IsSecond-head, unchanged_then, with_more, alone_before, IsSecond-sides}
+use Rattle.graphql_core.specs.{Grammar}
+use Rattle.graphql_values.specs.{Token, Class, Spelled, AnyOf, Except, Expr, Empty, One, Then, Either, Many, Sym, Shape, Row, row, row_at, optional, leaves}
+use Rattle.graphql_values.specs.{Fits, fits_both, fits_leaf, fits_first, fits_second, with_tables, EachIsSecond, change_at, written, RefusesTokens, Extends}
+use Rattle.graphql_values.specs.{TestsAlike, CauseText, FaultText, shared, tables as core_tables, shared_symbols, word, unquoted, is_good as leaves_good}
+use Rattle.graphql_values.specs.{reading}
+use Rattle.graphql_values.proofs.{cases_Bool, and_parts, nat_tests, none_there, IsReadable, shared_rows, one_cause}
+use Rattle.graphql_schema_tree.specs.{location_of, is_good, rules, second_rules, second_rows, tables, changes, passes, schema_symbol, extension_symbol}
+use Rattle.graphql_schema_tree.specs.{described_symbol, description_symbol, type_body_symbol, directive_definition_symbol, schema_extension_symbol, schemas}
+use Rattle.graphql_schema_tree.specs.{Lacks, said_of}
+use Rattle.graphql_schema_tree.specs.Grammar.{schema}
 
 -- ---- the second rules have the trees of the written ones, whatever is tested
 
@@ -65,7 +26,7 @@ each good check pass =
     let described : Expr = optional (Sym description_symbol) in
     each_is_second g second_rows changes (shared_rows g second_rows changes shared.rows ws qs (drop shared_symbols changes)
     (unchanged_then g second_rows changes 1 ws qs (drop 12 changes) refl (
-      IsSecond-description g second_rows changes described_symbol described (Sym schema_symbol) (Sym extension_symbol) (Sym type_body_symbol)
+      IsSecond-sides g second_rows changes described_symbol described (Sym schema_symbol) (Sym extension_symbol) (Sym type_body_symbol)
           (Sym directive_definition_symbol) refl refl (λ x. refl) pass,
       unchanged_then g second_rows changes 2 (drop 2 ws) (drop 2 qs) (drop 15 changes) refl (
         IsSecond-head g second_rows changes (word (codes "extend")) (Sym type_body_symbol) (Sym schema_extension_symbol),
@@ -177,15 +138,15 @@ same_fault : (o : Option FaultText) (f g : FaultText) → o ≡ Some f → o ≡
 same_fault o f g p q = cc
 
 pub readable : IsReadable schemas
-unfolding tables
+unfolding tables core_tables unquoted
 readable = record {
-  ll1 = ll1;
-  tight = tight;
-  productive = productive;
-  productive_lax = productive_lax;
+  ll1 = refl;
+  tight = refl;
+  productive = refl;
+  productive_lax = refl;
   decides = refl;
-  samples = samples;
-  samples_lax = samples_lax;
+  samples = refl;
+  samples_lax = refl;
   each = each _ _ (λ x. refl);
   each_unchecked = each _ _ (λ x. refl);
   each_lax = each _ _ (λ x. refl);

@@ -1,71 +1,20 @@
 -- What schemas mean but for positions does not hang on places, and neither do the tests of their nodes and the causes for which they are refused.
-use Rattle.std.proofs.Common.{◌≡◌, ◌==◌, ℕ, Bool, true, false, not, cond, if◌then◌else◌, List, [], ◌∷◌, map, Option, Some, None, is_some, option_map}
-use Rattle.std.proofs.Common.{codes, refl, sym, ap, ◌∙◌}
-use Rattle.graphql_grammar.specs.Tokens.{Token, Class, Spelled, AnyOf, Except, same_spelling}
-use Rattle.graphql_grammar.specs.Trees.{Shape, Both, First, Second, More, Node, accepts}
-use Rattle.graphql_core.specs.Causes.{CauseText, empty_extension}
-use Rattle.graphql_core.specs.Minified.{unplaced}
-use Rattle.graphql_core.specs.Source.{FaultText}
-use Rattle.graphql_values.specs.Leaves.{string_of, block_string_of}
-use Rattle.graphql_values.specs.Values.{no_place, erase_all}
-use Rattle.graphql_values.specs.Meanings.{spelling_at, directives_of}
-use Rattle.graphql_values.proofs.Bare.{bare}
-use Rattle.graphql_values.proofs.Unplaced.{IgnoresPlaces, spelling_bare, type_bare, optional_default_bare, directives_bare}
-use Rattle.graphql_values.proofs.FaultsAlike.{RefusesAlike, valueless_alike}
-use Rattle.graphql_schema_tree.specs.Locations.{location_of}
-use Rattle.graphql_schema_tree.specs.Tree.{PartsTree, object, interface, union, enum, input, BodyTree, SchemaTree, extends}
-use Rattle.graphql_schema_tree.specs.Tree.{schema, type_definition, extension, schema_extension, directive, erase_input_value, erase_field, erase_enum_value}
-use Rattle.graphql_schema_tree.specs.Tree.{erase_schema, erase_body, erase_directive, erase_definition, erase}
-use Rattle.graphql_schema_tree.specs.Meanings.{is_there, optional_of, optional_list_of, each_of, enclosed_of, marked_of, joined_of, description_of}
-use Rattle.graphql_schema_tree.specs.Meanings.{input_value_of, field_of, enum_value_of, interfaces_of, members_of, root_of, schema_of, schema_extension_of}
-use Rattle.graphql_schema_tree.specs.Meanings.{scalar_of, object_of, interface_of, union_of, enum_of, input_of, body_of, location_at, present, locations_of}
-use Rattle.graphql_schema_tree.specs.Meanings.{directive_definition_of, extension_of, described_of, item_of, document_of}
-use Rattle.graphql_schema_tree.specs.Roots.{RootFault, root_cause, root_fault, roots_of, roots_in, root_fault_of, extension_fault_of}
-use Rattle.graphql_schema_tree.specs.Grammar as grammar
-use Rattle.graphql_schema_tree.specs.Language.{Lacks, said_at, keyword_of, said_of, schemas}
+use Rattle.std.proofs.Common.{◌≡◌, ◌==◌, ℕ, Bool, true, false, not, if◌then◌else◌, List, [], ◌∷◌, map, Option, Some, None, is_some, option_map, codes, refl}
+use Rattle.std.proofs.Common.{sym, ap, ◌∙◌, cond}
+use Rattle.graphql_values.specs.{Token, Class, Spelled, AnyOf, Except, Shape, Both, First, Second, Node, accepts, CauseText, empty_extension, unplaced}
+use Rattle.graphql_values.specs.{FaultText, string_of, block_string_of, no_place, erase_all, spelling_at, directives_of, optional_of, optional_list_of}
+use Rattle.graphql_values.specs.{enclosed_of, same_spelling, More}
+use Rattle.graphql_values.proofs.{each_same, enclosed_same, bare, IgnoresPlaces, spelling_bare, type_bare, optional_default_bare, directives_bare, RefusesAlike}
+use Rattle.graphql_values.proofs.{valueless_alike, Ignores, there_bare, optional_bare, optional_list_bare, each_bare, enclosed_bare, joined_bare}
+use Rattle.graphql_schema_tree.specs.{schema_by, Root, root_at, roots_of, roots_in, type_in, location_of, PartsTree, object, interface, union, enum, input}
+use Rattle.graphql_schema_tree.specs.{BodyTree, SchemaTree, extends, schema, type_definition, extension, schema_extension, directive, erase_input_value}
+use Rattle.graphql_schema_tree.specs.{erase_field, erase_enum_value, erase_schema, erase_body, erase_directive, erase_definition, erase, description_of}
+use Rattle.graphql_schema_tree.specs.{input_value_of, field_of, enum_value_of, interfaces_of, members_of, schema_of, schema_extension_of, scalar_of, object_of}
+use Rattle.graphql_schema_tree.specs.{interface_of, union_of, enum_of, input_of, body_of, location_at, present, locations_of, directive_definition_of}
+use Rattle.graphql_schema_tree.specs.{extension_of, described_of, item_of, document_of, RootFault, root_cause, root_fault, root_fault_of, extension_fault_of}
+use Rattle.graphql_schema_tree.specs.{Lacks, said_at, keyword_of, said_of, schemas}
 use Rattle.graphql_schema_tree.proofs.Adding.{extends_alike}
-
--- ---- optional parts and lists
-
--- what shapes mean, but for what is left out, does not hang on places
-abbrev Ignores : {A B : Type 0} → (A → B) → (Shape → A) → Type 0
-Ignores erased f = (x : Shape) → erased (f (bare x)) ≡ erased (f x)
-
-there_bare : (x : Shape) → is_there (bare x) ≡ is_there x
-there_bare (First x) = refl
-there_bare _ = refl
-
-optional_bare : {A : Type 0} (f : Shape → A) → ((x : Shape) → f (bare x) ≡ f x) → (x : Shape) → optional_of f (bare x) ≡ optional_of f x
-optional_bare f same (First x) = ap Some (same x)
-optional_bare f same _ = refl
-
-optional_list_bare : {A B : Type 0} (erased : List A → B) (f : Shape → List A) → Ignores erased f → Ignores erased (optional_list_of f)
-optional_list_bare erased f same (First x) = same x
-optional_list_bare erased f same _ = refl
-
-each_bare : {A B : Type 0} (erased : A → B) (f : Shape → A) → Ignores erased f → Ignores (map erased) (each_of f)
-each_bare erased f same (Both x xs) = λ i. same x i ∷ each_bare erased f same xs i
-each_bare erased f same (More x xs) = λ i. same x i ∷ each_bare erased f same xs i
-each_bare erased f same _ = refl
-
-enclosed_bare : {A B : Type 0} (erased : A → B) (f : Shape → A) → Ignores erased f → Ignores (map erased) (enclosed_of f)
-enclosed_bare erased f same (Node k (Both o (Both xs c))) = each_bare erased f same xs
-enclosed_bare erased f same _ = refl
-
--- what has no positions is the same as it is
-module _ {A : Type 0} (f : Shape → A) (none : A) (same : (x : Shape) → f (bare x) ≡ f x) where
-  marked_bare : (x : Shape) → marked_of f none (bare x) ≡ marked_of f none x
-  marked_bare (Both m x) = same x
-  marked_bare _ = refl
-
-  each_marked_bare : (x : Shape) → each_of (marked_of f none) (bare x) ≡ each_of (marked_of f none) x
-  each_marked_bare (Both x xs) = λ i. marked_bare x i ∷ each_marked_bare xs i
-  each_marked_bare (More x xs) = λ i. marked_bare x i ∷ each_marked_bare xs i
-  each_marked_bare _ = refl
-
-  joined_bare : (x : Shape) → joined_of f none (bare x) ≡ joined_of f none x
-  joined_bare (Both m (Both x xs)) = λ i. same x i ∷ each_marked_bare xs i
-  joined_bare _ = refl
+use Rattle.graphql_schema_tree.specs.Grammar as grammar
 
 -- ---- parts of definitions
 
@@ -131,50 +80,40 @@ optional_members_bare = optional_list_bare (λ l. l) members_of members_bare
 
 -- ---- schemas
 
-root_bare : (word : List ℕ) (x : Shape) → root_of word (bare x) ≡ root_of word x
-root_bare word (More (Node k (Both n (Both c t))) more) =
-    λ i. cond (same_spelling word (spelling_bare n i)) (Some (spelling_bare t i)) (root_bare word more i)
-root_bare word _ = refl
-
-schema_bare : Ignores erase_schema schema_of
-schema_bare (Node k (Both w (Both ds (Both o (Both roots c))))) =
-    λ i. record {
-      position = no_place;
-      directives = directives_bare ds i;
-      query = root_bare (codes "query") roots i;
-      mutation = root_bare (codes "mutation") roots i;
-      subscription = root_bare (codes "subscription") roots i;
-    }
-schema_bare _ = refl
-
-roots_in_bare : (x : Shape) → roots_in (bare x) ≡ bare (roots_in x)
-roots_in_bare (First (Node k (Both o (Both (Both x xs) c)))) = refl
-roots_in_bare _ = refl
-
-root_in_bare : (word : List ℕ) (x : Shape) → root_of word (roots_in (bare x)) ≡ root_of word (roots_in x)
-root_in_bare word x = ap (root_of word) (roots_in_bare x) ∙ root_bare word (roots_in x)
-
-schema_extension_bare : Ignores erase_schema schema_extension_of
-schema_extension_bare (Node k (Both w (Both ds rs))) =
-    λ i. record {
-      position = no_place;
-      directives = directives_bare ds i;
-      query = root_in_bare (codes "query") rs i;
-      mutation = root_in_bare (codes "mutation") rs i;
-      subscription = root_in_bare (codes "subscription") rs i;
-    }
-schema_extension_bare _ = refl
+root_bare : (x : Shape) → root_at (bare x) ≡ root_at x
+root_bare (Node k (Both n (Both c t))) = λ i. record { name = spelling_bare n i; type_name = spelling_bare t i }
+root_bare _ = refl
 
 roots_bare : (x : Shape) → roots_of (bare x) ≡ roots_of x
-roots_bare (More (Node k (Both n (Both c t))) more) = λ i. spelling_bare n i ∷ roots_bare more i
-roots_bare _ = refl
+roots_bare = each_same root_at root_bare
+
+roots_in_bare : (x : Shape) → roots_in (bare x) ≡ roots_in x
+roots_in_bare = optional_list_bare (λ rs. rs) (enclosed_of root_at) (enclosed_same root_at root_bare)
+
+schema_by_bare : (v w ds : Shape) {rs qs : List Root} → rs ≡ qs → erase_schema (schema_by v (bare ds) rs) ≡ erase_schema (schema_by w ds qs)
+schema_by_bare v w ds same =
+    λ i. record {
+      position = no_place;
+      directives = directives_bare ds i;
+      query = type_in (same i) (codes "query");
+      mutation = type_in (same i) (codes "mutation");
+      subscription = type_in (same i) (codes "subscription");
+    }
+
+schema_bare : Ignores erase_schema schema_of
+schema_bare (Node k (Both w (Both ds (Both o (Both roots c))))) = schema_by_bare (bare w) w ds (roots_bare roots)
+schema_bare _ = refl
+
+schema_extension_bare : Ignores erase_schema schema_extension_of
+schema_extension_bare (Node k (Both w (Both ds rs))) = schema_by_bare (bare w) w ds (roots_in_bare rs)
+schema_extension_bare _ = refl
 
 root_fault_bare : (x : Shape) → root_fault_of (bare x) ≡ root_fault_of x
 root_fault_bare (Both w (Both ds (Both o (Both roots c)))) = ap (root_fault []) (roots_bare roots)
 root_fault_bare _ = refl
 
 extension_fault_bare : (x : Shape) → extension_fault_of (bare x) ≡ extension_fault_of x
-extension_fault_bare (Both w (Both ds rs)) = ap (λ x. root_fault [] (roots_of x)) (roots_in_bare rs) ∙ ap (root_fault []) (roots_bare (roots_in rs))
+extension_fault_bare (Both w (Both ds rs)) = ap (root_fault []) (roots_in_bare rs)
 extension_fault_bare _ = refl
 
 -- ---- types

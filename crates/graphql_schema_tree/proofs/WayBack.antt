@@ -1,91 +1,48 @@
 -- The layouts of schema documents are read back, up to positions.
-use Rattle.std.proofs.Common.{◌≡◌, ℕ, ◌≤◌, Bool, true, false, not, ◌||◌, cond, List, [], ◌∷◌, ◌++◌, Option, Some, None, is_some, codes, map}
-use Rattle.std.proofs.Common.{refl, sym, ap, ap₂, subst, ◌∙◌, arith, append-nil}
-use Rattle.std.specs.List.{AllByRecursion}
-use Rattle.std.specs.Option.{IfSome}
-use Rattle.graphql_grammar.specs.Tokens.{same_spelling}
-use Rattle.graphql_grammar.specs.Trees.{Many, Sym, Shape, Both, First, Stop, More, Node, optional, some_of, row}
-use Rattle.graphql_lexer.specs.Lexical.{IsName}
-use Rattle.graphql_core.specs.Style.{Layout}
-use Rattle.graphql_core.specs.Parts.{Part, name, gap}
-use Rattle.graphql_core.proofs.Back.{Back, Any, same_parts, means, margin_back, gap_back, then_gap, word_back, mark_back}
-use Rattle.graphql_core.proofs.Back.{nothing_back, both_back, first_back, second_back, node_back, checked_back, stop_back, more_back, three_back}
-use Rattle.graphql_core.proofs.Back.{seven_back}
-use Rattle.graphql_values.specs.Grammar.{word}
-use Rattle.graphql_values.specs.Meanings.{spelling_at, directives_of}
-use Rattle.graphql_values.specs.TreeDepth.{most_enclosed}
-use Rattle.graphql_values.specs.Values.{no_place, erase_all}
-use Rattle.graphql_values.proofs.LeavesBack.{name_word}
-use Rattle.graphql_values.proofs.ValuesBack.{spaces_blank}
-use Rattle.graphql_values.proofs.ListsBack.{both_of_each, some_back, document_back}
+use Rattle.std.proofs.Common.{◌≡◌, ℕ, ◌≤◌, Bool, true, false, not, ◌||◌, cond, List, [], ◌∷◌, ◌++◌, Option, Some, None, is_some, codes, map, refl, sym, ap, ap₂}
+use Rattle.std.proofs.Common.{subst, ◌∙◌, arith, append-nil}
+use Rattle.graphql_core.specs.{name}
+use Rattle.graphql_core.proofs.{same_parts, checked_back, seven_back}
+use Rattle.graphql_values.specs.{AllByRecursion, IfSome, Many, Sym, Shape, Both, Node, optional, some_of, row, IsName, Layout, Part, gap, word, directives_of}
+use Rattle.graphql_values.specs.{most_enclosed, no_place, erase_all, AreLawfulDirectives, directives_brackets, directives_layout, has_any, is_there, each_of}
+use Rattle.graphql_values.specs.{same_spelling, First, Stop, More, spelling_at, AreReadBack}
+use Rattle.graphql_values.proofs.{Back, Any, means, margin_back, gap_back, then_gap, word_back, mark_back, nothing_back, both_back, first_back, second_back}
+use Rattle.graphql_values.proofs.{node_back, stop_back, more_back, three_back, name_word, spaces_blank, both_of_each, some_back, document_back}
+use Rattle.graphql_schema_tree.specs.{schema_by, Root, root_at, roots_of, roots_in, type_in, item_symbol, schema_symbol, root_type_symbol, extension_symbol}
+use Rattle.graphql_schema_tree.specs.{directive_definition_symbol, locations_symbol, location_symbol, schema_extension_symbol, roots_symbol, schemas}
+use Rattle.graphql_schema_tree.specs.{IsReadBack, IsLawfulInputValue, IsLawfulBody, IsLawfulDefinition, IsLawfulDocument, joined_names, root_layout}
+use Rattle.graphql_schema_tree.specs.{roots_layout, schema_layout, repeatable_layout, directive_definition_layout, definition_layout, layout, word_of}
+use Rattle.graphql_schema_tree.specs.{location_of, is_location, schema_of, schema_extension_of, location_at, present, locations_of, directive_definition_of}
+use Rattle.graphql_schema_tree.specs.{extension_of, item_of, IsPrintable, IsPrintableSchema, IsPrintableBody, IsPrintableDefinition, IsWholeDefinition}
+use Rattle.graphql_schema_tree.specs.{IsPrintableInputValue, input_value_brackets, body_brackets, definition_brackets, RootFault, root_fault, root_fault_of}
+use Rattle.graphql_schema_tree.specs.{extension_fault_of, InputValueTree, SchemaTree, BodyTree, DirectiveDefinitionTree, DefinitionTree, schema}
+use Rattle.graphql_schema_tree.specs.{type_definition, extension, schema_extension, directive, DocumentTree, adds, has_operation, adds_to_schema, extends}
+use Rattle.graphql_schema_tree.specs.{erase_schema, erase_body, erase_directive, erase_definition}
 use Rattle.graphql_schema_tree.specs.declared.location.DirectiveLocation.{DirectiveLocation}
-use Rattle.graphql_schema_tree.specs.Grammar.{schema as the_grammar, item_symbol, schema_symbol, root_type_symbol, extension_symbol}
-use Rattle.graphql_schema_tree.specs.Grammar.{directive_definition_symbol, locations_symbol, location_symbol, schema_extension_symbol, roots_symbol}
-use Rattle.graphql_schema_tree.specs.Language.{schemas, IsReadBack}
-use Rattle.graphql_values.specs.Lawful.{AreLawfulDirectives}
-use Rattle.graphql_values.specs.Printable.{directives_brackets}
-use Rattle.graphql_values.specs.ValueLayout.{directives_layout}
-use Rattle.graphql_schema_tree.specs.Lawful.{IsLawfulInputValue, IsLawfulBody, IsLawfulDefinition, IsLawfulDocument}
-use Rattle.graphql_schema_tree.specs.Layout.{joined_names, root_layout, roots_layout, schema_layout, repeatable_layout}
-use Rattle.graphql_schema_tree.specs.Layout.{directive_definition_layout, definition_layout, layout}
-use Rattle.graphql_schema_tree.specs.Locations.{word_of, location_of, is_location}
-use Rattle.graphql_schema_tree.specs.Meanings.{is_there, each_of, root_of, schema_of, schema_extension_of, location_at, present, locations_of}
-use Rattle.graphql_schema_tree.specs.Meanings.{directive_definition_of, extension_of, item_of}
-use Rattle.graphql_schema_tree.specs.Printable.{IsPrintable, IsPrintableSchema, IsPrintableBody, IsPrintableDefinition, IsWholeDefinition}
-use Rattle.graphql_schema_tree.specs.Printable.{IsPrintableInputValue, input_value_brackets, body_brackets, definition_brackets}
-use Rattle.graphql_schema_tree.specs.Roots.{roots_of, roots_in, RootFault, root_fault, root_fault_of, extension_fault_of}
-use Rattle.graphql_schema_tree.specs.Tree.{InputValueTree, SchemaTree, BodyTree}
-use Rattle.graphql_schema_tree.specs.Tree.{DirectiveDefinitionTree, DefinitionTree, schema, type_definition, extension, schema_extension, directive}
-use Rattle.graphql_schema_tree.specs.Tree.{DocumentTree, adds, has_operation, adds_to_schema, extends}
-use Rattle.graphql_values.specs.TreeDepth.{has_any}
-use Rattle.graphql_schema_tree.specs.Tree.{erase_schema, erase_body, erase_directive, erase_definition}
+use Rattle.graphql_schema_tree.specs.Grammar.{schema as the_grammar}
 use Rattle.graphql_schema_tree.proofs.Adding.{extends_alike}
 use Rattle.graphql_schema_tree.proofs.LocationWords.{location_named, location_name}
 use Rattle.graphql_schema_tree.proofs.PartsBack.{named_back, joined_back, braces_back, directives_in, description_back, argument_definitions_back, body_back}
+use Rattle.graphql_schema_tree.proofs.Readable.{readable}
+use Rattle.graphql_schema_tree.proofs.NoPositions.{layout_alike}
+use Rattle.graphql_values.proofs.RoundTrip as round
 
 -- ---- schemas
 
--- the names of operations, each with its type
-abbrev Roots : Type 0
-Roots = List (List ℕ × List ℕ)
-
--- one before others, where it is there
-abbrev root : List ℕ → Option (List ℕ) → Roots → Roots
+-- the operations that a schema names: one before others, where it is there
+abbrev root : List ℕ → Option (List ℕ) → List Root → List Root
 root w None rs = rs
-root w (Some n) rs = (w, n) ∷ rs
+root w (Some n) rs = record { name = w; type_name = n } ∷ rs
 
-abbrev roots : Option (List ℕ) → Option (List ℕ) → Option (List ℕ) → Roots
+abbrev roots : Option (List ℕ) → Option (List ℕ) → Option (List ℕ) → List Root
 roots q m s = root (codes "query") q (root (codes "mutation") m (root (codes "subscription") s []))
 
--- this shape is of one, and of all of them
-abbrev IsRoot : List ℕ → List ℕ → Shape → Type 0
-IsRoot w n x = (a : Shape) × (c : Shape) × (t : Shape) × (x ≡ Node root_type_symbol (Both a (Both c t))) × (spelling_at a ≡ w) × (spelling_at t ≡ n)
+-- each has its type, and none is refused
+abbrev HasTypes : (q m s : Option (List ℕ)) → List Root → Type 0
+HasTypes q m s rs = (type_in rs (codes "query") ≡ q) × (type_in rs (codes "mutation") ≡ m) × (type_in rs (codes "subscription") ≡ s)
+    × (root_fault [] rs ≡ None)
 
-abbrev AreRoots : Roots → Shape → Type 0
-AreRoots [] x = x ≡ Stop
-AreRoots (r ∷ rs) x = (y : Shape) × (more : Shape) × (x ≡ More y more) × IsRoot r.0 r.1 y × AreRoots rs more
-
-abbrev type_among : List ℕ → Roots → Option (List ℕ)
-type_among word [] = None
-type_among word (r ∷ rs) = cond (same_spelling word r.0) (Some r.1) (type_among word rs)
-
--- what a shape of them answers is told by the list
-answered_by : (rs : Roots) (x : Shape) → AreRoots rs x → ((word : List ℕ) → root_of word x ≡ type_among word rs) × (roots_of x ≡ map (λ r. r.0) rs)
-answered_by [] x is = (λ word. ap (root_of word) is, ap roots_of is)
-answered_by (r ∷ rs) x (y, more, is, (a, c, t, of, at, type), others) =
-    let (types, names) = answered_by rs more others in
-    let same : x ≡ More (Node root_type_symbol (Both a (Both c t))) more = is ∙ ap (λ z. More z more) of in (
-      λ word. ap (root_of word) same ∙ (λ i. cond (same_spelling word (at i)) (Some (type i)) (types word i)),
-      ap roots_of same ∙ ap₂ (λ n ns. n ∷ ns) at names,
-    )
-
--- each operation has its type, and none is refused
-abbrev HasRoots : (q m s : Option (List ℕ)) → Shape → Type 0
-HasRoots q m s x = (root_of (codes "query") x ≡ q) × (root_of (codes "mutation") x ≡ m) × (root_of (codes "subscription") x ≡ s)
-    × (root_fault [] (roots_of x) ≡ None)
-
-each_answered : (q m s : Option (List ℕ)) → (type_among (codes "query") (roots q m s) ≡ q) × (type_among (codes "mutation") (roots q m s) ≡ m)
-    × (type_among (codes "subscription") (roots q m s) ≡ s) × (root_fault [] (map (λ r. r.0) (roots q m s)) ≡ None)
+each_answered : (q m s : Option (List ℕ)) → HasTypes q m s (roots q m s)
 each_answered None None None = (refl, refl, refl, refl)
 each_answered None None (Some s) = (refl, refl, refl, refl)
 each_answered None (Some m) None = (refl, refl, refl, refl)
@@ -95,13 +52,20 @@ each_answered (Some q) None (Some s) = (refl, refl, refl, refl)
 each_answered (Some q) (Some m) None = (refl, refl, refl, refl)
 each_answered (Some q) (Some m) (Some s) = (refl, refl, refl, refl)
 
-has_roots : (q m s : Option (List ℕ)) (x : Shape) → AreRoots (roots q m s) x → HasRoots q m s x
-has_roots q m s x are =
-    let (types, names) = answered_by (roots q m s) x are in
-    let (is, also, last, fault) = each_answered q m s in
-    (types (codes "query") ∙ is, types (codes "mutation") ∙ also, types (codes "subscription") ∙ last, ap (root_fault []) names ∙ fault)
+has_types : (q m s : Option (List ℕ)) {rs : List Root} → rs ≡ roots q m s → HasTypes q m s rs
+has_types q m s is = subst (HasTypes q m s) (sym is) (each_answered q m s)
+
+-- so a schema of them, or an extension of it, passes, and is this one
+by_roots : (s : SchemaTree) (w x : Shape) {rs : List Root} → erase_all (directives_of x) ≡ erase_all s.directives
+    → rs ≡ roots s.query s.mutation s.subscription → (root_fault [] rs ≡ None) × (erase_schema (schema_by w x rs) ≡ erase_schema s)
+by_roots s w x same is =
+    let has = has_types s.query s.mutation s.subscription is in
+    (has.3, λ i. record { position = no_place; directives = same i; query = has.0 i; mutation = has.1 i; subscription = has.2 i })
 
 -- an operation's line
+abbrev IsRoot : List ℕ → List ℕ → Shape → Type 0
+IsRoot w n x = root_at x ≡ record { name = w; type_name = n }
+
 line_back : (margin : ℕ) (w n : List ℕ) (d : ℕ) → IsName w → IsName n
     → Back the_grammar (Sym root_type_symbol) false d (root_layout margin w (Some n)) false d (IsRoot w n)
 line_back margin w n d is named =
@@ -109,32 +73,33 @@ line_back margin w n d is named =
     (named_back w d is)
     (mark_back (codes ":") (refl, refl) (λ p. refl))
     (gap_back refl (then_gap 10 [] refl (named_back n d named)))
-    (λ a c t ha hc ht. (a, c, t, refl, ha, ht))))
+    (λ a c t ha hc ht. λ i. record { name = ha i; type_name = ht i })))
 
 -- where it is there, before those of others
-root_back : (margin : ℕ) (w : List ℕ) (n : Option (List ℕ)) (ps : List Part) (rs : Roots) (d : ℕ) → IsName w → IfSome n IsName
-    → Back the_grammar (Many (Sym root_type_symbol)) false d ps false d (AreRoots rs)
-    → Back the_grammar (Many (Sym root_type_symbol)) false d (root_layout margin w n ++ ps) false d (AreRoots (root w n rs))
+root_back : (margin : ℕ) (w : List ℕ) (n : Option (List ℕ)) (ps : List Part) (rs : List Root) (d : ℕ) → IsName w → IfSome n IsName
+    → Back the_grammar (Many (Sym root_type_symbol)) false d ps false d (λ x. roots_of x ≡ rs)
+    → Back the_grammar (Many (Sym root_type_symbol)) false d (root_layout margin w n ++ ps) false d (λ x. roots_of x ≡ root w n rs)
 root_back margin w None ps rs d is named more = more
-root_back margin w (Some n) ps rs d is named more = more_back (line_back margin w n d is named) more (λ x y hx hy. (x, y, refl, hx, hy))
+root_back margin w (Some n) ps rs d is named more = more_back (line_back margin w n d is named) more (λ x y hx hy. ap₂ (λ r qs. r ∷ qs) hx hy)
 
 module _ (margin : ℕ) where
   -- of the last two of them, and of all
   last_back : (s : Option (List ℕ)) (d : ℕ) → IfSome s IsName
-      → Back the_grammar (Many (Sym root_type_symbol)) false d (root_layout margin (codes "subscription") s) false d (AreRoots (roots None None s))
+      → Back the_grammar (Many (Sym root_type_symbol)) false d (root_layout margin (codes "subscription") s) false d
+      (λ x. roots_of x ≡ roots None None s)
   last_back s d b =
       let last : List Part = root_layout margin (codes "subscription") s in
       same_parts (last ++ []) last (sym (append-nil last)) (root_back margin (codes "subscription") s [] [] d (refl, refl) b (stop_back refl))
 
   later_back : (m s : Option (List ℕ)) (d : ℕ) → IfSome m IsName → IfSome s IsName
       → Back the_grammar (Many (Sym root_type_symbol)) false d (root_layout margin (codes "mutation") m
-      ++ root_layout margin (codes "subscription") s) false d (AreRoots (roots None m s))
+      ++ root_layout margin (codes "subscription") s) false d (λ x. roots_of x ≡ roots None m s)
   later_back m s d also b = root_back margin (codes "mutation") m _ _ d (refl, refl) also (last_back s d b)
 
   roots_back : (q m s : Option (List ℕ)) (d : ℕ) → IfSome q IsName → IfSome m IsName → IfSome s IsName
       → Back the_grammar (Many (Sym root_type_symbol)) false d (root_layout margin (codes "query") q
-      ++ (root_layout margin (codes "mutation") m ++ root_layout margin (codes "subscription") s)) false d (HasRoots q m s)
-  roots_back q m s d is also b = means (has_roots q m s) (root_back margin (codes "query") q _ _ d (refl, refl) is (later_back m s d also b))
+      ++ (root_layout margin (codes "mutation") m ++ root_layout margin (codes "subscription") s)) false d (λ x. roots_of x ≡ roots q m s)
+  roots_back q m s d is also b = root_back margin (codes "query") q _ _ d (refl, refl) is (later_back m s d also b)
 
 -- the parts of a node of this schema, which passes
 abbrev IsSchema : SchemaTree → Shape → Type 0
@@ -147,40 +112,30 @@ schema_back style s (ds, q, m, b) law deep =
     (three_back {P = Any} {R = λ z. (w x : Shape) → erase_all (directives_of x) ≡ erase_all s.directives → IsSchema s (Both w (Both x z))}
     (word_back (name_word (codes "schema") (refl, refl)) (λ p. refl) (λ t e. tt))
     (directives_in style 0 s.directives 0 ds law (omega arith))
-    (gap_back refl (braces_back 0 (omega arith) (roots_back style.indent s.query s.mutation s.subscription 1 q m b) (λ o y c hy w x hx. (
-      hy.3,
-      λ i. record { position = no_place; directives = hx i; query = hy.0 i; mutation = hy.1 i; subscription = hy.2 i },
-    ))))
+    (gap_back refl (braces_back 0 (omega arith) (roots_back style.indent s.query s.mutation s.subscription 1 q m b) (λ o y c hy w x hx. by_roots s w x hx hy)))
     (λ w x z hw hx hz. hz w x hx))
 
 -- ---- extensions of schemas
 
--- at least one operation, and what the shape of them answers
-abbrev AreSome : (q m s : Option (List ℕ)) → Shape → Type 0
-AreSome q m s z = (x : Shape) × (more : Shape) × (z ≡ Both x more) × AreRoots (roots q m s) (More x more)
-
-have_some : (q m s : Option (List ℕ)) (o z c : Shape) → AreSome q m s z → HasRoots q m s (roots_in (First (Node roots_symbol (Both o (Both z c)))))
-have_some q m s o z c (x, more, is, are) =
-    subst (λ (y : Shape). HasRoots q m s (roots_in (First (Node roots_symbol (Both o (Both y c)))))) (sym is) (has_roots q m s (More x more) are)
-
 module _ (style : Layout) where
   -- an operation before others
-  some_before : (w n : List ℕ) (ps : List Part) (rs : Roots) (d : ℕ) → IsName w → IsName n
-      → Back the_grammar (Many (Sym root_type_symbol)) false d ps false d (AreRoots rs)
+  some_before : (w n : List ℕ) (ps : List Part) (rs : List Root) (d : ℕ) → IsName w → IsName n
+      → Back the_grammar (Many (Sym root_type_symbol)) false d ps false d (λ x. roots_of x ≡ rs)
       → Back the_grammar (some_of (Sym root_type_symbol)) false d (root_layout style.indent w (Some n) ++ ps) false d
-      (λ z. (x : Shape) × (more : Shape) × (z ≡ Both x more) × AreRoots ((w, n) ∷ rs) (More x more))
+      (λ x. roots_of x ≡ root w (Some n) rs)
   some_before w n ps rs d is named more =
-      both_back (line_back style.indent w n d is named) more (λ x y hx hy. (x, y, refl, (x, y, refl, hx, hy)))
+      both_back (line_back style.indent w n d is named) more (λ x y hx hy. ap₂ (λ r qs. r ∷ qs) hx hy)
 
   filled_back : (q m s : Option (List ℕ)) → Back the_grammar (some_of (Sym root_type_symbol)) false 1 (root_layout style.indent (codes "query") q
-      ++ (root_layout style.indent (codes "mutation") m ++ root_layout style.indent (codes "subscription") s)) false 1 (AreSome q m s)
-      → Back the_grammar (optional (Sym roots_symbol)) true 0 (roots_layout style q m s) false 0 (λ x. HasRoots q m s (roots_in x))
-  filled_back q m s inside = gap_back refl (first_back (node_back (λ x. refl) (braces_back 0 (omega arith) inside (have_some q m s))))
+      ++ (root_layout style.indent (codes "mutation") m ++ root_layout style.indent (codes "subscription") s)) false 1
+      (λ x. roots_of x ≡ roots q m s)
+      → Back the_grammar (optional (Sym roots_symbol)) true 0 (roots_layout style q m s) false 0 (λ x. roots_in x ≡ roots q m s)
+  filled_back q m s inside = gap_back refl (first_back (node_back (λ x. refl) (braces_back 0 (omega arith) inside (λ o x c h. h))))
 
   operations_back : (q m s : Option (List ℕ)) → IfSome q IsName → IfSome m IsName → IfSome s IsName
       → Back the_grammar (optional (Sym roots_symbol)) true 0
-      (cond (is_some q || (is_some m || is_some s)) (roots_layout style q m s) (gap (codes "\n"))) false 0 (λ x. HasRoots q m s (roots_in x))
-  operations_back None None None is also b = gap_back refl (second_back (nothing_back (refl, refl, refl, refl)))
+      (cond (is_some q || (is_some m || is_some s)) (roots_layout style q m s) (gap (codes "\n"))) false 0 (λ x. roots_in x ≡ roots q m s)
+  operations_back None None None is also b = gap_back refl (second_back (nothing_back refl))
   operations_back (Some q) m s is also b =
       filled_back (Some q) m s (some_before (codes "query") q _ _ 1 (refl, refl) is (later_back style.indent m s 1 also b))
   operations_back None (Some m) s is also b =
@@ -205,7 +160,7 @@ after_extend_back style s (ds, q, m, b) law deep =
     (word_back (name_word (codes "schema") (refl, refl)) (λ p. refl) (λ t e. tt))
     (directives_in style 0 s.directives 0 ds law (omega arith))
     (operations_back style s.query s.mutation s.subscription q m b)
-    (λ w x z hw hx hz. (hz.3, λ i. record { position = no_place; directives = hx i; query = hz.0 i; mutation = hz.1 i; subscription = hz.2 i })))
+    (λ w x z hw hx hz. by_roots s w x hx hz))
 
 -- ---- directives
 
@@ -313,8 +268,9 @@ definition_back style (directive t) is whole law deep =
 pub way_back : (style : Layout) (ts : DocumentTree) → IsPrintable ts → IsLawfulDocument ts → IsReadBack (layout style ts) ts
 way_back style [] is law = absurd cc
 way_back style (t ∷ ts) is law =
-    document_back schemas (t ∷ ts) (node_back (λ x. refl) (some_back 0 (Sym item_symbol) item_of (each_of item_of) erase_definition
-    (definition_layout style) (λ u. IsPrintableDefinition u × (IsWholeDefinition u × IsLawfulDefinition u)) definition_brackets
-    refl (λ x y. refl) (λ x y. refl) (λ u h b. definition_back style u h.0 h.1.0 h.1.1 (omega (arith, b))) 10 [] refl t ts
-    (both_of_each IsPrintableDefinition (λ u. IsWholeDefinition u × IsLawfulDefinition u) (t ∷ ts) is.names
-    (both_of_each IsWholeDefinition IsLawfulDefinition (t ∷ ts) is.definitions law)) (omega (arith, is.depth))))
+    document_back schemas (t ∷ ts) (node_back (λ x. refl) (some_back 0 item_of erase_definition (definition_layout style) IsPrintableDefinition
+    (λ u. IsWholeDefinition u × IsLawfulDefinition u) definition_brackets (λ u p h b. definition_back style u p h.0 h.1 (omega (arith, b))) 10 [] refl t ts
+    is.names (both_of_each IsWholeDefinition IsLawfulDefinition (t ∷ ts) is.definitions law) (omega (arith, is.depth))))
+
+pub are_read_back : AreReadBack schemas layout (λ d. IsPrintable d × IsLawfulDocument d)
+are_read_back = round.are_read_back schemas readable layout layout_alike (λ d. IsPrintable d × IsLawfulDocument d) (λ style d is. way_back style d is.0 is.1)

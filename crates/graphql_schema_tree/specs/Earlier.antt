@@ -1,15 +1,13 @@
 -- The language of schemas as version 0.4.1 has it: no schema has a description, and no extension is one of the schema.
 use Rattle.std.specs.Prelude.{◌≡◌, ℕ, List, [], ◌∷◌, ◌++◌, codes, take, drop, None}
-use Rattle.std.specs.List.{AllByRecursion}
-use Rattle.graphql_grammar.specs.Trees.{Expr, Then, Either, Sym, Grammar}
-use Rattle.graphql_grammar.specs.Solve.{with_tables}
-use Rattle.graphql_values.specs.Grammar as shared
-use Rattle.graphql_values.specs.Grammar.{word}
+use Rattle.graphql_core.specs.{Grammar}
+use Rattle.graphql_values.specs.{AllByRecursion, Expr, Then, Either, Sym, with_tables, word}
 use Rattle.graphql_values.specs.Language.{Language}
-use Rattle.graphql_values.specs.Document as document
 use Rattle.graphql_schema_tree.specs.Grammar.{schema as the_grammar, rules, schema_symbol, extension_symbol, described_symbol, type_body_symbol}
 use Rattle.graphql_schema_tree.specs.Tree.{DefinitionTree, schema, schema_extension, DocumentTree}
 use Rattle.graphql_schema_tree.specs.Language.{schemas}
+use Rattle.graphql_values.specs.Grammar as shared
+use Rattle.graphql_values.specs.Document as document
 
 -- SchemaItem = Schema | Extension | Described
 abbrev pub item_rule_0_4_1 : Expr
@@ -29,16 +27,7 @@ schema_0_4_1 =
 
 -- it is not read by rules of its own, so the second rules play no part
 abbrev pub schemas_0_4_1 : Language DocumentTree
-schemas_0_4_1 = record {
-  grammar = schema_0_4_1;
-  document = schemas.document;
-  means = schemas.means;
-  erase = schemas.erase;
-  lacks = schemas.lacks;
-  refuses = schemas.refuses;
-  second_rows = schemas.second_rows;
-  changes = schemas.changes;
-}
+schemas_0_4_1 = record schemas { grammar = schema_0_4_1 }
 
 -- the items of the text are a document of version 0.4.1 that means this
 abbrev pub IsDocumentOf_0_4_1 : List ℕ → DocumentTree → Type 0

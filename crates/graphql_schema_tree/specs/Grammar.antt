@@ -1,21 +1,16 @@
 -- The grammar of schema documents, as it is written, and the rules by which it is read.
-use Rattle.std.specs.Prelude.{ℕ, zero, suc, ◌+◌, Bool, true, not, ◌&&◌, ◌==◌, if◌then◌else◌, codes}
-use Rattle.std.specs.Prelude.{List, [], ◌∷◌, ◌++◌, drop, replicate, is_some}
-use Rattle.graphql_grammar.specs.Tokens.{Token, Class, Except, matches}
-use Rattle.graphql_grammar.specs.Trees.{Expr, One, Then, Either, Many, Sym, Shape, Nothing, Leaf, Both, First, Second, Stop, More, Node}
-use Rattle.graphql_grammar.specs.Trees.{Row, Grammar, optional, some_of}
-use Rattle.graphql_grammar.specs.Tables.{is_row}
-use Rattle.graphql_grammar.specs.Solve.{solve, with_tables}
-use Rattle.graphql_grammar.specs.Factored.{Change, unchanged, out_of_head}
-use Rattle.graphql_lexer.specs.declared.tokenizer.token.Kind.TheVariants.{Punctuator, Name, StringValue, BlockString}
-use Rattle.graphql_values.specs.Leaves as leaves
-use Rattle.graphql_values.specs.Grammar as shared
-use Rattle.graphql_values.specs.Grammar.{type_symbol, directives_symbol, directive_symbol, default_symbol, shared_symbols}
-use Rattle.graphql_values.specs.Grammar.{punctuator, word, name, any, location_class, sample}
+use Rattle.std.specs.Prelude.{ℕ, zero, suc, ◌+◌, Bool, true, not, ◌&&◌, ◌==◌, if◌then◌else◌, codes, List, [], ◌∷◌, ◌++◌, drop, replicate, is_some}
+use Rattle.graphql_grammar.specs.{is_row, out_of_head, out_of_sides}
+use Rattle.graphql_core.specs.{Grammar}
+use Rattle.graphql_values.specs.{Token, Class, Except, matches, Expr, One, Then, Either, Many, Sym, Shape, Nothing, Leaf, Both, First, Second, Stop, More, Node}
+use Rattle.graphql_values.specs.{Row, optional, some_of, solve, with_tables, Change, unchanged, Punctuator, Name, StringValue, BlockString, type_symbol}
+use Rattle.graphql_values.specs.{directives_symbol, directive_symbol, default_symbol, shared_symbols, punctuator, word, name, any, location_class, sample}
 use Rattle.graphql_schema_tree.specs.Locations.{is_location}
 use Rattle.graphql_schema_tree.specs.Tree.{extends}
 use Rattle.graphql_schema_tree.specs.Meanings.{extension_of}
 use Rattle.graphql_schema_tree.specs.Roots.{root_fault_of, extension_fault_of}
+use Rattle.graphql_values.specs.Leaves as leaves
+use Rattle.graphql_values.specs.Grammar as shared
 
 -- ---- the symbols, after those of values, types and directives
 
@@ -323,27 +318,11 @@ tables =
 abbrev pub second_rows : List Row
 second_rows = shared.rows ++ with_tables second_rules tables
 
--- a description or none before one side of a choice, and before both sides of symbol k
-abbrev pub out_of_description : ℕ → Change
-out_of_description k = record { to_written = spread; to_second = gather }
-  where
-    spread : Shape → Shape
-    spread (First (Both d (First x))) = First (Both d x)
-    spread (First (Both d (Second x))) = Second (Second (Node k (out_of_head.to_written (Both d x))))
-    spread (Second x) = Second (First x)
-    spread x = x
-
-    gather : Shape → Shape
-    gather (First (Both d x)) = First (Both d (First x))
-    gather (Second (First x)) = Second x
-    gather (Second (Second (Node j (Both d x)))) = First (Both d (Second x))
-    gather x = x
-
 -- how trees of the second rules are trees of the written ones
 abbrev pub changes : List Change
 changes =
     replicate shared_symbols unchanged
-    ++ unchanged ∷ out_of_description described_symbol ∷ unchanged ∷ unchanged ∷ out_of_head ∷ out_of_head ∷ replicate 22 unchanged
+    ++ unchanged ∷ out_of_sides described_symbol ∷ unchanged ∷ unchanged ∷ out_of_head ∷ out_of_head ∷ replicate 22 unchanged
 
 -- ---- why there are second rules
 

@@ -1,18 +1,15 @@
 -- The language of schemas: what a text's document is, and what is said of a text that has none.
 use Rattle.std.specs.Prelude.{◌≡◌, ℕ, ◌==◌, if◌then◌else◌, List, [], Option, Some, None, option_map}
-use Rattle.graphql_grammar.specs.Tokens.{Place, Token, Class, Except}
-use Rattle.graphql_grammar.specs.Trees.{Shape, Node}
-use Rattle.graphql_core.specs.Causes.{CauseText, unknown_location, empty_extension}
-use Rattle.graphql_core.specs.Source.{FaultText}
+use Rattle.graphql_core.specs.{unknown_location}
+use Rattle.graphql_values.specs.{Place, Token, Class, Except, Shape, Node, CauseText, empty_extension, FaultText, HasNoValue}
 use Rattle.graphql_values.specs.Language.{Language}
-use Rattle.graphql_values.specs.Document as document
-use Rattle.graphql_values.specs.Faults as fault
-use Rattle.graphql_values.specs.Faults.{HasNoValue}
 use Rattle.graphql_schema_tree.specs.Locations.{location_of}
 use Rattle.graphql_schema_tree.specs.Tree.{SchemaTree, DefinitionTree, extension, schema_extension, DocumentTree, erase}
 use Rattle.graphql_schema_tree.specs.Meanings.{no_schema, schema_of, schema_extension_of, extension_of, document_of}
 use Rattle.graphql_schema_tree.specs.Roots.{RootFault, root_fault_of, extension_fault_of, root_cause}
 use Rattle.graphql_schema_tree.specs.Grammar.{schema, document_symbol, schema_symbol, schema_extension_symbol, second_rows, changes}
+use Rattle.graphql_values.specs.Document as document
+use Rattle.graphql_values.specs.Faults as fault
 
 -- a name that is no location, or a token without a value
 abbrev pub Lacks : Class → Token → CauseText → Type 0

@@ -1,7 +1,5 @@
 -- What holds of the values of every document that a program can make.
-use Rattle.std.specs.List.{AllByRecursion}
-use Rattle.std.specs.Option.{IfSome}
-use Rattle.graphql_values.specs.Lawful.{IsLawful, AreLawfulDirectives}
+use Rattle.graphql_values.specs.{AllByRecursion, IfSome, IsLawful, AreLawfulDirectives}
 use Rattle.graphql_schema_tree.specs.Tree.{InputValueTree, FieldTree, EnumValueTree, PartsTree, scalar, object, interface, union, enum, input, BodyTree}
 use Rattle.graphql_schema_tree.specs.Tree.{DefinitionTree, schema, type_definition, extension, schema_extension, directive, DocumentTree}
 

@@ -1,18 +1,15 @@
 -- The text of a document in a style. A line begins with a margin of so many spaces.
 use Rattle.std.specs.Prelude.{ℕ, Bool, true, false, cond, List, [], ◌∷◌, ◌++◌, Option, Some, None, codes, map}
-use Rattle.std.specs.List.{flat_map}
-use Rattle.graphql_core.specs.Style.{Layout, spaces, default_style}
-use Rattle.graphql_core.specs.Parts.{Part, text_of, name, mark, gap}
-use Rattle.graphql_values.specs.ValueLayout.{string_layout, type_layout, directives_layout, in_levels}
-use Rattle.graphql_values.specs.ValueLayout as values
-use Rattle.graphql_values.specs.Lines.{in_braces, separated, in_parentheses, default_layout}
-use Rattle.graphql_values.specs.TreeDepth.{most}
+use Rattle.graphql_core.specs.{name, mark}
+use Rattle.graphql_values.specs.{text_of, flat_map, Layout, spaces, default_style, Part, gap, string_layout, type_layout, directives_layout, in_levels}
+use Rattle.graphql_values.specs.{in_braces, separated, in_parentheses, default_layout, most}
 use Rattle.graphql_schema_tree.specs.TreeDepth.{input_value_depth, field_depth, enum_value_depth, parts_depth, body_depth, definition_depth}
 use Rattle.graphql_schema_tree.specs.declared.location.DirectiveLocation.{DirectiveLocation}
 use Rattle.graphql_schema_tree.specs.Locations.{word_of}
 use Rattle.graphql_schema_tree.specs.Tree.{InputValueTree, FieldTree, EnumValueTree, SchemaTree, PartsTree, scalar, object, interface, union, enum, input}
 use Rattle.graphql_schema_tree.specs.Tree.{BodyTree, DirectiveDefinitionTree, DefinitionTree, schema, type_definition, extension, schema_extension, directive}
 use Rattle.graphql_schema_tree.specs.Tree.{DocumentTree, has_operation}
+use Rattle.graphql_values.specs.ValueLayout as values
 
 -- ---- descriptions
 

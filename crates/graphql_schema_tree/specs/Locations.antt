@@ -1,12 +1,11 @@
 -- The places where a directive may stand, by the words that name them.
 use Rattle.std.specs.Prelude.{◌≡◌, ℕ, Bool, true, false, List, [], ◌∷◌, Option, Some, None, cond, codes, is_some, Result, Ok, IsErr}
-use Rattle.graphql_grammar.specs.Tokens.{same_spelling}
+use Rattle.graphql_values.specs.{same_spelling}
 use Rattle.graphql_schema_tree.specs.declared.location.DirectiveLocation.{DirectiveLocation}
 use Rattle.graphql_schema_tree.specs.declared.location.DirectiveLocation.TheVariants.{Query, Mutation, Subscription, Field, FragmentDefinition, FragmentSpread}
 use Rattle.graphql_schema_tree.specs.declared.location.DirectiveLocation.TheVariants.{InlineFragment, Schema, Scalar, Object, FieldDefinition}
-use Rattle.graphql_schema_tree.specs.declared.location.DirectiveLocation.TheVariants.{ArgumentDefinition}
-use Rattle.graphql_schema_tree.specs.declared.location.DirectiveLocation.TheVariants.{Interface, Union, Enum, EnumValue, InputObject, InputFieldDefinition}
-use Rattle.graphql_schema_tree.specs.declared.location.DirectiveLocation.TheVariants.{VariableDefinition}
+use Rattle.graphql_schema_tree.specs.declared.location.DirectiveLocation.TheVariants.{ArgumentDefinition, Interface, Union, Enum, EnumValue, InputObject}
+use Rattle.graphql_schema_tree.specs.declared.location.DirectiveLocation.TheVariants.{InputFieldDefinition, VariableDefinition}
 
 abbrev pub word_of : DirectiveLocation → List ℕ
 word_of Query = codes "QUERY"

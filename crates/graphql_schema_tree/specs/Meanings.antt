@@ -1,54 +1,14 @@
 -- What the shapes of schema documents mean, a line or two for each production.
-use Rattle.std.specs.Prelude.{ℕ, Bool, true, false, cond, List, [], ◌∷◌, Option, Some, None, codes}
-use Rattle.graphql_grammar.specs.Tokens.{nowhere, same_spelling}
-use Rattle.graphql_grammar.specs.Trees.{Shape, Both, First, Second, More, Node, leaves}
-use Rattle.graphql_values.specs.Leaves.{string_of, block_string_of}
-use Rattle.graphql_values.specs.Values.{named}
-use Rattle.graphql_values.specs.Meanings.{place_at, first_place, spelling_at, type_of, optional_default_of, directives_of}
+use Rattle.std.specs.Prelude.{ℕ, false, List, [], ◌∷◌, Option, Some, None, codes, cond}
+use Rattle.graphql_values.specs.{nowhere, Shape, Both, First, Second, Node, leaves, string_of, block_string_of, named, place_at, first_place, spelling_at}
+use Rattle.graphql_values.specs.{type_of, optional_default_of, directives_of, optional_of, optional_list_of, each_of, enclosed_of, is_there, joined_of}
+use Rattle.graphql_values.specs.{same_spelling, More}
+use Rattle.graphql_schema_tree.specs.Roots.{Root, roots_of, roots_in, type_in}
 use Rattle.graphql_schema_tree.specs.declared.location.DirectiveLocation.{DirectiveLocation}
 use Rattle.graphql_schema_tree.specs.Locations.{location_of}
 use Rattle.graphql_schema_tree.specs.Tree.{InputValueTree, FieldTree, EnumValueTree, SchemaTree, PartsTree, scalar, object, interface, union, enum, input}
 use Rattle.graphql_schema_tree.specs.Tree.{BodyTree, DirectiveDefinitionTree, DefinitionTree, schema, type_definition, extension, schema_extension, directive}
 use Rattle.graphql_schema_tree.specs.Tree.{DocumentTree}
-use Rattle.graphql_schema_tree.specs.Roots.{roots_in}
-
--- ---- optional parts and lists
-
--- an optional part is there
-abbrev pub is_there : Shape → Bool
-is_there (First x) = true
-is_there _ = false
-
--- what an optional part means, or nothing
-abbrev pub optional_of : {A : Type 0} → (Shape → A) → Shape → Option A
-optional_of f (First x) = Some (f x)
-optional_of f _ = None
-
--- what an optional list means, which is empty where it is missing
-abbrev pub optional_list_of : {A : Type 0} → (Shape → List A) → Shape → List A
-optional_list_of f (First x) = f x
-optional_list_of f _ = []
-
--- the parts of a list: the first of at least one, or a later one
-abbrev pub each_of : {A : Type 0} → (Shape → A) → Shape → List A
-each_of f (Both x xs) = f x ∷ each_of f xs
-each_of f (More x xs) = f x ∷ each_of f xs
-each_of f _ = []
-
--- the parts between an opener and a closer
-abbrev pub enclosed_of : {A : Type 0} → (Shape → A) → Shape → List A
-enclosed_of f (Node k (Both o (Both xs c))) = each_of f xs
-enclosed_of f _ = []
-
--- a part after a mark
-abbrev pub marked_of : {A : Type 0} → (Shape → A) → A → Shape → A
-marked_of f none (Both m x) = f x
-marked_of f none _ = none
-
--- the parts of a list that is joined by marks; a mark before the first means nothing
-abbrev pub joined_of : {A : Type 0} → (Shape → A) → A → Shape → List A
-joined_of f none (Both m (Both x xs)) = f x ∷ each_of (marked_of f none) xs
-joined_of f none _ = []
 
 -- ---- parts of definitions
 
@@ -105,35 +65,27 @@ members_of _ = []
 
 -- ---- schemas
 
--- the type of the operation that has this name
-abbrev pub root_of : List ℕ → Shape → Option (List ℕ)
-root_of word (More (Node k (Both n (Both c t))) more) =
-    cond (same_spelling word (spelling_at n)) (Some (spelling_at t)) (root_of word more)
-root_of word _ = None
-
 abbrev pub no_schema : SchemaTree
 no_schema = record { position = nowhere; directives = []; query = None; mutation = None; subscription = None }
 
--- a schema stands at its keyword
-abbrev pub schema_of : Shape → SchemaTree
-schema_of (Node k (Both w (Both ds (Both o (Both roots c))))) = record {
+-- a schema, or an extension of it, of these operations
+abbrev pub schema_by : Shape → Shape → List Root → SchemaTree
+schema_by w ds rs = record {
   position = place_at w;
   directives = directives_of ds;
-  query = root_of (codes "query") roots;
-  mutation = root_of (codes "mutation") roots;
-  subscription = root_of (codes "subscription") roots;
+  query = type_in rs (codes "query");
+  mutation = type_in rs (codes "mutation");
+  subscription = type_in rs (codes "subscription");
 }
+
+-- a schema stands at its keyword
+abbrev pub schema_of : Shape → SchemaTree
+schema_of (Node k (Both w (Both ds (Both o (Both roots c))))) = schema_by w ds (roots_of roots)
 schema_of _ = no_schema
 
 -- an extension of the schema stands at the keyword after `extend`
 abbrev pub schema_extension_of : Shape → SchemaTree
-schema_extension_of (Node k (Both w (Both ds rs))) = record {
-  position = place_at w;
-  directives = directives_of ds;
-  query = root_of (codes "query") (roots_in rs);
-  mutation = root_of (codes "mutation") (roots_in rs);
-  subscription = root_of (codes "subscription") (roots_in rs);
-}
+schema_extension_of (Node k (Both w (Both ds rs))) = schema_by w ds (roots_in rs)
 schema_extension_of _ = no_schema
 
 -- ---- types, which stand at their keywords

@@ -1,15 +1,9 @@
 -- Documents that are read from their layouts as what they are.
 use Rattle.std.specs.Prelude.{◌≡◌, ℕ, ◌≤◌, true}
-use Rattle.std.specs.List.{AllByRecursion}
-use Rattle.std.specs.Option.{IfSome}
-use Rattle.graphql_lexer.specs.Lexical.{IsName}
-use Rattle.graphql_values.specs.Printable.{IsPrintableDirective, IsPrintableType, IsPrintableDefault}
-use Rattle.graphql_values.specs.TreeDepth.{most}
-use Rattle.graphql_values.specs.Printable.{in_brackets}
+use Rattle.graphql_values.specs.{AllByRecursion, IfSome, IsName, IsPrintableDirective, IsPrintableType, IsPrintableDefault, most, in_brackets, has_any}
 use Rattle.graphql_schema_tree.specs.Tree.{InputValueTree, FieldTree, EnumValueTree, SchemaTree, PartsTree, scalar, object, interface, union, enum, input}
-use Rattle.graphql_schema_tree.specs.Tree.{BodyTree, DefinitionTree, schema, type_definition, extension, schema_extension, directive, DocumentTree}
-use Rattle.graphql_schema_tree.specs.Tree.{adds, adds_to_schema}
-use Rattle.graphql_values.specs.TreeDepth.{has_any}
+use Rattle.graphql_schema_tree.specs.Tree.{BodyTree, DefinitionTree, schema, type_definition, extension, schema_extension, directive, DocumentTree, adds}
+use Rattle.graphql_schema_tree.specs.Tree.{adds_to_schema}
 use Rattle.graphql_schema_tree.specs.TreeDepth.{input_value_depth, field_depth, enum_value_depth, parts_depth, body_depth, definition_depth}
 
 -- ---- names, types and values

@@ -1,8 +1,6 @@
 -- What a schema document is: names as their bytes, positions kept.
 use Rattle.std.specs.Prelude.{ℕ, Bool, true, false, ◌||◌, List, [], Option, None, is_some, map}
-use Rattle.graphql_grammar.specs.Tokens.{Place}
-use Rattle.graphql_values.specs.Values.{ValueTree, TypeTree, DirectiveTree, no_place, erase_all}
-use Rattle.graphql_values.specs.TreeDepth.{has_any}
+use Rattle.graphql_values.specs.{Place, ValueTree, TypeTree, DirectiveTree, no_place, erase_all, has_any}
 use Rattle.graphql_schema_tree.specs.declared.location.DirectiveLocation.{DirectiveLocation}
 
 -- ---- parts of definitions

@@ -1,6 +1,6 @@
 -- How deep the definitions of a schema nest, by the fold of values.
 use Rattle.std.specs.Prelude.{ℕ, max, cond}
-use Rattle.graphql_values.specs.TreeDepth.{Weights, most_around, most_enclosed, default_depth, directives_depth}
+use Rattle.graphql_values.specs.{Weights, most_around, most_enclosed, default_depth, directives_depth}
 use Rattle.graphql_schema_tree.specs.Tree.{InputValueTree, FieldTree, EnumValueTree, SchemaTree, PartsTree, scalar, object, interface, union, enum, input}
 use Rattle.graphql_schema_tree.specs.Tree.{BodyTree, DefinitionTree, schema, type_definition, extension, schema_extension, directive, has_operation}
 

@@ -1,12 +1,9 @@
 -- What the declared trees of schemas stand for.
 use Rattle.std.specs.Prelude.{ℕ, List, Option, option_map, map, string_bytes}
-use Rattle.graphql_core.specs.Source.{place_of}
-use Rattle.graphql_lexer.specs.declared.position.Pos.{Pos}
+use Rattle.graphql_values.specs.{place_of, Pos, value_view, type_view, directives_view}
 use Rattle.graphql_values.specs.declared.tree.Directive.{Directive}
-use Rattle.graphql_values.specs.ValueViews.{value_view, type_view, directives_view}
-use Rattle.graphql_schema_tree.specs.Tree.{InputValueTree, FieldTree, EnumValueTree, SchemaTree, PartsTree, BodyTree}
-use Rattle.graphql_schema_tree.specs.Tree.{scalar, object, interface, union, enum, input}
-use Rattle.graphql_schema_tree.specs.Tree.{DirectiveDefinitionTree, DefinitionTree, schema, type_definition, extension, schema_extension, directive}
+use Rattle.graphql_schema_tree.specs.Tree.{InputValueTree, FieldTree, EnumValueTree, SchemaTree, PartsTree, BodyTree, scalar, object, interface, union, enum}
+use Rattle.graphql_schema_tree.specs.Tree.{input, DirectiveDefinitionTree, DefinitionTree, schema, type_definition, extension, schema_extension, directive}
 use Rattle.graphql_schema_tree.specs.Tree.{DocumentTree}
 use Rattle.graphql_schema_tree.specs.declared.tree.parts.InputValue.{InputValue}
 use Rattle.graphql_schema_tree.specs.declared.tree.parts.Field.{Field}

@@ -1,6 +1,6 @@
 //! Where directives may stand.
 ghost use Rattle.std.specs.Prelude.{◌≡◌, ◌↔◌, IsTrue, not};
-ghost use Rattle.graphql_schema_tree.specs.Locations.{word_of, location_of, IsNamed, is_in_queries};
+ghost use Rattle.graphql_schema_tree.specs.{word_of, location_of, IsNamed, is_in_queries};
 
 use std::hash::Hash;
 use std::str::FromStr;

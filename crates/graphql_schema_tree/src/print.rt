@@ -4,7 +4,6 @@ mod body;
 mod definition;
 mod description;
 mod display;
-mod extensions;
 mod field;
 mod names;
 mod parts;
@@ -13,12 +12,7 @@ mod types;
 mod width;
 
 ghost use Rattle.std.specs.Prelude.{◌≡◌, ◌↔◌, IfOk, OnOk, IsErrOf, string_bytes};
-ghost use Rattle.graphql_schema_tree.specs.Language.{IsReadBack};
-ghost use Rattle.graphql_schema_tree.specs.Layout.{layout, IsTooWide};
-ghost use Rattle.graphql_schema_tree.specs.Printable.{IsPrintable};
-ghost use Rattle.graphql_schema_tree.specs.Lawful.{IsLawfulDocument};
-ghost use Rattle.graphql_schema_tree.specs.Tree.{DocumentTree, erase};
-ghost use Rattle.graphql_schema_tree.specs.Views.{document_view};
+ghost use Rattle.graphql_schema_tree.specs.{IsReadBack, layout, IsTooWide, IsPrintable, IsLawfulDocument, DocumentTree, erase, document_view};
 
 use crate::print::width::is_document_too_wide;
 use crate::tree::Document;

@@ -1,19 +1,15 @@
 -- A side of a rule that is read: what is taken, and how reading stops, is the rule's.
-use Rattle.std.proofs.Common.{◌≡◌, ℕ, Bool, true, false, ◌||◌, List, [], ◌∷◌, Result, Ok, Err, Option, Some, None, refl}
-use Rattle.graphql_grammar.specs.Tokens.{Token, Class, all_within, matches}
-use Rattle.graphql_grammar.specs.Trees.{Expr, Either, Sym, Shape, First, Second, Node, Grammar, row}
-use Rattle.graphql_grammar.specs.Trees as trees
-use Rattle.graphql_grammar.specs.Tables.{nullable, first, decides}
-use Rattle.graphql_grammar.specs.Reading.{sees, choose, Left, Right, Takes, takes_node, takes_first, takes_second, Reason, fails_node, lax}
-use Rattle.graphql_grammar.specs.Leads.{Leads, leads_first, leads_second, leads_node}
-use Rattle.graphql_grammar.specs.ReaderWords.{Stops}
-use Rattle.graphql_grammar.proofs.Classes.{all_within-sound}
-use Rattle.graphql_grammar.proofs.Items.{sees-within}
-use Rattle.graphql_grammar.proofs.ReaderSteps.{Stops-node, Stops-first, Stops-second, picks-first, picks-second}
-use Rattle.graphql_core.specs.declared.helpers.read_error.ReadError.{ReadError}
-use Rattle.graphql_core.specs.Source.{Items}
-use Rattle.graphql_values.specs.steps.Answers.{Gives, reason_of}
+use Rattle.std.proofs.Common.{◌≡◌, ℕ, zero, suc, Bool, true, false, ◌&&◌, ◌||◌, List, [], ◌∷◌, ◌++◌, Option, Some, None, refl, sym, ap, ◌∙◌}
+use Rattle.std.proofs.Math.Bool.{or_assoc}
+use Rattle.graphql_grammar.specs.{leads_second, in_any, leads_first}
+use Rattle.graphql_grammar.proofs.{all_within-sound, sees-within, Stops-first, Stops-second, picks-second, Stops-node}
+use Rattle.graphql_core.specs.{Grammar}
+use Rattle.graphql_core.proofs.{and_parts, picks-first}
+use Rattle.graphql_values.specs.{Token, Class, all_within, matches, Expr, Empty, One, Then, Either, Many, Sym, Shape, First, Second, Node, Row, row, nullable}
+use Rattle.graphql_values.specs.{first, decides, sees, choose, Left, Right, Takes, takes_node, takes_first, takes_second, Reason, fails_node, lax, Leads}
+use Rattle.graphql_values.specs.{leads_node, Stops}
 use Rattle.graphql_values.proofs.Reading.{FailsUnseen, takes_left, stops_left, takes_right, stops_right}
+use Rattle.graphql_grammar.specs.Trees as trees
 
 -- e is read here by its part f, whose shapes stand inside e's
 pub record IsSide (g : Grammar) (e f : Expr) (inside : Shape → Shape) (ts : List Token) : Type 0 where
@@ -21,12 +17,6 @@ pub record IsSide (g : Grammar) (e f : Expr) (inside : Shape → Shape) (ts : Li
   pub stops : (us : List Token) (o : Option Reason) → Stops g f ts us o → Stops g e ts us o
   -- what f comes to, e comes to
   pub leads : (us : List Token) (d : Expr) → Leads (lax g) f us d → Leads (lax g) e us d
-
-pub gives_side : {A : Type 0} (g : Grammar) (e f : Expr) (inside : Shape → Shape) (old new : Items) (P Q : A → Shape → Type 0) (r : Result A ReadError)
-    → IsSide g e f inside old.tokens
-    → ((v : A) (x : Shape) → P v x → Q v (inside x)) → Gives g f old new P r → Gives g e old new Q r
-gives_side g e f inside old new P Q (Ok v) side means (x, h, p) = (inside x, side.takes new.tokens x h, means v x p)
-gives_side g e f inside old new P Q (Err d) side means h = side.stops new.tokens (reason_of d) h
 
 pub through : (g : Grammar) (e f h : Expr) (i j : Shape → Shape) (ts : List Token) → IsSide g e f i ts → IsSide g f h j ts → IsSide g e h (λ x. i (j x)) ts
 through g e f h i j ts outer inner = record {
@@ -38,6 +28,11 @@ through g e f h i j ts outer inner = record {
 pub side_node : (g : Grammar) (k : ℕ) (ts : List Token) → ((x : Shape) → g.check k x ≡ true) → IsSide g (Sym k) (row g k).rule (Node k) ts
 side_node g k ts passes =
     record { takes = λ us x t. takes_node t (passes x); stops = λ us o s. Stops-node g k ts us o s; leads = λ us d l. leads_node l }
+
+-- a side of the rule is one of the symbol
+pub side_in : {g : Grammar} {f : Expr} {inside : Shape → Shape} {ts : List Token} (k : ℕ) → ((x : Shape) → g.check k x ≡ true)
+    → IsSide g (row g k).rule f inside ts → IsSide g (Sym k) f (λ x. Node k (inside x)) ts
+side_in {g} {f} {inside} {ts} k passes side = through g _ _ f (Node k) inside ts (side_node g k ts passes) side
 
 pub side_chosen_first : (g : Grammar) (a b : Expr) (ts : List Token) → choose g.rows a b (trees.peek ts) ≡ Left → IsSide g (Either a b) a First ts
 side_chosen_first g a b ts h =
@@ -61,6 +56,39 @@ pub side_second : (g : Grammar) (a b : Expr) (c : Class) (ts : List Token) → d
     → all_within (c ∷ []) (first g.rows b) ≡ true → sees (c ∷ []) (trees.peek ts) ≡ true → IsSide g (Either a b) b Second ts
 side_second g a b c ts d w h = side_chosen_second g a b ts (picks-second g.rows a b (trees.peek ts) d (sees_within (c ∷ []) _ (trees.peek ts) w h))
 
+-- one of many sides, by how many stand before it
+abbrev pub nth_side : Expr → ℕ → Expr
+nth_side (Either a b) zero = a
+nth_side (Either a b) (suc n) = nth_side b n
+nth_side e n = e
+
+abbrev pub in_nth : Expr → ℕ → Shape → Shape
+in_nth (Either a b) zero x = First x
+in_nth (Either a b) (suc n) x = Second (in_nth b n x)
+in_nth e n x = x
+
+-- the class c tells it from the others
+abbrev pub tells_nth : List Row → Class → Expr → ℕ → Bool
+tells_nth rs c (Either a b) zero = all_within (c ∷ []) (first rs a)
+tells_nth rs c (Either a b) (suc n) = (decides rs (Either a b) && all_within (c ∷ []) (first rs b)) && tells_nth rs c b n
+tells_nth rs c e n = true
+
+side_whole : (g : Grammar) (e : Expr) (ts : List Token) → IsSide g e e (λ x. x) ts
+side_whole g e ts = record { takes = λ us x t. t; stops = λ us o s. s; leads = λ us d l. l }
+
+pub side_nth : {g : Grammar} {ts : List Token} (c : Class) (e : Expr) (n : ℕ) → tells_nth g.rows c e n ≡ true → sees (c ∷ []) (trees.peek ts) ≡ true
+    → IsSide g e (nth_side e n) (λ x. in_nth e n x) ts
+side_nth {g} {ts} c (Either a b) zero told seen = side_first g a b c ts told seen
+side_nth {g} {ts} c (Either a b) (suc n) told seen =
+    let (here, later) = and_parts (decides g.rows (Either a b) && all_within (c ∷ []) (first g.rows b)) (tells_nth g.rows c b n) told in
+    let (decided, within) = and_parts (decides g.rows (Either a b)) (all_within (c ∷ []) (first g.rows b)) here in
+    through g (Either a b) b (nth_side b n) (λ x. Second x) (λ x. in_nth b n x) ts (side_second g a b c ts decided within seen) (side_nth c b n later seen)
+side_nth {g} {ts} c Empty n told seen = side_whole g Empty ts
+side_nth {g} {ts} c (One d) n told seen = side_whole g (One d) ts
+side_nth {g} {ts} c (Then a b) n told seen = side_whole g (Then a b) ts
+side_nth {g} {ts} c (Many a) n told seen = side_whole g (Many a) ts
+side_nth {g} {ts} c (Sym k) n told seen = side_whole g (Sym k) ts
+
 -- ---- sides that are left, as the other is not seen
 
 pub side_left : (g : Grammar) (a b : Expr) (ts : List Token) → nullable g.rows a ≡ false → nullable g.rows b ≡ false → FailsUnseen g a ts
@@ -83,11 +111,12 @@ pub unseen_symbol : (g : Grammar) (k : ℕ) (ts : List Token) → all_within (fi
     → FailsUnseen g (row g k).rule ts → FailsUnseen g (Sym k) ts
 unseen_symbol g k ts w f h = fails_node (f (sees-within _ _ (trees.peek ts) w h))
 
--- neither of two classes is seen
-pub sees_neither : (c d : Class) (item : Option Token) → sees (c ∷ []) item ≡ false → sees (d ∷ []) item ≡ false → sees (c ∷ d ∷ []) item ≡ false
-sees_neither c d None h k = refl
-sees_neither c d (Some t) h k = rw (right_of (matches c t) h) k
-  where
-    right_of : (b : Bool) → (b || false) ≡ false → b ≡ false
-    right_of true e = absurd cc
-    right_of false e = refl
+-- one of these classes comes next, or of those
+pub sees_both : (cs ds : List Class) (item : Option Token) → sees (cs ++ ds) item ≡ sees cs item || sees ds item
+sees_both cs ds None = refl
+sees_both [] ds (Some t) = refl
+sees_both (c ∷ cs) ds (Some t) = ap (λ b. matches c t || b) (sees_both cs ds (Some t)) ∙ sym (or_assoc (matches c t) (in_any cs t) (in_any ds t))
+
+-- neither does
+pub sees_neither : (cs ds : List Class) (item : Option Token) → sees cs item ≡ false → sees ds item ≡ false → sees (cs ++ ds) item ≡ false
+sees_neither cs ds item h k = sees_both cs ds item ∙ rw (h, k) refl

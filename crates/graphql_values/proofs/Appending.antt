@@ -1,9 +1,8 @@
 -- Texts appended to a sink one after the other, and the text of parts.
 use Rattle.std.proofs.Common.{◌≡◌, ◌++◌, ◌∙◌, ap, sym, refl, subst, ℕ, List, [], ◌∷◌, codes, Result, Ok, Err, OnOk, append_assoc, append-nil}
 use Rattle.std.proofs.lemmas.Result.{on_ok_weaker}
-use Rattle.graphql_core.specs.Parts.{Part, part_text, text_of, mark}
-use Rattle.graphql_values.specs.Values.{TypeTree, list_of, non_null}
-use Rattle.graphql_values.specs.ValueLayout.{type_layout}
+use Rattle.graphql_core.specs.{part_text, mark}
+use Rattle.graphql_values.specs.{text_of, Part, TypeTree, list_of, non_null, type_layout}
 
 -- the text of parts, and of more parts after them
 pub text_append : (a b : List Part) → text_of (a ++ b) ≡ text_of a ++ text_of b

@@ -1,9 +1,8 @@
 -- Shapes without places, and what derives tokens that differ in their places alone.
 use Rattle.std.proofs.Common.{◌≡◌, ℕ, List, [], ◌∷◌, ◌++◌, map, refl, sym, ap, ap₂, ◌∙◌}
-use Rattle.graphql_grammar.specs.Tokens.{Token, Class}
-use Rattle.graphql_grammar.specs.Trees.{Expr, Shape, Nothing, Leaf, Both, First, Second, Stop, More, Node, Grammar, leaves, accepts, Fits, fits_nothing}
-use Rattle.graphql_grammar.specs.Trees.{fits_leaf, fits_both, fits_first, fits_second, fits_stop, fits_more, fits_node}
-use Rattle.graphql_core.specs.Minified.{unplaced}
+use Rattle.graphql_core.specs.{Grammar}
+use Rattle.graphql_values.specs.{Token, Class, Expr, Shape, Nothing, Leaf, Both, First, Second, Stop, More, Node, leaves, accepts, Fits, fits_nothing}
+use Rattle.graphql_values.specs.{fits_leaf, fits_both, fits_first, fits_second, fits_stop, fits_more, fits_node, unplaced}
 
 abbrev pub bare : Shape → Shape
 bare Nothing = Nothing

@@ -1,14 +1,12 @@
 -- A text has the characters of a block string exactly where it has their bytes.
+use Rattle.std.specs.List.{fold}
 use Rattle.std.proofs.Common.{◌≡◌, ◌∙◌, ap, sym, refl, ℕ, ◌+◌, ◌/◌, ◌%◌, ◌<◌, ◌≤◌, Bool, true, false, ◌&&◌, inl, inr, List, [], ◌∷◌, nat_lt, nat_le, arith}
-use Rattle.std.specs.List.{fold, list_all}
-use Rattle.std.specs.Str.{IsUtf8, chars}
 use Rattle.std.proofs.Math.Utf8.{encode, encodes}
-use Rattle.std.proofs.lemmas.Bool.{cases_Bool}
-use Rattle.std.proofs.lemmas.Bool.Decides.{nat_tests}
 use Rattle.std.proofs.lemmas.List.Folds.{list_all-append}
 use Rattle.std.proofs.lemmas.Str.{encodes-chars}
-use Rattle.graphql_values.specs.ValueLayout.{is_block_character}
-use Rattle.graphql_values.specs.steps.BlockBytes.{is_block_byte}
+use Rattle.graphql_core.specs.{IsUtf8}
+use Rattle.graphql_core.proofs.{cases_Bool, nat_tests}
+use Rattle.graphql_values.specs.{list_all, chars, is_block_character, is_block_byte}
 
 stands : (b : ℕ) → 32 ≤ b → b < 240 → is_block_byte b ≡ true
 stands b low high = grind (arith, nat_tests)

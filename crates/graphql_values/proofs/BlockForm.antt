@@ -1,13 +1,9 @@
 -- The block form of a text is a block string, and reads back.
 use Rattle.std.proofs.Common.{◌≡◌, ◌≢◌, ℕ, zero, suc, Bool, true, false, ◌&&◌, ◌==◌, List, [], ◌∷◌, ◌++◌, refl, subst, inl, inr, arith, append_assoc}
-use Rattle.std.proofs.lemmas.Bool.{cases_Bool}
-use Rattle.std.proofs.lemmas.Bool.Decides.{nat_tests}
-use Rattle.std.specs.List.{flat_map}
-use Rattle.graphql_lexer.specs.declared.tokenizer.token.Kind.TheVariants.{BlockString}
-use Rattle.graphql_lexer.specs.Lexical.{begins_quotes, begins_escape, ClosesBlock, closing, escape, unit, block_string}
-use Rattle.graphql_core.specs.Style.{spaces}
-use Rattle.graphql_values.specs.ValueLayout.{lines_of, escaped_quotes, block_line, in_block_form}
-use Rattle.graphql_core.proofs.Laid.{IsWord}
+use Rattle.graphql_lexer.specs.{begins_escape, ClosesBlock, closing, escape, unit}
+use Rattle.graphql_core.specs.{block_string}
+use Rattle.graphql_core.proofs.{cases_Bool, nat_tests, IsWord}
+use Rattle.graphql_values.specs.{flat_map, BlockString, begins_quotes, spaces, lines_of, escaped_quotes, block_line, in_block_form}
 
 -- ---- quotes and escapes
 

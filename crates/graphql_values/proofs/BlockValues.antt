@@ -1,19 +1,16 @@
 -- The value of a block form is the text that it was made of.
+use Rattle.std.specs.List.{filter, fold, reduce, slice_split, onto_first, join_with_byte}
+use Rattle.std.specs.Str.Lines.{lines_of_parts, strip_carriage_return}
 use Rattle.std.proofs.Common.{◌≡◌, ◌≤◌, ℕ, zero, suc, ◌+◌, ◌-◌, min, Bool, true, false, not, ◌&&◌, ◌||◌, ◌==◌, List, [], ◌∷◌, ◌++◌, Some, length, get_or, take}
 use Rattle.std.proofs.Common.{drop, map, reverse, refl, sym, ap, ap₂, ◌∙◌, inl, inr, ◌⊎◌, arith, append_assoc, append-nil, eqb-true, length-append}
-use Rattle.std.proofs.lemmas.Bool.{cases_Bool, and_parts, and_from, or_cases}
-use Rattle.std.proofs.lemmas.Bool.Decides.{nat_tests}
+use Rattle.std.proofs.lemmas.Bool.{or_cases}
 use Rattle.std.proofs.lemmas.List.{take_at, reverse-append}
 use Rattle.std.proofs.lemmas.List.Splits.{join_with_byte-slice_split}
-use Rattle.std.specs.List.{list_all, list_any, flat_map, filter, fold, reduce, slice_split, onto_first, join_with_byte, prefix_len, suffix_len, AllByRecursion}
-use Rattle.std.specs.Str.Lines.{lines, lines_of_parts, strip_carriage_return}
-use Rattle.graphql_lexer.specs.Lexical.{begins_quotes}
-use Rattle.graphql_core.specs.Style.{spaces}
-use Rattle.graphql_core.specs.BlockStrings.{is_white, is_blank, indent, common_indent, unindented, without_blank_ends, unescaped, joined, value_of_lines}
-use Rattle.graphql_core.specs.BlockStrings.{block_value}
-use Rattle.graphql_values.specs.Leaves.{block_string_of}
-use Rattle.graphql_values.specs.ValueLayout.{lines_of, first_line, last_line, is_empty, ends_in_return, begins_white, has_block_form, escaped_quotes}
-use Rattle.graphql_values.specs.ValueLayout.{block_line, in_block_form}
+use Rattle.graphql_core.specs.{suffix_len, lines, is_white, indent, common_indent, unindented, without_blank_ends, unescaped, joined, value_of_lines}
+use Rattle.graphql_core.specs.{block_value}
+use Rattle.graphql_core.proofs.{cases_Bool, and_parts, and_from, nat_tests}
+use Rattle.graphql_values.specs.{list_all, list_any, flat_map, prefix_len, AllByRecursion, begins_quotes, spaces, is_blank, block_string_of, lines_of}
+use Rattle.graphql_values.specs.{first_line, last_line, is_empty, ends_in_return, begins_white, has_block_form, escaped_quotes, block_line, in_block_form}
 use Rattle.graphql_values.proofs.LeafValues.{in_triple_quotes}
 use Rattle.graphql_values.proofs.QuotedText.{ends_in_return_is}
 use Rattle.graphql_values.proofs.BlockForm.{is_triple, triple_front, other_front, no_quotes_escaped}

@@ -1,8 +1,8 @@
 -- Lists of clones.
-use Rattle.std.proofs.Common.{◌≡◌, ℕ, List, [], ◌∷◌, map, refl}
 use Rattle.std.specs.List.{AllZip}
+use Rattle.std.proofs.Common.{◌≡◌, ℕ, List, [], ◌∷◌, map, refl}
 use Rattle.graphql_values.specs.declared.tree.Value.{Value}
-use Rattle.graphql_values.specs.ValueViews.{value_view, arguments_view}
+use Rattle.graphql_values.specs.{value_view, arguments_view}
 
 -- clones with what is seen of each kept are seen as the same list
 pub same_views : {X Y : Type 0} (f : X → Y) (R : X → X → Type 0) → ((x y : X) → R x y → f y ≡ f x) → (xs ys : List X) → AllZip R xs ys → map f ys ≡ map f xs

@@ -1,9 +1,9 @@
 -- Decimal digits, two at a time.
-use Rattle.std.proofs.Common.{ℤ, pos, negsuc, false, int_le, unsigned_abs, sym, refl, true≢false, ◌≡◌, ℕ, ◌+◌, ◌/◌}
-use Rattle.std.proofs.Common.{◌%◌, ◌^◌, ◌<◌, ◌≤◌, List, [], ◌∷◌, ◌++◌, length, ap, ◌∙◌, arith, append_assoc, length-append}
-use Rattle.std.specs.Fmt.{decimal, signed_decimal}
 use lib.Dec.{leb-zero}
+use Rattle.std.proofs.Common.{ℤ, pos, negsuc, false, int_le, unsigned_abs, sym, refl, true≢false, ◌≡◌, ℕ, ◌+◌, ◌/◌, ◌%◌, ◌^◌, ◌<◌, ◌≤◌, List, [], ◌∷◌, ◌++◌}
+use Rattle.std.proofs.Common.{length, ap, ◌∙◌, arith, append_assoc, length-append}
 use Rattle.std.proofs.lemmas.Fmt.{decimal_digit, decimal_step}
+use Rattle.graphql_values.specs.{decimal, signed_decimal}
 
 -- a number of two digits
 pub two_digits : (n : ℕ) (more : List ℕ) → 10 ≤ n → n < 100 → (48 + n / 10) ∷ (48 + n % 10) ∷ more ≡ decimal n ++ more

@@ -1,22 +1,13 @@
 -- The brackets of values, types, arguments and directives are those that their layouts open at once.
 use Rattle.std.proofs.Common.{◌≡◌, ℕ, ◌+◌, max, Bool, true, false, List, [], ◌∷◌, ◌++◌, Option, Some, None, codes, refl, arith}
-use Rattle.std.specs.List.{flat_map}
-use Rattle.std.specs.Option.{option_map_or}
-use Rattle.graphql_lexer.specs.declared.tokenizer.piece.Nesting.TheVariants.{Opens, Closes}
-use Rattle.graphql_lexer.specs.declared.tokenizer.token.Kind.TheVariants.{Punctuator}
-use Rattle.graphql_core.specs.Style.{Layout}
-use Rattle.graphql_core.specs.Parts.{Part, ignored}
-use Rattle.graphql_core.specs.Depths.{bracket_of}
-use Rattle.graphql_core.proofs.Depths.{Rises, rises_as, none_rise, gap_rises, level_rises, both_rise, gap_sinks, closer_sinks, both_sink, opener_rises}
-use Rattle.graphql_core.proofs.Depths.{either_rises}
-use Rattle.graphql_values.specs.Values.{ValueTree, variable, int, float, string, boolean, null, enum, list, object, ValueItems, no_items, item, ValueMembers}
-use Rattle.graphql_values.specs.Values.{no_members, member, TypeTree, named, list_of, non_null, DirectiveTree}
-use Rattle.graphql_values.specs.ValueLayout.{has_block_form, before_part, after_parts, parts, enclosed, inside, pair_layout, string_layout, value_layout}
-use Rattle.graphql_values.specs.ValueLayout.{items_layout, members_layout, type_layout, each_argument, arguments_layout, directive_layout, directives_layout}
-use Rattle.graphql_values.specs.Lines.{in_braces, each_after, separated, in_parentheses, default_layout}
-use Rattle.graphql_values.specs.Printable.{value_brackets, items_brackets, members_brackets, type_brackets, argument_brackets, arguments_brackets}
-use Rattle.graphql_values.specs.Printable.{directive_brackets, directives_brackets}
-use Rattle.graphql_values.specs.TreeDepth.{most, most_enclosed}
+use Rattle.graphql_core.specs.{ignored, bracket_of, Opens, Closes}
+use Rattle.graphql_core.proofs.{Rises, rises_as, none_rise, gap_rises, level_rises, both_rise, gap_sinks, closer_sinks, both_sink, opener_rises, either_rises}
+use Rattle.graphql_values.specs.{float, string, item, enum, object, no_items, int, flat_map, option_map_or, Punctuator, Layout, Part, ValueTree, ValueItems}
+use Rattle.graphql_values.specs.{ValueMembers, TypeTree, named, list_of, non_null, DirectiveTree, has_block_form, before_part, after_parts, parts, enclosed}
+use Rattle.graphql_values.specs.{inside, pair_layout, string_layout, value_layout, items_layout, members_layout, type_layout, each_argument, arguments_layout}
+use Rattle.graphql_values.specs.{directive_layout, directives_layout, in_braces, each_after, separated, in_parentheses, default_layout, value_brackets}
+use Rattle.graphql_values.specs.{items_brackets, members_brackets, type_brackets, argument_brackets, arguments_brackets, directive_brackets}
+use Rattle.graphql_values.specs.{directives_brackets, most, most_enclosed, variable, boolean, null, list, no_members, member}
 
 -- ---- parts between brackets
 
@@ -81,38 +72,7 @@ type_rises (list_of t) =
     (opener_rises refl (both_sink (type_rises t) (closer_sinks refl none_rise)))
 type_rises (non_null t) = rises_as {m = max (type_brackets t) 0} {n = type_brackets t} (omega arith) (both_rise (type_rises t) (level_rises refl none_rise))
 
--- ---- arguments and directives
-
-each_rises : (style : Layout) (margin : ℕ) (arguments : List (List ℕ × ValueTree))
-    → AllRise (most argument_brackets arguments) (each_argument style margin arguments)
-each_rises style margin [] = none_at_all
-each_rises style margin (a ∷ more) = one_more (pair_rises a.0 (value_rises style margin a.1)) (each_rises style margin more)
-
-pub arguments_rise : (style : Layout) (margin : ℕ) (arguments : List (List ℕ × ValueTree))
-    → Rises (arguments_brackets arguments) (arguments_layout style margin arguments)
-arguments_rise style margin [] = none_rise
-arguments_rise style margin (a ∷ more) = enclosed_rises style margin (codes "(") (codes ")") refl refl (each_rises style (inside style margin) (a ∷ more))
-
-pub directive_rises : (style : Layout) (margin : ℕ) (d : DirectiveTree) → Rises (directive_brackets d) (directive_layout style margin d)
-directive_rises style margin d = level_rises refl (level_rises refl (arguments_rise style margin d.arguments))
-
-pub directives_rise : (style : Layout) (margin : ℕ) (ds : List DirectiveTree) → Rises (directives_brackets ds) (directives_layout style margin ds)
-directives_rise style margin [] = none_rise
-directives_rise style margin (d ∷ ds) = gap_rises _ (both_rise (directive_rises style margin d) (directives_rise style margin ds))
-
--- ---- lines, definitions and defaults
-
-pub braces_rise : {n : ℕ} {lines : List Part} (margin : ℕ) → Rises n lines → Rises (n + 1) (in_braces margin lines)
-braces_rise {n} margin h =
-    rises_as {m = max n 0 + 1} {n = n + 1} (omega arith)
-    (opener_rises refl (gap_sinks _ (both_sink h (gap_sinks _ (closer_sinks refl (gap_rises _ none_rise))))))
-
-pub line_end_rises : {n : ℕ} {ps : List Part} (text : List ℕ) → Rises n ps → Rises n (ps ++ ignored text ∷ [])
-line_end_rises {n} text h = rises_as {m = max n 0} {n = n} (omega arith) (both_rise h (gap_rises text none_rise))
-
-pub default_rises : (style : Layout) (margin : ℕ) (v : Option ValueTree) → Rises (option_map_or value_brackets v 0) (default_layout style margin v)
-default_rises style margin None = none_rise
-default_rises style margin (Some v) = gap_rises _ (level_rises refl (gap_rises _ (value_rises style margin v)))
+-- ---- lists
 
 module _ {A : Type 0} (lines : A → List Part) (brackets : A → ℕ) (rise : (x : A) → Rises (brackets x) (lines x)) where
   pub lines_rise : (xs : List A) → Rises (most brackets xs) (flat_map lines xs)
@@ -134,3 +94,35 @@ module _ {A : Type 0} (lines : A → List Part) (brackets : A → ℕ) (rise : (
       let n = most brackets xs in
       rises_as {m = max m (max n 0) + 1} {n = max m n + 1} (omega arith)
       (opener_rises refl (both_sink (rise x) (both_sink (each_after_rise (codes ", ") xs) (closer_sinks refl none_rise))))
+
+-- ---- arguments and directives
+
+each_rises : (style : Layout) (margin : ℕ) (arguments : List (List ℕ × ValueTree))
+    → AllRise (most argument_brackets arguments) (each_argument style margin arguments)
+each_rises style margin [] = none_at_all
+each_rises style margin (a ∷ more) = one_more (pair_rises a.0 (value_rises style margin a.1)) (each_rises style margin more)
+
+pub arguments_rise : (style : Layout) (margin : ℕ) (arguments : List (List ℕ × ValueTree))
+    → Rises (arguments_brackets arguments) (arguments_layout style margin arguments)
+arguments_rise style margin [] = none_rise
+arguments_rise style margin (a ∷ more) = enclosed_rises style margin (codes "(") (codes ")") refl refl (each_rises style (inside style margin) (a ∷ more))
+
+pub directive_rises : (style : Layout) (margin : ℕ) (d : DirectiveTree) → Rises (directive_brackets d) (directive_layout style margin d)
+directive_rises style margin d = level_rises refl (level_rises refl (arguments_rise style margin d.arguments))
+
+pub directives_rise : (style : Layout) (margin : ℕ) (ds : List DirectiveTree) → Rises (directives_brackets ds) (directives_layout style margin ds)
+directives_rise style margin = each_after_rise (directive_layout style margin) directive_brackets (directive_rises style margin) (codes " ")
+
+-- ---- lines and defaults
+
+pub braces_rise : {n : ℕ} {lines : List Part} (margin : ℕ) → Rises n lines → Rises (n + 1) (in_braces margin lines)
+braces_rise {n} margin h =
+    rises_as {m = max n 0 + 1} {n = n + 1} (omega arith)
+    (opener_rises refl (gap_sinks _ (both_sink h (gap_sinks _ (closer_sinks refl (gap_rises _ none_rise))))))
+
+pub line_end_rises : {n : ℕ} {ps : List Part} (text : List ℕ) → Rises n ps → Rises n (ps ++ ignored text ∷ [])
+line_end_rises {n} text h = rises_as {m = max n 0} {n = n} (omega arith) (both_rise h (gap_rises text none_rise))
+
+pub default_rises : (style : Layout) (margin : ℕ) (v : Option ValueTree) → Rises (option_map_or value_brackets v 0) (default_layout style margin v)
+default_rises style margin None = none_rise
+default_rises style margin (Some v) = gap_rises _ (level_rises refl (gap_rises _ (value_rises style margin v)))

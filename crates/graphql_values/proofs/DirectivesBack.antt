@@ -1,25 +1,19 @@
 -- The layouts of arguments, directives and defaults are read back.
 use Rattle.std.proofs.Common.{◌≡◌, ℕ, ◌+◌, ◌≤◌, Bool, true, false, List, [], ◌∷◌, ◌++◌, Option, Some, None, codes, refl, ap, ap₂, arith}
-use Rattle.std.specs.List.{AllByRecursion}
-use Rattle.std.specs.Option.{IfSome, option_map_or}
-use Rattle.graphql_grammar.specs.Trees.{Many, Sym, optional}
-use Rattle.graphql_core.specs.Style.{Layout}
-use Rattle.graphql_core.specs.Parts.{mark, gap}
-use Rattle.graphql_values.specs.Values.{ValueTree, DirectiveTree, no_place, erase, erase_all}
-use Rattle.graphql_values.specs.ValueLayout.{value_layout, parts, inside, each_argument, arguments_layout, directive_layout, directives_layout}
-use Rattle.graphql_values.specs.Lines.{default_layout}
-use Rattle.graphql_values.specs.Grammar.{shared, argument_symbol, arguments_symbol, directive_symbol, directives_symbol, default_symbol}
-use Rattle.graphql_values.specs.Meanings.{spelling_at, pairs_of, optional_arguments_of, directive_of, each_directive_of, directives_of, default_of}
-use Rattle.graphql_values.specs.Meanings.{optional_default_of}
-use Rattle.graphql_values.specs.Printable.{IsPrintableArgument, IsPrintableDirective, IsPrintableDefault, argument_brackets, arguments_brackets}
-use Rattle.graphql_values.specs.TreeDepth.{most}
-use Rattle.graphql_values.specs.Printable.{directive_brackets, directives_brackets, value_brackets}
-use Rattle.graphql_values.specs.Lawful.{IsLawful, AreLawfulArguments, AreLawfulDirectives}
+use Rattle.graphql_core.specs.{mark}
+use Rattle.graphql_core.proofs.Back.{Back}
+use Rattle.graphql_core.proofs.{as_word_back, means, gap_back, word_back, mark_back, open_back, close_back, nothing_back, both_back, first_back, second_back}
+use Rattle.graphql_core.proofs.{node_back, stop_back, more_back, three_back}
+use Rattle.graphql_values.specs.{AllByRecursion, IfSome, option_map_or, Many, Sym, optional, Layout, gap, ValueTree, DirectiveTree, no_place, erase, erase_all}
+use Rattle.graphql_values.specs.{value_layout, parts, inside, each_argument, arguments_layout, directive_layout, directives_layout, default_layout, shared}
+use Rattle.graphql_values.specs.{argument_symbol, arguments_symbol, directive_symbol, directives_symbol, default_symbol, spelling_at, pairs_of}
+use Rattle.graphql_values.specs.{optional_arguments_of, directive_of, directives_of, default_of, optional_default_of, IsPrintableArgument, IsPrintableDirective}
+use Rattle.graphql_values.specs.{IsPrintableDefault, argument_brackets, arguments_brackets, most, directive_brackets, directives_brackets, value_brackets}
+use Rattle.graphql_values.specs.{IsLawful, AreLawfulArguments, AreLawfulDirectives, each_of}
 use Rattle.graphql_values.specs.declared.read.values.Sort.TheVariants.{Value, Constant}
 use Rattle.graphql_values.proofs.LeavesBack.{name_word}
-use Rattle.graphql_core.proofs.Back.{Back, as_word_back, means, gap_back, word_back, mark_back, open_back, close_back, nothing_back, both_back, first_back}
-use Rattle.graphql_core.proofs.Back.{second_back, node_back, stop_back, more_back, three_back}
 use Rattle.graphql_values.proofs.ValuesBack.{to_word, before_back, closer_back, pair_back, value_back}
+use Rattle.graphql_values.proofs.ListsBack.{each_after_back}
 
 module _ (style : Layout) where
   each_back : (margin : ℕ) (later : Bool) (args : List (List ℕ × ValueTree)) (d : ℕ) → AllByRecursion IsPrintableArgument args → AreLawfulArguments args
@@ -54,18 +48,12 @@ module _ (style : Layout) where
       (arguments_back margin t.arguments d is.1 lawful deep)
       (λ a n o ha hn ho. λ i. record { position = no_place; name = hn i; arguments = ho i }))
 
-  each_directive_back : (margin : ℕ) (ts : List DirectiveTree) (d : ℕ) → AllByRecursion IsPrintableDirective ts → AreLawfulDirectives ts
-      → d + directives_brackets ts ≤ 50
-      → Back shared (Many (Sym directive_symbol)) true d (directives_layout style margin ts) true d (λ x. erase_all (each_directive_of x) ≡ erase_all ts)
-  each_directive_back margin [] d is lawful deep = stop_back refl
-  each_directive_back margin (t ∷ ts) d (is, are) (law, laws) deep =
-      gap_back refl (more_back (directive_back margin t d is law (omega arith)) (each_directive_back margin ts d are laws (omega arith))
-      (λ x y hx hy. ap₂ (λ t us. t ∷ us) hx hy))
-
   pub directives_back : (margin : ℕ) (ts : List DirectiveTree) (d : ℕ) → AllByRecursion IsPrintableDirective ts → AreLawfulDirectives ts
       → d + directives_brackets ts ≤ 50
       → Back shared (Sym directives_symbol) true d (directives_layout style margin ts) true d (λ x. erase_all (directives_of x) ≡ erase_all ts)
-  directives_back margin ts d is lawful deep = node_back (λ x. refl) (each_directive_back margin ts d is lawful deep)
+  directives_back margin ts d is lawful deep =
+      node_back (λ x. refl) (each_after_back d directive_of erase (directive_layout style margin) IsPrintableDirective (λ t. AreLawfulArguments t.arguments)
+      directive_brackets (λ t p q b. directive_back margin t d p q b) 32 [] refl ts is lawful deep)
 
   -- what stands after an optional default's first space
   pub default_back : (margin : ℕ) (v : ValueTree) (d : ℕ) → IsPrintableDefault v → IsLawful v → d + value_brackets v ≤ 50

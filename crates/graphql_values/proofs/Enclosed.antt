@@ -3,12 +3,10 @@ use Rattle.std.proofs.Common.{◌≡◌, ◌++◌, ◌∙◌, ap, sym, refl, ℕ
 use Rattle.std.proofs.Common.{append_assoc, append-nil, arith}
 use Rattle.std.proofs.lemmas.Bool.{eqb-false}
 use Rattle.std.proofs.Math.Nat.{mul-le-mul_left}
-use Rattle.graphql_core.specs.Style.{Layout, spaces}
-use Rattle.graphql_core.specs.Parts.{Part, text_of, mark, gap, new_line}
-use Rattle.graphql_values.specs.ValueLayout.{inside, opened, before_part, parts, after_parts, enclosed, pair_layout, each_argument, arguments_layout}
-use Rattle.graphql_values.specs.ValueLayout.{arguments_levels, most_levels, directive_layout, directives_layout}
-use Rattle.graphql_values.specs.Lines.{in_braces}
-use Rattle.graphql_values.specs.Values.{ValueTree, DirectiveTree}
+use Rattle.graphql_core.specs.{mark}
+use Rattle.graphql_values.specs.{text_of, Layout, spaces, Part, gap, new_line, inside, opened, before_part, parts, after_parts, enclosed, pair_layout}
+use Rattle.graphql_values.specs.{each_argument, arguments_layout, arguments_levels, most_levels, directive_layout, directives_layout, in_braces, ValueTree}
+use Rattle.graphql_values.specs.{DirectiveTree}
 use Rattle.graphql_values.proofs.Appending.{text_append, and_part}
 
 -- ---- levels

@@ -2,33 +2,23 @@
 use Rattle.std.proofs.Common.{◌≡◌, ℕ, suc, true, false, List, [], ◌∷◌, ◌++◌, length, take, drop, Option, Some, None, is_some, refl, sym, ap, subst, ◌∙◌}
 use Rattle.std.proofs.Common.{le_refl, arith}
 use Rattle.std.proofs.lemmas.List.{drop_at, drop_all}
-use Rattle.std.proofs.lemmas.Bool.{and_parts, both_ways}
-use Rattle.std.proofs.lemmas.Bool.Decides.{nat_tests}
-use Rattle.graphql_grammar.specs.Tokens.{Token, Class, AnyOf, matches}
-use Rattle.graphql_grammar.specs.Trees.{Sym, Shape, Node, Grammar, Begins}
-use Rattle.graphql_grammar.specs.Reading.{Reason, Unexpected, Improper, Refused, unchecked, lax}
-use Rattle.graphql_grammar.specs.Texts as texts
-use Rattle.graphql_grammar.specs.Texts.{Answers, Answer}
-use Rattle.graphql_grammar.specs.Faults.{IsFault, bad_place, leaf_refused, node_refused, IsLeast, index_of}
-use Rattle.graphql_grammar.specs.Faults.{unexpected as unexpected_item}
-use Rattle.graphql_grammar.proofs.FaultedFor.{one_node_for}
-use Rattle.graphql_lexer.specs.declared.tokenizer.token.Kind.TheVariants.{IntValue, FloatValue, StringValue}
-use Rattle.graphql_core.specs.Source.{Items, Last, End, Wrong, IsEnd, FaultText, fault_by, fault_at, place_next, split}
-use Rattle.graphql_core.specs.Causes.{CauseText, int_out_of_range, malformed_float, bad_escape, is_unexpected}
-use Rattle.graphql_lexer.specs.Items.{Where, Item, item, Content, Lexeme}
-use Rattle.graphql_lexer.specs.Items as items_of
-use Rattle.graphql_lexer.proofs.OneCut.{items_unique}
-use Rattle.graphql_core.proofs.FloatLiterals.{literal_is_float}
-use Rattle.graphql_values.specs.Grammar.{any}
-use Rattle.graphql_values.specs.Leaves.{is_good, unquoted, without_ends}
-use Rattle.graphql_values.specs.Language.{Language, reading}
-use Rattle.graphql_values.specs.Document.{IsDocument}
-use Rattle.graphql_values.specs.Faults.{ending_of, text_of, HasNoValue, out_of_range, malformed, escaped_badly, Says, IsFaultAt, IsLeastFault, NoneGoesOn}
-use Rattle.graphql_values.specs.Faults.{IsFaultOf, IsLeastFaultOf, HasOneFaultAt, HasOneFaultEach, HasNoFault, IsFaultAfter, unexpected, no_value, IsFirstFault}
-use Rattle.graphql_values.specs.Faults.{IsFirstFaultOf}
+use Rattle.std.proofs.lemmas.Bool.{both_ways}
+use Rattle.graphql_grammar.specs.{Begins, unchecked, Answers, Answer, IsFault, bad_place, leaf_refused, node_refused, index_of, unexpected as unexpected_item}
+use Rattle.graphql_grammar.proofs.{one_node_for}
+use Rattle.graphql_lexer.specs.{Content}
+use Rattle.graphql_core.specs.{Grammar, fault_at, int_out_of_range, malformed_float, bad_escape, Lexeme, item}
+use Rattle.graphql_core.proofs.{and_parts, nat_tests, items_unique, literal_is_float}
+use Rattle.graphql_values.specs.{no_value, Wrong, Token, Class, AnyOf, matches, Sym, Shape, Node, Reason, Unexpected, Improper, Refused, lax, IsLeast, IntValue}
+use Rattle.graphql_values.specs.{FloatValue, StringValue, Items, Last, End, IsEnd, FaultText, fault_by, place_next, split, CauseText, is_unexpected, Where}
+use Rattle.graphql_values.specs.{Item, any, is_good, unquoted, without_ends, reading, IsDocument, ending_of, numbered, HasNoValue, out_of_range, malformed}
+use Rattle.graphql_values.specs.{escaped_badly, Says, IsFaultAt, IsLeastFault, NoneGoesOn, IsFaultOf, IsLeastFaultOf, HasOneFaultAt, HasOneFaultEach}
+use Rattle.graphql_values.specs.{HasNoFault, IsFaultAfter, IsFirstFault, IsFirstFaultOf, unexpected}
+use Rattle.graphql_values.specs.Language.{Language}
 use Rattle.graphql_values.proofs.StringValues.{has_unquoted}
 use Rattle.graphql_values.proofs.LeafValues.{in_range, whole_exponent, in_quotes}
-use Rattle.graphql_values.proofs.Readable.{IsReadable, whole, least, whole_reading}
+use Rattle.graphql_values.proofs.Readable.{IsReadable, whole_texts, least, whole_reading}
+use Rattle.graphql_grammar.specs.Texts as texts
+use Rattle.graphql_lexer.specs.Items as items_of
 
 pub ends : (l : Last) → IsEnd l → ending_of l ≡ texts.End
 ends (End p) h = refl
@@ -99,20 +89,20 @@ module _ {D : Type 0} (l : Language D) (r : IsReadable l) where
 
   -- n items of i stand before those of j
   module _ (i j : Items) (n : ℕ) (later : drop n i.tokens ≡ j.tokens) (last : i.last ≡ j.last) (f : FaultText) where
-    pub unexpected_here : IsLeast l.grammar (Sym l.document) (text_of i) Unexpected (suc n) → f ≡ fault_at j → IsLeastFault l i f
+    pub unexpected_here : IsLeast l.grammar (Sym l.document) (numbered i) Unexpected (suc n) → f ≡ fault_at j → IsLeastFault l i f
     unexpected_here w h = (suc n, Unexpected, w, h ∙ sym (λ k. fault_by (later k) (last k)))
 
-    pub no_value_here : (c : Class) (k : CauseText) → Misses c k → IsLeast l.grammar (Sym l.document) (text_of i) (Improper c) (suc n)
+    pub no_value_here : (c : Class) (k : CauseText) → Misses c k → IsLeast l.grammar (Sym l.document) (numbered i) (Improper c) (suc n)
         → f.cause ≡ k → f.place ≡ place_next j → IsLeastFault l i f
     no_value_here c k lacks w cause place =
-        let (u, us, front, p, m, is, not_good) = refused_leaf (text_of i) c (suc n) w.0 in
+        let (u, us, front, p, m, is, not_good) = refused_leaf (numbered i) c (suc n) w.0 in
         let here : drop n i.tokens ≡ u ∷ us = ap (drop n) p ∙ drop_at front (u ∷ us) n (omega (arith, m)) in
         let at : place_next j ≡ u.place = ap (λ ts. (fault_by ts j.last).place) (sym later ∙ here) in
         (suc n, Improper c, w, (u, us, here, subst (l.lacks c u) (sym cause) (lacks u is not_good), place ∙ at))
 
   -- ---- one fault an index
 
-  one_said : (why : Reason) (i : Items) (n : ℕ) (f g : FaultText) → IsFault l.grammar (Sym l.document) (text_of i) why n
+  one_said : (why : Reason) (i : Items) (n : ℕ) (f g : FaultText) → IsFault l.grammar (Sym l.document) (numbered i) why n
       → Says l why i n f → Says l why i n g → f ≡ g
   one_said Unexpected i n f g x h k = h ∙ sym k
   one_said (Improper c) i n f g x (t, ts, p, lacks, at) (u, us, q, lacks', at') =
@@ -127,7 +117,7 @@ module _ {D : Type 0} (l : Language D) (r : IsReadable l) where
 
   pub one_at : (i : Items) → HasOneFaultAt l i
   one_at i f g n (why, x, said) (other, y, said') =
-      let reason = (least l r).one_index (text_of i) why other n x y in
+      let reason = (least l r).one_index (numbered i) why other n x y in
       one_said why i n f g x said (subst (λ (q : Reason). Says l q i n g) (sym reason) said')
 
   pub one_each : (text : List ℕ) → HasOneFaultEach l text
@@ -136,8 +126,8 @@ module _ {D : Type 0} (l : Language D) (r : IsReadable l) where
 
   pub one_least : (text : List ℕ) (f g : FaultText) → IsLeastFaultOf l text f → IsLeastFaultOf l text g → f ≡ g
   one_least text f g (items, has, (n, why, x, said)) (others, has', (m, other, y, said')) =
-      let same = subst (λ (is : List Item). IsLeast l.grammar (Sym l.document) (text_of (split is)) other m) (items_unique text others items has' has) y in
-      let at = ((least l r).one (text_of (split items)) why other n m x same).1 in
+      let same = subst (λ (is : List Item). IsLeast l.grammar (Sym l.document) (numbered (split is)) other m) (items_unique text others items has' has) y in
+      let at = ((least l r).one (numbered (split items)) why other n m x same).1 in
       one_each text f g n (items, has, (why, x.0, said))
       (subst (λ (k : ℕ). IsFaultOf l text g k) (sym at) (others, has', (other, y.0, said')))
 
@@ -145,8 +135,8 @@ module _ {D : Type 0} (l : Language D) (r : IsReadable l) where
 
   pub no_fault_in : (i : Items) (d : D) (f : FaultText) (n : ℕ) → IsDocument l i d → IsFaultAt l i f n → ⊥
   no_fault_in i d f n (x, derived, at_end, means) (why, fault, said) =
-      let c = (whole l r).complete (text_of i) x derived (ends i.last at_end) in
-      (least l r).tree (text_of i) c.0 c.1 why n fault
+      let c = (whole_texts l r).complete (numbered i) x derived (ends i.last at_end) in
+      (least l r).tree (numbered i) c.0 c.1 why n fault
 
   pub no_fault : (text : List ℕ) (d : D) → HasNoFault l text d
   no_fault text d (items, has, document) f n (others, has', fault) =
@@ -160,7 +150,7 @@ module _ {D : Type 0} (l : Language D) (r : IsReadable l) where
       (nodes_not : (node : Shape) (f : FaultText) → l.refuses node f → is_unexpected f.cause ≡ false)
     where
       none_at : (items : List Item) (f : FaultText) (n : ℕ) → is_unexpected f.cause ≡ true
-          → IsFault l.grammar (Sym l.document) (text_of (split items)) Unexpected n → Says l Unexpected (split items) n f → NoneGoesOn l (split items) f
+          → IsFault l.grammar (Sym l.document) (numbered (split items)) Unexpected n → Says l Unexpected (split items) n f → NoneGoesOn l (split items) f
       none_at items f _ cause (bad_place bad) said =
           let none : drop (length (split items).tokens) (split items).tokens ≡ [] = drop_all (length (split items).tokens) _ (le_refl _) in
           let at_last : f ≡ fault_by [] (split items).last = said ∙ ap (λ (ts : List Token). fault_by ts (split items).last) none in
@@ -170,7 +160,7 @@ module _ {D : Type 0} (l : Language D) (r : IsReadable l) where
           (front, us, parts, said ∙ ap (λ (ts : List Token). fault_by ts (split items).last) here, begins, stops)
 
       none_by : (items : List Item) (f : FaultText) (n : ℕ) (why : Reason) → is_unexpected f.cause ≡ true
-          → IsFault l.grammar (Sym l.document) (text_of (split items)) why n → Says l why (split items) n f → NoneGoesOn l (split items) f
+          → IsFault l.grammar (Sym l.document) (numbered (split items)) why n → Says l why (split items) n f → NoneGoesOn l (split items) f
       none_by items f n Unexpected cause fault said = none_at items f n cause fault said
       none_by items f n (Improper c) cause fault (t, rest, is, lacks, at) = absurd (both_ways _ (leaves_not c t f.cause lacks) cause)
       none_by items f n (Refused k) cause fault (before, us, x, refused, at, said) = absurd (both_ways _ (nodes_not (Node k x) f said) cause)
@@ -188,8 +178,8 @@ module _ {D : Type 0} (l : Language D) (r : IsReadable l) where
 
     module _ (i : Items) (f : FaultText) (place : ℕ) where
       -- the fault after the first items, where the theory answers that place for this reason
-      after_first : (why : Reason) → texts.IsFaultAt l.grammar (Sym l.document) (text_of i) why place
-          → IsFault l.grammar (Sym l.document) (text_of i) why (index_of why place) → Says l why i (index_of why place) f
+      after_first : (why : Reason) → texts.IsFaultAt l.grammar (Sym l.document) (numbered i) why place
+          → IsFault l.grammar (Sym l.document) (numbered i) why (index_of why place) → Says l why i (index_of why place) f
           → IsFaultAfter l (take place i.tokens) (drop place i.tokens) i.last f
       after_first Unexpected w x said =
           subst (IsFaultAfter l (take place i.tokens) (drop place i.tokens) i.last) (sym said) (unexpected (w.unexpected refl))
@@ -201,15 +191,15 @@ module _ {D : Type 0} (l : Language D) (r : IsReadable l) where
           let here = subst (λ (us : List Token). IsFaultAfter l (take place i.tokens) us i.last (record { cause = f.cause; place = t.place }))
           (sym is) found in
           subst (IsFaultAfter l (take place i.tokens) (drop place i.tokens) i.last) (λ k. record { cause = f.cause; place = sym at k }) here
-      after_first (Refused k) w x said = absurd (none_refused (text_of i) k place x)
+      after_first (Refused k) w x said = absurd (none_refused (numbered i) k place x)
 
-    first_by : (i : Items) (f : FaultText) (n : ℕ) (why : Reason) → IsLeast l.grammar (Sym l.document) (text_of i) why n → Says l why i n f
-        → (a : Answer) → Answers (reading l) (Sym l.document) (text_of i) a → IsFirstFault l i f
-    first_by i f n why w said (texts.Tree x) a = absurd ((least l r).tree (text_of i) x a why n w.0)
+    first_by : (i : Items) (f : FaultText) (n : ℕ) (why : Reason) → IsLeast l.grammar (Sym l.document) (numbered i) why n → Says l why i n f
+        → (a : Answer) → Answers (reading l) (Sym l.document) (numbered i) a → IsFirstFault l i f
+    first_by i f n why w said (texts.Tree x) a = absurd ((least l r).tree (numbered i) x a why n w.0)
     first_by i f n why w said (texts.Wrong other place) a =
-        let is = (least l r).wrong (text_of i) other place a in
-        let (reason, at) = (least l r).one (text_of i) why other n (index_of other place) w is in
-        let x = (whole l r).wrong (text_of i) other place a in
+        let is = (least l r).wrong (numbered i) other place a in
+        let (reason, at) = (least l r).one (numbered i) why other n (index_of other place) w is in
+        let x = (whole_texts l r).wrong (numbered i) other place a in
         let said_here = subst (λ (k : ℕ). Says l why i k f) at said in
         let said_other = subst (λ (q : Reason). Says l q i (index_of other place) f) reason said_here in
         let begins = subst (λ (g : Grammar). Begins g (Sym l.document) (take place i.tokens)) no_checks x.begins in
@@ -217,5 +207,5 @@ module _ {D : Type 0} (l : Language D) (r : IsReadable l) where
 
     pub least_is_first : (text : List ℕ) (f : FaultText) → IsLeastFaultOf l text f → IsFirstFaultOf l text f
     least_is_first text f (items, has, (n, why, w, said)) =
-        let a = (whole_reading l r).answer (text_of (split items)) in
+        let a = (whole_reading l r).answer (numbered (split items)) in
         (items, has, first_by (split items) f n why w said a.0 a.1)

@@ -1,30 +1,21 @@
 -- Texts with alike tokens have alike faults: at one index, for one reason and of one cause.
-use Rattle.std.proofs.Common.{◌≡◌, ℕ, zero, suc, Bool, true, false, ◌&&◌, List, [], ◌∷◌, ◌++◌, length, map, drop, refl, sym, ap, ◌∙◌, subst}
-use Rattle.std.proofs.lemmas.List.{map-append, length-map, drop-map}
 use Rattle.std.specs.Int.RustNames.{FitsSigned}
-use mir.Syntax.{w64}
-use Rattle.graphql_grammar.specs.Tokens.{Token, Class, matches}
-use Rattle.graphql_grammar.specs.Trees.{Expr, Then, Many, Sym, Shape, Node, Grammar, leaves, peek, accepts, Begins, Ends}
-use Rattle.graphql_grammar.specs.Reading.{Reason, Unexpected, Improper, Refused, lax}
-use Rattle.graphql_grammar.specs.Leads.{Leads, leads_here, leads_before, leads_after, leads_first, leads_second, leads_turn, leads_later, leads_node}
-use Rattle.graphql_grammar.specs.Texts.{Text}
-use Rattle.graphql_grammar.specs.Faults.{IsRefused, IsFault, bad_place, unexpected, leaf_refused, node_refused, IsLeast}
-use Rattle.graphql_lexer.specs.Items.{Item}
-use Rattle.graphql_lexer.proofs.OneCut.{items_unique}
-use Rattle.graphql_core.specs.Causes.{CauseText, unexpected_token}
-use Rattle.graphql_core.specs.Source.{Items, Last, End, Wrong, IsEnd, split, fault_by, FaultText}
-use Rattle.graphql_core.specs.Minified.{unplaced, IsMinified}
-use Rattle.graphql_core.specs.Literals.{IsFloatLiteral}
-use Rattle.graphql_core.specs.Strings as strings
-use Rattle.graphql_core.specs.Strings.{IsInQuotes}
-use Rattle.graphql_core.proofs.Minifying.{minified_tokens}
-use Rattle.graphql_values.specs.Leaves.{int_of}
+use Rattle.std.proofs.Common.{◌≡◌, ℕ, zero, suc, Bool, true, false, ◌&&◌, List, [], ◌∷◌, ◌++◌, length, map, drop, refl, sym, ap, ◌∙◌, subst, w64}
+use Rattle.std.proofs.lemmas.List.{map-append, length-map, drop-map}
+use Rattle.graphql_grammar.specs.{Begins, Ends, leads_here, leads_after, leads_turn, leads_later, Text, IsRefused, IsFault, bad_place, unexpected, leaf_refused}
+use Rattle.graphql_grammar.specs.{node_refused, leads_before, leads_second, leads_first}
+use Rattle.graphql_core.specs.{Grammar, unexpected_token, IsInQuotes}
+use Rattle.graphql_core.proofs.{items_unique, minified_tokens}
+use Rattle.graphql_values.specs.{Wrong, Token, Class, matches, Expr, Then, Many, Sym, Shape, Node, leaves, peek, accepts, Reason, Unexpected, Improper, Refused}
+use Rattle.graphql_values.specs.{lax, Leads, leads_node, IsLeast, Item, CauseText, Items, Last, End, IsEnd, split, fault_by, FaultText, unplaced, IsMinified}
+use Rattle.graphql_values.specs.{IsFloatLiteral, int_of, numbered, from_item, HasNoValue, out_of_range, malformed, escaped_badly, Says, IsLeastFault}
+use Rattle.graphql_values.specs.{IsLeastFaultOf}
 use Rattle.graphql_values.specs.Language.{Language}
-use Rattle.graphql_values.specs.Faults.{text_of, from_item, HasNoValue, out_of_range, malformed, escaped_badly, Says, IsLeastFault, IsLeastFaultOf}
 use Rattle.graphql_values.proofs.Bare.{bare, Alike, alike_split, refilled}
 use Rattle.graphql_values.proofs.Unplaced.{IgnoresPlaces}
 use Rattle.graphql_values.proofs.Readable.{IsReadable}
 use Rattle.graphql_values.proofs.Faults.{ends, one_least}
+use Rattle.graphql_core.specs.Strings as strings
 
 -- ---- alike tokens
 
@@ -216,7 +207,7 @@ module _ {D : Type 0} (l : Language D) (p : IgnoresPlaces l) (q : RefusesAlike l
   least_fault_alike a b h end last f (n, why, least, said) =
       let (g, told, cause) = says_alike why a b h end last n f said in (
         g,
-        (n, why, least_alike l.grammar p.accepts p.checks (Sym l.document) (text_of a) (text_of b) h (ends b.last last ∙ sym (ends a.last end)) least, told),
+        (n, why, least_alike l.grammar p.accepts p.checks (Sym l.document) (numbered a) (numbered b) h (ends b.last last ∙ sym (ends a.last end)) least, told),
         cause,
       )
 

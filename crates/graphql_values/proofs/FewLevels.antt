@@ -1,12 +1,8 @@
 -- Where arguments stand in one line, values, default values, arguments and directives open one level at most: a string in block form.
 use Rattle.std.proofs.Common.{◌≡◌, ◌≤◌, ℕ, Bool, true, false, if◌then◌else◌, List, [], ◌∷◌, Option, Some, None, arith}
-use Rattle.graphql_core.specs.Style.{Layout}
-use Rattle.graphql_values.specs.Values.{ValueTree, variable, int, float, string, boolean, null, enum, list, object, ValueItems, no_items, item, ValueMembers}
-use Rattle.graphql_values.specs.Values.{no_members, member, DirectiveTree}
-use Rattle.graphql_values.specs.ValueLayout.{has_block_form, opened, string_levels, value_levels, items_levels, members_levels, most_levels, arguments_levels}
-use Rattle.graphql_values.specs.ValueLayout.{directives_levels}
-use Rattle.graphql_values.specs.Lines.{default_levels}
-use Rattle.graphql_values.specs.TreeDepth.{most}
+use Rattle.graphql_values.specs.{float, string, item, enum, object, no_items, int, Layout, ValueTree, ValueItems, ValueMembers, DirectiveTree, has_block_form}
+use Rattle.graphql_values.specs.{opened, string_levels, value_levels, items_levels, members_levels, most_levels, arguments_levels, directives_levels}
+use Rattle.graphql_values.specs.{default_levels, most, variable, boolean, null, list, no_members, member}
 
 -- ---- lists of trees
 

@@ -1,12 +1,9 @@
 -- A language whose grammar grows: each document that it has before, it has after.
 use Rattle.std.proofs.Common.{◌≡◌, ℕ, true, List, length, Option, refl, sym, subst, ◌∙◌}
-use Rattle.graphql_grammar.specs.Trees.{Sym, Shape, leaves, Fits}
-use Rattle.graphql_grammar.specs.Extended.{is_below}
-use Rattle.graphql_grammar.specs.Grown.{Growth, grown, Grows}
-use Rattle.graphql_grammar.proofs.GrownTrees.{derives_on}
-use Rattle.graphql_core.specs.Source.{Items, split}
+use Rattle.graphql_grammar.specs.{Grows}
+use Rattle.graphql_grammar.proofs.{derives_on}
+use Rattle.graphql_values.specs.{Sym, Shape, leaves, Fits, is_below, Growth, grown, Items, split, IsDocument, IsDocumentOf}
 use Rattle.graphql_values.specs.Language.{Language}
-use Rattle.graphql_values.specs.Document.{IsDocument, IsDocumentOf}
 
 -- The later language l is the earlier one e with these new parts, and a document without them means the same in both.
 pub record IsGrown {D : Type 0} (ps : List (Option Growth)) (e l : Language D) : Type 0 where

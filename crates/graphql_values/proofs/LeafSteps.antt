@@ -1,20 +1,10 @@
 -- The next token as a leaf that has a value, or has none.
 use Rattle.std.proofs.Common.{◌≡◌, ℕ, true, false, List, Result, Ok, Err, refl, sym, ap, subst}
-use Rattle.std.proofs.lemmas.Bool.{and_from, eq-eqb}
-use Rattle.graphql_grammar.specs.Tokens.{matches}
-use Rattle.graphql_grammar.specs.Trees.{One, Shape, Leaf}
-use Rattle.graphql_grammar.specs.Reading.{Takes, Improper, Fails, fails_value}
-use Rattle.std.specs.Result.{IsErrAnd}
-use Rattle.graphql_core.specs.declared.helpers.read_error.ReadError.{ReadError}
-use Rattle.graphql_core.specs.declared.helpers.source.Lexeme.{Lexeme}
-use Rattle.graphql_lexer.specs.declared.tokenizer.token.Kind.{Kind}
-use Rattle.graphql_core.specs.Causes.{kind_number}
-use Rattle.graphql_core.specs.Source.{Items, after, lexeme_token}
-use Rattle.graphql_core.proofs.Matches.{takes_first}
-use Rattle.graphql_values.specs.Grammar.{shared, any}
-use Rattle.graphql_values.specs.steps.Answers.{Gives}
-use Rattle.graphql_values.specs.steps.Leaf.{IsNext, Shows}
-use Rattle.graphql_values.specs.Leaves.{has_value}
+use Rattle.std.proofs.lemmas.Bool.{eq-eqb}
+use Rattle.graphql_grammar.specs.{fails_value}
+use Rattle.graphql_core.proofs.{and_from, takes_first}
+use Rattle.graphql_values.specs.{Lexeme, matches, One, Shape, Leaf, Takes, Improper, Fails, IsErrAnd, ReadError, Kind, kind_number, Items, after, lexeme_token}
+use Rattle.graphql_values.specs.{shared, any, Gives, IsNext, Shows, has_value}
 use Rattle.graphql_values.proofs.Reading.{takes_one, stops_one}
 use Rattle.graphql_values.proofs.LeafValues.{IsSpelledAs, lexeme_spelled}
 

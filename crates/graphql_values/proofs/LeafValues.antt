@@ -1,29 +1,19 @@
 -- Which integers and floats have a value, and what stands between quotes.
-use Rattle.std.proofs.Common.{◌≡◌, ◌↔◌, ℕ, zero, suc, ℤ, pos, neg_ℤ, ◌-◌, ◌^◌, true, false, ◌==◌, nat_le, if◌then◌else◌, List, [], ◌∷◌, ◌++◌, length, take}
-use Rattle.std.proofs.Common.{drop, Ok, Err, refl, sym, ap, ◌∙◌, subst, inl, inr, arith, length-append}
-use mir.Syntax.{w64}
-use mir.Val.{to_z, of_z, SFits as FitsSigned}
-use Rattle.std.proofs.lemmas.Int.{to_z-of_z}
-use Rattle.std.specs.Char.{is_ascii_digit}
-use Rattle.std.specs.List.{list_all, list_any}
 use Rattle.std.specs.Str.Parse.{AllDigits, IsNumeral, ParsesSigned, starts_with_minus, without_leading_sign}
-use Rattle.std.proofs.lemmas.Bool.{and_parts, or_parts, cases_Bool, eqb-true, false_from_ne_true, leb-true, ltb-true, le-leb, lt-ltb, false≢true}
-use Rattle.std.proofs.lemmas.Bool.Decides.{nat_tests}
+use Rattle.std.proofs.Common.{◌≡◌, ◌↔◌, ℕ, zero, suc, ℤ, pos, neg_ℤ, ◌-◌, ◌^◌, true, false, ◌==◌, nat_le, if◌then◌else◌, List, [], ◌∷◌, ◌++◌, length, take}
+use Rattle.std.proofs.Common.{drop, Ok, Err, refl, sym, ap, ◌∙◌, subst, inl, inr, arith, length-append, w64, to_z, of_z, SFits as FitsSigned}
+use Rattle.std.proofs.lemmas.Int.{to_z-of_z}
+use Rattle.std.proofs.lemmas.Bool.{eqb-true, leb-true, ltb-true, le-leb, lt-ltb}
 use Rattle.std.proofs.lemmas.List.{take_at}
 use Rattle.std.proofs.lemmas.List.Folds.{list_any-append}
-use Rattle.graphql_grammar.specs.Tokens.{Token}
-use Rattle.graphql_lexer.specs.declared.tokenizer.token.Kind.{Kind}
-use Rattle.graphql_lexer.specs.declared.tokenizer.token.Kind.TheVariants.{Punctuator, Name, IntValue, FloatValue, StringValue, BlockString}
-use Rattle.graphql_lexer.specs.declared.tokenizer.piece.Nesting.{Nesting}
-use Rattle.graphql_core.specs.Causes.{kind_number}
-use Rattle.graphql_core.specs.Source.{IsLexeme}
-use Rattle.graphql_lexer.specs.Lexical.{is_natural, is_integer, is_fraction, is_exponent, IsFloat, with_fraction, with_exponent, with_both, ClosesBlock}
-use Rattle.graphql_lexer.specs.Lexical.{closing, escape, unit, Stands, Word, integer, float, string, block_string, name, mark, spread}
-use Rattle.graphql_core.specs.Literals.{is_whole_exponent, EndsFloat, fraction, exponent, both, IsFloatLiteral}
-use Rattle.graphql_core.specs.Strings.{IsInQuotes}
-use Rattle.graphql_core.specs.BlockStrings.{IsInTripleQuotes}
-use Rattle.graphql_lexer.proofs.Numbers.{natural_digits}
-use Rattle.graphql_values.specs.Leaves.{int_of, is_in_range, is_exponent_mark, after_mark, has_whole_exponent, without_ends}
+use Rattle.graphql_lexer.specs.{is_natural, is_fraction, is_exponent, IsFloat, with_fraction, with_exponent, with_both, ClosesBlock, closing, escape, unit}
+use Rattle.graphql_lexer.specs.{name, mark}
+use Rattle.graphql_lexer.proofs.{natural_digits}
+use Rattle.graphql_core.specs.{is_ascii_digit, IsLexeme, is_whole_exponent, EndsFloat, fraction, exponent, both, IsInQuotes, IsInTripleQuotes, Nesting, Stands}
+use Rattle.graphql_core.specs.{Word, integer, block_string, float, string, spread}
+use Rattle.graphql_core.proofs.{and_parts, or_parts, cases_Bool, false_from_ne_true, false≢true, nat_tests}
+use Rattle.graphql_values.specs.{list_all, list_any, Token, Kind, Punctuator, Name, IntValue, FloatValue, StringValue, BlockString, kind_number, is_integer}
+use Rattle.graphql_values.specs.{IsFloatLiteral, int_of, is_in_range, is_exponent_mark, after_mark, has_whole_exponent, without_ends}
 
 -- ---- integers
 
@@ -66,9 +56,9 @@ integer_numeral (b ∷ bs) h =
     ]
 
 -- `parse` reads an integer where it is in range
-pub parsed : (text run : List ℕ) (v : ℤ) → text ≡ run → is_integer run ≡ true → ParsesSigned {E = Unit {0}} w64 10 text (Ok v) → (is_in_range run ≡ true)
+pub integer_parsed : (text run : List ℕ) (v : ℤ) → text ≡ run → is_integer run ≡ true → ParsesSigned {E = Unit {0}} w64 10 text (Ok v) → (is_in_range run ≡ true)
     × (to_z w64 (of_z w64 v) ≡ int_of run)
-parsed text run v e h (p, is) =
+integer_parsed text run v e h (p, is) =
     let fits : FitsSigned w64 v = subst (FitsSigned w64) (sym is) p.1 in
     (subst (λ t. is_in_range t ≡ true) e ((in_range text).1 p.1), to_z-of_z w64 v fits ∙ is ∙ ap int_of e)
 

@@ -1,14 +1,10 @@
 -- What the leaves of a tree are spelled.
 use Rattle.std.proofs.Common.{◌≡◌, ℕ, true, not, ◌==◌, List, sym, ap, ◌∙◌}
-use Rattle.std.proofs.lemmas.Bool.{and_parts, both_ways, not-true}
-use Rattle.graphql_grammar.specs.Tokens.{Class, Except, kind_of, is_listed, matches}
-use Rattle.graphql_grammar.specs.Trees.{Grammar, One, Shape}
-use Rattle.graphql_core.specs.Causes.{kind_number}
-use Rattle.graphql_lexer.specs.declared.tokenizer.token.Kind.TheVariants.{Name}
-use Rattle.graphql_lexer.specs.Lexical.{IsName}
-use Rattle.graphql_core.proofs.NestingDepth.{class_name}
-use Rattle.graphql_core.proofs.BracketRoom.{HasRoom, room_leaf}
-use Rattle.graphql_values.specs.Meanings.{spelling_at}
+use Rattle.std.proofs.lemmas.Bool.{both_ways}
+use Rattle.graphql_grammar.specs.{kind_of}
+use Rattle.graphql_core.specs.{Grammar}
+use Rattle.graphql_core.proofs.{and_parts, not-true, class_name, HasRoom, room_leaf}
+use Rattle.graphql_values.specs.{Class, Except, is_listed, matches, One, Shape, kind_number, Name, IsName, spelling_at}
 
 -- a leaf of a class of names is spelled as a name
 pub leaf_name : {g : Grammar} {n : ℕ} {c : Class} {x : Shape} → kind_of c ≡ kind_number Name → HasRoom g n (One c) x → IsName (spelling_at x)

@@ -1,35 +1,21 @@
 -- Names, numbers and quoted strings as tokens of layouts: they stand as their kinds, and mean what was written.
+use Rattle.std.specs.Char.{IsScalar}
+use Rattle.std.specs.Str.Parse.{starts_with_minus, without_leading_plus}
 use Rattle.std.proofs.Common.{◌≡◌, ◌≢◌, ◌<◌, ◌≤◌, ℕ, zero, suc, ℤ, pos, negsuc, ◌+◌, ◌-◌, ◌/◌, ◌%◌, ◌^◌, Bool, true, false, cond, ◌&&◌, ◌==◌, nat_lt, List, []}
-use Rattle.std.proofs.Common.{◌∷◌, ◌++◌, get_or, codes, refl, sym, ap, ◌∙◌, subst, inl, inr, arith, eqb-true}
-use Rattle.std.proofs.lemmas.Bool.{cases_eq, and_parts, and_from, false_from_ne_true, ltb-true}
-use Rattle.std.proofs.lemmas.Bool.Decides.{nat_tests}
+use Rattle.std.proofs.Common.{◌∷◌, ◌++◌, get_or, codes, refl, sym, ap, ◌∙◌, subst, inl, inr, arith, eqb-true, w64, SFits}
+use Rattle.std.proofs.lemmas.Bool.{cases_eq, ltb-true}
 use Rattle.std.proofs.lemmas.Fmt.{decimal_is_IsNumeral, decimal_by_steps}
 use Rattle.std.proofs.lemmas.List.Folds.{list_all-append}
-use Rattle.std.proofs.lemmas.Str.{encode_ascii}
-use Rattle.std.specs.Char.{IsScalar}
-use Rattle.std.specs.Char.{is_ascii_digit, is_ascii_hexdigit}
-use Rattle.std.specs.Fmt.{decimal, signed_decimal}
-use Rattle.std.specs.List.{list_all, flat_map, AllByRecursion}
-use Rattle.std.specs.Str.Parse.{digits_value, starts_with_minus, without_leading_plus}
-use mir.Syntax.{w64}
-use mir.Val.{SFits}
-use Rattle.graphql_grammar.specs.Tokens.{is_listed, same_spelling}
-use Rattle.graphql_grammar.proofs.Classes.{same_spelling-true}
-use Rattle.graphql_lexer.specs.declared.tokenizer.token.Kind.TheVariants.{Name, IntValue, FloatValue, StringValue}
-use Rattle.graphql_lexer.specs.Lexical.{IsName, is_name_continue, is_delimiter, is_in, is_natural, is_integer, EndsRun, IsStringBody, empty, plain, escaped}
-use Rattle.graphql_lexer.specs.Lexical.{name, integer, float, string as a_string}
-use Rattle.graphql_core.specs.Literals.{IsFloatLiteral}
-use Rattle.graphql_core.specs.Strings as units
-use Rattle.graphql_core.specs.Strings.{NamesCharacter, StandsFor, HasValue}
-use Rattle.graphql_core.proofs.FloatLiterals.{literal_is_float}
-use Rattle.graphql_values.specs.Grammar.{shared, any, enum_class}
-use Rattle.graphql_values.specs.Leaves.{int_of, string_of, without_ends}
-use Rattle.graphql_values.specs.Printable.{IsNameBut}
-use Rattle.graphql_values.specs.ValueLayout.{hexadecimal_digit, unicode_escape, quoted_byte, quoted}
+use Rattle.graphql_grammar.proofs.{same_spelling-true}
+use Rattle.graphql_lexer.specs.{is_name_continue, is_delimiter, is_in, is_natural, EndsRun, IsStringBody, empty, plain, escaped, name}
+use Rattle.graphql_core.specs.{is_ascii_digit, is_ascii_hexdigit, digits_value, NamesCharacter, StandsFor, integer, float, string as a_string}
+use Rattle.graphql_core.proofs.{and_parts, and_from, false_from_ne_true, nat_tests, encode_ascii, literal_is_float, IsWord, Takes}
+use Rattle.graphql_values.specs.{decimal, signed_decimal, list_all, flat_map, AllByRecursion, is_listed, same_spelling, Name, IntValue, FloatValue, StringValue}
+use Rattle.graphql_values.specs.{IsName, is_integer, IsFloatLiteral, HasValue, shared, any, enum_class, int_of, string_of, without_ends, IsNameBut}
+use Rattle.graphql_values.specs.{hexadecimal_digit, unicode_escape, quoted_byte, quoted}
 use Rattle.graphql_values.proofs.LeafValues.{in_range, whole_exponent, in_quotes}
 use Rattle.graphql_values.proofs.StringValues.{some_unquoted, string_means}
-use Rattle.graphql_core.proofs.Laid.{IsWord}
-use Rattle.graphql_core.proofs.Back.{Takes}
+use Rattle.graphql_core.specs.Strings as units
 
 -- ---- names
 

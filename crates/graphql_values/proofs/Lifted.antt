@@ -1,18 +1,9 @@
 -- What readers of values, types and directives give holds where a language is read that goes on from them. And where a tree begins.
-use Rattle.std.proofs.Common.{◌≡◌, ◌<◌, true, List, [], ◌∷◌, ◌++◌, length, Option, Some, None, refl, sym, ap, subst, ◌∙◌, arith}
-use Rattle.graphql_grammar.specs.Tokens.{Token}
-use Rattle.graphql_grammar.specs.Trees.{Expr, Shape, leaves}
-use Rattle.graphql_grammar.specs.Reading.{Takes, Reason}
-use Rattle.graphql_grammar.specs.ReaderWords.{TakesSome, Stops}
-use Rattle.graphql_grammar.specs.Extended.{TestsAlike, is_below}
-use Rattle.graphql_grammar.specs.Factored.{written}
-use Rattle.graphql_grammar.proofs.SecondRules.{written-leaves}
-use Rattle.graphql_grammar.proofs.Extending.{reads_on, left_alone}
-use Rattle.graphql_grammar.proofs.Sound.{takes-fits, takes-leaves}
-use Rattle.graphql_core.specs.Source.{Items, Last, fault_by, place_next}
-use Rattle.graphql_values.specs.Grammar.{shared, shared_symbols}
-use Rattle.graphql_values.specs.Language.{Language, reading}
-use Rattle.graphql_values.specs.Meanings.{first_place}
+use Rattle.std.proofs.Common.{◌≡◌, ◌<◌, true, List, [], ◌∷◌, ◌++◌, length, Result, Ok, Err, Option, Some, None, refl, sym, ap, subst, ◌∙◌, arith}
+use Rattle.graphql_grammar.proofs.{written-leaves, reads_on, left_alone, takes-fits, takes-leaves}
+use Rattle.graphql_values.specs.{Token, Expr, Shape, leaves, Takes, Reason, TakesSome, Stops, TestsAlike, is_below, written, Items, Last, fault_by, place_next}
+use Rattle.graphql_values.specs.{shared, shared_symbols, reading, first_place, ReadError, Answered, reason_of}
+use Rattle.graphql_values.specs.Language.{Language}
 use Rattle.graphql_values.proofs.Readable.{IsReadable}
 
 first_of : (xs ts us : List Token) (l : Last) → ts ≡ xs ++ us → length us < length ts → first_place xs ≡ (fault_by ts l).place
@@ -40,3 +31,8 @@ module _ {D : Type 0} (l : Language D) (r : IsReadable l) where
     pub some_lifted : (ts us : List Token) (P : Shape → Type 0) → TakesSome shared e ts us P → TakesSome (reading l) e ts us (λ x. P (written l.changes x))
     some_lifted ts us P (x, h, p) =
         (x, takes_lifted ts us x h, subst P (sym (left_alone shared_symbols shared l.changes r.alone (takes-fits shared h) below)) p)
+
+    pub gives_lifted : {A : Type 0} (ts us : List Token) (P : A → Shape → Type 0) (v : Result A ReadError) → Answered reason_of shared e ts us P v
+        → Answered reason_of (reading l) e ts us (λ v x. P v (written l.changes x)) v
+    gives_lifted ts us P (Ok v) h = some_lifted ts us (P v) h
+    gives_lifted ts us P (Err d) h = stops_lifted ts us (reason_of d) h

@@ -1,11 +1,9 @@
 -- Lines in braces are read back, where a grammar takes the braces and what the lines are.
 use Rattle.std.proofs.Common.{ℕ, ◌+◌, ◌<◌, Bool, false, List, [], codes, refl}
-use Rattle.graphql_grammar.specs.Trees.{Expr, Then, Shape, Both, Grammar}
-use Rattle.graphql_lexer.specs.declared.tokenizer.token.Kind.TheVariants.{Punctuator}
-use Rattle.graphql_core.specs.Parts.{Part}
-use Rattle.graphql_values.specs.Grammar.{mark, punctuator}
-use Rattle.graphql_values.specs.Lines.{in_braces}
-use Rattle.graphql_core.proofs.Back.{Back, Takes, margin_back, gap_back, then_gap, open_back, close_back, three_back}
+use Rattle.graphql_core.specs.{Grammar}
+use Rattle.graphql_core.proofs.Back.{Back}
+use Rattle.graphql_core.proofs.{Takes, margin_back, gap_back, then_gap, open_back, close_back, three_back}
+use Rattle.graphql_values.specs.{Expr, Then, Shape, Both, Punctuator, Part, mark, punctuator, in_braces}
 use Rattle.graphql_values.proofs.ValuesBack.{spaces_blank}
 
 pub in_braces_back : {g : Grammar} {e : Expr} {p : Bool} {d : ℕ} {lines : List Part} {P R : Shape → Type 0} (margin : ℕ)

@@ -1,31 +1,36 @@
 -- Lists between an opener and a closer.
 use Rattle.std.proofs.Common.{◌≡◌, ℕ, true, false, List, [], ◌∷◌, ap, subst, ◌∙◌}
-use Rattle.graphql_grammar.specs.Tokens.{Token, Class}
-use Rattle.graphql_grammar.specs.Trees.{Expr, Empty, One, Then, Sym, Shape, Leaf, Both, First, Second, Nothing, Node, Grammar, some_of, optional, peek}
-use Rattle.graphql_grammar.specs.Reading.{sees, Takes}
-use Rattle.graphql_grammar.proofs.ReaderSteps.{picks-first}
-use Rattle.graphql_core.specs.Source.{Items}
-use Rattle.graphql_core.specs.steps.Matching.{TakesToken}
-use Rattle.graphql_values.specs.steps.Lists.{IsList}
-use Rattle.graphql_values.proofs.Alternatives.{IsSide, side_chosen_first}
-use Rattle.graphql_values.proofs.Reading.{takes_none}
-use Rattle.graphql_values.proofs.Steps.{Leads, starts, took, past}
+use Rattle.graphql_core.specs.{Grammar}
+use Rattle.graphql_values.specs.{Token, Class, Expr, One, Then, Sym, Shape, Leaf, Both, Stop, More, Node, some_of, row, nullable, first, Items, TakesToken}
+use Rattle.graphql_values.specs.{IsList}
+use Rattle.graphql_values.proofs.Optional.{BegunBy}
+use Rattle.graphql_values.proofs.Reading.{each_means}
+use Rattle.graphql_values.proofs.Steps.{Leads, begun, took, past}
+
+-- a list of which every part is computed, where n is what the elements after the first mean
+pub is_list : {A : Type 0} {g : Grammar} {o c : Class} {a : Expr} {f : Shape → A} {k : ℕ} {m : Shape → List A} (n : Shape → List A)
+    → (row g k).rule ≡ Then (One o) (Then (some_of a) (One c)) → ((x : Shape) → g.check k x ≡ true) → ((t : Token) → g.good o t ≡ true)
+    → ((t : Token) → g.good c t ≡ true) → first g.rows (Sym k) ≡ o ∷ [] → nullable g.rows (Sym k) ≡ false → n Stop ≡ []
+    → ((x y : Shape) → n (More x y) ≡ f x ∷ n y) → ((t u x xs : Shape) → m (Node k (Both t (Both (Both x xs) u))) ≡ f x ∷ n xs) → IsList g o c a f k m
+is_list {f = f} n rule passes opens closes begins is_more stop more means = record {
+  rule = rule;
+  passes = passes;
+  opens = opens;
+  closes = closes;
+  begins = begins;
+  is_more = is_more;
+  means = λ t u x xs h. means (Leaf t) (Leaf u) x xs ∙ ap (λ l. f x ∷ l) (each_means f n stop more h);
+}
 
 module _ {A : Type 0} {g : Grammar} {o c : Class} {a : Expr} {f : Shape → A} {k : ℕ} {m : Shape → List A} (s : IsList g o c a f k m) where
-  -- it begins
-  pub begun : {ts : List Token} → Leads g (Sym k) (Then (One o) (Then (some_of a) (One c))) (Node k) ts ts
-  begun {ts} = subst (λ e. Leads g (Sym k) e (Node k) ts ts) s.rule (starts g k ts s.passes)
+  -- it begins, where the opener tells that it is there
+  pub list_begun : {ts : List Token} → Leads g (Sym k) (Then (One o) (Then (some_of a) (One c))) (Node k) ts ts
+  list_begun {ts} = subst (λ e. Leads g (Sym k) e (Node k) ts ts) s.rule (begun k s.passes)
+
+  pub begun_by : BegunBy g k (o ∷ [])
+  begun_by = record { something = s.is_more; first = s.begins }
 
   -- and is opened
   pub opened : {old mid : Items} {t : Token} → TakesToken o old mid t
       → Leads g (Sym k) (Then (some_of a) (One c)) (λ x. Node k (Both (Leaf t) x)) old.tokens mid.tokens
-  opened {old} {mid} {t} h = past begun (took h (s.opens t))
-
-  -- where it may be missing, the opener tells
-  module _ (ts : List Token) where
-    pub some_list : sees (o ∷ []) (peek ts) ≡ true → IsSide g (optional (Sym k)) (Sym k) First ts
-    some_list seen = side_chosen_first g (Sym k) Empty ts
-        (picks-first g.rows (Sym k) Empty (peek ts) (ap (λ cs. sees cs (peek ts)) s.begins ∙ seen))
-
-    pub no_list : sees (o ∷ []) (peek ts) ≡ false → Takes g (optional (Sym k)) ts (Second Nothing) ts
-    no_list unseen = takes_none g (Sym k) ts s.is_more (ap (λ cs. sees cs (peek ts)) s.begins ∙ unseen)
+  opened {old} {mid} {t} h = past list_begun (took h (s.opens t))

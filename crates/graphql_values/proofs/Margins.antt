@@ -1,10 +1,8 @@
 -- The line end and the spaces that margins are cut from.
+use Rattle.std.specs.List.{slice_range}
 use Rattle.std.proofs.Common.{◌≡◌, ℕ, zero, suc, ◌+◌, ◌-◌, ◌<◌, ◌≤◌, List, ◌∷◌, get_or, replicate, append-nil, sym, ap, ◌∙◌, subst, arith}
 use Rattle.std.proofs.lemmas.List.{take-replicate}
-use Rattle.std.specs.List.{slice_range}
-use Rattle.std.specs.Str.{IsCharBoundary}
-use Rattle.graphql_core.specs.Style.{spaces}
-use Rattle.graphql_core.specs.Parts.{new_line, text_of}
+use Rattle.graphql_values.specs.{text_of, IsCharBoundary, spaces, new_line}
 
 abbrev pub line : List ℕ
 line = 10 ∷ replicate 128 32

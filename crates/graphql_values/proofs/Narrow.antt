@@ -1,11 +1,10 @@
 -- What Display writes once the width was checked: it fits, and it is the text in the default style.
-use Rattle.std.proofs.Common.{List, ◌≡◌, ◌+◌, ◌-◌, ◌*◌, ◌^◌, ◌<◌, ◌↔◌, ℕ, Result, Ok, Err, OnOk, false, true, min, subst, sym, arith}
-use Rattle.std.proofs.lemmas.Bool.{false≢true}
 use Rattle.std.specs.declared.fmt.Error.{Error}
 use Rattle.std.specs.declared.fmt.Formatter.{Formatter}
 use Rattle.std.specs.Fmt.{HasWrittenStyled, IsDefaultSpec, IsFlush, WritesOnOk, WritesStyledOnOk}
-use Rattle.graphql_core.specs.Style.{Layout, default_style}
-use Rattle.graphql_values.specs.ValueLayout.{IsTooWide, IsNarrow}
+use Rattle.std.proofs.Common.{List, ◌≡◌, ◌+◌, ◌-◌, ◌*◌, ◌^◌, ◌<◌, ◌↔◌, ℕ, Result, Ok, Err, OnOk, false, true, min, subst, sym, arith}
+use Rattle.graphql_core.proofs.{false≢true}
+use Rattle.graphql_values.specs.{Layout, default_style, IsTooWide, IsNarrow}
 use Rattle.graphql_values.proofs.Appending.{on_ok}
 
 -- what a check says that let so many levels through

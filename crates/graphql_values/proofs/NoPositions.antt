@@ -1,15 +1,7 @@
 -- Layouts say nothing of positions.
-use Rattle.std.proofs.Common.{◌≡◌, ◌++◌, ap, ap₂, refl, codes, ℕ, List, [], ◌∷◌, map}
-use Rattle.graphql_core.specs.Style.{Layout}
-use Rattle.graphql_core.specs.Parts.{Part, mark, gap}
-use Rattle.graphql_values.specs.Values.{DirectiveTree, erase_all}
-use Rattle.graphql_values.specs.ValueLayout.{directive_layout, directives_layout}
-use Rattle.graphql_values.specs.Lines.{each_after, separated, in_parentheses}
-
-pub directives_alike : (style : Layout) (margin : ℕ) (ds : List DirectiveTree)
-    → directives_layout style margin (erase_all ds) ≡ directives_layout style margin ds
-directives_alike style margin [] = refl
-directives_alike style margin (d ∷ ds) = ap (λ r. gap (codes " ") ++ (directive_layout style margin d ++ r)) (directives_alike style margin ds)
+use Rattle.std.proofs.Common.{◌≡◌, ◌++◌, ap₂, refl, codes, ℕ, List, [], ◌∷◌, map}
+use Rattle.graphql_core.specs.{mark}
+use Rattle.graphql_values.specs.{Layout, Part, gap, DirectiveTree, erase_all, directive_layout, directives_layout, each_after, separated, in_parentheses, erase}
 
 module _ {A : Type 0} (erased : A → A) (lines : A → List Part) (same : (x : A) → lines (erased x) ≡ lines x) where
   each_after_alike : (text : List ℕ) (xs : List A) → each_after text lines (map erased xs) ≡ each_after text lines xs
@@ -23,3 +15,7 @@ module _ {A : Type 0} (erased : A → A) (lines : A → List Part) (same : (x : 
   pub in_parentheses_alike : (xs : List A) → in_parentheses lines (map erased xs) ≡ in_parentheses lines xs
   in_parentheses_alike [] = refl
   in_parentheses_alike (x ∷ xs) = ap₂ (λ a b. mark (codes "(") ++ (a ++ (b ++ mark (codes ")")))) (same x) (each_after_alike (codes ", ") xs)
+
+pub directives_alike : (style : Layout) (margin : ℕ) (ds : List DirectiveTree)
+    → directives_layout style margin (erase_all ds) ≡ directives_layout style margin ds
+directives_alike style margin = each_after_alike erase (directive_layout style margin) (λ d. refl) (codes " ")

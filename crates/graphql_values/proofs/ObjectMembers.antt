@@ -1,15 +1,12 @@
 -- A `BTreeMap` beside the fields of an object that it stands for.
-use Rattle.std.proofs.Common.{◌≡◌, ℕ, List, [], ◌∷◌, ◌++◌, Ordering, Less, Equal, Greater, nat_cmp, refl, sym, ap, ◌∙◌}
-use Rattle.std.proofs.lemmas.Cmp.{nat_list_cmp_total}
-use Rattle.std.specs.Cmp.Lexicographic.{slice_cmp}
-use Rattle.std.specs.List.{AllByRecursion}
-use Rattle.std.specs.List.Sorted.{IsStrictlySortedBy}
 use Rattle.std.specs.Map.{keys_of}
 use Rattle.std.specs.Ordering.{match_ordering, ordering_reverse}
 use Rattle.std.specs.BTreeMap.{insert_entry}
+use Rattle.std.proofs.Common.{◌≡◌, ℕ, List, [], ◌∷◌, ◌++◌, Ordering, Less, Equal, Greater, nat_cmp, refl, sym, ap, ◌∙◌}
+use Rattle.std.proofs.lemmas.Cmp.{nat_list_cmp_total}
+use Rattle.graphql_values.specs.{slice_cmp, AllByRecursion, IsStrictlySortedBy, ValueTree, ValueMembers, keys, AreInKeyOrder, put, value_view, members_view}
+use Rattle.graphql_values.specs.{no_members, member}
 use Rattle.graphql_values.specs.declared.tree.Value.{Value}
-use Rattle.graphql_values.specs.Values.{ValueTree, ValueMembers, no_members, member, keys, AreInKeyOrder, put}
-use Rattle.graphql_values.specs.ValueViews.{value_view, members_view}
 
 -- keys that are compared by their bytes
 module _ {N V : Type 0} (bytes : V → List ℕ) (cmp : V → V → Ordering) (law : (x y : V) → cmp x y ≡ slice_cmp nat_cmp (bytes x) (bytes y)) where

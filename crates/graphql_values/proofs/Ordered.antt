@@ -1,12 +1,8 @@
 -- Members in the order of their keys, put one after the other, come back.
+use Rattle.std.specs.Ordering.{ordering_reverse}
 use Rattle.std.proofs.Common.{◌≡◌, ℕ, List, [], ◌∷◌, Less, Greater, nat_cmp, refl, sym, ap, ◌∙◌}
 use Rattle.std.proofs.lemmas.Cmp.{nat_list_cmp_total}
-use Rattle.std.specs.Cmp.Lexicographic.{slice_cmp}
-use Rattle.std.specs.List.{AllByRecursion}
-use Rattle.std.specs.List.Sorted.{IsStrictlySortedBy}
-use Rattle.std.specs.Ordering.{ordering_reverse}
-use Rattle.graphql_values.specs.Values.{ValueTree, ValueMembers, no_members, member, keys, AreInKeyOrder, put}
-use Rattle.graphql_values.specs.Meanings.{put_all}
+use Rattle.graphql_values.specs.{slice_cmp, AllByRecursion, IsStrictlySortedBy, ValueTree, ValueMembers, keys, AreInKeyOrder, put, put_all, no_members, member}
 
 abbrev pub pairs_in : ValueMembers → List (List ℕ × ValueTree)
 pairs_in no_members = []
@@ -58,5 +54,5 @@ above_none : (js : List (List ℕ)) → AllByRecursion (IsAbove no_members) js
 above_none [] = tt
 above_none (j ∷ js) = (tt, above_none js)
 
-pub put_in_order : (ms : ValueMembers) → AreInKeyOrder ms → put_all (pairs_in ms) no_members ≡ ms
-put_in_order ms o = put_after ms no_members o (above_none (keys ms))
+pub put_all_in_order : (ms : ValueMembers) → AreInKeyOrder ms → put_all (pairs_in ms) no_members ≡ ms
+put_all_in_order ms o = put_after ms no_members o (above_none (keys ms))

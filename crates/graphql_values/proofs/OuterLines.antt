@@ -1,11 +1,10 @@
 -- The first line of a text and the last one.
-use Rattle.std.proofs.Common.{◌≡◌, ◌∙◌, ap, sym, refl, ℕ, suc, ◌-◌, ◌<◌, Bool, true, false, not, ◌&&◌, ◌||◌, ◌==◌, cond, Some, List, [], ◌∷◌, length}
-use Rattle.std.proofs.Common.{arith, slice_get}
-use Rattle.std.specs.List.{list_all, onto_first}
-use Rattle.std.proofs.lemmas.Bool.{and_parts}
+use Rattle.std.specs.List.{onto_first}
+use Rattle.std.proofs.Common.{◌≡◌, ◌∙◌, ap, sym, refl, ℕ, suc, ◌-◌, ◌<◌, Bool, true, false, not, ◌&&◌, ◌||◌, ◌==◌, cond, Some, List, [], ◌∷◌, length, arith}
+use Rattle.std.proofs.Common.{slice_get}
 use Rattle.std.proofs.lemmas.List.Splits.{length-slice_split}
-use Rattle.graphql_core.specs.BlockStrings.{is_blank}
-use Rattle.graphql_values.specs.ValueLayout.{lines_of, first_line, last_line, is_empty}
+use Rattle.graphql_core.proofs.{and_parts}
+use Rattle.graphql_values.specs.{list_all, is_blank, lines_of, first_line, last_line, is_empty}
 
 -- a text has a line
 some_line : (text : List ℕ) → 0 < length (lines_of text)

@@ -1,29 +1,19 @@
 -- What functions answer that read a whole document, by what their readers give.
-use Rattle.std.proofs.Common.{◌≡◌, ◌<◌, ◌≤◌, ◌↔◌, ℕ, Bool, true, false, List, [], ◌∷◌, length, Result, Ok, Err, IfOk, IsErrAnd, refl, sym, ap, subst, ◌∙◌, arith}
-use Rattle.std.proofs.lemmas.Bool.{false≢true}
+use Rattle.std.proofs.Common.{◌≡◌, ◌<◌, ◌≤◌, ◌↔◌, ℕ, Bool, true, false, List, [], ◌∷◌, length, Result, Ok, Err, IfOk, IsErrAnd, refl, sym, ap, subst, ◌∙◌}
+use Rattle.std.proofs.Common.{arith, IsTrue}
 use Rattle.std.proofs.lemmas.Result.{IfOk-weaker, IfErr-weaker}
-use Rattle.std.specs.Prelude.{IsTrue}
-use Rattle.graphql_grammar.specs.Trees.{Shape, Node}
-use Rattle.graphql_grammar.specs.Factored.{written}
-use Rattle.graphql_grammar.specs.ReaderWords.{TakesSome, Stops}
-use Rattle.graphql_core.specs.declared.helpers.read_error.ReadError.{ReadError}
-use Rattle.graphql_lexer.specs.Items.{Content, Lexeme, End, Wrong, Where, Item, item, Stream}
-use Rattle.graphql_lexer.specs.Stream.{last_alone, asked_once}
-use Rattle.graphql_core.specs.Source.{Items, Last, IsEnd, IsAtEnd, split, only_last, items_of_stream, kept}
-use Rattle.graphql_core.specs.steps.ReadErrors.{IsFaultFor}
-use Rattle.graphql_core.specs.Refusal.{Refusal, IsFaultOf, at, max_length, too_long}
-use Rattle.graphql_core.proofs.Refusals.{as_error}
+use Rattle.graphql_lexer.specs.{End, last_alone, asked_once, Content, Wrong}
+use Rattle.graphql_core.specs.{Stream, only_last, IsFaultOf, Lexeme, item}
+use Rattle.graphql_core.proofs.{false≢true, as_error}
+use Rattle.graphql_values.specs.{past_bound, Shape, Node, written, TakesSome, Stops, ReadError, Where, Item, Items, Last, IsEnd, IsAtEnd, split}
+use Rattle.graphql_values.specs.{items_of_stream, kept, IsFaultFor, Refusal, at, max_length, too_long, reason_of, reading, document_rule, IsDocument}
+use Rattle.graphql_values.specs.{IsRefusalFor, IsRefusalOf, ReadsDocument, ParsesDocument, ParsesStream, Refusals, Reads}
 use Rattle.graphql_values.specs.declared.read.node_error.NodeError.TheVariants.{Refused}
-use Rattle.graphql_values.specs.steps.Answers.{reason_of}
-use Rattle.graphql_values.specs.Language.{Language, reading, document_rule}
-use Rattle.graphql_values.specs.Document.{IsDocument}
-use Rattle.graphql_values.specs.Faults.{IsRefusalFor, IsRefusalOf, past_bound}
-use Rattle.graphql_values.specs.Parsing.{ReadsDocument, ParsesDocument, ParsesStream}
-use Rattle.graphql_values.specs.Refusing.{Refusals, Reads}
+use Rattle.graphql_values.specs.Language.{Language}
 use Rattle.graphql_values.proofs.Faults.{one_at, one_each, no_fault_in, no_fault}
 use Rattle.graphql_values.proofs.Readable.{IsReadable}
-use Rattle.graphql_values.proofs.Whole.{AreItems, one_document, one_shape_for, one_shape, text_document, items_document, refusal_for, refusal}
-use Rattle.graphql_values.proofs.Whole.{found, memory_only, least_stop, none_refused, least_refused, none_rest, least_left}
+use Rattle.graphql_values.proofs.Whole.{AreItems, one_document, one_shape_for, one_shape, text_document, items_document, refusal_for, refusal, found}
+use Rattle.graphql_values.proofs.Whole.{memory_only, least_stop, none_refused, least_refused, none_rest, least_left}
 
 module _ {D V : Type 0} (l : Language D) (r : IsReadable l) (view : V → D) (text : List ℕ) where
   -- a text past the bound

@@ -1,115 +1,72 @@
 -- Which side of a plain value the next token tells.
-use Rattle.std.proofs.Common.{◌≡◌, ◌≢◌, ℕ, true, false, ◌==◌, List, [], ◌∷◌, drop, Option, Some, None, Result, Ok, Err, codes, refl, sym, ap, ◌∙◌, inl, inr}
-use Rattle.std.proofs.Common.{arith}
-use Rattle.std.specs.Result.{IsErrAnd}
-use Rattle.std.proofs.lemmas.Bool.{and_cases, or_parts, cases_Bool, true≢false, false_from_ne_true, eq-eqb}
-use Rattle.graphql_grammar.specs.Tokens.{Token, Class, same_spelling, takes_spelling, matches, all_within}
-use Rattle.graphql_grammar.specs.Trees.{Expr, One, Either, Sym, Shape, Leaf, First, Second, Node, Grammar, peek}
-use Rattle.graphql_grammar.specs.Tables.{first, decides}
-use Rattle.graphql_grammar.specs.Reading.{sees, Takes, Unexpected, Fails, fails_one, fails_node}
-use Rattle.graphql_grammar.specs.ReaderWords.{TakesSome, Stops}
-use Rattle.graphql_grammar.proofs.Classes.{same_spelling-true}
-use Rattle.graphql_core.specs.declared.helpers.read_error.ReadError.{ReadError}
-use Rattle.graphql_core.specs.declared.helpers.read_error.ReadError.TheVariants.{Memory, Item, Integer, Float, Escape, Location}
-use Rattle.graphql_core.specs.declared.helpers.source.Lexeme.{Lexeme}
-use Rattle.graphql_lexer.specs.declared.tokenizer.token.Kind.{Kind}
-use Rattle.graphql_lexer.specs.declared.tokenizer.token.Kind.TheVariants.{Punctuator, Name, IntValue, FloatValue, StringValue, BlockString}
-use Rattle.graphql_core.specs.Causes.{kind_number}
-use Rattle.graphql_core.specs.Source.{Items, after, lexeme_token}
-use Rattle.graphql_core.proofs.Matches.{takes_first}
-use Rattle.graphql_values.specs.steps.Answers.{Gives, reason_of}
-use Rattle.graphql_values.specs.Grammar.{shared, tables, any, enum_class, keyword, plain_symbol, enum_name_symbol}
-use Rattle.graphql_values.specs.steps.Leaf.{IsNext, Shows, word_of}
-use Rattle.graphql_values.specs.Meanings.{plain_of}
-use Rattle.graphql_values.proofs.Reading.{TakesNone, unseen_either, takes_one, stops_one}
-use Rattle.graphql_values.proofs.Alternatives.{IsSide, through, side_node, side_first, side_second}
+use Rattle.std.proofs.Common.{◌≡◌, ◌≢◌, ℕ, true, false, ◌==◌, List, [], ◌∷◌, drop, Option, Some, None, Result, Err, codes, refl, sym, ap, ◌∙◌, inl, inr, arith}
+use Rattle.std.proofs.lemmas.Bool.{and_cases, true≢false, eq-eqb}
+use Rattle.graphql_grammar.proofs.{same_spelling-true}
+use Rattle.graphql_core.proofs.{or_parts, cases_Bool, false_from_ne_true, takes_first}
+use Rattle.graphql_values.specs.{Lexeme, IsErrAnd, Token, Class, same_spelling, takes_spelling, matches, Expr, One, Sym, Shape, Leaf, First, Second, Node, peek}
+use Rattle.graphql_values.specs.{first, sees, Takes, Unexpected, Fails, fails_one, fails_node, TakesSome, ReadError, Kind, Punctuator, Name, IntValue}
+use Rattle.graphql_values.specs.{FloatValue, StringValue, BlockString, kind_number, Items, after, lexeme_token, Gives, shared, tables, any, enum_class, keyword}
+use Rattle.graphql_values.specs.{plain_symbol, enum_name_symbol, IsNext, Shows, word_of, plain_of}
+use Rattle.graphql_values.proofs.Reading.{TakesNone, none_within, unseen_either, takes_one}
+use Rattle.graphql_values.proofs.Steps.{Leads, leads_in, begun, lacks_last}
+use Rattle.graphql_values.proofs.Alternatives.{IsSide, through, side_node, side_in, side_nth}
 
 -- ---- sides
 
--- what refuses a side refuses the whole
-pub side_refused : {A : Type 0} {g : Grammar} {a c : Expr} {f : Shape → Shape} (old new : Items) (P : A → Shape → Type 0) (e : ReadError) (r : Result A ReadError)
-    → IsSide g a c f old.tokens
-    → Stops g c old.tokens new.tokens (reason_of e) → IsErrAnd r (λ d. d ≡ e) → Gives g a old new P r
-side_refused old new P e (Ok v) side h s = absurd s
-side_refused old new P e (Err d) side h s = rw s (side.stops new.tokens (reason_of e) h)
-
--- a side after one that the class c does not begin
-past : {a b f : Expr} {inside : Shape → Shape} (c : Class) (ts : List Token) → decides shared.rows (Either a b) ≡ true
-    → all_within (c ∷ []) (first shared.rows b) ≡ true → sees (c ∷ []) (peek ts) ≡ true
-    → IsSide shared b f inside ts → IsSide shared (Either a b) f (λ x. Second (inside x)) ts
-past {a} {b} c ts d w seen inner = through shared _ _ _ _ _ ts (side_second shared a b c ts d w seen) inner
-
-pub seen : (c : Class) (i : Items) (t : Token) → i.tokens ≡ t ∷ drop 1 i.tokens → matches c t ≡ true → sees (c ∷ []) (peek i.tokens) ≡ true
+seen : (c : Class) (i : Items) (t : Token) → i.tokens ≡ t ∷ drop 1 i.tokens → matches c t ≡ true → sees (c ∷ []) (peek i.tokens) ≡ true
 seen c i t first is = rw (ap peek first, is) refl
 
-pub kind_seen : (k : Kind) (i : Items) (t : Token) → i.tokens ≡ t ∷ drop 1 i.tokens → t.kind ≡ kind_number k → sees (any k ∷ []) (peek i.tokens) ≡ true
+kind_seen : (k : Kind) (i : Items) (t : Token) → i.tokens ≡ t ∷ drop 1 i.tokens → t.kind ≡ kind_number k → sees (any k ∷ []) (peek i.tokens) ≡ true
 kind_seen k i t first kind = seen (any k) i t first (rw (eq-eqb (kind_number k) t.kind (sym kind)) refl)
+
+-- a side that a token of this kind tells
+pub kind_led : {f : Expr} {inside : Shape → Shape} (k : Kind) (i : Items) (t : Token)
+    → (sees (any k ∷ []) (peek i.tokens) ≡ true → IsSide shared (Sym plain_symbol) f inside i.tokens)
+    → i.tokens ≡ t ∷ drop 1 i.tokens → t.kind ≡ kind_number k → Leads shared (Sym plain_symbol) f inside i.tokens i.tokens
+kind_led k i t side first kind = leads_in (side (kind_seen k i t first kind))
 
 -- ---- the sides of a plain value
 
 module _ (ts : List Token) where
   true_side : sees (keyword (codes "true") ∷ []) (peek ts) ≡ true
       → IsSide shared (Sym plain_symbol) (One (keyword (codes "true"))) (λ x. Node plain_symbol (First x)) ts
-  true_side h = through shared _ _ _ _ _ ts (side_node shared plain_symbol ts (λ x. refl)) (side_first shared _ _ (keyword (codes "true")) ts refl h)
+  unfolding tables
+  true_side h = side_in plain_symbol (λ x. refl) (side_nth (keyword (codes "true")) _ 0 refl h)
 
   false_side : sees (keyword (codes "false") ∷ []) (peek ts) ≡ true
       → IsSide shared (Sym plain_symbol) (One (keyword (codes "false"))) (λ x. Node plain_symbol (Second (First x))) ts
   unfolding tables
-  false_side h = let c = keyword (codes "false") in through shared _ _ _ _ _ ts (side_node shared plain_symbol ts (λ x. refl))
-      (past c ts refl refl h (side_first shared _ _ c ts refl h))
+  false_side h = side_in plain_symbol (λ x. refl) (side_nth (keyword (codes "false")) _ 1 refl h)
 
   null_side : sees (keyword (codes "null") ∷ []) (peek ts) ≡ true
       → IsSide shared (Sym plain_symbol) (One (keyword (codes "null"))) (λ x. Node plain_symbol (Second (Second (First x)))) ts
   unfolding tables
-  null_side h =
-      let c = keyword (codes "null") in
-      through shared _ _ _ _ _ ts (side_node shared plain_symbol ts (λ x. refl))
-      (past c ts refl refl h (past c ts refl refl h (side_first shared _ _ c ts refl h)))
+  null_side h = side_in plain_symbol (λ x. refl) (side_nth (keyword (codes "null")) _ 2 refl h)
 
   enum_side : sees (enum_class ∷ []) (peek ts) ≡ true
       → IsSide shared (Sym plain_symbol) (Sym enum_name_symbol) (λ x. Node plain_symbol (Second (Second (Second (First x))))) ts
   unfolding tables
-  enum_side h =
-      let c = enum_class in
-      through shared _ _ _ _ _ ts (side_node shared plain_symbol ts (λ x. refl))
-      (past c ts refl refl h (past c ts refl refl h (past c ts refl refl h (side_first shared _ _ c ts refl h))))
+  enum_side h = side_in plain_symbol (λ x. refl) (side_nth enum_class _ 3 refl h)
 
   pub integer_side : sees (any IntValue ∷ []) (peek ts) ≡ true
       → IsSide shared (Sym plain_symbol) (One (any IntValue)) (λ x. Node plain_symbol (Second (Second (Second (Second (First x)))))) ts
   unfolding tables
-  integer_side h =
-      let c = any IntValue in
-      through shared _ _ _ _ _ ts (side_node shared plain_symbol ts (λ x. refl))
-      (past c ts refl refl h (past c ts refl refl h (past c ts refl refl h (past c ts refl refl h (side_first shared _ _ c ts refl h)))))
+  integer_side h = side_in plain_symbol (λ x. refl) (side_nth (any IntValue) _ 4 refl h)
 
   pub float_side : sees (any FloatValue ∷ []) (peek ts) ≡ true
       → IsSide shared (Sym plain_symbol) (One (any FloatValue)) (λ x. Node plain_symbol (Second (Second (Second (Second (Second (First x))))))) ts
   unfolding tables
-  float_side h =
-      let c = any FloatValue in
-      through shared _ _ _ _ _ ts (side_node shared plain_symbol ts (λ x. refl))
-      (past c ts refl refl h
-      (past c ts refl refl h (past c ts refl refl h (past c ts refl refl h (past c ts refl refl h (side_first shared _ _ c ts refl h))))))
+  float_side h = side_in plain_symbol (λ x. refl) (side_nth (any FloatValue) _ 5 refl h)
 
   pub string_side : sees (any StringValue ∷ []) (peek ts) ≡ true
       → IsSide shared (Sym plain_symbol) (One (any StringValue)) (λ x. Node plain_symbol (Second (Second (Second (Second (Second (Second (First x)))))))) ts
   unfolding tables
-  string_side h =
-      let c = any StringValue in
-      through shared _ _ _ _ _ ts (side_node shared plain_symbol ts (λ x. refl))
-      (past c ts refl refl h
-      (past c ts refl refl h
-      (past c ts refl refl h (past c ts refl refl h (past c ts refl refl h (past c ts refl refl h (side_first shared _ _ c ts refl h)))))))
+  string_side h = side_in plain_symbol (λ x. refl) (side_nth (any StringValue) _ 6 refl h)
 
   pub block_side : sees (any BlockString ∷ []) (peek ts) ≡ true
       → IsSide shared (Sym plain_symbol) (One (any BlockString)) (λ x. Node plain_symbol (Second (Second (Second (Second (Second (Second (Second x)))))))) ts
   unfolding tables
-  block_side h =
-      let c = any BlockString in
-      through shared _ _ _ _ _ ts (side_node shared plain_symbol ts (λ x. refl))
-      (past c ts refl refl h
-      (past c ts refl refl h
-      (past c ts refl refl h (past c ts refl refl h (past c ts refl refl h (past c ts refl refl h (side_second shared _ _ c ts refl refl h)))))))
+  block_side h = side_in plain_symbol (λ x. refl) (side_nth (any BlockString) _ 7 refl h)
 
 -- a punctuator, or no token, is on no side
 pub mark_stopped : (ts : List Token) (t : Token) → ts ≡ t ∷ drop 1 ts → t.kind ≡ kind_number Punctuator → Fails shared (Sym plain_symbol) ts Unexpected ts
@@ -156,17 +113,12 @@ no_enum (Some t) h =
     rw kind refl
 
 no_enum_taken : (i : Items) (s : ReadError) → TakesNone (any Name) i i s → TakesNone enum_class i i s
-no_enum_taken i Memory h = h
-no_enum_taken i Item (same, unseen) = (same, no_enum (peek i.tokens) unseen)
-no_enum_taken i Integer h = h
-no_enum_taken i Float h = h
-no_enum_taken i Escape h = h
-no_enum_taken i Location h = h
+no_enum_taken i s = none_within {A = Unit {0}} (any Name) enum_class i i (λ v t. Unit {0}) s (no_enum (peek i.tokens))
 
 pub enum_not_shown : {A T : Type 0} (bytes : T → List ℕ) (i : Items) (P : A → Shape → Type 0) (r : Result A ReadError) (e : ReadError)
     → Shows bytes Name i (Err e) → IsErrAnd r (λ d. d ≡ e) → Gives shared (Sym enum_name_symbol) i i P r
 enum_not_shown bytes i P r e s h =
-    side_refused i i P e r (side_node shared enum_name_symbol i.tokens (λ x. refl)) (stops_one shared enum_class i i e (no_enum_taken i e s)) h
+    lacks_last i i P r e (begun enum_name_symbol (λ x. refl)) (no_enum_taken i e s) h
 
 -- a name is taken as the value that it writes
 module _ (i new : Items) (t : Token) (front : i.tokens ≡ t ∷ drop 1 i.tokens) (kind : t.kind ≡ kind_number Name) (past_it : new ≡ after i) where

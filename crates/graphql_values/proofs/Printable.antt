@@ -1,21 +1,19 @@
 -- What the shared productions derive can be printed.
-use Rattle.std.proofs.Common.{ℕ, ◌-◌, ◌≤◌, List, [], ◌∷◌, Ordering, Less, Equal, Greater, nat_cmp, codes, refl, arith}
-use Rattle.std.specs.Cmp.Lexicographic.{slice_cmp}
-use Rattle.std.specs.List.{AllByRecursion}
 use Rattle.std.specs.Ordering.{match_ordering}
-use Rattle.graphql_grammar.specs.Trees.{Many, Sym, Shape, optional}
-use Rattle.graphql_lexer.specs.Lexical.{IsName}
-use Rattle.graphql_core.proofs.BracketRoom.{HasRoom, room_nothing, room_leaf, room_both, room_first, room_second, room_stop, room_more, room_node, all_turns}
-use Rattle.graphql_values.specs.Values.{ValueTree, ValueMembers, no_members, member, put, TypeTree, named, list_of}
-use Rattle.graphql_values.specs.Grammar.{shared, punctuator, value_symbol, const_symbol, const_pair_symbol, plain_symbol, type_symbol, arguments_symbol}
-use Rattle.graphql_values.specs.Grammar.{argument_symbol, directives_symbol, directive_symbol, default_symbol}
-use Rattle.graphql_values.specs.Meanings.{spelling_at, plain_of, put_all, value_of, values_of, argument_of, pairs_of, const_of, consts_of, const_pair_of}
-use Rattle.graphql_values.specs.Meanings.{const_pairs_of, default_of, optional_non_null, type_of, arguments_of, optional_arguments_of, directive_of, each_directive_of}
-use Rattle.graphql_values.specs.Meanings.{directives_of}
-use Rattle.graphql_values.specs.Printable.{IsPrintableValue, ArePrintableItems, ArePrintableMembers, AreConstant, HoldConstants, AdmitsNull, IsPrintableType}
-use Rattle.graphql_values.specs.Printable.{IsPrintableArgument, IsPrintableDirective, IsPrintableDefault, value_brackets, items_brackets}
-use Rattle.graphql_values.specs.TreeDepth.{most}
-use Rattle.graphql_values.specs.Printable.{members_brackets, type_brackets, argument_brackets, arguments_brackets, directive_brackets, directives_brackets}
+use Rattle.std.proofs.Common.{ℕ, ◌-◌, ◌≤◌, List, [], ◌∷◌, Ordering, Less, Equal, Greater, nat_cmp, codes, refl, arith, ◌≡◌, true, sym, subst}
+use Rattle.graphql_core.specs.{Grammar}
+use Rattle.graphql_core.proofs.{HasRoom, room_nothing, room_leaf, room_both, room_first, room_second, room_stop, room_more, room_node, all_turns, Nests}
+use Rattle.graphql_core.proofs.{Anything, nests, nests_tree, has_room, openers, room_after, are_balanced}
+use Rattle.graphql_values.specs.{slice_cmp, AllByRecursion, Many, Sym, Shape, optional, IsName, ValueTree, ValueMembers, put, TypeTree, named, list_of, shared}
+use Rattle.graphql_values.specs.{punctuator, value_symbol, const_symbol, const_pair_symbol, plain_symbol, type_symbol, arguments_symbol, argument_symbol}
+use Rattle.graphql_values.specs.{directives_symbol, directive_symbol, default_symbol, spelling_at, plain_of, put_all, value_of, values_of, argument_of}
+use Rattle.graphql_values.specs.{pairs_of, const_of, consts_of, const_pair_of, const_pairs_of, default_of, optional_non_null, type_of, arguments_of}
+use Rattle.graphql_values.specs.{optional_arguments_of, directive_of, directives_of, IsPrintableValue, ArePrintableItems, ArePrintableMembers, AreConstant}
+use Rattle.graphql_values.specs.{HoldConstants, AdmitsNull, IsPrintableType, IsPrintableArgument, IsPrintableDirective, IsPrintableDefault, value_brackets}
+use Rattle.graphql_values.specs.{items_brackets, most, members_brackets, type_brackets, argument_brackets, arguments_brackets, directive_brackets}
+use Rattle.graphql_values.specs.{directives_brackets, no_members, member, each_of, Class, One, Then, row, some_of, IfSome, option_map_or, optional_of}
+use Rattle.graphql_values.specs.{optional_list_of, enclosed_of, most_enclosed, optional_default_of, Token, Items, split, IsDocument, IsDocumentOf, Node, Expr}
+use Rattle.graphql_values.specs.Language.{Language}
 use Rattle.graphql_values.proofs.Leaves.{leaf_name, leaf_except}
 
 -- ---- all of a list, where each has room for its brackets
@@ -27,6 +25,41 @@ pub all_within : {A : Type 0} (P : A → Type 0) (brackets : A → ℕ) (n : ℕ
     × (most brackets xs ≤ n)
 all_within P brackets n [] h = (tt, omega arith)
 all_within P brackets n (x ∷ xs) h = let (p, b) = all_within P brackets n xs h.1 in let c = h.0.1 in ((h.0.0, p), omega arith)
+
+pub each_of_both : {A : Type 0} (P Q : A → Type 0) (xs : List A) → AllByRecursion (λ x. P x × Q x) xs → AllByRecursion P xs × AllByRecursion Q xs
+each_of_both P Q [] h = (tt, tt)
+each_of_both P Q (x ∷ xs) ((p, q), h) = let (ps, qs) = each_of_both P Q xs h in ((p, ps), (q, qs))
+
+-- what a symbol derives can be printed, and so can a list of it
+module _ {A : Type 0} {g : Grammar} (k : ℕ) (f : Shape → A) (P : A → Type 0) (brackets : A → ℕ)
+    (one : (n : ℕ) (x : Shape) → HasRoom g n (Sym k) x → Within P brackets n (f x)) where
+  pub each_printable : {n : ℕ} {x : Shape} → HasRoom g n (Many (Sym k)) x → Within (AllByRecursion P) (most brackets) n (each_of f x)
+  each_printable {n} {x} r = all_within P brackets n (each_of f x) (all_turns (Within P brackets n) f (each_of f) refl (λ y z. refl) (one n) r)
+
+  pub some_printable : {n : ℕ} {x : Shape} → HasRoom g n (some_of (Sym k)) x → Within (AllByRecursion P) (most brackets) n (each_of f x)
+  some_printable {n} (room_both {x = x} r rs) = let (is, b) = one n x r in let (are, c) = each_printable rs in ((is, are), omega arith)
+
+  inside : (j : ℕ) {n : ℕ} {o c : Class} {x : Shape} → openers (One o) ≡ 1 → ((m : ℕ) → room_after (One o) m ≡ m - 1)
+      → HasRoom g n (Then (One o) (Then (some_of (Sym k)) (One c))) x → Within (AllByRecursion P) (most_enclosed brackets) n (enclosed_of f (Node j x))
+  inside j {n} opens after (room_both (room_leaf a l d) (room_both (room_both r rs) e)) =
+      let (are, b) = some_printable (room_both r rs) in
+      let left = after n in
+      (are, omega arith)
+
+  -- an optional one of some between an opener and a closer
+  pub enclosed_printable : {j n : ℕ} {o c : Class} {x : Shape} → (row g j).rule ≡ Then (One o) (Then (some_of (Sym k)) (One c)) → openers (One o) ≡ 1
+      → ((m : ℕ) → room_after (One o) m ≡ m - 1) → HasRoom g n (optional (Sym j)) x
+      → Within (AllByRecursion P) (most_enclosed brackets) n (optional_list_of (enclosed_of f) x)
+  enclosed_printable {j} {n} rule opens after (room_first (room_node {x = x} r e)) =
+      inside j opens after (subst (λ (e : Expr). HasRoom g n e x) rule r)
+  enclosed_printable rule opens after (room_second room_nothing) = (tt, omega arith)
+
+-- ---- optional parts
+
+pub part_printable : {A : Type 0} {g : Grammar} {n : ℕ} {e : Expr} {x : Shape} (f : Shape → A) (P : A → Type 0) → ((y : Shape) → HasRoom g n e y → P (f y))
+    → HasRoom g n (optional e) x → IfSome (optional_of f x) P
+part_printable f P one (room_first {x = x} r) = one x r
+part_printable f P one (room_second room_nothing) = tt
 
 -- ---- names with values
 
@@ -152,8 +185,13 @@ mutual
   const_pairs_printable room_stop = tt
   const_pairs_printable (room_more f fs) = (const_pair_printable f, const_pairs_printable fs)
 
-pub default_printable : {n : ℕ} {x : Shape} → HasRoom shared n (Sym default_symbol) x → IsDefault n (default_of x)
+default_printable : {n : ℕ} {x : Shape} → HasRoom shared n (Sym default_symbol) x → IsDefault n (default_of x)
 default_printable (room_node (room_both e f) c) = const_printable f
+
+pub optional_default_printable : {n : ℕ} {x : Shape} → HasRoom shared n (optional (Sym default_symbol)) x
+    → IfSome (optional_default_of x) IsPrintableDefault × (option_map_or value_brackets (optional_default_of x) 0 ≤ n)
+optional_default_printable (room_first f) = default_printable f
+optional_default_printable (room_second room_nothing) = (tt, omega arith)
 
 -- ---- types
 
@@ -182,13 +220,24 @@ pub optional_arguments_printable : {n : ℕ} {x : Shape} → HasRoom shared n (o
 optional_arguments_printable (room_first f) = arguments_printable f
 optional_arguments_printable (room_second room_nothing) = (tt, omega arith)
 
-directive_printable : {n : ℕ} (x : Shape) → HasRoom shared n (Sym directive_symbol) x → Within IsPrintableDirective directive_brackets n (directive_of x)
-directive_printable _ (room_node (room_both sign (room_both name arguments)) c) =
+directive_printable : (n : ℕ) (x : Shape) → HasRoom shared n (Sym directive_symbol) x → Within IsPrintableDirective directive_brackets n (directive_of x)
+directive_printable n _ (room_node (room_both sign (room_both name arguments)) c) =
     let (are, b) = optional_arguments_printable arguments in
     ((leaf_name refl name, are), b)
 
 pub directives_printable : {n : ℕ} {x : Shape} → HasRoom shared n (Sym directives_symbol) x
     → Within (AllByRecursion IsPrintableDirective) directives_brackets n (directives_of x)
-directives_printable {n} (room_node {x = xs} fs c) =
-    all_within IsPrintableDirective directive_brackets n (each_directive_of xs)
-    (all_turns (Within IsPrintableDirective directive_brackets n) directive_of each_directive_of refl (λ x y. refl) directive_printable fs)
+directives_printable (room_node fs c) = each_printable directive_symbol directive_of IsPrintableDirective directive_brackets directive_printable fs
+
+-- ---- documents
+
+-- of a language whose brackets are balanced, where what has room for its brackets can be printed
+module _ {D : Type 0} (l : Language D) (balanced : are_balanced l.grammar.rows ≡ true) (P : D → Type 0)
+    (document : (x : Shape) → HasRoom l.grammar 50 (Sym l.document) x → P (l.means x)) where
+  pub tokens_printable : (i : Items) (d : D) → Nests i.tokens 50 Anything → IsDocument l i d → P d
+  tokens_printable i d nested (x, (fits, is), end, e) =
+      let room = nests_tree x 50 Anything (subst (λ (ts : List Token). Nests ts 50 Anything) is nested) in
+      subst P (sym e) (document x (has_room l.grammar balanced fits 50 Anything room))
+
+  pub text_printable : (text : List ℕ) (d : D) → IsDocumentOf l text d → P d
+  text_printable text d (items, has, document) = tokens_printable (split items) d (nests text items has) document

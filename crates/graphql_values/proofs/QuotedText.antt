@@ -1,18 +1,16 @@
 -- What is written of the characters and lines of strings.
-use Rattle.std.proofs.Common.{◌≡◌, ◌≢◌, ◌∙◌, ap, sym, refl, subst, ℕ, zero, suc, ◌-◌, ◌<◌, ◌≤◌, true, false, ◌==◌}
-use Rattle.std.proofs.Common.{inl, inr, Some, None, nat_lt, List, [], ◌∷◌, ◌++◌, length, get_or, take, drop, codes, arith, append-nil}
-use Rattle.std.specs.List.{flat_map, list_any, slice_get, slice_index, prefix_len}
-use Rattle.std.specs.Str.{IsUtf8, IsCharBoundary}
+use Rattle.std.specs.List.{slice_index}
+use Rattle.std.proofs.Common.{◌≡◌, ◌≢◌, ◌∙◌, ap, sym, refl, subst, ℕ, zero, suc, ◌-◌, ◌<◌, ◌≤◌, true, false, ◌==◌, inl, inr, Some, None, nat_lt, List, [], ◌∷◌}
+use Rattle.std.proofs.Common.{◌++◌, length, get_or, take, drop, codes, arith, append-nil}
 use Rattle.std.proofs.Math.Utf8.{encode}
-use Rattle.std.proofs.lemmas.Bool.{cases_Bool, ne_eqb, or_parts}
-use Rattle.std.proofs.lemmas.Bool.Decides.{nat_tests}
-use Rattle.std.proofs.lemmas.List.{take_all, drop_all}
-use Rattle.std.proofs.lemmas.Str.{encode_ascii, IsCharBoundary-before_ascii, IsCharBoundary-after_ascii, IsCharBoundary-end}
+use Rattle.std.proofs.lemmas.Bool.{ne_eqb}
+use Rattle.std.proofs.lemmas.List.{drop_all}
+use Rattle.std.proofs.lemmas.Str.{IsCharBoundary-before_ascii, IsCharBoundary-end}
 use Rattle.std.proofs.lemmas.List.Sums.{prefix_len_stops, prefix_len-le-length}
-use Rattle.graphql_values.specs.steps.Unescaped.{is_unescaped}
-use Rattle.graphql_lexer.specs.Lexical.{begins_quotes}
-use Rattle.graphql_core.proofs.BlockLines.{no_quotes}
-use Rattle.graphql_values.specs.ValueLayout.{hexadecimal_digit, unicode_escape, quoted_byte, escaped_quotes, ends_in_return}
+use Rattle.graphql_core.specs.{IsUtf8}
+use Rattle.graphql_core.proofs.{cases_Bool, or_parts, nat_tests, take_all, encode_ascii, IsCharBoundary-after_ascii, no_quotes}
+use Rattle.graphql_values.specs.{flat_map, list_any, slice_get, prefix_len, IsCharBoundary, is_unescaped, begins_quotes, hexadecimal_digit, unicode_escape}
+use Rattle.graphql_values.specs.{quoted_byte, escaped_quotes, ends_in_return}
 
 -- ---- in quotes
 

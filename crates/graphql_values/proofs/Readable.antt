@@ -1,25 +1,15 @@
 -- What a language has to show once, and what the theory of grammars then says of it.
 use Rattle.std.proofs.Common.{◌≡◌, ℕ, true, false, List, [], ◌∷◌, ◌++◌, length, replicate, refl, arith}
-use Rattle.graphql_grammar.specs.Tokens.{Token, Class, AnyOf}
-use Rattle.graphql_grammar.specs.Trees.{Expr, Sym, Shape, Row, Grammar, peek}
-use Rattle.graphql_grammar.specs.Tables.{nullable, first, is_ll1, is_tight, is_productive, decides, has_samples}
-use Rattle.graphql_grammar.specs.Reading.{sees, Unexpected, Fails, unchecked, lax}
-use Rattle.graphql_grammar.specs.Theorems.{IsExact}
-use Rattle.graphql_grammar.specs.Factored.{Change, unchanged, AreSecond, EachIsSecond, with_rows, IsExactFor}
-use Rattle.graphql_grammar.specs.Texts.{IsWhole, IsWholeFor}
-use Rattle.graphql_grammar.specs.Faults.{AnswersLeast, RefusesTokens}
-use Rattle.graphql_grammar.specs.Extended.{Extends, LeavesAlone}
-use Rattle.graphql_grammar.proofs.SecondRules.{IsSecond-unchanged, exact_for, whole_for}
-use Rattle.graphql_grammar.proofs.FaultedFor.{least_for, refuses_tokens_for}
+use Rattle.graphql_grammar.specs.{unchecked, IsExact, AreSecond, IsExactFor, IsWhole, IsWholeFor, AnswersLeast, LeavesAlone, is_tight, with_rows}
+use Rattle.graphql_grammar.proofs.{IsSecond-unchanged, exact_for, whole_for, least_for, refuses_tokens_for}
+use Rattle.graphql_core.specs.{Grammar, unknown_location}
+use Rattle.graphql_values.specs.{Token, Class, AnyOf, Expr, Sym, Shape, Row, peek, nullable, first, is_ll1, is_productive, decides, has_samples, sees}
+use Rattle.graphql_values.specs.{Unexpected, Fails, lax, Change, unchanged, EachIsSecond, RefusesTokens, Extends, CauseText, FaultText, is_good, shared}
+use Rattle.graphql_values.specs.{shared_symbols, location_class, reading, HasNoValue, out_of_range, malformed, escaped_badly}
+use Rattle.graphql_values.specs.Language.{Language}
 use Rattle.graphql_grammar.proofs.Exact as theory
 use Rattle.graphql_grammar.proofs.WholeTexts as whole_theory
 use Rattle.graphql_grammar.proofs.Unseen as theory_of_unseen
-use Rattle.graphql_core.specs.Causes.{CauseText, unknown_location}
-use Rattle.graphql_core.specs.Source.{FaultText}
-use Rattle.graphql_values.specs.Leaves.{is_good}
-use Rattle.graphql_values.specs.Grammar.{shared, shared_symbols, location_class}
-use Rattle.graphql_values.specs.Language.{Language, reading}
-use Rattle.graphql_values.specs.Faults.{HasNoValue, out_of_range, malformed, escaped_badly}
 
 -- ---- tokens without a value
 
@@ -81,8 +71,8 @@ module _ {D : Type 0} (l : Language D) (r : IsReadable l) where
   exact_lax =
       exact_for (lax l.grammar) l.second_rows l.changes r.each_lax r.each_lax r.each_lax r.ll1 r.productive_lax (Sym l.document) r.decides r.samples_lax
 
-  pub whole : IsWholeFor l.grammar l.second_rows l.changes (Sym l.document)
-  whole = whole_for l.grammar l.second_rows l.changes r.each r.each_unchecked r.each_lax r.ll1 r.productive (Sym l.document) r.decides r.samples
+  pub whole_texts : IsWholeFor l.grammar l.second_rows l.changes (Sym l.document)
+  whole_texts = whole_for l.grammar l.second_rows l.changes r.each r.each_unchecked r.each_lax r.ll1 r.productive (Sym l.document) r.decides r.samples
 
   pub least : AnswersLeast l.grammar (reading l) (Sym l.document)
   least =

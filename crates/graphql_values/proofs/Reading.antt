@@ -1,23 +1,16 @@
 -- The steps of readers, for every grammar: single tokens, choices, and loops.
 use Rattle.std.proofs.Common.{◌≡◌, true, false, List, [], ◌∷◌, ◌++◌, map, Result, Ok, Err, IsErrAnd, Option, Some, None, refl, sym, ap, subst, ◌∙◌}
 use Rattle.std.proofs.Common.{append_assoc, append-nil, inl, inr}
-use Rattle.std.proofs.lemmas.Bool.{and_from, cases_Bool}
-use Rattle.graphql_grammar.specs.Tokens.{Token, Class, matches}
-use Rattle.graphql_grammar.specs.Trees.{Expr, Empty, One, Then, Either, Many, Shape, Nothing, Leaf, Both, First, Second, More, Row, Grammar, optional, some_of}
+use Rattle.graphql_grammar.specs.{fails_first, fails_second, fails_neither, fails_turn, takes_more, takes_leaf, takes_stop}
+use Rattle.graphql_grammar.proofs.{sees-parts, take-or_fail, same-fail, exits, picks-neither}
+use Rattle.graphql_core.specs.{Grammar, TakesOne}
+use Rattle.graphql_core.specs.declared.helpers.read_error.ReadError.TheVariants.{Item}
+use Rattle.graphql_core.proofs.{and_from, cases_Bool, Stops-after, Turns-stop, picks-first}
+use Rattle.graphql_values.specs.{Token, Class, matches, Expr, Empty, One, Then, Either, Many, Shape, Nothing, Leaf, Both, First, Second, More, Row, optional}
+use Rattle.graphql_values.specs.{some_of, nullable, first, sees, choose, Left, Right, Takes, takes_nothing, takes_both, takes_first, takes_second, Reason}
+use Rattle.graphql_values.specs.{Unexpected, Fails, fails_one, fails_before, fails_after, TakesSome, Stops, Turns, values, ReadError, Memory, Integer, Float}
+use Rattle.graphql_values.specs.{Escape, Location, Items, kept, fault_by, place_next, TakesToken, Answered, GivesBy, Gives, Adds, reason_of, each}
 use Rattle.graphql_grammar.specs.Trees as trees
-use Rattle.graphql_grammar.specs.Tables.{nullable, first}
-use Rattle.graphql_grammar.specs.Reading.{sees, choose, Left, Right, Takes, takes_nothing, takes_leaf, takes_both, takes_first, takes_second, takes_stop}
-use Rattle.graphql_grammar.specs.Reading.{takes_more, Reason, Unexpected, Fails, fails_one, fails_before, fails_after, fails_first, fails_second, fails_neither}
-use Rattle.graphql_grammar.specs.Reading.{fails_turn}
-use Rattle.graphql_grammar.specs.ReaderWords.{TakesSome, Stops, Turns, values}
-use Rattle.graphql_grammar.proofs.Items.{sees-parts}
-use Rattle.graphql_grammar.proofs.Deterministic.{take-or_fail, same-fail}
-use Rattle.graphql_grammar.proofs.ReaderSteps.{exits, Stops-after, Turns-stop, picks-first, picks-neither}
-use Rattle.graphql_core.specs.declared.helpers.read_error.ReadError.{ReadError}
-use Rattle.graphql_core.specs.declared.helpers.read_error.ReadError.TheVariants.{Memory, Item, Integer, Float, Escape, Location}
-use Rattle.graphql_core.specs.Source.{Items, kept, fault_by, place_next}
-use Rattle.graphql_core.specs.steps.Matching.{TakesToken, TakesOne}
-use Rattle.graphql_values.specs.steps.Answers.{Answered, GivesBy, Gives, Adds, reason_of}
 
 -- ---- single tokens
 
@@ -51,6 +44,17 @@ kept_one c old new Integer h = absurd h
 kept_one c old new Float h = absurd h
 kept_one c old new Escape h = absurd h
 kept_one c old new Location h = absurd h
+
+-- where none of the class c is, none of the class d is
+pub none_within : {A : Type 0} (c d : Class) (old new : Items) (P : A → Token → Type 0) (s : ReadError)
+    → (sees (c ∷ []) (trees.peek old.tokens) ≡ false → sees (d ∷ []) (trees.peek old.tokens) ≡ false) → TakesOne c old new P (Err s)
+    → TakesOne d old new P (Err s)
+none_within c d old new P Memory within h = h
+none_within c d old new P Item within (same, unseen) = (same, within unseen)
+none_within c d old new P Integer within h = h
+none_within c d old new P Float within h = h
+none_within c d old new P Escape within h = h
+none_within c d old new P Location within h = h
 
 -- ---- choices where one side is left
 
@@ -120,15 +124,7 @@ pub takes_none : (g : Grammar) (a : Expr) (ts : List Token) → nullable g.rows 
     → Takes g (optional a) ts (Second Nothing) ts
 takes_none g a ts n unseen = takes_second (picks_none g.rows a (trees.peek ts) n unseen) takes_nothing
 
--- ---- what another reader gives
-
--- the last step of a reader is another's
-pub gives_then : {A : Type 0} (g : Grammar) (e f : Expr) (old mid new : Items) (P Q : A → Shape → Type 0) (r : Result A ReadError)
-    → ((v : A) (x : Shape) → Takes g f mid.tokens x new.tokens → P v x → TakesSome g e old.tokens new.tokens (Q v))
-    → ((o : Option Reason) → Stops g f mid.tokens new.tokens o → Stops g e old.tokens new.tokens o)
-    → Gives g f mid new P r → Gives g e old new Q r
-gives_then g e f old mid new P Q (Ok v) takes stops (x, h, p) = takes v x h p
-gives_then g e f old mid new P Q (Err d) takes stops h = stops (reason_of d) h
+-- ---- errors
 
 -- an error goes up, whatever errors there are, with the reason that each has
 pub answered_error : {A E : Type 0} (reason : E → Option Reason) (g : Grammar) (e : Expr) (ts us : List Token) (P : A → Shape → Type 0) (r : Result A E) (d : E)
@@ -152,6 +148,11 @@ pub many_means : {A B : Type 0} (g : Grammar) (a : Expr) (f : Shape → A) (m : 
 many_means g a f m of stop more (takes_stop h) = stop
 many_means g a f m of stop more (takes_more {x = x} {y = y} h p q) = more x y (values (one_of f) y) (many_means g a f m of stop more q)
 
+-- and where they are a list
+pub each_means : {A : Type 0} {g : Grammar} {a : Expr} (f : Shape → A) (m : Shape → List A) → m trees.Stop ≡ [] → ((x y : Shape) → m (More x y) ≡ f x ∷ m y)
+    → {ts : List Token} {x : Shape} {us : List Token} → Takes g (Many a) ts x us → m x ≡ each f x
+each_means {g = g} {a = a} f m stop more h = many_means g a f m (λ l. l) stop (λ x y vs e. more x y ∙ ap (λ l. f x ∷ l) e) h
+
 pub map_push : {A B : Type 0} (f : A → B) (xs : List A) (x : A) → map f (xs ++ x ∷ []) ≡ map f xs ++ f x ∷ []
 map_push f [] x = refl
 map_push f (y ∷ ys) x = ap (λ l. f y ∷ l) (map_push f ys x)
@@ -174,13 +175,6 @@ module _ {V A : Type 0} (f : V → A) where
   -- to a list that was empty
   pub fills : (start found : List V) (xs : List A) → start ≡ [] → Adds f start found xs → map f found ≡ xs
   fills start found xs none so_far = so_far ∙ ap (λ (l : List V). map f l ++ xs) none
-
--- an error after the last turn of a loop over some_of
-pub stops_some : {A : Type 0} (g : Grammar) (a b : Expr) (f : Shape → List A) (ts start now us : List Token) (x : Shape) (items : List A) (o : Option Reason)
-    → Takes g a ts x start → Turns g a f start now items → sees (first g.rows a) (trees.peek now) ≡ false → Stops g b now us o
-    → Stops g (Then (some_of a) b) ts us o
-stops_some g a b f ts start now us x items o h t s k = let r = Turns-stop g a f start now items t s in Stops-after g (some_of a) b ts now us (Both x r.0) o
-    (takes_both h r.1) k
 
 -- an error in a turn of a loop that goes on until it sees what stands after the repetition
 pub stops_until : {A : Type 0} (g : Grammar) (a : Expr) (c : Class) (f : Shape → List A) (start now us : List Token) (items : List A) (o : Option Reason)

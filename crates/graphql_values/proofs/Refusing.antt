@@ -1,34 +1,25 @@
 -- The steps of readers of a language that refuses nodes.
-use Rattle.std.proofs.Common.{◌≡◌, ℕ, true, false, List, [], ◌∷◌, ◌++◌, map}
-use Rattle.std.proofs.Common.{Result, Ok, Err, IsErrAnd, refl, sym, ap, ◌∙◌, append_assoc}
-use Rattle.graphql_grammar.specs.Tokens.{Token, Class}
-use Rattle.graphql_grammar.specs.Trees.{Expr, One, Then, Many, Sym, Shape, More, Node, row, leaves, peek, Fits}
-use Rattle.graphql_grammar.specs.Trees as trees
-use Rattle.graphql_grammar.specs.Tables.{first}
-use Rattle.graphql_grammar.specs.Factored.{written}
-use Rattle.graphql_grammar.specs.Reading.{sees, Takes, takes_node, fails_check, lax}
-use Rattle.graphql_grammar.specs.Leads.{Leads, leads_before, leads_turn}
-use Rattle.graphql_grammar.specs.ReaderWords.{Stops}
-use Rattle.graphql_grammar.proofs.ReaderSteps.{Stops-node, Stops-before, Stops-turn}
-use Rattle.graphql_core.specs.declared.helpers.read_error.ReadError.{ReadError}
-use Rattle.graphql_core.specs.Source.{Items, kept}
-use Rattle.graphql_grammar.proofs.Faulted.{node_here}
+use Rattle.std.proofs.Common.{◌≡◌, ℕ, true, false, List, [], ◌∷◌, ◌++◌, map, Result, Ok, Err, IsErrAnd, refl, sym, ap, ◌∙◌, append_assoc}
+use Rattle.graphql_grammar.specs.{leads_turn, fails_check, leads_before}
+use Rattle.graphql_grammar.proofs.{node_here, Stops-node}
+use Rattle.graphql_core.proofs.{Stops-before, Stops-turn}
+use Rattle.graphql_values.specs.{Token, Class, Expr, One, Then, Many, Sym, Shape, More, Node, row, leaves, peek, Fits, first, written, sees, Takes, takes_node}
+use Rattle.graphql_values.specs.{lax, Leads, Stops, ReadError, Items, kept, reason_of, reading, Refusals, halt_reason, Reads, SaysNode}
 use Rattle.graphql_values.specs.declared.read.node_error.NodeError.{NodeError}
 use Rattle.graphql_values.specs.declared.read.node_error.NodeError.TheVariants.{Stopped, Refused}
-use Rattle.graphql_values.specs.steps.Answers.{reason_of}
-use Rattle.graphql_values.specs.Language.{Language, reading}
-use Rattle.graphql_values.specs.Refusing.{Refusals, halt_reason, Says, Reads}
+use Rattle.graphql_values.specs.Language.{Language}
 use Rattle.graphql_values.proofs.Readable.{IsReadable, refuses_read}
 use Rattle.graphql_values.proofs.Reading.{TakesNone, stops_one, gives_error_by, many_means}
-use Rattle.graphql_values.proofs.Steps as steps
 use Rattle.graphql_values.proofs.Steps.{StopsBy, Pushes, pushes_more, pushes_all}
 use Rattle.graphql_values.proofs.Whole.{exit}
+use Rattle.graphql_grammar.specs.Trees as trees
+use Rattle.graphql_values.proofs.Steps as steps
 
 module _ {D R : Type 0} (l : Language D) (w : Refusals R) where
   -- what is said of a node stands in what that leads to
   says_inside : (e f : Expr) (start mid new : Items) (h : NodeError R) (front : List Token) → start.tokens ≡ front ++ mid.tokens
       → ((ts : List Token) (d : Expr) → Leads (lax (reading l)) f ts d → Leads (lax (reading l)) e (front ++ ts) d)
-      → Says l w f mid new h → Says l w e start new h
+      → SaysNode l w f mid new h → SaysNode l w e start new h
   says_inside e f start mid new (Stopped s) front parts leads said = tt
   says_inside e f start mid new (Refused n) front parts leads (before, x, (p, ne, led, fits, bad, stops), said) = (
     front ++ before,

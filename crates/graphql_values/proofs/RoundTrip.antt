@@ -1,13 +1,9 @@
 -- What parsing a text answers that has a document but for positions, and what follows of layouts that are read back.
 use Rattle.std.proofs.Common.{◌≡◌, ◌<◌, ◌≤◌, ◌⊎◌, length, List, ℕ, inl, inr, sym, ap, ◌∙◌, subst}
 use Rattle.std.proofs.lemmas.Bool.{cases_lt}
-use Rattle.graphql_core.specs.Style.{Layout}
-use Rattle.graphql_lexer.specs.Items.{Item}
-use Rattle.graphql_core.specs.Source.{split}
-use Rattle.graphql_core.specs.Refusal.{Refusal, no_memory, max_length}
-use Rattle.graphql_lexer.proofs.OneCut.{items_unique}
+use Rattle.graphql_core.proofs.{items_unique}
+use Rattle.graphql_values.specs.{Layout, Item, split, Refusal, no_memory, max_length, IsDocument, IsDocumentOf, IsReadBack, AreReadBack}
 use Rattle.graphql_values.specs.Language.{Language}
-use Rattle.graphql_values.specs.Document.{IsDocument, IsDocumentOf, IsReadBack}
 use Rattle.graphql_values.proofs.Readable.{IsReadable}
 use Rattle.graphql_values.proofs.Whole.{one_document}
 
@@ -44,21 +40,18 @@ module _
     same_text : (style : Layout) (d e : D) → l.erase d ≡ l.erase e → layout style d ≡ layout style e
     same_text style d e same = sym (alike style d) ∙ ap (layout style) same ∙ alike style e
 
-    -- what a printed document is read as: the document but for positions, whose text in the same style is the same
-    pub printed_again : (style : Layout) (d e : D) → IsPrinted d → IsDocumentOf l (layout style d) e
-        → (l.erase e ≡ l.erase d) × (layout style e ≡ layout style d)
+    printed_again : (style : Layout) (d e : D) → IsPrinted d → IsDocumentOf l (layout style d) e → (l.erase e ≡ l.erase d) × (layout style e ≡ layout style d)
     printed_again style d e is h =
         let w = back style d is in
         let same : l.erase e ≡ l.erase d = ap l.erase (only_document (layout style d) e w.0 h w.1) ∙ w.2 in
         (same, same_text style e d same)
 
-    -- two texts of a document, in two styles, are read as documents that are equal but for positions
-    pub styles_agree : (style other : Layout) (d e f : D) → IsPrinted d → IsDocumentOf l (layout style d) e
-        → IsDocumentOf l (layout other d) f → l.erase e ≡ l.erase f
-    styles_agree style other d e f is h k = (printed_again style d e is h).0 ∙ sym (printed_again other d f is k).0
-
-    -- documents with one text are equal but for positions
-    pub one_text : (style : Layout) (d e : D) → IsPrinted d → IsPrinted e → layout style d ≡ layout style e → l.erase d ≡ l.erase e
-    one_text style d e is other same =
-        let w = back style e other in
-        sym (printed_again style d w.0 is (subst (λ (t : List ℕ). IsDocumentOf l t w.0) (sym same) w.1)).0 ∙ w.2
+    pub are_read_back : AreReadBack l layout IsPrinted
+    are_read_back = record {
+      read_back = back;
+      printed_again = printed_again;
+      styles_agree = λ style other d e f is h k. (printed_again style d e is h).0 ∙ sym (printed_again other d f is k).0;
+      one_text = λ style d e is other same.
+          let w = back style e other in
+          sym (printed_again style d w.0 is (subst (λ (t : List ℕ). IsDocumentOf l t w.0) (sym same) w.1)).0 ∙ w.2;
+    }

@@ -1,10 +1,6 @@
 -- Lists of trees, each of which is seen as another.
 use Rattle.std.proofs.Common.{◌≡◌, ◌<◌, ◌++◌, ◌∙◌, [], ◌∷◌, ap, sym, refl, codes, ℕ, List, length, map, max, append_assoc, arith}
-use Rattle.std.specs.List.{AllByRecursion, flat_map}
-use Rattle.graphql_core.specs.Parts.{Part, text_of}
-use Rattle.graphql_values.specs.Lines.{each_after, later, separated, after_commas, in_parentheses}
-use Rattle.graphql_values.specs.TreeDepth.{most}
-use Rattle.graphql_values.specs.steps.Joined.{joined}
+use Rattle.graphql_values.specs.{text_of, AllByRecursion, flat_map, Part, each_after, later, separated, after_commas, in_parentheses, most, joined}
 use Rattle.graphql_values.proofs.Appending.{text_append}
 use Rattle.graphql_values.proofs.Enclosed.{next_text, first_text}
 

@@ -1,21 +1,15 @@
 -- A rule that is read from left to right: after what is taken, the rest is read in its place.
-use Rattle.std.proofs.Common.{◌≡◌, ℕ, true, false, List, [], ◌∷◌, ◌++◌, map, Result, IsErrAnd, Option, refl, sym, ap, subst, ◌∙◌, append_assoc}
-use Rattle.graphql_grammar.specs.Tokens.{Token, Class}
-use Rattle.graphql_grammar.specs.Trees.{Expr, One, Then, Either, Many, Sym, Shape, Leaf, Both, First, Second, Node, Grammar, row, leaves, peek}
-use Rattle.graphql_grammar.specs.Tables.{nullable, first, decides}
-use Rattle.graphql_grammar.specs.Reading.{sees, Takes, takes_both, Reason, lax}
-use Rattle.graphql_grammar.specs.Leads as Derives
-use Rattle.graphql_grammar.specs.ReaderWords.{TakesSome, Stops, Turns, values}
-use Rattle.graphql_grammar.proofs.Sound.{takes-fits, takes-leaves}
-use Rattle.graphql_grammar.proofs.FirstFault.{fits-lax}
-use Rattle.graphql_grammar.proofs.ReaderSteps.{picks-second, Stops-before, Stops-after, Stops-turn, Turns-start, Turns-more, Turns-stop}
-use Rattle.graphql_core.specs.declared.helpers.read_error.ReadError.{ReadError}
-use Rattle.graphql_core.specs.Source.{Items, kept}
-use Rattle.graphql_core.specs.steps.Matching.{TakesToken}
-use Rattle.graphql_values.specs.steps.Answers.{Answered, Adds, reason_of}
-use Rattle.graphql_values.proofs.Reading.{takes_one, unseen_one, stops_one, answered_error, TakesNone, one_of}
-use Rattle.graphql_values.proofs.Reading.{adds_none, adds_one, adds_more, fills}
+use Rattle.std.proofs.Common.{◌≡◌, ℕ, true, false, List, [], ◌∷◌, ◌++◌, map, Result, Ok, Err, IsErrAnd, Option, refl, sym, ap, subst, ◌∙◌, append_assoc}
+use Rattle.graphql_grammar.proofs.{takes-fits, takes-leaves, fits-lax, picks-second, Turns-start, Turns-more}
+use Rattle.graphql_core.specs.{Grammar}
+use Rattle.graphql_core.proofs.{Stops-before, Stops-after, Stops-turn, Turns-stop}
+use Rattle.graphql_values.specs.{Token, Class, Expr, One, Then, Either, Many, Sym, Shape, Leaf, Both, First, Second, Stop, More, Node, row, leaves, peek}
+use Rattle.graphql_values.specs.{nullable, first, decides, sees, Takes, takes_both, Reason, lax, TakesSome, Stops, Turns, values, ReadError, Items, kept}
+use Rattle.graphql_values.specs.{TakesToken, Answered, Adds, reason_of}
+use Rattle.graphql_values.proofs.Reading.{takes_one, unseen_one, stops_one, answered_error, TakesNone, one_of, each_means, adds_none, adds_one, adds_more}
+use Rattle.graphql_values.proofs.Reading.{fills}
 use Rattle.graphql_values.proofs.Alternatives.{IsSide, side_node, side_left, side_chosen_second}
+use Rattle.graphql_grammar.specs.Leads as Derives
 
 -- e that began at ts has come to us, where its rest f is read, whose shapes stand inside e's
 pub record Leads (g : Grammar) (e f : Expr) (inside : Shape → Shape) (ts us : List Token) : Type 0 where
@@ -32,10 +26,6 @@ StopsBy g e f ts us = (vs : List Token) (o : Option Reason) → Stops g f us vs 
 
 pub leads_in : {g : Grammar} {e f : Expr} {inside : Shape → Shape} {ts : List Token} → IsSide g e f inside ts → Leads g e f inside ts ts
 leads_in s = record { takes = s.takes; stops = s.stops; front = []; parts = refl; derives = s.leads }
-
--- the rule of a symbol whose nodes all pass
-pub starts : (g : Grammar) (k : ℕ) (ts : List Token) → ((x : Shape) → g.check k x ≡ true) → Leads g (Sym k) (row g k).rule (Node k) ts ts
-starts g k ts passes = leads_in (side_node g k ts passes)
 
 -- the rule itself, and a side of what is read
 pub here : {g : Grammar} {e : Expr} {ts : List Token} → Leads g e e (λ x. x) ts ts
@@ -89,7 +79,7 @@ before {g} {e} {a} {b} {inside} {ts} {us} l vs o h = l.stops vs o (Stops-before 
 
 -- the rule of a symbol whose nodes all pass has begun
 pub begun : {g : Grammar} {ts : List Token} (k : ℕ) → ((x : Shape) → g.check k x ≡ true) → Leads g (Sym k) (row g k).rule (Node k) ts ts
-begun {g} {ts} k passes = starts g k ts passes
+begun {g} {ts} k passes = leads_in (side_node g k ts passes)
 
 -- a token that was taken
 pub took : {g : Grammar} {c : Class} {old new : Items} {t : Token} → TakesToken c old new t → g.good c t ≡ true → Takes g (One c) old.tokens (Leaf t) new.tokens
@@ -104,6 +94,13 @@ after l h = past l h.1
 pub whole : {g : Grammar} {e f : Expr} {inside : Shape → Shape} {ts us vs : List Token} {x : Shape} {Q : Shape → Type 0}
     → Leads g e f inside ts us → Takes g f us x vs → Q (inside x) → TakesSome g e ts vs Q
 whole {inside = inside} {vs = vs} {x = x} l h q = (inside x, l.takes vs x h, q)
+
+-- what a reader of the rest gives
+pub gives_led : {A : Type 0} {g : Grammar} {e f : Expr} {inside : Shape → Shape} {ts us : List Token} (vs : List Token) (P Q : A → Shape → Type 0)
+    (r : Result A ReadError) → Leads g e f inside ts us → ((v : A) (x : Shape) → Takes g f us x vs → P v x → Q v (inside x))
+    → Answered reason_of g f us vs P r → Answered reason_of g e ts vs Q r
+gives_led {inside = inside} vs P Q (Ok v) l means (x, h, is) = (inside x, l.takes vs x h, means v x h is)
+gives_led vs P Q (Err d) l means h = l.stops vs (reason_of d) h
 
 -- an error in the last part goes up, in one before others, and that of a token that is missing
 module _ {A : Type 0} {g : Grammar} {e : Expr} where
@@ -123,6 +120,8 @@ module _ {A : Type 0} {g : Grammar} {e : Expr} where
   pub lacks_last : {c : Class} {inside : Shape → Shape} {ts : List Token} (mid new : Items) (P : A → Shape → Type 0) (r : Result A ReadError) (d : ReadError)
       → Leads g e (One c) inside ts mid.tokens → TakesNone c mid new d → IsErrAnd r (λ x. x ≡ d) → Answered reason_of g e ts new.tokens P r
   lacks_last {c = c} mid new P r d l h up = fails_last new.tokens P r d l (stops_one g c mid new d h) up
+
+-- ---- loops
 
 -- A loop that pushes what each turn of a repetition gives, seen through view: it has come from start to now.
 pub record Pushes {V A : Type 0} (g : Grammar) (a : Expr) (f : Shape → A) (view : V → A) (start now : Items) (old new : List V) : Type 0 where
@@ -148,13 +147,14 @@ module _ {V A : Type 0} (g : Grammar) (a : Expr) (f : Shape → A) (view : V →
       let turns = Turns-start g a (one_of f) start.tokens in
       record { means = []; turns = turns; adds = adds_none view old; front = []; parts = refl; leads = λ ts d l. l; last = refl }
 
-  pub pushes_more : (start now next : Items) (old found new : List V) (v : V) → Pushes g a f view start now old found
-      → sees (first g.rows a) (peek now.tokens) ≡ true
-      → TakesSome g a now.tokens next.tokens (λ x. view v ≡ f x) → kept next ≡ kept now → new ≡ found ++ v ∷ [] → Pushes g a f view start next old new
-  pushes_more start now next old found new v p seen (x, takes, is) same push = record {
+  -- what a turn appends, which its reader pushes by itself
+  pub turn_appends : (start now next : Items) (old found new : List V) → Pushes g a f view start now old found
+      → sees (first g.rows a) (peek now.tokens) ≡ true → TakesSome g a now.tokens next.tokens (λ x. Adds view found new (f x ∷ []))
+      → kept next ≡ kept now → Pushes g a f view start next old new
+  turn_appends start now next old found new p seen (x, takes, adds) same = record {
     means = p.means ++ f x ∷ [];
     turns = Turns-more g a (one_of f) start.tokens now.tokens next.tokens p.means x p.turns seen takes;
-    adds = adds_more view old found new p.means (f x ∷ []) p.adds (adds_one view found new v (f x) push is);
+    adds = adds_more view old found new p.means (f x ∷ []) p.adds adds;
     front = p.front ++ leaves x;
     parts = p.parts ∙ ap (λ (ts : List Token). p.front ++ ts) (takes-leaves g takes) ∙ sym (append_assoc p.front (leaves x) next.tokens);
     leads = λ ts d l. subst (λ (us : List Token). Derives.Leads (lax g) (Many a) us d) (sym (append_assoc p.front (leaves x) ts))
@@ -162,9 +162,29 @@ module _ {V A : Type 0} (g : Grammar) (a : Expr) (f : Shape → A) (view : V →
     last = same ∙ p.last;
   }
 
+  pub pushes_more : (start now next : Items) (old found new : List V) (v : V) → Pushes g a f view start now old found
+      → sees (first g.rows a) (peek now.tokens) ≡ true
+      → TakesSome g a now.tokens next.tokens (λ x. view v ≡ f x) → kept next ≡ kept now → new ≡ found ++ v ∷ [] → Pushes g a f view start next old new
+  pushes_more start now next old found new v p seen (x, takes, is) same push =
+      turn_appends start now next old found new p seen (x, takes, adds_one view found new v (f x) push is) same
+
   -- into a list that was empty, until no turn begins
   pub pushes_all : (start now : Items) (old new : List V) → old ≡ [] → Pushes g a f view start now old new → sees (first g.rows a) (peek now.tokens) ≡ false
       → TakesSome g (Many a) start.tokens now.tokens (λ x. map view new ≡ values (one_of f) x)
   pushes_all start now old new none p unseen =
       let r = Turns-stop g a (one_of f) start.tokens now.tokens p.means p.turns unseen in
       (r.0, r.1, fills view old new p.means none p.adds ∙ sym r.2)
+
+-- After a first, until no turn begins: f, h and n are what the first, a turn and all turns mean, and m is what all of it means.
+pub some_taken : {V A : Type 0} {g : Grammar} {a b : Expr} {h : Shape → A} {view : V → A} {ts : List Token} {start now : Items} {to new : List V}
+    (f : Shape → A) (n m : Shape → List A) (from : List V) → n Stop ≡ [] → ((x y : Shape) → n (More x y) ≡ h x ∷ n y)
+    → ((x y : Shape) → m (Both x y) ≡ f x ∷ n y) → TakesSome g b ts start.tokens (λ x. Adds view from to (f x ∷ []))
+    → Pushes g a h view start now to new → sees (first g.rows a) (peek now.tokens) ≡ false
+    → TakesSome g (Then b (Many a)) ts now.tokens (λ x. Adds view from new (m x))
+some_taken {g = g} {a = a} {h = h} {view = view} {start = start} {now = now} {to = to} {new = new} f n m from stop more both (x, takes, adds) p unseen =
+    let (xs, turns, are) = Turns-stop g a (one_of h) start.tokens now.tokens p.means p.turns unseen in (
+      Both x xs,
+      takes_both takes turns,
+      adds_more view from to new (f x ∷ []) p.means adds p.adds
+          ∙ ap (λ l. map view from ++ l) (ap (λ l. f x ∷ l) (sym (each_means h n stop more turns ∙ are)) ∙ sym (both x xs)),
+    )

@@ -1,17 +1,14 @@
 -- The value of a string from its front is what its units stand for.
+use Rattle.std.specs.Char.{IsScalar}
 use Rattle.std.proofs.Common.{◌≡◌, ◌≢◌, ◌↔◌, ℕ, ◌^◌, ◌<◌, true, false, not, ◌&&◌, is_some, List, [], ◌∷◌, ◌++◌, length, Option, Some, None, refl, sym, ap, ◌∙◌}
 use Rattle.std.proofs.Common.{subst, inl, inr, arith}
-use Rattle.std.specs.Char.{encode_utf8, IsScalar, is_ascii_hexdigit}
-use Rattle.std.specs.List.{list_all}
-use Rattle.std.specs.Option.{unwrap_or}
-use Rattle.std.specs.Str.Parse.{digits_value}
-use Rattle.std.proofs.lemmas.Bool.{and_parts, ne_eqb, not-true, cases_eq, cases_Bool}
-use Rattle.std.proofs.lemmas.Bool.Decides.{nat_tests}
+use Rattle.std.proofs.lemmas.Bool.{ne_eqb, cases_eq}
 use Rattle.std.proofs.lemmas.Int.Digits.{digits_value-lt}
-use Rattle.graphql_core.proofs.Escapes.{all_digits}
-use Rattle.graphql_core.specs.Strings.{NamesCharacter, StandsFor, HasValue, HasNoValue, plain, quote, backslash, slash, backspace, form_feed, line_feed}
-use Rattle.graphql_core.specs.Strings.{carriage_return, tab, unicode, empty, more}
-use Rattle.graphql_values.specs.Leaves.{string_of, without_ends, before, escape_of, is_surrogate, named_by, unquoted, escaped, named}
+use Rattle.graphql_core.specs.{encode_utf8, is_ascii_hexdigit, unwrap_or, digits_value, NamesCharacter, StandsFor, HasNoValue, plain, quote, backslash, slash}
+use Rattle.graphql_core.specs.{backspace, form_feed, line_feed, carriage_return, tab, unicode, empty, more}
+use Rattle.graphql_core.proofs.{and_parts, not-true, cases_Bool, nat_tests, all_digits}
+use Rattle.graphql_values.specs.{list_all, HasValue, string_of, without_ends, before, escape_of, is_surrogate, named_by, unquoted, escaped}
+use Rattle.graphql_values.specs.Leaves.{named}
 
 -- ---- from units to the value
 

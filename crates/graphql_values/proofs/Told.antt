@@ -1,23 +1,14 @@
 -- A language that is told by its own rules is readable.
 use Rattle.std.proofs.Common.{◌≡◌, ◌<◌, ◌≤◌, ◌==◌, ◌&&◌, ℕ, Bool, true, nat_lt, List, [], ◌∷◌, inl, inr, refl, subst, ◌∙◌, sym, arith}
-use Rattle.std.proofs.lemmas.Bool.{cases_Bool, and_parts, false≢true}
-use Rattle.graphql_grammar.specs.Tables.{is_ll1, is_tight, is_productive, decides, has_samples}
-use Rattle.std.proofs.lemmas.Bool.Decides.{nat_tests}
-use Rattle.graphql_grammar.specs.Tokens.{Token, Class}
-use Rattle.graphql_grammar.specs.Trees.{Expr, Sym, Shape, Grammar, row, row_at, leaves, Fits}
-use Rattle.graphql_grammar.specs.Trees.{fits_nothing, fits_leaf, fits_both, fits_first, fits_second, fits_stop, fits_more, fits_node}
-use Rattle.graphql_grammar.specs.Solve.{with_tables}
-use Rattle.graphql_grammar.specs.Reading.{with_tests}
-use Rattle.graphql_grammar.specs.Factored.{AreSecond, EachIsSecond, change_at, written}
-use Rattle.graphql_grammar.specs.Faults.{RefusesTokens}
-use Rattle.graphql_grammar.specs.Extended.{Extends, TestsAlike}
-use Rattle.graphql_grammar.proofs.Items.{append-empty}
-use Rattle.graphql_grammar.proofs.SecondRules.{each_is_second}
-use Rattle.graphql_grammar.proofs.Extending.{tests_alike, with_more, alone_before}
-use Rattle.graphql_core.specs.Source.{FaultText}
-use Rattle.graphql_values.specs.Grammar.{shared, shared_symbols}
-use Rattle.graphql_values.specs.Language.{reading}
-use Rattle.graphql_values.specs.Told.{Told, grammar_told, language, is_among, has_token, lax_reading, may_be_refused, is_told}
+use Rattle.graphql_grammar.specs.{with_tests, AreSecond, is_tight}
+use Rattle.graphql_grammar.proofs.{append-empty, each_is_second, tests_alike, with_more, alone_before}
+use Rattle.graphql_core.specs.{Grammar}
+use Rattle.graphql_core.proofs.{cases_Bool, and_parts, false≢true, nat_tests}
+use Rattle.graphql_values.specs.{is_ll1, is_productive, decides, has_samples, Token, Class, Expr, Sym, Shape, row, row_at, leaves, Fits, fits_nothing}
+use Rattle.graphql_values.specs.{fits_leaf, fits_both, fits_first, fits_second, fits_stop, fits_more, fits_node, with_tables, EachIsSecond, change_at, written}
+use Rattle.graphql_values.specs.{RefusesTokens, Extends, TestsAlike, FaultText, shared, shared_symbols, reading, grammar_told, language, is_among, has_token}
+use Rattle.graphql_values.specs.{lax_reading, may_be_refused, is_told}
+use Rattle.graphql_values.specs.Told.{Told}
 use Rattle.graphql_values.proofs.Readable.{IsReadable, shared_rows, one_cause}
 
 -- a tree of such an expression is not empty

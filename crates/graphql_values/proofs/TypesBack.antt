@@ -1,16 +1,12 @@
 -- The layout of a type is read back.
 use Rattle.std.proofs.Common.{◌≡◌, ℕ, ◌+◌, ◌≤◌, Bool, true, false, List, [], ◌∷◌, ◌++◌, codes, refl, sym, ap, ◌∙◌, arith, append_assoc, append-nil}
-use Rattle.graphql_grammar.specs.Trees.{Sym, optional}
-use Rattle.graphql_lexer.specs.declared.tokenizer.token.Kind.TheVariants.{Punctuator}
-use Rattle.graphql_core.specs.Parts.{Part, token, mark}
-use Rattle.graphql_values.specs.Values.{TypeTree, named, list_of, non_null}
-use Rattle.graphql_values.specs.ValueLayout.{type_layout}
-use Rattle.graphql_values.specs.Grammar.{shared, type_symbol, punctuator}
-use Rattle.graphql_values.specs.Meanings.{spelling_at, optional_non_null, type_of}
-use Rattle.graphql_values.specs.Printable.{AdmitsNull, IsPrintableType, type_brackets}
+use Rattle.graphql_core.specs.{mark}
+use Rattle.graphql_core.proofs.Back.{Back}
+use Rattle.graphql_core.proofs.{as_word_back, anywhere_back, same_parts, means, word_back, mark_back, open_back, close_back, nothing_back, both_back}
+use Rattle.graphql_core.proofs.{first_back, second_back, node_back, four_back}
+use Rattle.graphql_values.specs.{Sym, optional, Punctuator, Part, token, TypeTree, named, list_of, non_null, type_layout, shared, type_symbol, punctuator}
+use Rattle.graphql_values.specs.{spelling_at, optional_non_null, type_of, AdmitsNull, IsPrintableType, type_brackets}
 use Rattle.graphql_values.proofs.LeavesBack.{name_word}
-use Rattle.graphql_core.proofs.Back.{Back, as_word_back, anywhere_back, same_parts, means, word_back, mark_back, open_back, close_back, nothing_back, both_back}
-use Rattle.graphql_core.proofs.Back.{first_back, second_back, node_back, four_back}
 
 -- with a `!` or without
 abbrev bang : Bool → List Part

@@ -1,22 +1,60 @@
 -- What values, types and directives mean but for positions does not hang on places; so texts with alike tokens have one document but for positions.
-use Rattle.std.proofs.Common.{◌≡◌, ℕ, List, ◌∷◌, Some, Result, Ok, Err, refl, sym, ap, ap₂, ◌∙◌, subst}
-use Rattle.graphql_grammar.specs.Tokens.{Token, Class}
-use Rattle.graphql_grammar.specs.Trees.{Shape, Leaf, Both, First, Second, More, Node, accepts}
-use Rattle.graphql_lexer.specs.Items.{Item}
-use Rattle.graphql_core.specs.Source.{Items, split, IsEnd}
-use Rattle.graphql_core.specs.Minified.{unplaced, IsMinified}
-use Rattle.graphql_core.specs.Refusal.{Refusal}
-use Rattle.graphql_core.proofs.Minifying.{minified_tokens}
-use Rattle.graphql_lexer.proofs.OneCut.{items_unique}
-use Rattle.graphql_values.specs.Leaves.{int_of, string_of, block_string_of}
-use Rattle.graphql_values.specs.Values.{ValueTree, variable, int, float, string, enum, list, object, item, no_members, TypeTree, named, list_of, no_place}
-use Rattle.graphql_values.specs.Values.{erase, erase_all}
-use Rattle.graphql_values.specs.Meanings.{spelling_at, plain_of, put_all, value_of, values_of, argument_of, pairs_of, const_of, consts_of}
-use Rattle.graphql_values.specs.Meanings.{const_pair_of, const_pairs_of, default_of, optional_default_of, optional_non_null, type_of, arguments_of}
-use Rattle.graphql_values.specs.Meanings.{optional_arguments_of, directive_of, each_directive_of, directives_of}
+use Rattle.std.proofs.Common.{◌≡◌, ℕ, List, ◌∷◌, Some, Result, Ok, Err, refl, sym, ap, ap₂, ◌∙◌, subst, map}
+use Rattle.graphql_core.proofs.{minified_tokens, items_unique}
+use Rattle.graphql_values.specs.{float, string, item, enum, object, int, Token, Class, Shape, Leaf, Both, First, Second, More, Node, accepts, Item, Items}
+use Rattle.graphql_values.specs.{split, IsEnd, unplaced, IsMinified, Refusal, int_of, string_of, block_string_of, ValueTree, TypeTree, named, list_of, no_place}
+use Rattle.graphql_values.specs.{erase, erase_all, spelling_at, plain_of, put_all, value_of, values_of, argument_of, pairs_of, const_of, consts_of}
+use Rattle.graphql_values.specs.{const_pair_of, const_pairs_of, default_of, optional_default_of, optional_non_null, type_of, arguments_of}
+use Rattle.graphql_values.specs.{optional_arguments_of, directive_of, directives_of, IsDocument, IsDocumentOf, IsReadBack, IsParsed, AreAlike, variable, list}
+use Rattle.graphql_values.specs.{no_members, is_there, optional_of, optional_list_of, each_of, enclosed_of, marked_of, joined_of}
 use Rattle.graphql_values.specs.Language.{Language}
-use Rattle.graphql_values.specs.Document.{IsDocument, IsDocumentOf, IsReadBack, IsParsed, AreAlike}
 use Rattle.graphql_values.proofs.Bare.{bare, Alike, refilled}
+
+-- ---- optional parts and lists
+
+-- what shapes mean, but for what is left out, does not hang on places
+abbrev pub Ignores : {A B : Type 0} → (A → B) → (Shape → A) → Type 0
+Ignores erased f = (x : Shape) → erased (f (bare x)) ≡ erased (f x)
+
+pub there_bare : (x : Shape) → is_there (bare x) ≡ is_there x
+there_bare (First x) = refl
+there_bare _ = refl
+
+pub optional_bare : {A : Type 0} (f : Shape → A) → ((x : Shape) → f (bare x) ≡ f x) → (x : Shape) → optional_of f (bare x) ≡ optional_of f x
+optional_bare f same (First x) = ap Some (same x)
+optional_bare f same _ = refl
+
+pub optional_list_bare : {A B : Type 0} (erased : List A → B) (f : Shape → List A) → Ignores erased f → Ignores erased (optional_list_of f)
+optional_list_bare erased f same (First x) = same x
+optional_list_bare erased f same _ = refl
+
+pub each_bare : {A B : Type 0} (erased : A → B) (f : Shape → A) → Ignores erased f → Ignores (map erased) (each_of f)
+each_bare erased f same (Both x xs) = λ i. same x i ∷ each_bare erased f same xs i
+each_bare erased f same (More x xs) = λ i. same x i ∷ each_bare erased f same xs i
+each_bare erased f same _ = refl
+
+pub enclosed_bare : {A B : Type 0} (erased : A → B) (f : Shape → A) → Ignores erased f → Ignores (map erased) (enclosed_of f)
+enclosed_bare erased f same (Node k (Both o (Both xs c))) = each_bare erased f same xs
+enclosed_bare erased f same _ = refl
+
+-- what has no positions is the same as it is
+pub each_same : {A : Type 0} (f : Shape → A) → ((x : Shape) → f (bare x) ≡ f x) → (x : Shape) → each_of f (bare x) ≡ each_of f x
+each_same f same (Both x xs) = λ i. same x i ∷ each_same f same xs i
+each_same f same (More x xs) = λ i. same x i ∷ each_same f same xs i
+each_same f same _ = refl
+
+pub enclosed_same : {A : Type 0} (f : Shape → A) → ((x : Shape) → f (bare x) ≡ f x) → (x : Shape) → enclosed_of f (bare x) ≡ enclosed_of f x
+enclosed_same f same (Node k (Both o (Both xs c))) = each_same f same xs
+enclosed_same f same _ = refl
+
+module _ {A : Type 0} (f : Shape → A) (none : A) (same : (x : Shape) → f (bare x) ≡ f x) where
+  marked_bare : (x : Shape) → marked_of f none (bare x) ≡ marked_of f none x
+  marked_bare (Both m x) = same x
+  marked_bare _ = refl
+
+  pub joined_bare : (x : Shape) → joined_of f none (bare x) ≡ joined_of f none x
+  joined_bare (Both m (Both x xs)) = λ i. same x i ∷ each_same (marked_of f none) marked_bare xs i
+  joined_bare _ = refl
 
 -- ---- what leaves, values, types and directives mean
 
@@ -83,8 +121,7 @@ default_bare (Node k (Both e v)) = const_bare v
 default_bare _ = refl
 
 pub optional_default_bare : (x : Shape) → optional_default_of (bare x) ≡ optional_default_of x
-optional_default_bare (First d) = ap Some (default_bare d)
-optional_default_bare _ = refl
+optional_default_bare = optional_bare default_of default_bare
 
 optional_non_null_bare : (m : Shape) (t : TypeTree) → optional_non_null (bare m) t ≡ optional_non_null m t
 optional_non_null_bare (First m) t = refl
@@ -100,19 +137,14 @@ arguments_bare (Node k (Both o (Both ps c))) = pairs_bare ps
 arguments_bare _ = refl
 
 pub optional_arguments_bare : (x : Shape) → optional_arguments_of (bare x) ≡ optional_arguments_of x
-optional_arguments_bare (First a) = arguments_bare a
-optional_arguments_bare _ = refl
+optional_arguments_bare = optional_list_bare (λ l. l) arguments_of arguments_bare
 
-directive_bare : (x : Shape) → erase (directive_of (bare x)) ≡ erase (directive_of x)
+directive_bare : Ignores erase directive_of
 directive_bare (Node k (Both a (Both n o))) = λ i. record { position = no_place; name = spelling_bare n i; arguments = optional_arguments_bare o i }
 directive_bare _ = refl
 
-each_directive_bare : (x : Shape) → erase_all (each_directive_of (bare x)) ≡ erase_all (each_directive_of x)
-each_directive_bare (More x xs) = λ i. directive_bare x i ∷ each_directive_bare xs i
-each_directive_bare _ = refl
-
-pub directives_bare : (x : Shape) → erase_all (directives_of (bare x)) ≡ erase_all (directives_of x)
-directives_bare (Node k xs) = each_directive_bare xs
+pub directives_bare : Ignores erase_all directives_of
+directives_bare (Node k xs) = each_bare erase directive_of directive_bare xs
 directives_bare _ = refl
 
 -- ---- documents of alike tokens
@@ -121,12 +153,12 @@ directives_bare _ = refl
 pub record IgnoresPlaces {D : Type 0} (l : Language D) : Type 0 where
   pub accepts : (c : Class) (t : Token) → accepts l.grammar c (unplaced t) ≡ accepts l.grammar c t
   pub checks : (k : ℕ) (x : Shape) → l.grammar.check k (bare x) ≡ l.grammar.check k x
-  pub means : (x : Shape) → l.erase (l.means (bare x)) ≡ l.erase (l.means x)
+  pub means : Ignores l.erase l.means
 
 module _ {D : Type 0} (l : Language D) (p : IgnoresPlaces l) where
-  pub same_document : (a b : Items) → Alike b.tokens a.tokens → IsEnd b.last → (d : D) → IsDocument l a d
+  pub document_alike : (a b : Items) → Alike b.tokens a.tokens → IsEnd b.last → (d : D) → IsDocument l a d
       → (e : D) × IsDocument l b e × (l.erase e ≡ l.erase d)
-  same_document a b alike end d (x, (fits, is), last, means) =
+  document_alike a b alike end d (x, (fits, is), last, means) =
       let (y, fy, ly, ey) = refilled l.grammar p.accepts p.checks fits b.tokens (subst (λ (ts : List Token). Alike b.tokens ts) is alike) in
       (l.means y, (y, (fy, ly), end, refl), sym (p.means y) ∙ ap (λ (z : Shape). l.erase (l.means z)) ey ∙ p.means x ∙ ap l.erase (sym means))
 
@@ -134,14 +166,14 @@ module _ {D : Type 0} (l : Language D) (p : IgnoresPlaces l) where
   pub minified_document : (source text : List ℕ) → IsMinified source text → (d : D) → IsDocumentOf l source d → IsReadBack l text d
   minified_document source text is d (items, has, doc) =
       let (others, h, alike, end) = minified_tokens source text is items has in
-      let (e, doc', same) = same_document (split items) (split others) alike end d doc in
+      let (e, doc', same) = document_alike (split items) (split others) alike end d doc in
       (e, (others, h, doc'), same)
 
   pub source_document : (source text : List ℕ) → IsMinified source text → (d : D) → IsDocumentOf l text d → IsReadBack l source d
   source_document source text (items, has, last, is) d (others, h, doc) =
       let (mine, k, alike, end) = minified_tokens source text (items, has, last, is) items has in
       let same_items = items_unique text others mine h k in
-      let (e, doc', same) = same_document (split mine) (split items) (sym alike) last d
+      let (e, doc', same) = document_alike (split mine) (split items) (sym alike) last d
       (subst (λ (is : List Item). IsDocument l (split is) d) same_items doc) in
       (e, (items, has, doc'), same)
 

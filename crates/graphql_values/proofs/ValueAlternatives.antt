@@ -1,26 +1,20 @@
 -- Which side of each choice is read, and which turn of each repetition.
 use Rattle.std.proofs.Common.{◌≡◌, ℕ, true, false, List, [], ◌∷◌, ◌++◌, Option, refl, ap, codes}
-use Rattle.graphql_grammar.specs.Tokens.{Token, Class}
-use Rattle.graphql_grammar.specs.Trees.{Expr, Empty, Nothing, Then, Either, Many, Sym, Shape, Both, First, Second, Node, optional, peek}
-use Rattle.graphql_grammar.specs.Tables.{first}
-use Rattle.graphql_grammar.specs.Reading.{sees, Takes}
-use Rattle.graphql_grammar.specs.ReaderWords.{values}
-use Rattle.graphql_grammar.proofs.Items.{sees-apart}
-use Rattle.graphql_lexer.specs.declared.tokenizer.token.Kind.TheVariants.{Name}
-use Rattle.graphql_core.specs.Source.{Items}
+use Rattle.graphql_grammar.proofs.{sees-apart}
+use Rattle.graphql_values.specs.{item, object, Token, Class, Expr, Empty, Nothing, Then, Either, Many, Sym, Shape, Both, First, Second, Node, optional, peek}
+use Rattle.graphql_values.specs.{first, sees, Takes, values, Name, Items, shared, rows, tables, name, any, punctuator, mark, value_symbol, const_symbol}
+use Rattle.graphql_values.specs.{plain_symbol, argument_symbol, const_pair_symbol, type_symbol, arguments_symbol, directive_symbol, default_symbol, spelling_at}
+use Rattle.graphql_values.specs.{plain_of, put_all, value_of, values_of, argument_of, pairs_of, const_of, consts_of, const_pair_of, const_pairs_of}
+use Rattle.graphql_values.specs.{arguments_of, directive_of, symbol_of, pair_symbol_of, variable_rule, list_rule, object_rule, pair_rule, begins_variable}
+use Rattle.graphql_values.specs.{tree_of, trees_of, pair_of, pairs_by, as_variable, as_plain, as_list, as_object, IsList, ValueTree, ValueMembers, put}
+use Rattle.graphql_values.specs.{listed_values, list, no_members, each_of}
 use Rattle.graphql_values.specs.declared.read.values.Sort.{Sort}
 use Rattle.graphql_values.specs.declared.read.values.Sort.TheVariants.{Value, Constant}
-use Rattle.graphql_values.specs.Grammar.{shared, rows, tables, name, any, punctuator, mark, value_symbol, const_symbol, plain_symbol, argument_symbol}
-use Rattle.graphql_values.specs.Grammar.{const_pair_symbol, type_symbol, arguments_symbol, directive_symbol, default_symbol}
-use Rattle.graphql_values.specs.Meanings.{spelling_at, plain_of, put_all, value_of, values_of, argument_of, pairs_of, const_of, consts_of, const_pair_of}
-use Rattle.graphql_values.specs.Meanings.{const_pairs_of, arguments_of, directive_of, each_directive_of}
-use Rattle.graphql_values.specs.steps.Constness.{symbol_of, pair_symbol_of, variable_rule, list_rule, object_rule, pair_rule, begins_variable, tree_of}
-use Rattle.graphql_values.specs.steps.Constness.{trees_of, pair_of, pairs_by, as_variable, as_plain, as_list, as_object}
-use Rattle.graphql_values.specs.steps.Lists.{IsList}
-use Rattle.graphql_values.specs.Values.{ValueTree, ValueMembers, list, object, item, no_members, put}
-use Rattle.graphql_values.specs.ValueViews.{items_of}
-use Rattle.graphql_values.proofs.Reading.{FailsUnseen, unseen_one, unseen_then, unseen_either, takes_none, one_of, many_means}
-use Rattle.graphql_values.proofs.Alternatives.{IsSide, through, side_node, side_first, side_second, side_left, side_right, unseen_symbol, sees_neither}
+use Rattle.graphql_values.proofs.Reading.{FailsUnseen, unseen_one, unseen_then, unseen_either, takes_none, one_of, many_means, each_means}
+use Rattle.graphql_values.proofs.Alternatives.{IsSide, through, side_node, side_first, side_second, side_left, side_right, unseen_symbol, sees_neither, side_in}
+use Rattle.graphql_values.proofs.Alternatives.{side_nth}
+use Rattle.graphql_values.proofs.Lists.{is_list}
+use Rattle.graphql_values.proofs.Optional.{BegunBy}
 
 -- ---- values and constants
 
@@ -42,36 +36,18 @@ brace = mark (codes "{")
 
 pub variable_side : (s : Sort) (i : Items) → begins_variable s i ≡ true → IsSide shared (Sym (symbol_of s)) variable_rule as_variable i.tokens
     × ((x : Shape) → tree_of s (as_variable x) ≡ value_of (as_variable x))
-variable_side Value i seen = (
-  through shared _ _ _ _ _ i.tokens (side_node shared value_symbol i.tokens (λ x. refl))
-      (side_first shared variable_rule after_variable (mark (codes "$")) i.tokens refl seen),
-  λ x. refl,
-)
+variable_side Value i seen = (side_in value_symbol (λ x. refl) (side_nth (mark (codes "$")) _ 0 refl seen), λ x. refl)
 variable_side Constant i seen = absurd cc
 
 pub list_side : (s : Sort) (ts : List Token) → sees (bracket ∷ []) (peek ts) ≡ true → IsSide shared (Sym (symbol_of s)) (list_rule s) (as_list s) ts
 unfolding tables
-list_side Value ts seen =
-    through shared _ _ _ _ _ ts (side_node shared value_symbol ts (λ x. refl))
-    (through shared _ _ _ _ _ ts (side_second shared variable_rule after_variable bracket ts refl refl seen)
-    (through shared _ _ _ _ _ ts (side_second shared (Sym plain_symbol) after_plain bracket ts refl refl seen)
-    (side_first shared (list_rule Value) (object_rule Value) bracket ts refl seen)))
-list_side Constant ts seen =
-    through shared _ _ _ _ _ ts (side_node shared const_symbol ts (λ x. refl))
-    (through shared _ _ _ _ _ ts (side_second shared (Sym plain_symbol) const_after_plain bracket ts refl refl seen)
-    (side_first shared (list_rule Constant) (object_rule Constant) bracket ts refl seen))
+list_side Value ts seen = side_in value_symbol (λ x. refl) (side_nth bracket _ 2 refl seen)
+list_side Constant ts seen = side_in const_symbol (λ x. refl) (side_nth bracket _ 1 refl seen)
 
 pub object_side : (s : Sort) (ts : List Token) → sees (brace ∷ []) (peek ts) ≡ true → IsSide shared (Sym (symbol_of s)) (object_rule s) (as_object s) ts
 unfolding tables
-object_side Value ts seen =
-    through shared _ _ _ _ _ ts (side_node shared value_symbol ts (λ x. refl))
-    (through shared _ _ _ _ _ ts (side_second shared variable_rule after_variable brace ts refl refl seen)
-    (through shared _ _ _ _ _ ts (side_second shared (Sym plain_symbol) after_plain brace ts refl refl seen)
-    (side_second shared (list_rule Value) (object_rule Value) brace ts refl refl seen)))
-object_side Constant ts seen =
-    through shared _ _ _ _ _ ts (side_node shared const_symbol ts (λ x. refl))
-    (through shared _ _ _ _ _ ts (side_second shared (Sym plain_symbol) const_after_plain brace ts refl refl seen)
-    (side_second shared (list_rule Constant) (object_rule Constant) brace ts refl refl seen))
+object_side Value ts seen = side_in value_symbol (λ x. refl) (side_nth brace _ 3 refl seen)
+object_side Constant ts seen = side_in const_symbol (λ x. refl) (side_nth brace _ 2 refl seen)
 
 unseen_plain : (ts : List Token) → FailsUnseen shared (Sym plain_symbol) ts
 unfolding tables
@@ -81,12 +57,14 @@ pub plain_side : (s : Sort) (i : Items) → begins_variable s i ≡ false → se
     → IsSide shared (Sym (symbol_of s)) (Sym plain_symbol) (as_plain s) i.tokens
 unfolding tables
 plain_side Value i h k l =
-    through shared _ _ _ _ _ i.tokens (side_node shared value_symbol i.tokens (λ x. refl))
+    let neither = sees_neither (bracket ∷ []) (brace ∷ []) (peek i.tokens) k l in
+    side_in value_symbol (λ x. refl)
     (through shared _ _ _ _ _ i.tokens (side_right shared variable_rule after_variable i.tokens refl refl (unseen_either shared _ _ i.tokens refl refl) h)
-    (side_left shared (Sym plain_symbol) after_plain i.tokens refl refl (unseen_plain i.tokens) (sees_neither bracket brace (peek i.tokens) k l)))
+    (side_left shared (Sym plain_symbol) after_plain i.tokens refl refl (unseen_plain i.tokens) neither))
 plain_side Constant i h k l =
-    through shared _ _ _ _ _ i.tokens (side_node shared const_symbol i.tokens (λ x. refl))
-    (side_left shared (Sym plain_symbol) const_after_plain i.tokens refl refl (unseen_plain i.tokens) (sees_neither bracket brace (peek i.tokens) k l))
+    side_in const_symbol (λ x. refl)
+    (side_left shared (Sym plain_symbol) const_after_plain i.tokens refl refl (unseen_plain i.tokens)
+    (sees_neither (bracket ∷ []) (brace ∷ []) (peek i.tokens) k l))
 
 -- what a plain value, a list and an object mean
 pub plain_means : (s : Sort) (x : Shape) → tree_of s (as_plain s x) ≡ plain_of x
@@ -130,41 +108,28 @@ put_more [] p ms = refl
 put_more (q ∷ ps) p ms = put_more ps p (put q.0 q.1 ms)
 
 pub trees_means : (s : Sort) {ts : List Token} {x : Shape} {us : List Token} → Takes shared (Many (Sym (symbol_of s))) ts x us
-    → trees_of s x ≡ items_of (values (one_of (tree_of s)) x)
-trees_means Value h = many_means shared _ value_of values_of items_of refl (λ x y vs e. ap (item (value_of x)) e) h
-trees_means Constant h = many_means shared _ const_of consts_of items_of refl (λ x y vs e. ap (item (const_of x)) e) h
+    → trees_of s x ≡ listed_values (values (one_of (tree_of s)) x)
+trees_means Value h = many_means shared _ value_of values_of listed_values refl (λ x y vs e. ap (item (value_of x)) e) h
+trees_means Constant h = many_means shared _ const_of consts_of listed_values refl (λ x y vs e. ap (item (const_of x)) e) h
 
 pub pairs_means : (s : Sort) {ts : List Token} {x : Shape} {us : List Token} → Takes shared (Many (Sym (pair_symbol_of s))) ts x us
     → pairs_by s x ≡ values (one_of (pair_of s)) x
-pairs_means Value h = many_means shared _ argument_of pairs_of (λ l. l) refl (λ x y vs e. ap (λ l. argument_of x ∷ l) e) h
-pairs_means Constant h = many_means shared _ const_pair_of const_pairs_of (λ l. l) refl (λ x y vs e. ap (λ l. const_pair_of x ∷ l) e) h
+pairs_means Value h = each_means argument_of pairs_of refl (λ x y. refl) h
+pairs_means Constant h = each_means const_pair_of const_pairs_of refl (λ x y. refl) h
 
 -- ---- arguments and directives
 
 pub arguments_list : IsList shared (mark (codes "(")) (mark (codes ")")) (Sym argument_symbol) argument_of arguments_symbol arguments_of
 unfolding tables
-arguments_list = record {
-  rule = refl;
-  passes = λ x. refl;
-  opens = λ t. refl;
-  closes = λ t. refl;
-  begins = refl;
-  is_more = refl;
-  means = λ t u x xs h. ap (λ l. argument_of x ∷ l) (pairs_means Value h);
-}
+arguments_list = is_list pairs_of refl (λ x. refl) (λ t. refl) (λ t. refl) refl refl refl (λ x y. refl) (λ t u x xs. refl)
 
-pub some_default : (ts : List Token) → sees (mark (codes "=") ∷ []) (peek ts) ≡ true
-    → IsSide shared (optional (Sym default_symbol)) (Sym default_symbol) First ts
+pub default_begins : BegunBy shared default_symbol (mark (codes "=") ∷ [])
 unfolding tables
-some_default ts seen = side_first shared (Sym default_symbol) Empty (mark (codes "=")) ts refl seen
-
-pub no_default : (ts : List Token) → sees (mark (codes "=") ∷ []) (peek ts) ≡ false → Takes shared (optional (Sym default_symbol)) ts (Second Nothing) ts
-unfolding tables
-no_default ts unseen = takes_none shared (Sym default_symbol) ts refl unseen
+default_begins = record { something = refl; first = refl }
 
 pub each_directive_means : {ts : List Token} {x : Shape} {us : List Token} → Takes shared (Many (Sym directive_symbol)) ts x us
-    → each_directive_of x ≡ values (one_of directive_of) x
-each_directive_means h = many_means shared _ directive_of each_directive_of (λ l. l) refl (λ x y vs e. ap (λ l. directive_of x ∷ l) e) h
+    → each_of directive_of x ≡ values (one_of directive_of) x
+each_directive_means h = each_means directive_of (each_of directive_of) refl (λ x y. refl) h
 
 -- ---- types
 
@@ -176,11 +141,9 @@ list_type_rule = Then (punctuator (codes "[")) (Then (Sym type_symbol) (Then (pu
 
 pub named_side : (ts : List Token) → sees (bracket ∷ []) (peek ts) ≡ false → IsSide shared (Sym type_symbol) named_rule (λ x. Node type_symbol (First x)) ts
 named_side ts unseen =
-    through shared _ _ _ _ _ ts (side_node shared type_symbol ts (λ x. refl))
-    (side_left shared named_rule list_type_rule ts refl refl (unseen_then shared _ _ ts refl (unseen_one shared _ ts)) unseen)
+    side_in type_symbol (λ x. refl) (side_left shared named_rule list_type_rule ts refl refl (unseen_then shared _ _ ts refl (unseen_one shared _ ts)) unseen)
 
 pub list_type_side : (ts : List Token) → sees (bracket ∷ []) (peek ts) ≡ true
     → IsSide shared (Sym type_symbol) list_type_rule (λ x. Node type_symbol (Second x)) ts
 unfolding tables
-list_type_side ts seen = through shared _ _ _ _ _ ts (side_node shared type_symbol ts (λ x. refl))
-    (side_second shared named_rule list_type_rule bracket ts refl refl seen)
+list_type_side ts seen = side_in type_symbol (λ x. refl) (side_nth bracket _ 1 refl seen)

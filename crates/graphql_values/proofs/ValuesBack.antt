@@ -1,34 +1,23 @@
 -- The layouts of values are read back, as values and as constants.
 use Rattle.std.proofs.Common.{◌≡◌, ℕ, ◌+◌, ◌≤◌, Bool, true, false, if◌then◌else◌, zero, suc, List, [], ◌∷◌, ◌++◌, codes, refl, ap, ap₂, ◌∙◌, arith}
-use Rattle.std.specs.List.{list_all}
-use Rattle.graphql_grammar.specs.Tokens.{Class}
-use Rattle.graphql_grammar.specs.Trees.{Expr, One, Many, Sym, Shape, Leaf, Both, First, Second, Stop, More, Node}
-use Rattle.graphql_lexer.specs.declared.tokenizer.token.Kind.TheVariants.{StringValue, BlockString}
-use Rattle.graphql_lexer.specs.Lexical.{IsName}
-use Rattle.graphql_core.specs.Style.{Layout, spaces}
-use Rattle.graphql_core.specs.Parts.{Part, token, name, mark, gap, new_line}
+use Rattle.graphql_core.specs.{name, mark}
+use Rattle.graphql_core.proofs.{is_blank, Any, as_word_back, anywhere_back, gap_back, word_back, mark_back, open_back, close_back, both_back, first_back}
+use Rattle.graphql_core.proofs.{second_back, node_back, stop_back, more_back, three_back}
+use Rattle.graphql_core.proofs.Back.{Back}
+use Rattle.graphql_values.specs.{float, string, item, enum, object, no_items, int, list_all, Class, Expr, One, Many, Sym, Shape, Leaf, Both, First, Second}
+use Rattle.graphql_values.specs.{Stop, More, Node, StringValue, BlockString, IsName, Layout, spaces, Part, token, gap, new_line, symbol_of, pair_symbol_of}
+use Rattle.graphql_values.specs.{list_rule, object_rule, pair_rule, tree_of, trees_of, pair_of, pairs_by, as_list, as_object, ValueTree, ValueItems}
+use Rattle.graphql_values.specs.{ValueMembers, value_layout, items_layout, members_layout, pair_layout, before_part, parts, after_parts, inside, boolean_name}
+use Rattle.graphql_values.specs.{has_block_form, in_block_form, quoted, shared, plain_symbol, spelling_at, plain_of, put_all, block_string_of, IsPrintableValue}
+use Rattle.graphql_values.specs.{ArePrintableItems, ArePrintableMembers, IsConstant, AreConstant, HoldConstants, value_brackets, items_brackets}
+use Rattle.graphql_values.specs.{members_brackets, IsLawful, AreLawful, HoldLawful, variable, boolean, null, list, no_members, member}
 use Rattle.graphql_values.specs.declared.read.values.Sort.{Sort}
 use Rattle.graphql_values.specs.declared.read.values.Sort.TheVariants.{Value, Constant}
-use Rattle.graphql_values.specs.steps.Constness.{symbol_of, pair_symbol_of, list_rule, object_rule, pair_rule, tree_of, trees_of, pair_of, pairs_by, as_list}
-use Rattle.graphql_values.specs.steps.Constness.{as_object}
-use Rattle.graphql_values.specs.Values.{ValueTree, variable, int, float, string, boolean, null, enum, list, object, ValueItems, no_items, item, ValueMembers}
-use Rattle.graphql_values.specs.Values.{no_members, member}
-use Rattle.graphql_values.specs.ValueLayout.{value_layout, items_layout, members_layout, pair_layout, before_part, parts, after_parts, inside, boolean_name}
-use Rattle.graphql_values.specs.ValueLayout.{has_block_form, in_block_form, quoted}
-use Rattle.graphql_values.specs.Grammar.{shared, plain_symbol}
-use Rattle.graphql_values.specs.Meanings.{spelling_at, plain_of, put_all}
-use Rattle.graphql_values.specs.Leaves.{block_string_of}
-use Rattle.graphql_values.specs.Printable.{IsPrintableValue, ArePrintableItems, ArePrintableMembers, IsConstant, AreConstant, HoldConstants, value_brackets}
-use Rattle.graphql_values.specs.Printable.{items_brackets, members_brackets}
-use Rattle.graphql_values.specs.Lawful.{IsLawful, AreLawful, HoldLawful}
-use Rattle.graphql_core.proofs.Laid.{is_blank}
 use Rattle.graphql_values.proofs.LeavesBack.{name_word, enum_takes, int_word, int_takes, int_decimal, float_word, float_takes, quoted_word, quoted_takes}
 use Rattle.graphql_values.proofs.LeavesBack.{quoted_means}
 use Rattle.graphql_values.proofs.BlockForm.{block_word}
 use Rattle.graphql_values.proofs.BlockValues.{block_means}
-use Rattle.graphql_values.proofs.Ordered.{pairs_in, put_in_order}
-use Rattle.graphql_core.proofs.Back.{Back, Any, as_word_back, anywhere_back, gap_back, word_back, mark_back, open_back, close_back, both_back, first_back}
-use Rattle.graphql_core.proofs.Back.{second_back, node_back, stop_back, more_back, three_back}
+use Rattle.graphql_values.proofs.Ordered.{pairs_in, put_all_in_order}
 
 -- ---- white space of parts
 
@@ -216,7 +205,7 @@ module _ (style : Layout) where
         (open_back (codes "{") (refl, refl) (omega arith) (λ p. refl))
         (members_back s (inside style margin) false ms (d + 1) is lawful (suits_members s ms suits) (omega arith))
         (closer_back style margin (codes "}") (close_back (codes "}") (refl, refl) (λ p. refl)))
-        (λ o x c ho hx hc. object_means s o x c ∙ ap (λ ps. object (put_all ps no_members)) hx ∙ ap object (put_in_order ms ordered))))
+        (λ o x c ho hx hc. object_means s o x c ∙ ap (λ ps. object (put_all ps no_members)) hx ∙ ap object (put_all_in_order ms ordered))))
 
     items_back : (s : Sort) (margin : ℕ) (later : Bool) (vs : ValueItems) (d : ℕ) → ArePrintableItems vs → AreLawful vs → SuitItems s vs
         → d + items_brackets vs ≤ 50

@@ -1,18 +1,17 @@
 -- What is seen of values and types as they are made, and of lists as they are read.
+use Rattle.std.specs.BTreeMap.{BTreeMap}
 use Rattle.std.proofs.Common.{◌≡◌, ℕ, ◌+◌, ◌<◌, ℤ, Bool, List, ◌∷◌, Box, Vec, String, string_bytes, length, get_or, drop, rules, ap, sym, ◌∙◌}
 use Rattle.std.proofs.lemmas.List.{at_drop_more}
-use Rattle.std.specs.Global.{Global}
-use Rattle.std.specs.BTreeMap.{BTreeMap}
+use Rattle.graphql_values.specs.{float, string, item, enum, object, int, Global, named, list_of, non_null, value_view, items_view, members_view, arguments_view}
+use Rattle.graphql_values.specs.{type_view, directive_view, directives_view, variable, boolean, null, list}
 use Rattle.graphql_values.specs.declared.tree.Value.{Value, the_lemmas}
+use Rattle.graphql_values.specs.declared.tree.Type.{the_lemmas as type_lemmas}
+use Rattle.graphql_values.specs.declared.tree.Directive.{Directive}
 use Rattle.graphql_values.specs.declared.tree.Value.TheVariants as leaf
 use Rattle.graphql_values.specs.declared.tree.Value.TheViews as made
 use Rattle.graphql_values.specs.declared.tree.Type as declared
-use Rattle.graphql_values.specs.declared.tree.Type.{the_lemmas as type_lemmas}
 use Rattle.graphql_values.specs.declared.tree.Type.TheVariants as leaf_type
 use Rattle.graphql_values.specs.declared.tree.Type.TheViews as made_type
-use Rattle.graphql_values.specs.Values.{variable, int, float, string, boolean, null, enum, list, object, item, named, list_of, non_null}
-use Rattle.graphql_values.specs.ValueViews.{value_view, items_view, members_view, arguments_view, type_view, directive_view, directives_view}
-use Rattle.graphql_values.specs.declared.tree.Directive.{Directive}
 
 module _ (N V : Type 0) (bytes : V → List ℕ) where
   pub variable_made : (v : V) → value_view {N = N} bytes (leaf.Variable v) ≡ variable (bytes v)
@@ -55,9 +54,9 @@ module _ (N V : Type 0) (bytes : V → List ℕ) where
       (variable_made, int_made, float_made, string_made, boolean_made, null_made, enum_made, list_made, object_made, named_made, list_type_made, non_null_made)
 
   -- the item at i and those after it
-  pub item_here : (vs : List (Value N V)) (i : ℕ) (v : Value N V) → i < length vs → v ≡ get_or vs i v
+  pub items_here : (vs : List (Value N V)) (i : ℕ) (v : Value N V) → i < length vs → v ≡ get_or vs i v
       → items_view bytes (drop i vs) ≡ item (value_view bytes v) (items_view bytes (drop (i + 1) vs))
-  item_here vs i v h is = at_drop_more (items_view bytes) vs i v h ∙ ap (λ w. item (value_view bytes w) (items_view bytes (drop (i + 1) vs))) (sym is)
+  items_here vs i v h is = at_drop_more (items_view bytes) vs i v h ∙ ap (λ w. item (value_view bytes w) (items_view bytes (drop (i + 1) vs))) (sym is)
 
   -- the argument at i and those after it
   pub argument_here : (all : List (V × Value N V)) (i : ℕ) (a : V × Value N V) → i < length all → a ≡ get_or all i a

@@ -1,35 +1,22 @@
 -- What a whole document is, by the theorems on every grammar.
 use Rattle.std.proofs.Common.{◌≡◌, ℕ, ◌-◌, List, [], ◌∷◌, ◌++◌, length, drop, length-append, ◌≤◌, refl, sym, ap, subst, ◌∙◌, arith, Result, Ok, Err, IfErr}
-use Rattle.std.specs.Result.{IsErrAnd}
 use Rattle.std.proofs.lemmas.List.{drop_at}
-use Rattle.graphql_grammar.specs.Tokens.{Token, Class, AnyOf}
-use Rattle.graphql_grammar.specs.Trees.{Sym, Shape, Node, leaves}
-use Rattle.graphql_grammar.specs.Factored.{written, change_at}
-use Rattle.graphql_grammar.specs.Reading.{Takes, takes_node, Reason, Unexpected, Improper, Refused, Fails, fails_node, Done, Fault as Stopped}
-use Rattle.graphql_grammar.specs.ReaderWords.{Stops}
-use Rattle.graphql_grammar.specs.Faults.{IsRefused}
-use Rattle.graphql_grammar.proofs.FaultedFor.{node_refused_for}
-use Rattle.graphql_grammar.specs.Texts as texts
-use Rattle.graphql_grammar.specs.Texts.{Answers}
-use Rattle.graphql_core.specs.declared.helpers.read_error.ReadError.{ReadError}
-use Rattle.graphql_core.specs.declared.helpers.read_error.ReadError.TheVariants.{Memory, Item, Integer, Float, Escape, Location}
-use Rattle.graphql_core.specs.Source.{Items, Last, End, Wrong, IsEnd, IsAtEnd, FaultText, kept, fault_at, place_next, split}
-use Rattle.graphql_core.specs.Source.{items_of_text, spending, tokens_then}
-use Rattle.graphql_core.specs.steps.ReadErrors.{IsFaultFor, here}
-use Rattle.graphql_core.specs.Causes.{CauseText}
-use Rattle.graphql_lexer.specs.Items.{HasItems, start}
-use Rattle.graphql_lexer.specs.Items as items_of
-use Rattle.graphql_lexer.specs.Stream.{asked_once}
-use Rattle.graphql_lexer.specs.steps.Cut.{items}
-use Rattle.graphql_lexer.proofs.OneCut.{has_items, items_unique}
-use Rattle.graphql_core.specs.Refusal.{Refusal, IsFaultOf, at, no_memory, max_length}
-use Rattle.graphql_core.proofs.Refusals.{by_fault, tells_weaker}
-use Rattle.graphql_values.specs.steps.Answers.{reason_of}
-use Rattle.graphql_values.specs.Language.{Language, reading, document_rule}
-use Rattle.graphql_values.specs.Document.{IsDocument, IsDocumentOf, HasOneShape, HaveOneShape}
-use Rattle.graphql_values.specs.Faults.{ending_of, text_of, Says, IsLeastFault, IsRefusalFor, IsRefusalOf, ran_out, faulty}
-use Rattle.graphql_values.proofs.Readable.{IsReadable, exact, exact_lax, whole, least, exact_reading, whole_reading}
+use Rattle.graphql_grammar.specs.{Done, Fault as Stopped, IsRefused, Answers}
+use Rattle.graphql_grammar.proofs.{node_refused_for}
+use Rattle.graphql_lexer.specs.{asked_once}
+use Rattle.graphql_core.specs.declared.helpers.read_error.ReadError.TheVariants.{Item}
+use Rattle.graphql_core.specs.{fault_at, items_of_text, spending, tokens_then, here, IsFaultOf}
+use Rattle.graphql_core.proofs.{has_items, items_unique, by_fault, tells_weaker}
+use Rattle.graphql_values.specs.{Wrong, IsErrAnd, Token, Class, AnyOf, Sym, Shape, Node, leaves, written, change_at, Takes, takes_node, Reason, Unexpected}
+use Rattle.graphql_values.specs.{Improper, Refused, Fails, fails_node, Stops, ReadError, Memory, Integer, Float, Escape, Location, Items, Last, End, IsEnd}
+use Rattle.graphql_values.specs.{IsAtEnd, FaultText, kept, place_next, split, IsFaultFor, CauseText, HasItems, start, items, Refusal, at, no_memory, max_length}
+use Rattle.graphql_values.specs.{reason_of, reading, document_rule, IsDocument, IsDocumentOf, HasOneShape, HaveOneShape, ending_of, numbered, Says}
+use Rattle.graphql_values.specs.{IsLeastFault, IsRefusalFor, IsRefusalOf, ran_out, faulty}
+use Rattle.graphql_values.specs.Language.{Language}
+use Rattle.graphql_values.proofs.Readable.{IsReadable, exact, exact_lax, whole_texts, least, exact_reading, whole_reading}
 use Rattle.graphql_values.proofs.Faults.{ends, Lacks, Misses, no_integer, no_float, no_string, unexpected_here, no_value_here}
+use Rattle.graphql_grammar.specs.Texts as texts
+use Rattle.graphql_lexer.specs.Items as items_of
 
 ended : (l : Last) → ending_of l ≡ texts.End → IsEnd l
 ended (End p) h = tt
@@ -62,7 +49,7 @@ last_kept i j h = ap (λ (k : Last × items_of.Stream). k.0) h
 module _ {D : Type 0} (l : Language D) (r : IsReadable l) where
   -- the answer to i is a fault at its item where j is left
   abbrev IsWrong : Reason → Items → Items → Type 0
-  IsWrong why i j = Answers (reading l) (Sym l.document) (text_of i) (texts.Wrong why (length i.tokens - length j.tokens))
+  IsWrong why i j = Answers (reading l) (Sym l.document) (numbered i) (texts.Wrong why (length i.tokens - length j.tokens))
 
   -- a whole document that is taken passes
   node_taken : {ts us : List Token} {x : Shape} → Takes (reading l) (document_rule l) ts x us → Takes (reading l) (Sym l.document) ts (Node l.document x) us
@@ -93,19 +80,19 @@ module _ {D : Type 0} (l : Language D) (r : IsReadable l) where
     left = dropped front i.tokens j.tokens parts
 
     unexpected_left : IsWrong Unexpected i j → f ≡ fault_at j → IsLeastFault l i f
-    unexpected_left a h = unexpected_here l r i j _ left (sym (last_kept i j last)) f ((least l r).wrong (text_of i) Unexpected _ a) h
+    unexpected_left a h = unexpected_here l r i j _ left (sym (last_kept i j last)) f ((least l r).wrong (numbered i) Unexpected _ a) h
 
     no_value_left : (c : Class) (k : CauseText) → Misses l r c k → IsWrong (Improper c) i j → f.cause ≡ k → f.place ≡ place_next j
         → IsLeastFault l i f
     no_value_left c k lacks a cause place =
-        no_value_here l r i j _ left (sym (last_kept i j last)) f c k lacks ((least l r).wrong (text_of i) (Improper c) _ a) cause place
+        no_value_here l r i j _ left (sym (last_kept i j last)) f c k lacks ((least l r).wrong (numbered i) (Improper c) _ a) cause place
 
   -- ---- no document is refused
 
   none_wrong : (why : Reason) (i j : Items) (d : D) → IsWrong why i j → IsDocument l i d → ⊥
   none_wrong why i j d a (x, derived, at_end, means) =
-      let c = (whole l r).complete (text_of i) x derived (ends i.last at_end) in
-      not_both c.0 ((whole_reading l r).one (text_of i) (texts.Tree c.0) (texts.Wrong why (length i.tokens - length j.tokens)) c.1 a)
+      let c = (whole_texts l r).complete (numbered i) x derived (ends i.last at_end) in
+      not_both c.0 ((whole_reading l r).one (numbered i) (texts.Tree c.0) (texts.Wrong why (length i.tokens - length j.tokens)) c.1 a)
     where
       not_both : (y : Shape) → texts.Tree y ≡ texts.Wrong why (length i.tokens - length j.tokens) → ⊥
       not_both y h = cc
@@ -161,7 +148,7 @@ module _ {D : Type 0} (l : Language D) (r : IsReadable l) where
       let (inside, is, node) = node_refused_for l.grammar l.second_rows l.changes r.each r.each_lax l.document i.tokens k x before j.tokens refused in (
         n,
         Refused k,
-        (least l r).wrong (text_of i) (Refused k) n (at_fault (Refused k) i j h),
+        (least l r).wrong (numbered i) (Refused k) n (at_fault (Refused k) i j h),
         (
           before,
           j.tokens,
@@ -196,7 +183,7 @@ module _ {D : Type 0} (l : Language D) (r : IsReadable l) where
   found i j d x h last at_end means =
       let e = sym (ap ending_of (sym (last_kept i j last)) ∙ ends j.last at_end.1) in
       let taken = node_taken (subst (λ (us : List Token). Takes (reading l) (document_rule l) i.tokens x us) at_end.0 h) in
-      let s = (whole l r).sound (text_of i) (Node l.document x) (Done (Node l.document x) [], taken, answer (ending_of i.last) e) in
+      let s = (whole_texts l r).sound (numbered i) (Node l.document x) (Done (Node l.document x) [], taken, answer (ending_of i.last) e) in
       (written l.changes (Node l.document x), s.0, ended i.last s.1, means)
     where
       answer : (en : texts.Ending) → texts.End ≡ en

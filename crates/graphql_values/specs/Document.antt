@@ -1,10 +1,8 @@
 -- What a text's document is, in any language, and what is answered for it.
 use Rattle.std.specs.Prelude.{◌≡◌, ℕ, List, Result, Ok, Err, IfOk}
-use Rattle.graphql_grammar.specs.Trees.{Shape, Sym, Derives}
-use Rattle.graphql_grammar.specs.Reading.{lax}
-use Rattle.graphql_lexer.specs.Items.{Item, HasItems}
-use Rattle.graphql_core.specs.Source.{Items, IsEnd, split}
-use Rattle.graphql_core.specs.Refusal.{Refusal, no_memory}
+use Rattle.graphql_grammar.specs.{Derives}
+use Rattle.graphql_core.specs.{Shape, Sym, lax, Item, HasItems, Items, IsEnd, split, no_memory, Layout}
+use Rattle.graphql_core.specs.Refusal.{Refusal}
 use Rattle.graphql_values.specs.Language.{Language}
 
 -- the answer is seen as this document, unless an allocation failed
@@ -47,3 +45,15 @@ module _ {D : Type 0} (l : Language D) where
   AreAlike (Ok d) (Err f) = f ≡ no_memory
   AreAlike (Err f) (Ok e) = f ≡ no_memory
   AreAlike (Err f) (Err g) = Unit {0}
+
+-- What is read of the texts of documents, of each in every style, is the document but for positions.
+pub record AreReadBack {D : Type 0} (l : Language D) (layout : Layout → D → List ℕ) (IsPrinted : D → Type 0) : Type 0 where
+  -- some document is read, in any style
+  pub read_back : (style : Layout) (d : D) → IsPrinted d → IsReadBack l (layout style d) d
+  -- each that is read is the same, and its text in that style is the same text
+  pub printed_again : (style : Layout) (d e : D) → IsPrinted d → IsDocumentOf l (layout style d) e → (l.erase e ≡ l.erase d) × (layout style e ≡ layout style d)
+  -- what is read of the texts in two styles is the same
+  pub styles_agree : (style other : Layout) (d e f : D) → IsPrinted d → IsDocumentOf l (layout style d) e → IsDocumentOf l (layout other d) f
+      → l.erase e ≡ l.erase f
+  -- documents that have one text are the same
+  pub one_text : (style : Layout) (d e : D) → IsPrinted d → IsPrinted e → layout style d ≡ layout style e → l.erase d ≡ l.erase e

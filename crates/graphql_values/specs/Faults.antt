@@ -1,23 +1,17 @@
 -- The faults of a text that is no document of a language, each with its index and what a refusal says of it.
+use mir.Syntax.{w64}
 use Rattle.std.specs.Prelude.{◌≡◌, ◌≤◌, ◌<◌, ℕ, zero, suc, List, [], ◌∷◌, ◌++◌, length, take, drop}
 use Rattle.std.specs.Int.RustNames.{FitsSigned}
-use mir.Syntax.{w64}
-use Rattle.graphql_grammar.specs.Tokens.{Token, Class}
-use Rattle.graphql_grammar.specs.Trees.{Sym, Shape, Node, leaves, peek, Begins, Ends}
-use Rattle.graphql_grammar.specs.Reading.{Reason, Unexpected, Improper, Refused, lax}
-use Rattle.graphql_grammar.specs.Texts as texts
-use Rattle.graphql_grammar.specs.Faults.{IsFault, IsLeast, IsRefused}
-use Rattle.graphql_lexer.specs.declared.tokenizer.token.Kind.TheVariants.{IntValue, FloatValue, StringValue}
-use Rattle.graphql_lexer.specs.Items.{Item, HasItems}
-use Rattle.graphql_core.specs.Causes.{CauseText, kind_number, int_out_of_range, malformed_float, bad_escape}
-use Rattle.graphql_core.specs.Source.{Items, Last, End, Wrong, split, fault_by, FaultText}
-use Rattle.graphql_core.specs.Literals.{IsFloatLiteral}
-use Rattle.graphql_core.specs.Strings as strings
-use Rattle.graphql_core.specs.Strings.{IsInQuotes}
-use Rattle.graphql_core.specs.Refusal.{Refusal, Tells, at, no_memory, max_length, too_long}
+use Rattle.graphql_grammar.specs.{Begins, Ends, Refused, IsFault, IsLeast, IsRefused}
+use Rattle.graphql_core.specs.{Token, Class, Sym, Shape, Node, leaves, peek, Reason, Unexpected, Improper, lax, IntValue, FloatValue, StringValue, Item}
+use Rattle.graphql_core.specs.{HasItems, CauseText, kind_number, int_out_of_range, malformed_float, bad_escape, Items, Last, End, Wrong, split, fault_by}
+use Rattle.graphql_core.specs.{FaultText, IsFloatLiteral, IsInQuotes, Tells, at, no_memory, max_length, too_long}
+use Rattle.graphql_core.specs.Refusal.{Refusal}
 use Rattle.graphql_values.specs.Leaves.{int_of}
 use Rattle.graphql_values.specs.Language.{Language}
 use Rattle.graphql_values.specs.Document.{IsDocumentOf}
+use Rattle.graphql_grammar.specs.Texts as texts
+use Rattle.graphql_core.specs.Strings as strings
 
 -- ---- the items of a text
 
@@ -26,8 +20,8 @@ ending_of (End p) = texts.End
 ending_of (Wrong p b) = texts.Bad
 
 -- the items as the theory of grammars sees them
-abbrev pub text_of : Items → texts.Text
-text_of i = record { tokens = i.tokens; ending = ending_of i.last }
+abbrev pub numbered : Items → texts.Text
+numbered i = record { tokens = i.tokens; ending = ending_of i.last }
 
 -- the tokens from the n-th item on; items are numbered from 1
 abbrev pub from_item : ℕ → List Token → List Token
@@ -58,11 +52,11 @@ module _ {D : Type 0} (l : Language D) where
 
   -- a fault of the items, its index, and what is said of the item with that index
   abbrev pub IsFaultAt : Items → FaultText → ℕ → Type 0
-  IsFaultAt i f n = (why : Reason) × IsFault l.grammar (Sym l.document) (text_of i) why n × Says why i n f
+  IsFaultAt i f n = (why : Reason) × IsFault l.grammar (Sym l.document) (numbered i) why n × Says why i n f
 
   -- the fault of least index
   abbrev pub IsLeastFault : Items → FaultText → Type 0
-  IsLeastFault i f = (n : ℕ) × (why : Reason) × IsLeast l.grammar (Sym l.document) (text_of i) why n × Says why i n f
+  IsLeastFault i f = (n : ℕ) × (why : Reason) × IsLeast l.grammar (Sym l.document) (numbered i) why n × Says why i n f
 
   -- The fault is that of the item after some of the tokens. Some list that the plain grammar derives begins with those tokens, and none
   -- with them and that item.

@@ -1,11 +1,8 @@
 -- The productions that queries and schemas share, as they are written.
 use Rattle.std.specs.Prelude.{ℕ, true, List, [], ◌∷◌, codes}
-use Rattle.graphql_grammar.specs.Tokens.{Token, Class, Spelled, AnyOf, Except, nowhere, matches}
-use Rattle.graphql_grammar.specs.Trees.{Expr, One, Then, Either, Many, Sym, Row, Grammar, optional, some_of}
-use Rattle.graphql_grammar.specs.Solve.{solve, with_tables}
-use Rattle.graphql_core.specs.Causes.{kind_number}
-use Rattle.graphql_lexer.specs.declared.tokenizer.token.Kind.{Kind}
-use Rattle.graphql_lexer.specs.declared.tokenizer.token.Kind.TheVariants.{Punctuator, Name, IntValue, FloatValue, StringValue, BlockString}
+use Rattle.graphql_grammar.specs.{Except, optional, solve}
+use Rattle.graphql_core.specs.{Token, Class, Spelled, AnyOf, nowhere, matches, Expr, One, Then, Either, Many, Sym, Row, Grammar, some_of, with_tables}
+use Rattle.graphql_core.specs.{kind_number, Kind, Punctuator, Name, IntValue, FloatValue, StringValue, BlockString}
 use Rattle.graphql_values.specs.Leaves.{is_good}
 
 -- ---- the symbols

@@ -1,10 +1,7 @@
 -- A language: how its documents are written, what they mean, and how they are read.
 use Rattle.std.specs.Prelude.{ℕ, List}
-use Rattle.graphql_grammar.specs.Tokens.{Token, Class}
-use Rattle.graphql_grammar.specs.Trees.{Shape, Expr, Row, Grammar, row}
-use Rattle.graphql_grammar.specs.Factored.{Change, with_rows}
-use Rattle.graphql_core.specs.Causes.{CauseText}
-use Rattle.graphql_core.specs.Source.{FaultText}
+use Rattle.graphql_grammar.specs.{with_rows}
+use Rattle.graphql_core.specs.{Token, Class, Shape, Expr, Row, Grammar, row, Change, CauseText, FaultText}
 
 -- D is what its documents mean.
 pub record Language (D : Type 0) : Type 1 where

@@ -1,9 +1,8 @@
 -- What holds of the values of every tree that a program can make.
 use Rattle.std.specs.Prelude.{ℕ, List, FitsSigned}
 use Rattle.std.specs.Int.{w64}
-use Rattle.std.specs.List.{AllByRecursion}
-use Rattle.graphql_core.specs.Literals.{IsFloatLiteral}
-use Rattle.graphql_values.specs.Values.{ValueTree, int, float, list, object, ValueItems, no_items, item, ValueMembers, no_members, member, AreInKeyOrder}
+use Rattle.graphql_core.specs.{AllByRecursion, IsFloatLiteral}
+use Rattle.graphql_values.specs.Values.{float, item, object, int, ValueTree, list, ValueItems, no_items, ValueMembers, no_members, member, AreInKeyOrder}
 use Rattle.graphql_values.specs.Values.{DirectiveTree}
 
 -- Integers are `i64`s, floats are literals, and each object has its keys in order.

@@ -1,8 +1,7 @@
 -- The layouts of some small values, types and directives, written out.
 use Rattle.std.specs.Prelude.{◌≡◌, ℕ, true, List, [], ◌∷◌, ◌++◌, codes}
-use Rattle.graphql_core.specs.Style.{Layout, default_style, with_multiline}
-use Rattle.graphql_core.specs.Parts.{text_of}
-use Rattle.graphql_values.specs.Values.{ValueTree, string, boolean, null, list, object, no_items, no_members, member, named, list_of, non_null, no_place}
+use Rattle.graphql_core.specs.{Layout, default_style, with_multiline, text_of}
+use Rattle.graphql_values.specs.Values.{string, object, ValueTree, boolean, null, list, no_items, no_members, member, named, list_of, non_null, no_place}
 use Rattle.graphql_values.specs.ValueLayout.{value_layout, type_layout, directive_layout}
 
 -- the text of a value in the default style

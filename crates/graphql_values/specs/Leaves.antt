@@ -1,14 +1,9 @@
 -- Which leaves of a shape have a value, and the values that they have.
 use Rattle.std.specs.Prelude.{ℕ, ℤ, ◌+◌, ◌-◌, ◌^◌, Bool, true, not, ◌&&◌, ◌||◌, ◌==◌, nat_lt, nat_le, if◌then◌else◌, is_some, List, [], ◌∷◌, ◌++◌, length, take}
 use Rattle.std.specs.Prelude.{drop, Option, Some, None}
-use Rattle.std.specs.List.{list_any, list_all}
-use Rattle.std.specs.Option.{unwrap_or}
-use Rattle.std.specs.Char.{encode_utf8, is_ascii_digit, is_ascii_hexdigit}
-use Rattle.std.specs.Str.Parse.{digits_value, signed_digits_value, starts_with_minus, without_leading_sign}
-use Rattle.graphql_grammar.specs.Tokens.{Token, Class, AnyOf}
-use Rattle.graphql_core.specs.Causes.{kind_number}
-use Rattle.graphql_core.specs.BlockStrings.{block_value}
-use Rattle.graphql_lexer.specs.declared.tokenizer.token.Kind.TheVariants.{IntValue, FloatValue, StringValue}
+use Rattle.std.specs.Str.Parse.{signed_digits_value, starts_with_minus, without_leading_sign}
+use Rattle.graphql_core.specs.{list_any, list_all, unwrap_or, encode_utf8, is_ascii_digit, is_ascii_hexdigit, digits_value, Token, Class, AnyOf, kind_number}
+use Rattle.graphql_core.specs.{block_value, IntValue, FloatValue, StringValue}
 
 -- ---- integers
 

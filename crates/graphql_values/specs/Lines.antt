@@ -1,10 +1,6 @@
 -- Layouts of lines in braces, of definitions, and of what stands before or after another part in its line.
-use Rattle.std.specs.Prelude.{ℕ, List, [], ◌∷◌, ◌++◌, Option, Some, None, codes}
-use Rattle.graphql_core.specs.Style.{Layout, spaces}
-use Rattle.graphql_core.specs.Parts.{Part, mark, gap}
-use Rattle.graphql_values.specs.Values.{ValueTree}
-use Rattle.graphql_values.specs.TreeDepth.{default_depth}
-use Rattle.graphql_values.specs.ValueLayout.{value_layout, in_levels}
+use Rattle.std.specs.Prelude.{ℕ, List, [], ◌∷◌, ◌++◌, codes}
+use Rattle.graphql_core.specs.{spaces, Part, mark, gap}
 
 -- lines in braces, of which the closing one stands at the margin
 abbrev pub in_braces : ℕ → List Part → List Part
@@ -32,11 +28,3 @@ after_commas = each_after (codes ", ")
 abbrev pub in_parentheses : {A : Type 0} → (A → List Part) → List A → List Part
 in_parentheses lines [] = []
 in_parentheses lines (x ∷ xs) = mark (codes "(") ++ (lines x ++ (after_commas lines xs ++ mark (codes ")")))
-
--- a default value, where there is one
-abbrev pub default_layout : Layout → ℕ → Option ValueTree → List Part
-default_layout style margin None = []
-default_layout style margin (Some v) = gap (codes " ") ++ (mark (codes "=") ++ (gap (codes " ") ++ value_layout style margin v))
-
-abbrev pub default_levels : Layout → Option ValueTree → ℕ
-default_levels style = default_depth (in_levels style)

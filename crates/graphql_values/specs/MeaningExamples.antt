@@ -1,7 +1,7 @@
 -- The meanings of some small values, written out.
 use Rattle.std.specs.Prelude.{◌≡◌, [], ◌∷◌, true, false, pos, codes}
+use Rattle.graphql_values.specs.Values.{int, no_members, member}
 use Rattle.graphql_values.specs.Leaves.{int_of, has_whole_exponent, is_in_range}
-use Rattle.graphql_values.specs.Values.{no_members, member, int}
 use Rattle.graphql_values.specs.Meanings.{put_all}
 
 -- {b: 1, a: 2, b: 3}: the fields stand in the order of their names, and of equal names the last counts

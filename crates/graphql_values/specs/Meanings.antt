@@ -1,10 +1,10 @@
 -- What the shapes of values, types and directives mean, a line for each production.
 use Rattle.std.specs.Prelude.{ℕ, true, false, List, [], ◌∷◌, Option, Some, None}
-use Rattle.graphql_grammar.specs.Tokens.{Token, Place, nowhere}
-use Rattle.graphql_grammar.specs.Trees.{Shape, Leaf, Both, First, Second, More, Node}
-use Rattle.graphql_values.specs.Leaves.{int_of, string_of, block_string_of}
-use Rattle.graphql_values.specs.Values.{ValueTree, variable, int, float, string, boolean, null, enum, list, object, ValueItems, no_items, item, ValueMembers}
+use Rattle.graphql_core.specs.{Token, Place, nowhere, Shape, Leaf, Both, First, Second, More, Node}
+use Rattle.graphql_values.specs.Values.{float, string, item, enum, object, int, ValueTree, variable, boolean, null, list, ValueItems, no_items, ValueMembers}
 use Rattle.graphql_values.specs.Values.{no_members, put, TypeTree, named, list_of, non_null, DirectiveTree}
+use Rattle.graphql_values.specs.Leaves.{int_of, string_of, block_string_of}
+use Rattle.graphql_values.specs.Parts.{optional_of, optional_list_of, each_of}
 
 -- ---- leaves
 
@@ -92,8 +92,7 @@ default_of (Node k (Both e v)) = const_of v
 default_of _ = null
 
 abbrev pub optional_default_of : Shape → Option ValueTree
-optional_default_of (First d) = Some (default_of d)
-optional_default_of _ = None
+optional_default_of = optional_of default_of
 
 -- ---- types
 
@@ -115,18 +114,13 @@ arguments_of _ = []
 
 -- none where they are missing
 abbrev pub optional_arguments_of : Shape → List (List ℕ × ValueTree)
-optional_arguments_of (First a) = arguments_of a
-optional_arguments_of _ = []
+optional_arguments_of = optional_list_of arguments_of
 
 -- a directive stands at its `@`
 abbrev pub directive_of : Shape → DirectiveTree
 directive_of (Node k (Both a (Both n o))) = record { position = place_at a; name = spelling_at n; arguments = optional_arguments_of o }
 directive_of _ = record { position = nowhere; name = []; arguments = [] }
 
-abbrev pub each_directive_of : Shape → List DirectiveTree
-each_directive_of (More x xs) = directive_of x ∷ each_directive_of xs
-each_directive_of _ = []
-
 abbrev pub directives_of : Shape → List DirectiveTree
-directives_of (Node k xs) = each_directive_of xs
+directives_of (Node k xs) = each_of directive_of xs
 directives_of _ = []

@@ -1,9 +1,8 @@
 -- What functions answer that read a whole document.
 use Rattle.std.specs.Prelude.{◌≡◌, ◌<◌, ◌≤◌, ℕ, List, length, Result, IfOk, IfErr, IsErrOf}
-use Rattle.graphql_core.specs.Refusal.{Refusal, max_length, too_long}
-use Rattle.graphql_lexer.specs.Items.{Stream}
-use Rattle.graphql_lexer.specs.Stream.{asked_once}
-use Rattle.graphql_core.specs.Source.{Items, FaultText, IsAtEnd, split}
+use Rattle.graphql_lexer.specs.{asked_once}
+use Rattle.graphql_core.specs.Refusal.{Refusal}
+use Rattle.graphql_core.specs.{max_length, too_long, Stream, Items, FaultText, IsAtEnd, split}
 use Rattle.graphql_values.specs.Language.{Language}
 use Rattle.graphql_values.specs.Document.{IsDocument, IsDocumentOf, AnswersUnlessMemory, HasOneShape, HaveOneShape}
 use Rattle.graphql_values.specs.Faults.{IsFaultAt, IsRefusalFor, IsRefusalOf, HasOneFaultAt, HasOneFaultEach, HasNoFault}

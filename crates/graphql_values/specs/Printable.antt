@@ -1,8 +1,7 @@
 -- Values, types and directives whose layouts are read as what they are, and how many brackets those open at once.
 use Rattle.std.specs.Prelude.{◌≡◌, ℕ, ◌+◌, List, [], ◌∷◌, codes}
-use Rattle.std.specs.List.{AllByRecursion}
-use Rattle.graphql_lexer.specs.Lexical.{IsName}
-use Rattle.graphql_values.specs.Values.{ValueTree, variable, enum, list, object, ValueItems, no_items, item, ValueMembers, no_members, member, TypeTree, named}
+use Rattle.graphql_core.specs.{AllByRecursion, IsName}
+use Rattle.graphql_values.specs.Values.{item, enum, object, ValueTree, variable, list, ValueItems, no_items, ValueMembers, no_members, member, TypeTree, named}
 use Rattle.graphql_values.specs.Values.{list_of, non_null, DirectiveTree}
 use Rattle.graphql_values.specs.TreeDepth.{Weights, one_around, value_depth, items_depth, members_depth, argument_depth, arguments_depth, directive_depth}
 use Rattle.graphql_values.specs.TreeDepth.{directives_depth}

@@ -1,12 +1,7 @@
 -- A language by its own rules, which stand after those of values, types and directives.
 use Rattle.std.specs.Prelude.{ℕ, Bool, true, false, ◌&&◌, ◌||◌, ◌==◌, nat_lt, cond, List, [], ◌∷◌, ◌++◌, replicate}
-use Rattle.graphql_grammar.specs.Tokens.{Token}
-use Rattle.graphql_grammar.specs.Trees.{Expr, Empty, One, Then, Either, Many, Sym, Shape, Row, Grammar, row_at}
-use Rattle.graphql_grammar.specs.Solve.{with_tables}
-use Rattle.graphql_grammar.specs.Tables.{is_ll1, is_tight, is_productive, decides, has_samples}
-use Rattle.graphql_grammar.specs.Reading.{lax}
-use Rattle.graphql_grammar.specs.Factored.{Change, unchanged, with_rows}
-use Rattle.graphql_core.specs.Source.{FaultText}
+use Rattle.graphql_grammar.specs.{is_ll1, is_tight, is_productive, decides, has_samples, unchanged, with_rows}
+use Rattle.graphql_core.specs.{Token, Expr, Empty, One, Then, Either, Many, Sym, Shape, Row, Grammar, row_at, with_tables, lax, Change, FaultText}
 use Rattle.graphql_values.specs.Leaves.{is_good}
 use Rattle.graphql_values.specs.Grammar.{shared, shared_symbols}
 use Rattle.graphql_values.specs.Language.{Language, reading}

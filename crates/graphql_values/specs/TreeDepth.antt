@@ -1,7 +1,7 @@
 -- How deep trees nest, in brackets and in levels: one fold, which is told what each part weighs.
 use Rattle.std.specs.Prelude.{ℕ, ◌+◌, max, Bool, true, false, if◌then◌else◌, List, [], ◌∷◌, Option}
-use Rattle.std.specs.Option.{option_map_or}
-use Rattle.graphql_values.specs.Values.{ValueTree, string, list, object, ValueItems, no_items, item, ValueMembers, no_members, member, TypeTree, DirectiveTree}
+use Rattle.graphql_core.specs.{option_map_or}
+use Rattle.graphql_values.specs.Values.{string, item, object, ValueTree, list, ValueItems, no_items, ValueMembers, no_members, member, TypeTree, DirectiveTree}
 
 -- ---- lists of trees
 

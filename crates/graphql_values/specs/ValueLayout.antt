@@ -1,18 +1,15 @@
 -- The layouts of values, types, arguments and directives, where a line begins with a margin of so many spaces.
-use Rattle.std.specs.Prelude.{ℕ, ◌+◌, ◌-◌, ◌*◌, ◌^◌, ◌≤◌, Bool, true, false, not, ◌&&◌, ◌||◌, ◌==◌, nat_lt, nat_le, if◌then◌else◌, List, [], ◌∷◌, ◌++◌}
-use Rattle.std.specs.Prelude.{Option, codes, map}
-use Rattle.std.specs.Option.{option_map_or}
+use Rattle.std.specs.Prelude.{ℕ, ◌+◌, ◌-◌, ◌*◌, ◌^◌, ◌≤◌, Bool, true, false, not, ◌&&◌, ◌||◌, ◌==◌, nat_lt, nat_le, if◌then◌else◌, List, [], ◌∷◌, ◌++◌, Option}
+use Rattle.std.specs.Prelude.{codes, map, Some, None}
 use Rattle.std.specs.Fmt.{signed_decimal}
-use Rattle.std.specs.List.{list_all, list_any, slice_split, flat_map}
-use Rattle.std.specs.Str.{chars}
-use Rattle.graphql_lexer.specs.declared.tokenizer.token.Kind.TheVariants.{IntValue, FloatValue, StringValue, BlockString}
-use Rattle.graphql_lexer.specs.Lexical.{begins_quotes}
-use Rattle.graphql_core.specs.BlockStrings.{is_white, is_blank}
-use Rattle.graphql_core.specs.Style.{Layout, default_style, spaces}
-use Rattle.graphql_core.specs.Parts.{Part, token, name, mark, gap, new_line}
-use Rattle.graphql_values.specs.Values.{ValueTree, variable, int, float, string, boolean, null, enum, list, object, ValueItems, no_items, item, ValueMembers}
+use Rattle.std.specs.List.{slice_split}
+use Rattle.graphql_core.specs.{option_map_or, list_all, list_any, flat_map, chars, IntValue, FloatValue, StringValue, BlockString, begins_quotes, is_white}
+use Rattle.graphql_core.specs.{is_blank, Layout, default_style, spaces, Part, token, name, mark, gap, new_line}
+use Rattle.graphql_values.specs.Values.{float, string, item, enum, object, int, ValueTree, variable, boolean, null, list, ValueItems, no_items, ValueMembers}
 use Rattle.graphql_values.specs.Values.{no_members, member, TypeTree, named, list_of, non_null, DirectiveTree}
 use Rattle.graphql_values.specs.TreeDepth.{Weights, most, value_depth, items_depth, members_depth, argument_depth, arguments_depth, directives_depth}
+use Rattle.graphql_values.specs.TreeDepth.{default_depth}
+use Rattle.graphql_values.specs.Lines.{each_after}
 
 -- ---- strings in quotes
 
@@ -173,8 +170,12 @@ directive_layout style margin d = mark (codes "@") ++ (name d.name ++ arguments_
 
 -- a space before each
 abbrev pub directives_layout : Layout → ℕ → List DirectiveTree → List Part
-directives_layout style margin [] = []
-directives_layout style margin (d ∷ ds) = gap (codes " ") ++ (directive_layout style margin d ++ directives_layout style margin ds)
+directives_layout style margin = each_after (codes " ") (directive_layout style margin)
+
+-- a default value, where there is one
+abbrev pub default_layout : Layout → ℕ → Option ValueTree → List Part
+default_layout style margin None = []
+default_layout style margin (Some v) = gap (codes " ") ++ (mark (codes "=") ++ (gap (codes " ") ++ value_layout style margin v))
 
 -- ---- levels that are open at once
 
@@ -217,6 +218,9 @@ arguments_levels style = arguments_depth (in_levels style)
 
 abbrev pub directives_levels : Layout → List DirectiveTree → ℕ
 directives_levels style = directives_depth (in_levels style)
+
+abbrev pub default_levels : Layout → Option ValueTree → ℕ
+default_levels style = default_depth (in_levels style)
 
 -- so many levels take more than `u32::MAX` spaces, whether a line stands in the last of them or not
 abbrev pub IsTooWide : Layout → ℕ → Type 0

@@ -1,17 +1,17 @@
 -- The values, types and directives that the declared ones stand for.
 use Rattle.std.specs.Prelude.{ℕ, List, [], ◌∷◌, map, string_bytes}
+use Rattle.graphql_core.specs.{place_of}
+use Rattle.graphql_values.specs.Values.{float, string, item, enum, object, int, ValueTree, variable, boolean, null, list, ValueItems, no_items, ValueMembers}
+use Rattle.graphql_values.specs.Values.{no_members, member, TypeTree, named, list_of, non_null, DirectiveTree}
 use Rattle.graphql_values.specs.declared.tree.Value.{Value, fold-Value}
 use Rattle.graphql_values.specs.declared.tree.Value.TheOpen.{Value-F}
-use Rattle.graphql_values.specs.declared.tree.Type as declared
 use Rattle.graphql_values.specs.declared.tree.Type.TheOpen.{Type-F}
 use Rattle.graphql_values.specs.declared.tree.Directive.{Directive}
-use Rattle.graphql_core.specs.Source.{place_of}
-use Rattle.graphql_values.specs.Values.{ValueTree, variable, int, float, string, boolean, null, enum, list, object, ValueItems, no_items, item, ValueMembers}
-use Rattle.graphql_values.specs.Values.{no_members, member, TypeTree, named, list_of, non_null, DirectiveTree}
+use Rattle.graphql_values.specs.declared.tree.Type as declared
 
-abbrev pub items_of : List ValueTree → ValueItems
-items_of [] = no_items
-items_of (v ∷ vs) = item v (items_of vs)
+abbrev pub listed_values : List ValueTree → ValueItems
+listed_values [] = no_items
+listed_values (v ∷ vs) = item v (listed_values vs)
 
 module _ {V : Type 0} (bytes : V → List ℕ) where
   abbrev pub members_of : List (V × ValueTree) → ValueMembers
@@ -28,14 +28,14 @@ module _ {N V : Type 0} (bytes : V → List ℕ) where
   value_step (Value-F.Boolean b) = boolean b
   value_step Value-F.Null = null
   value_step (Value-F.Enum v) = enum (bytes v)
-  value_step (Value-F.List v) = list (items_of v.items)
+  value_step (Value-F.List v) = list (listed_values v.items)
   value_step (Value-F.Object m) = object (members_of bytes m.entries)
 
   abbrev pub value_view : Value N V → ValueTree
   value_view = fold-Value N V ValueTree value_step
 
   abbrev pub items_view : List (Value N V) → ValueItems
-  items_view vs = items_of (map value_view vs)
+  items_view vs = listed_values (map value_view vs)
 
   abbrev pub members_view : List (V × Value N V) → ValueMembers
   members_view ms = members_of bytes (map (λ m. (m.0, value_view m.1)) ms)

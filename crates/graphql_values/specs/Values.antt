@@ -2,8 +2,7 @@
 use Rattle.std.specs.Prelude.{ℕ, ℤ, List, [], ◌∷◌, Bool, map}
 use Rattle.std.specs.Ordering.{nat_cmp, match_ordering}
 use Rattle.std.specs.List.Sorted.{IsStrictlySortedBy}
-use Rattle.std.specs.Cmp.Lexicographic.{slice_cmp}
-use Rattle.graphql_grammar.specs.Tokens.{Place}
+use Rattle.graphql_core.specs.{slice_cmp, Place}
 
 mutual
   pub data ValueTree : Type 0 where

@@ -90,10 +90,7 @@ fn are_equal_as<'a, D: Document<'a>>(alloc: Global, one: &'a str, other: &'a str
 fn tell<'a, D: Document<'a>>(told: &mut Told, document: &D, telling: Telling) {
     match telling {
         Telling::Layout { indent, multiline } => {
-            match document.laid_out(told.alloc, &style_of(indent, multiline)) {
-                Ok(text) => told.tell(text.as_str()),
-                Err(error) => told.refuse(&error),
-            }
+            told.tell_answer(&document.laid_out(told.alloc, &style_of(indent, multiline)));
         }
         Telling::Tree => told.show_debug(document),
         Telling::Parts => document.tell_parts(told),

@@ -55,29 +55,24 @@ fn tell_variables<N: Names>(told: &mut Told, variables: &[VariableDefinition<'_,
     }
 }
 
+/// A query, a mutation or a subscription, and its parts.
+macro_rules! tell_named {
+    ($told:expr, $operation:expr) => {{
+        $told.show_line($operation);
+        tell_variables($told, &$operation.variable_definitions);
+        tell_directives($told, &$operation.directives);
+        tell_set($told, &$operation.selection_set);
+    }};
+}
+
 /// An operation as such and as what it is, and its parts.
 fn tell_operation<N: Names>(told: &mut Told, operation: &OperationDefinition<'_, N>) {
     told.show_line(operation);
     match operation {
         OperationDefinition::SelectionSet(set) => tell_set(told, set),
-        OperationDefinition::Query(query) => {
-            told.show_line(query);
-            tell_variables(told, &query.variable_definitions);
-            tell_directives(told, &query.directives);
-            tell_set(told, &query.selection_set);
-        }
-        OperationDefinition::Mutation(mutation) => {
-            told.show_line(mutation);
-            tell_variables(told, &mutation.variable_definitions);
-            tell_directives(told, &mutation.directives);
-            tell_set(told, &mutation.selection_set);
-        }
-        OperationDefinition::Subscription(subscription) => {
-            told.show_line(subscription);
-            tell_variables(told, &subscription.variable_definitions);
-            tell_directives(told, &subscription.directives);
-            tell_set(told, &subscription.selection_set);
-        }
+        OperationDefinition::Query(query) => tell_named!(told, query),
+        OperationDefinition::Mutation(mutation) => tell_named!(told, mutation),
+        OperationDefinition::Subscription(subscription) => tell_named!(told, subscription),
     }
 }
 

@@ -12,10 +12,7 @@ fn told_of_minified(alloc: Global, source: &str) -> Told {
         told.cut_short();
         return told;
     };
-    match minify_query(alloc, source) {
-        Ok(text) => told.tell(text.as_str()),
-        Err(error) => told.refuse(&error),
-    }
+    told.tell_answer(&minify_query(alloc, source));
     told
 }
 
@@ -82,10 +79,7 @@ pub fn tell_quoted(told: &mut Told, body: &str) {
         told.cut_short();
         return;
     };
-    match unquote_string(told.alloc, text.as_str()) {
-        Ok(value) => told.tell(value.as_str()),
-        Err(error) => told.refuse(&error),
-    }
+    told.tell_answer(&unquote_string(told.alloc, text.as_str()));
 }
 
 /// Tells the value of a block string's content.
@@ -94,10 +88,7 @@ pub fn tell_block(told: &mut Told, content: &str) {
         told.cut_short();
         return;
     };
-    match unquote_block_string(told.alloc, text.as_str()) {
-        Ok(value) => told.tell(value.as_str()),
-        Err(_) => told.cut_short(),
-    }
+    told.tell_made(&unquote_block_string(told.alloc, text.as_str()));
 }
 
 /// Tells a float literal; its clone is equal.

@@ -1,5 +1,5 @@
 //! What is told of a text.
-use std::alloc::Global;
+use std::alloc::{AllocError, Global};
 use std::fmt;
 
 /// What is told of a text, whether it is told that the text is refused, whether something about it is wrong that no case
@@ -44,12 +44,25 @@ impl Told {
         }
     }
 
-    /// Tells what `Display` shows of a part.
-    pub fn show<D: fmt::Display>(&mut self, part: &D) {
-        match part.to_string(self.alloc) {
+    /// Tells a text that was made, if there was memory for it.
+    pub fn tell_made(&mut self, made: &Result<String, AllocError>) {
+        match made {
             Ok(text) => self.tell(text.as_str()),
             Err(_) => self.is_cut_short = true,
         }
+    }
+
+    /// Tells a text that was asked for, or that the text is refused.
+    pub fn tell_answer<E: fmt::Display>(&mut self, answer: &Result<String, E>) {
+        match answer {
+            Ok(text) => self.tell(text.as_str()),
+            Err(error) => self.refuse(error),
+        }
+    }
+
+    /// Tells what `Display` shows of a part.
+    pub fn show<D: fmt::Display>(&mut self, part: &D) {
+        self.tell_made(&part.to_string(self.alloc));
     }
 
     /// The same on a line of its own.
@@ -60,10 +73,7 @@ impl Told {
 
     /// Tells what `Debug` shows of a part.
     pub fn show_debug<D: fmt::Debug>(&mut self, part: &D) {
-        match format!(in self.alloc; "{part:?}") {
-            Ok(text) => self.tell(text.as_str()),
-            Err(_) => self.is_cut_short = true,
-        }
+        self.tell_made(&format!(in self.alloc; "{part:?}"));
     }
 
     /// Tells that the text is refused, with what `Display` shows of the error.

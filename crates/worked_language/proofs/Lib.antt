@@ -1,1 +1,2 @@
 mod Readable
+pub use Readable.{readable}

@@ -1,9 +1,10 @@
 -- The language of extensions is readable.
-use Rattle.graphql_values.specs.Dialect.{shared_tables, unquoted}
-use Rattle.std.proofs.Common.{◌∙◌}
-use Rattle.graphql_values.proofs.Dialect.{sym, refl, name, IsSecond-unchanged, IsSecond-head, IsReadable, IsTold}
+use Rattle.std.proofs.Common.{◌∙◌, sym, refl}
+use Rattle.graphql_grammar.proofs.{IsSecond-unchanged, IsSecond-head}
+use Rattle.graphql_values.specs.{tables as shared_tables, unquoted, name}
+use Rattle.graphql_values.proofs.{IsReadable, IsTold}
+use Rattle.worked_language.specs.{told, worked, int, tables}
 use Rattle.graphql_values.proofs.Told as every
-use Rattle.worked_language.specs.Language.{told, worked, int, tables}
 
 is_told : IsTold told
 unfolding tables shared_tables unquoted

@@ -1,9 +1,10 @@
 -- The language of extensions: how they are written and read, and what is said of one that is refused.
-use Rattle.std.specs.Prelude.{◌≡◌, ◌∷◌, ◌++◌}
-use Rattle.graphql_values.specs.Dialect.{ℕ, not, List, [], drop, matches}
-use Rattle.graphql_values.specs.Dialect.{Expr, One, Then, Either, Many, Sym, Node, Row, solve, unchanged, out_of_head, IntValue, Pos}
-use Rattle.graphql_values.specs.Dialect.{empty_extension, place_of, first_place, leaves, shared, shared_rules, shared_symbols, any, name, Language}
-use Rattle.graphql_values.specs.Dialect.{Told, language, Refusals}
+use Rattle.std.specs.Prelude.{◌≡◌, ◌∷◌, ◌++◌, ℕ, not, List, [], drop}
+use Rattle.graphql_grammar.specs.{out_of_head}
+use Rattle.graphql_values.specs.{matches, Expr, One, Then, Either, Many, Sym, Node, Row, solve, unchanged, IntValue, Pos, empty_extension, place_of}
+use Rattle.graphql_values.specs.{first_place, leaves, shared, rules as shared_rules, shared_symbols, any, name, language, Refusals}
+use Rattle.graphql_values.specs.Language.{Language}
+use Rattle.graphql_values.specs.Told.{Told}
 use Rattle.worked_language.specs.Meanings.{ExtensionTree, adds_nothing, extension_of, document_of}
 
 -- the symbol after that of a whole document

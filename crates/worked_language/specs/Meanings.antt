@@ -1,6 +1,6 @@
 -- What extensions are, and what their shapes mean.
-use Rattle.std.specs.Prelude.{◌∷◌}
-use Rattle.graphql_values.specs.Dialect.{ℕ, ℤ, Bool, false, List, [], same_spelling, Shape, Both, First, Second, More, Node, int_of, spelling_at}
+use Rattle.std.specs.Prelude.{◌∷◌, ℕ, ℤ, Bool, false, List, []}
+use Rattle.graphql_values.specs.{same_spelling, Shape, Both, First, Second, More, Node, int_of, spelling_at}
 use Rattle.worked_language.specs.declared.tree.Extension.{Extension}
 use Rattle.worked_language.specs.declared.tree.Extension.TheVariants as declared
 

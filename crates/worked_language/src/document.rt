@@ -1,8 +1,7 @@
 //! Whole documents.
-ghost use Rattle.std.specs.Prelude.{◌≡◌};
-ghost use Rattle.graphql_values.specs.Dialect.{map, IfOk, IsAtEnd, kept, ReadsDocument, ParsesDocument, ParsesStream};
-ghost use Rattle.worked_language.specs.Meanings.{extension_view};
-ghost use Rattle.worked_language.specs.Language.{worked};
+ghost use Rattle.std.specs.Prelude.{◌≡◌, map, IfOk};
+ghost use Rattle.graphql_values.specs.{IsAtEnd, kept, ReadsDocument, ParsesDocument, ParsesStream};
+ghost use Rattle.worked_language.specs.{extension_view, worked};
 
 use crate::read::extensions;
 use crate::tree::Extension;

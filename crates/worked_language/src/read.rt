@@ -1,8 +1,7 @@
 //! Readers, one for each symbol of the grammar.
-ghost use Rattle.std.specs.Prelude.{◌≡◌};
-ghost use Rattle.graphql_values.specs.Dialect.{map, same_spelling, Many, Sym, kept, Shortens, Reads};
-ghost use Rattle.worked_language.specs.Meanings.{extension_view, extension_of, extensions_of};
-ghost use Rattle.worked_language.specs.Language.{extension_symbol, worked, refusals};
+ghost use Rattle.std.specs.Prelude.{◌≡◌, map};
+ghost use Rattle.graphql_values.specs.{same_spelling, Many, Sym, kept, Shortens, Reads};
+ghost use Rattle.worked_language.specs.{extension_view, extension_of, extensions_of, extension_symbol, worked, refusals};
 
 use crate::tree::Extension;
 use graphql_core::common::Names;

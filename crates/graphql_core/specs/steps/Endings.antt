@@ -1,12 +1,12 @@
 -- What a cursor keeps of the next item.
 use Rattle.graphql_lexer.specs.declared.position.Pos.{Pos}
 use Rattle.graphql_lexer.specs.declared.tokenizer.token.Token.{Token}
-use Rattle.graphql_lexer.specs.BadTexts.{bad_text}
+use Rattle.graphql_lexer.specs.{bad_text}
 use Rattle.graphql_lexer.specs.Items.{Stream}
 use Rattle.graphql_core.specs.declared.helpers.cursor.Ending.{Ending}
-use Rattle.graphql_core.specs.declared.helpers.cursor.Ending.TheVariants as ending
 use Rattle.graphql_core.specs.Causes.{no_token}
 use Rattle.graphql_core.specs.Source.{Items, End, Wrong, then_items, token_of, only_last, spending, items_of_stream, place_of}
+use Rattle.graphql_core.specs.declared.helpers.cursor.Ending.TheVariants as ending
 
 -- what a source has where this token or this ending is next, and its stream stands after it
 abbrev pub shown : Pos → Token → Ending → Stream → Items

@@ -1,8 +1,6 @@
 -- One token at a time: a match takes exactly one token, or leaves the item where it is.
 use Rattle.std.specs.Prelude.{◌≡◌, Bool, true, false, [], ◌∷◌, Result, Ok, Err}
-use Rattle.graphql_grammar.specs.Tokens.{Token, Class, matches}
-use Rattle.graphql_grammar.specs.Trees.{peek}
-use Rattle.graphql_grammar.specs.Reading.{sees}
+use Rattle.graphql_grammar.specs.{Token, Class, matches, peek, sees}
 use Rattle.graphql_core.specs.declared.helpers.read_error.ReadError.{ReadError}
 use Rattle.graphql_core.specs.declared.helpers.read_error.ReadError.TheVariants.{Memory, Item}
 use Rattle.graphql_core.specs.Source.{Items, kept}

@@ -1,11 +1,11 @@
 -- The punctuators (GraphQL, October 2021, section 2.1.8), and the byte that each begins with.
 use Rattle.std.specs.Prelude.{ℕ, List, [], ◌∷◌, codes}
-use Rattle.graphql_grammar.specs.Tokens.{Token, Class, Spelled}
-use Rattle.graphql_lexer.specs.declared.tokenizer.token.Kind.TheVariants as kinds
+use Rattle.graphql_grammar.specs.{Token, Class, Spelled}
 use Rattle.graphql_core.specs.declared.helpers.punctuator.Punctuator.{Punctuator}
-use Rattle.graphql_core.specs.declared.helpers.punctuator.Punctuator.TheVariants.{Bang, Dollar, Ampersand, OpenParen, CloseParen, Spread, Colon, Equals, At, OpenBracket}
-use Rattle.graphql_core.specs.declared.helpers.punctuator.Punctuator.TheVariants.{CloseBracket, OpenBrace, Pipe, CloseBrace}
+use Rattle.graphql_core.specs.declared.helpers.punctuator.Punctuator.TheVariants.{Bang, Dollar, Ampersand, OpenParen, CloseParen, Spread, Colon, Equals, At}
+use Rattle.graphql_core.specs.declared.helpers.punctuator.Punctuator.TheVariants.{OpenBracket, CloseBracket, OpenBrace, Pipe, CloseBrace}
 use Rattle.graphql_core.specs.Causes.{kind_number}
+use Rattle.graphql_lexer.specs.declared.tokenizer.token.Kind.TheVariants as kinds
 
 abbrev pub spelling_of : Punctuator → List ℕ
 spelling_of Bang = codes "!"

@@ -1,12 +1,12 @@
 -- The tokens of a text by where they stand in it.
 use Rattle.std.specs.Prelude.{ℕ, ◌-◌, ◌/◌, ◌%◌, ◌≤◌, ◌==◌, if◌then◌else◌, List, take, drop, map, Option, Some, None}
 use Rattle.std.specs.Str.{IsCharBoundary}
-use Rattle.graphql_grammar.specs.Tokens.{Token}
+use Rattle.graphql_grammar.specs.{Token}
 use Rattle.graphql_lexer.specs.declared.position.Pos.{Pos}
 use Rattle.graphql_lexer.specs.declared.tokenizer.token.Kind.{Kind}
 use Rattle.graphql_lexer.specs.declared.tokenizer.token.Kind.TheVariants.{Punctuator, Name, IntValue, FloatValue, StringValue, BlockString}
 use Rattle.graphql_lexer.specs.declared.tokenizer.token.Bad.{Bad}
-use Rattle.graphql_lexer.specs.BadTexts.{bad_text}
+use Rattle.graphql_lexer.specs.{bad_text}
 use Rattle.graphql_core.specs.declared.helpers.span.Span.{Span}
 use Rattle.graphql_core.specs.Causes.{kind_number, no_token}
 use Rattle.graphql_core.specs.Source.{Items, Last, End, Wrong, IsLexeme, place_of, tokens_then}

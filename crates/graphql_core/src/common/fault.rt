@@ -1,8 +1,6 @@
 //! Why a text is refused, and where.
 ghost use Rattle.std.specs.Prelude.{◌≡◌};
-ghost use Rattle.graphql_core.specs.Causes.{cause_text};
-ghost use Rattle.graphql_core.specs.Source.{place_of};
-ghost use Rattle.graphql_core.specs.Refusal.{at, no_memory, too_long};
+ghost use Rattle.graphql_core.specs.{cause_text, place_of, at, no_memory, too_long};
 
 use crate::common::cause::Cause;
 use graphql_lexer::position::Pos;
@@ -24,8 +22,7 @@ pub struct Fault {
 
 impl Model for Fault {
     ghost use Rattle.std.specs.Prelude.{option_map};
-    ghost use Rattle.graphql_core.specs.Causes.{cause_text};
-    ghost use Rattle.graphql_core.specs.Source.{place_of};
+    ghost use Rattle.graphql_core.specs.{cause_text, place_of};
     ghost use Rattle.graphql_core.specs.Refusal.{Refusal};
 
     ghost Value = { Refusal };

@@ -1,6 +1,6 @@
 //! Laws of the values of strings.
 ghost use Rattle.std.specs.Prelude.{◌≡◌, ℕ, List};
-ghost use Rattle.graphql_core.specs.Strings.{HasValue};
+ghost use Rattle.graphql_core.specs.{HasValue};
 ghost use Rattle.graphql_core.specs.ValueExamples as example;
 
 /// What stands between a string's quotes has at most one value.

@@ -1,9 +1,8 @@
 //! Numbers, as documents have them.
 ghost use Rattle.std.specs.Prelude.{◌≡◌, ◌-◌, ℕ, List, length, get_or, Decides, OkIff, IfErr, Some, nat_eq, string_bytes};
-ghost use Rattle.std.specs.Char.{is_ascii_digit};
 ghost use Rattle.std.specs.Cmp.{partial_equiv_from_equiv};
-ghost use Rattle.std.specs.Cmp.Lexicographic.{nat_list_eq_equiv, pointwise};
-ghost use Rattle.graphql_core.specs.Literals.{IsFloatLiteral};
+ghost use Rattle.std.specs.Cmp.Lexicographic.{nat_list_eq_equiv};
+ghost use Rattle.graphql_core.specs.{is_ascii_digit, pointwise, IsFloatLiteral};
 
 use graphql_lexer::tokenizer::number::is_float;
 use std::alloc::AllocError;

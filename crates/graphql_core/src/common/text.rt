@@ -2,8 +2,8 @@
 ghost use Rattle.std.specs.Prelude.{◌≡◌, ℕ, List, IfOk, IsOk, nat_eq, refl, string_bytes};
 ghost use Rattle.std.specs.Cow.{IsBorrowedStr, cow_str_bytes};
 ghost use Rattle.std.specs.Ordering.{nat_cmp};
-ghost use Rattle.std.specs.Cmp.Lexicographic.{pointwise, slice_cmp};
 ghost use Rattle.std.proofs.Common.{rules};
+ghost use Rattle.graphql_core.specs.{pointwise, slice_cmp};
 
 use std::alloc::{AllocError, Global};
 use std::borrow::CowStr;

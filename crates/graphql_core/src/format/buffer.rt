@@ -1,9 +1,7 @@
 //! A text that grows at its end, in a vector whose first bytes count. What lies after them is initialized ahead, so that
 //! a short text is stored with one test.
 ghost use Rattle.std.specs.Prelude.{◌≡◌, ◌≤◌, [], ◌++◌, length, take, vec_len, string_bytes, IfOk, OnOk, OnErr};
-ghost use Rattle.std.specs.Str.{IsUtf8};
-ghost use Rattle.graphql_core.specs.Minified.{space_if};
-ghost use Rattle.graphql_core.specs.steps.StringSink.{list_nil, list_more};
+ghost use Rattle.graphql_core.specs.{IsUtf8, space_if, list_nil, list_more};
 
 use crate::format::place::{LOAD, copy_prefix, copy_space, copy_text};
 use crate::format::sink::Sink;
@@ -27,7 +25,7 @@ pub struct Buffer {
 
 impl Model for Buffer {
     ghost use Rattle.std.specs.Prelude.{ℕ, List, ◌≤◌, length, take};
-    ghost use Rattle.std.specs.Str.{IsUtf8};
+    ghost use Rattle.graphql_core.specs.{IsUtf8};
 
     ghost Value = { List ℕ };
 

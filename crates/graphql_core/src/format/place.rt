@@ -1,7 +1,6 @@
 //! Writing a text at a place in a buffer that has room. A short text is two copies of a fixed size that overlap.
 ghost use Rattle.std.specs.Prelude.{◌≡◌, ◌+◌, ◌<◌, ◌≤◌, length, take};
-ghost use Rattle.graphql_core.specs.Minified.{space_if};
-ghost use Rattle.graphql_core.specs.steps.Placed.{Placed};
+ghost use Rattle.graphql_core.specs.{space_if, Placed};
 
 use std::simd::Simd;
 

@@ -1,8 +1,7 @@
 //! What text is written to.
 ghost use Rattle.std.specs.Prelude.{◌≡◌, ℕ, List, [], ◌++◌, OnOk, string_bytes, length, take};
 ghost use Rattle.std.specs.Fmt.{HasWrittenStyled, IsFlush};
-ghost use Rattle.graphql_core.specs.steps.FormatterSink.{formatter_nil, formatter_more};
-ghost use Rattle.graphql_core.specs.steps.StringSink.{string_nil, string_more};
+ghost use Rattle.graphql_core.specs.{formatter_nil, formatter_more, string_nil, string_more};
 
 use std::alloc::AllocError;
 use std::fmt;

@@ -1,6 +1,6 @@
 //! The style of a text.
 ghost use Rattle.std.specs.Prelude.{◌≡◌, ℕ, ◌<◌, ◌^◌};
-ghost use Rattle.graphql_core.specs.Style.{with_indent, with_multiline};
+ghost use Rattle.graphql_core.specs.{with_indent, with_multiline};
 
 use std::marker::Model;
 
@@ -12,8 +12,8 @@ pub struct Style {
 }
 
 impl Model for Style {
-    ghost use Rattle.graphql_core.specs.Style as spec;
     ghost use Rattle.std.specs.Prelude.{◌<◌, ◌^◌};
+    ghost use Rattle.graphql_core.specs.Style as spec;
 
     ghost Value = { spec.Layout };
 
@@ -26,7 +26,7 @@ impl Model for Style {
 
 impl Default for Style {
     ghost use Rattle.std.specs.Prelude.{◌≡◌};
-    ghost use Rattle.graphql_core.specs.Style.{default_style};
+    ghost use Rattle.graphql_core.specs.{default_style};
 
     ghost is_default = { λ s. s ≡ default_style };
 

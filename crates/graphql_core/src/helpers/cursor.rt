@@ -1,14 +1,8 @@
 //! A token stream as a source.
 ghost use Rattle.std.specs.Prelude.{◌≡◌, ◌≤◌, ◌/◌, ℕ, List, [], IfOk, length};
-ghost use Rattle.graphql_lexer.specs.Items.{HasItems, Item, Stream};
-ghost use Rattle.graphql_lexer.specs.Stream.{AreItemsOfRest};
-ghost use Rattle.graphql_core.specs.Causes.{no_token, cause_text};
-ghost use Rattle.graphql_lexer.specs.BadTexts.{bad_text};
-ghost use Rattle.graphql_core.specs.steps.Punctuators.{first_byte, front_byte};
-ghost use Rattle.graphql_core.specs.steps.Endings.{shown};
-ghost use Rattle.graphql_lexer.specs.declared.position.Pos.{Pos};
-ghost use Rattle.graphql_core.specs.Refusal.{IsFaultOf};
-ghost use Rattle.graphql_core.specs.Source.{Items, Wrong, after, held, items_of_stream, items_of_text, then_items, token_of, only_last, place_of};
+ghost use Rattle.graphql_lexer.specs.{AreItemsOfRest, bad_text};
+ghost use Rattle.graphql_core.specs.{HasItems, Item, Stream, no_token, cause_text, first_byte, front_byte, shown, Pos, IsFaultOf, Items, Wrong, after, held};
+ghost use Rattle.graphql_core.specs.{items_of_stream, items_of_text, then_items, token_of, only_last, place_of};
 
 use crate::common::{BadToken, Cause, Fault, Names, Text};
 use crate::helpers::punctuator::Punctuator;
@@ -47,9 +41,7 @@ pub struct Cursor<'a, T: Text<'a>> {
 
 impl<'a, T: Text<'a>> Model for Cursor<'a, T> {
     ghost use Rattle.std.specs.Prelude.{All, ◌≡◌, ◌-◌, ◌≤◌, ◌^◌};
-    ghost use Rattle.graphql_core.specs.steps.Punctuators.{front_byte};
-    ghost use Rattle.graphql_core.specs.steps.Endings.{shown};
-    ghost use Rattle.graphql_core.specs.Source.{Items, IsLexeme};
+    ghost use Rattle.graphql_core.specs.{front_byte, shown, Items, IsLexeme};
 
     ghost Value = { Items };
 

@@ -1,11 +1,6 @@
 //! One token at a time.
 ghost use Rattle.std.specs.Prelude.{◌≡◌};
-ghost use Rattle.graphql_grammar.specs.Tokens.{Spelled, AnyOf, matches};
-ghost use Rattle.graphql_core.specs.Causes.{kind_number};
-ghost use Rattle.graphql_core.specs.steps.Punctuators.{class_of};
-ghost use Rattle.graphql_core.specs.Source.{place_of, lexeme_token};
-ghost use Rattle.graphql_core.specs.steps.Matching.{sees_class, TakesOne};
-ghost use Rattle.graphql_lexer.specs.declared.tokenizer.token.Kind.TheVariants.{Name};
+ghost use Rattle.graphql_core.specs.{Spelled, AnyOf, matches, kind_number, class_of, place_of, lexeme_token, sees_class, TakesOne, Name};
 
 use crate::common::Names;
 use crate::helpers::punctuator::Punctuator;

@@ -1,11 +1,7 @@
 //! The tokens of a text, with no more spaces between them than keep them apart.
 ghost use Rattle.std.specs.Prelude.{◌≡◌, ◌≤◌, ◌/◌, ℕ, List, IfOk, IfErr, length, string_bytes};
-ghost use Rattle.graphql_grammar.specs.Tokens.{Token};
-ghost use Rattle.graphql_core.specs.Causes.{kind_number};
-ghost use Rattle.graphql_lexer.specs.Items.{HasItems, Item};
-ghost use Rattle.graphql_lexer.specs.declared.position.Pos.{Pos};
-ghost use Rattle.graphql_core.specs.Source.{IsEnd, split, token_of};
-ghost use Rattle.graphql_core.specs.Minified.{AreLexemes, spaced, is_number, is_spaced, IsMinified, HasTokens, IsBadPlaceOf};
+ghost use Rattle.graphql_core.specs.{Token, kind_number, HasItems, Item, Pos, IsEnd, split, token_of, AreLexemes, spaced, is_number, is_spaced, IsMinified};
+ghost use Rattle.graphql_core.specs.{HasTokens, IsBadPlaceOf};
 
 use crate::common::Fault;
 use crate::format::{Buffer, Sink};

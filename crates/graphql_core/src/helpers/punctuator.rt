@@ -1,6 +1,6 @@
 //! Punctuators.
 ghost use Rattle.std.specs.Prelude.{◌≡◌};
-ghost use Rattle.graphql_core.specs.steps.Punctuators.{first_byte, spelling_of};
+ghost use Rattle.graphql_core.specs.{first_byte, spelling_of};
 
 /// A punctuator (GraphQL, October 2021, section 2.1.8).
 #[derive(Clone, Copy, Debug)]

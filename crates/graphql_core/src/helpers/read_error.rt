@@ -1,7 +1,7 @@
 //! Why a reader stops.
 ghost use Rattle.std.specs.Prelude.{◌≡◌};
 ghost use Rattle.graphql_core.specs.declared.helpers.read_error.ReadError.TheVariants.{Memory};
-ghost use Rattle.graphql_core.specs.steps.ReadErrors.{IsFaultFor};
+ghost use Rattle.graphql_core.specs.{IsFaultFor};
 
 use crate::common::{Cause, Fault};
 use crate::helpers::source::TokenSource;

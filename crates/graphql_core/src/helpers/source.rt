@@ -19,13 +19,8 @@ pub struct Lexeme<T> {
 /// The items of a text, the next of which can be looked at.
 pub trait TokenSource {
     ghost use Rattle.std.specs.Prelude.{ℕ, List, ◌≡◌, IfOk, IfSome, IsTrue, ◌↔◌};
-    ghost use Rattle.graphql_grammar.specs.Tokens.{AnyOf};
-    ghost use Rattle.graphql_lexer.specs.declared.tokenizer.token.Kind.TheVariants.{Name};
-    ghost use Rattle.graphql_core.specs.Causes.{kind_number};
-    ghost use Rattle.graphql_core.specs.steps.Punctuators.{class_of};
-    ghost use Rattle.graphql_core.specs.steps.Matching.{sees_class};
-    ghost use Rattle.graphql_core.specs.Source.{Items, place_of, place_next, Peeks, IsLexeme, IsAtEnd, after, lexeme_token};
-    ghost use Rattle.graphql_core.specs.Refusal.{IsFaultOf};
+    ghost use Rattle.graphql_core.specs.{AnyOf, Name, kind_number, class_of, sees_class, Items, place_of, place_next, Peeks, IsLexeme, IsAtEnd, after};
+    ghost use Rattle.graphql_core.specs.{lexeme_token, IsFaultOf};
 
     /// A token's spelling.
     type Text: Copy;

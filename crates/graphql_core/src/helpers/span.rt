@@ -1,7 +1,6 @@
 //! Where a token stands in a text.
 ghost use Rattle.std.specs.Prelude.{◌≡◌};
-ghost use Rattle.graphql_core.specs.Causes.{kind_number};
-ghost use Rattle.graphql_core.specs.steps.Spans.{kind_at, start_of, kind_of};
+ghost use Rattle.graphql_core.specs.{kind_number, kind_at, start_of, kind_of};
 
 use graphql_lexer::tokenizer::Kind;
 

@@ -1,10 +1,6 @@
 //! The tokens of a text, cut before they are read.
 ghost use Rattle.std.specs.Prelude.{◌≡◌, ℕ, ◌+◌, ◌≤◌, ◌<◌, ◌*◌, ◌/◌, ◌^◌, List, All, IfOk, length, map};
-ghost use Rattle.graphql_lexer.specs.Items.{HasItems, Item};
-ghost use Rattle.graphql_lexer.specs.Stream.{NextItem};
-ghost use Rattle.graphql_core.specs.Source.{split};
-ghost use Rattle.graphql_core.specs.steps.Punctuators.{front_byte};
-ghost use Rattle.graphql_core.specs.steps.Spans.{Marks, start_of, kind_of, span_token, span_items, last_of};
+ghost use Rattle.graphql_core.specs.{HasItems, Item, NextItem, split, front_byte, Marks, start_of, kind_of, span_token, span_items, last_of};
 
 use crate::common::{Cause, Fault, Names, Text};
 use crate::helpers::cursor::{bad_place, unexpected};
@@ -28,8 +24,7 @@ pub struct Spans<'a, W: Width> {
 
 impl<'a, W: Width> Model for Spans<'a, W> {
     ghost use Rattle.std.specs.Prelude.{All};
-    ghost use Rattle.graphql_core.specs.Source.{Items};
-    ghost use Rattle.graphql_core.specs.steps.Spans.{Marks, span_items, last_of};
+    ghost use Rattle.graphql_core.specs.{Items, Marks, span_items, last_of};
 
     ghost Value = { Items };
 
@@ -53,9 +48,7 @@ pub struct SpanSource<'a, 's, T: Text<'a>, W: Width> {
 
 impl<'a, 's, T: Text<'a>, W: Width> Model for SpanSource<'a, 's, T, W> {
     ghost use Rattle.std.specs.Prelude.{All, ◌≡◌, map};
-    ghost use Rattle.graphql_core.specs.Source.{Items};
-    ghost use Rattle.graphql_core.specs.steps.Punctuators.{front_byte};
-    ghost use Rattle.graphql_core.specs.steps.Spans.{Marks, span_token, span_items, last_of};
+    ghost use Rattle.graphql_core.specs.{Items, front_byte, Marks, span_token, span_items, last_of};
 
     ghost Value = { Items };
 

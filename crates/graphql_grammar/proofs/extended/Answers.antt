@@ -1,4 +1,4 @@
-use Rattle.graphql_grammar.proofs.Extending.{reads_on, left_alone}
+use Rattle.graphql_grammar.proofs.{reads_on, left_alone}
 use Rattle.graphql_grammar.proofs.extended.Goals as goal
 
 pub returns : goal.returns

@@ -1,4 +1,4 @@
-use Rattle.graphql_grammar.proofs.SecondRules.{exact_for, whole_for}
+use Rattle.graphql_grammar.proofs.{exact_for, whole_for}
 use Rattle.graphql_grammar.proofs.factored.Goals as goal
 
 pub returns : goal.returns

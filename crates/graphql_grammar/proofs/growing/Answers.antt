@@ -1,4 +1,4 @@
-use Rattle.graphql_grammar.proofs.GrownTrees.{derives_on}
+use Rattle.graphql_grammar.proofs.{derives_on}
 use Rattle.graphql_grammar.proofs.growing.Goals as goal
 
 pub returns : goal.returns

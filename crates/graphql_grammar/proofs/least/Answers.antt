@@ -1,5 +1,5 @@
 use Rattle.graphql_grammar.proofs.OneIndex.{least}
-use Rattle.graphql_grammar.proofs.FaultedFor.{least_for}
+use Rattle.graphql_grammar.proofs.{least_for}
 use Rattle.graphql_grammar.proofs.least.Goals as goal
 
 pub returns : goal.returns

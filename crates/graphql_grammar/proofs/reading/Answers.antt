@@ -1,6 +1,4 @@
-use Rattle.graphql_grammar.proofs.Exact.{exact}
-use Rattle.graphql_grammar.proofs.OneClass.{reads_alike}
-use Rattle.graphql_grammar.proofs.WholeTexts.{whole}
+use Rattle.graphql_grammar.proofs.{exact, reads_alike, whole}
 use Rattle.graphql_grammar.proofs.reading.Goals as goal
 
 pub returns : goal.returns

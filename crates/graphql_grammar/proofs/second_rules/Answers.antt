@@ -1,4 +1,4 @@
-use Rattle.graphql_grammar.proofs.SecondRules.{each_is_second, IsSecond-unchanged, IsSecond-head, IsSecond-second, IsSecond-prefix, IsSecond-symbols}
+use Rattle.graphql_grammar.proofs.{each_is_second, IsSecond-unchanged, IsSecond-head, IsSecond-second, IsSecond-prefix, IsSecond-symbols}
 use Rattle.graphql_grammar.proofs.second_rules.Goals as goal
 
 pub returns : goal.returns

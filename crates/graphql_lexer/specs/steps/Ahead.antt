@@ -1,8 +1,12 @@
 -- What the quick tests of the tokenizer look for.
-use Rattle.std.specs.Prelude.{ℕ, ◌≤◌, Bool, not, ◌==◌, ◌&&◌, ◌||◌, List, slice_index, if◌then◌else◌, Option, Some, None}
+use Rattle.std.specs.Prelude.{◌≡◌, ℕ, ◌+◌, ◌-◌, ◌*◌, ◌^◌, ◌<◌, ◌≤◌, length, Bool, not, ◌==◌, ◌&&◌, ◌||◌, List, slice_index, if◌then◌else◌, Option, Some, None}
 use Rattle.std.specs.Int.{w64, trailing_zeros}
 use Rattle.graphql_lexer.specs.steps.Front.{Cuts, is_flat}
 use Rattle.graphql_lexer.specs.Lexical.{steps_over}
+use Rattle.graphql_lexer.specs.Items.{Where}
+use Rattle.graphql_lexer.specs.Stream.{further}
+use Rattle.graphql_lexer.specs.steps.Cut.{items}
+use Rattle.graphql_lexer.specs.declared.position.Pos.{Pos}
 use Rattle.graphql_lexer.specs.declared.tokenizer.piece.Move.{Move}
 use Rattle.graphql_lexer.specs.declared.tokenizer.piece.Nesting.{Nesting}
 use Rattle.graphql_lexer.specs.declared.tokenizer.piece.Piece.{Piece}
@@ -67,3 +71,12 @@ is_line_feed b = b == 10
 -- what ignored text begins with, and what only a byte order mark does
 abbrev pub is_ignored : ℕ → Bool
 is_ignored b = is_blank b || is_line_feed b || b == 9 || b == 13 || b == 35 || b == 239
+
+-- a text at a place is so short that numbers hold each place in it
+abbrev pub HasRoom : List ℕ → Pos → Type 0
+HasRoom text at = (length text < 2 ^ 62) × (at.line + length text < 2 ^ 62) × (at.column + 8 * length text < 2 ^ 63)
+
+-- Between a text at a place and what is left of it at another no item stands, and no byte moves the place by more than a line or eight columns.
+abbrev pub SkipsTo : List ℕ → Pos → List ℕ → Pos → Type 0
+SkipsTo text at rest place = ((w : Where) → w.position ≡ at → items (further place (length text - length rest) w) rest ≡ items w text)
+    × (length rest ≤ length text) × (place.line + length rest ≤ at.line + length text) × (place.column + 8 * length rest ≤ at.column + 8 * length text)

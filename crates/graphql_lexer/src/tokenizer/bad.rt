@@ -2,7 +2,7 @@
 ghost use Rattle.std.specs.Prelude.{◌≡◌, ◌<◌, ◌^◌, length, drop, slice_index};
 ghost use Rattle.std.specs.List.{list_any};
 ghost use Rattle.std.specs.Str.{chars};
-ghost use Rattle.graphql_lexer.specs.BadTexts.{bad_text};
+ghost use Rattle.graphql_lexer.specs.{bad_text};
 ghost use Rattle.graphql_lexer.specs.Items as spec;
 
 use crate::tokenizer::number::run_len;

@@ -1,6 +1,6 @@
 //! How many brackets are open.
 ghost use Rattle.std.specs.Prelude.{◌≡◌, ◌<◌, ◌^◌};
-ghost use Rattle.graphql_lexer.specs.Items.{Where, openers_after, closers_after, is_full, is_too_deep};
+ghost use Rattle.graphql_lexer.specs.{Where, openers_after, closers_after, is_full, is_too_deep};
 
 use crate::tokenizer::piece::Nesting;
 

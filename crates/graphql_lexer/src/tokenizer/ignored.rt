@@ -1,9 +1,6 @@
 //! Past the ignored text at the front of a text.
-ghost use Rattle.std.specs.Prelude.{◌≡◌, ◌+◌, ◌-◌, ◌*◌, ◌<◌, ◌≤◌, ◌^◌, length, slice_index, true};
-ghost use Rattle.graphql_lexer.specs.Items.{Where};
-ghost use Rattle.graphql_lexer.specs.Stream.{further};
-ghost use Rattle.graphql_lexer.specs.steps.Front.{front, IsItem};
-ghost use Rattle.graphql_lexer.specs.steps.Cut.{items};
+ghost use Rattle.std.specs.Prelude.{◌≡◌, slice_index, true};
+ghost use Rattle.graphql_lexer.specs.{front, IsItem, HasRoom, SkipsTo};
 
 use crate::position::Pos;
 use crate::tokenizer::class::{is_blank, is_ignored, is_line_feed};
@@ -14,15 +11,9 @@ use crate::tokenizer::place::{position_after_line, position_after_move, position
 #[cold]
 #[inline(never)]
 fn skip_rare(text: &str, at: Pos) -> (&str, Pos)
-    requires small { length text.now < 2 ^ 62 }
-    requires line { at.line + length text.now < 2 ^ 62 }
-    requires column { at.column + 8 * length text.now < 2 ^ 63 }
-    ensures items { (w : Where) → w.position ≡ at
-        → items (further result.1 (length text.now - length result.0.now) w) result.0.now ≡ items w text.now }
+    requires { HasRoom text.now at }
+    ensures skips { SkipsTo text.now at result.0.now result.1 }
     ensures first { IsItem (front result.0.now) }
-    ensures within { length result.0.now ≤ length text.now }
-    ensures line { result.1.line + length result.0.now ≤ at.line + length text.now }
-    ensures column { result.1.column + 8 * length result.0.now ≤ at.column + 8 * length text.now }
 {
     let mut rest = text;
     let mut place = at;
@@ -47,15 +38,9 @@ fn front_byte(text: &str) -> u8
 /// long run of spaces does.
 #[inline(always)]
 pub fn skip_plain(text: &str, at: Pos) -> (&str, Pos, bool)
-    requires small { length text.now < 2 ^ 62 }
-    requires line { at.line + length text.now < 2 ^ 62 }
-    requires column { at.column + 8 * length text.now < 2 ^ 63 }
-    ensures items { (w : Where) → w.position ≡ at
-        → items (further result.1 (length text.now - length result.0.now) w) result.0.now ≡ items w text.now }
+    requires { HasRoom text.now at }
+    ensures skips { SkipsTo text.now at result.0.now result.1 }
     ensures first { result.2 ≡ true → IsItem (front result.0.now) }
-    ensures within { length result.0.now ≤ length text.now }
-    ensures line { result.1.line + length result.0.now ≤ at.line + length text.now }
-    ensures column { result.1.column + 8 * length result.0.now ≤ at.column + 8 * length text.now }
 {
     let mut rest = text;
     let mut place = at;
@@ -84,15 +69,9 @@ pub fn skip_plain(text: &str, at: Pos) -> (&str, Pos, bool)
 /// Past the ignored text at the front.
 #[inline(always)]
 pub fn skip_ignored(text: &str, at: Pos) -> (&str, Pos)
-    requires small { length text.now < 2 ^ 62 }
-    requires line { at.line + length text.now < 2 ^ 62 }
-    requires column { at.column + 8 * length text.now < 2 ^ 63 }
-    ensures items { (w : Where) → w.position ≡ at
-        → items (further result.1 (length text.now - length result.0.now) w) result.0.now ≡ items w text.now }
+    requires { HasRoom text.now at }
+    ensures skips { SkipsTo text.now at result.0.now result.1 }
     ensures first { IsItem (front result.0.now) }
-    ensures within { length result.0.now ≤ length text.now }
-    ensures line { result.1.line + length result.0.now ≤ at.line + length text.now }
-    ensures column { result.1.column + 8 * length result.0.now ≤ at.column + 8 * length text.now }
 {
     let (rest, place, is_item) = skip_plain(text, at);
     if is_item {

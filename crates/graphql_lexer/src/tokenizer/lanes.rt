@@ -1,9 +1,7 @@
 //! How many of 16 bytes, from the first, are of a class.
 ghost use Rattle.std.specs.Prelude.{◌≡◌, ◌≤◌, length, take};
 ghost use Rattle.std.specs.List.{prefix_len};
-ghost use Rattle.graphql_lexer.specs.Lexical.{is_name_continue};
-ghost use Rattle.graphql_lexer.specs.steps.Front.{is_flat};
-ghost use Rattle.graphql_lexer.specs.steps.Ahead.{is_space, is_plain_in_string, is_plain_in_block, first_set};
+ghost use Rattle.graphql_lexer.specs.{is_name_continue, is_flat, is_space, is_plain_in_string, is_plain_in_block, first_set};
 
 use std::simd::prelude::*;
 

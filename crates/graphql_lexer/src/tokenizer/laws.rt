@@ -1,7 +1,7 @@
 //! Laws of the definitions alone.
 ghost use Rattle.std.specs.Prelude.{◌≡◌, ℕ, List};
+ghost use Rattle.graphql_lexer.specs.{Item, HasItems, EndsOnce};
 ghost use Rattle.graphql_lexer.specs.Examples as example;
-ghost use Rattle.graphql_lexer.specs.Items.{Item, HasItems, EndsOnce};
 
 /// Each text has exactly one list of items: tokens, and then one last item.
 pub fn one_list_of_items()

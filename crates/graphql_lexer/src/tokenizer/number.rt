@@ -1,12 +1,12 @@
 //! Numbers: the run at the front of a text, and whether it is one.
 ghost use Rattle.std.specs.Prelude.{◌≡◌, ◌≤◌, true, false, length, take, IfSome};
-ghost use Rattle.std.specs.Char as char;
 ghost use Rattle.std.specs.List.{prefix_len, list_all};
-ghost use Rattle.graphql_lexer.specs.Lexical as lexical;
-ghost use Rattle.graphql_lexer.specs.steps.Front.{is_quoted};
-ghost use Rattle.graphql_lexer.specs.steps.Numbers as spec;
+ghost use Rattle.graphql_lexer.specs.{is_quoted};
 ghost use Rattle.graphql_lexer.specs.declared.tokenizer.piece.Nesting.TheVariants.{Level};
 ghost use Rattle.graphql_lexer.specs.declared.tokenizer.piece.Piece.TheVariants.{Takes};
+ghost use Rattle.std.specs.Char as char;
+ghost use Rattle.graphql_lexer.specs.Lexical as lexical;
+ghost use Rattle.graphql_lexer.specs.steps.Numbers as spec;
 
 use crate::tokenizer::class::is_mark;
 use crate::tokenizer::piece::{Nesting, Piece, byte_at};

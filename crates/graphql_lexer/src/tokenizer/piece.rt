@@ -2,11 +2,11 @@
 ghost use Rattle.std.specs.Prelude.{◌≡◌, ◌<◌, ◌≤◌, ◌^◌, ◌∷◌, true, length, take, slice_index, IfSome, Some};
 ghost use Rattle.std.specs.List.{prefix_len, list_all};
 ghost use Rattle.std.specs.Str.{IsCharBoundary};
+ghost use Rattle.graphql_lexer.specs.declared.tokenizer.piece.Nesting.TheVariants.{Level};
+ghost use Rattle.graphql_lexer.specs.declared.tokenizer.piece.Piece.TheVariants.{Takes};
+ghost use Rattle.graphql_lexer.specs.{is_space, is_byte_order_mark, ignored, FitsIgnored, taken, without_flat, FitsTaken};
 ghost use Rattle.graphql_lexer.specs.steps.Front as spec;
 ghost use Rattle.graphql_lexer.specs.Lexical as lexical;
-ghost use Rattle.graphql_lexer.specs.declared.tokenizer.piece.Nesting.TheVariants.{Level};
-ghost use Rattle.graphql_lexer.specs.declared.tokenizer.piece.Piece.TheVariants.{Skips, Takes};
-ghost use Rattle.graphql_lexer.specs.steps.Ahead.{is_space, is_byte_order_mark, ignored, FitsIgnored, taken, without_flat, FitsTaken};
 
 use crate::tokenizer::class::{is_blank, is_mark, is_name_start, nesting_of};
 use crate::tokenizer::number::{number, plain_number, starts_number};
@@ -98,53 +98,23 @@ pub fn byte_at(bytes: &[u8], index: usize) -> u8
     bytes.get(index).copied().unwrap_or(0)
 }
 
-/// A byte of ignored text.
-#[inline(always)]
-fn skips_one(by: Move) -> Piece
-    ensures { result ≡ Skips 1 by }
-{
-    Piece::Skips { len: 1, by }
-}
-
-/// What stands after the `#` of a comment.
+/// A comment, of which this stands after the `#`: its length in bytes, and how it moves the position.
 #[inline(never)]
 #[tactic(auto, unfolding(crate::specs::steps::Front::comment))]
-fn comment(bytes: &[u8]) -> Piece
+fn comment(bytes: &[u8]) -> (usize, Move)
     requires { length bytes.now < 2 ^ 62 }
-    ensures { result ≡ spec.comment bytes.now }
+    ensures { Some result ≡ ignored (spec.comment bytes.now) }
 {
     let len = line_len(bytes);
     match bytes[len..].split_first() {
-        None => Piece::Skips {
-            len: len + 1,
-            by: Move::Stay,
-        },
+        None => (len + 1, Move::Stay),
         Some((byte, rest)) => {
             if *byte == b'\r' && byte_at(rest, 0) == b'\n' {
-                Piece::Skips {
-                    len: len + 3,
-                    by: Move::Down,
-                }
+                (len + 3, Move::Down)
             } else {
-                Piece::Skips {
-                    len: len + 2,
-                    by: Move::Down,
-                }
+                (len + 2, Move::Down)
             }
         }
-    }
-}
-
-/// What stands after the `#` of a comment, as ignored text.
-#[inline(always)]
-#[tactic(auto, unfolding(crate::specs::steps::Front::comment))]
-fn comment_at(bytes: &[u8]) -> Option<(usize, Move)>
-    requires { length bytes.now < 2 ^ 62 }
-    ensures { result ≡ ignored (spec.comment bytes.now) }
-{
-    match comment(bytes) {
-        Piece::Skips { len, by } => Some((len, by)),
-        _ => None,
     }
 }
 
@@ -189,39 +159,23 @@ fn token_of(byte: u8, bytes: &[u8]) -> Piece
     }
 }
 
-/// What stands at the front of these bytes.
+/// The token at the front of these bytes, whatever it is.
 #[inline(never)]
 #[tactic(auto, unfolding(crate::specs::steps::Front::front))]
-fn piece_of(bytes: &[u8]) -> Piece
+fn far_token_bytes(bytes: &[u8]) -> Option<(usize, Kind, Nesting)>
     requires { length bytes.now < 2 ^ 62 }
-    ensures { result ≡ spec.front bytes.now }
+    ensures { result ≡ taken (spec.front bytes.now) }
 {
     match bytes.split_first() {
-        None => Piece::AtEnd,
+        None => None,
         Some((byte, rest)) => {
-            if *byte == b'\t' {
-                skips_one(Move::Over(8))
-            } else if *byte == b'\n' {
-                skips_one(Move::Down)
-            } else if *byte == b'\r' {
-                skips_one(Move::Stay)
-            } else if *byte == b' ' || *byte == b',' {
-                skips_one(Move::Over(1))
-            } else if is_name_start(*byte) {
-                Piece::Takes {
-                    len: whole_len::<NameContinue>(rest) + 1,
-                    kind: Kind::Name,
-                    nesting: Nesting::Level,
-                }
-            } else if *byte == b'#' {
-                comment(rest)
-            } else if *byte == 0xEF && (byte_at(rest, 0) == 0xBB && byte_at(rest, 1) == 0xBF) {
-                Piece::Skips {
-                    len: 3,
-                    by: Move::Stay,
-                }
-            } else {
-                token_of(*byte, bytes)
+            if is_name_start(*byte) {
+                let len = whole_len::<NameContinue>(rest) + 1;
+                return Some((len, Kind::Name, Nesting::Level));
+            }
+            match token_of(*byte, bytes) {
+                Piece::Takes { len, kind, nesting } => Some((len, kind, nesting)),
+                _ => None,
             }
         }
     }
@@ -289,15 +243,13 @@ fn token_bytes(bytes: &[u8]) -> Option<Taken>
             is_flat: true,
         });
     }
-    match piece_of(bytes) {
-        Piece::Takes { len, kind, nesting } => Some(Taken {
-            len,
-            kind,
-            nesting,
-            is_flat: !is_quoted(kind),
-        }),
-        _ => None,
-    }
+    let (len, kind, nesting) = far_token_bytes(bytes)?;
+    Some(Taken {
+        len,
+        kind,
+        nesting,
+        is_flat: !is_quoted(kind),
+    })
 }
 
 /// The token at the front of a text, where one look shows it.
@@ -350,7 +302,7 @@ fn ignored_bytes(bytes: &[u8]) -> Option<(usize, Move)>
             } else if is_blank(*byte) {
                 Some((1, Move::Over(1)))
             } else if *byte == b'#' {
-                comment_at(rest)
+                Some(comment(rest))
             } else if is_byte_order_mark(*byte, rest) {
                 Some((3, Move::Stay))
             } else {

@@ -1,10 +1,9 @@
 //! The position after what stands in a text.
 ghost use Rattle.std.specs.Prelude.{◌≡◌, ◌+◌, ◌<◌, ◌≤◌, ◌^◌, length, true};
 ghost use Rattle.std.specs.List.{list_all};
-ghost use Rattle.graphql_lexer.specs.Lexical.{steps_over};
-ghost use Rattle.graphql_lexer.specs.Items.{moved, past, past_character};
-ghost use Rattle.graphql_lexer.specs.steps.Front as steps;
+ghost use Rattle.graphql_lexer.specs.{steps_over, moved, past, past_character};
 ghost use Rattle.graphql_lexer.specs.declared.tokenizer.piece.Move.TheVariants.{Over, Down};
+ghost use Rattle.graphql_lexer.specs.steps.Front as steps;
 
 use crate::position::Pos;
 use crate::tokenizer::piece::{Move, flat_of};

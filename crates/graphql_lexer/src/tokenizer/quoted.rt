@@ -1,12 +1,12 @@
 //! Strings and block strings.
 ghost use Rattle.std.specs.Prelude.{◌≡◌, ◌+◌, ◌<◌, ◌≤◌, ◌^◌, ◌∷◌, ℕ, true, false, length, take, drop, IfSome};
 ghost use Rattle.std.specs.List.{list_all};
-ghost use Rattle.graphql_lexer.specs.Lexical as lexical;
-ghost use Rattle.graphql_lexer.specs.steps.Front.{is_flat};
-ghost use Rattle.graphql_lexer.specs.steps.Quoted as spec;
+ghost use Rattle.graphql_lexer.specs.{is_flat};
 ghost use Rattle.graphql_lexer.specs.declared.tokenizer.token.Kind.TheVariants.{StringValue};
 ghost use Rattle.graphql_lexer.specs.declared.tokenizer.piece.Nesting.TheVariants.{Level};
 ghost use Rattle.graphql_lexer.specs.declared.tokenizer.piece.Piece.TheVariants.{Takes};
+ghost use Rattle.graphql_lexer.specs.Lexical as lexical;
+ghost use Rattle.graphql_lexer.specs.steps.Quoted as spec;
 
 use crate::tokenizer::piece::{Nesting, Piece, byte_at};
 use crate::tokenizer::run::{PlainInBlock, PlainInString, whole_len};

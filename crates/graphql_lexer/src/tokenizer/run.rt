@@ -27,7 +27,7 @@ pub trait Class {
 pub struct NameContinue;
 
 impl Class for NameContinue {
-    ghost use Rattle.graphql_lexer.specs.Lexical.{is_name_continue};
+    ghost use Rattle.graphql_lexer.specs.{is_name_continue};
 
     ghost has = { is_name_continue };
 
@@ -46,7 +46,7 @@ impl Class for NameContinue {
 pub struct Space;
 
 impl Class for Space {
-    ghost use Rattle.graphql_lexer.specs.steps.Ahead.{is_space};
+    ghost use Rattle.graphql_lexer.specs.{is_space};
 
     ghost has = { is_space };
 
@@ -65,7 +65,7 @@ impl Class for Space {
 pub struct PlainInString;
 
 impl Class for PlainInString {
-    ghost use Rattle.graphql_lexer.specs.steps.Ahead.{is_plain_in_string};
+    ghost use Rattle.graphql_lexer.specs.{is_plain_in_string};
 
     ghost has = { is_plain_in_string };
 
@@ -84,7 +84,7 @@ impl Class for PlainInString {
 pub struct PlainInBlock;
 
 impl Class for PlainInBlock {
-    ghost use Rattle.graphql_lexer.specs.steps.Ahead.{is_plain_in_block};
+    ghost use Rattle.graphql_lexer.specs.{is_plain_in_block};
 
     ghost has = { is_plain_in_block };
 
@@ -103,7 +103,7 @@ impl Class for PlainInBlock {
 pub struct Flat;
 
 impl Class for Flat {
-    ghost use Rattle.graphql_lexer.specs.steps.Front.{is_flat};
+    ghost use Rattle.graphql_lexer.specs.{is_flat};
 
     ghost has = { is_flat };
 

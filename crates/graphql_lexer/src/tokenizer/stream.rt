@@ -1,7 +1,6 @@
 //! A text as a stream of tokens.
 ghost use Rattle.std.specs.Prelude.{◌≡◌, List, ◌/◌, ◌≤◌, length, IfSome, Ok, Some, None};
-ghost use Rattle.graphql_lexer.specs.Items.{Item, HasItems, depth_of};
-ghost use Rattle.graphql_lexer.specs.Stream.{NextItem, BeginsWithNext, AreItemsOfRest, next_place, one_more};
+ghost use Rattle.graphql_lexer.specs.{Item, HasItems, depth_of, NextItem, BeginsWithNext, AreItemsOfRest, next_place, one_more};
 
 use crate::position::Pos;
 use crate::tokenizer::token::{Bad, Token};

@@ -1,7 +1,6 @@
 //! A text as its tokens.
 ghost use Rattle.std.specs.Prelude.{◌≡◌, List, ◌+◌, ◌-◌, ◌*◌, ◌/◌, ◌<◌, ◌≤◌, ◌^◌, length, IfSome, Ok, Some, None};
-ghost use Rattle.graphql_lexer.specs.Items.{Item, HasItems, depth_of};
-ghost use Rattle.graphql_lexer.specs.Stream.{NextItem, BeginsWithNext, AreItemsOfRest, next_place};
+ghost use Rattle.graphql_lexer.specs.{Item, HasItems, depth_of, NextItem, BeginsWithNext, AreItemsOfRest, next_place};
 
 use crate::position::Pos;
 use crate::tokenizer::bad::bad_at;
@@ -25,9 +24,7 @@ pub struct Tokens<'a> {
 
 impl<'a> Model for Tokens<'a> {
     ghost use Rattle.std.specs.Prelude.{ℕ, List, ◌+◌, ◌-◌, ◌*◌, ◌<◌, ◌≤◌, ◌^◌, length};
-    ghost use Rattle.graphql_lexer.specs.steps.Front.{front, IsItem};
-    ghost use Rattle.graphql_lexer.specs.steps.Cut.{items};
-    ghost use Rattle.graphql_lexer.specs.Items.{Item};
+    ghost use Rattle.graphql_lexer.specs.{front, IsItem, items, Item};
 
     ghost Value = { List Item };
 

@@ -5,6 +5,7 @@ use crate::query::{
     SelectionSet, Type, Value, VariableDefinition,
 };
 use crate::tests::callers::Owned;
+use crate::tests::parts_alone::assert_shown;
 use crate::{Pos, Style};
 use std::alloc::{AllocError, Global};
 use std::borrow::CowStr;
@@ -65,11 +66,9 @@ fn assert_values<'a, T: Text<'a>>(rt: &impl Abort, alloc: Global) -> Result<(), 
         }
     }
     let list: Value<'a, T> = Value::List(values);
-    assert_eq!(rt;
-        list.to_string(alloc)?.as_str(),
-        "[$name, 0, -1.50e+3, \"\", true, null, true, [true, \"a \\\"b\\\"\"], {a: -3, b: true}]"
-    );
-    Ok(())
+    let text =
+        "[$name, 0, -1.50e+3, \"\", true, null, true, [true, \"a \\\"b\\\"\"], {a: -3, b: true}]";
+    assert_shown(rt, alloc, &list, text)
 }
 
 #[test]
@@ -80,7 +79,8 @@ fn values_are_cloned_compared_and_shown(rt: HostRuntime) -> Result<(), Fail> {
     assert_values::<Owned>(&rt, rt.alloc())
 }
 
-fn set<'a>(items: Vec<Selection<'a, &'a str>>) -> SelectionSet<'a, &'a str> {
+/// A set of these selections.
+pub fn set<'a>(items: Vec<Selection<'a, &'a str>>) -> SelectionSet<'a, &'a str> {
     SelectionSet {
         span: (Pos::default(), Pos::default()),
         items,
@@ -88,7 +88,7 @@ fn set<'a>(items: Vec<Selection<'a, &'a str>>) -> SelectionSet<'a, &'a str> {
 }
 
 /// The field `a b` with nothing else.
-fn field<'a>(alloc: Global) -> Field<'a, &'a str> {
+pub fn field<'a>(alloc: Global) -> Field<'a, &'a str> {
     Field {
         position: Pos::default(),
         alias: None,
@@ -100,7 +100,7 @@ fn field<'a>(alloc: Global) -> Field<'a, &'a str> {
 }
 
 /// The spread `...on`.
-fn spread<'a>(alloc: Global) -> FragmentSpread<'a, &'a str> {
+pub fn spread<'a>(alloc: Global) -> FragmentSpread<'a, &'a str> {
     FragmentSpread {
         position: Pos::default(),
         fragment_name: "on",
@@ -141,8 +141,7 @@ fn assert_laid_out(
 ) -> Result<(), Fail> {
     let document = Document { definitions };
     assert_eq!(rt; document.format(alloc, style)?.as_str(), text);
-    assert_eq!(rt; document.to_string(alloc)?.as_str(), text);
-    Ok(())
+    assert_shown(rt, alloc, &document, text)
 }
 
 fn short<'a>(items: Vec<Selection<'a, &'a str>>) -> Definition<'a, &'a str> {

@@ -1,12 +1,9 @@
 //! The callers that docs/CALLING.md and docs/MIGRATING.md show, at concrete text types, one of them the tests' own.
+ghost use Rattle.std.specs.Prelude.{IfOk, IfSome, Err, ◌≡◌, ◌<◌, ◌⊎◌, length, nat_eq};
 ghost use Rattle.std.specs.Prelude.{string_bytes, refl};
 ghost use Rattle.std.proofs.Common.{rules};
-ghost use Rattle.std.specs.Prelude.{IfOk, IfSome, Err, ◌≡◌, ◌<◌, ◌⊎◌, length, nat_eq};
-ghost use Rattle.graphql_query_tree.specs.Tree.{DocumentTree, document_view, erase};
-ghost use Rattle.graphql_query_tree.specs.Document.{IsDocumentOf, IsReadBack};
-ghost use Rattle.graphql_query_tree.specs.Layout.{layout, IsTooWide};
-ghost use Rattle.graphql_query_tree.specs.Printable.{IsPrintable};
-ghost use Rattle.graphql_core.specs.Refusal.{Refusal, no_memory, max_length, too_long};
+ghost use Rattle.graphql_values.specs.{Refusal, no_memory, max_length, too_long};
+ghost use Rattle.graphql_query_tree.specs.{DocumentTree, document_view, erase, IsDocumentOf, IsReadBack, layout, IsTooWide, IsPrintable};
 
 use crate::common::{
     FloatLiteral, Names, Number, Text, UnquoteError, unquote_block_string, unquote_string,
@@ -15,6 +12,8 @@ use crate::query::{
     Definition, Document, Field, MinifyError, OperationDefinition, ParseError, Selection,
     SelectionSet, Value, consume_definition, minify_query, parse_query,
 };
+use crate::tests::parts_alone::assert_shown;
+use crate::tests::statics::first_field;
 use crate::tokenizer::{Kind, TokenStream};
 use crate::{Cause, FormatError, Pos, Style};
 use std::alloc::{AllocError, Global};
@@ -322,17 +321,20 @@ fn documents_come_back(rt: HostRuntime) -> Result<(), Fail> {
     let alloc = rt.alloc();
     let document: Document<'_, &str> = parse_query(alloc, "query Q($a: Int = 1) { b(c: $a) }")?;
     let again = formatted_and_parsed(alloc, &document, &wide()).or(Err("lost"))?;
-    assert_eq!(rt;
-        again.to_string(alloc)?.as_str(),
-        "query Q($a: Int = 1) {\n  b(c: $a)\n}\n"
-    );
+    assert_shown(
+        &rt,
+        alloc,
+        &again,
+        "query Q($a: Int = 1) {\n  b(c: $a)\n}\n",
+    )?;
     let source = String::from_str(alloc, "query Q ( $a : Int = 1 ) { b ( c : $a ) } # d")?;
     let again = minified_and_parsed(alloc, source).or(Err("lost"))?;
-    assert_eq!(rt;
-        again.to_string(alloc)?.as_str(),
-        "query Q($a: Int = 1) {\n  b(c: $a)\n}\n"
-    );
-    Ok(())
+    assert_shown(
+        &rt,
+        alloc,
+        &again,
+        "query Q($a: Int = 1) {\n  b(c: $a)\n}\n",
+    )
 }
 
 #[test]
@@ -369,11 +371,7 @@ fn owned_names_outlive_the_text(rt: HostRuntime) -> Result<(), Fail> {
     let document = with_owned_names(alloc, &text)?;
     drop(text);
     assert_eq!(rt; first_name::<Owned>(&document), Some("hero"));
-    assert_eq!(rt;
-        document.to_string(alloc)?.as_str(),
-        "{\n  hero\n}\n\n{\n  b\n}\n"
-    );
-    Ok(())
+    assert_shown(&rt, alloc, &document, "{\n  hero\n}\n\n{\n  b\n}\n")
 }
 
 #[test]
@@ -382,15 +380,7 @@ fn trees_are_looked_into(rt: HostRuntime) -> Result<(), Fail> {
     let source = "{ hero(id: 7) } fragment F on T { a } fragment G on T { a }";
     let document: Document<'_, &str> = parse_query(alloc, source)?;
     assert_eq!(rt; count_fragments(&document), 2);
-    let Some(Definition::Operation(OperationDefinition::SelectionSet(set))) = document
-        .definitions
-        .first()
-    else {
-        return Err(Fail::new("no operation"));
-    };
-    let Some(Selection::Field(field)) = set.items.first() else {
-        return Err(Fail::new("no field"));
-    };
+    let field = first_field(&document).ok_or("no field")?;
     assert_eq!(rt; first_number(field), Some(("id", 7)));
     let text = "{\n  hero(id: 7)\n}\n\nfragment F on T {\n  a\n}\n\nfragment G on T {\n  a\n}\n";
     assert_eq!(rt; shown(alloc, &document)?.as_str(), text);

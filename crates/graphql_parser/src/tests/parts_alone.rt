@@ -1,34 +1,14 @@
 //! What `Display` shows of parts that no text has, each by itself.
-use crate::Pos;
-use crate::query::{self, Field, FragmentSpread, SelectionSet, Type, Value};
+use crate::query::{self, Type, Value};
 use crate::schema::{self, DirectiveDefinition, ScalarTypeExtension};
+use crate::tests::built::{field, set, spread};
 use std::alloc::Global;
 use std::fmt::Display;
 use std::process::Abort;
 use std::test::Fail;
 
-/// A set of no selections.
-fn no_selections<'a>(alloc: Global) -> SelectionSet<'a, &'a str> {
-    SelectionSet {
-        span: (Pos::default(), Pos::default()),
-        items: Vec::new(alloc),
-    }
-}
-
-/// The field `a b`.
-fn field_of_two_words<'a>(alloc: Global) -> Field<'a, &'a str> {
-    Field {
-        position: Pos::default(),
-        alias: None,
-        name: "a b",
-        arguments: Vec::new(alloc),
-        directives: Vec::new(alloc),
-        selection_set: no_selections(alloc),
-    }
-}
-
 /// `Display` shows a part so.
-fn assert_shown<D: Display>(
+pub fn assert_shown<D: Display>(
     rt: &impl Abort,
     alloc: Global,
     part: &D,
@@ -46,14 +26,9 @@ fn parts_of_queries(rt: HostRuntime) -> Result<(), Fail> {
     let once: Type<'_, &str> = Type::NonNullType(Box::new(alloc, Type::NamedType("A"))?);
     let twice: Type<'_, &str> = Type::NonNullType(Box::new(alloc, once)?);
     assert_shown(&rt, alloc, &twice, "A!!")?;
-    assert_shown(&rt, alloc, &no_selections(alloc), "{\n}\n")?;
-    let spread: FragmentSpread<'_, &str> = FragmentSpread {
-        position: Pos::default(),
-        fragment_name: "on",
-        directives: Vec::new(alloc),
-    };
-    assert_shown(&rt, alloc, &spread, "...on\n")?;
-    assert_shown(&rt, alloc, &field_of_two_words(alloc), "a b\n")?;
+    assert_shown(&rt, alloc, &set(Vec::new(alloc)), "{\n}\n")?;
+    assert_shown(&rt, alloc, &spread(alloc), "...on\n")?;
+    assert_shown(&rt, alloc, &field(alloc), "a b\n")?;
     let definitions = Vec::new(alloc);
     let document: query::Document<'_, &str> = query::Document { definitions };
     assert_shown(&rt, alloc, &document, "")

@@ -1,10 +1,7 @@
 //! Schemas: the callers that docs/CALLING.md and docs/MIGRATING.md show, and trees that no text has.
 ghost use Rattle.std.specs.Prelude.{IfOk, Err, ◌≡◌, ◌<◌, ◌⊎◌, length, string_bytes};
-ghost use Rattle.graphql_core.specs.Refusal.{Refusal, no_memory, max_length};
-ghost use Rattle.graphql_schema_tree.specs.Layout.{layout, IsTooWide};
-ghost use Rattle.graphql_schema_tree.specs.Printable.{IsPrintable};
-ghost use Rattle.graphql_schema_tree.specs.Tree.{erase};
-ghost use Rattle.graphql_schema_tree.specs.Views.{document_view};
+ghost use Rattle.graphql_values.specs.{Refusal, no_memory, max_length};
+ghost use Rattle.graphql_schema_tree.specs.{layout, IsTooWide, IsPrintable, erase, document_view};
 
 use crate::common::Names;
 use crate::schema::{
@@ -13,10 +10,9 @@ use crate::schema::{
     ObjectTypeExtension, ParseError, ScalarType, ScalarTypeExtension, SchemaDefinition,
     SchemaExtension, UnionType, UnionTypeExtension, parse_schema,
 };
+use crate::tests::parts_alone::assert_shown;
 use crate::{FormatError, Style};
 use std::alloc::{AllocError, Global};
-use std::fmt::Display;
-use std::process::Abort;
 use std::test::Fail;
 
 /// How many types a schema document defines.
@@ -61,17 +57,6 @@ fn formatted_and_parsed<N: Names>(
 {
     let text = document.format(alloc, style).map_err(Lost::Format)?;
     parse_schema::<String>(alloc, &text).map_err(Lost::Parse)
-}
-
-/// `Display` shows a tree so.
-fn assert_shown<T: Display>(
-    rt: &impl Abort,
-    alloc: Global,
-    tree: &T,
-    text: &str,
-) -> Result<(), Fail> {
-    assert_eq!(rt; tree.to_string(alloc)?.as_str(), text);
-    Ok(())
 }
 
 #[test]

@@ -2,6 +2,7 @@
 use crate::common::Text;
 use crate::query::{Definition, Document, Field, OperationDefinition, Selection, parse_query};
 use crate::tests::callers::first_value;
+use crate::tests::parts_alone::assert_shown;
 use crate::tests::sources::SCHEMA;
 use crate::{Pos, Style, parse_schema};
 use std::test::Fail;
@@ -25,15 +26,12 @@ type User {
 ";
 
 /// The first field of a document that begins with a set of selections.
-fn first_field<'a, 'd, T: Text<'a>>(document: &'d Document<'a, T>) -> Option<&'d Field<'a, T>> {
-    let Definition::Operation(OperationDefinition::SelectionSet(set)) = document
-        .definitions
-        .first()?
-    else {
-        return None;
-    };
-    match set.items.first()? {
-        Selection::Field(field) => Some(field),
+pub fn first_field<'a, 'd, T: Text<'a>>(document: &'d Document<'a, T>) -> Option<&'d Field<'a, T>> {
+    match document.definitions.first()? {
+        Definition::Operation(OperationDefinition::SelectionSet(set)) => match set.items.first()? {
+            Selection::Field(field) => Some(field),
+            _ => None,
+        },
         _ => None,
     }
 }
@@ -74,14 +72,11 @@ fn values_outlive_the_text(rt: HostRuntime) -> Result<(), Fail> {
     let field = first_field(&document).ok_or("no field")?;
     let value = first_value(alloc, field).ok_or("no value")?;
     assert!(rt; document == copy);
-    assert_eq!(rt;
-        document.to_string(alloc)?.as_str(),
-        "{\n  f(o: {a: 2, b: 3})\n}\n"
-    );
+    assert_shown(&rt, alloc, &document, "{\n  f(o: {a: 2, b: 3})\n}\n")?;
     drop(document);
     drop(copy);
     drop(text);
-    assert_eq!(rt; value.to_string(alloc)?.as_str(), "{a: 2, b: 3}");
+    assert_shown(&rt, alloc, &value, "{a: 2, b: 3}")?;
     let owned = parse_query::<String>(alloc, "{ f(o: {b: 3, a: 2}) }")?;
     let field = first_field(&owned).ok_or("no field")?;
     let (_, read) = field.arguments.first().ok_or("no argument")?;

@@ -1,16 +1,15 @@
 //! What is left of a stream, parsed.
 ghost use Rattle.std.specs.Prelude.{IfOk, ◌≡◌, ◌≤ℤ◌, ◌+◌, ◌-◌, ◌^◌, pos, min, length, string_bytes};
-ghost use Rattle.graphql_lexer.specs.Items.{depth_of};
-ghost use Rattle.graphql_lexer.specs.Stream.{next_place};
-ghost use Rattle.graphql_core.specs.Source.{IsAtEnd, split};
-ghost use Rattle.graphql_query_tree.specs.Tree.{document_view};
-ghost use Rattle.graphql_query_tree.specs.Document.{IsDocument};
+ghost use Rattle.graphql_lexer.specs.{depth_of};
+ghost use Rattle.graphql_values.specs.{next_place, IsAtEnd, split};
+ghost use Rattle.graphql_query_tree.specs.{document_view, IsDocument};
 
 use crate::Pos;
 use crate::query::{self, Definition, OperationDefinition, parse_query_from};
 use crate::schema::{self, TypeDefinition, parse_schema_from};
 use crate::tokenizer::TokenStream;
 use std::alloc::Global;
+use std::process::Abort;
 use std::test::Fail;
 
 /// What is left of a stream as a document. There is none where more brackets were closed before than opened, where no
@@ -173,11 +172,18 @@ const SCHEMAS: [(&str, usize, &str, usize); 6] = [
     ("directive @a on FOO ;", 17, "invalid directive location", 5),
 ];
 
-#[test]
-fn queries_are_read_as_far_as_their_fault(rt: HostRuntime) -> Result<(), Fail> {
-    for (source, column, message, cuts) in QUERIES {
+/// Each of these texts has its fault, and its stream was asked so often.
+fn assert_faults<F: Fn(Global, &mut TokenStream<'_>) -> Result<(Option<Pos>, String), Fail>>(
+    rt: &impl Abort,
+    alloc: Global,
+    texts: [(&str, usize, &str, usize); 6],
+    fault: F,
+) -> Result<(), Fail>
+    requires { F.IsAlwaysCallable fault }
+{
+    for (source, column, message, cuts) in texts {
         let mut stream = past(source, 0).ok_or("too long")?;
-        let (position, told) = query_fault(rt.alloc(), &mut stream)?;
+        let (position, told) = fault(alloc, &mut stream)?;
         assert_eq!(rt; position, Some(Pos { line: 1, column }));
         assert_eq!(rt; told.as_str(), message);
         assert_eq!(rt; stream.cuts(), cuts);
@@ -186,15 +192,13 @@ fn queries_are_read_as_far_as_their_fault(rt: HostRuntime) -> Result<(), Fail> {
 }
 
 #[test]
+fn queries_are_read_as_far_as_their_fault(rt: HostRuntime) -> Result<(), Fail> {
+    assert_faults(&rt, rt.alloc(), QUERIES, query_fault)
+}
+
+#[test]
 fn schemas_are_read_as_far_as_their_fault(rt: HostRuntime) -> Result<(), Fail> {
-    for (source, column, message, cuts) in SCHEMAS {
-        let mut stream = past(source, 0).ok_or("too long")?;
-        let (position, told) = schema_fault(rt.alloc(), &mut stream)?;
-        assert_eq!(rt; position, Some(Pos { line: 1, column }));
-        assert_eq!(rt; told.as_str(), message);
-        assert_eq!(rt; stream.cuts(), cuts);
-    }
-    Ok(())
+    assert_faults(&rt, rt.alloc(), SCHEMAS, schema_fault)
 }
 
 /// Of the 50 brackets that are open before the last one, the first was taken before the rest is read.

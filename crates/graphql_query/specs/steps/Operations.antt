@@ -1,16 +1,11 @@
 -- Operations with a keyword: which it is, and what is seen of the body after it.
 use Rattle.std.specs.Prelude.{◌≡◌, ℕ, List, Option, Some, None, true, false}
-use Rattle.graphql_grammar.specs.Tokens.{Class}
-use Rattle.graphql_grammar.specs.Trees.{Expr, One, Then, Sym}
-use Rattle.graphql_core.specs.Source.{Items}
-use Rattle.graphql_core.specs.steps.Matching.{sees_class}
-use Rattle.graphql_values.specs.Grammar.{keyword}
+use Rattle.graphql_values.specs.{Class, Expr, One, Then, Sym, Items, sees_class, keyword}
+use Rattle.graphql_query_tree.specs.{operation_body_symbol, OperationKind, query_kind, mutation_kind, subscription_kind, OperationBodyTree, body_view}
 use Rattle.graphql_query.specs.declared.read.keyword.Keyword.{Keyword}
 use Rattle.graphql_query.specs.declared.read.keyword.Keyword.TheVariants.{Query, Mutation, Subscription}
 use Rattle.graphql_query.specs.declared.read.operation.OperationBody.{OperationBody}
-use Rattle.graphql_query_tree.specs.Grammar.{operation_body_symbol}
 use Rattle.graphql_query_tree.specs.Layout as layout
-use Rattle.graphql_query_tree.specs.Tree.{OperationKind, query_kind, mutation_kind, subscription_kind, OperationBodyTree, body_view}
 
 abbrev pub kind_of : Keyword → OperationKind
 kind_of Query = query_kind

@@ -1,20 +1,10 @@
 -- What readers of queries answer.
 use Rattle.std.specs.Prelude.{◌≡◌, ℕ, Bool, ◌||◌, List, [], Option, Some, None, Result, codes}
-use Rattle.graphql_grammar.specs.Tokens.{nowhere}
-use Rattle.graphql_grammar.specs.Trees.{Expr, Then, Sym, Shape, Both, First, Second, optional}
-use Rattle.graphql_grammar.specs.Reading.{Takes}
-use Rattle.graphql_grammar.specs.Factored.{written}
-use Rattle.graphql_core.specs.declared.helpers.read_error.ReadError.{ReadError}
-use Rattle.graphql_lexer.specs.declared.position.Pos.{Pos}
-use Rattle.graphql_core.specs.Source.{Items, place_of, kept}
-use Rattle.graphql_core.specs.steps.Matching.{sees_class}
-use Rattle.graphql_values.specs.steps.Answers.{Gives, Adds}
-use Rattle.graphql_values.specs.Grammar.{mark, keyword, name, punctuator}
-use Rattle.graphql_values.specs.Meanings.{spelling_at}
+use Rattle.graphql_values.specs.{nowhere, Expr, Then, Sym, Shape, Both, First, Second, optional, Takes, written, ReadError, Pos, Items, place_of, kept}
+use Rattle.graphql_values.specs.{sees_class, Gives, Adds, mark, keyword, name, punctuator, spelling_at}
+use Rattle.graphql_query_tree.specs.{spread, VariableDefinitionTree, SelectionTree, SelectionSetTree, DefinitionTree, trees_of, selection_view, reading}
+use Rattle.graphql_query_tree.specs.{changes, definition_symbol, fragment_spread_rest_of, inline_fragment_rest_of, variable_definition_of, definition_of, set}
 use Rattle.graphql_query_tree.specs.declared.tree.Selection.{Selection}
-use Rattle.graphql_query_tree.specs.Tree.{VariableDefinitionTree, SelectionTree, SelectionSetTree, DefinitionTree, spread, set, trees_of, selection_view}
-use Rattle.graphql_query_tree.specs.Grammar.{reading, changes, definition_symbol}
-use Rattle.graphql_query_tree.specs.Meanings.{fragment_spread_rest_of, inline_fragment_rest_of, variable_definition_of, definition_of}
 
 -- it reads by the second rules, and its answer is what the written shape means
 abbrev pub Reads : {A : Type 0} → Expr → Items → Items → (A → Shape → Type 0) → Result A ReadError → Type 0

@@ -1,8 +1,7 @@
 //! The name of a field, and its alias.
 ghost use Rattle.std.specs.Prelude.{◌≡◌, option_map};
-ghost use Rattle.graphql_core.specs.Source.{kept};
-ghost use Rattle.graphql_values.specs.steps.Answers.{Shortens};
-ghost use Rattle.graphql_query.specs.steps.Reads.{Reads, first_names, alias_and_name_of};
+ghost use Rattle.graphql_values.specs.{kept, Shortens};
+ghost use Rattle.graphql_query.specs.{Reads, first_names, alias_and_name_of};
 
 use graphql_core::common::Names;
 use graphql_core::helpers::{Punctuator, ReadError, TokenSource, expect_name, expect_punctuator};

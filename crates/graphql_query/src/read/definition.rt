@@ -1,12 +1,9 @@
 //! Definitions.
 ghost use Rattle.std.specs.Prelude.{◌≡◌, map};
-ghost use Rattle.graphql_grammar.specs.Trees.{Sym, some_of};
-ghost use Rattle.graphql_core.specs.Source.{kept};
-ghost use Rattle.graphql_values.specs.steps.Answers.{Shortens};
-ghost use Rattle.graphql_query_tree.specs.Tree.{fragment_definition_view, definition_view, definitions_view};
-ghost use Rattle.graphql_query_tree.specs.Grammar.{fragment_definition_symbol, definition_symbol};
-ghost use Rattle.graphql_query_tree.specs.Meanings.{fragment_definition_of, definition_of, definitions_of};
-ghost use Rattle.graphql_query.specs.steps.Reads.{Reads, sees_definition};
+ghost use Rattle.graphql_values.specs.{Sym, some_of, kept, Shortens, each_of};
+ghost use Rattle.graphql_query_tree.specs.{fragment_definition_view, definition_view, definitions_view, fragment_definition_symbol, definition_symbol};
+ghost use Rattle.graphql_query_tree.specs.{fragment_definition_of, definition_of};
+ghost use Rattle.graphql_query.specs.{Reads, sees_definition};
 
 use crate::read::fragment::type_condition;
 use crate::read::operation::operation_definition;
@@ -81,7 +78,7 @@ pub fn definitions<S: TokenSource>(
     source: &mut S,
 ) -> Result<Vec<Definition<S::Names>>, ReadError>
     ensures reads { Reads (some_of (Sym definition_symbol)) (S.items source.old) (S.items source.new)
-        (λ v x. definitions_view S.Names.bytes v.items ≡ definitions_of x) result }
+        (λ v x. definitions_view S.Names.bytes v.items ≡ each_of definition_of x) result }
     ensures kept { kept (S.items source.new) ≡ kept (S.items source.old) }
     ensures shorter { Shortens (S.items source.old) (S.items source.new) result }
 {

@@ -1,13 +1,9 @@
 //! Names of fragments, and the types that they are on.
 ghost use Rattle.std.specs.Prelude.{◌≡◌, ◌≤◌, OnOk, [], ◌∷◌, length, option_map};
-ghost use Rattle.graphql_grammar.specs.Trees.{Sym, optional};
-ghost use Rattle.graphql_core.specs.Source.{kept, place_next};
-ghost use Rattle.graphql_core.specs.steps.Matching.{sees_class};
-ghost use Rattle.graphql_values.specs.steps.Answers.{Adds, Shortens};
-ghost use Rattle.graphql_query_tree.specs.Tree.{type_condition_view, selection_view};
-ghost use Rattle.graphql_query_tree.specs.Grammar.{spread_class, spread_name_symbol, fragment_spread_rest, type_condition_symbol};
-ghost use Rattle.graphql_query_tree.specs.Meanings.{type_condition_of, optional_type_condition_of, spread_name_of, fragment_spread_rest_of};
-ghost use Rattle.graphql_query.specs.steps.Reads.{Reads};
+ghost use Rattle.graphql_values.specs.{Sym, optional, kept, place_next, sees_class, Adds, Shortens, optional_of};
+ghost use Rattle.graphql_query_tree.specs.{type_condition_view, selection_view, spread_class, spread_name_symbol, fragment_spread_rest, type_condition_symbol};
+ghost use Rattle.graphql_query_tree.specs.{type_condition_of, spread_name_of, fragment_spread_rest_of};
+ghost use Rattle.graphql_query.specs.{Reads};
 
 use graphql_core::common::Names;
 use graphql_core::helpers::{ReadError, TokenSource, expect_keyword, expect_name, sees_keyword};
@@ -37,7 +33,7 @@ pub fn optional_type_condition<S: TokenSource>(
     source: &mut S,
 ) -> Result<Option<TypeCondition<S::Names>>, ReadError>
     ensures reads { Reads (optional (Sym type_condition_symbol)) (S.items source.old) (S.items source.new)
-        (λ v x. option_map (type_condition_view S.Names.bytes) v ≡ optional_type_condition_of x) result }
+        (λ v x. option_map (type_condition_view S.Names.bytes) v ≡ optional_of type_condition_of x) result }
     ensures kept { kept (S.items source.new) ≡ kept (S.items source.old) }
     ensures within { OnOk result (length (S.items source.new).tokens ≤ length (S.items source.old).tokens) }
 {

@@ -1,7 +1,7 @@
 //! The keywords with which operations begin.
 ghost use Rattle.std.specs.Prelude.{◌≡◌};
-ghost use Rattle.graphql_query_tree.specs.Layout.{keyword};
-ghost use Rattle.graphql_query.specs.steps.Operations.{kind_of, Tells};
+ghost use Rattle.graphql_query_tree.specs.{keyword};
+ghost use Rattle.graphql_query.specs.{kind_of, Tells};
 
 use graphql_core::helpers::{TokenSource, sees_keyword};
 

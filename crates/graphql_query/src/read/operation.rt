@@ -1,14 +1,11 @@
 //! Operations and their variables.
 ghost use Rattle.std.specs.Prelude.{◌≡◌, ◌≤◌, OnOk, [], ◌∷◌, length, option_map};
-ghost use Rattle.graphql_grammar.specs.Trees.{Sym, optional};
-ghost use Rattle.graphql_core.specs.Source.{kept, place_of};
+ghost use Rattle.graphql_values.specs.{Sym, optional, kept, place_of, Adds, Shortens, spelling_at, optional_of, optional_list_of, enclosed_of};
+ghost use Rattle.graphql_query_tree.specs.{variable_definition_view, operation_view, operation, with_body, VariableDefinitionTree, operation_body_symbol};
+ghost use Rattle.graphql_query_tree.specs.{variable_definitions_symbol, variable_definition_symbol, operation_symbol, reading, operation_body_of, keyword_of};
+ghost use Rattle.graphql_query_tree.specs.{operation_of, variable_definition_of};
+ghost use Rattle.graphql_query.specs.{kind_of, keyword_rule, operation_body_view, Reads, read_variable_definition};
 ghost use Rattle.graphql_values.specs.Grammar as shared;
-ghost use Rattle.graphql_values.specs.steps.Answers.{Adds, Shortens};
-ghost use Rattle.graphql_query_tree.specs.Tree.{variable_definition_view, operation_view, operation, with_body, VariableDefinitionTree};
-ghost use Rattle.graphql_query_tree.specs.Grammar.{operation_body_symbol, variable_definitions_symbol, variable_definition_symbol, operation_symbol, reading};
-ghost use Rattle.graphql_query_tree.specs.Meanings.{optional_name_of, optional_variable_definitions_of, operation_body_of, keyword_of, operation_of};
-ghost use Rattle.graphql_query.specs.steps.Operations.{kind_of, keyword_rule, operation_body_view};
-ghost use Rattle.graphql_query.specs.steps.Reads.{Reads, read_variable_definition};
 
 use crate::read::keyword::{Keyword, peek_keyword};
 use crate::read::selection::selection_set;
@@ -39,39 +36,24 @@ struct OperationBody<N: Names> {
     selection_set: SelectionSet<N>,
 }
 
+// The operation of a kind that stands at a position and has this body.
+macro_rules! operation {
+    ($kind:ident, $position:expr, $body:expr) => {{
+        let position = $position;
+        let OperationBody { name, variable_definitions, directives, selection_set } = $body;
+        OperationDefinition::$kind($kind { position, name, variable_definitions, directives, selection_set })
+    }};
+}
+
 impl<N: Names> OperationBody<N> {
     /// The operation that has this body after a keyword, which stands at a position.
     fn into_operation(self, keyword: Keyword, position: Pos) -> OperationDefinition<N>
         ensures { operation_view N.bytes result ≡ operation (with_body (kind_of keyword) (place_of position) (operation_body_view N.bytes self)) }
     {
-        let OperationBody {
-            name,
-            variable_definitions,
-            directives,
-            selection_set,
-        } = self;
         match keyword {
-            Keyword::Query => OperationDefinition::Query(Query {
-                position,
-                name,
-                variable_definitions,
-                directives,
-                selection_set,
-            }),
-            Keyword::Mutation => OperationDefinition::Mutation(Mutation {
-                position,
-                name,
-                variable_definitions,
-                directives,
-                selection_set,
-            }),
-            Keyword::Subscription => OperationDefinition::Subscription(Subscription {
-                position,
-                name,
-                variable_definitions,
-                directives,
-                selection_set,
-            }),
+            Keyword::Query => operation!(Query, position, self),
+            Keyword::Mutation => operation!(Mutation, position, self),
+            Keyword::Subscription => operation!(Subscription, position, self),
         }
     }
 }
@@ -83,7 +65,7 @@ fn optional_name<S: TokenSource>(
     source: &mut S,
 ) -> Result<Option<<S::Names as Names>::Value>, ReadError>
     ensures reads { Reads (optional shared.name) (S.items source.old) (S.items source.new)
-        (λ v x. option_map S.Names.bytes v ≡ optional_name_of x) result }
+        (λ v x. option_map S.Names.bytes v ≡ optional_of spelling_at x) result }
     ensures kept { kept (S.items source.new) ≡ kept (S.items source.old) }
     ensures within { OnOk result (length (S.items source.new).tokens ≤ length (S.items source.old).tokens) }
 {
@@ -147,17 +129,13 @@ fn optional_variable_definitions<S: TokenSource>(
     definitions: &mut Vec<VariableDefinition<S::Names>>,
 ) -> Result<(), ReadError>
     ensures reads { Reads (optional (Sym variable_definitions_symbol)) (S.items source.old) (S.items source.new)
-        (λ v x. Adds (variable_definition_view S.Names.bytes) definitions.old.items definitions.new.items (optional_variable_definitions_of x)) result }
+        (λ v x. Adds (variable_definition_view S.Names.bytes) definitions.old.items definitions.new.items
+        (optional_list_of (enclosed_of variable_definition_of) x)) result }
     ensures kept { kept (S.items source.new) ≡ kept (S.items source.old) }
     ensures within { OnOk result (length (S.items source.new).tokens ≤ length (S.items source.old).tokens) }
 {
-    optional_list::<S, VariableDefinitionList>(
-        alloc,
-        source,
-        Punctuator::OpenParen,
-        Punctuator::CloseParen,
-        definitions,
-    )
+    let (open, close) = (Punctuator::OpenParen, Punctuator::CloseParen);
+    optional_list::<S, VariableDefinitionList>(alloc, source, open, close, definitions)
 }
 
 /// `OperationBody = Name? VariableDefinitions? Directives SelectionSet`; selections are read at the end of `scratch`.

@@ -1,15 +1,9 @@
 //! Selections.
 ghost use Rattle.std.specs.Prelude.{◌≡◌, ◌≤◌, ◌||◌, OnOk, [], ◌∷◌, length, codes};
-ghost use Rattle.graphql_grammar.specs.Trees.{Then, Sym, Either, optional};
-ghost use Rattle.graphql_lexer.specs.declared.tokenizer.token.Kind.TheVariants.{Name};
-ghost use Rattle.graphql_core.specs.Source.{kept, place_of};
-ghost use Rattle.graphql_core.specs.steps.Matching.{sees_class};
-ghost use Rattle.graphql_values.specs.Grammar.{punctuator, any, mark};
-ghost use Rattle.graphql_values.specs.steps.Answers.{Adds, Shortens};
-ghost use Rattle.graphql_query_tree.specs.Tree.{selection_view, selection_set_view};
-ghost use Rattle.graphql_query_tree.specs.Grammar.{field_symbol, selection_set_symbol, selection_symbol, fragment_spread_rest, inline_fragment_rest};
-ghost use Rattle.graphql_query_tree.specs.Meanings.{field_of, selected_of, inline_fragment_rest_of, selection_of, selection_set_of};
-ghost use Rattle.graphql_query.specs.steps.Reads.{Reads, AddsSet, after_dots_of};
+ghost use Rattle.graphql_values.specs.{Then, Sym, Either, optional, Name, kept, place_of, sees_class, punctuator, any, mark, Adds, Shortens};
+ghost use Rattle.graphql_query_tree.specs.{selection_view, selection_set_view, field_symbol, selection_set_symbol, selection_symbol, fragment_spread_rest};
+ghost use Rattle.graphql_query_tree.specs.{inline_fragment_rest, field_of, selected_of, inline_fragment_rest_of, selection_of, selection_set_of};
+ghost use Rattle.graphql_query.specs.{Reads, AddsSet, after_dots_of};
 
 use crate::read::alias::alias_and_name;
 use crate::read::fragment::{fragment_spread, optional_type_condition, sees_spread_name};

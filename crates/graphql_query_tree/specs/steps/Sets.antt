@@ -1,8 +1,6 @@
 -- Selection sets alone, as they are counted to tell how many levels are open.
 use Rattle.std.specs.Prelude.{Bool, if◌then◌else◌}
-use Rattle.graphql_core.specs.Style.{Layout}
-use Rattle.graphql_values.specs.TreeDepth.{Weights}
-use Rattle.graphql_values.specs.ValueLayout.{in_levels}
+use Rattle.graphql_values.specs.{Layout, Weights, in_levels}
 
 -- nothing weighs anything but the braces of selection sets
 abbrev pub in_sets : Weights

@@ -1,8 +1,7 @@
 //! Fragments, definitions and documents.
-ghost use Rattle.graphql_query_tree.specs.Lawful.{IsLawfulFragment, IsLawfulDefinition, IsLawfulDocument};
-ghost use Rattle.graphql_query_tree.specs.Layout.{fragment_definition_layout, definition_layout, document_layout};
-ghost use Rattle.graphql_query_tree.specs.Layout.{fragment_definition_levels, definition_levels, levels};
-ghost use Rattle.graphql_query_tree.specs.Tree.{fragment_definition_view, operation_view, definition_view, document_view};
+ghost use Rattle.graphql_query_tree.specs.{IsLawfulFragment, IsLawfulDefinition, IsLawfulDocument, fragment_definition_layout, definition_layout};
+ghost use Rattle.graphql_query_tree.specs.{document_layout, fragment_definition_levels, definition_levels, levels, fragment_definition_view, operation_view};
+ghost use Rattle.graphql_query_tree.specs.{definition_view, document_view};
 
 use crate::print::selection::{write_selection_set, write_type_condition};
 use crate::tree::{Definition, Document, FragmentDefinition, OperationDefinition};

@@ -1,17 +1,12 @@
 //! Display of the trees: the text in the default style, unless that is too wide.
 ghost use Rattle.std.specs.Prelude.{Some, OnOk};
-ghost use Rattle.std.specs.Fmt.{DisplaysOnOk, DisplaysStyledOnOk};
-ghost use Rattle.graphql_core.specs.Style.{default_style};
-ghost use Rattle.graphql_core.specs.Parts.{text_of};
-ghost use Rattle.graphql_values.specs.ValueLayout.{IsNarrow};
-ghost use Rattle.graphql_query_tree.specs.Tree.{fragment_spread_view, field_view, inline_fragment_view, selection_set_view, type_condition_view};
-ghost use Rattle.graphql_query_tree.specs.Tree.{variable_definition_view};
-ghost use Rattle.graphql_query_tree.specs.Tree.{query_view, mutation_view, subscription_view, fragment_definition_view, operation_view, definition_view};
-ghost use Rattle.graphql_query_tree.specs.Tree.{document_view};
-ghost use Rattle.graphql_query_tree.specs.Layout.{selection_layout, selection_set_layout, type_condition_layout, variable_definition_layout, operation_layout};
-ghost use Rattle.graphql_query_tree.specs.Layout.{fragment_definition_layout, definition_layout, layout};
-ghost use Rattle.graphql_query_tree.specs.Layout.{selection_levels, selection_set_levels, variable_definition_levels, operation_levels};
-ghost use Rattle.graphql_query_tree.specs.Layout.{fragment_definition_levels, definition_levels, levels};
+ghost use Rattle.graphql_values.specs.{text_of, DisplaysOnOk, DisplaysStyledOnOk, default_style, IsNarrow};
+ghost use Rattle.graphql_query_tree.specs.{fragment_spread_view, field_view, inline_fragment_view, selection_set_view, type_condition_view};
+ghost use Rattle.graphql_query_tree.specs.{variable_definition_view, query_view, mutation_view, subscription_view, fragment_definition_view, operation_view};
+ghost use Rattle.graphql_query_tree.specs.{definition_view, document_view, selection_layout, selection_set_layout, type_condition_layout};
+ghost use Rattle.graphql_query_tree.specs.{variable_definition_layout, operation_layout, fragment_definition_layout, definition_layout, layout};
+ghost use Rattle.graphql_query_tree.specs.{selection_levels, selection_set_levels, variable_definition_levels, operation_levels, fragment_definition_levels};
+ghost use Rattle.graphql_query_tree.specs.{definition_levels, levels};
 
 use crate::print::selection::write_type_condition;
 use crate::tree::{

@@ -1,10 +1,8 @@
 //! How many levels of indentation selections open at once, saturating at `usize::MAX`: `ALL`, or those of selection sets alone.
 ghost use Rattle.std.specs.Prelude.{◌≡◌, ◌-◌, ◌^◌, min};
-ghost use Rattle.graphql_values.specs.TreeDepth.{arguments_depth, directives_depth};
-ghost use Rattle.graphql_values.specs.ValueViews.{arguments_view, directives_view};
-ghost use Rattle.graphql_query_tree.specs.Tree.{fragment_spread_view, field_view, inline_fragment_view, selection_view, selections_view, selection_set_view};
-ghost use Rattle.graphql_query_tree.specs.TreeDepth.{selection_depth, selected_depth, selections_depth, selection_set_depth};
-ghost use Rattle.graphql_query_tree.specs.steps.Sets.{counted};
+ghost use Rattle.graphql_values.specs.{arguments_depth, directives_depth, arguments_view, directives_view};
+ghost use Rattle.graphql_query_tree.specs.{fragment_spread_view, field_view, inline_fragment_view, selection_view, selections_view, selection_set_view};
+ghost use Rattle.graphql_query_tree.specs.{selection_depth, selected_depth, selections_depth, selection_set_depth, counted};
 
 use crate::tree::{Field, FragmentSpread, InlineFragment, Selection, SelectionSet};
 use graphql_core::common::Names;

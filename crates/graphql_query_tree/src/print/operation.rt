@@ -1,13 +1,10 @@
 //! Operations with a keyword, and their variables.
 ghost use Rattle.std.specs.Prelude.{◌≡◌, ◌*◌, ◌-◌, ◌^◌, ◌<◌, OnOk, min, option_map};
-ghost use Rattle.graphql_core.specs.Parts.{text_of};
-ghost use Rattle.graphql_values.specs.ValueViews.{directives_view};
-ghost use Rattle.graphql_query_tree.specs.Tree.{variable_definition_view, variable_definitions_view, selection_set_view, query_view, mutation_view};
-ghost use Rattle.graphql_query_tree.specs.Tree.{subscription_view, operation};
-ghost use Rattle.graphql_query_tree.specs.Lawful.{IsLawfulVariable, AreLawfulVariables, AreLawfulParts, IsLawfulDefinition};
-ghost use Rattle.graphql_query_tree.specs.Layout.{operation_name_layout, variable_definition_layout, variable_definitions_layout, operation_of};
-ghost use Rattle.graphql_query_tree.specs.Layout.{operation_layout};
-ghost use Rattle.graphql_query_tree.specs.Layout.{variable_definition_levels, variable_definitions_levels, operation_levels_of, operation_levels};
+ghost use Rattle.graphql_values.specs.{text_of, directives_view};
+ghost use Rattle.graphql_query_tree.specs.{variable_definition_view, variable_definitions_view, selection_set_view, query_view, mutation_view};
+ghost use Rattle.graphql_query_tree.specs.{subscription_view, operation, IsLawfulVariable, AreLawfulVariables, AreLawfulParts, IsLawfulDefinition};
+ghost use Rattle.graphql_query_tree.specs.{operation_name_layout, variable_definition_layout, variable_definitions_layout, operation_layout};
+ghost use Rattle.graphql_query_tree.specs.{variable_definition_levels, variable_definitions_levels, operation_levels_of, operation_levels, operation_layout_of};
 
 use crate::print::selection::write_selection_set;
 use crate::tree::{Mutation, Query, SelectionSet, Subscription, VariableDefinition};
@@ -104,7 +101,7 @@ fn write_operation<S: Sink, N: Names>(
         (selection_set_view N.bytes set.now) * style.now.indent < 2 ^ 32 }
     ensures text { OnOk result
         (S.took out.old (text_of
-        (operation_of style.now keyword.now (option_map N.bytes name.now) (variable_definitions_view N.bytes variables.now)
+        (operation_layout_of style.now keyword.now (option_map N.bytes name.now) (variable_definitions_view N.bytes variables.now)
         (directives_view N.bytes directives.now) (selection_set_view N.bytes set.now))) out.new) }
     ensures lawful { OnOk result
         (AreLawfulParts (variable_definitions_view N.bytes variables.now) (directives_view N.bytes directives.now)

@@ -1,12 +1,10 @@
 //! Writers of selections. A line begins with a margin of so many spaces.
 ghost use Rattle.std.specs.Prelude.{◌≡◌, ◌+◌, ◌*◌, ◌^◌, ◌<◌, OnOk, option_map};
-ghost use Rattle.graphql_core.specs.Parts.{text_of};
-ghost use Rattle.graphql_query_tree.specs.Tree.{type_condition_view, fragment_spread_view, field_view, inline_fragment_view, selection_view, selections_view};
-ghost use Rattle.graphql_query_tree.specs.Tree.{selection_set_view};
-ghost use Rattle.graphql_query_tree.specs.Lawful.{IsLawfulSelection, IsLawfulSet, AreLawfulSelections};
-ghost use Rattle.graphql_query_tree.specs.Layout.{alias_layout, type_condition_layout, on_layout, selection_layout, selected_layout, selections_layout};
-ghost use Rattle.graphql_query_tree.specs.Layout.{selection_set_layout};
-ghost use Rattle.graphql_query_tree.specs.Layout.{selection_levels, selected_levels, selections_levels, selection_set_levels};
+ghost use Rattle.graphql_values.specs.{text_of};
+ghost use Rattle.graphql_query_tree.specs.{type_condition_view, fragment_spread_view, field_view, inline_fragment_view, selection_view, selections_view};
+ghost use Rattle.graphql_query_tree.specs.{selection_set_view, IsLawfulSelection, IsLawfulSet, AreLawfulSelections, alias_layout, type_condition_layout};
+ghost use Rattle.graphql_query_tree.specs.{on_layout, selection_layout, selected_layout, selections_layout, selection_set_layout, selection_levels};
+ghost use Rattle.graphql_query_tree.specs.{selected_levels, selections_levels, selection_set_levels};
 
 use crate::print::levels::{
     levels_in_field, levels_in_fragment_spread, levels_in_inline_fragment, levels_in_selection_set,

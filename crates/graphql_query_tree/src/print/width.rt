@@ -1,11 +1,8 @@
 //! Whether a document is too wide: told by its selection sets alone, where these leave room for all else.
 ghost use Rattle.std.specs.Prelude.{◌≡◌, ◌↔◌, ◌-◌, ◌^◌, min, IsTrue};
-ghost use Rattle.graphql_values.specs.TreeDepth.{most};
-ghost use Rattle.graphql_query_tree.specs.Layout.{IsTooWide};
-ghost use Rattle.graphql_query_tree.specs.Printable.{selection_set_of_definition};
-ghost use Rattle.graphql_query_tree.specs.Tree.{selection_set_view, definition_view, document_view};
-ghost use Rattle.graphql_query_tree.specs.TreeDepth.{definition_depth};
-ghost use Rattle.graphql_query_tree.specs.steps.Sets.{in_sets};
+ghost use Rattle.graphql_values.specs.{most};
+ghost use Rattle.graphql_query_tree.specs.{IsTooWide, selection_set_of_definition, selection_set_view, definition_view, document_view, definition_depth};
+ghost use Rattle.graphql_query_tree.specs.{in_sets};
 
 use crate::print::levels::levels_in_selection_set;
 use crate::tree::{Definition, Document, OperationDefinition, SelectionSet};

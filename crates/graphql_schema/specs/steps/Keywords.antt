@@ -1,11 +1,7 @@
 -- The keywords with which definitions begin that may have a description.
 use Rattle.std.specs.Prelude.{◌≡◌, ℕ, Bool, true, false, ◌||◌, List, [], ◌∷◌, Option, Some, None, codes}
-use Rattle.graphql_grammar.specs.Tokens.{Token, Class, matches, in_any}
-use Rattle.graphql_grammar.specs.Trees.{peek}
-use Rattle.graphql_grammar.specs.Reading.{sees}
-use Rattle.graphql_core.specs.Source.{Items}
-use Rattle.graphql_core.specs.steps.Matching.{sees_class}
-use Rattle.graphql_values.specs.Grammar.{keyword}
+use Rattle.graphql_grammar.specs.{in_any}
+use Rattle.graphql_values.specs.{Token, Class, matches, peek, sees, Items, sees_class, keyword}
 use Rattle.graphql_schema.specs.declared.read.keyword.TypeKind.{TypeKind}
 use Rattle.graphql_schema.specs.declared.read.keyword.TypeKind.TheVariants.{Scalar, Object, Interface, Union, Enum, InputObject}
 use Rattle.graphql_schema.specs.declared.read.keyword.Keyword.{Keyword}

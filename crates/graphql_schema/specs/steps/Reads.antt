@@ -1,16 +1,7 @@
 -- What readers of schemas answer.
 use Rattle.std.specs.Prelude.{Bool, ◌||◌, Result}
-use Rattle.graphql_grammar.specs.Trees.{Expr, Shape}
-use Rattle.graphql_grammar.specs.Factored.{written}
-use Rattle.graphql_core.specs.declared.helpers.read_error.ReadError.{ReadError}
-use Rattle.graphql_core.specs.Source.{Items}
-use Rattle.graphql_core.specs.steps.Matching.{sees_class}
-use Rattle.graphql_lexer.specs.declared.tokenizer.token.Kind.TheVariants.{Name, StringValue, BlockString}
-use Rattle.graphql_values.specs.Grammar.{any}
-use Rattle.graphql_values.specs.Language.{reading}
-use Rattle.graphql_values.specs.steps.Answers.{Gives}
-use Rattle.graphql_schema_tree.specs.Grammar.{changes}
-use Rattle.graphql_schema_tree.specs.Language.{schemas}
+use Rattle.graphql_values.specs.{Expr, Shape, written, ReadError, Items, sees_class, Name, StringValue, BlockString, any, reading, Gives}
+use Rattle.graphql_schema_tree.specs.{changes, schemas}
 
 -- it reads by the second rules, and its answer is what the written shape means
 abbrev pub Reads : {A : Type 0} → Expr → Items → Items → (A → Shape → Type 0) → Result A ReadError → Type 0

@@ -1,15 +1,11 @@
 -- What readers of schemas answer that refuse nodes.
 use Rattle.std.specs.Prelude.{ℕ, Result}
-use Rattle.graphql_grammar.specs.Trees.{Expr, Shape}
-use Rattle.graphql_core.specs.Causes.{cause_text, empty_extension}
-use Rattle.graphql_core.specs.Source.{Items, FaultText, place_of}
+use Rattle.graphql_values.specs.{Expr, Shape, cause_text, empty_extension, Items, FaultText, place_of, Refusals}
 use Rattle.graphql_values.specs.declared.read.node_error.NodeError.{NodeError}
-use Rattle.graphql_values.specs.Refusing.{Refusals}
-use Rattle.graphql_values.specs.Refusing as refusing
-use Rattle.graphql_schema_tree.specs.Grammar.{schema_symbol, extension_symbol, schema_extension_symbol}
-use Rattle.graphql_schema_tree.specs.Language.{schemas}
+use Rattle.graphql_schema_tree.specs.{schema_symbol, extension_symbol, schema_extension_symbol, schemas}
 use Rattle.graphql_schema.specs.declared.read.invalid_node.InvalidNode.{InvalidNode}
 use Rattle.graphql_schema.specs.declared.read.invalid_node.InvalidNode.TheVariants.{Schema, SchemaExtension, Extension}
+use Rattle.graphql_values.specs.Refusing as refusing
 
 -- the symbol of the node, and what is said of it
 abbrev pub refused_symbol : InvalidNode → ℕ

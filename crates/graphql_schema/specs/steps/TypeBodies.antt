@@ -1,16 +1,14 @@
 -- What a reader answers of a type, and the rules of types by their kinds.
 use Rattle.std.specs.Prelude.{ℕ, List, Bool, true, false, map}
-use Rattle.graphql_grammar.specs.Trees.{Expr, Empty, Sym, optional, Shape}
-use Rattle.graphql_schema_tree.specs.Grammar.{scalar_symbol, object_symbol, interface_symbol, union_symbol, enum_symbol, input_symbol}
-use Rattle.graphql_schema_tree.specs.Grammar.{implements_symbol, fields_symbol, members_symbol, enum_values_symbol, input_fields_symbol}
-use Rattle.graphql_schema_tree.specs.Meanings.{field_of, enum_value_of, input_value_of, members_of, enclosed_of, optional_list_of}
-use Rattle.graphql_schema_tree.specs.Meanings.{scalar_of, object_of, interface_of, union_of, enum_of, input_of}
-use Rattle.graphql_schema_tree.specs.Tree.{PartsTree, scalar, object, interface, union, enum, input, BodyTree}
-use Rattle.graphql_schema_tree.specs.Views.{body_view, object_parts, interface_parts, enum_parts, input_parts}
+use Rattle.graphql_values.specs.{Expr, Empty, Sym, optional, Shape, enclosed_of, optional_list_of}
+use Rattle.graphql_schema_tree.specs.{scalar_symbol, object_symbol, interface_symbol, union_symbol, enum_symbol, input_symbol, implements_symbol, fields_symbol}
+use Rattle.graphql_schema_tree.specs.{members_symbol, enum_values_symbol, input_fields_symbol, field_of, enum_value_of, input_value_of, members_of, scalar_of}
+use Rattle.graphql_schema_tree.specs.{object_of, interface_of, union_of, enum_of, input_of, PartsTree, scalar, object, interface, union, enum, input, BodyTree}
+use Rattle.graphql_schema_tree.specs.{body_view, object_parts, interface_parts, enum_parts, input_parts}
 use Rattle.graphql_schema.specs.declared.read.keyword.TypeKind.{TypeKind}
-use Rattle.graphql_schema.specs.declared.read.keyword.TypeKind.TheVariants as kinds
 use Rattle.graphql_schema.specs.declared.read.type_body.TypeBody.{TypeBody}
 use Rattle.graphql_schema.specs.declared.read.type_body.TypeParts.{TypeParts}
+use Rattle.graphql_schema.specs.declared.read.keyword.TypeKind.TheVariants as kinds
 use Rattle.graphql_schema.specs.declared.read.type_body.TypeParts.TheVariants as parts
 
 module _ {N T : Type 0} (bytes : T → List ℕ) where

@@ -1,13 +1,8 @@
 //! Definitions, and documents of them.
 ghost use Rattle.std.specs.Prelude.{◌≡◌, map};
-ghost use Rattle.graphql_grammar.specs.Trees.{Sym, some_of};
-ghost use Rattle.graphql_core.specs.Source.{kept};
-ghost use Rattle.graphql_values.specs.steps.Answers.{Shortens};
-ghost use Rattle.graphql_schema_tree.specs.Grammar.{item_symbol};
-ghost use Rattle.graphql_schema_tree.specs.Meanings.{item_of, each_of};
-ghost use Rattle.graphql_schema_tree.specs.Views.{definition_view};
-ghost use Rattle.graphql_schema.specs.steps.Keywords.{sees_definition};
-ghost use Rattle.graphql_schema.specs.steps.Refusals.{ReadsNode};
+ghost use Rattle.graphql_values.specs.{Sym, some_of, kept, Shortens, each_of};
+ghost use Rattle.graphql_schema_tree.specs.{item_symbol, item_of, definition_view};
+ghost use Rattle.graphql_schema.specs.{sees_definition, ReadsNode};
 
 use crate::read::description::{optional_description, sees_description};
 use crate::read::directive::directive_definition;

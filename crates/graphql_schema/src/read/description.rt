@@ -1,14 +1,8 @@
 //! Descriptions.
 ghost use Rattle.std.specs.Prelude.{◌≡◌, ◌≤◌, OnOk, length, option_map, string_bytes};
-ghost use Rattle.graphql_grammar.specs.Trees.{Sym, optional};
-ghost use Rattle.graphql_core.specs.Source.{kept};
-ghost use Rattle.graphql_core.specs.steps.Matching.{sees_class};
-ghost use Rattle.graphql_lexer.specs.declared.tokenizer.token.Kind.TheVariants.{BlockString};
-ghost use Rattle.graphql_values.specs.Grammar.{any};
-ghost use Rattle.graphql_values.specs.steps.Answers.{Shortens};
-ghost use Rattle.graphql_schema_tree.specs.Grammar.{description_symbol};
-ghost use Rattle.graphql_schema_tree.specs.Meanings.{description_of, optional_of};
-ghost use Rattle.graphql_schema.specs.steps.Reads.{Reads, sees_description, sees_described_name};
+ghost use Rattle.graphql_values.specs.{Sym, optional, kept, sees_class, BlockString, any, Shortens, optional_of};
+ghost use Rattle.graphql_schema_tree.specs.{description_symbol, description_of};
+ghost use Rattle.graphql_schema.specs.{Reads, sees_description, sees_described_name};
 
 use graphql_core::helpers::{ReadError, TokenSource};
 use graphql_core::tokenizer::Kind;

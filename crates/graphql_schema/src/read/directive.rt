@@ -1,13 +1,9 @@
 //! Definitions of directives.
 ghost use Rattle.std.specs.Prelude.{◌≡◌, ◌≤◌, OnOk, None, Some, [], ◌∷◌, ◌++◌, length, codes};
-ghost use Rattle.graphql_grammar.specs.Trees.{Then, Sym, optional};
-ghost use Rattle.graphql_core.specs.Source.{kept};
-ghost use Rattle.graphql_values.specs.Grammar.{punctuator, word};
-ghost use Rattle.graphql_values.specs.steps.Answers.{Adds, Shortens};
-ghost use Rattle.graphql_schema_tree.specs.Grammar.{location_symbol, locations_symbol, directive_definition_symbol};
-ghost use Rattle.graphql_schema_tree.specs.Meanings.{is_there, location_at, marked_of, locations_of, directive_definition_of};
-ghost use Rattle.graphql_schema_tree.specs.Views.{directive_definition_view};
-ghost use Rattle.graphql_schema.specs.steps.Reads.{Reads};
+ghost use Rattle.graphql_values.specs.{Then, Sym, optional, kept, punctuator, word, Adds, Shortens, is_there, marked_of};
+ghost use Rattle.graphql_schema_tree.specs.{location_symbol, locations_symbol, directive_definition_symbol, location_at, locations_of, directive_definition_of};
+ghost use Rattle.graphql_schema_tree.specs.{directive_definition_view};
+ghost use Rattle.graphql_schema.specs.{Reads};
 
 use crate::read::input::optional_argument_definitions;
 use crate::read::names::optional_punctuator;

@@ -1,15 +1,8 @@
 //! Values of enums.
 ghost use Rattle.std.specs.Prelude.{◌≡◌, ◌≤◌, OnOk, length};
-ghost use Rattle.graphql_grammar.specs.Trees.{Sym, optional};
-ghost use Rattle.graphql_core.specs.Source.{kept};
-ghost use Rattle.graphql_values.specs.steps.Answers.{Adds};
-ghost use Rattle.graphql_schema_tree.specs.Grammar.{enum_value_symbol, enum_values_symbol};
-ghost use Rattle.graphql_schema_tree.specs.Meanings.{enum_value_of, enclosed_of, optional_list_of};
-ghost use Rattle.graphql_schema_tree.specs.Views.{enum_value_view};
-ghost use Rattle.graphql_schema_tree.specs.Tree.{EnumValueTree};
-ghost use Rattle.graphql_schema_tree.specs.Language.{schemas};
-ghost use Rattle.graphql_values.specs.Language.{reading};
-ghost use Rattle.graphql_schema.specs.steps.Reads.{Reads, as_written};
+ghost use Rattle.graphql_values.specs.{Sym, optional, kept, Adds, reading, enclosed_of, optional_list_of};
+ghost use Rattle.graphql_schema_tree.specs.{enum_value_symbol, enum_values_symbol, enum_value_of, enum_value_view, EnumValueTree, schemas};
+ghost use Rattle.graphql_schema.specs.{Reads, as_written};
 
 use crate::read::description::{optional_description, sees_described_name};
 use graphql_core::helpers::{Punctuator, ReadError, TokenSource, expect_name};
@@ -72,11 +65,6 @@ pub fn optional_enum_values<S: TokenSource>(
     ensures kept { kept (S.items source.new) ≡ kept (S.items source.old) }
     ensures within { OnOk result (length (S.items source.new).tokens ≤ length (S.items source.old).tokens) }
 {
-    optional_list::<S, EnumValueList>(
-        alloc,
-        source,
-        Punctuator::OpenBrace,
-        Punctuator::CloseBrace,
-        values,
-    )
+    let (open, close) = (Punctuator::OpenBrace, Punctuator::CloseBrace);
+    optional_list::<S, EnumValueList>(alloc, source, open, close, values)
 }

@@ -1,13 +1,8 @@
 //! Extensions of types and of the schema.
 ghost use Rattle.std.specs.Prelude.{◌≡◌};
-ghost use Rattle.graphql_grammar.specs.Trees.{Sym};
-ghost use Rattle.graphql_core.specs.Source.{kept};
-ghost use Rattle.graphql_values.specs.steps.Answers.{Shortens};
-ghost use Rattle.graphql_schema_tree.specs.Grammar.{extension_symbol};
-ghost use Rattle.graphql_schema_tree.specs.Meanings.{extension_of};
-ghost use Rattle.graphql_schema_tree.specs.Tree.{adds_to_schema};
-ghost use Rattle.graphql_schema_tree.specs.Views.{schema_extension_view, definition_view};
-ghost use Rattle.graphql_schema.specs.steps.Refusals.{ReadsNode};
+ghost use Rattle.graphql_values.specs.{Sym, kept, Shortens};
+ghost use Rattle.graphql_schema_tree.specs.{extension_symbol, extension_of, adds_to_schema, schema_extension_view, definition_view};
+ghost use Rattle.graphql_schema.specs.{ReadsNode};
 
 use crate::read::invalid_node::InvalidNode;
 use crate::read::keyword::{Keyword, peek_keyword};

@@ -1,15 +1,8 @@
 //! Fields of objects and of interfaces.
 ghost use Rattle.std.specs.Prelude.{◌≡◌, ◌≤◌, OnOk, length};
-ghost use Rattle.graphql_grammar.specs.Trees.{Sym, optional};
-ghost use Rattle.graphql_core.specs.Source.{kept};
-ghost use Rattle.graphql_values.specs.steps.Answers.{Adds};
-ghost use Rattle.graphql_schema_tree.specs.Grammar.{field_symbol, fields_symbol};
-ghost use Rattle.graphql_schema_tree.specs.Meanings.{field_of, enclosed_of, optional_list_of};
-ghost use Rattle.graphql_schema_tree.specs.Views.{field_view};
-ghost use Rattle.graphql_schema_tree.specs.Tree.{FieldTree};
-ghost use Rattle.graphql_schema_tree.specs.Language.{schemas};
-ghost use Rattle.graphql_values.specs.Language.{reading};
-ghost use Rattle.graphql_schema.specs.steps.Reads.{Reads, as_written};
+ghost use Rattle.graphql_values.specs.{Sym, optional, kept, Adds, reading, enclosed_of, optional_list_of};
+ghost use Rattle.graphql_schema_tree.specs.{field_symbol, fields_symbol, field_of, field_view, FieldTree, schemas};
+ghost use Rattle.graphql_schema.specs.{Reads, as_written};
 
 use crate::read::description::{optional_description, sees_described_name};
 use crate::read::input::optional_argument_definitions;
@@ -80,11 +73,6 @@ pub fn optional_fields<S: TokenSource>(
     ensures kept { kept (S.items source.new) ≡ kept (S.items source.old) }
     ensures within { OnOk result (length (S.items source.new).tokens ≤ length (S.items source.old).tokens) }
 {
-    optional_list::<S, FieldList>(
-        alloc,
-        source,
-        Punctuator::OpenBrace,
-        Punctuator::CloseBrace,
-        fields,
-    )
+    let (open, close) = (Punctuator::OpenBrace, Punctuator::CloseBrace);
+    optional_list::<S, FieldList>(alloc, source, open, close, fields)
 }

@@ -1,15 +1,9 @@
 //! Arguments of fields and of directives, and fields of input objects.
 ghost use Rattle.std.specs.Prelude.{◌≡◌, ◌≤◌, OnOk, length};
-ghost use Rattle.graphql_grammar.specs.Trees.{Sym, optional};
-ghost use Rattle.graphql_core.specs.Source.{kept};
-ghost use Rattle.graphql_values.specs.steps.Answers.{Adds};
-ghost use Rattle.graphql_schema_tree.specs.Grammar.{input_value_symbol, argument_definitions_symbol, input_fields_symbol};
-ghost use Rattle.graphql_schema_tree.specs.Meanings.{input_value_of, enclosed_of, optional_list_of};
-ghost use Rattle.graphql_schema_tree.specs.Views.{input_value_view};
-ghost use Rattle.graphql_schema_tree.specs.Tree.{InputValueTree};
-ghost use Rattle.graphql_schema_tree.specs.Language.{schemas};
-ghost use Rattle.graphql_values.specs.Language.{reading};
-ghost use Rattle.graphql_schema.specs.steps.Reads.{Reads, as_written};
+ghost use Rattle.graphql_values.specs.{Sym, optional, kept, Adds, reading, enclosed_of, optional_list_of};
+ghost use Rattle.graphql_schema_tree.specs.{input_value_symbol, argument_definitions_symbol, input_fields_symbol, input_value_of, input_value_view};
+ghost use Rattle.graphql_schema_tree.specs.{InputValueTree, schemas};
+ghost use Rattle.graphql_schema.specs.{Reads, as_written};
 
 use crate::read::description::{optional_description, sees_described_name};
 use graphql_core::helpers::{Punctuator, ReadError, TokenSource, expect_name, expect_punctuator};
@@ -79,13 +73,8 @@ pub fn optional_argument_definitions<S: TokenSource>(
     ensures kept { kept (S.items source.new) ≡ kept (S.items source.old) }
     ensures within { OnOk result (length (S.items source.new).tokens ≤ length (S.items source.old).tokens) }
 {
-    optional_list::<S, InputValueList>(
-        alloc,
-        source,
-        Punctuator::OpenParen,
-        Punctuator::CloseParen,
-        values,
-    )
+    let (open, close) = (Punctuator::OpenParen, Punctuator::CloseParen);
+    optional_list::<S, InputValueList>(alloc, source, open, close, values)
 }
 
 /// `InputFields?`, `InputFields = "{" InputValue+ "}"`
@@ -99,11 +88,6 @@ pub fn optional_input_fields<S: TokenSource>(
     ensures kept { kept (S.items source.new) ≡ kept (S.items source.old) }
     ensures within { OnOk result (length (S.items source.new).tokens ≤ length (S.items source.old).tokens) }
 {
-    optional_list::<S, InputValueList>(
-        alloc,
-        source,
-        Punctuator::OpenBrace,
-        Punctuator::CloseBrace,
-        fields,
-    )
+    let (open, close) = (Punctuator::OpenBrace, Punctuator::CloseBrace);
+    optional_list::<S, InputValueList>(alloc, source, open, close, fields)
 }

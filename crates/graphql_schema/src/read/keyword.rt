@@ -1,9 +1,7 @@
 //! The keywords with which definitions begin.
 ghost use Rattle.std.specs.Prelude.{◌≡◌};
-ghost use Rattle.graphql_grammar.specs.Trees.{peek};
-ghost use Rattle.graphql_grammar.specs.Reading.{sees};
-ghost use Rattle.graphql_core.specs.Source.{lexeme_token};
-ghost use Rattle.graphql_schema.specs.steps.Keywords.{kind_word, has_interfaces, keywords, TellsToken, Tells};
+ghost use Rattle.graphql_values.specs.{peek, sees, lexeme_token};
+ghost use Rattle.graphql_schema.specs.{kind_word, has_interfaces, keywords, TellsToken, Tells};
 
 use graphql_core::helpers::{Lexeme, TokenSource};
 use graphql_core::tokenizer::Kind;

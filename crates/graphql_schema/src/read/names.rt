@@ -1,15 +1,9 @@
 //! Names with a mark between two of them: interfaces of a type, and members of a union.
 ghost use Rattle.std.specs.Prelude.{◌≡◌, ◌≤◌, OnOk, [], ◌∷◌, length, codes};
-ghost use Rattle.graphql_grammar.specs.Trees.{Then, Sym, optional};
-ghost use Rattle.graphql_core.specs.Source.{kept};
-ghost use Rattle.graphql_core.specs.steps.Punctuators.{spelling_of};
+ghost use Rattle.graphql_values.specs.{Then, Sym, optional, kept, spelling_of, punctuator, spelling_at, Adds, Shortens, joined_of, marked_of, optional_list_of};
+ghost use Rattle.graphql_schema_tree.specs.{joined_by, implements_symbol, members_symbol, interfaces_of, members_of};
+ghost use Rattle.graphql_schema.specs.{Reads};
 ghost use Rattle.graphql_values.specs.Grammar as shared;
-ghost use Rattle.graphql_values.specs.Grammar.{punctuator};
-ghost use Rattle.graphql_values.specs.Meanings.{spelling_at};
-ghost use Rattle.graphql_values.specs.steps.Answers.{Adds, Shortens};
-ghost use Rattle.graphql_schema_tree.specs.Grammar.{joined_by, implements_symbol, members_symbol};
-ghost use Rattle.graphql_schema_tree.specs.Meanings.{joined_of, marked_of, interfaces_of, members_of, optional_list_of};
-ghost use Rattle.graphql_schema.specs.steps.Reads.{Reads};
 
 use graphql_core::common::Names;
 use graphql_core::helpers::{
@@ -75,23 +69,7 @@ fn joined_names<S: TokenSource>(
     Ok(())
 }
 
-/// `Implements = "implements" "&"? Name ("&" Name)*`
-#[tactic(auto, using(graphql_values::proofs::Reading::reading))]
-fn implements<S: TokenSource>(
-    alloc: Global,
-    source: &mut S,
-    names: &mut Vec<<S::Names as Names>::Value>,
-) -> Result<(), ReadError>
-    ensures reads { Reads (Sym implements_symbol) (S.items source.old) (S.items source.new)
-        (λ v x. Adds S.Names.bytes names.old.items names.new.items (interfaces_of x)) result }
-    ensures kept { kept (S.items source.new) ≡ kept (S.items source.old) }
-    ensures shorter { Shortens (S.items source.old) (S.items source.new) result }
-{
-    expect_keyword(source, "implements")?;
-    joined_names(alloc, source, Punctuator::Ampersand, names)
-}
-
-/// `Implements?`
+/// `Implements?`, `Implements = "implements" "&"? Name ("&" Name)*`
 #[tactic(auto, using(graphql_values::proofs::Reading::reading))]
 pub fn optional_implements<S: TokenSource>(
     alloc: Global,
@@ -106,26 +84,11 @@ pub fn optional_implements<S: TokenSource>(
     if !sees_keyword(source, "implements") {
         return Ok(());
     }
-    implements(alloc, source, names)
+    expect_keyword(source, "implements")?;
+    joined_names(alloc, source, Punctuator::Ampersand, names)
 }
 
-/// `Members = "=" "|"? Name ("|" Name)*`
-#[tactic(auto, using(graphql_values::proofs::Reading::reading))]
-fn members<S: TokenSource>(
-    alloc: Global,
-    source: &mut S,
-    names: &mut Vec<<S::Names as Names>::Value>,
-) -> Result<(), ReadError>
-    ensures reads { Reads (Sym members_symbol) (S.items source.old) (S.items source.new)
-        (λ v x. Adds S.Names.bytes names.old.items names.new.items (members_of x)) result }
-    ensures kept { kept (S.items source.new) ≡ kept (S.items source.old) }
-    ensures shorter { Shortens (S.items source.old) (S.items source.new) result }
-{
-    expect_punctuator(source, Punctuator::Equals)?;
-    joined_names(alloc, source, Punctuator::Pipe, names)
-}
-
-/// `Members?`
+/// `Members?`, `Members = "=" "|"? Name ("|" Name)*`
 #[tactic(auto, using(graphql_values::proofs::Reading::reading))]
 pub fn optional_members<S: TokenSource>(
     alloc: Global,
@@ -140,5 +103,6 @@ pub fn optional_members<S: TokenSource>(
     if !source.sees_punctuator(Punctuator::Equals) {
         return Ok(());
     }
-    members(alloc, source, names)
+    expect_punctuator(source, Punctuator::Equals)?;
+    joined_names(alloc, source, Punctuator::Pipe, names)
 }

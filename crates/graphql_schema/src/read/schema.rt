@@ -1,15 +1,9 @@
 //! Which types the operations have: schemas, and extensions of them.
 ghost use Rattle.std.specs.Prelude.{◌≡◌, ◌≤◌, IfOk, OnOk, List, [], ◌∷◌, ◌++◌, length};
-ghost use Rattle.graphql_grammar.specs.Trees.{Sym, Many, First, optional};
-ghost use Rattle.graphql_core.specs.Source.{kept};
-ghost use Rattle.graphql_values.specs.steps.Answers.{Shortens};
-ghost use Rattle.graphql_schema_tree.specs.Grammar.{schema_symbol, root_type_symbol, schema_extension_symbol, roots_symbol};
-ghost use Rattle.graphql_schema_tree.specs.Meanings.{schema_of, schema_extension_of, root_of, each_of};
-ghost use Rattle.graphql_schema_tree.specs.Roots.{roots_of, roots_in};
-ghost use Rattle.graphql_schema_tree.specs.Views.{schema_view, schema_extension_view};
-ghost use Rattle.graphql_schema.specs.steps.Reads.{Reads};
-ghost use Rattle.graphql_schema.specs.steps.Refusals.{ReadsNode};
-ghost use Rattle.graphql_schema.specs.steps.Roots.{Root, root_at, AreRoots, HasRoots, Fills};
+ghost use Rattle.graphql_values.specs.{enclosed_of, Sym, Many, optional, kept, Shortens, each_of};
+ghost use Rattle.graphql_schema_tree.specs.{Root, root_at, schema_symbol, root_type_symbol, schema_extension_symbol, roots_symbol, schema_of};
+ghost use Rattle.graphql_schema_tree.specs.{schema_extension_of, roots_of, roots_in, schema_view, schema_extension_view};
+ghost use Rattle.graphql_schema.specs.{Reads, ReadsNode, HasRoots, Fills};
 
 use crate::read::invalid_node::InvalidNode;
 use graphql_core::common::{Cause, Names};
@@ -118,7 +112,7 @@ fn root_types<S: TokenSource>(
     roots: &mut Roots<S::Names>,
 ) -> Result<(), ReadError>
     ensures reads { Reads (Many (Sym root_type_symbol)) (S.items source.old) (S.items source.new)
-        (λ v x. (rs : List Root) → HasRoots S.Names.bytes roots.old rs → HasRoots S.Names.bytes roots.new (rs ++ each_of root_at x)) result }
+        (λ v x. (rs : List Root) → HasRoots S.Names.bytes roots.old rs → HasRoots S.Names.bytes roots.new (rs ++ roots_of x)) result }
     ensures kept { kept (S.items source.new) ≡ kept (S.items source.old) }
     ensures within { OnOk result (length (S.items source.new).tokens ≤ length (S.items source.old).tokens) }
 {
@@ -165,40 +159,26 @@ pub fn schema_definition<S: TokenSource>(
     }
 }
 
-/// `Roots = "{" RootType+ "}"`
-#[tactic(auto, using(graphql_values::proofs::Reading::reading))]
-fn enclosed_roots<S: TokenSource>(
-    alloc: Global,
-    source: &mut S,
-) -> Result<Roots<S::Names>, ReadError>
-    ensures reads { Reads (Sym roots_symbol) (S.items source.old) (S.items source.new)
-        (λ v x. AreRoots S.Names.bytes v (roots_of (roots_in (First x))) (λ word. root_of word (roots_in (First x)))) result }
-    ensures kept { kept (S.items source.new) ≡ kept (S.items source.old) }
-    ensures shorter { Shortens (S.items source.old) (S.items source.new) result }
-{
-    let mut roots = no_roots::<S::Names>();
-    expect_punctuator(source, Punctuator::OpenBrace)?;
-    root_type(alloc, source, &mut roots)?;
-    root_types(alloc, source, &mut roots)?;
-    expect_punctuator(source, Punctuator::CloseBrace)?;
-    Ok(roots)
-}
-
-/// `Roots?`
+/// `Roots?`, `Roots = "{" RootType+ "}"`
 #[tactic(auto, using(graphql_values::proofs::Reading::reading))]
 fn optional_roots<S: TokenSource>(
     alloc: Global,
     source: &mut S,
 ) -> Result<Roots<S::Names>, ReadError>
     ensures reads { Reads (optional (Sym roots_symbol)) (S.items source.old) (S.items source.new)
-        (λ v x. AreRoots S.Names.bytes v (roots_of (roots_in x)) (λ word. root_of word (roots_in x))) result }
+        (λ v x. HasRoots S.Names.bytes v (roots_in x)) result }
     ensures kept { kept (S.items source.new) ≡ kept (S.items source.old) }
     ensures within { OnOk result (length (S.items source.new).tokens ≤ length (S.items source.old).tokens) }
 {
+    let mut roots = no_roots::<S::Names>();
     if !source.sees_punctuator(Punctuator::OpenBrace) {
-        return Ok(no_roots::<S::Names>());
+        return Ok(roots);
     }
-    enclosed_roots(alloc, source)
+    expect_punctuator(source, Punctuator::OpenBrace)?;
+    root_type(alloc, source, &mut roots)?;
+    root_types(alloc, source, &mut roots)?;
+    expect_punctuator(source, Punctuator::CloseBrace)?;
+    Ok(roots)
 }
 
 /// `SchemaExt = "schema" Directives Roots?`, of which each name may stand there.

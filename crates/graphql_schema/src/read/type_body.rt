@@ -1,8 +1,7 @@
 //! What a type's definition and its extension both have.
 ghost use Rattle.std.specs.Prelude.{◌≡◌, option_map, string_bytes};
-ghost use Rattle.graphql_schema_tree.specs.Tree.{type_definition, extension, adds};
-ghost use Rattle.graphql_schema_tree.specs.Views.{type_definition_view, type_extension_view};
-ghost use Rattle.graphql_schema.specs.steps.TypeBodies.{type_body_view};
+ghost use Rattle.graphql_schema_tree.specs.{type_definition, extension, adds, type_definition_view, type_extension_view};
+ghost use Rattle.graphql_schema.specs.{type_body_view};
 
 use graphql_core::common::Names;
 use graphql_core::position::Pos;

@@ -1,12 +1,8 @@
 //! The bodies of types: what stands after `extend`, or after a description.
 ghost use Rattle.std.specs.Prelude.{◌≡◌, ◌≤◌, OnOk, length, map};
-ghost use Rattle.graphql_grammar.specs.Trees.{Sym};
-ghost use Rattle.graphql_core.specs.Source.{kept};
-ghost use Rattle.graphql_values.specs.steps.Answers.{Adds, Shortens};
-ghost use Rattle.graphql_schema_tree.specs.Meanings.{interfaces_of, optional_list_of};
-ghost use Rattle.graphql_schema.specs.steps.Keywords.{has_interfaces};
-ghost use Rattle.graphql_schema.specs.steps.Reads.{Reads};
-ghost use Rattle.graphql_schema.specs.steps.TypeBodies.{symbol_of, means, interfaces_rule, parts_rule, parts_of, parts_view, type_body_view};
+ghost use Rattle.graphql_values.specs.{Sym, kept, Adds, Shortens, optional_list_of};
+ghost use Rattle.graphql_schema_tree.specs.{interfaces_of};
+ghost use Rattle.graphql_schema.specs.{has_interfaces, Reads, symbol_of, means, interfaces_rule, parts_rule, parts_of, parts_view, type_body_view};
 
 use crate::read::enums::optional_enum_values;
 use crate::read::field::optional_fields;

@@ -4,8 +4,8 @@ use Rattle.graphql_schema_tree.specs.Tree.{PartsTree, scalar, union, BodyTree, D
 use Rattle.graphql_schema_tree.specs.Views.{body_view, object_parts, interface_parts, enum_parts, input_parts}
 use Rattle.graphql_schema_tree.specs.declared.print.body.Body.{Body}
 use Rattle.graphql_schema_tree.specs.declared.print.body.Outline.{Outline}
-use Rattle.graphql_schema_tree.specs.declared.print.body.Outline.TheVariants as outlines
 use Rattle.graphql_schema_tree.specs.declared.print.parts.Parts.{Parts}
+use Rattle.graphql_schema_tree.specs.declared.print.body.Outline.TheVariants as outlines
 use Rattle.graphql_schema_tree.specs.declared.print.parts.Parts.TheVariants as parts
 
 module _ {N T : Type 0} (bytes : T → List ℕ) where

@@ -1,9 +1,7 @@
 //! Lines in braces.
 ghost use Rattle.std.specs.Prelude.{◌≡◌, ◌+◌, ◌-◌, ◌*◌, ◌^◌, ◌<◌, OnOk, min};
-ghost use Rattle.std.specs.List.{AllByRecursion};
-ghost use Rattle.graphql_core.specs.Parts.{text_of};
-ghost use Rattle.graphql_schema_tree.specs.Layout.{block_layout};
-ghost use Rattle.graphql_values.specs.TreeDepth.{most_enclosed};
+ghost use Rattle.graphql_values.specs.{text_of, AllByRecursion, most_enclosed};
+ghost use Rattle.graphql_schema_tree.specs.{block_layout};
 
 use graphql_core::format::{Sink, Style};
 use graphql_values::print::{Pretty, levels_in_each, write_each, write_spaces};

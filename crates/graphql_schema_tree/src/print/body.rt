@@ -1,9 +1,7 @@
 //! What a type and its extension both have: a keyword, a name, directives and parts.
 ghost use Rattle.std.specs.Prelude.{◌≡◌};
-ghost use Rattle.graphql_schema_tree.specs.Lawful.{IsLawfulBody, IsLawfulDefinition};
-ghost use Rattle.graphql_schema_tree.specs.Layout.{body_layout, body_levels, definition_layout, definition_levels};
-ghost use Rattle.graphql_schema_tree.specs.Views.{body_view};
-ghost use Rattle.graphql_schema_tree.specs.steps.Body.{parts_seen, body_seen, outline_seen};
+ghost use Rattle.graphql_schema_tree.specs.{IsLawfulBody, IsLawfulDefinition, body_layout, body_levels, definition_layout, definition_levels, body_view};
+ghost use Rattle.graphql_schema_tree.specs.{parts_seen, body_seen, outline_seen};
 
 use crate::print::description::{levels_in_description, write_description};
 use crate::print::names::write_interfaces;
@@ -25,25 +23,6 @@ pub struct Body<'a, N: Names> {
     pub directives: &'a [Directive<N>],
     /// The rest, by the kind of the type.
     pub parts: Parts<'a, N>,
-}
-
-impl<'a, N: Names> Body<'a, N> {
-    /// The body of this position, name, directives and parts.
-    pub fn new(
-        position: Pos,
-        name: &'a N::Value,
-        directives: &'a [Directive<N>],
-        parts: Parts<'a, N>,
-    ) -> Body<'a, N>
-        ensures { body_seen N.bytes result ≡ body_view N.bytes position name.now directives.now (parts_seen N.bytes parts.entry) }
-    {
-        Body {
-            position,
-            name,
-            directives,
-            parts,
-        }
-    }
 }
 
 impl<'a, N: Names> Pretty for Body<'a, N> {

@@ -1,9 +1,6 @@
 //! Directives, definitions and documents.
-ghost use Rattle.graphql_schema_tree.specs.Lawful.{IsLawfulDefinition, IsLawfulDocument};
-ghost use Rattle.graphql_schema_tree.specs.Layout.{definition_layout, document_layout};
-ghost use Rattle.graphql_schema_tree.specs.Layout.{definition_levels, levels};
-ghost use Rattle.graphql_schema_tree.specs.Tree.{directive};
-ghost use Rattle.graphql_schema_tree.specs.Views.{directive_definition_view, definition_view, document_view};
+ghost use Rattle.graphql_schema_tree.specs.{IsLawfulDefinition, IsLawfulDocument, definition_layout, document_layout, definition_levels, levels, directive};
+ghost use Rattle.graphql_schema_tree.specs.{directive_definition_view, definition_view, document_view};
 
 use crate::print::description::{levels_in_description, write_description};
 use crate::print::field::write_arguments;

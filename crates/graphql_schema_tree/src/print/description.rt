@@ -1,8 +1,7 @@
 //! Descriptions: above what they describe, or in its line.
 ghost use Rattle.std.specs.Prelude.{◌≡◌, ◌+◌, ◌*◌, ◌^◌, ◌<◌, OnOk, option_map, string_bytes};
-ghost use Rattle.graphql_core.specs.Parts.{text_of};
-ghost use Rattle.graphql_schema_tree.specs.Layout.{description_layout, inline_layout};
-ghost use Rattle.graphql_values.specs.ValueLayout.{description_levels};
+ghost use Rattle.graphql_values.specs.{text_of, description_levels};
+ghost use Rattle.graphql_schema_tree.specs.{description_layout, inline_layout};
 
 use graphql_core::format::{Sink, Style};
 use graphql_values::print::{levels_in_string, write_spaces, write_string};

@@ -1,11 +1,8 @@
 //! Display of documents, their definitions and types: the text in the default style, unless that is too wide.
 ghost use Rattle.std.specs.Prelude.{Some, OnOk};
-ghost use Rattle.std.specs.Fmt.{DisplaysOnOk, DisplaysStyledOnOk};
-ghost use Rattle.graphql_core.specs.Style.{default_style};
-ghost use Rattle.graphql_values.specs.ValueLayout.{IsNarrow};
-ghost use Rattle.graphql_schema_tree.specs.Layout.{layout, shown, levels, definition_levels};
-ghost use Rattle.graphql_schema_tree.specs.Views.{document_view, definition_view, schema_definition_view, type_definition_view};
-ghost use Rattle.graphql_schema_tree.specs.Views.{scalar_view, object_view, interface_view, union_view, enum_view, input_view};
+ghost use Rattle.graphql_values.specs.{DisplaysOnOk, DisplaysStyledOnOk, default_style, IsNarrow};
+ghost use Rattle.graphql_schema_tree.specs.{layout, shown, levels, definition_levels, document_view, definition_view, schema_definition_view};
+ghost use Rattle.graphql_schema_tree.specs.{type_definition_view, scalar_view, object_view, interface_view, union_view, enum_view, input_view};
 
 mod parts;
 

@@ -1,12 +1,9 @@
 //! Fields, arguments, and the values of enums.
 ghost use Rattle.std.specs.Prelude.{◌≡◌, ◌+◌, ◌*◌, ◌^◌, ◌<◌, OnOk, map};
-ghost use Rattle.std.specs.List.{AllByRecursion};
-ghost use Rattle.graphql_core.specs.Parts.{text_of};
-ghost use Rattle.graphql_schema_tree.specs.Lawful.{IsLawfulInputValue, IsLawfulField, IsLawfulEnumValue};
-ghost use Rattle.graphql_schema_tree.specs.Layout.{arguments_layout, input_value_layout, field_layout, enum_value_layout};
-ghost use Rattle.graphql_schema_tree.specs.Layout.{input_value_levels, field_levels, enum_value_levels};
-ghost use Rattle.graphql_schema_tree.specs.Views.{input_value_view, field_view, enum_value_view};
-ghost use Rattle.graphql_values.specs.TreeDepth.{most};
+ghost use Rattle.graphql_values.specs.{text_of, AllByRecursion, most};
+ghost use Rattle.graphql_schema_tree.specs.{IsLawfulInputValue, IsLawfulField, IsLawfulEnumValue, arguments_layout, input_value_layout, field_layout};
+ghost use Rattle.graphql_schema_tree.specs.{enum_value_layout, input_value_levels, field_levels, enum_value_levels, input_value_view, field_view};
+ghost use Rattle.graphql_schema_tree.specs.{enum_value_view};
 
 use crate::print::description::{
     levels_in_description, write_description, write_inline_description,

@@ -1,8 +1,7 @@
 //! Lists of names: interfaces, members of unions, locations.
 ghost use Rattle.std.specs.Prelude.{◌≡◌, OnOk, List, map};
-ghost use Rattle.graphql_core.specs.Parts.{text_of};
-ghost use Rattle.graphql_schema_tree.specs.Layout.{between, joined_names, interfaces_layout, members_layout, locations_layout, repeatable_layout};
-ghost use Rattle.graphql_schema_tree.specs.Locations.{word_of};
+ghost use Rattle.graphql_values.specs.{text_of};
+ghost use Rattle.graphql_schema_tree.specs.{between, joined_names, interfaces_layout, members_layout, locations_layout, repeatable_layout, word_of};
 
 use crate::location::DirectiveLocation;
 use graphql_core::common::Names;

@@ -1,12 +1,8 @@
 //! What a type consists of, which its extension consists of too.
 ghost use Rattle.std.specs.Prelude.{◌≡◌, ◌++◌, ◌*◌, ◌+◌, ◌^◌, ◌<◌, OnOk, codes, map};
-ghost use Rattle.std.specs.List.{AllByRecursion, flat_map};
-ghost use Rattle.graphql_core.specs.Parts.{text_of};
-ghost use Rattle.graphql_values.specs.TreeDepth.{most, most_enclosed};
-ghost use Rattle.graphql_schema_tree.specs.Lawful.{AreLawfulParts, IsLawfulInputValue};
-ghost use Rattle.graphql_schema_tree.specs.Layout.{keyword, interfaces, parts_layout, parts_levels, block_layout, input_field_layout, input_value_levels};
-ghost use Rattle.graphql_schema_tree.specs.Views.{input_value_view};
-ghost use Rattle.graphql_schema_tree.specs.steps.Body.{parts_seen};
+ghost use Rattle.graphql_values.specs.{text_of, AllByRecursion, flat_map, most, most_enclosed};
+ghost use Rattle.graphql_schema_tree.specs.{AreLawfulParts, IsLawfulInputValue, keyword, interfaces, parts_layout, parts_levels, block_layout};
+ghost use Rattle.graphql_schema_tree.specs.{input_field_layout, input_value_levels, input_value_view, parts_seen};
 
 use crate::print::block::{levels_in_block, write_block};
 use crate::print::names::write_members;

@@ -1,10 +1,8 @@
 //! Schemas, and extensions of them.
 ghost use Rattle.std.specs.Prelude.{◌≡◌, OnOk, option_map};
-ghost use Rattle.graphql_core.specs.Parts.{text_of};
-ghost use Rattle.graphql_schema_tree.specs.Lawful.{IsLawfulDefinition};
-ghost use Rattle.graphql_schema_tree.specs.Layout.{root_layout, roots_layout, definition_layout, definition_levels};
-ghost use Rattle.graphql_schema_tree.specs.Tree.{schema_extension, has_operation};
-ghost use Rattle.graphql_schema_tree.specs.Views.{schema_definition_view, schema_extension_view};
+ghost use Rattle.graphql_values.specs.{text_of};
+ghost use Rattle.graphql_schema_tree.specs.{IsLawfulDefinition, root_layout, roots_layout, definition_layout, definition_levels, schema_extension};
+ghost use Rattle.graphql_schema_tree.specs.{has_operation, schema_definition_view, schema_extension_view};
 
 use crate::print::description::{levels_in_description, write_description};
 use crate::tree::{SchemaDefinition, SchemaExtension};

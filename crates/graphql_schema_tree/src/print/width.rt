@@ -1,8 +1,6 @@
 //! Whether a document is too wide, without a look at it where none is.
 ghost use Rattle.std.specs.Prelude.{◌↔◌, IsTrue};
-ghost use Rattle.graphql_schema_tree.specs.Layout.{IsTooWide};
-ghost use Rattle.graphql_schema_tree.specs.Tree.{DocumentTree};
-ghost use Rattle.graphql_schema_tree.specs.Views.{document_view};
+ghost use Rattle.graphql_schema_tree.specs.{IsTooWide, DocumentTree, document_view};
 
 use crate::tree::Document;
 use graphql_core::common::Names;

@@ -1,11 +1,10 @@
 //! Trees that have a name alone, and trees that are empty.
 ghost use Rattle.std.specs.Prelude.{◌≡◌, [], ◌∷◌, None};
-ghost use Rattle.graphql_schema_tree.specs.Tree.{object, interface, union, enum, input, scalar, bare, bare_enum_value, bare_directive, empty_schema};
-ghost use Rattle.graphql_schema_tree.specs.Tree.{schema, type_definition, extension};
-ghost use Rattle.graphql_schema_tree.specs.Views.{scalar_view, object_view, interface_view, union_view, enum_view, input_view};
-ghost use Rattle.graphql_schema_tree.specs.Views.{scalar_extension_view, object_extension_view, interface_extension_view, union_extension_view};
-ghost use Rattle.graphql_schema_tree.specs.Views.{enum_extension_view, input_extension_view, enum_value_view, directive_definition_view};
-ghost use Rattle.graphql_schema_tree.specs.Views.{schema_definition_view, schema_extension_view, document_view};
+ghost use Rattle.graphql_schema_tree.specs.{object, interface, union, enum, input, scalar, bare, bare_enum_value, bare_directive, empty_schema, schema};
+ghost use Rattle.graphql_schema_tree.specs.{type_definition, extension, scalar_view, object_view, interface_view, union_view, enum_view, input_view};
+ghost use Rattle.graphql_schema_tree.specs.{scalar_extension_view, object_extension_view, interface_extension_view, union_extension_view, enum_extension_view};
+ghost use Rattle.graphql_schema_tree.specs.{input_extension_view, enum_value_view, directive_definition_view, schema_definition_view, schema_extension_view};
+ghost use Rattle.graphql_schema_tree.specs.{document_view};
 
 use crate::tree::{
     DirectiveDefinition, Document, EnumType, EnumTypeExtension, EnumValue, InputObjectType,

@@ -1,13 +1,9 @@
 -- What a reader answered, and where it left its source. The same words serve every grammar.
 use Rattle.std.specs.Prelude.{◌≡◌, ◌<◌, List, ◌++◌, map, length, Result, Ok, Err, OnOk, Option, Some, None}
-use Rattle.graphql_grammar.specs.Tokens.{Token}
-use Rattle.graphql_grammar.specs.Trees.{Expr, Shape, Grammar}
-use Rattle.graphql_grammar.specs.Reading.{Reason, Unexpected, Improper}
-use Rattle.graphql_grammar.specs.ReaderWords.{TakesSome, Stops}
+use Rattle.graphql_grammar.specs.{TakesSome, Stops}
+use Rattle.graphql_core.specs.{Token, Expr, Shape, Grammar, Reason, Unexpected, Improper, IntValue, FloatValue, StringValue, Items}
 use Rattle.graphql_core.specs.declared.helpers.read_error.ReadError.{ReadError}
 use Rattle.graphql_core.specs.declared.helpers.read_error.ReadError.TheVariants.{Memory, Item, Integer, Float, Escape, Location}
-use Rattle.graphql_lexer.specs.declared.tokenizer.token.Kind.TheVariants.{IntValue, FloatValue, StringValue}
-use Rattle.graphql_core.specs.Source.{Items}
 use Rattle.graphql_values.specs.Grammar.{any, location_class}
 
 -- the theory's reason for which a reader stopped; none where an allocation failed

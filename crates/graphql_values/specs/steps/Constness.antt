@@ -1,8 +1,6 @@
 -- Values and constants: what may stand in the lists and objects of either.
 use Rattle.std.specs.Prelude.{ℕ, List, Bool, false, codes}
-use Rattle.graphql_grammar.specs.Trees.{Expr, Then, Many, Sym, Shape, First, Second, Node}
-use Rattle.graphql_core.specs.Source.{Items}
-use Rattle.graphql_core.specs.steps.Matching.{sees_class}
+use Rattle.graphql_core.specs.{Expr, Then, Many, Sym, Shape, First, Second, Node, Items, sees_class}
 use Rattle.graphql_values.specs.declared.read.values.Sort.{Sort}
 use Rattle.graphql_values.specs.declared.read.values.Sort.TheVariants.{Value, Constant}
 use Rattle.graphql_values.specs.Grammar.{punctuator, name, mark, value_symbol, const_symbol, argument_symbol, const_pair_symbol}

@@ -1,6 +1,6 @@
 -- Texts with a separator between two.
 use Rattle.std.specs.Prelude.{ℕ, List, [], ◌∷◌, ◌++◌}
-use Rattle.std.specs.List.{flat_map}
+use Rattle.graphql_core.specs.{flat_map}
 
 abbrev pub joined : List ℕ → List (List ℕ) → List ℕ
 joined separator [] = []

@@ -1,13 +1,10 @@
 -- The next token as a leaf.
 use Rattle.std.specs.Prelude.{◌≡◌, ℕ, true, false, if◌then◌else◌, List, ◌∷◌, drop, codes, Result, Ok, Err}
-use Rattle.graphql_grammar.specs.Tokens.{same_spelling}
+use Rattle.graphql_core.specs.{same_spelling, Kind, Items, IsLexeme, lexeme_token, TakesOne}
 use Rattle.graphql_core.specs.declared.helpers.read_error.ReadError.{ReadError}
 use Rattle.graphql_core.specs.declared.helpers.source.Lexeme.{Lexeme}
-use Rattle.graphql_lexer.specs.declared.tokenizer.token.Kind.{Kind}
-use Rattle.graphql_core.specs.Source.{Items, IsLexeme, lexeme_token}
-use Rattle.graphql_core.specs.steps.Matching.{TakesOne}
+use Rattle.graphql_values.specs.Values.{enum, ValueTree, boolean, null}
 use Rattle.graphql_values.specs.Grammar.{any}
-use Rattle.graphql_values.specs.Values.{ValueTree, boolean, null, enum}
 
 -- the next item is this token, of this kind
 pub record IsNext {T : Type 0} (bytes : T → List ℕ) (k : Kind) (i : Items) (t : Lexeme T) : Type 0 where

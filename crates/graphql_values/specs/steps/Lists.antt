@@ -1,10 +1,7 @@
 -- Lists whose elements stand one after the other.
 use Rattle.std.specs.Prelude.{◌≡◌, ℕ, true, false, List, [], ◌∷◌}
-use Rattle.graphql_grammar.specs.Tokens.{Token, Class}
-use Rattle.graphql_grammar.specs.Trees.{Expr, One, Then, Many, Sym, Shape, Nothing, Leaf, Both, First, Second, Node, Grammar, row, some_of}
-use Rattle.graphql_grammar.specs.Tables.{nullable, first}
-use Rattle.graphql_grammar.specs.Reading.{Takes}
-use Rattle.graphql_grammar.specs.ReaderWords.{values}
+use Rattle.graphql_grammar.specs.{nullable, first, values, Takes}
+use Rattle.graphql_core.specs.{Token, Class, Expr, One, Then, Many, Sym, Shape, Nothing, Leaf, Both, First, Second, Node, Grammar, row, some_of}
 
 -- what the turns of a repetition mean, where f is what one means
 abbrev pub each : {A : Type 0} → (Shape → A) → Shape → List A

@@ -1,10 +1,7 @@
 //! Strings in block form.
 ghost use Rattle.std.specs.Prelude.{◌≡◌, not, ◌&&◌, ◌||◌, ◌==◌, OnOk};
-ghost use Rattle.std.specs.List.{list_all, list_any};
-ghost use Rattle.std.specs.Str.{chars};
-ghost use Rattle.graphql_core.specs.BlockStrings.{is_blank};
+ghost use Rattle.graphql_values.specs.{list_all, list_any, chars, is_blank, is_block_byte};
 ghost use Rattle.graphql_values.specs.ValueLayout as spec;
-ghost use Rattle.graphql_values.specs.steps.BlockBytes.{is_block_byte};
 
 use crate::print::spaces::write_spaces;
 use graphql_core::common::strings::{ESCAPED_QUOTES, QUOTES, is_blank, is_white};

@@ -1,10 +1,6 @@
 //! Default values.
 ghost use Rattle.std.specs.Prelude.{◌≡◌, ◌+◌, ◌-◌, ◌*◌, ◌^◌, ◌<◌, OnOk, min, option_map};
-ghost use Rattle.std.specs.Option.{IfSome};
-ghost use Rattle.graphql_core.specs.Parts.{text_of};
-ghost use Rattle.graphql_values.specs.Lawful.{IsLawful};
-ghost use Rattle.graphql_values.specs.Lines.{default_layout, default_levels};
-ghost use Rattle.graphql_values.specs.ValueViews.{value_view};
+ghost use Rattle.graphql_values.specs.{text_of, IfSome, IsLawful, default_layout, default_levels, value_view};
 
 use crate::print::levels::levels_in_value;
 use crate::print::values::write_value;

@@ -1,9 +1,7 @@
 //! Arguments and directives.
 ghost use Rattle.std.specs.Prelude.{◌+◌, ◌*◌, ◌^◌, ◌<◌, OnOk};
-ghost use Rattle.graphql_core.specs.Parts.{text_of};
-ghost use Rattle.graphql_values.specs.Lawful.{AreLawfulArguments, AreLawfulDirectives};
-ghost use Rattle.graphql_values.specs.ValueViews.{arguments_view, directive_view, directives_view};
-ghost use Rattle.graphql_values.specs.ValueLayout.{arguments_layout, arguments_levels, directive_layout, directives_layout, directives_levels};
+ghost use Rattle.graphql_values.specs.{text_of, AreLawfulArguments, AreLawfulDirectives, arguments_view, directive_view, directives_view, arguments_layout};
+ghost use Rattle.graphql_values.specs.{arguments_levels, directive_layout, directives_layout, directives_levels};
 
 use crate::print::enclosed::{inside, write_before_part, write_closer, write_label};
 use crate::print::values::write_value;

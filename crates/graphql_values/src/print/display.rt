@@ -1,10 +1,7 @@
 //! Values, types and directives as texts in the default style.
 ghost use Rattle.std.specs.Prelude.{Some, OnOk};
-ghost use Rattle.std.specs.Fmt.{DisplaysOnOk, DisplaysStyledOnOk};
-ghost use Rattle.graphql_core.specs.Parts.{text_of};
-ghost use Rattle.graphql_core.specs.Style.{default_style};
-ghost use Rattle.graphql_values.specs.ValueViews.{value_view, type_view, directive_view};
-ghost use Rattle.graphql_values.specs.ValueLayout.{value_layout, type_layout, directive_layout, value_levels, arguments_levels, IsNarrow};
+ghost use Rattle.graphql_values.specs.{text_of, DisplaysOnOk, DisplaysStyledOnOk, default_style, value_view, type_view, directive_view, value_layout};
+ghost use Rattle.graphql_values.specs.{type_layout, directive_layout, value_levels, arguments_levels, IsNarrow};
 
 use crate::print::directives::write_directive;
 use crate::print::levels::{check_width, levels_in_arguments, levels_in_value};

@@ -1,6 +1,7 @@
 //! What stands between an opener, parts and a closer.
 ghost use Rattle.std.specs.Prelude.{◌≡◌, ◌^◌, ◌<◌, ◌++◌, codes, OnOk};
-ghost use Rattle.graphql_core.specs.Parts.{mark, text_of};
+ghost use Rattle.graphql_core.specs.{mark};
+ghost use Rattle.graphql_values.specs.{text_of};
 ghost use Rattle.graphql_values.specs.ValueLayout as spec;
 
 use crate::print::spaces::write_new_line;

@@ -1,6 +1,6 @@
 //! Integers in decimal digits.
 ghost use Rattle.std.specs.Prelude.{◌≡◌, ◌+◌, ◌-◌, ◌/◌, ◌%◌, ◌<◌, ◌≤◌, ◌∷◌, ◌++◌, length, drop, OnOk};
-ghost use Rattle.std.specs.Fmt.{decimal, signed_decimal};
+ghost use Rattle.graphql_values.specs.{decimal, signed_decimal};
 
 use graphql_core::format::Sink;
 use std::str;

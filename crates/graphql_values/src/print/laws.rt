@@ -1,11 +1,8 @@
 //! Laws of the layouts alone.
 ghost use Rattle.std.specs.Prelude.{◌≡◌, ℕ};
-ghost use Rattle.graphql_core.specs.Depths.{deepest};
-ghost use Rattle.graphql_core.specs.Style.{Layout};
+ghost use Rattle.graphql_values.specs.{deepest, Layout, value_brackets, type_brackets, directive_brackets, value_layout, type_layout, directive_layout};
+ghost use Rattle.graphql_values.specs.{ValueTree, TypeTree, DirectiveTree};
 ghost use Rattle.graphql_values.specs.LayoutExamples as example;
-ghost use Rattle.graphql_values.specs.Printable.{value_brackets, type_brackets, directive_brackets};
-ghost use Rattle.graphql_values.specs.ValueLayout.{value_layout, type_layout, directive_layout};
-ghost use Rattle.graphql_values.specs.Values.{ValueTree, TypeTree, DirectiveTree};
 
 /// The brackets counted on a tree are those that are open at once in its layout, in each style.
 pub fn brackets_are_those_of_layouts()

@@ -1,8 +1,7 @@
 //! How many levels a layout opens at once, and whether it is too wide.
 ghost use Rattle.std.specs.Prelude.{◌≡◌, ◌-◌, ◌^◌, ◌↔◌, ℕ, IsTrue, IsErr, min};
-ghost use Rattle.graphql_values.specs.Values.{list, object};
-ghost use Rattle.graphql_values.specs.ValueViews.{value_view, items_view, members_view, arguments_view, directives_view};
-ghost use Rattle.graphql_values.specs.ValueLayout.{IsTooWide, arguments_levels, directives_levels, opened, string_levels, value_levels};
+ghost use Rattle.graphql_values.specs.{object, list, value_view, items_view, members_view, arguments_view, directives_view, IsTooWide, arguments_levels};
+ghost use Rattle.graphql_values.specs.{directives_levels, opened, string_levels, value_levels};
 
 use crate::print::block::has_block_form;
 use crate::tree::{Directive, Value};

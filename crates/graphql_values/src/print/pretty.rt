@@ -1,12 +1,7 @@
 //! Trees that have a layout: alone, one after another, and with a separator between two.
 ghost use Rattle.std.specs.Prelude.{◌≡◌, ℕ, ◌+◌, ◌-◌, ◌*◌, ◌^◌, ◌<◌, Some, None, List, OnOk, min, map};
-ghost use Rattle.std.specs.Fmt.{DisplaysOnOk, DisplaysStyledOnOk};
-ghost use Rattle.std.specs.List.{AllByRecursion, flat_map};
-ghost use Rattle.graphql_core.specs.Parts.{Part, text_of};
-ghost use Rattle.graphql_core.specs.Style.{Layout, default_style};
-ghost use Rattle.graphql_values.specs.TreeDepth.{most};
-ghost use Rattle.graphql_values.specs.ValueLayout.{IsNarrow};
-ghost use Rattle.graphql_values.specs.steps.Joined.{joined};
+ghost use Rattle.graphql_values.specs.{text_of, DisplaysOnOk, DisplaysStyledOnOk, AllByRecursion, flat_map, Part, Layout, default_style, most, IsNarrow};
+ghost use Rattle.graphql_values.specs.{joined};
 
 use crate::print::levels::check_width;
 use graphql_core::format::{Sink, Style};

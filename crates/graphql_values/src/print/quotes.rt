@@ -1,10 +1,8 @@
 //! Strings in quotes.
 ghost use Rattle.std.specs.Prelude.{◌≡◌, ◌<◌, ◌≤◌, false, length, OnOk};
-ghost use Rattle.std.specs.Char.{encode_utf8};
-ghost use Rattle.std.specs.List.{prefix_len};
-ghost use Rattle.std.specs.Str.{IsCharBoundary};
+ghost use Rattle.graphql_core.specs.{encode_utf8};
+ghost use Rattle.graphql_values.specs.{prefix_len, IsCharBoundary, is_unescaped};
 ghost use Rattle.graphql_values.specs.ValueLayout as spec;
-ghost use Rattle.graphql_values.specs.steps.Unescaped.{is_unescaped};
 
 use graphql_core::format::Sink;
 use graphql_lexer::tokenizer::lanes::first_set;
@@ -15,7 +13,7 @@ use std::simd::prelude::*;
 struct Unescaped;
 
 impl Class for Unescaped {
-    ghost use Rattle.graphql_values.specs.steps.Unescaped.{is_unescaped};
+    ghost use Rattle.graphql_values.specs.{is_unescaped};
 
     ghost has = { is_unescaped };
 

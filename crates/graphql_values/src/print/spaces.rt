@@ -1,7 +1,6 @@
 //! Margins.
 ghost use Rattle.std.specs.Prelude.{OnOk};
-ghost use Rattle.graphql_core.specs.Style.{spaces};
-ghost use Rattle.graphql_core.specs.Parts.{new_line, text_of};
+ghost use Rattle.graphql_values.specs.{text_of, spaces, new_line};
 
 use graphql_core::format::Sink;
 

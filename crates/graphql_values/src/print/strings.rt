@@ -1,7 +1,6 @@
 //! Strings, in quotes or in block form.
 ghost use Rattle.std.specs.Prelude.{◌+◌, ◌*◌, ◌^◌, ◌<◌, OnOk};
-ghost use Rattle.graphql_core.specs.Parts.{text_of};
-ghost use Rattle.graphql_values.specs.ValueLayout.{string_layout, string_levels};
+ghost use Rattle.graphql_values.specs.{text_of, string_layout, string_levels};
 
 use crate::print::block::{has_block_form, write_block};
 use crate::print::quotes::write_quoted;

@@ -1,8 +1,6 @@
 //! Types.
 ghost use Rattle.std.specs.Prelude.{OnOk};
-ghost use Rattle.graphql_core.specs.Parts.{text_of};
-ghost use Rattle.graphql_values.specs.ValueViews.{type_view};
-ghost use Rattle.graphql_values.specs.ValueLayout.{type_layout};
+ghost use Rattle.graphql_values.specs.{text_of, type_view, type_layout};
 
 use crate::tree::Type;
 use graphql_core::common::Names;

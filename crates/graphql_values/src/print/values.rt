@@ -1,10 +1,6 @@
 //! Values.
 ghost use Rattle.std.specs.Prelude.{◌+◌, ◌*◌, ◌^◌, ◌<◌, OnOk};
-ghost use Rattle.graphql_core.specs.Parts.{text_of};
-ghost use Rattle.graphql_values.specs.Lawful.{IsLawful, AreLawful};
-ghost use Rattle.graphql_values.specs.Values.{list, object};
-ghost use Rattle.graphql_values.specs.ValueViews.{value_view, items_view, members_view};
-ghost use Rattle.graphql_values.specs.ValueLayout.{value_layout, value_levels};
+ghost use Rattle.graphql_values.specs.{text_of, object, IsLawful, AreLawful, value_view, items_view, members_view, value_layout, value_levels, list};
 
 use crate::print::enclosed::{inside, write_before_part, write_closer, write_label};
 use crate::print::integers::write_integer;

@@ -1,12 +1,8 @@
 //! Arguments, directives and default values.
 ghost use Rattle.std.specs.Prelude.{◌≡◌, ◌≤◌, ℕ, List, OnOk, length, option_map};
-ghost use Rattle.graphql_grammar.specs.Trees.{Sym, optional};
-ghost use Rattle.graphql_values.specs.Grammar.{shared, arguments_symbol, argument_symbol, directive_symbol, directives_symbol, default_symbol};
-ghost use Rattle.graphql_values.specs.Meanings.{argument_of, optional_arguments_of, directive_of, directives_of, default_of, optional_default_of};
-ghost use Rattle.graphql_values.specs.Values.{ValueTree, DirectiveTree};
-ghost use Rattle.graphql_values.specs.ValueViews.{value_view, argument_view, directive_view};
-ghost use Rattle.graphql_core.specs.Source.{kept};
-ghost use Rattle.graphql_values.specs.steps.Answers.{Gives, Adds, Shortens};
+ghost use Rattle.graphql_values.specs.{Sym, optional, shared, arguments_symbol, argument_symbol, directive_symbol, directives_symbol, default_symbol};
+ghost use Rattle.graphql_values.specs.{argument_of, optional_arguments_of, directive_of, directives_of, default_of, optional_default_of, ValueTree};
+ghost use Rattle.graphql_values.specs.{DirectiveTree, value_view, argument_view, directive_view, kept, Gives, Adds, Shortens};
 
 use crate::read::lists::{Elements, read_enclosed, read_many};
 use crate::read::values::{constant, value};

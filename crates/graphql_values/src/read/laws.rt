@@ -1,9 +1,7 @@
 //! Laws of the grammar and its meanings alone.
 ghost use Rattle.std.specs.Prelude.{◌≡◌, ◌<◌, ℕ, true};
-ghost use Rattle.graphql_grammar.specs.Tables.{is_ll1, is_productive};
-ghost use Rattle.graphql_grammar.specs.Theorems.{IsExact};
-ghost use Rattle.graphql_grammar.specs.Trees.{Sym};
-ghost use Rattle.graphql_values.specs.Grammar.{shared, shared_symbols};
+ghost use Rattle.graphql_grammar.specs.{IsExact};
+ghost use Rattle.graphql_values.specs.{is_ll1, is_productive, Sym, shared, shared_symbols};
 ghost use Rattle.graphql_values.specs.MeaningExamples as example;
 
 /// The shared productions can be read with one item of lookahead, each of them derives something, and each is read exactly.

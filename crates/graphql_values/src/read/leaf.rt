@@ -1,15 +1,8 @@
 //! Readers of the values that are one token.
 ghost use Rattle.std.specs.Prelude.{◌≡◌, IfOk, string_bytes};
-ghost use Rattle.graphql_grammar.specs.Tokens.{takes_spelling};
-ghost use Rattle.graphql_grammar.specs.Trees.{One, Sym};
-ghost use Rattle.graphql_lexer.specs.declared.tokenizer.token.Kind.TheVariants.{IntValue, FloatValue, StringValue, BlockString};
-ghost use Rattle.graphql_values.specs.Grammar.{shared, any, enum_class, plain_symbol, enum_name_symbol};
-ghost use Rattle.graphql_core.specs.Source.{kept};
-ghost use Rattle.graphql_values.specs.steps.Answers.{Gives, Shortens};
-ghost use Rattle.graphql_values.specs.steps.Leaf.{Shows, word_of};
-ghost use Rattle.graphql_values.specs.Leaves.{int_of, string_of, block_string_of};
-ghost use Rattle.graphql_values.specs.Meanings.{spelling_at, plain_of, enum_name_of};
-ghost use Rattle.graphql_values.specs.ValueViews.{value_view};
+ghost use Rattle.graphql_values.specs.{takes_spelling, One, Sym, IntValue, FloatValue, StringValue, BlockString, shared, any, enum_class, plain_symbol};
+ghost use Rattle.graphql_values.specs.{enum_name_symbol, kept, Gives, Shortens, Shows, word_of, int_of, string_of, block_string_of, spelling_at, plain_of};
+ghost use Rattle.graphql_values.specs.{enum_name_of, value_view};
 
 use crate::tree::Value;
 use graphql_core::common::{

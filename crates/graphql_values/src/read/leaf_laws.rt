@@ -1,10 +1,8 @@
 //! Laws of the values of leaves: what is found from the front is what the rules say.
 ghost use Rattle.std.specs.Prelude.{◌≡◌, ◌↔◌, ℕ, true, List, Some};
 ghost use Rattle.std.specs.Int.RustNames.{FitsSigned};
-ghost use Rattle.graphql_lexer.specs.Lexical.{is_integer, IsFloat};
-ghost use Rattle.graphql_core.specs.Literals.{IsFloatLiteral};
-ghost use Rattle.graphql_core.specs.Strings.{HasValue};
-ghost use Rattle.graphql_values.specs.Leaves.{int_of, is_in_range, has_whole_exponent, unquoted};
+ghost use Rattle.graphql_lexer.specs.{IsFloat};
+ghost use Rattle.graphql_values.specs.{is_integer, IsFloatLiteral, HasValue, int_of, is_in_range, has_whole_exponent, unquoted};
 ghost use mir.Syntax.{w64};
 
 /// A string's value is what its units stand for, a float has one where it is a literal, and an integer where it is an `i64`.

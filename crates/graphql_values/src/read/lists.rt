@@ -1,10 +1,7 @@
 //! Lists whose elements stand one after the other.
 ghost use Rattle.std.specs.Prelude.{◌≡◌, ◌≤◌, ℕ, List, OnOk, length};
-ghost use Rattle.graphql_grammar.specs.Trees.{Shape, Many, Sym, optional};
-ghost use Rattle.graphql_core.specs.Source.{kept};
-ghost use Rattle.graphql_core.specs.steps.Punctuators.{class_of};
-ghost use Rattle.graphql_values.specs.steps.Answers.{Gives, Adds, Shortens};
-ghost use Rattle.graphql_values.specs.steps.Lists.{each, IsList, IsOption};
+ghost use Rattle.graphql_core.specs.{class_of};
+ghost use Rattle.graphql_values.specs.{Shape, Many, Sym, optional, kept, Gives, Adds, Shortens, each, IsList, IsOption};
 
 use graphql_core::helpers::{Punctuator, ReadError, TokenSource, expect_punctuator, shrink_list};
 use std::alloc::Global;
@@ -12,11 +9,8 @@ use std::alloc::Global;
 /// The elements of a list, one after the other.
 pub trait Elements<S: TokenSource> {
     ghost use Rattle.std.specs.Prelude.{◌≡◌, [], ◌∷◌};
-    ghost use Rattle.graphql_grammar.specs.Trees.{Grammar, Expr, Shape, peek};
-    ghost use Rattle.graphql_grammar.specs.Tables.{first};
-    ghost use Rattle.graphql_grammar.specs.Reading.{sees};
-    ghost use Rattle.graphql_core.specs.Source.{kept};
-    ghost use Rattle.graphql_values.specs.steps.Answers.{Gives, Adds, Shortens};
+    ghost use Rattle.graphql_core.specs.{Grammar};
+    ghost use Rattle.graphql_values.specs.{Expr, Shape, peek, first, sees, kept, Gives, Adds, Shortens};
 
     /// What is kept of one.
     type Item: Drop;

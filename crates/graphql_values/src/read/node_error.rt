@@ -1,6 +1,6 @@
 //! Why a reader stops, in a language that refuses nodes.
 ghost use Rattle.std.specs.Prelude.{◌≡◌};
-ghost use Rattle.graphql_core.specs.declared.helpers.read_error.ReadError.TheVariants.{Memory};
+ghost use Rattle.graphql_values.specs.{Memory};
 ghost use Rattle.graphql_values.specs.declared.read.node_error.NodeError.TheVariants.{Stopped};
 
 use graphql_core::helpers::ReadError;

@@ -1,11 +1,6 @@
 //! Types.
 ghost use Rattle.std.specs.Prelude.{◌≡◌, ◌≤◌, OnOk, length, codes};
-ghost use Rattle.graphql_grammar.specs.Trees.{Sym, optional};
-ghost use Rattle.graphql_values.specs.Grammar.{shared, type_symbol, punctuator};
-ghost use Rattle.graphql_values.specs.Meanings.{type_of, optional_non_null};
-ghost use Rattle.graphql_values.specs.ValueViews.{type_view};
-ghost use Rattle.graphql_core.specs.Source.{kept};
-ghost use Rattle.graphql_values.specs.steps.Answers.{Gives, Shortens};
+ghost use Rattle.graphql_values.specs.{Sym, optional, shared, type_symbol, punctuator, type_of, optional_non_null, type_view, kept, Gives, Shortens};
 
 use crate::tree::Type;
 use graphql_core::helpers::{Punctuator, ReadError, TokenSource, expect_name, expect_punctuator};

@@ -1,14 +1,8 @@
 //! Values and constants.
 ghost use Rattle.std.specs.Prelude.{◌≡◌};
-ghost use Rattle.graphql_grammar.specs.Trees.{Sym};
-ghost use Rattle.graphql_values.specs.Grammar.{shared, value_symbol, const_symbol};
-ghost use Rattle.graphql_values.specs.Meanings.{value_of, const_of};
-ghost use Rattle.graphql_values.specs.steps.Constness.{symbol_of, pair_symbol_of, variable_rule, list_rule, object_rule, begins_variable};
-ghost use Rattle.graphql_values.specs.steps.Constness.{tree_of, pair_of, as_variable, as_list, as_object};
-ghost use Rattle.graphql_values.specs.Values.{put};
-ghost use Rattle.graphql_values.specs.ValueViews.{value_view, members_view};
-ghost use Rattle.graphql_core.specs.Source.{kept};
-ghost use Rattle.graphql_values.specs.steps.Answers.{Gives, Shortens};
+ghost use Rattle.graphql_values.specs.{Sym, shared, value_symbol, const_symbol, value_of, const_of, symbol_of, pair_symbol_of, variable_rule, list_rule};
+ghost use Rattle.graphql_values.specs.{object_rule, begins_variable, tree_of, pair_of, as_variable, as_list, as_object, put, value_view, members_view, kept};
+ghost use Rattle.graphql_values.specs.{Gives, Shortens};
 
 use crate::read::leaf::plain_value;
 use crate::tree::Value;

@@ -1,6 +1,6 @@
 //! Copies of trees.
 ghost use Rattle.std.specs.Prelude.{◌≡◌, [], IfOk, string_bytes};
-ghost use Rattle.graphql_values.specs.ValueViews.{value_view, items_view, members_view, type_view, directive_view};
+ghost use Rattle.graphql_values.specs.{value_view, items_view, members_view, type_view, directive_view};
 
 use crate::tree::{Directive, Type, Value};
 use graphql_core::common::Names;

@@ -1,5 +1,5 @@
 use Rattle.std.proofs.Common.{sym, ◌∙◌}
-use Rattle.gql.proofs.Numbers.{number_refused}
+use Rattle.gql.proofs.{number_refused}
 use Rattle.gql.proofs.command.number_of.Goals as goal
 
 pub returns-in-Err : goal.returns-in-Err

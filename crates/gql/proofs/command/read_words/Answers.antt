@@ -1,10 +1,10 @@
 use Rattle.std.proofs.Common.{rules, arith, ◌≡◌, ◌∙◌, ◌-◌, ◌∷◌, [], Some, true, codes, map, string_bytes, take, drop, length, sym, ap}
 use Rattle.std.specs.Prelude.{nat_eq}
-use Rattle.std.specs.Cmp.Lexicographic.{pointwise}
 use Rattle.std.proofs.Math.ListN.{drop_of_length-le}
 use Rattle.std.proofs.lemmas.List.{take_all, length-drop}
-use Rattle.gql.specs.Words.{styled_command}
-use Rattle.gql.proofs.Options.{means_one_styled, means_one_minify}
+use Rattle.graphql_core.specs.{pointwise}
+use Rattle.gql.specs.{styled_command}
+use Rattle.gql.proofs.{means_one_styled, means_one_minify}
 use Rattle.gql.proofs.command.read_words.Goals as goal
 
 pub returns-in-len1-up : goal.returns-in-len1-up

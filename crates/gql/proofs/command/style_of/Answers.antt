@@ -1,7 +1,7 @@
 use Rattle.std.proofs.Common.{rules, ◌≡◌, ◌∙◌, ◌∷◌, None, map, string_bytes, sym, ap}
 use Rattle.std.proofs.lemmas.List.{nil_from_length}
-use Rattle.gql.specs.Words.{is_indent, is_multiline, number_of}
-use Rattle.gql.proofs.Options.{left_after_multiline, left_after_indent, all_left}
+use Rattle.gql.specs.{is_indent, is_multiline, number_of}
+use Rattle.gql.proofs.{left_after_multiline, left_after_indent, all_left}
 use Rattle.gql.proofs.command.style_of.Goals as goal
 
 pub options-preserved-then-not-multiline : goal.options-preserved-then-not-multiline

@@ -1,7 +1,7 @@
 use Rattle.std.proofs.Common.{length, map, string_bytes}
 use Rattle.std.specs.Prelude.{◌↔◌}
-use Rattle.graphql_core.specs.Style.{Layout}
-use Rattle.gql.specs.Words.{Says, SaysStyle}
+use Rattle.graphql_core.specs.{Layout}
+use Rattle.gql.specs.{Says, SaysStyle}
 use Rattle.gql.proofs.command.style_of.Given as goal
 
 abbrev pub invariant-options : goal.invariant-options

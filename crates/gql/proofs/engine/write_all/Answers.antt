@@ -1,10 +1,9 @@
 use Rattle.std.proofs.Common.{ℕ, List, ◌≢◌, length, cond, eqb, ◌&&◌, not, ◌≡◌, ◌++◌, take, drop, arith, sym, ap, ◌∙◌, append_assoc, take-append-drop}
 use Rattle.std.proofs.lemmas.Bool.Decides.{nat_tests}
-use Rattle.gql.specs.Faults.{one_more}
 use Rattle.std.proofs.KnownBytes.{Appends-trans}
 use Rattle.std.proofs.lemmas.Result.{MatchResult-at_ok, IfOk-at_ok}
-use Rattle.gql.specs.Faults.{faults_after_write}
 use Rattle.graphql_parser.proofs.Mapped.{ok_before}
+use Rattle.gql.specs.{one_more, faults_after_write}
 use Rattle.gql.proofs.engine.write_all.Goals as goal
 
 -- a write that took some bytes is no fault
@@ -19,7 +18,7 @@ pieces-preserved g c =
     let before = c.pieces.invariant.written in
     let n = c.in_ok-count.count in
     let some : n ≢ 0 = λ none. omega (arith, none) in
-    let write = ok_before _ n c.map_err-in-pieces.ensures.cases c.map_err-in-pieces.ensures.variant c.in_ok-count.was in
+    let write = ok_before _ c.map_err-in-pieces.ensures.cases c.map_err-in-pieces.ensures.variant c.in_ok-count.was in
     let faults = c.write.ensures.faults ∙ ap (λ r. faults_after_write c.pieces.writer.faults r (length c.pieces.rest.now)) write in
     let bound = IfOk-at_ok _ write c.write.ensures.bound in
     let back = c.split_at.ensures.back in

@@ -1,6 +1,6 @@
 use Rattle.std.proofs.Common.{rules, ◌≡◌, length, nat_le, true, false, refl}
 use Rattle.std.proofs.lemmas.Bool.{leb-true, leb-false}
-use Rattle.graphql_c.specs.Answers.{written, too_short}
+use Rattle.graphql_c.specs.{written, too_short}
 use Rattle.graphql_c.proofs.answer.written.Goals as goal
 
 pub returns-then-put : goal.returns-then-put

@@ -1,23 +1,17 @@
 use Rattle.std.proofs.Common.{◌∙◌, subst}
-use Rattle.std.proofs.lemmas.Result.{IfErr-at_err}
-use Rattle.graphql_query.specs.Minifying.{IsMinifyRefusalOf}
-use Rattle.graphql_c.specs.Answers.{not_utf8, ran_out}
-use Rattle.graphql_c.proofs.Told.{explains_as, refused_at}
+use Rattle.graphql_query.specs.{IsMinifyRefusalOf}
+use Rattle.graphql_c.specs.{ran_out}
+use Rattle.graphql_c.proofs.{halts, explains_as, refused_at}
 use Rattle.graphql_c.proofs.calls.minified.Goals as goal
 
-pub returns-in_default-clause-err : goal.returns-in_default-clause-err
-returns-in_default-clause-err c =
-    let is = c.not_utf8.ensures in
-    explains_as is.status is.line is.column (not_utf8 c.in_default.ensures.cases.0)
+pub returns-in_err-text_of : goal.returns-in_err-text_of
+returns-in_err-text_of c = halts _ _ _ _ _ (λ e no. absurd no) c.in_err-text_of.ensures c.from_residual.ensures.1
 
-pub returns-in_default-from_str-clause-err : goal.returns-in_default-from_str-clause-err
-returns-in_default-from_str-clause-err c =
-    let is = c.out_of_memory.ensures in
-    explains_as is.status is.line is.column ran_out
+pub returns-in_default : goal.returns-in_default
+returns-in_default c = explains_as c.out_of_memory.ensures ran_out
 
-pub returns-in-Err-clause-err : goal.returns-in-Err-clause-err
-returns-in-Err-clause-err c =
-    let bad = IfErr-at_err _ c.in-Err.is c.minify_query.ensures.refused in
-    let same = c.in-Ok-from_str.ensures.ok ∙ c.in-Ok.ensures.cases.0 in
-    let is = c.refused.ensures in
-    refused_at _ (subst (λ t. IsMinifyRefusalOf t c.in-Err.error) same bad) is.status c.cause.ensures is.line is.column c.position.ensures
+pub returns-in-Err : goal.returns-in-Err
+returns-in-Err c =
+    let same = c.in-Ok.ensures.ok ∙ c.in_ok-text_of.ensures in
+    let bad = subst (λ t. IsMinifyRefusalOf t c.in-Err.error) same c.in-Err.ensures.refused in
+    refused_at _ bad c.cause.ensures c.position.ensures c.refused.ensures

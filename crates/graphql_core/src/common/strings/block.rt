@@ -1,7 +1,6 @@
 //! Block strings.
 ghost use Rattle.std.specs.Prelude.{◌≡◌, not, ℕ, List, ◌++◌, ◌≤◌, ◌-◌, length, min, drop, IfOk, OnOk, string_bytes};
-ghost use Rattle.std.specs.List.{prefix_len, suffix_len};
-ghost use Rattle.std.specs.Str.Lines.{lines};
+ghost use Rattle.graphql_core.specs.{prefix_len, suffix_len, lines};
 ghost use Rattle.graphql_core.specs.BlockStrings as spec;
 
 use std::alloc::{AllocError, Global};

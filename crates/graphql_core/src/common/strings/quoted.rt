@@ -1,9 +1,7 @@
 //! Strings in quotes.
 ghost use Rattle.std.specs.Prelude.{◌≡◌, ℕ, List, true, length, IfOk, IfSome, IfNone, SomeIff, IsErrOf, string_bytes};
-ghost use Rattle.std.specs.Char.{is_ascii_hexdigit};
-ghost use Rattle.std.specs.List.{list_all};
-ghost use Rattle.std.specs.Str.Parse.{digits_value};
-ghost use Rattle.graphql_core.specs.Strings.{HasValue, HasNoValue, IsInQuotes, BeginsEscape, BeginsNoEscape, BeginsName, BeginsNoName};
+ghost use Rattle.graphql_core.specs.{is_ascii_hexdigit, list_all, digits_value, HasValue, HasNoValue, IsInQuotes, BeginsEscape, BeginsNoEscape, BeginsName};
+ghost use Rattle.graphql_core.specs.{BeginsNoName};
 ghost use Rattle.graphql_core.specs.declared.common.strings.error.UnquoteError.TheVariants.{BadEscape};
 
 use crate::common::strings::error::UnquoteError;

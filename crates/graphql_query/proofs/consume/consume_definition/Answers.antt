@@ -1,17 +1,9 @@
 use Rattle.std.proofs.Common.{sym, ◌∙◌, subst, arith}
-use Rattle.graphql_core.specs.Refusal.{Refusal}
-use Rattle.graphql_core.specs.Source.{Items}
-use Rattle.graphql_core.proofs.Refusals.{as_error}
-use Rattle.graphql_values.specs.Document.{AnswersUnlessMemory}
-use Rattle.graphql_values.specs.Faults.{IsRefusalOf, past_bound}
-use Rattle.graphql_values.proofs.Whole.{from_stream, exit, refusal}
-use Rattle.graphql_values.proofs.Faults.{one_each}
-use Rattle.graphql_query.specs.FirstDefinition.{one_definition, BeginsWith}
-use Rattle.graphql_query.proofs.FirstDefinition.{readable_one, none_begins_another}
-use Rattle.graphql_query.proofs.Consuming.{found, one_first}
-use Rattle.graphql_query.proofs.Earlier.{earlier_definition}
-use Rattle.graphql_query.proofs.OtherRest.{other_rest, other_tokens, shorter}
-use Rattle.graphql_query.proofs.OtherDefinitions.{other_definitions}
+use Rattle.graphql_core.proofs.{as_error}
+use Rattle.graphql_values.specs.{past_bound, Refusal, Items, AnswersUnlessMemory, IsRefusalOf}
+use Rattle.graphql_values.proofs.{from_stream, exit, refusal, one_each}
+use Rattle.graphql_query.specs.{one_definition, BeginsWith}
+use Rattle.graphql_query.proofs.{readable_one, none_begins_another, found, one_first, earlier_definition, other_rest, other_tokens, shorter, other_definitions}
 use Rattle.graphql_query.proofs.consume.consume_definition.Goals as goal
 
 -- ---- too long

@@ -1,4 +1,4 @@
-use Rattle.graphql_query.proofs.FirstDefinition.{memory_only, least_refusal}
+use Rattle.graphql_query.proofs.{memory_only, least_refusal}
 use Rattle.graphql_query.proofs.consume.first_definition.Goals as goal
 
 pub returns-in-Err-clause-complete : goal.returns-in-Err-clause-complete

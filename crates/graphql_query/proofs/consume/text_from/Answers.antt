@@ -1,7 +1,6 @@
 use Rattle.std.proofs.Common.{◌≡◌, ◌<◌, ℕ, List, length, drop, sym, ap, subst, ◌∙◌}
-use Rattle.graphql_lexer.specs.Items.{Item}
-use Rattle.graphql_lexer.specs.Stream.{next_place}
-use Rattle.graphql_query.proofs.ItemPlaces.{items_rise, holds_first, rise_on, holds_on, token_next, boundary, there, not_there}
+use Rattle.graphql_core.proofs.{items_rise, holds_first, rise_on, holds_on, token_next, boundary, other_position, same_position}
+use Rattle.graphql_values.specs.{Item, next_place}
 use Rattle.graphql_query.proofs.consume.text_from.Goals.{in_default-via-in-Ok+in_default, in_default-via-in_default}
 use Rattle.graphql_query.proofs.consume.text_from.Goals as goal
 
@@ -22,13 +21,13 @@ items-preserved c = record {
   rise = rise_on c.args.source.now c.items.stream.items _ _ c.next_token.ensures.item c.items.invariant.rise;
   holds = λ items n has some at.
       holds_on c.items.stream.items _ _ c.args.position _ c.next_token.ensures.item (c.items.invariant.holds items n has some at)
-      (λ e. not_there c.position.result c.args.position (sym c.ne.ensures ∙ c.items-test.true) (c.position.ensures ∙ e));
+      (λ e. other_position c.position.result c.args.position (sym c.ne.ensures ∙ c.items-test.true) (c.position.ensures ∙ e));
 }
 
 pub returns-in_default : goal.returns-in_default
 returns-in_default c items n has some at =
     let (t, is) = token_next c.items.stream.items _ _ c.args.position _ c.next_token.ensures.item (c.items.invariant.holds items n has some at)
-    (λ e. not_there c.position.result c.args.position (sym c.ne.ensures ∙ c.items-test.true) (c.position.ensures ∙ e)) in
+    (λ e. other_position c.position.result c.args.position (sym c.ne.ensures ∙ c.items-test.true) (c.position.ensures ∙ e)) in
     elim c.in_default.branch [
       | in_default-via-in-Ok+in_default w ↦ let none = w.in_default.is in absurd cc
       | in_default-via-in_default w ↦ let bad = w.in_default.is in absurd cc
@@ -39,7 +38,7 @@ split_at-requires c = rw c.offset.ensures (boundary c.args.source.now c.items.st
 
 pub returns : goal.returns
 returns c items n has some at =
-    let here = there c.position.result c.args.position (sym c.ne.ensures ∙ c.items-test.false) in
+    let here = same_position c.position.result c.args.position (sym c.ne.ensures ∙ c.items-test.false) in
     let offset = holds_first c.args.source.now c.items.stream.items c.args.position _ c.items.invariant.rise (c.items.invariant.holds items n has some at)
     (sym c.position.ensures ∙ here) in
     c.split_at.ensures.back ∙ ap (λ (k : ℕ). drop k c.args.source.now) (c.offset.ensures ∙ offset)

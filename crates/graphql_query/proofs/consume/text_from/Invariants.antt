@@ -1,7 +1,6 @@
 use Rattle.std.proofs.Common.{◌≡◌, ◌<◌, ℕ, List, length, drop}
-use Rattle.graphql_lexer.specs.Items.{Item, HasItems}
-use Rattle.graphql_lexer.specs.Stream.{next_place}
-use Rattle.graphql_query.proofs.ItemPlaces.{Rise, Holds}
+use Rattle.graphql_core.proofs.{Rise, HasItemAt}
+use Rattle.graphql_values.specs.{Item, HasItems, next_place}
 use Rattle.graphql_query.proofs.consume.text_from.Given as goal
 
 -- the item that is sought is still to come
@@ -9,7 +8,7 @@ abbrev pub invariant-items : goal.invariant-items
 invariant-items l = record {
   rise : Rise l.source l.stream.items;
   holds : (items : List Item) (n : ℕ) → HasItems l.source items → n < length items → (next_place (drop n items)).position ≡ l.fn.position
-      → Holds l.stream.items l.fn.position (next_place (drop n items)).offset;
+      → HasItemAt l.stream.items l.fn.position (next_place (drop n items)).offset;
 }
 
 abbrev pub decreases-items : goal.decreases-items

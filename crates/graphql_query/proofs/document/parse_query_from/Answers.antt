@@ -1,10 +1,10 @@
 use Rattle.std.proofs.Common.{ap, ◌∙◌}
-use Rattle.graphql_core.specs.Source.{items_of_stream, split}
-use Rattle.graphql_core.proofs.NestingDepth.{nests_open}
-use Rattle.graphql_values.proofs.Parsing.{stream_parsed, stream_unparsed}
-use Rattle.graphql_query_tree.specs.Document.{queries}
-use Rattle.graphql_query_tree.proofs.Readable.{readable}
-use Rattle.graphql_query.proofs.Printable.{items_printable}
+use Rattle.graphql_core.proofs.{nests_open}
+use Rattle.graphql_values.specs.{items_of_stream, split}
+use Rattle.graphql_values.proofs.{stream_parsed, stream_unparsed}
+use Rattle.graphql_query_tree.specs.{queries}
+use Rattle.graphql_query_tree.proofs.{readable}
+use Rattle.graphql_query.proofs.{items_printable}
 use Rattle.graphql_query.proofs.document.parse_query_from.Goals as goal
 
 pub returns-in_err-read-clause-parses : goal.returns-in_err-read-clause-parses

@@ -1,8 +1,8 @@
-use Rattle.graphql_values.proofs.Faults.{none_goes_on, valueless_not}
-use Rattle.graphql_query_tree.specs.Document.{queries}
-use Rattle.graphql_query_tree.proofs.Readable.{readable}
-use Rattle.graphql_query.specs.FirstDefinition.{one_definition}
-use Rattle.graphql_query.proofs.FirstDefinition.{readable_one}
+use Rattle.graphql_values.proofs.{none_goes_on, valueless_not}
+use Rattle.graphql_query_tree.specs.{queries}
+use Rattle.graphql_query_tree.proofs.{readable}
+use Rattle.graphql_query.specs.{one_definition}
+use Rattle.graphql_query.proofs.{readable_one}
 use Rattle.graphql_query.proofs.laws.none_goes_on_with_an_unexpected_item.Goals as goal
 
 pub returns : goal.returns

@@ -1,13 +1,11 @@
 use Rattle.std.proofs.Common.{◌≡◌, ◌∙◌, List, ℕ, string_bytes, length, sym, ap, subst, arith}
-use Rattle.graphql_core.specs.Minified.{IsMinified}
-use Rattle.graphql_core.proofs.Minifying.{one_minified}
-use Rattle.graphql_query_tree.specs.Document.{queries, IsDocumentOf, IsReadBack}
-use Rattle.graphql_core.specs.Refusal.{Refusal}
-use Rattle.graphql_query.specs.Minifying.{IsMinifyRefusalOf, past_bound}
-use Rattle.graphql_values.proofs.Unplaced.{minified_document, source_document}
-use Rattle.graphql_values.proofs.Whole.{exit}
-use Rattle.graphql_query.proofs.Minified.{refusal, tells_refusal}
-use Rattle.graphql_query_tree.proofs.Unplaced.{unplaced_alike}
+use Rattle.graphql_core.proofs.{one_minified}
+use Rattle.graphql_values.specs.{IsMinified, Refusal}
+use Rattle.graphql_values.proofs.{minified_document, source_document, exit}
+use Rattle.graphql_query_tree.specs.{queries, IsDocumentOf, IsReadBack}
+use Rattle.graphql_query_tree.proofs.{unplaced_alike}
+use Rattle.graphql_query.specs.{IsMinifyRefusalOf, past_bound}
+use Rattle.graphql_query.proofs.{refusal, tells_refusal}
 use Rattle.graphql_query.proofs.minify.minify_query.Goals as goal
 
 pub returns-then-len-gt-MAX_LENGTH-clause-refused : goal.returns-then-len-gt-MAX_LENGTH-clause-refused

@@ -1,14 +1,9 @@
 use Rattle.std.proofs.Common.{◌∙◌, arith}
-use Rattle.graphql_lexer.specs.Items.{start}
-use Rattle.graphql_lexer.specs.steps.Cut.{items}
-use Rattle.graphql_lexer.proofs.OneCut.{has_items}
-use Rattle.graphql_core.specs.Source.{split}
-use Rattle.graphql_values.proofs.Parsing.{unread, parsed, unparsed}
-use Rattle.graphql_values.proofs.Whole.{cut_first}
-use Rattle.graphql_schema_tree.specs.Language.{schemas}
-use Rattle.graphql_schema_tree.proofs.Readable.{readable}
-use Rattle.graphql_schema.proofs.Earlier.{earlier_document}
-use Rattle.graphql_schema.proofs.Printable.{printable}
+use Rattle.graphql_values.specs.{start, items, split}
+use Rattle.graphql_values.proofs.{has_items, unread, parsed, unparsed, cut_first}
+use Rattle.graphql_schema_tree.specs.{schemas}
+use Rattle.graphql_schema_tree.proofs.{readable}
+use Rattle.graphql_schema.proofs.{earlier_document, printable}
 use Rattle.graphql_schema.proofs.document.parse_schema.Goals as goal
 
 pub returns-then-source-gt-MAX_LENGTH-clause-parses : goal.returns-then-source-gt-MAX_LENGTH-clause-parses

@@ -1,16 +1,10 @@
-use Rattle.std.proofs.Common.{◌≡◌, Bool, true, false, ◌==◌, [], ◌∷◌, Option, Some, None, refl, ap, ◌∙◌}
-use Rattle.std.specs.Prelude.{if◌then◌else◌, option_map}
-use Rattle.graphql_grammar.specs.Tokens.{Token, Class, AnyOf, Spelled, Except}
-use Rattle.graphql_grammar.specs.Trees.{Shape, Nothing, Leaf, Both, First, Second, Stop, More, Node}
-use Rattle.graphql_core.specs.Causes.{CauseText, is_unexpected, empty_extension}
-use Rattle.graphql_core.specs.Source.{FaultText}
-use Rattle.graphql_values.proofs.Faults.{none_goes_on, valueless_not}
-use Rattle.graphql_schema_tree.specs.Tree.{SchemaTree}
-use Rattle.graphql_schema_tree.specs.Grammar.{schema_symbol, schema_extension_symbol}
-use Rattle.graphql_schema_tree.specs.Language.{schemas, said_at, keyword_of}
-use Rattle.graphql_schema_tree.specs.Meanings.{schema_of, schema_extension_of, extension_of}
-use Rattle.graphql_schema_tree.specs.Roots.{RootFault, unknown, duplicate, root_fault_of, extension_fault_of, root_cause}
-use Rattle.graphql_schema_tree.proofs.Readable.{readable}
+use Rattle.std.proofs.Common.{◌≡◌, Bool, true, false, ◌==◌, [], ◌∷◌, Option, Some, None, refl, ap, ◌∙◌, if◌then◌else◌, option_map}
+use Rattle.graphql_values.specs.{Token, Class, AnyOf, Spelled, Except, Shape, Nothing, Leaf, Both, First, Second, Stop, More, Node, CauseText, is_unexpected}
+use Rattle.graphql_values.specs.{empty_extension, FaultText}
+use Rattle.graphql_values.proofs.{none_goes_on, valueless_not}
+use Rattle.graphql_schema_tree.specs.{SchemaTree, schema_symbol, schema_extension_symbol, schemas, said_at, keyword_of, schema_of, schema_extension_of}
+use Rattle.graphql_schema_tree.specs.{extension_of, RootFault, unknown, duplicate, root_fault_of, extension_fault_of, root_cause}
+use Rattle.graphql_schema_tree.proofs.{readable}
 use Rattle.graphql_schema.proofs.laws.none_goes_on_with_an_unexpected_item.Goals as goal
 
 leaves_not : (c : Class) (t : Token) (k : CauseText) → schemas.lacks c t k → is_unexpected k ≡ false

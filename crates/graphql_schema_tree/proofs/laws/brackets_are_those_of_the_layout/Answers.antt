@@ -1,5 +1,5 @@
-use Rattle.graphql_core.proofs.Depths.{deepest_is}
-use Rattle.graphql_schema_tree.proofs.Depths.{document_rises}
+use Rattle.graphql_values.proofs.{deepest_is}
+use Rattle.graphql_schema_tree.proofs.{document_rises}
 use Rattle.graphql_schema_tree.proofs.laws.brackets_are_those_of_the_layout.Goals as goal
 
 pub returns : goal.returns

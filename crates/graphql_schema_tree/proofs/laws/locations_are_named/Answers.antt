@@ -1,10 +1,10 @@
 use Rattle.std.proofs.Common.{◌≡◌, ◌∙◌, refl, List, [], ◌∷◌, ℕ, Some, inl, inr, ap, sym}
-use Rattle.std.proofs.lemmas.Bool.{cases_Bool}
-use Rattle.graphql_grammar.specs.Tokens.{same_spelling}
-use Rattle.graphql_grammar.proofs.Classes.{same_spelling-true}
+use Rattle.graphql_grammar.proofs.{same_spelling-true}
+use Rattle.graphql_values.specs.{same_spelling}
+use Rattle.graphql_values.proofs.{cases_Bool}
 use Rattle.graphql_schema_tree.specs.declared.location.DirectiveLocation.{DirectiveLocation}
-use Rattle.graphql_schema_tree.specs.Locations.{word_of, found, all}
-use Rattle.graphql_schema_tree.proofs.LocationWords.{location_named}
+use Rattle.graphql_schema_tree.specs.{word_of, found, all}
+use Rattle.graphql_schema_tree.proofs.{location_named}
 use Rattle.graphql_schema_tree.proofs.laws.locations_are_named.Goals as goal
 
 same : (l m : DirectiveLocation) → Some l ≡ Some m → l ≡ m

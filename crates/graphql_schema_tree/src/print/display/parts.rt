@@ -1,14 +1,10 @@
 //! Display of extensions, directives and parts of types: the text in the default style, unless that is too wide.
 ghost use Rattle.std.specs.Prelude.{Some, OnOk};
-ghost use Rattle.std.specs.Fmt.{DisplaysOnOk, DisplaysStyledOnOk};
-ghost use Rattle.graphql_core.specs.Style.{default_style};
-ghost use Rattle.graphql_core.specs.Parts.{text_of};
-ghost use Rattle.graphql_values.specs.ValueLayout.{IsNarrow};
-ghost use Rattle.graphql_schema_tree.specs.Layout.{field_layout, input_value_layout, shown, field_levels, input_value_levels, definition_levels};
-ghost use Rattle.graphql_schema_tree.specs.Tree.{schema_extension, directive};
-ghost use Rattle.graphql_schema_tree.specs.Views.{field_view, input_value_view, directive_definition_view, type_extension_view};
-ghost use Rattle.graphql_schema_tree.specs.Views.{scalar_extension_view, object_extension_view, interface_extension_view, union_extension_view};
-ghost use Rattle.graphql_schema_tree.specs.Views.{enum_extension_view, input_extension_view, schema_extension_view};
+ghost use Rattle.graphql_values.specs.{text_of, DisplaysOnOk, DisplaysStyledOnOk, default_style, IsNarrow};
+ghost use Rattle.graphql_schema_tree.specs.{field_layout, input_value_layout, shown, field_levels, input_value_levels, definition_levels, schema_extension};
+ghost use Rattle.graphql_schema_tree.specs.{directive, field_view, input_value_view, directive_definition_view, type_extension_view, scalar_extension_view};
+ghost use Rattle.graphql_schema_tree.specs.{object_extension_view, interface_extension_view, union_extension_view, enum_extension_view, input_extension_view};
+ghost use Rattle.graphql_schema_tree.specs.{schema_extension_view};
 
 use crate::tree::{
     DirectiveDefinition, EnumTypeExtension, Field, InputObjectTypeExtension, InputValue,

@@ -1,6 +1,7 @@
-use Rattle.graphql_values.proofs.Dialect.{arith, unread, from_stream, parsed}
-use Rattle.worked_language.specs.Language.{worked}
-use Rattle.worked_language.proofs.Readable.{readable}
+use Rattle.std.proofs.Common.{arith}
+use Rattle.graphql_values.proofs.{unread, from_stream, parsed}
+use Rattle.worked_language.specs.{worked}
+use Rattle.worked_language.proofs.{readable}
 use Rattle.worked_language.proofs.document.parse.Goals as goal
 
 pub returns-then-source-gt-MAX_LENGTH : goal.returns-then-source-gt-MAX_LENGTH

@@ -1,6 +1,8 @@
-use Rattle.graphql_values.proofs.Dialect.{◌∙◌, ap, items_of_stream, stream_parsed}
-use Rattle.worked_language.specs.Language.{worked}
-use Rattle.worked_language.proofs.Readable.{readable}
+use Rattle.std.proofs.Common.{◌∙◌, ap}
+use Rattle.graphql_values.specs.{items_of_stream}
+use Rattle.graphql_values.proofs.{stream_parsed}
+use Rattle.worked_language.specs.{worked}
+use Rattle.worked_language.proofs.{readable}
 use Rattle.worked_language.proofs.document.parse_from.Goals as goal
 
 pub returns : goal.returns

@@ -1,6 +1,6 @@
-use Rattle.graphql_values.proofs.Dialect.{read_whole, read_stopped, read_refused, read_left}
-use Rattle.worked_language.specs.Language.{worked, refusals}
-use Rattle.worked_language.proofs.Readable.{readable}
+use Rattle.graphql_values.proofs.{read_whole, read_stopped, read_refused, read_left}
+use Rattle.worked_language.specs.{worked, refusals}
+use Rattle.worked_language.proofs.{readable}
 use Rattle.worked_language.proofs.document.read_document.Goals as goal
 
 pub returns-in-Err-Stopped-clause-reads : goal.returns-in-Err-Stopped-clause-reads

@@ -1,10 +1,9 @@
-use Rattle.std.proofs.Common.{◌∙◌}
-use Rattle.graphql_values.proofs.Dialect.{ℕ, not, List, length, ap, ap₂, sym, refl, arith, Leaf, Both, First, Second, same_spelling, reading, takes_one}
-use Rattle.graphql_values.proofs.Dialect.{here, before, after_left, after_right, read_alike, some_lifted, stops_lifted, placed, node_stops, node_lacks}
-use Rattle.graphql_values.proofs.Dialect.{node_passes, node_refused, name, empty_extension}
-use Rattle.worked_language.specs.Meanings.{by_number, by_name}
-use Rattle.worked_language.specs.Language.{told, worked, refusals, int}
-use Rattle.worked_language.proofs.Readable.{readable}
+use Rattle.std.proofs.Common.{◌∙◌, ℕ, not, List, length, ap, ap₂, sym, refl, arith}
+use Rattle.graphql_values.specs.{Leaf, Both, First, Second, same_spelling, reading, name, empty_extension}
+use Rattle.graphql_values.proofs.{takes_one, here, before, after_left, after_right, read_alike, some_lifted, stops_lifted, placed, node_stops, node_lacks}
+use Rattle.graphql_values.proofs.{node_passes, node_refused}
+use Rattle.worked_language.specs.{by_number, by_name, told, worked, refusals, int}
+use Rattle.worked_language.proofs.{readable}
 use Rattle.worked_language.proofs.read.extension.Goals as goal
 
 pub returns-in_err-name-clause-reads : goal.returns-in_err-name-clause-reads

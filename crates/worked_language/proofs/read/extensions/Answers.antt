@@ -1,9 +1,7 @@
-use Rattle.graphql_values.specs.Dialect.{shared_tables}
-use Rattle.std.proofs.Common.{◌≡◌, ◌∙◌, ◌∷◌}
-use Rattle.graphql_values.proofs.Dialect.{[], List, Token, Sym, Name, sym, refl, sees, first, peek, reading, any}
-use Rattle.graphql_values.proofs.Dialect.{pushes_none, turn_done, turn_halts, turns_all}
-use Rattle.worked_language.specs.Meanings.{extension_view, extension_of}
-use Rattle.worked_language.specs.Language.{worked, refusals, extension_symbol, tables}
+use Rattle.std.proofs.Common.{◌≡◌, ◌∙◌, ◌∷◌, [], List, sym, refl}
+use Rattle.graphql_values.specs.{tables as shared_tables, Token, Sym, Name, sees, first, peek, reading, any}
+use Rattle.graphql_values.proofs.{pushes_none, turn_done, turn_halts, turns_all}
+use Rattle.worked_language.specs.{extension_view, extension_of, worked, refusals, extension_symbol, tables}
 use Rattle.worked_language.proofs.read.extensions.Goals as goal
 
 begins : (ts : List Token) → sees (first (reading worked).rows (Sym extension_symbol)) (peek ts) ≡ sees (any Name ∷ []) (peek ts)

@@ -1,6 +1,7 @@
-use Rattle.graphql_values.proofs.Dialect.{length, Sym, reading, written, Pushes}
-use Rattle.worked_language.specs.Meanings.{extension_view, extension_of}
-use Rattle.worked_language.specs.Language.{worked, extension_symbol}
+use Rattle.std.proofs.Common.{length}
+use Rattle.graphql_values.specs.{Sym, reading, written}
+use Rattle.graphql_values.proofs.{Pushes}
+use Rattle.worked_language.specs.{extension_view, extension_of, worked, extension_symbol}
 use Rattle.worked_language.proofs.read.extensions.Given as goal
 
 abbrev pub invariant-more : goal.invariant-more

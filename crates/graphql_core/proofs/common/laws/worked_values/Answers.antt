@@ -1,10 +1,8 @@
-use Rattle.std.proofs.Common.{◌≡◌, ◌≢◌, ◌∙◌, ℕ, ◌+◌, ◌++◌, List, [], ◌∷◌, length, codes, refl, sym, ap, subst, arith, length-append}
 use lib.Utf8.{encode}
 use Rattle.std.specs.Char.{IsScalar}
-use Rattle.std.specs.Str.Parse.{digits_value}
-use Rattle.graphql_core.specs.Strings.{HasValue, HasNoValue, StandsFor, BeginsNoName, empty, more, slash, backspace, unicode}
-use Rattle.graphql_core.specs.BlockStrings.{common_indent}
-use Rattle.graphql_core.proofs.Escapes.{digits_at, no_escape_named, no_escape_other, no_value}
+use Rattle.std.proofs.Common.{◌≡◌, ◌≢◌, ◌∙◌, ℕ, ◌+◌, ◌++◌, List, [], ◌∷◌, length, codes, refl, sym, ap, subst, arith, length-append}
+use Rattle.graphql_core.specs.{digits_value, HasValue, HasNoValue, StandsFor, BeginsNoName, empty, more, slash, backspace, unicode, common_indent}
+use Rattle.graphql_core.proofs.{digits_at, no_escape_named, no_escape_other, no_value}
 use Rattle.graphql_core.proofs.common.laws.worked_values.Goals as goal
 
 -- a string of one unit

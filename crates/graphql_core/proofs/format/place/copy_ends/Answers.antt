@@ -1,6 +1,6 @@
 use Rattle.std.proofs.Common.{◌-◌, rules, length}
 use Rattle.std.proofs.lemmas.List.{take_rest}
-use Rattle.graphql_core.proofs.Places.{Placed-ends}
+use Rattle.graphql_core.proofs.{Placed-ends}
 use Rattle.graphql_core.proofs.format.place.copy_ends.Goals as goal
 
 pub returns : goal.returns

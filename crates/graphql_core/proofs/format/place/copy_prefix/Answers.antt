@@ -1,5 +1,5 @@
 use Rattle.std.proofs.Common.{◌∙◌, length, take-take, length-take-le, arith}
-use Rattle.graphql_core.proofs.Places.{Placed-less}
+use Rattle.graphql_core.proofs.{Placed-less}
 use Rattle.graphql_core.proofs.format.place.copy_prefix.Goals as goal
 
 pub returns : goal.returns

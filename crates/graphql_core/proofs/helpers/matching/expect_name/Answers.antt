@@ -1,8 +1,6 @@
 use Rattle.std.proofs.Common.{sym, ◌∙◌}
-use Rattle.graphql_grammar.specs.Tokens.{AnyOf}
-use Rattle.graphql_lexer.specs.declared.tokenizer.token.Kind.TheVariants.{Name}
-use Rattle.graphql_core.specs.Causes.{kind_number}
-use Rattle.graphql_core.proofs.Matches.{takes_first, seen_matches}
+use Rattle.graphql_core.specs.{AnyOf, Name, kind_number}
+use Rattle.graphql_core.proofs.{takes_first, seen_matches}
 use Rattle.graphql_core.proofs.helpers.matching.expect_name.Goals as goal
 
 pub returns-in_ok-name-in-Some : goal.returns-in_ok-name-in-Some

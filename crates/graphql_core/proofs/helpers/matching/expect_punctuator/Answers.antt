@@ -1,6 +1,6 @@
 use Rattle.std.proofs.Common.{sym, ◌∙◌}
-use Rattle.graphql_core.specs.steps.Punctuators.{class_of}
-use Rattle.graphql_core.proofs.Matches.{takes_first, first_seen}
+use Rattle.graphql_core.specs.{class_of}
+use Rattle.graphql_core.proofs.{takes_first, first_seen}
 use Rattle.graphql_core.proofs.helpers.matching.expect_punctuator.Goals as goal
 
 pub returns : goal.returns

@@ -1,5 +1,5 @@
 use Rattle.std.proofs.Common.{refl, sym, ◌∙◌}
-use Rattle.graphql_core.proofs.Matches.{same_text_spelling, same_kind_number}
+use Rattle.graphql_core.proofs.{same_text_spelling, same_kind_number}
 use Rattle.graphql_core.proofs.helpers.matching.is_spelled.Goals as goal
 
 pub returns-then-eq : goal.returns-then-eq

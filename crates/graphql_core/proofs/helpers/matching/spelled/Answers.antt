@@ -1,5 +1,5 @@
 use Rattle.std.proofs.Common.{sym, ◌∙◌, refl}
-use Rattle.graphql_core.proofs.Matches.{takes_first}
+use Rattle.graphql_core.proofs.{takes_first}
 use Rattle.graphql_core.proofs.helpers.matching.spelled.Goals as goal
 
 pub returns-in-Some : goal.returns-in-Some

@@ -1,8 +1,6 @@
 use Rattle.std.proofs.Common.{◌≡◌, ℕ, List, IfErr, sym, ap, subst}
-use Rattle.graphql_lexer.specs.Items.{Item, HasItems}
-use Rattle.graphql_core.specs.Minified.{IsBadPlaceOf}
-use Rattle.graphql_core.specs.Source.{split}
-use Rattle.graphql_core.proofs.Minifying.{AreItems, ok_minified, ok_tokens, ok_again}
+use Rattle.graphql_core.specs.{Item, HasItems, IsBadPlaceOf, split}
+use Rattle.graphql_core.proofs.{AreItems, ok_minified, ok_tokens, ok_again}
 use Rattle.graphql_core.proofs.helpers.minify.minified.Goals as goal
 
 -- the items of a text are those of its stream

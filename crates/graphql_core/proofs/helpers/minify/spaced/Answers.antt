@@ -1,12 +1,8 @@
 use Rattle.std.proofs.Common.{◌≡◌, ℕ, Bool, List, ◌∷◌, ◌++◌, Some, Ok, refl, sym, ap, ◌∙◌, append_assoc}
-use Rattle.graphql_grammar.specs.Tokens.{Token}
-use Rattle.graphql_lexer.specs.Stream.{NextItem}
-use Rattle.graphql_core.specs.Causes.{kind_number}
-use Rattle.graphql_core.specs.Source.{split, token_of}
-use Rattle.graphql_core.specs.Minified.{is_spaced, space_if, spaced_after}
-use Rattle.graphql_core.proofs.SpanItems.{next_of}
-use Rattle.graphql_core.proofs.helpers.minify.spaced.Goals as goal
+use Rattle.graphql_core.specs.{Token, NextItem, kind_number, split, token_of, is_spaced, space_if, spaced_after}
+use Rattle.graphql_core.proofs.{next_of}
 use Rattle.graphql_core.proofs.helpers.minify.spaced.Goals.{in-Some, in-None+in-Ok-Some}
+use Rattle.graphql_core.proofs.helpers.minify.spaced.Goals as goal
 
 -- a token is written after a space, or none
 written : (b : Bool) (before : ℕ) (t : Token) (ts : List Token) (text all : List ℕ) → b ≡ is_spaced before t → all ≡ text ++ (space_if b ++ t.spelling)

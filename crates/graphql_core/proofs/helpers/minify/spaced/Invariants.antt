@@ -1,7 +1,5 @@
 use Rattle.std.proofs.Common.{◌≡◌, ◌++◌, length}
-use Rattle.graphql_core.specs.Causes.{kind_number}
-use Rattle.graphql_core.specs.Source.{split}
-use Rattle.graphql_core.specs.Minified.{spaced, spaced_after}
+use Rattle.graphql_core.specs.{kind_number, split, spaced, spaced_after}
 use Rattle.graphql_core.proofs.helpers.minify.spaced.Given as goal
 
 -- after what is written stand the tokens that are left

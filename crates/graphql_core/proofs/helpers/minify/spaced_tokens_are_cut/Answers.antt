@@ -1,8 +1,8 @@
-use Rattle.graphql_core.proofs.Minifying.{has_tokens, spaced_items, one_minified, minified_again}
+use Rattle.graphql_core.proofs.{has_spaced_tokens, spaced_items, one_minified, minified_again}
 use Rattle.graphql_core.proofs.helpers.minify.spaced_tokens_are_cut.Goals as goal
 
 pub returns-clause-any : goal.returns-clause-any
-returns-clause-any c = has_tokens
+returns-clause-any c = has_spaced_tokens
 
 pub returns-clause-of_a_text : goal.returns-clause-of_a_text
 returns-clause-of_a_text c = spaced_items

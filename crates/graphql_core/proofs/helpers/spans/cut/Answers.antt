@@ -1,15 +1,11 @@
 use Rattle.std.proofs.Common.{◌+◌, List, Some, Ok, length, map, refl, sym, ap, ◌∙◌, arith}
-use Rattle.std.proofs.lemmas.List.Elements.{All-nil, All-same, All-push}
-use Rattle.graphql_lexer.specs.declared.position.Pos.{Pos}
-use Rattle.graphql_lexer.specs.Stream.{NextItem, next_place}
+use Rattle.std.proofs.lemmas.List.Elements.{All-nil, All-push}
+use Rattle.graphql_core.specs.{Pos, NextItem, next_place, split, Marks, span_token}
 use Rattle.graphql_core.specs.declared.helpers.span.Span.{Span}
-use Rattle.graphql_core.specs.Source.{split}
-use Rattle.graphql_core.specs.steps.Spans.{Marks, span_token}
-use Rattle.graphql_core.proofs.TokenPlaces.{tokens_stand}
-use Rattle.graphql_core.proofs.SpanItems.{before, token_some, next_of, next_stands, marks, is_token, before_more}
+use Rattle.graphql_core.proofs.{All-same, tokens_stand, before, token_some, next_of, next_stands, marks, is_token, before_more}
 use Rattle.graphql_core.proofs.helpers.spans.cut.Given.{Over}
-use Rattle.graphql_core.proofs.helpers.spans.cut.Goals as goal
 use Rattle.graphql_core.proofs.helpers.spans.cut.Goals.{in-Some, in-None+in-Ok-Some}
+use Rattle.graphql_core.proofs.helpers.spans.cut.Goals as goal
 
 pub items-init : goal.items-init
 items-init g c =
@@ -35,30 +31,16 @@ next g c = elim c.match-near_token.branch [
       (w.in-Ok-Some.is ∙ ap Ok (rw w.in-Ok-Some.is at w.in-Ok-Some.field-0-is)))
 ]
 
-pub span_of-requires-clause-small : goal.span_of-requires-clause-small
-span_of-requires-clause-small g c =
+pub span_of-requires : goal.span_of-requires
+span_of-requires g c =
     let (is, token, more) = next_stands c.args.text.now _ _ _ c.match-near_token.token (next g c) refl c.items.invariant.standing in
-    omega (arith, c.offset-start.ensures, token.within, c.requires.small)
-
-pub span_of-requires-clause-first : goal.span_of-requires-clause-first
-span_of-requires-clause-first g c =
-    let (is, token, more) = next_stands c.args.text.now _ _ _ c.match-near_token.token (next g c) refl c.items.invariant.standing in
-    omega (arith, c.offset-start.ensures, token.within, token_some token, c.requires.narrow)
-
-pub span_of-requires-clause-end : goal.span_of-requires-clause-end
-span_of-requires-clause-end g c =
-    let (is, token, more) = next_stands c.args.text.now _ _ _ c.match-near_token.token (next g c) refl c.items.invariant.standing in
-    omega (arith, c.offset-start.ensures, token.within, c.requires.narrow)
-
-pub span_of-requires-clause-line : goal.span_of-requires-clause-line
-span_of-requires-clause-line g c =
-    let (is, token, more) = next_stands c.args.text.now _ _ _ c.match-near_token.token (next g c) refl c.items.invariant.standing in
-    omega (arith, ap (λ (p : Pos). p.line) c.position-position.ensures, token.low.0, token.within, c.requires.narrow)
-
-pub span_of-requires-clause-column : goal.span_of-requires-clause-column
-span_of-requires-clause-column g c =
-    let (is, token, more) = next_stands c.args.text.now _ _ _ c.match-near_token.token (next g c) refl c.items.invariant.standing in
-    omega (arith, ap (λ (p : Pos). p.column) c.position-position.ensures, token.low.1, token.within, c.requires.narrow)
+    record {
+      small = omega (arith, c.offset-start.ensures, token.within, c.requires.small);
+      first = omega (arith, c.offset-start.ensures, token.within, token_some token, c.requires.narrow);
+      end = omega (arith, c.offset-start.ensures, token.within, c.requires.narrow);
+      line = omega (arith, ap (λ (p : Pos). p.line) c.position-position.ensures, token.low.0, token.within, c.requires.narrow);
+      column = omega (arith, ap (λ (p : Pos). p.column) c.position-position.ensures, token.low.1, token.within, c.requires.narrow);
+    }
 
 pub items-preserved : goal.items-preserved
 items-preserved g c =

@@ -1,9 +1,6 @@
 use Rattle.std.proofs.Common.{◌≡◌, List, All, length, map}
-use Rattle.graphql_lexer.specs.Items.{Item, HasItems}
-use Rattle.graphql_core.specs.Source.{split}
-use Rattle.graphql_core.specs.steps.Spans.{Marks, span_token}
-use Rattle.graphql_core.proofs.TokenPlaces.{StandsIn}
-use Rattle.graphql_core.proofs.SpanItems.{before}
+use Rattle.graphql_core.specs.{Item, HasItems, split, Marks, span_token}
+use Rattle.graphql_core.proofs.{StandsIn, before}
 use Rattle.graphql_core.proofs.helpers.spans.cut.Given as goal
 
 -- the items are the tokens of the spans, and then those that are left

@@ -1,7 +1,6 @@
 use Rattle.std.proofs.Common.{sym}
-use Rattle.std.proofs.lemmas.List.Elements.{All-head, All-same}
-use Rattle.graphql_core.specs.steps.Spans.{Marks}
-use Rattle.graphql_core.proofs.SpanItems.{first_within, first_is}
+use Rattle.graphql_core.specs.{Marks}
+use Rattle.graphql_core.proofs.{All-head, All-same, first_within, first_is}
 use Rattle.graphql_core.proofs.helpers.spans.front_of.Goals as goal
 
 pub bounds-as_bytes-start : goal.bounds-as_bytes-start

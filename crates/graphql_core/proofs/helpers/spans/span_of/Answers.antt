@@ -1,5 +1,5 @@
 use Rattle.std.proofs.Common.{arith}
-use Rattle.graphql_core.proofs.SpanItems.{few_kinds}
+use Rattle.graphql_core.proofs.{few_kinds}
 use Rattle.graphql_core.proofs.helpers.spans.span_of.Goals as goal
 
 pub overflow_mul-start : goal.overflow_mul-start

@@ -1,4 +1,4 @@
-use Rattle.graphql_lexer.proofs.Numbers.{run_boundary}
+use Rattle.graphql_lexer.proofs.{run_boundary}
 use Rattle.graphql_lexer.proofs.tokenizer.bad.bad_at.Goals as goal
 
 pub split_at-requires : goal.split_at-requires

@@ -1,7 +1,7 @@
 use Rattle.std.proofs.Common.{nat_eq, refl, arith}
 use Rattle.graphql_lexer.specs.declared.tokenizer.class.TheConstants.{CLASSES}
-use Rattle.graphql_lexer.specs.steps.Ahead.{is_blank}
-use Rattle.graphql_lexer.proofs.Classes.{agree_below, by_class}
+use Rattle.graphql_lexer.specs.{is_blank}
+use Rattle.graphql_lexer.proofs.{agree_below, by_class}
 use Rattle.graphql_lexer.proofs.tokenizer.class.is_blank.Goals as goal
 
 pub returns : goal.returns

@@ -1,7 +1,7 @@
 use Rattle.std.proofs.Common.{nat_eq, refl, arith}
 use Rattle.graphql_lexer.specs.declared.tokenizer.class.TheConstants.{CLASSES}
-use Rattle.graphql_lexer.specs.steps.Ahead.{is_line_feed}
-use Rattle.graphql_lexer.proofs.Classes.{agree_below, by_class}
+use Rattle.graphql_lexer.specs.{is_line_feed}
+use Rattle.graphql_lexer.proofs.{agree_below, by_class}
 use Rattle.graphql_lexer.proofs.tokenizer.class.is_line_feed.Goals as goal
 
 pub returns : goal.returns

@@ -1,7 +1,5 @@
-use Rattle.graphql_lexer.specs.steps.Cut.{items}
-use Rattle.graphql_lexer.specs.Items.{start}
-use Rattle.graphql_lexer.proofs.OneCut.{has_items, items_unique}
-use Rattle.graphql_lexer.proofs.Ending.{end_once}
+use Rattle.graphql_lexer.specs.{items, start}
+use Rattle.graphql_lexer.proofs.{has_items, items_unique, end_once}
 use Rattle.graphql_lexer.proofs.tokenizer.laws.one_list_of_items.Goals as goal
 
 pub returns-clause-some : goal.returns-clause-some

@@ -1,11 +1,8 @@
-use Rattle.std.proofs.Common.{◌≡◌, ℕ, List, ◌∷◌, replicate, take, refl, subst}
 use Rattle.std.specs.Str.{chars}
-use Rattle.graphql_lexer.specs.Items.{Item, HasItems, start}
-use Rattle.graphql_lexer.specs.steps.Front.{front, comment, token_of}
-use Rattle.graphql_lexer.specs.steps.Numbers.{number, is_float, is_unsigned, is_after_integer, is_after_dot}
-use Rattle.graphql_lexer.specs.steps.Quoted.{quoted, string_end, block_end}
-use Rattle.graphql_lexer.specs.steps.Cut.{items, items_in}
-use Rattle.graphql_lexer.proofs.OneCut.{has_items}
+use Rattle.std.proofs.Common.{◌≡◌, ℕ, List, ◌∷◌, replicate, take, refl, subst}
+use Rattle.graphql_lexer.specs.{Item, HasItems, start, front, comment, token_of, number, is_float, is_unsigned, is_after_integer, is_after_dot, quoted}
+use Rattle.graphql_lexer.specs.{string_end, block_end, items, items_in}
+use Rattle.graphql_lexer.proofs.{has_items}
 use Rattle.graphql_lexer.proofs.tokenizer.laws.worked_examples.Goals as goal
 
 -- items are those that the step function computes

@@ -1,4 +1,4 @@
-use Rattle.graphql_lexer.proofs.PlainNumbers.{fraction_taken}
+use Rattle.graphql_lexer.proofs.{fraction_taken}
 use Rattle.graphql_lexer.proofs.tokenizer.number.fraction_len.Goals as goal
 
 pub returns-clause-is : goal.returns-clause-is

@@ -1,7 +1,7 @@
 use Rattle.std.proofs.Common.{◌∙◌, arith}
-use Rattle.graphql_lexer.proofs.PlainNumbers.{natural_taken}
-use Rattle.graphql_lexer.proofs.tokenizer.number.natural_len.Goals as goal
+use Rattle.graphql_lexer.proofs.{natural_taken}
 use Rattle.graphql_lexer.proofs.tokenizer.number.natural_len.Goals.{else-len-gt1-via-then-len-gt1+else-byte_at-eq48, else-len-gt1-via-else-len-gt1}
+use Rattle.graphql_lexer.proofs.tokenizer.number.natural_len.Goals as goal
 
 pub returns-clause-is : goal.returns-clause-is
 returns-clause-is c =

@@ -1,5 +1,5 @@
 use Rattle.std.proofs.lemmas.List.{take_rest}
-use Rattle.graphql_lexer.proofs.PlainNumbers.{whole_number, number_with_fraction}
+use Rattle.graphql_lexer.proofs.{whole_number, number_with_fraction}
 use Rattle.graphql_lexer.proofs.tokenizer.number.plain_number.Goals as goal
 
 pub returns-then-ends_run-clause-is : goal.returns-then-ends_run-clause-is

@@ -1,6 +1,5 @@
 use Rattle.std.proofs.Common.{sym}
-use Rattle.graphql_lexer.proofs.Runs.{not_equal}
-use Rattle.graphql_lexer.proofs.Spaces.{no_front}
+use Rattle.graphql_lexer.proofs.{not_equal, no_front}
 use Rattle.graphql_lexer.proofs.tokenizer.piece.ignored_bytes.Goals as goal
 
 pub returns-else-is_byte_order_mark : goal.returns-else-is_byte_order_mark

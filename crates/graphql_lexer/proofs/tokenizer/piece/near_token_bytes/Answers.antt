@@ -1,12 +1,9 @@
 use Rattle.std.proofs.Common.{◌≡◌, ◌+◌, sym, ap, ◌∙◌, refl}
-use Rattle.graphql_lexer.specs.Lexical.{nesting_of}
-use Rattle.graphql_lexer.specs.steps.Front.{front}
-use Rattle.graphql_lexer.specs.steps.Ahead.{taken}
+use Rattle.graphql_lexer.specs.{nesting_of, front, taken}
 use Rattle.graphql_lexer.specs.declared.tokenizer.token.Kind.TheVariants.{Punctuator, Name}
 use Rattle.graphql_lexer.specs.declared.tokenizer.piece.Nesting.TheVariants.{Level}
 use Rattle.graphql_lexer.specs.declared.tokenizer.piece.Piece.TheVariants.{Takes}
-use Rattle.graphql_lexer.proofs.Tokens.{name_front, mark_front}
-use Rattle.graphql_lexer.proofs.Positions.{token_flat}
+use Rattle.graphql_lexer.proofs.{name_front, mark_front, token_flat}
 use Rattle.graphql_lexer.proofs.tokenizer.piece.near_token_bytes.Goals as goal
 
 pub returns-then-is_name_start : goal.returns-then-is_name_start

@@ -1,7 +1,6 @@
 use Rattle.std.proofs.Common.{◌≡◌, sym, ◌∙◌}
-use Rattle.graphql_lexer.specs.steps.Front.{front}
-use Rattle.graphql_lexer.specs.steps.Numbers.{number}
-use Rattle.graphql_lexer.proofs.Near.{string_begins, number_begins, number_is, number_flat}
+use Rattle.graphql_lexer.specs.{front, number}
+use Rattle.graphql_lexer.proofs.{string_begins, number_begins, number_is, number_flat}
 use Rattle.graphql_lexer.proofs.tokenizer.piece.near_value.Goals as goal
 
 pub returns-then-byte-eq34-clause-is : goal.returns-then-byte-eq34-clause-is

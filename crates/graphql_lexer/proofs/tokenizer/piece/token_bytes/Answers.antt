@@ -1,7 +1,10 @@
 use Rattle.std.proofs.Common.{sym}
-use Rattle.graphql_lexer.proofs.Near.{other_flat}
+use Rattle.graphql_lexer.specs.{front}
+use Rattle.graphql_lexer.proofs.{other_flat, takes_first}
 use Rattle.graphql_lexer.proofs.tokenizer.piece.token_bytes.Goals as goal
 
-pub returns-in-Takes-clause-flat : goal.returns-in-Takes-clause-flat
-returns-in-Takes-clause-flat c =
-    other_flat c.args.bytes.now c.in-Takes.len c.in-Takes.kind c.in-Takes.nesting c.is_quoted.result (sym c.in-Takes.ensures) c.is_quoted.ensures
+pub returns-clause-flat : goal.returns-clause-flat
+returns-clause-flat c =
+    let t = c.in_ok-len in
+    let is = takes_first (front c.args.bytes.now) t.len t.kind t.nesting (sym t.ensures) in
+    other_flat c.args.bytes.now t.len t.kind t.nesting c.is_quoted.result is c.is_quoted.ensures

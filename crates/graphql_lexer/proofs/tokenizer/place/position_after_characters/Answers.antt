@@ -1,10 +1,8 @@
+use Rattle.std.specs.Char.{encode_utf8}
 use Rattle.std.proofs.Common.{◌≡◌, ◌+◌, ◌++◌, ◌∙◌, IsUtf8, refl, sym, ap, subst, arith, length, length-append}
 use Rattle.std.proofs.lemmas.Str.{length-encode, len_utf8_bounds, IsUtf8-drop}
-use Rattle.std.specs.Char.{encode_utf8}
-use Rattle.graphql_lexer.specs.steps.Front.{is_flat}
-use Rattle.graphql_lexer.specs.Items.{past}
-use Rattle.graphql_lexer.proofs.Runs.{run_passes}
-use Rattle.graphql_lexer.proofs.Positions.{past_front, past_first, character_bounds}
+use Rattle.graphql_lexer.specs.{is_flat, past}
+use Rattle.graphql_lexer.proofs.{run_passes, past_front, past_first, character_bounds}
 use Rattle.graphql_lexer.proofs.tokenizer.place.position_after_characters.Goals as goal
 
 pub position_after_flat-place-requires-clause-flat : goal.position_after_flat-place-requires-clause-flat

@@ -1,7 +1,7 @@
 use denote.Shadow.{shadow}
 use denote.Text.{Utf8}
 use Rattle.std.proofs.Common.{◌≡◌, ◌+◌, ◌≤◌, length}
-use Rattle.graphql_lexer.specs.Items.{past}
+use Rattle.graphql_lexer.specs.{past}
 use Rattle.graphql_lexer.proofs.tokenizer.place.position_after_characters.Given as goal
 
 -- what is left moves the position to where the whole moves it

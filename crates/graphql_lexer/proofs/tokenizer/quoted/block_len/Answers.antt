@@ -1,8 +1,7 @@
 use Rattle.std.proofs.Common.{◌≡◌, ◌+◌, true, drop, sym, ◌∙◌, ap, arith, length-drop}
 use Rattle.std.proofs.lemmas.List.{take_rest, drop-drop}
-use Rattle.graphql_lexer.specs.Lexical.{begins_quotes}
-use Rattle.graphql_lexer.specs.steps.Quoted.{block_end}
-use Rattle.graphql_lexer.proofs.Strings.{block_closes, block_none, quotes_some}
+use Rattle.graphql_lexer.specs.{begins_quotes, block_end}
+use Rattle.graphql_lexer.proofs.{block_closes, block_none, quotes_some}
 use Rattle.graphql_lexer.proofs.tokenizer.quoted.block_len.Goals as goal
 
 pub returns-then-begins_quotes-clause-end : goal.returns-then-begins_quotes-clause-end

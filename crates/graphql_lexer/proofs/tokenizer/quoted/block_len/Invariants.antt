@@ -1,5 +1,5 @@
 use Rattle.std.proofs.Common.{◌≡◌, ◌-◌, ◌≤◌, length, drop}
-use Rattle.graphql_lexer.specs.steps.Quoted.{block_end}
+use Rattle.graphql_lexer.specs.{block_end}
 use Rattle.graphql_lexer.proofs.tokenizer.quoted.block_len.Given as goal
 
 abbrev pub invariant-units : goal.invariant-units

@@ -1,5 +1,5 @@
 use Rattle.std.proofs.Common.{sym, ◌∙◌}
-use Rattle.graphql_lexer.proofs.Strings.{plain_string, plain_flat}
+use Rattle.graphql_lexer.proofs.{plain_string, plain_flat}
 use Rattle.graphql_lexer.proofs.tokenizer.quoted.plain_string_len.Goals as goal
 
 pub returns-clause-is : goal.returns-clause-is

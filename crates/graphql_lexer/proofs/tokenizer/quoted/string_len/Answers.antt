@@ -1,6 +1,6 @@
 use Rattle.std.proofs.Common.{arith}
 use Rattle.std.proofs.lemmas.Bool.Decides.{nat_tests}
-use Rattle.graphql_lexer.proofs.Strings.{string_step, string_none}
+use Rattle.graphql_lexer.proofs.{string_step, string_none}
 use Rattle.graphql_lexer.proofs.tokenizer.quoted.string_len.Goals as goal
 
 pub returns-then-byte-eq10 : goal.returns-then-byte-eq10

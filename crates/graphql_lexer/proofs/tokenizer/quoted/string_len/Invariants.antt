@@ -1,5 +1,5 @@
 use Rattle.std.proofs.Common.{◌≡◌, false, drop}
-use Rattle.graphql_lexer.specs.steps.Quoted.{string_end}
+use Rattle.graphql_lexer.specs.{string_end}
 use Rattle.graphql_lexer.proofs.tokenizer.quoted.string_len.Given as goal
 
 abbrev pub invariant-characters : goal.invariant-characters

@@ -1,5 +1,5 @@
 use Rattle.std.proofs.Common.{sym, ◌∙◌, arith}
-use Rattle.graphql_lexer.proofs.Strings.{skips_plain, skips_escape, skips_unit}
+use Rattle.graphql_lexer.proofs.{skips_plain, skips_escape, skips_unit}
 use Rattle.graphql_lexer.proofs.tokenizer.quoted.units_len.Goals as goal
 
 pub returns-then-plain-gt0-clause-skips : goal.returns-then-plain-gt0-clause-skips

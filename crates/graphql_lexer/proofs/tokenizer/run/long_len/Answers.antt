@@ -1,6 +1,6 @@
-use Rattle.std.proofs.Common.{◌∙◌, ap, arith, length, length-drop}
 use Rattle.std.specs.List.{prefix_len}
-use Rattle.graphql_lexer.proofs.Lanes.{ends_within, goes_past}
+use Rattle.std.proofs.Common.{◌∙◌, ap, arith, length, length-drop}
+use Rattle.graphql_lexer.proofs.{ends_within, goes_past}
 use Rattle.graphql_lexer.proofs.tokenizer.run.long_len.Goals as goal
 
 pub returns-then-run-lt-LANES-clause-len : goal.returns-then-run-lt-LANES-clause-len

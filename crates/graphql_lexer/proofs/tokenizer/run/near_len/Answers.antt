@@ -1,5 +1,5 @@
 use Rattle.std.proofs.Common.{sym, ◌∙◌, arith}
-use Rattle.graphql_lexer.proofs.Lanes.{ends_within}
+use Rattle.graphql_lexer.proofs.{ends_within}
 use Rattle.graphql_lexer.proofs.tokenizer.run.near_len.Goals as goal
 
 pub returns-then-run-lt-LANES-clause-len : goal.returns-then-run-lt-LANES-clause-len

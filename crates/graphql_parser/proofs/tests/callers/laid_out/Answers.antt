@@ -1,7 +1,6 @@
 use Rattle.std.proofs.Common.{◌≡◌, Option, Result, Ok, Err, IfOk, IfSome, sym, subst}
 use Rattle.std.specs.Result.{result_ok}
-use Rattle.graphql_query_tree.specs.Tree.{document_view}
-use Rattle.graphql_query_tree.specs.Document.{IsDocumentOf}
+use Rattle.graphql_query_tree.specs.{document_view, IsDocumentOf}
 use Rattle.graphql_parser.proofs.tests.callers.laid_out.Goals as goal
 
 -- what follows where all is well holds of what `ok` keeps

@@ -1,10 +1,7 @@
 use Rattle.std.proofs.Common.{codes, refl, sym, ◌∙◌}
-use Rattle.graphql_grammar.specs.Trees.{Expr, Then, Empty}
-use Rattle.graphql_values.specs.Grammar.{mark, punctuator, name}
-use Rattle.graphql_values.proofs.Alternatives.{side_first}
-use Rattle.graphql_values.proofs.Reading.{takes_none}
-use Rattle.graphql_values.proofs.Steps.{here, took, past, into, whole, lacks, lacks_last}
-use Rattle.graphql_query_tree.specs.Grammar.{reading}
+use Rattle.graphql_values.specs.{Expr, Then, Empty, mark, punctuator, name}
+use Rattle.graphql_values.proofs.{side_first, takes_none, here, took, past, into, whole, lacks, lacks_last}
+use Rattle.graphql_query_tree.specs.{reading}
 use Rattle.graphql_query.proofs.read.alias.alias_and_name.Goals as goal
 
 abbrev second : Expr

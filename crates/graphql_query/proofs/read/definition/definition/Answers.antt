@@ -1,7 +1,7 @@
 use Rattle.std.proofs.Common.{sym, ap, ◌∙◌}
-use Rattle.graphql_query_tree.specs.Tree.{fragment}
-use Rattle.graphql_query.proofs.DefinitionAlternatives.{operation_side, fragment_definition_side, as_operation, as_fragment}
-use Rattle.graphql_values.proofs.Steps.{leads_in, fails_last}
+use Rattle.graphql_values.proofs.{leads_in, fails_last}
+use Rattle.graphql_query_tree.specs.{fragment}
+use Rattle.graphql_query.proofs.{operation_side, fragment_definition_side, as_operation, as_fragment}
 use Rattle.graphql_query.proofs.read.definition.definition.Goals as goal
 
 pub returns-in_err-fragment_definition-clause-reads : goal.returns-in_err-fragment_definition-clause-reads

@@ -1,10 +1,8 @@
 use Rattle.std.proofs.Common.{refl, ◌∙◌}
-use Rattle.graphql_values.specs.ValueViews.{directive_view}
-use Rattle.graphql_values.proofs.Reading.{fills}
-use Rattle.graphql_query_tree.specs.Grammar.{fragment_definition_symbol}
-use Rattle.graphql_query.proofs.FromShared.{begun, lifted, stops_lifted}
-use Rattle.graphql_query.proofs.EqualParts.{same_fragment_definition}
-use Rattle.graphql_values.proofs.Steps.{took, past, after, whole, fails, fails_last, lacks}
+use Rattle.graphql_values.specs.{directive_view}
+use Rattle.graphql_values.proofs.{fills, took, past, after, whole, fails, fails_last, lacks}
+use Rattle.graphql_query_tree.specs.{fragment_definition_symbol}
+use Rattle.graphql_query.proofs.{begun, lifted, stops_lifted, same_fragment_definition}
 use Rattle.graphql_query.proofs.read.definition.fragment_definition.Goals as goal
 
 pub returns-in_err-position-clause-reads : goal.returns-in_err-position-clause-reads

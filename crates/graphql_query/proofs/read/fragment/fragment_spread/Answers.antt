@@ -1,13 +1,8 @@
 use Rattle.std.proofs.Common.{refl, ap₂, ◌∙◌}
-use Rattle.graphql_grammar.specs.Trees.{Sym, Both}
-use Rattle.graphql_grammar.specs.Reading.{takes_both}
-use Rattle.graphql_values.specs.Grammar.{directives_symbol}
-use Rattle.graphql_values.specs.ValueViews.{directive_view}
-use Rattle.graphql_values.proofs.Reading.{adds_reserved, fills}
-use Rattle.graphql_values.proofs.Steps.{here, after, fails_last}
-use Rattle.graphql_query_tree.specs.Tree.{spread, selection_view}
-use Rattle.graphql_query.proofs.FromShared.{stops_lifted, lifted}
-use Rattle.graphql_query.proofs.Views.{fragment_spread_selected}
+use Rattle.graphql_values.specs.{Sym, Both, takes_both, directives_symbol, directive_view}
+use Rattle.graphql_values.proofs.{adds_reserved, fills, here, after, fails_last}
+use Rattle.graphql_query_tree.specs.{spread, selection_view}
+use Rattle.graphql_query.proofs.{stops_lifted, lifted, fragment_spread_selected}
 use Rattle.graphql_query.proofs.read.fragment.fragment_spread.Goals as goal
 
 pub returns-in_err-directives-clause-reads : goal.returns-in_err-directives-clause-reads

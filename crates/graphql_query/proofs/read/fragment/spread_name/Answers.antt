@@ -1,13 +1,8 @@
 use Rattle.std.proofs.Common.{◌≡◌, refl, sym, ap₂, ◌∙◌}
-use Rattle.graphql_grammar.specs.Trees.{One, Node}
-use Rattle.graphql_grammar.specs.Factored.{written}
-use Rattle.graphql_grammar.specs.Reading.{fails_one, fails_node}
-use Rattle.graphql_core.specs.Source.{place_next}
-use Rattle.graphql_values.proofs.Reading.{placed}
-use Rattle.graphql_values.proofs.Alternatives.{gives_side, side_node}
-use Rattle.graphql_query_tree.specs.Grammar.{reading, changes, spread_class, spread_name_symbol}
-use Rattle.graphql_query_tree.specs.Meanings.{spread_name_of}
-use Rattle.graphql_query.proofs.SelectionAlternatives.{gives_one, narrowed}
+use Rattle.graphql_values.specs.{Node, written, fails_one, fails_node, place_next}
+use Rattle.graphql_values.proofs.{placed, gives_led}
+use Rattle.graphql_query_tree.specs.{reading, changes, spread_class, spread_name_symbol, spread_name_of}
+use Rattle.graphql_query.proofs.{begun, gives_one, narrowed}
 use Rattle.graphql_query.proofs.read.fragment.spread_name.Goals as goal
 
 pub returns-then-not-sees_spread_name-clause-reads : goal.returns-then-not-sees_spread_name-clause-reads
@@ -16,11 +11,9 @@ returns-then-not-sees_spread_name-clause-reads g c = fails_node (fails_one (sym 
 pub returns-clause-reads : goal.returns-clause-reads
 returns-clause-reads g c =
     let items = g.S.TokenSource.items in
-    let bytes = g.S.Names.Names.bytes in
     let old = items c.args.source.now in
     let new = items c.expect_name.new.source in
-    gives_side reading _ (One spread_class) (Node spread_name_symbol) old new
-    (λ v x. (place_next old, bytes v) ≡ spread_name_of (written changes (Node spread_name_symbol x))) _ _
-    (side_node reading spread_name_symbol old.tokens (λ x. refl)) (λ v x h. h)
+    gives_led _ (λ v x. (place_next old, g.S.Names.Names.bytes v) ≡ spread_name_of (written changes (Node spread_name_symbol x))) _ _
+    (begun spread_name_symbol) (λ v x h is. is)
     (gives_one reading spread_class old new _ _ c.expect_name.result (λ t. refl) (λ v t h p. ap₂ (λ a b. (a, b)) (placed _ old new t h) (sym p))
     (narrowed old new _ c.expect_name.result (sym c.sees_spread_name.ensures ∙ c.if-not-sees_spread_name.false) c.expect_name.ensures))

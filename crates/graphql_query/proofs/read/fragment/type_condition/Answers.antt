@@ -1,7 +1,7 @@
 use Rattle.std.proofs.Common.{refl, sym}
-use Rattle.graphql_values.proofs.Steps.{took, past, whole, lacks, lacks_last}
-use Rattle.graphql_query_tree.specs.Grammar.{type_condition_symbol}
-use Rattle.graphql_query.proofs.FromShared.{begun}
+use Rattle.graphql_values.proofs.{took, past, whole, lacks, lacks_last}
+use Rattle.graphql_query_tree.specs.{type_condition_symbol}
+use Rattle.graphql_query.proofs.{begun}
 use Rattle.graphql_query.proofs.read.fragment.type_condition.Goals as goal
 
 pub returns-in_err-expect_keyword-clause-reads : goal.returns-in_err-expect_keyword-clause-reads

@@ -1,9 +1,8 @@
-use Rattle.std.proofs.Common.{ℕ, List, refl, subst, ◌∙◌}
-use Rattle.graphql_values.specs.Grammar.{keyword}
-use Rattle.graphql_values.proofs.Reading.{TakesNone}
-use Rattle.graphql_values.proofs.Steps.{here, took, past, whole, fails_last, lacks}
-use Rattle.graphql_query.specs.steps.Operations.{kind_of}
-use Rattle.graphql_query.proofs.EqualParts.{same_operation}
+use Rattle.std.proofs.Common.{ℕ, List, refl, sym, ap₂, subst, ◌∙◌}
+use Rattle.graphql_values.specs.{keyword}
+use Rattle.graphql_values.proofs.{TakesNone, here, took, past, whole, fails_last, lacks}
+use Rattle.graphql_query_tree.specs.{operation, with_body}
+use Rattle.graphql_query.specs.{kind_of}
 use Rattle.graphql_query.proofs.read.operation.keyword_operation.Goals as goal
 
 pub returns-in_err-position-clause-reads : goal.returns-in_err-position-clause-reads
@@ -22,4 +21,5 @@ pub returns-clause-reads : goal.returns-clause-reads
 returns-clause-reads g c =
     let begins = rw c.word.ensures at c.in_ok-position.ensures.1 in
     let (x, read, view) = c.in_ok-body.ensures.reads in
-    whole (past here (took begins refl)) read (c.into_operation.ensures ∙ same_operation (kind_of c.args.keyword) c.in_ok-position.ensures.2 view)
+    whole (past here (took begins refl)) read
+    (c.into_operation.ensures ∙ ap₂ (λ p b. operation (with_body (kind_of c.args.keyword) p b)) (sym c.in_ok-position.ensures.2) view)

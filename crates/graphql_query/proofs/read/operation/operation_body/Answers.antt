@@ -1,11 +1,8 @@
 use Rattle.std.proofs.Common.{refl, ◌∙◌, arith}
-use Rattle.graphql_values.specs.ValueViews.{directive_view}
-use Rattle.graphql_values.proofs.Reading.{fills}
-use Rattle.graphql_query_tree.specs.Tree.{variable_definition_view}
-use Rattle.graphql_query_tree.specs.Grammar.{operation_body_symbol}
-use Rattle.graphql_query.proofs.FromShared.{begun, lifted, stops_lifted}
-use Rattle.graphql_query.proofs.EqualParts.{same_operation_body}
-use Rattle.graphql_values.proofs.Steps.{past, after, whole, fails, fails_last}
+use Rattle.graphql_values.specs.{directive_view}
+use Rattle.graphql_values.proofs.{fills, past, after, whole, fails, fails_last}
+use Rattle.graphql_query_tree.specs.{variable_definition_view, operation_body_symbol}
+use Rattle.graphql_query.proofs.{begun, lifted, stops_lifted, same_operation_body}
 use Rattle.graphql_query.proofs.read.operation.operation_body.Goals as goal
 
 pub returns-in_err-name-clause-reads : goal.returns-in_err-name-clause-reads

@@ -1,10 +1,8 @@
 use Rattle.std.proofs.Common.{ap, ◌∙◌}
-use Rattle.graphql_values.proofs.Alternatives.{gives_side}
-use Rattle.graphql_values.proofs.Steps.{leads_in, fails_last}
-use Rattle.graphql_query_tree.specs.Grammar.{reading}
-use Rattle.graphql_query_tree.specs.Tree.{short}
-use Rattle.graphql_query.specs.steps.Operations.{kind_of}
-use Rattle.graphql_query.proofs.DefinitionAlternatives.{as_kind, kind_side, kind_means, as_short, short_side}
+use Rattle.graphql_values.proofs.{gives_led, leads_in, fails_last}
+use Rattle.graphql_query_tree.specs.{short}
+use Rattle.graphql_query.specs.{kind_of}
+use Rattle.graphql_query.proofs.{kind_side, kind_means, as_short, short_side}
 use Rattle.graphql_query.proofs.read.operation.operation_definition.Goals as goal
 
 pub returns-in_err-selection_set-in-None-clause-reads : goal.returns-in_err-selection_set-in-None-clause-reads
@@ -19,7 +17,5 @@ returns-in_ok-selection_set-in-None-clause-reads g c =
 
 pub returns-in-Some-clause-reads : goal.returns-in-Some-clause-reads
 returns-in-Some-clause-reads g c =
-    let old = g.S.TokenSource.items c.args.source.now in
     let kind = kind_of c.in-Some.keyword in
-    gives_side reading _ _ (as_kind kind) old (g.S.TokenSource.items c.keyword_operation.new.source) _ _ _ (kind_side kind old.tokens c.in-Some.ensures)
-    (λ v x view. view ∙ kind_means kind x) c.keyword_operation.ensures.reads
+    gives_led _ _ _ _ (leads_in (kind_side kind _ c.in-Some.ensures)) (λ v x h view. view ∙ kind_means kind x) c.keyword_operation.ensures.reads

@@ -1,5 +1,5 @@
 use Rattle.std.proofs.Common.{refl}
-use Rattle.graphql_query.proofs.VariableAlternatives.{variable_definitions_list}
+use Rattle.graphql_query.proofs.{variable_definitions_list}
 use Rattle.graphql_query.proofs.read.operation.optional_variable_definitions.Goals as goal
 
 pub returns-clause-reads : goal.returns-clause-reads

@@ -1,12 +1,8 @@
-use Rattle.std.proofs.Common.{◌+◌, ◌*◌, ◌≤◌, ◌≡◌, List, length}
-use Rattle.graphql_grammar.specs.Trees.{Sym}
-use Rattle.graphql_grammar.specs.ReaderWords.{Turns}
-use Rattle.graphql_core.specs.Source.{kept}
-use Rattle.graphql_values.specs.steps.Answers.{Adds}
-use Rattle.graphql_values.proofs.Reading.{one_of}
-use Rattle.graphql_query_tree.specs.Grammar.{reading, selection_symbol}
-use Rattle.graphql_query_tree.specs.Tree.{SelectionTree, selection_view}
-use Rattle.graphql_query.proofs.SelectionAlternatives.{selection_at}
+use Rattle.std.proofs.Common.{◌+◌, ◌*◌, ◌≤◌, ◌≡◌, length}
+use Rattle.graphql_values.specs.{Sym, kept}
+use Rattle.graphql_values.proofs.{Pushes}
+use Rattle.graphql_query_tree.specs.{reading, selection_symbol, selection_view}
+use Rattle.graphql_query.proofs.{selection_at}
 use Rattle.graphql_query.proofs.read.selection.+reading.Given as goal
 
 -- one that takes a token before it calls another has less to do than one that calls it at once
@@ -33,9 +29,8 @@ decreases-inline_fragment g l = 3 * length (g.S.TokenSource.items l.source.now).
 
 abbrev pub invariant-selections-more : goal.invariant-selections-more
 invariant-selections-more g l = record {
-  turns : (items : List SelectionTree)
-      × Turns reading (Sym selection_symbol) (one_of selection_at) (g.S.TokenSource.items l.initial.source).tokens (g.S.TokenSource.items l.source).tokens items
-      × Adds (selection_view g.S.Names.Names.bytes) l.initial.items.items l.items.items items;
+  pushes : Pushes reading (Sym selection_symbol) selection_at (selection_view g.S.Names.Names.bytes) (g.S.TokenSource.items l.initial.source)
+      (g.S.TokenSource.items l.source) l.initial.items.items l.items.items;
   kept : kept (g.S.TokenSource.items l.source) ≡ kept (g.S.TokenSource.items l.initial.source);
   within : length (g.S.TokenSource.items l.source).tokens ≤ length (g.S.TokenSource.items l.initial.source).tokens;
 }

@@ -1,10 +1,8 @@
 use Rattle.std.proofs.Common.{◌-◌, ◌^◌, ◌∙◌, arith, rules, refl, sym, not, nat_eq}
-use Rattle.graphql_values.proofs.Counting.{all_counted}
+use Rattle.graphql_values.proofs.{all_counted}
 use Rattle.graphql_query_tree.specs.declared.tree.SelectionSet.{the_lemmas}
-use Rattle.graphql_query_tree.specs.Tree.{selections_view}
-use Rattle.graphql_query_tree.specs.TreeDepth.{selections_depth}
-use Rattle.graphql_query_tree.specs.steps.Sets.{counted}
-use Rattle.graphql_query_tree.proofs.LayoutTexts.{selection_set_parts, no_items, some_items, nothing_levels, some_levels, selection_here}
+use Rattle.graphql_query_tree.specs.{selections_view, selections_depth, counted}
+use Rattle.graphql_query_tree.proofs.{selection_set_parts, no_items, some_items, nothing_levels, some_levels, selection_here}
 use Rattle.graphql_query_tree.proofs.print.levels.+levels.Goals as goal
 
 pub levels_in_selection_set-levels_in_selections-requires : goal.levels_in_selection_set-levels_in_selections-requires

@@ -1,7 +1,5 @@
 use Rattle.std.proofs.Common.{◌≡◌, ◌-◌, ◌^◌, min, max, drop, not, nat_eq}
-use Rattle.graphql_query_tree.specs.Tree.{selections_view}
-use Rattle.graphql_query_tree.specs.TreeDepth.{selections_depth}
-use Rattle.graphql_query_tree.specs.steps.Sets.{counted}
+use Rattle.graphql_query_tree.specs.{selections_view, selections_depth, counted}
 use Rattle.graphql_query_tree.proofs.print.levels.+levels.Given as goal
 
 abbrev pub invariant-levels_in_selections-items : goal.invariant-levels_in_selections-items

@@ -1,6 +1,6 @@
 use Rattle.std.proofs.Common.{arith}
-use Rattle.graphql_values.specs.ValueViews.{directives_view}
-use Rattle.graphql_query_tree.proofs.SetsTell.{no_directives}
+use Rattle.graphql_values.specs.{directives_view}
+use Rattle.graphql_query_tree.proofs.{no_directives}
 use Rattle.graphql_query_tree.proofs.print.levels.levels_in_counted_directives.Goals as goal
 
 pub returns-then-not-this : goal.returns-then-not-this

@@ -1,7 +1,6 @@
 use Rattle.std.proofs.Common.{arith}
-use Rattle.graphql_values.proofs.Seen.{most_seen}
-use Rattle.graphql_query_tree.specs.Layout.{variable_definition_levels}
-use Rattle.graphql_query_tree.specs.Tree.{variable_definition_view}
+use Rattle.graphql_values.proofs.{most_seen}
+use Rattle.graphql_query_tree.specs.{variable_definition_levels, variable_definition_view}
 use Rattle.graphql_query_tree.proofs.print.operation.levels_in_operation.Goals as goal
 
 pub returns : goal.returns

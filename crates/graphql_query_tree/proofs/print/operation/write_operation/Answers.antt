@@ -1,7 +1,5 @@
 use Rattle.std.proofs.Common.{ℕ, ◌<◌, ◌*◌, ◌^◌, max, arith, append_assoc}
-use Rattle.std.proofs.lemmas.Result.{on_ok_weaker}
-use Rattle.graphql_values.proofs.Appending.{text_append, and_last}
-use Rattle.graphql_values.proofs.Enclosed.{both_fit}
+use Rattle.graphql_values.proofs.{on_ok_weaker, text_append, and_last, both_fit}
 use Rattle.graphql_query_tree.proofs.print.operation.write_operation.Goals as goal
 
 -- the parts of an operation fit where it does

@@ -1,5 +1,5 @@
 use Rattle.std.proofs.Common.{◌++◌, append-nil, sym, ap, ◌∙◌, codes}
-use Rattle.graphql_values.proofs.Appending.{and_last}
+use Rattle.graphql_values.proofs.{and_last}
 use Rattle.graphql_query_tree.proofs.print.operation.write_operation_name.Goals as goal
 
 pub returns : goal.returns

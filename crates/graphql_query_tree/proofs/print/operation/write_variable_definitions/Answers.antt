@@ -1,11 +1,7 @@
 use Rattle.std.proofs.Common.{◌∙◌, ◌<◌, ◌*◌, ◌^◌, map, arith, refl, sym}
-use Rattle.graphql_values.proofs.Appending.{and_last, on_ok}
-use Rattle.graphql_values.proofs.Enclosed.{some_items}
-use Rattle.graphql_values.proofs.Seen.{most_seen, all_seen, in_parentheses_seen}
-use Rattle.graphql_values.specs.TreeDepth.{most}
-use Rattle.graphql_query_tree.specs.Lawful.{IsLawfulVariable}
-use Rattle.graphql_query_tree.specs.Layout.{variable_definition_layout, variable_definition_levels}
-use Rattle.graphql_query_tree.specs.Tree.{variable_definition_view}
+use Rattle.graphql_values.specs.{most}
+use Rattle.graphql_values.proofs.{and_last, on_ok, some_items, most_seen, all_seen, in_parentheses_seen}
+use Rattle.graphql_query_tree.specs.{IsLawfulVariable, variable_definition_layout, variable_definition_levels, variable_definition_view}
 use Rattle.graphql_query_tree.proofs.print.operation.write_variable_definitions.Goals as goal
 
 pub write_joined-requires : goal.write_joined-requires

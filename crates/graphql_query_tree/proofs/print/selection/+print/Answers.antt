@@ -1,16 +1,11 @@
 use Rattle.std.proofs.Common.{rules, arith, ◌∙◌, ◌+◌, ◌*◌, ◌++◌, ◌<◌, ◌^◌, append_assoc, ap, sym, refl, []}
-use Rattle.std.proofs.lemmas.Result.{on_ok_weaker}
-use Rattle.graphql_core.specs.Parts.{text_of}
-use Rattle.graphql_values.specs.ValueLayout.{in_levels}
+use Rattle.graphql_values.specs.{text_of, in_levels}
+use Rattle.graphql_values.proofs.{on_ok_weaker, narrower, braces_text, text_append, and_last, and_part, on_ok, all_hold}
 use Rattle.graphql_query_tree.specs.declared.tree.SelectionSet.{the_lemmas}
-use Rattle.graphql_query_tree.specs.Tree.{selection_set_view, selection_view, selections_view}
-use Rattle.graphql_query_tree.specs.Lawful.{AreLawfulSelections}
-use Rattle.graphql_query_tree.specs.Layout.{selection_layout, selections_layout, selection_set_levels}
-use Rattle.graphql_query_tree.proofs.LayoutTexts.{items_of, selection_set_parts, field_parts, inline_fragment_parts, selection_here, no_items, some_items}
-use Rattle.graphql_query_tree.proofs.LayoutTexts.{nothing_layout, nothing_lawful, some_levels, some_layout}
-use Rattle.graphql_values.proofs.Enclosed.{narrower, braces_text}
-use Rattle.graphql_values.proofs.Appending.{text_append, and_last, and_part, on_ok}
-use Rattle.graphql_values.proofs.Counting.{all_hold}
+use Rattle.graphql_query_tree.specs.{selection_set_view, selection_view, selections_view, AreLawfulSelections, selection_layout, selections_layout}
+use Rattle.graphql_query_tree.specs.{selection_set_levels}
+use Rattle.graphql_query_tree.proofs.{items_of, selection_set_parts, field_parts, inline_fragment_parts, selection_here, no_items, some_items, nothing_layout}
+use Rattle.graphql_query_tree.proofs.{nothing_lawful, some_levels, some_layout}
 use Rattle.graphql_query_tree.proofs.print.selection.+print.Goals as goal
 
 pub write_selection_set-write_selections-requires : goal.write_selection_set-write_selections-requires

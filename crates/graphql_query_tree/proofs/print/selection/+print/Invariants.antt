@@ -1,8 +1,6 @@
 use Rattle.std.proofs.Common.{◌≡◌, ◌++◌, ◌+◌, ◌*◌, ◌<◌, ◌^◌, List, ℕ, drop}
-use Rattle.graphql_core.specs.Parts.{text_of}
-use Rattle.graphql_query_tree.specs.Tree.{selections_view}
-use Rattle.graphql_query_tree.specs.Lawful.{AreLawfulSelections}
-use Rattle.graphql_query_tree.specs.Layout.{selections_layout, selections_levels}
+use Rattle.graphql_values.specs.{text_of}
+use Rattle.graphql_query_tree.specs.{selections_view, AreLawfulSelections, selections_layout, selections_levels}
 use Rattle.graphql_query_tree.proofs.print.selection.+print.Given as goal
 
 abbrev pub invariant-write_selections-items : goal.invariant-write_selections-items

@@ -1,5 +1,5 @@
 use Rattle.std.proofs.Common.{append_assoc}
-use Rattle.graphql_values.proofs.Appending.{text_append, and_last}
+use Rattle.graphql_values.proofs.{text_append, and_last}
 use Rattle.graphql_query_tree.proofs.print.selection.write_fragment_spread.Goals as goal
 
 pub returns-clause-text : goal.returns-clause-text

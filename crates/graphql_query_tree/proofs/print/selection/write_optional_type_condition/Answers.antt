@@ -1,5 +1,5 @@
 use Rattle.std.proofs.Common.{refl}
-use Rattle.graphql_values.proofs.Appending.{and_last}
+use Rattle.graphql_values.proofs.{and_last}
 use Rattle.graphql_query_tree.proofs.print.selection.write_optional_type_condition.Goals as goal
 
 pub returns : goal.returns

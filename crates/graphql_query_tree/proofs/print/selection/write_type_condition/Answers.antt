@@ -1,6 +1,6 @@
 use Rattle.std.proofs.Common.{rules, ◌≡◌, ◌++◌, append-nil, sym, ap, ◌∙◌, codes}
-use Rattle.graphql_query_tree.specs.Tree.{type_condition_view}
-use Rattle.graphql_values.proofs.Appending.{and_last}
+use Rattle.graphql_values.proofs.{and_last}
+use Rattle.graphql_query_tree.specs.{type_condition_view}
 use Rattle.graphql_query_tree.proofs.print.selection.write_type_condition.Goals as goal
 
 pub returns : goal.returns

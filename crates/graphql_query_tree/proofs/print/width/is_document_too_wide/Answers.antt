@@ -1,4 +1,4 @@
-use Rattle.std.proofs.lemmas.Bool.{false≢true}
+use Rattle.graphql_values.proofs.{false≢true}
 use Rattle.graphql_query_tree.proofs.print.width.is_document_too_wide.Goals as goal
 
 pub returns-then-leaves_room : goal.returns-then-leaves_room

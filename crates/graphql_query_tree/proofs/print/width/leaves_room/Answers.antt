@@ -1,12 +1,9 @@
 use Rattle.std.proofs.Common.{◌∙◌, ◌+◌, arith, sym}
 use Rattle.std.proofs.Math.Nat.{mul-le-mul_right}
-use Rattle.std.proofs.lemmas.Bool.{false≢true}
-use Rattle.graphql_values.specs.TreeDepth.{most}
-use Rattle.graphql_query_tree.specs.Layout.{levels}
-use Rattle.graphql_query_tree.specs.Tree.{document_view}
-use Rattle.graphql_query_tree.specs.TreeDepth.{definition_depth}
-use Rattle.graphql_query_tree.specs.steps.Sets.{in_sets}
-use Rattle.graphql_query_tree.proofs.SetsTell.{document_within}
+use Rattle.graphql_values.specs.{most}
+use Rattle.graphql_values.proofs.{false≢true}
+use Rattle.graphql_query_tree.specs.{levels, document_view, definition_depth, in_sets}
+use Rattle.graphql_query_tree.proofs.{document_within}
 use Rattle.graphql_query_tree.proofs.print.width.leaves_room.Goals as goal
 
 pub returns : goal.returns

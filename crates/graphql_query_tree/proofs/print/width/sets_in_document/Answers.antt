@@ -1,10 +1,8 @@
 use Rattle.std.proofs.Common.{◌-◌, ◌^◌, arith, refl}
-use Rattle.graphql_values.specs.TreeDepth.{most}
-use Rattle.graphql_values.proofs.Counting.{all_counted, item_here}
-use Rattle.graphql_query_tree.specs.Tree.{definition_view, definitions_view}
-use Rattle.graphql_query_tree.specs.TreeDepth.{definition_depth}
-use Rattle.graphql_query_tree.specs.steps.Sets.{in_sets}
-use Rattle.graphql_query_tree.proofs.SetsTell.{sets_alone}
+use Rattle.graphql_values.specs.{most}
+use Rattle.graphql_values.proofs.{all_counted, item_here}
+use Rattle.graphql_query_tree.specs.{definition_view, definitions_view, definition_depth, in_sets}
+use Rattle.graphql_query_tree.proofs.{sets_alone}
 use Rattle.graphql_query_tree.proofs.print.width.sets_in_document.Goals as goal
 
 pub definitions-preserved : goal.definitions-preserved

@@ -1,8 +1,6 @@
 use Rattle.std.proofs.Common.{◌≡◌, ◌-◌, ◌^◌, min, max, drop}
-use Rattle.graphql_values.specs.TreeDepth.{most}
-use Rattle.graphql_query_tree.specs.Tree.{definitions_view}
-use Rattle.graphql_query_tree.specs.TreeDepth.{definition_depth}
-use Rattle.graphql_query_tree.specs.steps.Sets.{in_sets}
+use Rattle.graphql_values.specs.{most}
+use Rattle.graphql_query_tree.specs.{definitions_view, definition_depth, in_sets}
 use Rattle.graphql_query_tree.proofs.print.width.sets_in_document.Given as goal
 
 abbrev pub invariant-definitions : goal.invariant-definitions

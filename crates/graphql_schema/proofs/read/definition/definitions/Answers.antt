@@ -1,17 +1,9 @@
 use Rattle.std.proofs.Common.{sym, ◌∙◌, refl, Err}
-use Rattle.graphql_grammar.specs.Trees.{Sym, Stop, fits_stop}
-use Rattle.graphql_values.proofs.Reading.{adds_one, fills}
-use Rattle.graphql_values.proofs.Refusing.{halts_before, halts_led, turn_done, turn_halts}
-use Rattle.graphql_values.proofs.Steps.{here, past, pushes_none}
-use Rattle.graphql_schema_tree.specs.Grammar.{item_symbol}
-use Rattle.graphql_schema_tree.specs.Language.{schemas}
-use Rattle.graphql_schema_tree.specs.Meanings.{item_of}
-use Rattle.graphql_schema_tree.specs.Views.{definition_view}
-use Rattle.graphql_schema.specs.steps.Refusals.{refusals}
-use Rattle.graphql_schema.proofs.Dialect.{reading}
-use Rattle.graphql_schema.proofs.Definitions.{item_begins}
-use Rattle.graphql_schema.specs.steps.Reads.{as_written}
-use Rattle.graphql_schema.proofs.Lists.{some_taken}
+use Rattle.graphql_values.specs.{Stop, fits_stop, each_of}
+use Rattle.graphql_values.proofs.{adds_one, fills, halts_before, halts_led, turn_done, turn_halts, here, past, pushes_none, some_taken}
+use Rattle.graphql_schema_tree.specs.{schemas, item_of, definition_view}
+use Rattle.graphql_schema.specs.{refusals, as_written}
+use Rattle.graphql_schema.proofs.{reading, item_begins}
 use Rattle.graphql_schema.proofs.read.definition.definitions.Goals as goal
 
 pub returns-in_err-definition-clause-reads : goal.returns-in_err-definition-clause-reads
@@ -44,9 +36,8 @@ returns-clause-reads g c =
     let now = g.S.TokenSource.items c.more.source in
     let view = definition_view g.S.Names.Names.bytes in
     let (x, taken, is) = c.in_ok-definition.ensures.reads.gives in
-    let old = g.S.TokenSource.items c.args.source.now in
-    let start = g.S.TokenSource.items c.definition.new.source in
+    let all = as_written (each_of item_of) in
     let (xs, all, adds) =
-    some_taken (Sym item_symbol) item_of view old start now _ _ _ (x, taken, adds_one view _ _ _ _ c.in_ok-push.ensures.items is)
+    some_taken (as_written item_of) all all _ refl (λ x y. refl) (λ x y. refl) (x, taken, adds_one view _ _ _ _ c.in_ok-push.ensures.items is)
     c.more.invariant.pushes (item_begins now ∙ sym c.sees_definition.ensures ∙ c.more-test.false) in
     record { gives = (xs, all, fills view _ _ _ c.new-definitions.ensures.items adds); says = tt }

@@ -1,26 +1,22 @@
 use Rattle.std.proofs.Common.{sym, refl, ◌∙◌}
-use Rattle.graphql_grammar.specs.Trees.{One}
-use Rattle.graphql_lexer.specs.declared.tokenizer.token.Kind.TheVariants.{StringValue, BlockString}
-use Rattle.graphql_values.specs.Grammar.{any}
-use Rattle.graphql_values.proofs.Reading.{unseen_one}
-use Rattle.graphql_values.proofs.Alternatives.{side_left, side_second}
-use Rattle.graphql_values.proofs.Steps.{begun, into}
-use Rattle.graphql_schema_tree.specs.Grammar.{description_symbol}
-use Rattle.graphql_schema.proofs.Dialect.{reading}
-use Rattle.graphql_schema.proofs.Lists.{gives_lifted, gives_led}
+use Rattle.graphql_values.specs.{One, StringValue, BlockString, any}
+use Rattle.graphql_values.proofs.{unseen_one, side_left, side_second, begun, into, gives_led, gives_lifted}
+use Rattle.graphql_schema_tree.specs.{schemas, description_symbol}
+use Rattle.graphql_schema_tree.proofs.{readable, read_alike}
+use Rattle.graphql_schema.proofs.{reading}
 use Rattle.graphql_schema.proofs.read.description.description.Goals as goal
 
 pub returns-then-sees_block_string-clause-reads : goal.returns-then-sees_block_string-clause-reads
 returns-then-sees_block_string-clause-reads g c =
     let side = side_second reading (One (any StringValue)) (One (any BlockString)) (any BlockString) (g.S.TokenSource.items c.args.source.now).tokens refl refl
     (sym c.sees_block_string.ensures ∙ c.if-sees_block_string.true) in
-    gives_led _ _ _ _ (into (begun description_symbol (λ x. refl)) side) (λ v x is. is)
-    (gives_lifted (One (any BlockString)) refl refl _ _ _ _ c.block_string_value.ensures.reads)
+    gives_led _ _ _ _ (into (begun description_symbol (λ x. refl)) side) (λ v x h is. is)
+    (gives_lifted schemas readable (One (any BlockString)) (read_alike (One (any BlockString)) refl) refl _ _ _ _ c.block_string_value.ensures.reads)
 
 pub returns-clause-reads : goal.returns-clause-reads
 returns-clause-reads g c =
     let ts = (g.S.TokenSource.items c.args.source.now).tokens in
     let side = side_left reading (One (any StringValue)) (One (any BlockString)) ts refl refl (unseen_one reading (any StringValue) ts)
     (sym c.sees_block_string.ensures ∙ c.if-sees_block_string.false) in
-    gives_led _ _ _ _ (into (begun description_symbol (λ x. refl)) side) (λ v x is. is)
-    (gives_lifted (One (any StringValue)) refl refl _ _ _ _ c.string_value.ensures.reads)
+    gives_led _ _ _ _ (into (begun description_symbol (λ x. refl)) side) (λ v x h is. is)
+    (gives_lifted schemas readable (One (any StringValue)) (read_alike (One (any StringValue)) refl) refl _ _ _ _ c.string_value.ensures.reads)

@@ -1,8 +1,6 @@
 use Rattle.std.proofs.Common.{refl, sym, ap, ◌∙◌, Some}
-use Rattle.graphql_values.proofs.Steps.{whole, fails_last}
-use Rattle.graphql_schema.proofs.Inputs.{description_begins}
-use Rattle.graphql_schema.proofs.JoinedNames.{there, none_given}
-use Rattle.graphql_schema.proofs.Lists.{begins_description}
+use Rattle.graphql_values.proofs.{there, none_given, whole, fails_last}
+use Rattle.graphql_schema.proofs.{description_begins, begins_description}
 use Rattle.graphql_schema.proofs.read.description.optional_description.Goals as goal
 
 pub returns-then-not-sees_description-clause-reads : goal.returns-then-not-sees_description-clause-reads

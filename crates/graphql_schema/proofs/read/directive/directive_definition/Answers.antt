@@ -1,9 +1,7 @@
 use Rattle.std.proofs.Common.{refl}
-use Rattle.graphql_values.proofs.Reading.{fills}
-use Rattle.graphql_values.proofs.Steps.{begun, took, past, after, whole, fails, fails_last, lacks}
-use Rattle.graphql_schema_tree.specs.Grammar.{directive_definition_symbol}
-use Rattle.graphql_schema_tree.specs.Views.{input_value_view}
-use Rattle.graphql_schema.proofs.Directives.{after_none, same_definition}
+use Rattle.graphql_values.proofs.{fills, begun, took, past, after, whole, fails, fails_last, lacks}
+use Rattle.graphql_schema_tree.specs.{directive_definition_symbol, input_value_view}
+use Rattle.graphql_schema.proofs.{after_none, same_definition}
 use Rattle.graphql_schema.proofs.read.directive.directive_definition.Goals as goal
 
 pub returns-in_err-position-clause-reads : goal.returns-in_err-position-clause-reads

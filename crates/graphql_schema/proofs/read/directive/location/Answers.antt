@@ -1,8 +1,7 @@
 use Rattle.std.proofs.Common.{is_some, sym, ap, ◌∙◌}
-use Rattle.graphql_grammar.specs.Trees.{Leaf, Node}
-use Rattle.graphql_schema_tree.specs.Locations.{location_of}
-use Rattle.graphql_schema_tree.specs.Grammar.{location_symbol}
-use Rattle.graphql_schema.proofs.Directives.{named, unnamed, location_missing, location_refused, location_taken}
+use Rattle.graphql_values.specs.{Leaf, Node}
+use Rattle.graphql_schema_tree.specs.{location_of, location_symbol}
+use Rattle.graphql_schema.proofs.{named, unnamed, location_missing, location_refused, location_taken}
 use Rattle.graphql_schema.proofs.read.directive.location.Goals as goal
 
 pub returns-in_err-token-clause-reads : goal.returns-in_err-token-clause-reads

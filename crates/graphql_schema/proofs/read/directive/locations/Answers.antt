@@ -1,16 +1,9 @@
 use Rattle.std.proofs.Common.{refl, sym, ◌∙◌, codes, Some, None, arith}
-use Rattle.graphql_grammar.specs.Trees.{Then, Sym}
-use Rattle.graphql_grammar.specs.Factored.{written}
-use Rattle.graphql_values.specs.Grammar.{punctuator}
-use Rattle.graphql_values.proofs.Reading.{adds_one}
-use Rattle.graphql_values.proofs.Steps.{begun, after, whole, fails, fails_last, pushes_none, turn_fails}
-use Rattle.graphql_schema_tree.specs.Grammar.{changes, location_symbol, locations_symbol}
-use Rattle.graphql_schema_tree.specs.Meanings.{location_at, marked_of, joined_of}
-use Rattle.graphql_schema.proofs.Dialect.{reading}
-use Rattle.graphql_schema.specs.steps.Reads.{as_written}
-use Rattle.graphql_schema.proofs.Lists.{turn_appends}
-use Rattle.graphql_schema.proofs.Directives.{adds_present}
-use Rattle.graphql_schema.proofs.JoinedNames.{joined_taken}
+use Rattle.graphql_values.specs.{Then, Sym, written, punctuator, marked_of, joined_of}
+use Rattle.graphql_values.proofs.{adds_one, begun, after, whole, fails, fails_last, pushes_none, turn_fails, turn_appends}
+use Rattle.graphql_schema_tree.specs.{changes, location_symbol, locations_symbol, location_at}
+use Rattle.graphql_schema.specs.{as_written}
+use Rattle.graphql_schema.proofs.{reading, adds_present, joined_taken}
 use Rattle.graphql_schema.proofs.read.directive.locations.Goals as goal
 
 pub returns-in_err-location-clause-reads : goal.returns-in_err-location-clause-reads
@@ -28,7 +21,7 @@ more-init g c = record {
 pub more-preserved : goal.more-preserved
 more-preserved g c =
     let now = g.S.TokenSource.items c.more.source in record {
-      comes = turn_appends (Then (punctuator (codes "|")) (Sym location_symbol)) (marked_of location_at None) Some _ now _ _ _ _ c.more.invariant.comes
+      comes = turn_appends reading _ (as_written (marked_of location_at None)) Some _ now _ _ _ _ c.more.invariant.comes
           (sym c.sees_punctuator.ensures ∙ c.more-test.true) c.in_ok-marked_location.ensures.reads c.in_ok-marked_location.ensures.kept;
       kept = c.in_ok-marked_location.ensures.kept ∙ c.more.invariant.kept;
       within = omega (arith, c.more.invariant.within, c.in_ok-marked_location.ensures.shorter);

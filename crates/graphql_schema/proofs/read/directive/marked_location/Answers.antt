@@ -1,6 +1,5 @@
 use Rattle.std.proofs.Common.{refl, Some}
-use Rattle.graphql_values.proofs.Reading.{adds_one}
-use Rattle.graphql_values.proofs.Steps.{here, took, past, whole, fails_last, lacks}
+use Rattle.graphql_values.proofs.{adds_one, here, took, past, whole, fails_last, lacks}
 use Rattle.graphql_schema.proofs.read.directive.marked_location.Goals as goal
 
 pub returns-in_err-expect_punctuator-clause-reads : goal.returns-in_err-expect_punctuator-clause-reads

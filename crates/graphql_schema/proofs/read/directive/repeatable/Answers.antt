@@ -1,8 +1,7 @@
 use Rattle.std.proofs.Common.{refl, sym, ◌∙◌, codes}
-use Rattle.graphql_grammar.specs.Trees.{Leaf, First, Second, Nothing}
-use Rattle.graphql_values.specs.Grammar.{word}
-use Rattle.graphql_values.proofs.Reading.{takes_one, takes_some, takes_none}
-use Rattle.graphql_schema.proofs.Dialect.{reading}
+use Rattle.graphql_values.specs.{Leaf, First, Second, Nothing, word}
+use Rattle.graphql_values.proofs.{takes_one, takes_some, takes_none}
+use Rattle.graphql_schema.proofs.{reading}
 use Rattle.graphql_schema.proofs.read.directive.repeatable.Goals as goal
 
 pub returns-then-not-sees_keyword-clause-reads : goal.returns-then-not-sees_keyword-clause-reads

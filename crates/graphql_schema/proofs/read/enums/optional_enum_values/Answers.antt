@@ -1,5 +1,5 @@
 use Rattle.std.proofs.Common.{refl}
-use Rattle.graphql_schema.proofs.Fields.{enum_values_list}
+use Rattle.graphql_schema.proofs.{enum_values_list}
 use Rattle.graphql_schema.proofs.read.enums.optional_enum_values.Goals as goal
 
 pub returns-clause-reads : goal.returns-clause-reads

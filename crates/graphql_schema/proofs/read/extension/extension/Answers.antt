@@ -1,15 +1,10 @@
 use Rattle.std.proofs.Common.{◌∙◌, Some, ap, refl, sym}
-use Rattle.graphql_grammar.specs.Tokens.{Place}
-use Rattle.graphql_core.specs.Causes.{empty_extension}
-use Rattle.graphql_values.proofs.Refusing.{node_stops, node_lacks, node_passes, node_refused}
-use Rattle.graphql_values.proofs.Steps.{here, before, past, took}
-use Rattle.graphql_schema_tree.specs.Grammar.{extension_symbol}
-use Rattle.graphql_schema_tree.specs.Language.{schemas}
-use Rattle.graphql_schema_tree.specs.Tree.{SchemaTree, BodyTree, schema_extension, extension, adds, adds_to_schema}
-use Rattle.graphql_schema_tree.proofs.Readable.{readable}
-use Rattle.graphql_schema.specs.steps.Refusals.{refusals}
-use Rattle.graphql_schema.proofs.Definitions.{of_schema, of_body, node_halts, none_extended, directive_extended, not_extended}
-use Rattle.graphql_schema.proofs.Types.{body_means}
+use Rattle.graphql_values.specs.{Place, empty_extension}
+use Rattle.graphql_values.proofs.{node_stops, node_lacks, node_passes, node_refused, here, before, past, took}
+use Rattle.graphql_schema_tree.specs.{extension_symbol, schemas, SchemaTree, BodyTree, schema_extension, extension, adds, adds_to_schema}
+use Rattle.graphql_schema_tree.proofs.{readable}
+use Rattle.graphql_schema.specs.{refusals}
+use Rattle.graphql_schema.proofs.{of_schema, of_body, node_halts, none_extended, directive_extended, not_extended, body_means}
 use Rattle.graphql_schema.proofs.read.extension.extension.Goals as goal
 
 pub returns-in_err-expect_keyword-clause-reads : goal.returns-in_err-expect_keyword-clause-reads

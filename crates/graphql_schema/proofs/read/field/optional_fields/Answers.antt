@@ -1,5 +1,5 @@
 use Rattle.std.proofs.Common.{refl}
-use Rattle.graphql_schema.proofs.Fields.{fields_list}
+use Rattle.graphql_schema.proofs.{fields_list}
 use Rattle.graphql_schema.proofs.read.field.optional_fields.Goals as goal
 
 pub returns-clause-reads : goal.returns-clause-reads

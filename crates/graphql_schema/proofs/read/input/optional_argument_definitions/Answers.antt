@@ -1,5 +1,5 @@
 use Rattle.std.proofs.Common.{refl}
-use Rattle.graphql_schema.proofs.Inputs.{argument_definitions_list}
+use Rattle.graphql_schema.proofs.{argument_definitions_list}
 use Rattle.graphql_schema.proofs.read.input.optional_argument_definitions.Goals as goal
 
 pub returns-clause-reads : goal.returns-clause-reads

@@ -1,5 +1,5 @@
 use Rattle.std.proofs.Common.{refl}
-use Rattle.graphql_schema.proofs.Inputs.{input_fields_list}
+use Rattle.graphql_schema.proofs.{input_fields_list}
 use Rattle.graphql_schema.proofs.read.input.optional_input_fields.Goals as goal
 
 pub returns-clause-reads : goal.returns-clause-reads

@@ -1,6 +1,6 @@
 use Rattle.std.proofs.Common.{sym, ◌∙◌}
-use Rattle.graphql_core.specs.Source.{lexeme_token}
-use Rattle.graphql_schema.proofs.Keywords.{no_word}
+use Rattle.graphql_values.specs.{lexeme_token}
+use Rattle.graphql_schema.proofs.{no_word}
 use Rattle.graphql_schema.proofs.read.keyword.keyword_of.Goals as goal
 
 -- no keyword is spelled so

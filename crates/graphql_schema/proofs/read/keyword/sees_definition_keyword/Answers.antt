@@ -1,5 +1,5 @@
 use Rattle.std.proofs.Common.{◌∙◌}
-use Rattle.graphql_schema.proofs.Keywords.{is_told}
+use Rattle.graphql_schema.proofs.{is_told}
 use Rattle.graphql_schema.proofs.read.keyword.sees_definition_keyword.Goals as goal
 
 pub returns : goal.returns

@@ -1,15 +1,9 @@
 use Rattle.std.proofs.Common.{refl, sym, ap, ◌∙◌, [], length, arith}
-use Rattle.graphql_grammar.specs.Trees.{Leaf}
-use Rattle.graphql_core.specs.steps.Punctuators.{spelling_of}
+use Rattle.graphql_values.specs.{Leaf, spelling_of, spelling_at, marked_of}
+use Rattle.graphql_values.proofs.{adds_one, here, took, past, after, fails_last, lacks, pushes_none, turn_fails, turn_appends}
+use Rattle.graphql_schema.specs.{as_written}
+use Rattle.graphql_schema.proofs.{reading, marked, joined_taken}
 use Rattle.graphql_values.specs.Grammar as shared
-use Rattle.graphql_values.specs.Meanings.{spelling_at}
-use Rattle.graphql_values.proofs.Reading.{adds_one}
-use Rattle.graphql_values.proofs.Steps.{here, took, past, after, fails_last, lacks, pushes_none, turn_fails}
-use Rattle.graphql_schema_tree.specs.Meanings.{marked_of}
-use Rattle.graphql_schema.proofs.Dialect.{reading}
-use Rattle.graphql_schema.specs.steps.Reads.{as_written}
-use Rattle.graphql_schema.proofs.Lists.{turn_appends}
-use Rattle.graphql_schema.proofs.JoinedNames.{marked, joined_taken}
 use Rattle.graphql_schema.proofs.read.names.joined_names.Goals as goal
 
 pub returns-in_err-expect_name-clause-reads : goal.returns-in_err-expect_name-clause-reads
@@ -26,7 +20,7 @@ more-init g c = record {
 pub more-preserved : goal.more-preserved
 more-preserved g c =
     let now = g.S.TokenSource.items c.more.source in record {
-      comes = turn_appends (marked (spelling_of c.args.mark)) (marked_of spelling_at []) g.S.Names.Names.bytes _ now _ _ _ _ c.more.invariant.comes
+      comes = turn_appends reading _ (as_written (marked_of spelling_at [])) g.S.Names.Names.bytes _ now _ _ _ _ c.more.invariant.comes
           (sym c.sees_punctuator.ensures ∙ c.more-test.true) c.in_ok-marked_name.ensures.reads c.in_ok-marked_name.ensures.kept;
       kept = c.in_ok-marked_name.ensures.kept ∙ c.more.invariant.kept;
       within = omega (arith, c.more.invariant.within, c.in_ok-marked_name.ensures.shorter);

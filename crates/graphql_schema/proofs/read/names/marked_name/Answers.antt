@@ -1,6 +1,5 @@
 use Rattle.std.proofs.Common.{refl, sym}
-use Rattle.graphql_values.proofs.Reading.{adds_one}
-use Rattle.graphql_values.proofs.Steps.{here, took, past, whole, lacks, lacks_last}
+use Rattle.graphql_values.proofs.{adds_one, here, took, past, whole, lacks, lacks_last}
 use Rattle.graphql_schema.proofs.read.names.marked_name.Goals as goal
 
 pub returns-in_err-expect_punctuator-clause-reads : goal.returns-in_err-expect_punctuator-clause-reads

@@ -1,7 +1,7 @@
 use Rattle.std.proofs.Common.{refl, sym, ◌∙◌}
-use Rattle.graphql_grammar.specs.Trees.{Leaf, First, Second, Nothing}
-use Rattle.graphql_values.proofs.Reading.{takes_one, takes_some, takes_none}
-use Rattle.graphql_schema.proofs.Dialect.{reading}
+use Rattle.graphql_values.specs.{Leaf, First, Second, Nothing}
+use Rattle.graphql_values.proofs.{takes_one, takes_some, takes_none}
+use Rattle.graphql_schema.proofs.{reading}
 use Rattle.graphql_schema.proofs.read.names.optional_punctuator.Goals as goal
 
 pub returns-in_ok-expect_punctuator-clause-reads : goal.returns-in_ok-expect_punctuator-clause-reads

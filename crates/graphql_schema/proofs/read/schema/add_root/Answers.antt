@@ -1,8 +1,7 @@
 use Rattle.std.proofs.Common.{◌∙◌, List, ℕ, Some, ap, refl, sym, codes}
 use Rattle.std.proofs.lemmas.Result.{IfOk-weaker}
-use Rattle.graphql_grammar.specs.Tokens.{same_spelling}
-use Rattle.graphql_core.specs.Causes.{unknown_operation}
-use Rattle.graphql_schema.proofs.RootNames.{is_text, not_root, faultless, roots_kept, roots_unknown, filled_same, stays}
+use Rattle.graphql_values.specs.{same_spelling, unknown_operation}
+use Rattle.graphql_schema.proofs.{is_text, not_root, faultless, roots_kept, roots_unknown, filled_same, stays}
 use Rattle.graphql_schema.proofs.read.schema.add_root.Goals as goal
 
 pub returns-then-is_some : goal.returns-then-is_some

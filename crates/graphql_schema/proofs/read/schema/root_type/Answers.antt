@@ -1,7 +1,7 @@
 use Rattle.std.proofs.Common.{◌∙◌, [], ◌∷◌, ◌++◌, subst, refl, sym}
-use Rattle.graphql_values.proofs.Steps.{begun, took, past, whole, lacks, lacks_last}
-use Rattle.graphql_schema_tree.specs.Grammar.{root_type_symbol}
-use Rattle.graphql_schema.specs.steps.Roots.{Root, HasRoots}
+use Rattle.graphql_values.proofs.{begun, took, past, whole, lacks, lacks_last}
+use Rattle.graphql_schema_tree.specs.{Root, root_type_symbol}
+use Rattle.graphql_schema.specs.{HasRoots}
 use Rattle.graphql_schema.proofs.read.schema.root_type.Goals as goal
 
 pub returns-in_err-operation-clause-reads : goal.returns-in_err-operation-clause-reads

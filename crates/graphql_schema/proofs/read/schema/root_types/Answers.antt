@@ -1,18 +1,9 @@
 use Rattle.std.proofs.Common.{◌≡◌, ◌∙◌, [], ◌∷◌, ◌++◌, List, arith, refl, sym, subst, append_assoc, append-nil}
-use Rattle.graphql_grammar.specs.Tokens.{Token}
-use Rattle.graphql_grammar.specs.Trees.{Sym, peek}
-use Rattle.graphql_grammar.specs.Tables.{first}
-use Rattle.graphql_grammar.specs.Reading.{sees}
-use Rattle.graphql_grammar.proofs.ReaderSteps.{Turns-start, Turns-more, Turns-stop, Stops-turn}
-use Rattle.graphql_lexer.specs.declared.tokenizer.token.Kind.TheVariants.{Name}
-use Rattle.graphql_values.specs.Grammar.{any, tables as core_tables}
-use Rattle.graphql_values.proofs.Reading.{one_of}
-use Rattle.graphql_values.proofs.Steps.{here, fails_last}
-use Rattle.graphql_schema_tree.specs.Grammar.{tables, root_type_symbol}
-use Rattle.graphql_schema.specs.steps.Roots.{Root, root_at, HasRoots}
-use Rattle.graphql_schema.proofs.Dialect.{reading}
-use Rattle.graphql_schema.proofs.Lists.{each_means}
-use Rattle.graphql_schema.proofs.RootNames.{turn_of}
+use Rattle.graphql_values.specs.{Token, Sym, peek, first, sees, Name, any, tables as core_tables, each_of}
+use Rattle.graphql_values.proofs.{Turns-start, Turns-more, Turns-stop, Stops-turn, one_of, here, fails_last, each_means}
+use Rattle.graphql_schema_tree.specs.{Root, root_at, tables, root_type_symbol}
+use Rattle.graphql_schema.specs.{HasRoots, as_written}
+use Rattle.graphql_schema.proofs.{reading, turn_of}
 use Rattle.graphql_schema.proofs.read.schema.root_types.Goals as goal
 
 begins : (ts : List Token) → sees (first reading.rows (Sym root_type_symbol)) (peek ts) ≡ sees (any Name ∷ []) (peek ts)
@@ -55,5 +46,5 @@ pub returns-clause-reads : goal.returns-clause-reads
 returns-clause-reads g c =
     let (new, turns, has) = c.more.invariant.roots in
     let (x, takes, is) = Turns-stop reading _ (one_of turn_of) _ _ new turns (begins _ ∙ sym c.sees_name.ensures ∙ c.more-test.false) in
-    let same = sym is ∙ sym (each_means (Sym root_type_symbol) root_at takes) in
+    let same = sym is ∙ sym (each_means (as_written root_at) (as_written (each_of root_at)) refl (λ x y. refl) takes) in
     (x, takes, λ rs h. subst (λ (l : List Root). HasRoots g.S.Names.Names.bytes c.more.roots (rs ++ l)) same (has rs h))

@@ -1,12 +1,9 @@
 use Rattle.std.proofs.Common.{◌≡◌, ◌≤◌, ◌++◌, List, length}
-use Rattle.graphql_grammar.specs.Trees.{Sym}
-use Rattle.graphql_grammar.specs.ReaderWords.{Turns}
-use Rattle.graphql_core.specs.Source.{kept}
-use Rattle.graphql_values.proofs.Reading.{one_of}
-use Rattle.graphql_schema_tree.specs.Grammar.{root_type_symbol}
-use Rattle.graphql_schema.specs.steps.Roots.{Root, HasRoots}
-use Rattle.graphql_schema.proofs.Dialect.{reading}
-use Rattle.graphql_schema.proofs.RootNames.{turn_of}
+use Rattle.graphql_values.specs.{Sym, Turns, kept}
+use Rattle.graphql_values.proofs.{one_of}
+use Rattle.graphql_schema_tree.specs.{Root, root_type_symbol}
+use Rattle.graphql_schema.specs.{HasRoots}
+use Rattle.graphql_schema.proofs.{reading, turn_of}
 use Rattle.graphql_schema.proofs.read.schema.root_types.Given as goal
 
 abbrev pub invariant-more : goal.invariant-more

@@ -1,18 +1,10 @@
 use Rattle.std.proofs.Common.{[], ◌∙◌, Some, option_map, ap, refl, sym}
-use Rattle.graphql_grammar.specs.Tokens.{Place}
-use Rattle.graphql_grammar.specs.Factored.{written}
-use Rattle.graphql_core.specs.Causes.{cause_text}
-use Rattle.graphql_values.specs.ValueViews.{directive_view}
-use Rattle.graphql_values.proofs.Reading.{fills}
-use Rattle.graphql_values.proofs.Refusing.{node_stops, node_lacks, node_passes, node_refused}
-use Rattle.graphql_values.proofs.Steps.{here, before, took, past, after}
-use Rattle.graphql_schema_tree.specs.Grammar.{changes}
-use Rattle.graphql_schema_tree.specs.Language.{schemas}
-use Rattle.graphql_schema_tree.specs.Roots.{root_fault, roots_of}
-use Rattle.graphql_schema_tree.proofs.Readable.{readable}
-use Rattle.graphql_schema.specs.steps.Refusals.{refusals}
-use Rattle.graphql_schema.proofs.Dialect.{lifted, stops_lifted}
-use Rattle.graphql_schema.proofs.RootNames.{all_roots, told_at, fault_told, none_told}
+use Rattle.graphql_values.specs.{Place, written, cause_text, directive_view}
+use Rattle.graphql_values.proofs.{fills, node_stops, node_lacks, node_passes, node_refused, here, before, took, past, after}
+use Rattle.graphql_schema_tree.specs.{changes, schemas, root_fault, roots_of}
+use Rattle.graphql_schema_tree.proofs.{readable}
+use Rattle.graphql_schema.specs.{refusals}
+use Rattle.graphql_schema.proofs.{lifted, stops_lifted, told_at, fault_told, none_told}
 use Rattle.graphql_schema.proofs.read.schema.schema_definition.Goals as goal
 
 pub returns-in_err-position-clause-reads : goal.returns-in_err-position-clause-reads
@@ -48,7 +40,7 @@ returns-in-Some-clause-reads g c =
     let (rs, rooted, has) = c.in_ok-root_types.ensures.reads in
     let directed = after (past here (took taken refl)) (lifted refl refl c.in_ok-directives.ensures.reads) in
     let lead = past (past directed (took c.in_ok-expect_punctuator.ensures.1 refl)) rooted in
-    let are = all_roots g.S.Names.Names.bytes _ rooted (has [] c.no_roots-roots.ensures) in
+    let are = has [] c.no_roots-roots.ensures in
     let (bad, said) = fault_told c.in-Some.cause (root_fault [] (roots_of (written changes rs))) t.place
     (ap (option_map cause_text) (sym c.in-Some.is) ∙ are.fault) in
     node_refused schemas refusals readable _ _ _ _ _ (lead.takes _ _ (took c.in_ok-expect_punctuator-2.ensures.1 refl)) bad
@@ -60,7 +52,7 @@ returns-in-None-clause-reads g c =
     let (ds, directed, added) = lifted refl refl c.in_ok-directives.ensures.reads in
     let (rs, rooted, has) = c.in_ok-root_types.ensures.reads in
     let lead = past (past (past (past here (took taken refl)) directed) (took c.in_ok-expect_punctuator.ensures.1 refl)) rooted in
-    let are = all_roots g.S.Names.Names.bytes _ rooted (has [] c.no_roots-roots.ensures) in
+    let are = has [] c.no_roots-roots.ensures in
     let (good, none) = none_told (root_fault [] (roots_of (written changes rs))) (ap (option_map cause_text) (sym c.in-None.is) ∙ are.fault) in
     let all = fills (directive_view g.S.Names.Names.bytes) _ _ _ c.new-directives.ensures.items added in
     node_passes schemas refusals _ _ _ _ _ _ (lead.takes _ _ (took c.in_ok-expect_punctuator-2.ensures.1 refl)) good

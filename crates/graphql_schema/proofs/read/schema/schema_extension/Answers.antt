@@ -1,18 +1,10 @@
 use Rattle.std.proofs.Common.{[], ◌∙◌, Some, option_map, ap, refl, sym}
-use Rattle.graphql_grammar.specs.Tokens.{Place}
-use Rattle.graphql_grammar.specs.Factored.{written}
-use Rattle.graphql_core.specs.Causes.{cause_text}
-use Rattle.graphql_values.specs.ValueViews.{directive_view}
-use Rattle.graphql_values.proofs.Reading.{fills}
-use Rattle.graphql_values.proofs.Refusing.{node_stops, node_lacks, node_passes, node_refused}
-use Rattle.graphql_values.proofs.Steps.{here, before, took, past, after}
-use Rattle.graphql_schema_tree.specs.Grammar.{changes}
-use Rattle.graphql_schema_tree.specs.Language.{schemas}
-use Rattle.graphql_schema_tree.specs.Roots.{root_fault, roots_of, roots_in}
-use Rattle.graphql_schema_tree.proofs.Readable.{readable}
-use Rattle.graphql_schema.specs.steps.Refusals.{refusals}
-use Rattle.graphql_schema.proofs.Dialect.{lifted, stops_lifted}
-use Rattle.graphql_schema.proofs.RootNames.{told_at, fault_told, none_told}
+use Rattle.graphql_values.specs.{Place, written, cause_text, directive_view}
+use Rattle.graphql_values.proofs.{fills, node_stops, node_lacks, node_passes, node_refused, here, before, took, past, after}
+use Rattle.graphql_schema_tree.specs.{changes, schemas, root_fault, roots_in}
+use Rattle.graphql_schema_tree.proofs.{readable}
+use Rattle.graphql_schema.specs.{refusals}
+use Rattle.graphql_schema.proofs.{lifted, stops_lifted, told_at, fault_told, none_told}
 use Rattle.graphql_schema.proofs.read.schema.schema_extension.Goals as goal
 
 pub returns-in_err-position-clause-reads : goal.returns-in_err-position-clause-reads
@@ -35,7 +27,7 @@ returns-in-Some-clause-reads g c =
     let (t, taken, at) = c.in_ok-position.ensures in
     let (rs, rooted, has) = c.in_ok-query.ensures.reads in
     let directed = after (past here (took taken refl)) (lifted refl refl c.in_ok-directives.ensures.reads) in
-    let (bad, said) = fault_told c.in-Some.cause (root_fault [] (roots_of (roots_in (written changes rs)))) t.place
+    let (bad, said) = fault_told c.in-Some.cause (root_fault [] (roots_in (written changes rs))) t.place
     (ap (option_map cause_text) (sym c.in-Some.is) ∙ has.fault) in
     node_refused schemas refusals readable _ _ _ _ _ (directed.takes _ rs rooted) bad
     (said ∙ ap (λ (p : Place). Some (told_at (cause_text c.in-Some.cause) p)) at)
@@ -46,7 +38,7 @@ returns-in-None-clause-reads g c =
     let (ds, directed, added) = lifted refl refl c.in_ok-directives.ensures.reads in
     let (rs, rooted, has) = c.in_ok-query.ensures.reads in
     let lead = past (past here (took taken refl)) directed in
-    let (good, none) = none_told (root_fault [] (roots_of (roots_in (written changes rs)))) (ap (option_map cause_text) (sym c.in-None.is) ∙ has.fault) in
+    let (good, none) = none_told (root_fault [] (roots_in (written changes rs))) (ap (option_map cause_text) (sym c.in-None.is) ∙ has.fault) in
     let all = fills (directive_view g.S.Names.Names.bytes) _ _ _ c.new-directives.ensures.items added in
     node_passes schemas refusals _ _ _ _ _ _ (lead.takes _ rs rooted) good
     (λ k. record {

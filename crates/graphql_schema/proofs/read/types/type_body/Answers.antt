@@ -1,13 +1,9 @@
 use Rattle.std.proofs.Common.{ℕ, List, refl, ap, subst, ◌∙◌}
-use Rattle.graphql_grammar.specs.Factored.{written}
-use Rattle.graphql_values.specs.Grammar.{keyword}
-use Rattle.graphql_values.specs.ValueViews.{directive_view}
-use Rattle.graphql_values.proofs.Reading.{TakesNone, fills}
-use Rattle.graphql_values.proofs.Steps.{here, took, past, after, whole, fails, fails_last, lacks}
-use Rattle.graphql_schema_tree.specs.Grammar.{changes}
-use Rattle.graphql_schema.specs.steps.TypeBodies.{parts_of}
-use Rattle.graphql_schema.proofs.Dialect.{lifted, stops_lifted}
-use Rattle.graphql_schema.proofs.Types.{of_kind, kind_taken, same_body}
+use Rattle.graphql_values.specs.{written, keyword, directive_view}
+use Rattle.graphql_values.proofs.{TakesNone, fills, here, took, past, after, whole, fails, fails_last, lacks}
+use Rattle.graphql_schema_tree.specs.{changes}
+use Rattle.graphql_schema.specs.{parts_of}
+use Rattle.graphql_schema.proofs.{lifted, stops_lifted, of_kind, kind_taken, same_body}
 use Rattle.graphql_schema.proofs.read.types.type_body.Goals as goal
 
 pub returns-in_err-position-clause-reads : goal.returns-in_err-position-clause-reads

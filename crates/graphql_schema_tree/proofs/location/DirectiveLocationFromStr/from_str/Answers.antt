@@ -1,5 +1,5 @@
 use Rattle.std.proofs.Common.{refl}
-use Rattle.graphql_values.proofs.PlainAlternatives.{differs}
+use Rattle.graphql_values.proofs.{differs}
 use Rattle.graphql_schema_tree.proofs.location.DirectiveLocationFromStr.from_str.Goals as goal
 
 -- no location has this word

@@ -1,9 +1,7 @@
 use Rattle.std.proofs.Common.{◌+◌, ◌∷◌, ◌∙◌, ap, sym, refl}
-use Rattle.std.specs.List.{flat_map}
-use Rattle.graphql_core.specs.Parts.{text_of}
-use Rattle.graphql_values.proofs.Appending.{and_last}
-use Rattle.graphql_values.proofs.Enclosed.{braces_text, some_items}
-use Rattle.graphql_schema_tree.proofs.PrintedTexts.{filled_block}
+use Rattle.graphql_values.specs.{text_of, flat_map}
+use Rattle.graphql_values.proofs.{and_last, braces_text, some_items}
+use Rattle.graphql_schema_tree.proofs.{filled_block}
 use Rattle.graphql_schema_tree.proofs.print.block.write_block.Goals as goal
 
 pub returns-clause-text : goal.returns-clause-text

@@ -1,5 +1,5 @@
 use Rattle.std.proofs.Common.{append_assoc}
-use Rattle.graphql_values.proofs.Appending.{text_append, and_last}
+use Rattle.graphql_values.proofs.{text_append, and_last}
 use Rattle.graphql_schema_tree.proofs.print.description.write_description.Goals as goal
 
 pub returns : goal.returns

@@ -1,4 +1,4 @@
-use Rattle.graphql_values.proofs.Appending.{text_append, and_last}
+use Rattle.graphql_values.proofs.{text_append, and_last}
 use Rattle.graphql_schema_tree.proofs.print.description.write_inline_description.Goals as goal
 
 pub returns : goal.returns

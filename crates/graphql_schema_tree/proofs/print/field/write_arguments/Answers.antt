@@ -1,10 +1,6 @@
 use Rattle.std.proofs.Common.{◌∙◌, sym, refl}
-use Rattle.graphql_values.proofs.Appending.{and_last, on_ok}
-use Rattle.graphql_values.proofs.Enclosed.{some_items}
-use Rattle.graphql_schema_tree.specs.Layout.{input_value_layout, input_value_levels}
-use Rattle.graphql_schema_tree.specs.Lawful.{IsLawfulInputValue}
-use Rattle.graphql_schema_tree.specs.Views.{input_value_view}
-use Rattle.graphql_values.proofs.Seen.{most_seen, all_seen, in_parentheses_seen}
+use Rattle.graphql_values.proofs.{and_last, on_ok, some_items, most_seen, all_seen, in_parentheses_seen}
+use Rattle.graphql_schema_tree.specs.{input_value_layout, input_value_levels, IsLawfulInputValue, input_value_view}
 use Rattle.graphql_schema_tree.proofs.print.field.write_arguments.Goals as goal
 
 pub write_joined-requires : goal.write_joined-requires

@@ -1,5 +1,5 @@
 use Rattle.std.proofs.Common.{refl}
-use Rattle.graphql_values.proofs.Appending.{and_last}
+use Rattle.graphql_values.proofs.{and_last}
 use Rattle.graphql_schema_tree.proofs.print.names.write_between.Goals as goal
 
 pub returns : goal.returns

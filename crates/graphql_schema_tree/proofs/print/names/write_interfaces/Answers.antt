@@ -1,7 +1,6 @@
 use Rattle.std.proofs.Common.{◌∙◌, sym, refl}
-use Rattle.graphql_values.proofs.Appending.{and_last}
-use Rattle.graphql_values.proofs.Enclosed.{some_items}
-use Rattle.graphql_schema_tree.proofs.PrintedTexts.{some_interfaces}
+use Rattle.graphql_values.proofs.{and_last, some_items}
+use Rattle.graphql_schema_tree.proofs.{some_interfaces}
 use Rattle.graphql_schema_tree.proofs.print.names.write_interfaces.Goals as goal
 
 pub returns : goal.returns

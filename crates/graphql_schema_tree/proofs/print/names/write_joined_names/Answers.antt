@@ -1,6 +1,6 @@
 use Rattle.std.proofs.Common.{arith, ◌∙◌, ◌++◌, ap, sym}
-use Rattle.graphql_values.proofs.Appending.{and_part}
-use Rattle.graphql_schema_tree.proofs.PrintedTexts.{name_here}
+use Rattle.graphql_values.proofs.{and_part}
+use Rattle.graphql_schema_tree.proofs.{name_here}
 use Rattle.graphql_schema_tree.proofs.print.names.write_joined_names.Goals as goal
 
 pub others-preserved : goal.others-preserved

@@ -1,6 +1,6 @@
 use Rattle.std.proofs.Common.{◌≡◌, ◌++◌, List, ℕ, drop, map}
-use Rattle.graphql_core.specs.Parts.{text_of}
-use Rattle.graphql_schema_tree.specs.Layout.{joined_names, later_names}
+use Rattle.graphql_values.specs.{text_of}
+use Rattle.graphql_schema_tree.specs.{joined_names, later_names}
 use Rattle.graphql_schema_tree.proofs.print.names.write_joined_names.Given as goal
 
 abbrev pub invariant-others : goal.invariant-others

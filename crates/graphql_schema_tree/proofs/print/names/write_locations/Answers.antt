@@ -1,7 +1,7 @@
 use Rattle.std.proofs.Common.{arith, ◌∙◌, ◌++◌, codes, ap, sym, refl}
-use Rattle.graphql_values.proofs.Appending.{and_part}
-use Rattle.graphql_schema_tree.specs.Locations.{word_of}
-use Rattle.graphql_schema_tree.proofs.PrintedTexts.{name_here}
+use Rattle.graphql_values.proofs.{and_part}
+use Rattle.graphql_schema_tree.specs.{word_of}
+use Rattle.graphql_schema_tree.proofs.{name_here}
 use Rattle.graphql_schema_tree.proofs.print.names.write_locations.Goals as goal
 
 pub others-init : goal.others-init

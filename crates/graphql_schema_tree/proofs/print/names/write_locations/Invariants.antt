@@ -1,7 +1,6 @@
 use Rattle.std.proofs.Common.{◌≡◌, ◌++◌, List, ℕ, codes, drop, map}
-use Rattle.graphql_core.specs.Parts.{text_of}
-use Rattle.graphql_schema_tree.specs.Layout.{locations_layout, later_names}
-use Rattle.graphql_schema_tree.specs.Locations.{word_of}
+use Rattle.graphql_values.specs.{text_of}
+use Rattle.graphql_schema_tree.specs.{locations_layout, later_names, word_of}
 use Rattle.graphql_schema_tree.proofs.print.names.write_locations.Given as goal
 
 abbrev pub invariant-others : goal.invariant-others

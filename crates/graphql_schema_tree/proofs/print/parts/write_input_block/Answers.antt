@@ -1,13 +1,10 @@
 use Rattle.std.proofs.Common.{◌≡◌, ◌<◌, ◌^◌, ◌∙◌, [], ap, length, map, sym, refl}
-use Rattle.std.specs.List.{flat_map}
 use Rattle.std.proofs.lemmas.Bool.{eqb-true}
 use Rattle.std.proofs.lemmas.List.{length-map, nil_from_length}
-use Rattle.graphql_core.specs.Parts.{text_of}
-use Rattle.graphql_values.proofs.Appending.{and_last, on_ok}
-use Rattle.graphql_values.proofs.Enclosed.{some_items}
-use Rattle.graphql_schema_tree.specs.Layout.{input_field_layout, input_value_levels}
-use Rattle.graphql_schema_tree.specs.Views.{input_value_view}
-use Rattle.graphql_schema_tree.proofs.PrintedTexts.{lines_text, filled_block, lines_fit}
+use Rattle.graphql_values.specs.{text_of, flat_map}
+use Rattle.graphql_values.proofs.{and_last, on_ok, some_items}
+use Rattle.graphql_schema_tree.specs.{input_field_layout, input_value_levels, input_value_view}
+use Rattle.graphql_schema_tree.proofs.{lines_text, filled_block, lines_fit}
 use Rattle.graphql_schema_tree.proofs.print.parts.write_input_block.Goals as goal
 
 pub write_input_fields-requires : goal.write_input_fields-requires

@@ -1,12 +1,8 @@
 use Rattle.std.proofs.Common.{arith, ◌∙◌, ◌+◌, ◌++◌, ◌^◌, [], ap, drop, map, refl, sym}
-use Rattle.std.specs.List.{flat_map}
-use Rattle.graphql_core.specs.Parts.{text_of}
-use Rattle.graphql_values.proofs.Appending.{text_append, and_part}
-use Rattle.graphql_values.proofs.Counting.{item_here}
-use Rattle.graphql_values.proofs.Enclosed.{narrower}
-use Rattle.graphql_schema_tree.specs.Layout.{input_field_layout}
-use Rattle.graphql_schema_tree.specs.Views.{input_value_view}
-use Rattle.graphql_schema_tree.proofs.PrintedTexts.{input_field_text}
+use Rattle.graphql_values.specs.{text_of, flat_map}
+use Rattle.graphql_values.proofs.{text_append, and_part, item_here, narrower}
+use Rattle.graphql_schema_tree.specs.{input_field_layout, input_value_view}
+use Rattle.graphql_schema_tree.proofs.{input_field_text}
 use Rattle.graphql_schema_tree.proofs.print.parts.write_input_fields.Goals as goal
 
 pub write-requires : goal.write-requires

@@ -1,10 +1,6 @@
 use Rattle.std.proofs.Common.{◌≡◌, ◌++◌, ◌+◌, ◌*◌, ◌<◌, ◌^◌, List, ℕ, drop, map}
-use Rattle.std.specs.List.{AllByRecursion, flat_map}
-use Rattle.graphql_core.specs.Parts.{text_of}
-use Rattle.graphql_values.specs.TreeDepth.{most}
-use Rattle.graphql_schema_tree.specs.Lawful.{IsLawfulInputValue}
-use Rattle.graphql_schema_tree.specs.Layout.{input_field_layout, input_value_levels}
-use Rattle.graphql_schema_tree.specs.Views.{input_value_view}
+use Rattle.graphql_values.specs.{text_of, AllByRecursion, flat_map, most}
+use Rattle.graphql_schema_tree.specs.{IsLawfulInputValue, input_field_layout, input_value_levels, input_value_view}
 use Rattle.graphql_schema_tree.proofs.print.parts.write_input_fields.Given as goal
 
 abbrev pub invariant-fields : goal.invariant-fields

@@ -1,5 +1,5 @@
-use Rattle.graphql_values.proofs.Appending.{and_last}
-use Rattle.graphql_schema_tree.proofs.PrintedTexts.{root_text}
+use Rattle.graphql_values.proofs.{and_last}
+use Rattle.graphql_schema_tree.proofs.{root_text}
 use Rattle.graphql_schema_tree.proofs.print.schema.write_root.Goals as goal
 
 pub returns : goal.returns

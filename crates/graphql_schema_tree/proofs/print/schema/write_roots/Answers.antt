@@ -1,6 +1,6 @@
 use Rattle.std.proofs.Common.{option_map}
-use Rattle.graphql_values.proofs.Appending.{and_last}
-use Rattle.graphql_schema_tree.proofs.PrintedTexts.{roots_text}
+use Rattle.graphql_values.proofs.{and_last}
+use Rattle.graphql_schema_tree.proofs.{roots_text}
 use Rattle.graphql_schema_tree.proofs.print.schema.write_roots.Goals as goal
 
 pub returns : goal.returns

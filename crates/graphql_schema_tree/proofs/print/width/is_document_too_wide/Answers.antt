@@ -1,5 +1,5 @@
-use Rattle.std.proofs.lemmas.Bool.{false≢true}
-use Rattle.graphql_schema_tree.specs.Views.{document_view}
+use Rattle.graphql_values.proofs.{false≢true}
+use Rattle.graphql_schema_tree.specs.{document_view}
 use Rattle.graphql_schema_tree.proofs.print.width.is_document_too_wide.Goals as goal
 
 pub returns-then-is_never_too_wide : goal.returns-then-is_never_too_wide

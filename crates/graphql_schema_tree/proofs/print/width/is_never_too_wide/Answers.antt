@@ -1,6 +1,6 @@
 use Rattle.std.proofs.Common.{◌∙◌, refl, sym}
-use Rattle.std.proofs.lemmas.Bool.{false≢true}
-use Rattle.graphql_schema_tree.proofs.FewLevels.{never_too_wide}
+use Rattle.graphql_values.proofs.{false≢true}
+use Rattle.graphql_schema_tree.proofs.{never_too_wide}
 use Rattle.graphql_schema_tree.proofs.print.width.is_never_too_wide.Goals as goal
 
 pub returns : goal.returns

@@ -1,9 +1,6 @@
 use Rattle.std.proofs.Common.{◌≡◌, ◌∙◌, rules, sym, subst, string_bytes}
-use Rattle.graphql_schema_tree.specs.Language.{IsReadBack}
-use Rattle.graphql_schema_tree.specs.Layout.{layout}
-use Rattle.graphql_schema_tree.specs.Views.{document_view}
-use Rattle.graphql_schema_tree.proofs.OneText.{one_text}
-use Rattle.graphql_schema_tree.proofs.WayBack.{way_back}
+use Rattle.graphql_schema_tree.specs.{IsReadBack, layout, document_view}
+use Rattle.graphql_schema_tree.proofs.{way_back, are_read_back}
 use Rattle.graphql_schema_tree.proofs.tree.Document.format.Goals as goal
 
 pub returns-clause-read_back : goal.returns-clause-read_back
@@ -16,4 +13,4 @@ pub returns-clause-one_document : goal.returns-clause-one_document
 returns-clause-one_document g c printable e other law same =
     let d = document_view g.N.Names.bytes c.args.self.now in
     let printed : string_bytes c.into_string.result ≡ layout c.args.style.now d = search rules in
-    one_text c.args.style.now e d other law printable c.in_ok-write.ensures.lawful (same ∙ printed)
+    are_read_back.one_text c.args.style.now e d (other, law) (printable, c.in_ok-write.ensures.lawful) (same ∙ printed)

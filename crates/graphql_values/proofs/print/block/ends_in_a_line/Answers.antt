@@ -1,6 +1,6 @@
 use Rattle.std.proofs.Common.{◌∙◌, ◌-◌, ap, length}
-use Rattle.std.specs.List.{slice_get}
-use Rattle.graphql_values.proofs.OuterLines.{last_full}
+use Rattle.graphql_values.specs.{slice_get}
+use Rattle.graphql_values.proofs.{last_full}
 use Rattle.graphql_values.proofs.print.block.ends_in_a_line.Goals as goal
 
 pub returns-in-Some : goal.returns-in-Some

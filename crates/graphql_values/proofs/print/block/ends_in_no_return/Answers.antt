@@ -1,5 +1,5 @@
 use Rattle.std.proofs.Common.{ap, sym, ◌∙◌, not, arith}
-use Rattle.graphql_values.proofs.QuotedText.{ends_in_return_is}
+use Rattle.graphql_values.proofs.{ends_in_return_is}
 use Rattle.graphql_values.proofs.print.block.ends_in_no_return.Goals as goal
 
 pub returns : goal.returns

@@ -1,8 +1,8 @@
 use Rattle.std.proofs.Common.{rules, tests, ◌∙◌, ◌&&◌, true}
 use Rattle.std.proofs.lemmas.Iterator.Consumers.{fold_from_yields_List}
 use Rattle.std.proofs.lemmas.Iterator.Adapters.{YieldsList-from_bytes}
-use Rattle.graphql_values.specs.steps.BlockBytes.{is_block_byte}
-use Rattle.graphql_values.proofs.BlockBytes.{all_folded}
+use Rattle.graphql_values.specs.{is_block_byte}
+use Rattle.graphql_values.proofs.{all_folded}
 use Rattle.graphql_values.proofs.print.block.has_block_bytes.Goals as goal
 
 pub returns : goal.returns

@@ -1,5 +1,5 @@
 use Rattle.std.proofs.Common.{◌∙◌}
-use Rattle.graphql_values.proofs.BlockBytes.{block_bytes}
+use Rattle.graphql_values.proofs.{block_bytes}
 use Rattle.graphql_values.proofs.print.block.has_block_characters.Goals as goal
 
 pub returns : goal.returns

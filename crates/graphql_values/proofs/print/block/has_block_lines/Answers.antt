@@ -1,6 +1,6 @@
 use Rattle.std.proofs.Common.{◌∙◌}
-use Rattle.graphql_values.specs.ValueLayout.{lines_of}
-use Rattle.graphql_values.proofs.OuterLines.{first_has_text, last_has_text, same_tests}
+use Rattle.graphql_values.specs.{lines_of}
+use Rattle.graphql_values.proofs.{first_has_text, last_has_text, same_tests}
 use Rattle.graphql_values.proofs.print.block.has_block_lines.Goals as goal
 
 pub returns : goal.returns

@@ -1,7 +1,7 @@
 use Rattle.std.proofs.Common.{rules, tests, arith, not, ◌&&◌}
 use Rattle.std.proofs.lemmas.Iterator.Search.{any_from_yields_List}
-use Rattle.std.proofs.lemmas.Iterator.Splits.{YieldsList-from_str_split}
-use Rattle.graphql_core.specs.BlockStrings.{is_blank}
+use Rattle.graphql_values.specs.{is_blank}
+use Rattle.graphql_values.proofs.{YieldsList-from_str_split}
 use Rattle.graphql_values.specs.ValueLayout as spec
 use Rattle.graphql_values.proofs.print.block.has_line_without_indent.Goals as goal
 

@@ -1,9 +1,8 @@
 use Rattle.std.proofs.Common.{◌∙◌, rules, tests, arith, not, ◌&&◌, ◌||◌}
 use Rattle.std.proofs.lemmas.Iterator.Search.{all_from_yields_List}
-use Rattle.std.proofs.lemmas.Iterator.Splits.{YieldsList-from_str_split}
-use Rattle.graphql_core.specs.BlockStrings.{is_blank}
+use Rattle.graphql_values.specs.{is_blank}
+use Rattle.graphql_values.proofs.{YieldsList-from_str_split, all_both}
 use Rattle.graphql_values.specs.ValueLayout as spec
-use Rattle.graphql_values.proofs.BlockBytes.{all_both}
 use Rattle.graphql_values.proofs.print.block.has_whole_lines.Goals as goal
 
 pub returns : goal.returns

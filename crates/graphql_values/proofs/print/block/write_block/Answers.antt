@@ -1,12 +1,10 @@
 use Rattle.std.proofs.Common.{◌≡◌, ◌++◌, ◌∙◌, List, ℕ, Bor, ap, sym, arith, codes, append_assoc}
-use Rattle.std.specs.List.{flat_map}
-use Rattle.std.proofs.lemmas.Iterator.Consumers.{YieldsList-at, YieldsList-end}
-use Rattle.std.proofs.lemmas.Iterator.Splits.{YieldsList-from_str_split}
+use Rattle.std.proofs.lemmas.Iterator.Consumers.{YieldsList-end}
 use Rattle.std.proofs.lemmas.List.{flat_map_more}
 use Rattle.std.proofs.lemmas.List.Folds.{flat_map-map}
-use Rattle.graphql_core.specs.Style.{spaces}
-use Rattle.graphql_values.specs.ValueLayout.{block_line, lines_of}
-use Rattle.graphql_values.proofs.Appending.{alike, and_last}
+use Rattle.graphql_core.proofs.{YieldsList-at}
+use Rattle.graphql_values.specs.{flat_map, spaces, block_line, lines_of}
+use Rattle.graphql_values.proofs.{YieldsList-from_str_split, alike, and_last}
 use Rattle.graphql_values.proofs.print.block.write_block.Goals as goal
 
 abbrev written : ℕ → Bor (List ℕ) → List ℕ

@@ -1,6 +1,5 @@
 use Rattle.std.proofs.Common.{◌++◌, codes}
-use Rattle.std.specs.List.{flat_map}
-use Rattle.graphql_values.specs.ValueLayout.{block_line}
+use Rattle.graphql_values.specs.{flat_map, block_line}
 use Rattle.graphql_values.proofs.print.block.write_block.Given as goal
 
 abbrev pub invariant-lines : goal.invariant-lines

@@ -1,7 +1,6 @@
 use Rattle.std.proofs.Common.{◌∷◌, ◌++◌, ◌∙◌, [], take, drop, arith, rules, refl, sym, ap, append_assoc}
-use Rattle.graphql_values.specs.ValueLayout.{escaped_quotes}
-use Rattle.graphql_values.proofs.Appending.{and_alone, and_last, and_part, alike}
-use Rattle.graphql_values.proofs.QuotedText.{escaped_at, escaped_none, unquoted}
+use Rattle.graphql_values.specs.{escaped_quotes}
+use Rattle.graphql_values.proofs.{and_alone, and_last, and_part, alike, escaped_at, escaped_none, unquoted}
 use Rattle.graphql_values.proofs.print.block.write_escaped.Goals as goal
 
 pub quotes-init : goal.quotes-init

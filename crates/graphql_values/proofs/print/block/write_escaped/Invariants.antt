@@ -1,7 +1,7 @@
-use Rattle.std.proofs.Common.{◌≡◌, ◌++◌, ℕ, List, length}
 use denote.Text.{Utf8}
 use denote.Shadow.{shadow}
-use Rattle.graphql_values.specs.ValueLayout.{escaped_quotes}
+use Rattle.std.proofs.Common.{◌≡◌, ◌++◌, ℕ, List, length}
+use Rattle.graphql_values.specs.{escaped_quotes}
 use Rattle.graphql_values.proofs.print.block.write_escaped.Given as goal
 
 abbrev pub invariant-quotes : goal.invariant-quotes

@@ -1,5 +1,5 @@
 use Rattle.std.proofs.Common.{refl}
-use Rattle.graphql_values.proofs.Appending.{and_last}
+use Rattle.graphql_values.proofs.{and_last}
 use Rattle.graphql_values.proofs.print.default.write_default.Goals as goal
 
 pub returns-clause-text : goal.returns-clause-text

@@ -1,14 +1,9 @@
 use Rattle.std.proofs.Common.{arith, ◌∙◌, ◌++◌, ◌^◌, ap, sym, refl, codes}
 use Rattle.std.proofs.lemmas.List.{at_drop_all}
 use Rattle.std.proofs.lemmas.Grind.{common_steps}
-use Rattle.graphql_core.specs.Parts.{text_of}
-use Rattle.graphql_values.specs.Lawful.{AreLawfulArguments}
-use Rattle.graphql_values.specs.ValueViews.{value_view, arguments_view}
-use Rattle.graphql_values.specs.ValueLayout.{parts, value_layout, pair_layout, each_argument}
-use Rattle.graphql_values.proofs.Views.{argument_here}
-use Rattle.graphql_values.proofs.Appending.{alike, and_last, all_done, on_ok}
-use Rattle.graphql_values.proofs.Counting.{all_hold}
-use Rattle.graphql_values.proofs.Enclosed.{narrower, pair_text, enclosed_text, and_next, some_items, arguments_fit, filled_layout}
+use Rattle.graphql_values.specs.{text_of, AreLawfulArguments, value_view, arguments_view, parts, value_layout, pair_layout, each_argument}
+use Rattle.graphql_values.proofs.{argument_here, alike, and_last, all_done, on_ok, all_hold, narrower, pair_text, enclosed_text, and_next, some_items}
+use Rattle.graphql_values.proofs.{arguments_fit, filled_layout}
 use Rattle.graphql_values.proofs.print.directives.write_arguments.Goals as goal
 
 pub inside-indented-requires : goal.inside-indented-requires

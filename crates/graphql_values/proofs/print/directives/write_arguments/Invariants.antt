@@ -1,8 +1,5 @@
 use Rattle.std.proofs.Common.{◌≡◌, ◌++◌, ◌+◌, ◌*◌, ◌<◌, ◌^◌, List, ℕ, drop, false, codes}
-use Rattle.graphql_core.specs.Parts.{text_of}
-use Rattle.graphql_values.specs.Lawful.{AreLawfulArguments}
-use Rattle.graphql_values.specs.ValueViews.{arguments_view}
-use Rattle.graphql_values.specs.ValueLayout.{parts, each_argument, most_levels}
+use Rattle.graphql_values.specs.{text_of, AreLawfulArguments, arguments_view, parts, each_argument, most_levels}
 use Rattle.graphql_values.proofs.print.directives.write_arguments.Given as goal
 
 abbrev pub invariant-arguments : goal.invariant-arguments

@@ -1,9 +1,6 @@
 use Rattle.std.proofs.Common.{◌++◌, ◌∙◌, ap, codes}
-use Rattle.graphql_core.specs.Parts.{text_of}
-use Rattle.graphql_values.specs.ValueViews.{directive_view, arguments_view}
-use Rattle.graphql_values.specs.ValueLayout.{arguments_layout}
-use Rattle.graphql_values.proofs.Appending.{and_last}
-use Rattle.graphql_values.proofs.Enclosed.{directive_text}
+use Rattle.graphql_values.specs.{text_of, directive_view, arguments_view, arguments_layout}
+use Rattle.graphql_values.proofs.{and_last, directive_text}
 use Rattle.graphql_values.proofs.print.directives.write_directive.Goals as goal
 
 pub returns-clause-text : goal.returns-clause-text

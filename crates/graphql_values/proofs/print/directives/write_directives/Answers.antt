@@ -1,12 +1,6 @@
 use Rattle.std.proofs.Common.{arith, ◌∙◌, ◌++◌, ◌^◌, ap, sym, refl, []}
-use Rattle.graphql_core.specs.Parts.{text_of}
-use Rattle.graphql_values.specs.Lawful.{AreLawfulDirectives}
-use Rattle.graphql_values.specs.ValueViews.{directive_view, directives_view}
-use Rattle.graphql_values.specs.ValueLayout.{directives_layout}
-use Rattle.graphql_values.proofs.Views.{directive_here}
-use Rattle.graphql_values.proofs.Appending.{and_part}
-use Rattle.graphql_values.proofs.Counting.{all_hold}
-use Rattle.graphql_values.proofs.Enclosed.{narrower, directives_more}
+use Rattle.graphql_values.specs.{text_of, AreLawfulDirectives, directive_view, directives_view, directives_layout}
+use Rattle.graphql_values.proofs.{directive_here, and_part, all_hold, narrower, directives_more}
 use Rattle.graphql_values.proofs.print.directives.write_directives.Goals as goal
 
 pub directives-init : goal.directives-init

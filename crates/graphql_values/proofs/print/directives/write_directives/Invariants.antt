@@ -1,8 +1,5 @@
 use Rattle.std.proofs.Common.{◌≡◌, ◌++◌, ◌+◌, ◌*◌, ◌<◌, ◌^◌, List, ℕ, drop}
-use Rattle.graphql_core.specs.Parts.{text_of}
-use Rattle.graphql_values.specs.Lawful.{AreLawfulDirectives}
-use Rattle.graphql_values.specs.ValueViews.{directives_view}
-use Rattle.graphql_values.specs.ValueLayout.{directives_layout, directives_levels}
+use Rattle.graphql_values.specs.{text_of, AreLawfulDirectives, directives_view, directives_layout, directives_levels}
 use Rattle.graphql_values.proofs.print.directives.write_directives.Given as goal
 
 abbrev pub invariant-directives : goal.invariant-directives

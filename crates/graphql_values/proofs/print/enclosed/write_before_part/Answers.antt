@@ -1,8 +1,7 @@
 use Rattle.std.proofs.Common.{◌≡◌, true, codes, rules}
-use Rattle.graphql_values.proofs.Appending.{and_last, and_alone}
-use Rattle.graphql_values.proofs.Enclosed.{before_first, before_later}
-use Rattle.graphql_values.proofs.print.enclosed.write_before_part.Goals as goal
+use Rattle.graphql_values.proofs.{and_last, and_alone, before_first, before_later}
 use Rattle.graphql_values.proofs.print.enclosed.write_before_part.Goals.{then-is_later-2+in_ok-push_str, else-is_later-2}
+use Rattle.graphql_values.proofs.print.enclosed.write_before_part.Goals as goal
 
 pub returns : goal.returns
 returns g c =

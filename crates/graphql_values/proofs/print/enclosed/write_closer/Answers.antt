@@ -1,10 +1,8 @@
 use Rattle.std.proofs.Common.{sym, ◌∙◌}
-use Rattle.graphql_core.specs.Parts.{text_of}
-use Rattle.graphql_values.specs.ValueLayout.{after_parts}
-use Rattle.graphql_values.proofs.Appending.{alike, and_last}
-use Rattle.graphql_values.proofs.Enclosed.{after_lines, after_none, closed_text}
-use Rattle.graphql_values.proofs.print.enclosed.write_closer.Goals as goal
+use Rattle.graphql_values.specs.{text_of, after_parts}
+use Rattle.graphql_values.proofs.{alike, and_last, after_lines, after_none, closed_text}
 use Rattle.graphql_values.proofs.print.enclosed.write_closer.Goals.{then-has_multiline_arguments+in_ok-write_new_line, else-has_multiline_arguments}
+use Rattle.graphql_values.proofs.print.enclosed.write_closer.Goals as goal
 
 pub returns : goal.returns
 returns g c =

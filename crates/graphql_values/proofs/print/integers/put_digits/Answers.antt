@@ -1,8 +1,8 @@
 use Rattle.std.proofs.Common.{◌∙◌, arith, append-nil}
-use Rattle.std.specs.Fmt.{decimal}
 use Rattle.std.proofs.lemmas.Fmt.{length-decimal-le}
 use Rattle.std.proofs.lemmas.List.{drop_all}
-use Rattle.graphql_values.proofs.Decimals.{last_pair, two_longer}
+use Rattle.graphql_values.specs.{decimal}
+use Rattle.graphql_values.proofs.{last_pair, two_longer}
 use Rattle.graphql_values.proofs.print.integers.put_digits.Goals as goal
 
 pub pairs-init : goal.pairs-init

@@ -1,5 +1,5 @@
 use Rattle.std.proofs.Common.{◌≡◌, ◌^◌, ◌<◌, ◌≤◌, ◌++◌, length, drop}
-use Rattle.std.specs.Fmt.{decimal}
+use Rattle.graphql_values.specs.{decimal}
 use Rattle.graphql_values.proofs.print.integers.put_digits.Given as goal
 
 abbrev pub invariant-pairs : goal.invariant-pairs

@@ -1,7 +1,7 @@
 use Rattle.std.proofs.Common.{◌≡◌, ◌+◌, ◌-◌, arith}
 use Rattle.std.proofs.lemmas.Fmt.{decimal_digit}
 use Rattle.std.proofs.lemmas.List.{drop-set}
-use Rattle.graphql_values.proofs.Decimals.{one_long, two_digits, two_long}
+use Rattle.graphql_values.proofs.{one_long, two_digits, two_long}
 use Rattle.graphql_values.proofs.print.integers.put_first.Goals as goal
 
 pub put_pair-requires-clause-within : goal.put_pair-requires-clause-within

@@ -1,7 +1,6 @@
 use Rattle.std.proofs.Common.{◌++◌, ◌∙◌, ap, codes, to_z-of_z}
-use Rattle.std.specs.Fmt.{decimal}
-use Rattle.graphql_values.proofs.Appending.{and_last}
-use Rattle.graphql_values.proofs.Decimals.{minus_first}
+use Rattle.graphql_values.specs.{decimal}
+use Rattle.graphql_values.proofs.{and_last, minus_first}
 use Rattle.graphql_values.proofs.print.integers.write_integer.Goals as goal
 
 pub returns : goal.returns

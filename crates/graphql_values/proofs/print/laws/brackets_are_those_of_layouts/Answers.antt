@@ -1,5 +1,4 @@
-use Rattle.graphql_core.proofs.Depths.{deepest_is}
-use Rattle.graphql_values.proofs.Depths.{value_rises, type_rises, directive_rises}
+use Rattle.graphql_values.proofs.{deepest_is, value_rises, type_rises, directive_rises}
 use Rattle.graphql_values.proofs.print.laws.brackets_are_those_of_layouts.Goals as goal
 
 pub returns : goal.returns

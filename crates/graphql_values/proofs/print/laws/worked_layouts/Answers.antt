@@ -1,5 +1,5 @@
 use Rattle.std.proofs.Common.{refl}
-use Rattle.std.specs.Str.{chars}
+use Rattle.graphql_values.specs.{chars}
 use Rattle.graphql_values.proofs.print.laws.worked_layouts.Goals as goal
 
 pub returns-clause-past_the_plane : goal.returns-clause-past_the_plane

@@ -1,8 +1,6 @@
 use Rattle.std.proofs.Common.{rules, arith, ◌≡◌, ◌-◌, ◌^◌, min, refl}
-use Rattle.graphql_values.specs.ValueViews.{items_view, members_view}
-use Rattle.graphql_values.specs.ValueLayout.{items_levels, members_levels}
-use Rattle.graphql_values.proofs.Counting.{all_counted}
-use Rattle.graphql_values.proofs.Views.{item_here}
+use Rattle.graphql_values.specs.{items_view, members_view, items_levels, members_levels}
+use Rattle.graphql_values.proofs.{all_counted, items_here}
 use Rattle.graphql_values.proofs.print.levels.+levels.Goals as goal
 
 -- ---- lists
@@ -10,7 +8,7 @@ use Rattle.graphql_values.proofs.print.levels.+levels.Goals as goal
 pub levels_in_list-items-preserved : goal.levels_in_list-items-preserved
 levels_in_list-items-preserved g t c =
     let l = c.items in
-    let here = item_here _ _ g.N.Names.bytes c.args.items.now l.item-index c.item-item.result (omega arith) c.item-item.is in
+    let here = items_here _ _ g.N.Names.bytes c.args.items.now l.item-index c.item-item.result (omega arith) c.item-item.is in
     let before = rw here at l.invariant.levels in
     record {
       levels = omega (arith, before, c.levels_in_value.ensures, c.max-most.ensures);

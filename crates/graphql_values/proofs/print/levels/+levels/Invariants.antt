@@ -1,6 +1,5 @@
 use Rattle.std.proofs.Common.{◌≡◌, ◌-◌, ◌^◌, min, max, drop}
-use Rattle.graphql_values.specs.ValueViews.{items_view, members_view}
-use Rattle.graphql_values.specs.ValueLayout.{items_levels, members_levels}
+use Rattle.graphql_values.specs.{items_view, members_view, items_levels, members_levels}
 use Rattle.graphql_values.proofs.print.levels.+levels.Given as goal
 
 abbrev pub invariant-levels_in_list-items : goal.invariant-levels_in_list-items

@@ -1,10 +1,7 @@
 use Rattle.std.proofs.Common.{◌-◌, ◌^◌, ◌∙◌, arith, refl, sym, ap, min}
 use Rattle.std.proofs.lemmas.Grind.{common_steps}
-use Rattle.graphql_values.specs.ValueViews.{value_view, arguments_view}
-use Rattle.graphql_values.specs.ValueLayout.{most_levels}
-use Rattle.graphql_values.proofs.Counting.{all_counted}
-use Rattle.graphql_values.proofs.Views.{argument_here}
-use Rattle.graphql_values.proofs.Enclosed.{some_items, filled_levels}
+use Rattle.graphql_values.specs.{value_view, arguments_view, most_levels}
+use Rattle.graphql_values.proofs.{all_counted, argument_here, some_items, filled_levels}
 use Rattle.graphql_values.proofs.print.levels.levels_in_arguments.Goals as goal
 
 pub arguments-preserved : goal.arguments-preserved

@@ -1,6 +1,5 @@
 use Rattle.std.proofs.Common.{◌≡◌, ◌-◌, ◌^◌, min, max, drop}
-use Rattle.graphql_values.specs.ValueViews.{arguments_view}
-use Rattle.graphql_values.specs.ValueLayout.{most_levels}
+use Rattle.graphql_values.specs.{arguments_view, most_levels}
 use Rattle.graphql_values.proofs.print.levels.levels_in_arguments.Given as goal
 
 abbrev pub invariant-arguments : goal.invariant-arguments

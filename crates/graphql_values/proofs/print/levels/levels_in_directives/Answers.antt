@@ -1,8 +1,6 @@
 use Rattle.std.proofs.Common.{◌-◌, ◌^◌, arith, refl}
-use Rattle.graphql_values.specs.ValueViews.{directives_view}
-use Rattle.graphql_values.specs.ValueLayout.{directives_levels}
-use Rattle.graphql_values.proofs.Counting.{all_counted}
-use Rattle.graphql_values.proofs.Views.{directive_here}
+use Rattle.graphql_values.specs.{directives_view, directives_levels}
+use Rattle.graphql_values.proofs.{all_counted, directive_here}
 use Rattle.graphql_values.proofs.print.levels.levels_in_directives.Goals as goal
 
 pub directives-preserved : goal.directives-preserved

@@ -1,6 +1,5 @@
 use Rattle.std.proofs.Common.{◌≡◌, ◌-◌, ◌^◌, min, max, drop}
-use Rattle.graphql_values.specs.ValueViews.{directives_view}
-use Rattle.graphql_values.specs.ValueLayout.{directives_levels}
+use Rattle.graphql_values.specs.{directives_view, directives_levels}
 use Rattle.graphql_values.proofs.print.levels.levels_in_directives.Given as goal
 
 abbrev pub invariant-directives : goal.invariant-directives

@@ -1,6 +1,6 @@
 use Rattle.std.proofs.Common.{◌-◌, ◌^◌, arith, refl}
-use Rattle.graphql_values.specs.TreeDepth.{most}
-use Rattle.graphql_values.proofs.Counting.{all_counted, item_here}
+use Rattle.graphql_values.specs.{most}
+use Rattle.graphql_values.proofs.{all_counted, item_here}
 use Rattle.graphql_values.proofs.print.pretty.levels_in_each.Goals as goal
 
 pub parts-preserved : goal.parts-preserved

@@ -1,5 +1,5 @@
 use Rattle.std.proofs.Common.{◌≡◌, ◌-◌, ◌^◌, min, max, drop}
-use Rattle.graphql_values.specs.TreeDepth.{most}
+use Rattle.graphql_values.specs.{most}
 use Rattle.graphql_values.proofs.print.pretty.levels_in_each.Given as goal
 
 abbrev pub invariant-parts : goal.invariant-parts

@@ -1,9 +1,6 @@
 use Rattle.std.proofs.Common.{arith, ◌∙◌, ◌++◌, ◌^◌, ap, sym}
-use Rattle.std.specs.List.{flat_map}
-use Rattle.graphql_core.specs.Parts.{text_of}
-use Rattle.graphql_values.proofs.Appending.{text_append, and_part}
-use Rattle.graphql_values.proofs.Counting.{item_here}
-use Rattle.graphql_values.proofs.Enclosed.{narrower}
+use Rattle.graphql_values.specs.{text_of, flat_map}
+use Rattle.graphql_values.proofs.{text_append, and_part, item_here, narrower}
 use Rattle.graphql_values.proofs.print.pretty.write_each.Goals as goal
 
 pub write-requires : goal.write-requires

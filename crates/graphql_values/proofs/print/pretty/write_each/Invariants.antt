@@ -1,7 +1,5 @@
 use Rattle.std.proofs.Common.{◌≡◌, ◌++◌, ◌+◌, ◌*◌, ◌<◌, ◌^◌, List, ℕ, drop}
-use Rattle.std.specs.List.{AllByRecursion, flat_map}
-use Rattle.graphql_core.specs.Parts.{text_of}
-use Rattle.graphql_values.specs.TreeDepth.{most}
+use Rattle.graphql_values.specs.{text_of, AllByRecursion, flat_map, most}
 use Rattle.graphql_values.proofs.print.pretty.write_each.Given as goal
 
 abbrev pub invariant-parts : goal.invariant-parts

@@ -1,9 +1,6 @@
 use Rattle.std.proofs.Common.{arith, ◌∙◌, ◌++◌, ◌^◌, ℕ, List, ap, sym, map}
-use Rattle.std.specs.List.{flat_map}
-use Rattle.graphql_core.specs.Parts.{text_of}
-use Rattle.graphql_values.proofs.Appending.{and_part}
-use Rattle.graphql_values.proofs.Counting.{item_here}
-use Rattle.graphql_values.proofs.Enclosed.{narrower}
+use Rattle.graphql_values.specs.{text_of, flat_map}
+use Rattle.graphql_values.proofs.{and_part, item_here, narrower}
 use Rattle.graphql_values.proofs.print.pretty.write_joined.Goals as goal
 
 pub others-preserved : goal.others-preserved

@@ -1,8 +1,5 @@
 use Rattle.std.proofs.Common.{◌≡◌, ◌++◌, ◌+◌, ◌*◌, ◌<◌, ◌^◌, List, ℕ, drop, map}
-use Rattle.std.specs.List.{AllByRecursion, flat_map}
-use Rattle.graphql_core.specs.Parts.{text_of}
-use Rattle.graphql_values.specs.TreeDepth.{most}
-use Rattle.graphql_values.specs.steps.Joined.{joined}
+use Rattle.graphql_values.specs.{text_of, AllByRecursion, flat_map, most, joined}
 use Rattle.graphql_values.proofs.print.pretty.write_joined.Given as goal
 
 abbrev pub invariant-others : goal.invariant-others

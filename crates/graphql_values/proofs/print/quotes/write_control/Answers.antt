@@ -1,7 +1,6 @@
 use Rattle.std.proofs.Common.{ap, ◌++◌, ◌∙◌, codes}
 use Rattle.std.proofs.Math.Utf8.{encode}
-use Rattle.graphql_values.proofs.Appending.{and_last}
-use Rattle.graphql_values.proofs.QuotedText.{low_control, high_control}
+use Rattle.graphql_values.proofs.{and_last, low_control, high_control}
 use Rattle.graphql_values.proofs.print.quotes.write_control.Goals as goal
 
 pub returns-in_ok-push_str : goal.returns-in_ok-push_str

@@ -1,7 +1,5 @@
 use Rattle.std.proofs.Common.{arith}
-use Rattle.std.proofs.lemmas.Bool.Decides.{nat_tests}
-use Rattle.graphql_values.proofs.Appending.{and_alone}
-use Rattle.graphql_values.proofs.QuotedText.{control_byte}
+use Rattle.graphql_values.proofs.{nat_tests, and_alone, control_byte}
 use Rattle.graphql_values.proofs.print.quotes.write_escape.Goals as goal
 
 pub write_control-requires : goal.write_control-requires

@@ -1,9 +1,7 @@
 use Rattle.std.proofs.Common.{◌∷◌, ◌++◌, ◌∙◌, IsUtf8, ap, sym, subst, refl}
 use Rattle.std.proofs.lemmas.Str.{IsUtf8-drop}
-use Rattle.std.specs.List.{flat_map, slice_get}
-use Rattle.graphql_values.specs.ValueLayout.{quoted_byte}
-use Rattle.graphql_values.proofs.Appending.{and_last, and_part, all_done}
-use Rattle.graphql_values.proofs.QuotedText.{run_parts, escaped_next, escaped_boundary, first_of, none_of}
+use Rattle.graphql_values.specs.{flat_map, slice_get, quoted_byte}
+use Rattle.graphql_values.proofs.{and_last, and_part, all_done, run_parts, escaped_next, escaped_boundary, first_of, none_of}
 use Rattle.graphql_values.proofs.print.quotes.write_quoted.Goals as goal
 
 pub returns-in_default : goal.returns-in_default

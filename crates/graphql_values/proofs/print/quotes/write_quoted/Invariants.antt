@@ -1,8 +1,7 @@
 use denote.Shadow.{shadow}
 use denote.Text.{Utf8}
 use Rattle.std.proofs.Common.{◌≡◌, ℕ, List, ◌∷◌, ◌++◌, length}
-use Rattle.std.specs.List.{flat_map}
-use Rattle.graphql_values.specs.ValueLayout.{quoted_byte}
+use Rattle.graphql_values.specs.{flat_map, quoted_byte}
 use Rattle.graphql_values.proofs.print.quotes.write_quoted.Given as goal
 
 -- with what is left this comes to the whole

@@ -1,4 +1,4 @@
-use Rattle.graphql_core.specs.Style.{spaces}
+use Rattle.graphql_values.specs.{spaces}
 use Rattle.graphql_values.proofs.print.spaces.write_many_spaces.Given as goal
 
 abbrev pub invariant-spaces : goal.invariant-spaces

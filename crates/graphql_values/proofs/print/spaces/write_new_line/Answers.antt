@@ -1,7 +1,6 @@
 use Rattle.std.proofs.Common.{ap, sym, ◌∷◌, ◌∙◌, append-nil}
-use Rattle.graphql_core.specs.Style.{spaces}
-use Rattle.graphql_values.proofs.Appending.{and_alone, and_last}
-use Rattle.graphql_values.proofs.Margins.{line_boundary, line_margin}
+use Rattle.graphql_values.specs.{spaces}
+use Rattle.graphql_values.proofs.{and_alone, and_last, line_boundary, line_margin}
 use Rattle.graphql_values.proofs.print.spaces.write_new_line.Goals as goal
 
 pub returns-then-margin-gt-MOST : goal.returns-then-margin-gt-MOST

@@ -1,6 +1,5 @@
 use Rattle.std.proofs.Common.{◌∙◌}
-use Rattle.graphql_values.proofs.Appending.{and_alone}
-use Rattle.graphql_values.proofs.Margins.{line_boundary, line_spaces}
+use Rattle.graphql_values.proofs.{and_alone, line_boundary, line_spaces}
 use Rattle.graphql_values.proofs.print.spaces.write_spaces.Goals as goal
 
 pub range-requires-clause-end_boundary : goal.range-requires-clause-end_boundary

@@ -1,10 +1,7 @@
 use Rattle.std.proofs.Common.{◌≡◌, ◌∙◌, ap, rules, codes}
-use Rattle.graphql_core.specs.Parts.{text_of}
+use Rattle.graphql_values.specs.{text_of, list_of, non_null, type_view, type_layout}
 use Rattle.graphql_values.specs.declared.tree.Type.{the_lemmas}
-use Rattle.graphql_values.specs.Values.{list_of, non_null}
-use Rattle.graphql_values.specs.ValueViews.{type_view}
-use Rattle.graphql_values.specs.ValueLayout.{type_layout}
-use Rattle.graphql_values.proofs.Appending.{list_text, non_null_text, and_last}
+use Rattle.graphql_values.proofs.{list_text, non_null_text, and_last}
 use Rattle.graphql_values.proofs.print.types.+write_type.Goals as goal
 
 pub returns-in_ok-write_type-in-ListType : goal.returns-in_ok-write_type-in-ListType

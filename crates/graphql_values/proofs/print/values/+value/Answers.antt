@@ -1,16 +1,10 @@
 use Rattle.std.proofs.Common.{rules, arith, ◌≡◌, ◌∙◌, ◌++◌, ◌^◌, ap, sym, refl, false, codes, append-nil}
 use Rattle.std.proofs.lemmas.List.{at_drop_all}
-use Rattle.graphql_core.specs.Parts.{text_of}
+use Rattle.graphql_values.specs.{text_of, variable, AreLawful, value_view, items_view, members_view, parts, value_layout, items_layout, members_layout}
+use Rattle.graphql_values.specs.{items_levels, members_levels, pair_layout}
 use Rattle.graphql_values.specs.declared.tree.Value.{the_lemmas}
-use Rattle.graphql_values.specs.Values.{variable}
-use Rattle.graphql_values.specs.Lawful.{AreLawful}
-use Rattle.graphql_values.specs.ValueViews.{value_view, items_view, members_view}
-use Rattle.graphql_values.specs.ValueLayout.{parts, value_layout, items_layout, members_layout, items_levels, members_levels, pair_layout}
-use Rattle.graphql_values.proofs.Views.{item_here}
-use Rattle.graphql_values.proofs.Appending.{alike, and_last, all_done, on_ok}
-use Rattle.graphql_values.proofs.Counting.{all_hold}
-use Rattle.graphql_values.proofs.Enclosed.{inside_fits, narrower, pair_text, enclosed_text, and_next}
-use Rattle.graphql_values.proofs.ObjectMembers.{in_key_order}
+use Rattle.graphql_values.proofs.{items_here, alike, and_last, all_done, on_ok, all_hold, inside_fits, narrower, pair_text, enclosed_text, and_next}
+use Rattle.graphql_values.proofs.{in_key_order}
 use Rattle.graphql_values.proofs.print.values.+value.Goals as goal
 
 -- ---- lists
@@ -34,7 +28,7 @@ write_list-items-init g t c =
 pub write_list-write_value-requires : goal.write_list-write_value-requires
 write_list-write_value-requires g t c κs within =
     let xs = c.args.items.now in
-    let here = item_here _ _ g.N.Names.bytes xs c.items.item-index c.item-item.result (omega arith) c.item-item.is in
+    let here = items_here _ _ g.N.Names.bytes xs c.items.item-index c.item-item.result (omega arith) c.item-item.is in
     let bound = rw here at c.items.invariant.bound in
     let fits = narrower _ _ _ c.args.style.now.indent (2 ^ 32) bound in
     search (rules, the_lemmas, fits.0)
@@ -45,7 +39,7 @@ write_list-items-preserved g t c =
     let style = c.args.style.now in
     let margin = c.inside-indented.result in
     let xs = c.args.items.now in
-    let here = item_here _ _ bytes xs c.items.item-index c.item-item.result (omega arith) c.item-item.is in
+    let here = items_here _ _ bytes xs c.items.item-index c.item-item.result (omega arith) c.item-item.is in
     let bound = rw here at c.items.invariant.bound in
     let fits = narrower _ _ _ style.indent (2 ^ 32) bound in
     let (done, wrote, rest) = c.items.invariant.wrote in

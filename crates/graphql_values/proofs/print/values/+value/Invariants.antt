@@ -1,8 +1,5 @@
 use Rattle.std.proofs.Common.{◌≡◌, ◌++◌, ◌+◌, ◌*◌, ◌<◌, ◌^◌, List, ℕ, drop, false, codes}
-use Rattle.graphql_core.specs.Parts.{text_of}
-use Rattle.graphql_values.specs.Lawful.{AreLawful, HoldLawful}
-use Rattle.graphql_values.specs.ValueViews.{items_view, members_view}
-use Rattle.graphql_values.specs.ValueLayout.{parts, items_layout, members_layout, items_levels, members_levels}
+use Rattle.graphql_values.specs.{text_of, AreLawful, HoldLawful, items_view, members_view, parts, items_layout, members_layout, items_levels, members_levels}
 use Rattle.graphql_values.proofs.print.values.+value.Given as goal
 
 abbrev pub invariant-write_list-items : goal.invariant-write_list-items

@@ -1,10 +1,6 @@
 use Rattle.std.proofs.Common.{refl}
-use Rattle.graphql_grammar.specs.Trees.{Leaf, Both, Node}
-use Rattle.graphql_grammar.specs.Reading.{takes_node, takes_both}
-use Rattle.graphql_grammar.proofs.ReaderSteps.{Stops-after, Stops-node}
-use Rattle.graphql_values.specs.Grammar.{shared, default_symbol}
-use Rattle.graphql_values.proofs.Reading.{takes_one, gives_then}
-use Rattle.graphql_values.proofs.Steps.{begun, lacks}
+use Rattle.graphql_values.specs.{default_symbol}
+use Rattle.graphql_values.proofs.{begun, took, past, gives_led, lacks}
 use Rattle.graphql_values.proofs.read.directives.default_value.Goals as goal
 
 pub returns-in_err-expect_punctuator-clause-reads : goal.returns-in_err-expect_punctuator-clause-reads
@@ -13,10 +9,4 @@ returns-in_err-expect_punctuator-clause-reads g c =
 
 pub returns-clause-reads : goal.returns-clause-reads
 returns-clause-reads g c =
-    let items = g.S.TokenSource.items in
-    let (e, equals, at) = c.in_ok-expect_punctuator.ensures in
-    let before = takes_one shared _ _ _ e refl equals in
-    gives_then shared _ _ (items c.args.source.now) (items c.expect_punctuator.new.source) (items c.constant.new.source) _ _ _
-    (λ v x h is. (Node default_symbol (Both (Leaf e) x), takes_node (takes_both before h) refl, is))
-    (λ r h. Stops-node shared default_symbol _ _ r (Stops-after shared _ _ _ _ _ _ r before h))
-    c.constant.ensures.reads
+    gives_led _ _ _ _ (past (begun default_symbol (λ x. refl)) (took c.in_ok-expect_punctuator.ensures.1 refl)) (λ v x h is. is) c.constant.ensures.reads

@@ -1,9 +1,6 @@
 use Rattle.std.proofs.Common.{◌≡◌, ◌<◌, ℕ, zero, suc, true, refl, arith}
-use Rattle.graphql_grammar.specs.Trees.{Sym}
-use Rattle.graphql_grammar.specs.Tables.{has_samples}
+use Rattle.graphql_values.specs.{Sym, has_samples, shared, tables, shared_symbols, unquoted}
 use Rattle.graphql_grammar.proofs.Exact as theory
-use Rattle.graphql_values.specs.Grammar.{shared, tables, shared_symbols}
-use Rattle.graphql_values.specs.Leaves.{unquoted}
 use Rattle.graphql_values.proofs.read.laws.shared_is_readable.Goals as goal
 
 pub returns-clause-tables : goal.returns-clause-tables

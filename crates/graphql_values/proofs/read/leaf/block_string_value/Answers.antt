@@ -1,8 +1,6 @@
 use Rattle.std.proofs.Common.{refl, ◌∙◌}
-use Rattle.graphql_grammar.specs.Trees.{Leaf}
-use Rattle.graphql_lexer.specs.declared.tokenizer.token.Kind.TheVariants.{BlockString}
-use Rattle.graphql_values.specs.Leaves.{without_ends}
-use Rattle.graphql_values.proofs.LeafSteps.{not_shown, next_spelled, next_taken}
+use Rattle.graphql_values.specs.{Leaf, BlockString, without_ends}
+use Rattle.graphql_values.proofs.{not_shown, next_spelled, next_taken}
 use Rattle.graphql_values.proofs.read.leaf.block_string_value.Goals as goal
 
 pub returns-in_err-token-clause-reads : goal.returns-in_err-token-clause-reads

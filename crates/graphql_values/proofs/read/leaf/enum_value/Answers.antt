@@ -1,8 +1,6 @@
 use Rattle.std.proofs.Common.{◌≡◌, true, false, sym, ◌∙◌, ap}
-use Rattle.graphql_grammar.specs.Tokens.{takes_spelling}
-use Rattle.graphql_grammar.specs.Trees.{Leaf, Node}
-use Rattle.graphql_values.specs.Grammar.{enum_class, enum_name_symbol}
-use Rattle.graphql_values.proofs.PlainAlternatives.{enum_taken, enum_stopped, enum_not_shown}
+use Rattle.graphql_values.specs.{takes_spelling, Leaf, Node, enum_class, enum_name_symbol}
+use Rattle.graphql_values.proofs.{enum_taken, enum_stopped, enum_not_shown}
 use Rattle.graphql_values.proofs.read.leaf.enum_value.Goals as goal
 
 pub returns-in_err-token-clause-reads : goal.returns-in_err-token-clause-reads

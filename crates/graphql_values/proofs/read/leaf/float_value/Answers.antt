@@ -1,8 +1,6 @@
 use Rattle.std.proofs.Common.{◌∙◌}
-use Rattle.graphql_grammar.specs.Trees.{Leaf}
-use Rattle.graphql_lexer.specs.declared.tokenizer.token.Kind.TheVariants.{FloatValue}
-use Rattle.graphql_values.proofs.LeafValues.{literal_taken, literal_refused}
-use Rattle.graphql_values.proofs.LeafSteps.{not_shown, next_spelled, next_taken, next_refused}
+use Rattle.graphql_values.specs.{Leaf, FloatValue}
+use Rattle.graphql_values.proofs.{literal_taken, literal_refused, not_shown, next_spelled, next_taken, next_refused}
 use Rattle.graphql_values.proofs.read.leaf.float_value.Goals as goal
 
 pub returns-in_err-token-clause-reads : goal.returns-in_err-token-clause-reads

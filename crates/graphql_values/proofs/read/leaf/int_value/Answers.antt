@@ -1,8 +1,6 @@
 use Rattle.std.proofs.Common.{◌∙◌}
-use Rattle.graphql_grammar.specs.Trees.{Leaf}
-use Rattle.graphql_lexer.specs.declared.tokenizer.token.Kind.TheVariants.{IntValue}
-use Rattle.graphql_values.proofs.LeafValues.{parsed, not_parsed}
-use Rattle.graphql_values.proofs.LeafSteps.{not_shown, next_spelled, next_taken, next_refused}
+use Rattle.graphql_values.specs.{Leaf, IntValue}
+use Rattle.graphql_values.proofs.{integer_parsed, not_parsed, not_shown, next_spelled, next_taken, next_refused}
 use Rattle.graphql_values.proofs.read.leaf.int_value.Goals as goal
 
 pub returns-in_err-token-clause-reads : goal.returns-in_err-token-clause-reads
@@ -21,5 +19,5 @@ returns-clause-reads g c =
     let t = c.in_ok-token.token in
     let n = c.in_ok-token.ensures in
     let spelled = next_spelled g.S.TokenSource.bytes IntValue (g.S.TokenSource.items c.args.source.now) t n in
-    let (fits, value) = parsed c.as_str.result.now (g.S.TokenSource.bytes t.text) c.in-Ok.value c.as_str.ensures spelled c.in-Ok.ensures.value.0 in
+    let (fits, value) = integer_parsed c.as_str.result.now (g.S.TokenSource.bytes t.text) c.in-Ok.value c.as_str.ensures spelled c.in-Ok.ensures.value.0 in
     (Leaf _, next_taken g.S.TokenSource.bytes IntValue _ t n _ fits c.advance.ensures, c.from_i64.ensures ∙ value)

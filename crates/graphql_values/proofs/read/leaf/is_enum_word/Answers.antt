@@ -1,7 +1,7 @@
 use Rattle.std.proofs.Common.{refl}
-use Rattle.graphql_values.proofs.PlainAlternatives.{differs}
-use Rattle.graphql_values.proofs.read.leaf.is_enum_word.Goals as goal
+use Rattle.graphql_values.proofs.{differs}
 use Rattle.graphql_values.proofs.read.leaf.is_enum_word.Goals.{in_default, in-true, in-true-2, in-true-3}
+use Rattle.graphql_values.proofs.read.leaf.is_enum_word.Goals as goal
 
 pub returns : goal.returns
 returns c =

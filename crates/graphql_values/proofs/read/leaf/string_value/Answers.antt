@@ -1,9 +1,6 @@
 use Rattle.std.proofs.Common.{refl, ◌∙◌}
-use Rattle.graphql_grammar.specs.Trees.{Leaf}
-use Rattle.graphql_lexer.specs.declared.tokenizer.token.Kind.TheVariants.{StringValue}
-use Rattle.graphql_values.specs.Leaves.{without_ends}
-use Rattle.graphql_values.proofs.StringValues.{some_unquoted, none_unquoted, string_means}
-use Rattle.graphql_values.proofs.LeafSteps.{not_shown, next_spelled, next_taken, next_refused}
+use Rattle.graphql_values.specs.{Leaf, StringValue, without_ends}
+use Rattle.graphql_values.proofs.{some_unquoted, none_unquoted, string_means, not_shown, next_spelled, next_taken, next_refused}
 use Rattle.graphql_values.proofs.read.leaf.string_value.Goals as goal
 
 pub returns-in_err-token-clause-reads : goal.returns-in_err-token-clause-reads

@@ -1,5 +1,4 @@
-use Rattle.graphql_values.proofs.StringValues.{has_unquoted}
-use Rattle.graphql_values.proofs.LeafValues.{in_range, whole_exponent}
+use Rattle.graphql_values.proofs.{has_unquoted, in_range, whole_exponent}
 use Rattle.graphql_values.proofs.read.leaf_laws.values_of_leaves.Goals as goal
 
 pub returns : goal.returns

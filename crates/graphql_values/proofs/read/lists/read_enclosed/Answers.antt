@@ -1,13 +1,10 @@
 use Rattle.std.proofs.Common.{sym, ap, ◌∙◌, [], ◌∷◌, ◌++◌, map}
-use Rattle.graphql_grammar.specs.Reading.{takes_both}
-use Rattle.graphql_grammar.proofs.ReaderSteps.{Stops-before, Stops-after}
-use Rattle.graphql_values.proofs.Lists.{begun, opened}
-use Rattle.graphql_values.proofs.Reading.{adds_more}
-use Rattle.graphql_values.proofs.Steps.{took, past, whole, fails, lacks, lacks_last}
+use Rattle.graphql_values.specs.{takes_both}
+use Rattle.graphql_values.proofs.{Stops-before, Stops-after, opened, adds_more, took, past, whole, fails, lacks, lacks_last, list_begun}
 use Rattle.graphql_values.proofs.read.lists.read_enclosed.Goals as goal
 
 pub returns-in_err-expect_punctuator-clause-reads : goal.returns-in_err-expect_punctuator-clause-reads
-returns-in_err-expect_punctuator-clause-reads g c k m s = lacks _ _ _ _ _ (begun s) c.in_err-expect_punctuator.ensures c.from_residual.ensures.1
+returns-in_err-expect_punctuator-clause-reads g c k m s = lacks _ _ _ _ _ (list_begun s) c.in_err-expect_punctuator.ensures c.from_residual.ensures.1
 
 pub returns-in_err-read-clause-reads : goal.returns-in_err-read-clause-reads
 returns-in_err-read-clause-reads g c k m s =

@@ -1,10 +1,6 @@
 use Rattle.std.proofs.Common.{refl, sym, ap, ◌∙◌, codes}
-use Rattle.graphql_grammar.specs.Trees.{Leaf, First, Second, Nothing}
-use Rattle.graphql_values.specs.Grammar.{shared, punctuator}
-use Rattle.graphql_values.specs.Values.{non_null}
-use Rattle.graphql_values.specs.ValueViews.{type_view}
-use Rattle.graphql_values.proofs.Reading.{takes_one, takes_some, takes_none}
-use Rattle.graphql_values.proofs.Views.{non_null_made}
+use Rattle.graphql_values.specs.{Leaf, First, Second, Nothing, shared, punctuator, non_null, type_view}
+use Rattle.graphql_values.proofs.{takes_one, takes_some, takes_none, non_null_made}
 use Rattle.graphql_values.proofs.read.types.optional_non_null.Goals as goal
 
 pub returns-then-sees_punctuator-clause-reads : goal.returns-then-sees_punctuator-clause-reads

@@ -1,47 +1,35 @@
 use Rattle.std.proofs.Common.{refl, sym, ap, ap₂, ◌∙◌, [], ◌++◌, arith, append-nil, codes}
-use Rattle.graphql_grammar.specs.Trees.{Leaf}
-use Rattle.graphql_grammar.proofs.ReaderSteps.{Stops-turn, Turns-start, Turns-more, Turns-stop}
-use Rattle.graphql_values.specs.Grammar.{shared, mark}
-use Rattle.graphql_values.specs.Meanings.{put_all}
-use Rattle.graphql_values.specs.steps.Constness.{pair_symbol_of, tree_of, pair_of, as_variable, as_plain, as_list, as_object}
-use Rattle.graphql_values.specs.Values.{list, object, put}
-use Rattle.graphql_values.specs.ValueViews.{value_view, items_of, members_view}
-use Rattle.graphql_values.proofs.ValueAlternatives.{variable_side, list_side, object_side, plain_side, pair_side, plain_means, list_means, object_means}
-use Rattle.graphql_values.proofs.ValueAlternatives.{pair_means, unseen_value, ends_list, begins_pair, put_more, trees_means, pairs_means}
-use Rattle.graphql_values.proofs.ObjectMembers.{view_insert}
-use Rattle.graphql_values.proofs.Reading.{stops_until, takes_seen, one_of, adds_one, adds_more, fills}
-use Rattle.graphql_values.proofs.Steps.{leads_in, here, took, past, whole, fails, fails_last, lacks, lacks_last}
-use Rattle.graphql_values.proofs.Alternatives.{gives_side}
-use Rattle.graphql_values.proofs.Views.{list_made, object_made}
+use Rattle.graphql_values.specs.{object, Leaf, shared, mark, put_all, pair_symbol_of, tree_of, pair_of, as_variable, as_plain, as_list, as_object, put}
+use Rattle.graphql_values.specs.{value_view, listed_values, members_view, list}
+use Rattle.graphql_values.proofs.{Stops-turn, Turns-start, Turns-more, Turns-stop, variable_side, list_side, object_side, plain_side, pair_side, plain_means}
+use Rattle.graphql_values.proofs.{list_means, object_means, pair_means, unseen_value, ends_list, begins_pair, put_more, trees_means, pairs_means, view_insert}
+use Rattle.graphql_values.proofs.{stops_until, takes_seen, one_of, adds_one, adds_more, fills, leads_in, here, took, past, whole, fails, fails_last, lacks}
+use Rattle.graphql_values.proofs.{lacks_last, list_made, object_made, pushes_none, turn_appends, gives_led}
 use Rattle.graphql_values.proofs.read.values.+values.Goals as goal
 
 -- ---- value_of_sort
 
 pub value_of_sort-returns-then-sees_variable-clause-reads : goal.value_of_sort-returns-then-sees_variable-clause-reads
 value_of_sort-returns-then-sees_variable-clause-reads g t c =
-    let old = g.S.TokenSource.items c.args.source.now in
-    let (side, same) = variable_side c.args.sort old (sym c.sees_variable.ensures ∙ c.if-sees_variable.true) in
-    gives_side shared _ _ as_variable old (g.S.TokenSource.items c.variable.new.source) _ _ _ side (λ v x h. h ∙ sym (same x)) c.variable.ensures.reads
+    let (side, same) = variable_side c.args.sort (g.S.TokenSource.items c.args.source.now) (sym c.sees_variable.ensures ∙ c.if-sees_variable.true) in
+    gives_led _ _ _ _ (leads_in side) (λ v x h is. is ∙ sym (same x)) c.variable.ensures.reads
 
 pub value_of_sort-returns-then-sees_punctuator-clause-reads : goal.value_of_sort-returns-then-sees_punctuator-clause-reads
 value_of_sort-returns-then-sees_punctuator-clause-reads g t c =
-    let old = g.S.TokenSource.items c.args.source.now in
-    let side = list_side c.args.sort old.tokens (sym c.sees_punctuator.ensures ∙ c.if-sees_punctuator.true) in
-    gives_side shared _ _ (as_list c.args.sort) old (g.S.TokenSource.items c.list.new.source) _ _ _ side (λ v x h. h) c.list.ensures.reads
+    let side = list_side c.args.sort _ (sym c.sees_punctuator.ensures ∙ c.if-sees_punctuator.true) in
+    gives_led _ _ _ _ (leads_in side) (λ v x h is. is) c.list.ensures.reads
 
 pub value_of_sort-returns-then-sees_punctuator-2-clause-reads : goal.value_of_sort-returns-then-sees_punctuator-2-clause-reads
 value_of_sort-returns-then-sees_punctuator-2-clause-reads g t c =
-    let old = g.S.TokenSource.items c.args.source.now in
-    let side = object_side c.args.sort old.tokens (sym c.sees_punctuator-2.ensures ∙ c.if-sees_punctuator-2.true) in
-    gives_side shared _ _ (as_object c.args.sort) old (g.S.TokenSource.items c.object.new.source) _ _ _ side (λ v x h. h) c.object.ensures.reads
+    let side = object_side c.args.sort _ (sym c.sees_punctuator-2.ensures ∙ c.if-sees_punctuator-2.true) in
+    gives_led _ _ _ _ (leads_in side) (λ v x h is. is) c.object.ensures.reads
 
 pub value_of_sort-returns-clause-reads : goal.value_of_sort-returns-clause-reads
 value_of_sort-returns-clause-reads g t c =
     let old = g.S.TokenSource.items c.args.source.now in
     let side = plain_side c.args.sort old (sym c.sees_variable.ensures ∙ c.if-sees_variable.false) (sym c.sees_punctuator.ensures ∙ c.if-sees_punctuator.false)
     (sym c.sees_punctuator-2.ensures ∙ c.if-sees_punctuator-2.false) in
-    gives_side shared _ _ (as_plain c.args.sort) old (g.S.TokenSource.items c.plain_value.new.source) _ _ _ side
-    (λ v x h. h ∙ sym (plain_means c.args.sort x)) c.plain_value.ensures.reads
+    gives_led _ _ _ _ (leads_in side) (λ v x h is. is ∙ sym (plain_means c.args.sort x)) c.plain_value.ensures.reads
 
 -- ---- list
 
@@ -49,42 +37,40 @@ pub list-returns-in_err-expect_punctuator-clause-reads : goal.list-returns-in_er
 list-returns-in_err-expect_punctuator-clause-reads g t c = lacks _ _ _ _ _ here c.in_err-expect_punctuator.ensures c.from_residual.ensures.1
 
 pub list-more-init : goal.list-more-init
-list-more-init g t c = record { turns = ([], Turns-start shared _ (one_of (tree_of c.args.sort)) _, sym (append-nil _)); kept = refl; within = omega arith }
+list-more-init g t c =
+    record { pushes = pushes_none shared _ (tree_of c.args.sort) (value_view g.S.Names.Names.bytes) _ _; kept = refl; within = omega arith }
 
 pub list-more-preserved : goal.list-more-preserved
 list-more-preserved g t c =
-    let f = tree_of c.args.sort in
-    let (items, turns, views) = c.more.invariant.turns in
-    let (x, takes, view) = c.in_ok-value_of_sort.ensures.reads in
+    let now = g.S.TokenSource.items c.more.source in
+    let view = value_view g.S.Names.Names.bytes in
+    let (x, takes, is) = c.in_ok-value_of_sort.ensures.reads in
     record {
-      turns = (
-        items ++ one_of f x,
-        Turns-more shared _ (one_of f) _ _ _ items x turns (takes_seen shared _ _ _ x (unseen_value c.args.sort _) takes) takes,
-        adds_more (value_view g.S.Names.Names.bytes) _ _ _ items _ views (adds_one (value_view g.S.Names.Names.bytes) _ _ _ _ c.in_ok-push.ensures.items view),
-      );
+      pushes = turn_appends shared _ (tree_of c.args.sort) view _ now _ _ _ _ c.more.invariant.pushes
+          (takes_seen shared _ _ _ x (unseen_value c.args.sort _) takes) (x, takes, adds_one view _ _ _ _ c.in_ok-push.ensures.items is)
+          c.in_ok-value_of_sort.ensures.kept;
       kept = c.in_ok-value_of_sort.ensures.kept ∙ c.more.invariant.kept;
       within = omega (arith, c.more.invariant.within, c.in_ok-value_of_sort.ensures.shorter);
     }
 
 pub list-returns-in_err-value_of_sort-clause-reads : goal.list-returns-in_err-value_of_sort-clause-reads
 list-returns-in_err-value_of_sort-clause-reads g t c =
-    let (items, turns, views) = c.more.invariant.turns in
+    let p = c.more.invariant.pushes in
     fails_last _ _ _ _ (past here (took c.in_ok-expect_punctuator.ensures.1 refl))
-    (stops_until shared _ (mark (codes "]")) (one_of (tree_of c.args.sort)) _ _ _ items _ (unseen_value c.args.sort _) turns
+    (stops_until shared _ (mark (codes "]")) (one_of (tree_of c.args.sort)) _ _ _ p.means _ (unseen_value c.args.sort _) p.turns
     (sym c.sees_punctuator.ensures ∙ c.more-test.true) c.in_err-value_of_sort.ensures.reads)
     c.from_residual-in_err-value_of_sort.ensures.1
 
 pub list-returns-clause-reads : goal.list-returns-clause-reads
 list-returns-clause-reads g t c =
     let s = c.args.sort in
-    let f = tree_of s in
     let bytes = g.S.Names.Names.bytes in
     let (o, opens, at) = c.in_ok-expect_punctuator.ensures in
     let (e, ends, until) = c.in_ok-expect_punctuator-2.ensures in
-    let (items, turns, views) = c.more.invariant.turns in
-    let r = Turns-stop shared _ (one_of f) _ _ items turns (ends_list s _ (sym c.sees_punctuator.ensures ∙ c.more-test.false)) in
+    let p = c.more.invariant.pushes in
+    let r = Turns-stop shared _ (one_of (tree_of s)) _ _ p.means p.turns (ends_list s _ (sym c.sees_punctuator.ensures ∙ c.more-test.false)) in
     whole (past (past here (took opens refl)) r.1) (took ends refl)
-    (list_made _ _ bytes _ ∙ ap list (ap items_of (fills (value_view bytes) _ _ items c.new-items.ensures.items views ∙ sym r.2) ∙ sym (trees_means s r.1))
+    (list_made _ _ bytes _ ∙ ap list (ap listed_values (fills (value_view bytes) _ _ p.means c.new-items.ensures.items p.adds ∙ sym r.2) ∙ sym (trees_means s r.1))
     ∙ sym (list_means s (Leaf o) r.0 (Leaf e)))
 
 -- ---- object

@@ -1,14 +1,6 @@
 use Rattle.std.proofs.Common.{ℕ, ◌+◌, ◌*◌, ◌≤◌, ◌≡◌, List, length}
-use Rattle.graphql_grammar.specs.Trees.{Sym}
-use Rattle.graphql_grammar.specs.ReaderWords.{Turns}
-use Rattle.graphql_values.specs.Grammar.{shared}
-use Rattle.graphql_values.specs.Meanings.{put_all}
-use Rattle.graphql_values.specs.steps.Constness.{symbol_of, pair_symbol_of, tree_of, pair_of}
-use Rattle.graphql_values.specs.Values.{ValueTree}
-use Rattle.graphql_values.specs.ValueViews.{value_view, members_view}
-use Rattle.graphql_core.specs.Source.{kept}
-use Rattle.graphql_values.specs.steps.Answers.{Adds}
-use Rattle.graphql_values.proofs.Reading.{one_of}
+use Rattle.graphql_values.specs.{Sym, Turns, shared, put_all, symbol_of, pair_symbol_of, tree_of, pair_of, ValueTree, value_view, members_view, kept}
+use Rattle.graphql_values.proofs.{one_of, Pushes}
 use Rattle.graphql_values.proofs.read.values.+values.Given as goal
 
 -- a list, an object and a member take a token before they read a value
@@ -26,10 +18,8 @@ decreases-member g l = 2 * length (g.S.TokenSource.items l.source.now).tokens
 
 abbrev pub invariant-list-more : goal.invariant-list-more
 invariant-list-more g l = record {
-  turns : (items : List ValueTree)
-      × Turns shared (Sym (symbol_of l.sort)) (one_of (tree_of l.sort)) (g.S.TokenSource.items l.initial.source).tokens
-      (g.S.TokenSource.items l.source).tokens items
-      × Adds (value_view g.S.Names.Names.bytes) l.initial.items.items l.items.items items;
+  pushes : Pushes shared (Sym (symbol_of l.sort)) (tree_of l.sort) (value_view g.S.Names.Names.bytes) (g.S.TokenSource.items l.initial.source)
+      (g.S.TokenSource.items l.source) l.initial.items.items l.items.items;
   kept : kept (g.S.TokenSource.items l.source) ≡ kept (g.S.TokenSource.items l.initial.source);
   within : length (g.S.TokenSource.items l.source).tokens ≤ length (g.S.TokenSource.items l.initial.source).tokens;
 }

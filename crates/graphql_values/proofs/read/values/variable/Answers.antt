@@ -1,7 +1,6 @@
 use Rattle.std.proofs.Common.{refl, sym, ap, ◌∙◌}
-use Rattle.graphql_values.specs.Values.{variable}
-use Rattle.graphql_values.proofs.Steps.{here, took, past, whole, lacks, lacks_last}
-use Rattle.graphql_values.proofs.Views.{variable_made}
+use Rattle.graphql_values.specs.{variable}
+use Rattle.graphql_values.proofs.{here, took, past, whole, lacks, lacks_last, variable_made}
 use Rattle.graphql_values.proofs.read.values.variable.Goals as goal
 
 pub returns-in_err-expect_punctuator-clause-reads : goal.returns-in_err-expect_punctuator-clause-reads

@@ -1,10 +1,9 @@
+use Rattle.std.specs.Map.{keys_of}
 use Rattle.std.proofs.Common.{◌≡◌, ◌+◌, [], ◌∷◌, ◌++◌, subst, append_assoc, map, take, rules}
 use Rattle.std.proofs.lemmas.List.{map_push, map_more}
-use Rattle.std.specs.List.Sorted.{IsStrictlySortedBy}
-use Rattle.std.specs.Map.{keys_of}
+use Rattle.graphql_values.specs.{IsStrictlySortedBy, value_view}
 use Rattle.graphql_values.specs.declared.tree.Value.{Value}
-use Rattle.graphql_values.specs.ValueViews.{value_view}
-use Rattle.graphql_values.proofs.ObjectMembers.{view_insert, put_last}
+use Rattle.graphql_values.proofs.{view_insert, put_last}
 use Rattle.graphql_values.proofs.tree.copies.+copy.Goals as goal
 
 pub copy_members-members-preserved : goal.copy_members-members-preserved

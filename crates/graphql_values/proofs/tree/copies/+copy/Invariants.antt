@@ -1,5 +1,5 @@
 use Rattle.std.proofs.Common.{◌≡◌, List, ◌++◌, take, map}
-use Rattle.graphql_values.specs.ValueViews.{value_view, members_view}
+use Rattle.graphql_values.specs.{value_view, members_view}
 use Rattle.graphql_values.specs.declared.tree.Value.{Value}
 use Rattle.graphql_values.proofs.tree.copies.+copy.Given as goal
 

@@ -1,10 +1,9 @@
 use Rattle.std.proofs.Common.{rules, tests, ◌∙◌}
-use Rattle.std.proofs.lemmas.Iterator.Consumers.{count_from_yields_List, YieldsList-at}
+use Rattle.std.proofs.lemmas.Iterator.Consumers.{count_from_yields_List}
 use Rattle.std.proofs.lemmas.Iterator.Search.{YieldsList-from_take_while}
-use Rattle.std.proofs.lemmas.Iterator.Splits.{YieldsList-from_lines}
 use Rattle.std.proofs.lemmas.List.Folds.{length-prefix_len}
-use Rattle.std.specs.Str.Lines.{lines}
-use Rattle.graphql_core.specs.BlockStrings.{is_blank}
+use Rattle.graphql_core.specs.{lines, is_blank}
+use Rattle.graphql_core.proofs.{YieldsList-at, YieldsList-from_lines}
 use Rattle.graphql_core.proofs.common.strings.block.blank_lines_before.Goals as goal
 
 pub returns : goal.returns

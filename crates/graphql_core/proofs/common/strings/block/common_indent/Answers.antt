@@ -1,10 +1,9 @@
 use Rattle.std.proofs.Common.{rules, tests, ◌∙◌, sym, ap, not}
 use Rattle.std.proofs.lemmas.Iterator.{YieldsList-from_map}
 use Rattle.std.proofs.lemmas.Iterator.Adapters.{YieldsList-from_skip, option_map_id}
-use Rattle.std.proofs.lemmas.Iterator.Consumers.{min_from_yields_List, YieldsList-at, YieldsList-from_filter}
-use Rattle.std.proofs.lemmas.Iterator.Splits.{YieldsList-from_lines}
-use Rattle.std.specs.Option.{unwrap_or}
-use Rattle.graphql_core.specs.BlockStrings.{is_blank, indent, common_indent}
+use Rattle.std.proofs.lemmas.Iterator.Consumers.{min_from_yields_List, YieldsList-from_filter}
+use Rattle.graphql_core.specs.{unwrap_or, is_blank, indent, common_indent}
+use Rattle.graphql_core.proofs.{YieldsList-at, YieldsList-from_lines}
 use Rattle.graphql_core.proofs.common.strings.block.common_indent.Goals as goal
 
 pub returns : goal.returns

@@ -1,17 +1,13 @@
 use Rattle.std.proofs.Common.{◌≡◌, ℕ, min, ◌==◌, if◌then◌else◌, List, [], ◌∷◌, ◌++◌, length, take, drop, string_bytes, sym, ap, ◌∙◌, arith}
-use Rattle.std.specs.List.{join_by, prefix_len}
-use Rattle.std.specs.Str.Lines.{lines}
-use Rattle.std.proofs.lemmas.Bool.Decides.{nat_tests}
 use Rattle.std.proofs.lemmas.Iterator.{YieldsList-from_take}
 use Rattle.std.proofs.lemmas.Iterator.Adapters.{YieldsList-from_skip}
-use Rattle.std.proofs.lemmas.Iterator.Consumers.{YieldsList-at, YieldsList-from_enumerate, YieldsList-turn, YieldsList-end}
-use Rattle.std.proofs.lemmas.Iterator.Splits.{YieldsList-from_lines}
-use Rattle.std.proofs.lemmas.List.{length_push, take_all}
-use Rattle.std.proofs.lemmas.Str.{encode_ascii}
-use Rattle.graphql_core.specs.BlockStrings.{indent, is_blank, common_indent, unescaped}
-use Rattle.graphql_core.proofs.BlockLines.{piece, kept, kept_at, first_written, later_written, pieces_kept}
-use Rattle.graphql_core.proofs.common.strings.block.content_value.Goals as goal
+use Rattle.std.proofs.lemmas.Iterator.Consumers.{YieldsList-from_enumerate, YieldsList-turn, YieldsList-end}
+use Rattle.std.proofs.lemmas.List.{length_push}
+use Rattle.graphql_core.specs.{join_by, prefix_len, lines, indent, is_blank, common_indent, unescaped}
+use Rattle.graphql_core.proofs.{nat_tests, YieldsList-at, YieldsList-from_lines, take_all, encode_ascii, piece, kept, kept_at, first_written, later_written}
+use Rattle.graphql_core.proofs.{pieces_kept}
 use Rattle.graphql_core.proofs.common.strings.block.content_value.Goals.{then-index-first+in_ok-push, else-index-first, then-index-eq0, else-index-eq0}
+use Rattle.graphql_core.proofs.common.strings.block.content_value.Goals as goal
 
 pub lines-preserved : goal.lines-preserved
 lines-preserved c =

@@ -1,13 +1,10 @@
 use Rattle.std.proofs.Common.{◌≡◌, ◌-◌, length, take, sym, ap, ◌∙◌, arith}
-use Rattle.std.specs.List.{suffix_len}
-use Rattle.std.specs.Str.Lines.{lines}
-use Rattle.std.proofs.lemmas.Bool.{not-true, not-false}
-use Rattle.std.proofs.lemmas.Iterator.Consumers.{YieldsList-at, YieldsList-from_enumerate, YieldsList-turn, YieldsList-end}
-use Rattle.std.proofs.lemmas.Iterator.Splits.{YieldsList-from_lines}
-use Rattle.std.proofs.lemmas.List.{length_push, take_all}
+use Rattle.std.proofs.lemmas.Bool.{not-false}
+use Rattle.std.proofs.lemmas.Iterator.Consumers.{YieldsList-from_enumerate, YieldsList-turn, YieldsList-end}
+use Rattle.std.proofs.lemmas.List.{length_push}
 use Rattle.std.proofs.lemmas.List.FromFn.{length-enumerate_from}
-use Rattle.graphql_core.specs.BlockStrings.{is_blank}
-use Rattle.graphql_core.proofs.BlockLines.{numbered, through_text, through_blank}
+use Rattle.graphql_core.specs.{suffix_len, lines, is_blank}
+use Rattle.graphql_core.proofs.{not-true, YieldsList-at, YieldsList-from_lines, take_all, numbered, through_text, through_blank}
 use Rattle.graphql_core.proofs.common.strings.block.lines_through_last.Goals as goal
 
 pub lines-preserved-then-has_text : goal.lines-preserved-then-has_text

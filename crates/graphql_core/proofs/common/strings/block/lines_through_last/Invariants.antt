@@ -1,7 +1,5 @@
 use Rattle.std.proofs.Common.{◌≡◌, ◌-◌, ◌≤◌, length, take}
-use Rattle.std.specs.List.{suffix_len}
-use Rattle.std.specs.Str.Lines.{lines}
-use Rattle.graphql_core.specs.BlockStrings.{is_blank}
+use Rattle.graphql_core.specs.{suffix_len, lines, is_blank}
 use Rattle.graphql_core.proofs.common.strings.block.lines_through_last.Given as goal
 
 abbrev pub invariant-lines : goal.invariant-lines

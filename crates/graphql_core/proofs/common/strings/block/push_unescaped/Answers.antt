@@ -1,6 +1,6 @@
 use Rattle.std.proofs.Common.{◌++◌, ◌∷◌, [], take, drop, string_bytes, arith, rules, sym, ap, ◌∙◌, append_assoc}
-use Rattle.graphql_core.specs.BlockStrings.{unescaped}
-use Rattle.graphql_core.proofs.BlockLines.{unescaped_at, unescaped_none, completed}
+use Rattle.graphql_core.specs.{unescaped}
+use Rattle.graphql_core.proofs.{unescaped_at, unescaped_none, completed}
 use Rattle.graphql_core.proofs.common.strings.block.push_unescaped.Goals as goal
 
 pub escapes-preserved : goal.escapes-preserved

@@ -1,7 +1,7 @@
-use Rattle.std.proofs.Common.{◌≡◌, ◌++◌, length, string_bytes}
 use denote.Text.{Utf8}
 use denote.Shadow.{shadow}
-use Rattle.graphql_core.specs.BlockStrings.{unescaped}
+use Rattle.std.proofs.Common.{◌≡◌, ◌++◌, length, string_bytes}
+use Rattle.graphql_core.specs.{unescaped}
 use Rattle.graphql_core.proofs.common.strings.block.push_unescaped.Given as goal
 
 abbrev pub invariant-escapes : goal.invariant-escapes

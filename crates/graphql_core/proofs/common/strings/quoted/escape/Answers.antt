@@ -1,9 +1,8 @@
 use Rattle.std.proofs.Common.{◌≡◌, ◌++◌, ℕ, sym, ap, ◌∙◌, arith}
-use Rattle.std.specs.Char.{encode_utf8}
-use Rattle.graphql_core.specs.Strings.{quote, backslash, slash, backspace, form_feed, line_feed, carriage_return, tab}
-use Rattle.graphql_core.proofs.Escapes.{letter_escape, no_escape_other, named_result, unnamed_result}
-use Rattle.graphql_core.proofs.common.strings.quoted.escape.Goals as goal
+use Rattle.graphql_core.specs.{encode_utf8, quote, backslash, slash, backspace, form_feed, line_feed, carriage_return, tab}
+use Rattle.graphql_core.proofs.{letter_escape, no_escape_other, named_result, unnamed_result}
 use Rattle.graphql_core.proofs.common.strings.quoted.escape.Goals.{in-34, in-92, in-47, in-b, in-f, in-n, in-r, in-t}
+use Rattle.graphql_core.proofs.common.strings.quoted.escape.Goals as goal
 
 pub returns-in-u-clause-escapes : goal.returns-in-u-clause-escapes
 returns-in-u-clause-escapes c =

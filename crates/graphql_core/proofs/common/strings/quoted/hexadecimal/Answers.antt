@@ -1,5 +1,5 @@
 use Rattle.std.proofs.Common.{sym, ◌∙◌}
-use Rattle.graphql_core.proofs.Escapes.{some_from_parsed}
+use Rattle.graphql_core.proofs.{some_from_parsed}
 use Rattle.graphql_core.proofs.common.strings.quoted.hexadecimal.Goals as goal
 
 pub returns : goal.returns

@@ -1,8 +1,8 @@
-use Rattle.std.proofs.Common.{◌++◌, ◌-◌, List, ℕ, length, string_bytes}
 use denote.Text.{Utf8}
 use denote.Shadow.{shadow}
 use Rattle.std.specs.List.{slice_range}
-use Rattle.graphql_core.specs.Strings.{HasValue}
+use Rattle.std.proofs.Common.{◌++◌, ◌-◌, List, ℕ, length, string_bytes}
+use Rattle.graphql_core.specs.{HasValue}
 use Rattle.graphql_core.proofs.common.strings.quoted.unquote_string.Given as goal
 
 -- a value of the rest, after what is written, is one of the whole, and the rest has one where the whole has

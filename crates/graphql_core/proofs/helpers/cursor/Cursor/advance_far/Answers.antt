@@ -1,8 +1,6 @@
 use Rattle.std.proofs.Common.{sym, ap, ◌∙◌, arith}
-use Rattle.std.proofs.lemmas.List.Elements.{All-same}
-use Rattle.graphql_core.specs.Source.{Items, IsLexeme}
-use Rattle.graphql_core.specs.steps.Punctuators.{front_byte}
-use Rattle.graphql_core.proofs.CursorItems.{later_lexemes}
+use Rattle.graphql_core.specs.{Items, IsLexeme, front_byte}
+use Rattle.graphql_core.proofs.{All-same, later_lexemes}
 use Rattle.graphql_core.proofs.helpers.cursor.Cursor.advance_far.Goals as goal
 
 pub invariant_of-self : goal.invariant_of-self

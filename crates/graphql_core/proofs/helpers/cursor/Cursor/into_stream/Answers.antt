@@ -1,4 +1,4 @@
-use Rattle.graphql_core.proofs.CursorItems.{cut_within, cut_all}
+use Rattle.graphql_core.proofs.{cut_within, cut_all}
 use Rattle.graphql_core.proofs.helpers.cursor.Cursor.into_stream.Goals as goal
 
 pub returns-clause-within : goal.returns-clause-within

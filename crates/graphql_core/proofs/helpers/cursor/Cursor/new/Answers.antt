@@ -1,6 +1,6 @@
 use Rattle.std.proofs.Common.{ap, ◌∙◌}
-use Rattle.graphql_core.specs.Source.{items_of_stream}
-use Rattle.graphql_core.proofs.CursorItems.{fresh}
+use Rattle.graphql_core.specs.{items_of_stream}
+use Rattle.graphql_core.proofs.{fresh}
 use Rattle.graphql_core.proofs.helpers.cursor.Cursor.new.Goals as goal
 
 pub returns : goal.returns

@@ -1,5 +1,5 @@
 use Rattle.std.proofs.Common.{Ok, Some, arith}
-use Rattle.graphql_core.proofs.CursorItems.{later_lexemes, moved_lexemes}
+use Rattle.graphql_core.proofs.{later_lexemes, moved_lexemes}
 use Rattle.graphql_core.proofs.helpers.cursor.CursorTokenSource.advance.Goals as goal
 
 pub invariant_of-self : goal.invariant_of-self

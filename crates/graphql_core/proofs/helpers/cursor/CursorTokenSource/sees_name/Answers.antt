@@ -1,9 +1,5 @@
 use Rattle.std.proofs.Common.{ap, ◌∙◌}
-use Rattle.graphql_grammar.specs.Tokens.{AnyOf}
-use Rattle.graphql_lexer.specs.declared.tokenizer.token.Kind.TheVariants.{Name}
-use Rattle.graphql_core.specs.Causes.{kind_number}
-use Rattle.graphql_lexer.specs.Lexical.{is_name_start}
-use Rattle.graphql_core.specs.steps.Matching.{sees_class}
+use Rattle.graphql_core.specs.{AnyOf, Name, kind_number, is_name_start, sees_class}
 use Rattle.graphql_core.proofs.Fronts as fronts
 use Rattle.graphql_core.proofs.helpers.cursor.CursorTokenSource.sees_name.Goals as goal
 

@@ -1,6 +1,5 @@
 use Rattle.std.proofs.Common.{ap, ◌∙◌}
-use Rattle.graphql_core.specs.steps.Matching.{sees_class}
-use Rattle.graphql_core.specs.steps.Punctuators.{class_of}
+use Rattle.graphql_core.specs.{sees_class, class_of}
 use Rattle.graphql_core.proofs.Fronts as fronts
 use Rattle.graphql_core.proofs.helpers.cursor.CursorTokenSource.sees_punctuator.Goals as goal
 

@@ -1,5 +1,5 @@
 use Rattle.std.proofs.lemmas.List.Elements.{All-rest}
-use Rattle.graphql_core.specs.steps.Spans.{Marks}
+use Rattle.graphql_core.specs.{Marks}
 use Rattle.graphql_core.proofs.helpers.spans.SpanSourceTokenSource.advance.Goals as goal
 
 pub front_of-self-inside-requires : goal.front_of-self-inside-requires

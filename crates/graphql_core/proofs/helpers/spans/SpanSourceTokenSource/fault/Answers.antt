@@ -1,7 +1,6 @@
 use Rattle.std.proofs.Common.{sym}
-use Rattle.std.proofs.lemmas.List.Elements.{All-head, All-same}
-use Rattle.graphql_core.specs.steps.Spans.{Marks}
-use Rattle.graphql_core.proofs.SpanItems.{fault_here}
+use Rattle.graphql_core.specs.{Marks}
+use Rattle.graphql_core.proofs.{All-head, All-same, fault_here}
 use Rattle.graphql_core.proofs.helpers.spans.SpanSourceTokenSource.fault.Goals as goal
 
 pub spelling-requires : goal.spelling-requires

@@ -1,8 +1,7 @@
 use Rattle.std.proofs.Common.{ap, ◌∙◌}
-use Rattle.graphql_core.specs.steps.Matching.{sees_class}
-use Rattle.graphql_core.specs.steps.Punctuators.{class_of}
+use Rattle.graphql_core.specs.{sees_class, class_of}
+use Rattle.graphql_core.proofs.{lexemes_left}
 use Rattle.graphql_core.proofs.Fronts as fronts
-use Rattle.graphql_core.proofs.SpanItems.{lexemes_left}
 use Rattle.graphql_core.proofs.helpers.spans.SpanSourceTokenSource.sees_punctuator.Goals as goal
 
 pub returns : goal.returns

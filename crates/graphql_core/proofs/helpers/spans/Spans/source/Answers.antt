@@ -1,5 +1,5 @@
-use Rattle.std.proofs.lemmas.List.Elements.{All-same}
-use Rattle.graphql_core.specs.steps.Spans.{Marks}
+use Rattle.graphql_core.specs.{Marks}
+use Rattle.graphql_core.proofs.{All-same}
 use Rattle.graphql_core.proofs.helpers.spans.Spans.source.Goals as goal
 
 pub front_of-requires : goal.front_of-requires

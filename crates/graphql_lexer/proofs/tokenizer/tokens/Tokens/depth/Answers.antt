@@ -1,7 +1,7 @@
 use Rattle.std.proofs.Common.{◌≡◌, ℕ, ◌<◌, ◌^◌, arith, sym, ap, ◌∙◌, pos, ◌-ℤ◌, to_z, of_z, w64, ◌-◌, length}
 use Rattle.std.proofs.lemmas.Int.{ints}
-use Rattle.graphql_lexer.specs.Items.{Where, depth_of}
-use Rattle.graphql_lexer.proofs.FrontFits.{next_place_items}
+use Rattle.graphql_lexer.specs.{Where, depth_of}
+use Rattle.graphql_lexer.proofs.{next_place_items}
 use Rattle.graphql_lexer.proofs.tokenizer.tokens.Tokens.depth.Goals as goal
 
 signed : (a b : ℕ) → a < 2 ^ 62 → b < 2 ^ 62 → to_z w64 (of_z w64 (to_z w64 a -ℤ to_z w64 b)) ≡ pos a -ℤ pos b

@@ -1,11 +1,8 @@
 use Rattle.std.proofs.Common.{◌≡◌, ◌+◌, ◌-◌, false, length, take, refl, sym, ◌∙◌, ap, arith}
-use Rattle.graphql_lexer.specs.steps.Front.{front}
-use Rattle.graphql_lexer.specs.declared.tokenizer.piece.Piece.TheVariants.{Takes}
-use Rattle.graphql_lexer.specs.Items.{Where, is_too_deep, past, past_token}
-use Rattle.graphql_lexer.proofs.FrontFits.{items_at}
-use Rattle.graphql_lexer.proofs.Tokens.{takes_first, one_bracket, few_open, not_too_deep}
-use Rattle.graphql_lexer.proofs.tokenizer.tokens.Tokens.near_token.Goals as goal
+use Rattle.graphql_lexer.specs.{front, Where, is_too_deep, past, past_token}
+use Rattle.graphql_lexer.proofs.{one_bracket, few_open, not_too_deep, token_then_rest}
 use Rattle.graphql_lexer.proofs.tokenizer.tokens.Tokens.near_token.Goals.{in-Opens+else-is_full, in_default-nesting}
+use Rattle.graphql_lexer.proofs.tokenizer.tokens.Tokens.near_token.Goals as goal
 
 pub position_after_flat-end-requires-clause-flat : goal.position_after_flat-end-requires-clause-flat
 position_after_flat-end-requires-clause-flat c =
@@ -25,8 +22,8 @@ invariant_of-self c =
       omega arith,
       omega arith,
       omega arith,
-      omega (arith, after.openers, (one_bracket t.nesting s.brackets.openers).0, c.in-Some.ensures.fits.0, c.split_at.ensures.back_len, c.skip_plain-is_item.ensures.within),
-      omega (arith, after.closers, (one_bracket t.nesting s.brackets.closers).1, c.in-Some.ensures.fits.0, c.split_at.ensures.back_len, c.skip_plain-is_item.ensures.within),
+      omega (arith, after.openers, (one_bracket t.nesting s.brackets.openers).0, c.in-Some.ensures.fits.0, c.split_at.ensures.back_len, c.skip_plain-is_item.ensures.skips.1),
+      omega (arith, after.closers, (one_bracket t.nesting s.brackets.closers).1, c.in-Some.ensures.fits.0, c.split_at.ensures.back_len, c.skip_plain-is_item.ensures.skips.1),
       c.skip_plain-is_item.ensures.first c.if-not-is_item.false,
       omega (arith, few, after.openers, after.closers),
     )
@@ -36,24 +33,15 @@ returns-clause-item c =
     let s = c.self.inside in
     let w : Where = record { position = s.position; offset = s.size - length s.rest.now; openers = s.brackets.openers; closers = s.brackets.closers } in
     let t = c.in-Some in
-    let e = items_at w s.rest.now (Takes t.len t.kind t.nesting) (takes_first (front c.self.inside.rest.now) t.len t.kind t.nesting (sym t.ensures.is)) in
     let deep : is_too_deep t.nesting w ≡ false = elim c.match-nesting.branch [
       | in-Opens+else-is_full b ↦ rw b.in-Opens.is (sym (b.is_full.ensures w refl refl) ∙ b.if-is_full.false)
       | in_default-nesting b ↦ not_too_deep t.nesting w b.in_default-nesting.not-Opens
     ] in
-    let value = take t.len s.rest.now in
     let end = sym (c.position_after_flat-end.ensures.is ∙ ap (λ v. past v s.position) c.split_at.ensures.front) in
-    let more = c.skip_plain-is_item.ensures.items (past_token t.nesting value w) end in
-    let after = length c.split_at.result.1.now in
-    let rest = length c.skip_plain-is_item.result.0.now in
+    let more = c.skip_plain-is_item.ensures.skips.0 (past_token t.nesting (take t.len s.rest.now) w) end in
     let len = ap length c.split_at.ensures.front in
-    let offset : s.size - length s.rest.now + length value + (after - rest) ≡ s.size - rest = omega (arith, c.skip_plain-is_item.ensures.within) in
-    rw (
-      ← c.self.view_is,
-      c.split_at.ensures.front,
-      c.after-self-inside.ensures.openers,
-      c.after-self-inside.ensures.closers,
-      ← offset,
-      more,
-      c.split_at.ensures.back,
-    ) (w, rw deep at e)
+    rw (← c.self.view_is, c.split_at.ensures.front, c.after-self-inside.ensures.openers, c.after-self-inside.ensures.closers) (
+      w,
+      token_then_rest w s.rest.now _ _ c.skip_plain-is_item.result.0.now s.size t.len t.kind t.nesting c.skip_plain-is_item.result.1 t.ensures.is deep refl
+          c.split_at.ensures.back more (omega (arith, c.skip_plain-is_item.ensures.skips.1)),
+    )

@@ -1,10 +1,8 @@
-use Rattle.std.proofs.Common.{◌≡◌, ◌+◌, ◌-◌, ◌<◌, ◌∷◌, [], true, false, length, take, refl, sym, ◌∙◌, ap, arith, eqb-true}
+use Rattle.std.proofs.Common.{◌≡◌, ◌-◌, ◌<◌, ◌∷◌, [], true, false, length, take, refl, sym, ◌∙◌, ap, arith, eqb-true}
 use Rattle.std.proofs.lemmas.Bool.{eqb-false}
-use Rattle.graphql_lexer.specs.steps.Front.{front}
+use Rattle.graphql_lexer.specs.{front, Where, Item, is_too_deep, past, past_token}
 use Rattle.graphql_lexer.specs.declared.tokenizer.piece.Piece.TheVariants.{AtEnd, Takes, Stops}
-use Rattle.graphql_lexer.specs.Items.{Where, Item, is_too_deep, past, past_token}
-use Rattle.graphql_lexer.proofs.FrontFits.{items_at, last_some}
-use Rattle.graphql_lexer.proofs.Tokens.{takes_first, one_bracket, few_open, end_front, stops_front}
+use Rattle.graphql_lexer.proofs.{items_at, last_some, takes_first, one_bracket, few_open, end_front, stops_front, token_then_rest}
 use Rattle.graphql_lexer.proofs.tokenizer.tokens.Tokens.next_token.Goals as goal
 
 pub position_after_token-end-requires-clause-flat : goal.position_after_token-end-requires-clause-flat
@@ -21,8 +19,8 @@ invariant_of-self c =
       omega arith,
       omega arith,
       omega arith,
-      omega (arith, after.openers, (one_bracket n s.brackets.openers).0, c.in-Some.ensures.fits.0, c.split_at.ensures.back_len, c.skip_ignored.ensures.within),
-      omega (arith, after.closers, (one_bracket n s.brackets.closers).1, c.in-Some.ensures.fits.0, c.split_at.ensures.back_len, c.skip_ignored.ensures.within),
+      omega (arith, after.openers, (one_bracket n s.brackets.openers).0, c.in-Some.ensures.fits.0, c.split_at.ensures.back_len, c.skip_ignored.ensures.skips.1),
+      omega (arith, after.closers, (one_bracket n s.brackets.closers).1, c.in-Some.ensures.fits.0, c.split_at.ensures.back_len, c.skip_ignored.ensures.skips.1),
       c.skip_ignored.ensures.first,
       omega (arith, few, after.openers, after.closers),
     )
@@ -57,21 +55,12 @@ returns c =
     let s = c.self.inside in
     let w : Where = record { position = s.position; offset = s.size - length s.rest.now; openers = s.brackets.openers; closers = s.brackets.closers } in
     let t = c.in-Some.taken in
-    let e = items_at w s.rest.now (Takes t.len t.kind t.nesting) (takes_first (front s.rest.now) t.len t.kind t.nesting (sym c.in-Some.ensures.is)) in
     let deep : is_too_deep t.nesting w ≡ false = sym (c.is_too_deep.ensures w refl refl) ∙ c.if-is_too_deep.false in
-    let value = take t.len s.rest.now in
     let end = sym (c.position_after_token-end.ensures.is ∙ ap (λ v. past v s.position) c.split_at.ensures.front) in
-    let more = c.skip_ignored.ensures.items (past_token t.nesting value w) end in
-    let after = length c.split_at.result.1.now in
-    let rest = length c.skip_ignored.result.0.now in
+    let more = c.skip_ignored.ensures.skips.0 (past_token t.nesting (take t.len s.rest.now) w) end in
     let len = ap length c.split_at.ensures.front in
-    let offset : s.size - length s.rest.now + length value + (after - rest) ≡ s.size - rest = omega arith in
-    rw (
-      ← c.self.view_is,
-      c.split_at.ensures.front,
-      c.after-self-inside.ensures.openers,
-      c.after-self-inside.ensures.closers,
-      ← offset,
-      more,
-      c.split_at.ensures.back,
-    ) (w, rw deep at e)
+    rw (← c.self.view_is, c.split_at.ensures.front, c.after-self-inside.ensures.openers, c.after-self-inside.ensures.closers) (
+      w,
+      token_then_rest w s.rest.now _ _ c.skip_ignored.result.0.now s.size t.len t.kind t.nesting c.skip_ignored.result.1 c.in-Some.ensures.is deep refl
+          c.split_at.ensures.back more (omega arith),
+    )

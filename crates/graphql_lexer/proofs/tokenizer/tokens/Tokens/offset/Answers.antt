@@ -1,6 +1,6 @@
 use Rattle.std.proofs.Common.{sym, ap, ◌-◌, length}
-use Rattle.graphql_lexer.specs.Items.{Where}
-use Rattle.graphql_lexer.proofs.FrontFits.{next_place_items}
+use Rattle.graphql_lexer.specs.{Where}
+use Rattle.graphql_lexer.proofs.{next_place_items}
 use Rattle.graphql_lexer.proofs.tokenizer.tokens.Tokens.offset.Goals as goal
 
 pub returns : goal.returns

@@ -1,6 +1,6 @@
 use Rattle.std.proofs.Common.{◌-◌, length}
-use Rattle.graphql_lexer.specs.Items.{Where}
-use Rattle.graphql_lexer.proofs.Tokens.{begins_with_next, items_of_rest}
+use Rattle.graphql_lexer.specs.{Where}
+use Rattle.graphql_lexer.proofs.{begins_with_next, items_of_rest}
 use Rattle.graphql_lexer.proofs.tokenizer.tokens.Tokens.rest.Goals as goal
 
 pub returns-clause-begins : goal.returns-clause-begins

@@ -1,11 +1,8 @@
 use Rattle.std.proofs.Common.{refl}
-use Rattle.graphql_values.specs.ValueViews.{directive_view}
-use Rattle.graphql_values.proofs.Reading.{adds_reserved, fills}
-use Rattle.graphql_query_tree.specs.Grammar.{variable_definition_symbol}
-use Rattle.graphql_query_tree.specs.Tree.{variable_definition_view}
-use Rattle.graphql_query.proofs.EqualParts.{same_variable_definition}
-use Rattle.graphql_query.proofs.FromShared.{begun, lifted, stops_lifted}
-use Rattle.graphql_values.proofs.Steps.{took, past, after, whole, fails, fails_last, lacks}
+use Rattle.graphql_values.specs.{directive_view}
+use Rattle.graphql_values.proofs.{adds_reserved, fills, took, past, after, whole, fails, fails_last, lacks}
+use Rattle.graphql_query_tree.specs.{variable_definition_symbol, variable_definition_view}
+use Rattle.graphql_query.proofs.{same_variable_definition, begun, lifted, stops_lifted}
 use Rattle.graphql_query.proofs.read.operation.VariableDefinitionListElements.read.Goals as goal
 
 pub returns-in_err-position-clause-reads : goal.returns-in_err-position-clause-reads

@@ -1,10 +1,6 @@
 use Rattle.std.proofs.Common.{arith}
-use Rattle.std.proofs.lemmas.Result.{on_ok_weaker}
-use Rattle.graphql_values.proofs.Appending.{and_alone}
-use Rattle.graphql_values.proofs.Seen.{most_seen, all_seen, separated_seen}
-use Rattle.graphql_query_tree.specs.Lawful.{IsLawfulDefinition}
-use Rattle.graphql_query_tree.specs.Layout.{definition_layout, definition_levels}
-use Rattle.graphql_query_tree.specs.Tree.{definition_view}
+use Rattle.graphql_values.proofs.{on_ok_weaker, and_alone, most_seen, all_seen, separated_seen}
+use Rattle.graphql_query_tree.specs.{IsLawfulDefinition, definition_layout, definition_levels, definition_view}
 use Rattle.graphql_query_tree.proofs.print.definition.DocumentPretty.write.Goals as goal
 
 pub write_joined-requires : goal.write_joined-requires

@@ -1,10 +1,7 @@
-use Rattle.std.proofs.lemmas.Result.{on_ok_weaker}
-use Rattle.graphql_values.specs.ValueLayout.{directives_layout}
-use Rattle.graphql_values.specs.ValueViews.{directives_view}
-use Rattle.graphql_values.proofs.Appending.{and_last}
-use Rattle.graphql_query_tree.specs.Tree.{type_condition_view, selection_set_view}
-use Rattle.graphql_query_tree.specs.Layout.{type_condition_layout, selection_set_layout}
-use Rattle.graphql_query_tree.proofs.LayoutTexts.{fragment_definition_text}
+use Rattle.graphql_values.specs.{directives_layout, directives_view}
+use Rattle.graphql_values.proofs.{on_ok_weaker, and_last}
+use Rattle.graphql_query_tree.specs.{type_condition_view, selection_set_view, type_condition_layout, selection_set_layout}
+use Rattle.graphql_query_tree.proofs.{fragment_definition_text}
 use Rattle.graphql_query_tree.proofs.print.definition.FragmentDefinitionPretty.write.Goals as goal
 
 pub returns-clause-text : goal.returns-clause-text

@@ -1,10 +1,7 @@
 use Rattle.std.proofs.Common.{◌^◌, option_map, arith}
-use Rattle.graphql_values.specs.ValueViews.{value_view, type_view, directives_view}
-use Rattle.graphql_values.specs.ValueLayout.{type_layout, directives_layout}
-use Rattle.graphql_values.proofs.Appending.{and_last}
-use Rattle.graphql_values.proofs.Enclosed.{narrower}
-use Rattle.graphql_query_tree.specs.Layout.{default_layout}
-use Rattle.graphql_query_tree.proofs.LayoutTexts.{variable_definition_text}
+use Rattle.graphql_values.specs.{value_view, type_view, directives_view, type_layout, directives_layout, default_layout}
+use Rattle.graphql_values.proofs.{and_last, narrower}
+use Rattle.graphql_query_tree.proofs.{variable_definition_text}
 use Rattle.graphql_query_tree.proofs.print.operation.VariableDefinitionPretty.write.Goals as goal
 
 pub write_default-requires : goal.write_default-requires
@@ -29,5 +26,5 @@ returns-clause-text g c =
     let directives = rw c.deref.ensures.value at c.write_directives.ensures.text in
     and_last g.S.Sink.took more _ _ _ _ _ _ _ (more _ _ _ _ _ written c.in_ok-write_default.ensures.text) directives
     (rw c.view.ensures (variable_definition_text (bytes v.name) (type_layout (type_view bytes v.var_type))
-    (default_layout c.args.style.now (option_map (value_view bytes) v.default_value))
+    (default_layout c.args.style.now 0 (option_map (value_view bytes) v.default_value))
     (directives_layout c.args.style.now 0 (directives_view bytes v.directives.items))))

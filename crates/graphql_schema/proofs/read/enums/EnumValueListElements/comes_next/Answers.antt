@@ -1,5 +1,5 @@
 use Rattle.std.proofs.Common.{sym, ◌∙◌}
-use Rattle.graphql_schema.proofs.Fields.{enum_value_begins}
+use Rattle.graphql_schema.proofs.{enum_value_begins}
 use Rattle.graphql_schema.proofs.read.enums.EnumValueListElements.comes_next.Goals as goal
 
 pub returns : goal.returns

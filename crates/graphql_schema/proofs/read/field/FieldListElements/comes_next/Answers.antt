@@ -1,5 +1,5 @@
 use Rattle.std.proofs.Common.{sym, ◌∙◌}
-use Rattle.graphql_schema.proofs.Fields.{field_begins}
+use Rattle.graphql_schema.proofs.{field_begins}
 use Rattle.graphql_schema.proofs.read.field.FieldListElements.comes_next.Goals as goal
 
 pub returns : goal.returns

@@ -1,12 +1,8 @@
 use Rattle.std.proofs.Common.{refl, sym, ◌∙◌}
-use Rattle.graphql_values.specs.ValueViews.{directive_view}
-use Rattle.graphql_values.proofs.Reading.{adds_reserved, fills}
-use Rattle.graphql_values.proofs.Steps.{begun, took, past, after, whole, fails, fails_last, lacks}
-use Rattle.graphql_schema_tree.specs.Grammar.{field_symbol}
-use Rattle.graphql_schema_tree.specs.Views.{input_value_view, field_view}
-use Rattle.graphql_schema.proofs.Dialect.{lifted, stops_lifted}
-use Rattle.graphql_schema.proofs.Lists.{described_at}
-use Rattle.graphql_schema.proofs.Fields.{same_field}
+use Rattle.graphql_values.specs.{directive_view}
+use Rattle.graphql_values.proofs.{adds_reserved, fills, begun, took, past, after, whole, fails, fails_last, lacks}
+use Rattle.graphql_schema_tree.specs.{field_symbol, input_value_view, field_view}
+use Rattle.graphql_schema.proofs.{lifted, stops_lifted, described_at, same_field}
 use Rattle.graphql_schema.proofs.read.field.FieldListElements.read.Goals as goal
 
 pub returns-in_err-name-clause-reads : goal.returns-in_err-name-clause-reads

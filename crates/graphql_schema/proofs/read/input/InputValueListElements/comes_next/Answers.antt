@@ -1,5 +1,5 @@
 use Rattle.std.proofs.Common.{sym, ◌∙◌}
-use Rattle.graphql_schema.proofs.Inputs.{input_value_begins}
+use Rattle.graphql_schema.proofs.{input_value_begins}
 use Rattle.graphql_schema.proofs.read.input.InputValueListElements.comes_next.Goals as goal
 
 pub returns : goal.returns

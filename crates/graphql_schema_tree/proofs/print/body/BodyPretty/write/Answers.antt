@@ -1,6 +1,6 @@
-use Rattle.graphql_values.proofs.Appending.{and_last}
-use Rattle.graphql_schema_tree.specs.steps.Body.{body_seen}
-use Rattle.graphql_schema_tree.proofs.PrintedTexts.{body_text}
+use Rattle.graphql_values.proofs.{and_last}
+use Rattle.graphql_schema_tree.specs.{body_seen}
+use Rattle.graphql_schema_tree.proofs.{body_text}
 use Rattle.graphql_schema_tree.proofs.print.body.BodyPretty.write.Goals as goal
 
 pub returns-clause-text : goal.returns-clause-text

@@ -1,7 +1,6 @@
 use Rattle.std.proofs.Common.{option_map, refl, string_bytes, sym}
-use Rattle.graphql_values.proofs.Appending.{and_last, text_append}
-use Rattle.graphql_schema_tree.specs.Layout.{description_layout, body_layout}
-use Rattle.graphql_schema_tree.specs.steps.Body.{body_seen}
+use Rattle.graphql_values.proofs.{and_last, text_append}
+use Rattle.graphql_schema_tree.specs.{description_layout, body_layout, body_seen}
 use Rattle.graphql_schema_tree.proofs.print.body.OutlinePretty.write.Goals as goal
 
 pub returns-in_ok-write_description-in-Definition-clause-text : goal.returns-in_ok-write_description-in-Definition-clause-text

@@ -1,7 +1,7 @@
 use Rattle.std.proofs.Common.{arith, ◌^◌}
-use Rattle.graphql_values.proofs.Appending.{and_last}
-use Rattle.graphql_schema_tree.specs.Views.{directive_definition_view}
-use Rattle.graphql_schema_tree.proofs.PrintedTexts.{latter_fits, directive_definition_text}
+use Rattle.graphql_values.proofs.{and_last}
+use Rattle.graphql_schema_tree.specs.{directive_definition_view}
+use Rattle.graphql_schema_tree.proofs.{latter_fits, directive_definition_text}
 use Rattle.graphql_schema_tree.proofs.print.definition.DirectiveDefinitionPretty.write.Goals as goal
 
 pub write_arguments-requires : goal.write_arguments-requires

@@ -1,7 +1,6 @@
 use Rattle.std.proofs.Common.{rules}
-use Rattle.graphql_schema_tree.specs.Layout.{definition_levels}
-use Rattle.graphql_schema_tree.specs.Views.{definition_view}
-use Rattle.graphql_values.proofs.Seen.{most_seen}
+use Rattle.graphql_values.proofs.{most_seen}
+use Rattle.graphql_schema_tree.specs.{definition_levels, definition_view}
 use Rattle.graphql_schema_tree.proofs.print.definition.DocumentPretty.levels.Goals as goal
 
 pub returns : goal.returns

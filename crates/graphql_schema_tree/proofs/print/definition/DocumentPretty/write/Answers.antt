@@ -1,11 +1,7 @@
 use Rattle.std.proofs.Common.{◌+◌, ◌*◌, ◌<◌, ◌^◌, arith, map}
-use Rattle.std.proofs.lemmas.Result.{on_ok_weaker}
-use Rattle.graphql_values.specs.TreeDepth.{most}
-use Rattle.graphql_values.proofs.Appending.{and_alone}
-use Rattle.graphql_schema_tree.specs.Lawful.{IsLawfulDefinition}
-use Rattle.graphql_schema_tree.specs.Layout.{definition_layout, definition_levels}
-use Rattle.graphql_schema_tree.specs.Views.{definition_view}
-use Rattle.graphql_values.proofs.Seen.{most_seen, all_seen, separated_seen}
+use Rattle.graphql_values.specs.{most}
+use Rattle.graphql_values.proofs.{on_ok_weaker, and_alone, most_seen, all_seen, separated_seen}
+use Rattle.graphql_schema_tree.specs.{IsLawfulDefinition, definition_layout, definition_levels, definition_view}
 use Rattle.graphql_schema_tree.proofs.print.definition.DocumentPretty.write.Goals as goal
 
 pub write_joined-requires : goal.write_joined-requires

@@ -1,8 +1,8 @@
 use Rattle.std.proofs.Common.{arith, refl}
-use Rattle.graphql_core.specs.Style.{default_style}
-use Rattle.graphql_values.proofs.Narrow.{written, written_plain}
-use Rattle.graphql_schema_tree.specs.Views.{document_view}
-use Rattle.graphql_schema_tree.proofs.FewLevels.{levels_bounded, narrow_by_default}
+use Rattle.graphql_values.specs.{default_style}
+use Rattle.graphql_values.proofs.{written, written_plain}
+use Rattle.graphql_schema_tree.specs.{document_view}
+use Rattle.graphql_schema_tree.proofs.{levels_bounded, narrow_by_default}
 use Rattle.graphql_schema_tree.proofs.print.display.DocumentDisplay.fmt.Goals as goal
 
 pub write-requires : goal.write-requires

@@ -1,6 +1,6 @@
-use Rattle.graphql_values.proofs.Appending.{and_last}
-use Rattle.graphql_schema_tree.specs.Views.{enum_value_view}
-use Rattle.graphql_schema_tree.proofs.PrintedTexts.{enum_value_text}
+use Rattle.graphql_values.proofs.{and_last}
+use Rattle.graphql_schema_tree.specs.{enum_value_view}
+use Rattle.graphql_schema_tree.proofs.{enum_value_text}
 use Rattle.graphql_schema_tree.proofs.print.field.EnumValuePretty.write.Goals as goal
 
 pub returns-clause-text : goal.returns-clause-text

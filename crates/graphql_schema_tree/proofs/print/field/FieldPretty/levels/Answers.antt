@@ -1,7 +1,6 @@
 use Rattle.std.proofs.Common.{rules}
-use Rattle.graphql_schema_tree.specs.Layout.{input_value_levels}
-use Rattle.graphql_schema_tree.specs.Views.{input_value_view}
-use Rattle.graphql_values.proofs.Seen.{most_seen}
+use Rattle.graphql_values.proofs.{most_seen}
+use Rattle.graphql_schema_tree.specs.{input_value_levels, input_value_view}
 use Rattle.graphql_schema_tree.proofs.print.field.FieldPretty.levels.Goals as goal
 
 pub returns : goal.returns

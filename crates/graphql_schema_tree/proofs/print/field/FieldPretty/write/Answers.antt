@@ -1,8 +1,7 @@
 use Rattle.std.proofs.Common.{◌^◌}
-use Rattle.graphql_values.proofs.Appending.{and_last, on_ok}
-use Rattle.graphql_values.proofs.Enclosed.{narrower}
-use Rattle.graphql_schema_tree.specs.Views.{field_view}
-use Rattle.graphql_schema_tree.proofs.PrintedTexts.{field_text}
+use Rattle.graphql_values.proofs.{and_last, on_ok, narrower}
+use Rattle.graphql_schema_tree.specs.{field_view}
+use Rattle.graphql_schema_tree.proofs.{field_text}
 use Rattle.graphql_schema_tree.proofs.print.field.FieldPretty.write.Goals as goal
 
 pub write_arguments-requires : goal.write_arguments-requires

@@ -1,8 +1,7 @@
 use Rattle.std.proofs.Common.{◌^◌}
-use Rattle.graphql_values.proofs.Appending.{and_last}
-use Rattle.graphql_values.proofs.Enclosed.{narrower}
-use Rattle.graphql_schema_tree.specs.Views.{input_value_view}
-use Rattle.graphql_schema_tree.proofs.PrintedTexts.{input_value_text}
+use Rattle.graphql_values.proofs.{and_last, narrower}
+use Rattle.graphql_schema_tree.specs.{input_value_view}
+use Rattle.graphql_schema_tree.proofs.{input_value_text}
 use Rattle.graphql_schema_tree.proofs.print.field.InputValuePretty.write.Goals as goal
 
 pub write_default-requires : goal.write_default-requires

@@ -1,7 +1,6 @@
 use Rattle.std.proofs.Common.{inl, inr}
-use Rattle.graphql_schema_tree.specs.Layout.{field_levels, enum_value_levels, input_value_levels}
-use Rattle.graphql_schema_tree.specs.Views.{field_view, enum_value_view, input_value_view}
-use Rattle.graphql_schema_tree.proofs.PrintedTexts.{block_levels_seen}
+use Rattle.graphql_schema_tree.specs.{field_levels, enum_value_levels, input_value_levels, field_view, enum_value_view, input_value_view}
+use Rattle.graphql_schema_tree.proofs.{block_levels_seen}
 use Rattle.graphql_schema_tree.proofs.print.parts.PartsPretty.levels.Goals as goal
 
 pub returns-in-Object : goal.returns-in-Object

@@ -1,12 +1,9 @@
 use Rattle.std.proofs.Common.{◌^◌, codes, inl, inr, map, sym}
-use Rattle.std.proofs.lemmas.Result.{on_ok_weaker}
-use Rattle.graphql_core.specs.Parts.{gap}
-use Rattle.graphql_values.proofs.Appending.{and_alone, and_last, text_append}
-use Rattle.graphql_values.proofs.Seen.{all_seen}
-use Rattle.graphql_schema_tree.specs.Lawful.{IsLawfulField, IsLawfulEnumValue}
-use Rattle.graphql_schema_tree.specs.Layout.{members_layout, field_layout, field_levels, enum_value_layout, enum_value_levels}
-use Rattle.graphql_schema_tree.specs.Views.{field_view, enum_value_view}
-use Rattle.graphql_schema_tree.proofs.PrintedTexts.{block_fits, block_written}
+use Rattle.graphql_values.specs.{gap}
+use Rattle.graphql_values.proofs.{on_ok_weaker, and_alone, and_last, text_append, all_seen}
+use Rattle.graphql_schema_tree.specs.{IsLawfulField, IsLawfulEnumValue, members_layout, field_layout, field_levels, enum_value_layout, enum_value_levels}
+use Rattle.graphql_schema_tree.specs.{field_view, enum_value_view}
+use Rattle.graphql_schema_tree.proofs.{block_fits, block_written}
 use Rattle.graphql_schema_tree.proofs.print.parts.PartsPretty.write.Goals as goal
 
 -- ---- of an object type or an interface

@@ -1,8 +1,7 @@
 use Rattle.std.proofs.Common.{◌^◌, arith, option_map, string_bytes}
-use Rattle.graphql_values.proofs.Appending.{and_last}
-use Rattle.graphql_values.proofs.Enclosed.{both_fit}
-use Rattle.graphql_schema_tree.specs.Views.{schema_view}
-use Rattle.graphql_schema_tree.proofs.PrintedTexts.{latter_fits, schema_text}
+use Rattle.graphql_values.proofs.{and_last, both_fit}
+use Rattle.graphql_schema_tree.specs.{schema_view}
+use Rattle.graphql_schema_tree.proofs.{latter_fits, schema_text}
 use Rattle.graphql_schema_tree.proofs.print.schema.SchemaDefinitionPretty.write.Goals as goal
 
 pub write_directives-requires : goal.write_directives-requires

@@ -1,7 +1,7 @@
 use Rattle.std.proofs.Common.{true, false}
-use Rattle.graphql_values.proofs.Appending.{and_last}
-use Rattle.graphql_schema_tree.specs.Views.{schema_extension_view}
-use Rattle.graphql_schema_tree.proofs.PrintedTexts.{schema_extension_text}
+use Rattle.graphql_values.proofs.{and_last}
+use Rattle.graphql_schema_tree.specs.{schema_extension_view}
+use Rattle.graphql_schema_tree.proofs.{schema_extension_text}
 use Rattle.graphql_schema_tree.proofs.print.schema.SchemaExtensionPretty.write.Goals as goal
 
 pub returns-then-not-has_operation-clause-text : goal.returns-then-not-has_operation-clause-text

@@ -1,8 +1,5 @@
-use Rattle.graphql_core.specs.Style.{Layout}
-use Rattle.graphql_core.specs.Parts.{text_of}
-use Rattle.graphql_values.specs.ValueViews.{directive_view}
-use Rattle.graphql_values.specs.ValueLayout.{directive_layout}
-use Rattle.graphql_values.proofs.Narrow.{fits_outside, in_default_style, narrow, written, written_plain}
+use Rattle.graphql_values.specs.{text_of, Layout, directive_view, directive_layout}
+use Rattle.graphql_values.proofs.{fits_outside, in_default_style, narrow, written, written_plain}
 use Rattle.graphql_values.proofs.print.display.DirectiveDisplay.fmt.Goals as goal
 
 pub write_directive-requires : goal.write_directive-requires

@@ -1,4 +1,4 @@
-use Rattle.graphql_values.proofs.Narrow.{written, written_plain}
+use Rattle.graphql_values.proofs.{written, written_plain}
 use Rattle.graphql_values.proofs.print.display.TypeDisplay.fmt.Goals as goal
 
 pub returns-clause-writes : goal.returns-clause-writes

@@ -1,4 +1,4 @@
-use Rattle.graphql_values.proofs.Narrow.{fits_outside, narrow, written, written_plain}
+use Rattle.graphql_values.proofs.{fits_outside, narrow, written, written_plain}
 use Rattle.graphql_values.proofs.print.display.ValueDisplay.fmt.Goals as goal
 
 pub write_value-requires : goal.write_value-requires

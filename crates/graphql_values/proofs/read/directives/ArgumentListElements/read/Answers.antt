@@ -1,8 +1,6 @@
 use Rattle.std.proofs.Common.{refl, sym, ap₂}
-use Rattle.graphql_values.specs.Grammar.{argument_symbol}
-use Rattle.graphql_values.specs.ValueViews.{argument_view}
-use Rattle.graphql_values.proofs.Reading.{adds_reserved}
-use Rattle.graphql_values.proofs.Steps.{begun, took, past, whole, fails_last, lacks}
+use Rattle.graphql_values.specs.{argument_symbol, argument_view}
+use Rattle.graphql_values.proofs.{adds_reserved, begun, took, past, whole, fails_last, lacks}
 use Rattle.graphql_values.proofs.read.directives.ArgumentListElements.read.Goals as goal
 
 pub returns-in_err-name-clause-reads : goal.returns-in_err-name-clause-reads

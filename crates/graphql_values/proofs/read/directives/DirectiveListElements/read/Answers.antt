@@ -1,8 +1,6 @@
 use Rattle.std.proofs.Common.{refl}
-use Rattle.graphql_values.specs.Grammar.{directive_symbol}
-use Rattle.graphql_values.specs.ValueViews.{argument_view, directive_view}
-use Rattle.graphql_values.proofs.Reading.{adds_reserved, fills}
-use Rattle.graphql_values.proofs.Steps.{begun, took, past, whole, fails_last, lacks}
+use Rattle.graphql_values.specs.{directive_symbol, argument_view, directive_view}
+use Rattle.graphql_values.proofs.{adds_reserved, fills, begun, took, past, whole, fails_last, lacks}
 use Rattle.graphql_values.proofs.read.directives.DirectiveListElements.read.Goals as goal
 
 pub returns-in_err-position-clause-reads : goal.returns-in_err-position-clause-reads

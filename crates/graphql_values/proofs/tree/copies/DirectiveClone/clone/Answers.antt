@@ -1,6 +1,6 @@
 use Rattle.std.proofs.Common.{◌≡◌}
-use Rattle.graphql_values.specs.ValueViews.{arguments_view}
-use Rattle.graphql_values.proofs.Clones.{same_arguments}
+use Rattle.graphql_values.specs.{arguments_view}
+use Rattle.graphql_values.proofs.{same_arguments}
 use Rattle.graphql_values.proofs.tree.copies.DirectiveClone.clone.Goals as goal
 
 pub returns : goal.returns

@@ -1,14 +1,10 @@
--- A description or none before one side of a choice, and before both sides of a symbol, is read before the choice.
+-- What stands before one side of a choice and before both sides of a symbol is read before the choice.
 use Rattle.std.proofs.Common.{◌≡◌, ℕ, true, List, refl, sym, ap, subst}
 use Rattle.std.proofs.lemmas.Bool.{both_ways}
-use Rattle.graphql_grammar.specs.Tokens.{Token}
-use Rattle.graphql_grammar.specs.Trees.{Expr, Then, Either, Sym, Shape, Both, First, Second, Node, Row, Grammar, row_at, leaves}
-use Rattle.graphql_grammar.specs.Trees.{Fits, fits_both, fits_first, fits_second, fits_node}
-use Rattle.graphql_grammar.specs.Reading.{lax}
-use Rattle.graphql_grammar.specs.Theorems.{classes}
-use Rattle.graphql_grammar.specs.Factored.{Change, change_at, written, with_rows, IsSecond, out_of_head}
-use Rattle.graphql_grammar.specs.Leads.{Leads, leads_here, leads_before, leads_after, leads_first, leads_second, leads_node, IsTested}
-use Rattle.graphql_schema_tree.specs.Grammar.{out_of_description}
+use Rattle.graphql_grammar.specs.{classes, IsSecond, leads_here, leads_after, IsTested, Grammar, Token, Expr, Then, Either, Sym, Shape, Both, First, Second}
+use Rattle.graphql_grammar.specs.{Node, Row, row_at, leaves, Fits, fits_both, fits_first, fits_second, fits_node, lax, Change, change_at, written, with_rows}
+use Rattle.graphql_grammar.specs.{out_of_head, leads_before, leads_first, leads_second, leads_node, out_of_sides}
+use Rattle.graphql_grammar.specs.Leads.{Leads}
 
 -- The symbol k has d before p and before q, and is read as d and then one of them; s has d before it too, and a has not.
 module _ (g : Grammar) (rs : List Row) (cs : List Change) (k : ℕ) (d s a p q : Expr)
@@ -21,7 +17,7 @@ module _ (g : Grammar) (rs : List Row) (cs : List Change) (k : ℕ) (d s a p q :
   second = Either (Then d (Either s (Either p q))) a
 
   abbrev the_change : Change
-  the_change = out_of_description k
+  the_change = out_of_sides k
 
   -- a tree of the symbol's rule
   in_symbol : {x : Shape} → Fits g (Either (Then d p) (Then d q)) x → Fits g rule (Second (Second (Node k x)))
@@ -103,6 +99,6 @@ module _ (g : Grammar) (rs : List Row) (cs : List Change) (k : ℕ) (d s a p q :
       subst (λ (y : Shape). the_change.to_written (written cs (the_change.to_second (Second (Second y)))) ≡ written cs (Second (Second y))) (sym i.2)
       (ap (λ (y : Shape). Second (Second (Node k y))) (sym (ck (Both (written cs i.0) (written cs i.1)))))
 
-  pub IsSecond-description : IsSecond g rs cs rule second the_change
-  IsSecond-description =
+  pub IsSecond-sides : IsSecond g rs cs rule second the_change
+  IsSecond-sides =
       record { fits = fit; leaves = same; classes = alike; leads = leading; leads_back = leading_back; fits_back = fit_back; back = again }

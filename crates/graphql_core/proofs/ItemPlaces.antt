@@ -1,23 +1,15 @@
 -- Where the items of a text stand: their positions rise, and each begins a character of the text.
-use Rattle.std.proofs.Common.{◌≡◌, ℕ, zero, suc, ◌+◌, ◌<◌, ◌≤◌, Bool, true, false, not, ◌==◌, ◌&&◌, List, [], ◌∷◌}
-use Rattle.std.proofs.Common.{◌++◌, length, drop, IsUtf8, refl, sym, ap, ◌∙◌, subst}
-use Rattle.std.proofs.Common.{Option, Some, None, Result, Ok, Err, ◌⊎◌, inl, inr, arith}
-use Rattle.std.proofs.lemmas.Bool.Decides.{nat_tests}
+use Rattle.std.proofs.Common.{◌≡◌, ℕ, zero, suc, ◌+◌, ◌<◌, ◌≤◌, Bool, true, false, not, ◌==◌, ◌&&◌, List, [], ◌∷◌, ◌++◌, length, drop, IsUtf8, refl, sym, ap}
+use Rattle.std.proofs.Common.{◌∙◌, subst, Option, Some, None, Result, Ok, Err, ◌⊎◌, inl, inr, arith}
 use Rattle.std.proofs.lemmas.List.{take_at}
 use Rattle.std.proofs.lemmas.Str.{encodes-chars, IsUtf8-take, IsCharBoundary-start, IsCharBoundary-from_drop}
-use Rattle.std.specs.Str.{chars, IsCharBoundary}
-use Rattle.graphql_lexer.specs.declared.position.Pos.{Pos}
-use Rattle.graphql_lexer.specs.declared.tokenizer.piece.Move.{Move}
-use Rattle.graphql_lexer.specs.declared.tokenizer.piece.Move.TheVariants.{Stay, Over, Down}
-use Rattle.graphql_lexer.specs.BadTexts.{too_deep}
-use Rattle.graphql_lexer.specs.declared.tokenizer.piece.Nesting.{Nesting}
-use Rattle.graphql_lexer.specs.declared.tokenizer.token.Kind.{Kind}
-use Rattle.graphql_lexer.specs.Lexical.{Meaning, Ignored, Word, Stands, Piece, IsCutInto}
-use Rattle.graphql_lexer.specs.Items.{Where, Item, item, Lexeme, Wrong, HasItems, start, moved, past, past_character, past_characters, past_ignored}
-use Rattle.graphql_lexer.specs.Items.{past_token, is_too_deep, token_then, piece_then, items_of}
-use Rattle.graphql_lexer.specs.Stream.{NextItem, next_place}
+use Rattle.std.proofs.lemmas.Bool.Decides.{nat_tests}
+use Rattle.graphql_lexer.specs.declared.tokenizer.piece.Move.TheVariants.{Stay}
+use Rattle.graphql_lexer.specs.{moved, past, past_character, past_characters, Wrong}
 use Rattle.graphql_lexer.specs.declared.tokenizer.token.Token.{Token}
-use Rattle.graphql_lexer.specs.declared.tokenizer.token.Bad.{Bad}
+use Rattle.graphql_core.specs.{Move, Down, Bad, Over, items_of, NextItem, chars, IsCharBoundary, Pos, too_deep, Nesting, Kind, Meaning, Ignored, Word, Stands}
+use Rattle.graphql_core.specs.{Piece, IsCutInto, Where, Item, item, Lexeme, HasItems, start, past_ignored, past_token, is_too_deep, token_then, piece_then}
+use Rattle.graphql_core.specs.{next_place}
 use Rattle.graphql_core.proofs.TokenPlaces.{IsAt, part, rest_at}
 
 -- ---- the order of positions
@@ -51,14 +43,14 @@ never_before : (p q : Pos) → p ≡ q → Before p q → ⊥
 never_before p q e (inl a) = omega (arith, a, ap (λ (r : Pos). r.line) e)
 never_before p q e (inr a) = omega (arith, a.1, ap (λ (r : Pos). r.column) e)
 
-pub not_there : (p q : Pos) → not (p.line == q.line && p.column == q.column) ≡ true → p ≡ q → ⊥
-not_there p q h e =
+pub other_position : (p q : Pos) → not (p.line == q.line && p.column == q.column) ≡ true → p ≡ q → ⊥
+other_position p q h e =
     let line = ap (λ (r : Pos). r.line) e in
     let column = ap (λ (r : Pos). r.column) e in
     absurd (grind (arith, nat_tests))
 
-pub there : (p q : Pos) → not (p.line == q.line && p.column == q.column) ≡ false → p ≡ q
-there p q h =
+pub same_position : (p q : Pos) → not (p.line == q.line && p.column == q.column) ≡ false → p ≡ q
+same_position p q h =
     let line : p.line ≡ q.line = grind (arith, nat_tests) in
     let column : p.column ≡ q.column = grind (arith, nat_tests) in
     λ i. record { line = line i; column = column i }
@@ -164,29 +156,29 @@ items_rise text items utf8 (pieces, stop, cut, e) =
 -- ---- one item stands at a position
 
 -- an item of the list at this position has this offset
-abbrev pub Holds : List Item → Pos → ℕ → Type 0
-Holds items p o = (n : ℕ) × (n < length items) × ((next_place (drop n items)).position ≡ p) × ((next_place (drop n items)).offset ≡ o)
+abbrev pub HasItemAt : List Item → Pos → ℕ → Type 0
+HasItemAt items p o = (n : ℕ) × (n < length items) × ((next_place (drop n items)).position ≡ p) × ((next_place (drop n items)).offset ≡ o)
 
 later : (p : Pos) (items : List Item) (n : ℕ) → AllAfter p items → n < length items → Before p (next_place (drop n items)).position
 later p [] n h some = absurd (omega (arith, some))
 later p (i ∷ is) zero h some = h.0
 later p (i ∷ is) (suc n) h some = later p is n h.1 (omega (arith, some))
 
-pub holds_first : (whole : List ℕ) (items : List Item) (p : Pos) (o : ℕ) → Rise whole items → Holds items p o → (next_place items).position ≡ p
+pub holds_first : (whole : List ℕ) (items : List Item) (p : Pos) (o : ℕ) → Rise whole items → HasItemAt items p o → (next_place items).position ≡ p
     → (next_place items).offset ≡ o
 holds_first whole [] p o rise (n, some, at, is) e = absurd (omega (arith, some))
 holds_first whole (i ∷ is) p o rise (zero, some, at, offset) e = offset
 holds_first whole (i ∷ is) p o rise (suc n, some, at, offset) e =
     absurd (never_before i.place.position _ (e ∙ sym at) (later i.place.position is n rise.1 (omega (arith, some))))
 
-holds_later : (i : Item) (is : List Item) (p : Pos) (o : ℕ) → Holds (i ∷ is) p o → (i.place.position ≡ p → ⊥) → Holds is p o
+holds_later : (i : Item) (is : List Item) (p : Pos) (o : ℕ) → HasItemAt (i ∷ is) p o → (i.place.position ≡ p → ⊥) → HasItemAt is p o
 holds_later i is p o (zero, some, at, offset) other = absurd (other at)
 holds_later i is p o (suc n, some, at, offset) other = (n, omega (arith, some), at, offset)
 
 -- none is left after the last item
-only_item : (old : List Item) (i : Item) (p : Pos) (o : ℕ) → old ≡ i ∷ [] → Holds old p o → ((next_place old).position ≡ p → ⊥) → ⊥
+only_item : (old : List Item) (i : Item) (p : Pos) (o : ℕ) → old ≡ i ∷ [] → HasItemAt old p o → ((next_place old).position ≡ p → ⊥) → ⊥
 only_item old i p o is h other =
-    let (n, some, rest, offset) = holds_later i [] p o (subst (λ (l : List Item). Holds l p o) is h)
+    let (n, some, rest, offset) = holds_later i [] p o (subst (λ (l : List Item). HasItemAt l p o) is h)
     (λ e. other (ap (λ (l : List Item). (next_place l).position) is ∙ e)) in
     omega (arith, some)
 
@@ -196,15 +188,15 @@ rise_on whole old new (Ok (Some t)) (w, is) rise = (subst (Rise whole) is rise).
 rise_on whole old new (Ok None) (w, is, same) rise = subst (Rise whole) (sym same) rise
 rise_on whole old new (Err b) (w, is, same) rise = subst (Rise whole) (sym same) rise
 
-pub holds_on : (old new : List Item) (r : Result (Option Token) Bad) (p : Pos) (o : ℕ) → NextItem old r new → Holds old p o
-    → ((next_place old).position ≡ p → ⊥) → Holds new p o
+pub holds_on : (old new : List Item) (r : Result (Option Token) Bad) (p : Pos) (o : ℕ) → NextItem old r new → HasItemAt old p o
+    → ((next_place old).position ≡ p → ⊥) → HasItemAt new p o
 holds_on old new (Ok (Some t)) p o (w, is) h other =
-    holds_later _ new p o (subst (λ (l : List Item). Holds l p o) is h) (λ e. other (ap (λ (l : List Item). (next_place l).position) is ∙ e))
+    holds_later _ new p o (subst (λ (l : List Item). HasItemAt l p o) is h) (λ e. other (ap (λ (l : List Item). (next_place l).position) is ∙ e))
 holds_on old new (Ok None) p o (w, is, same) h other = absurd (only_item old _ p o is h other)
 holds_on old new (Err b) p o (w, is, same) h other = absurd (only_item old _ p o is h other)
 
 -- a token is next, where the item that is sought comes later
-pub token_next : (old new : List Item) (r : Result (Option Token) Bad) (p : Pos) (o : ℕ) → NextItem old r new → Holds old p o
+pub token_next : (old new : List Item) (r : Result (Option Token) Bad) (p : Pos) (o : ℕ) → NextItem old r new → HasItemAt old p o
     → ((next_place old).position ≡ p → ⊥) → (t : Token) × (r ≡ Ok (Some t))
 token_next old new (Ok (Some t)) p o n h other = (t, refl)
 token_next old new (Ok None) p o (w, is, same) h other = absurd (only_item old _ p o is h other)
