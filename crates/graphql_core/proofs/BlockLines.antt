@@ -12,7 +12,7 @@ use Rattle.std.proofs.lemmas.List.Folds.{flat_map-map}
 use Rattle.std.proofs.lemmas.List.Sums.{prefix_len-le-length, prefix_len_passes, suffix_len-take_no, suffix_len-take_yes}
 use Rattle.std.proofs.lemmas.List.FromFn.{length-enumerate_from, get_or-enumerate_from}
 use Rattle.std.proofs.lemmas.Str.{IsCharBoundary-start, IsCharBoundary-after_ascii}
-use Rattle.graphql_lexer.specs.{begins_escape, escape}
+use Rattle.graphql_lexer.specs.{begins_escape}
 use Rattle.graphql_core.specs.{prefix_len, suffix_len, join_by, flat_map, unwrap_or, IsUtf8, IsCharBoundary, begins_quotes, is_white, is_blank, indent}
 use Rattle.graphql_core.specs.{common_indent, unindented, unescaped, value_of_lines}
 

@@ -1,7 +1,7 @@
 -- From the mask of one load to the bytes that pass a test, and from one load to a run.
 use lib.Lanes.{zip2, mask_l, top}
 use Rattle.std.specs.List.{prefix_len}
-use Rattle.std.proofs.Common.{◌≡◌, ℕ, zero, suc, ◌+◌, ◌%◌, ◌^◌, ◌<◌, ◌≤◌, Bool, true, false, not, List, [], ◌∷◌, map, take, drop, length, get_or, replicate}
+use Rattle.std.proofs.Common.{◌≡◌, ℕ, zero, suc, ◌+◌, ◌%◌, ◌^◌, ◌<◌, ◌≤◌, Bool, true, false, not, List, [], ◌∷◌, map, ◌++◌, take, drop, length, min, get_or, replicate}
 use Rattle.std.proofs.Common.{Fits, w8, refl, sym, ap, ap₂, ◌∙◌, arith, inl, inr}
 use Rattle.std.proofs.lemmas.Bool.{cases_Bool, agree_below, agree_below_at, cases_eq, eq-eqb, ne_eqb, cond-true, cond-false}
 use Rattle.std.proofs.lemmas.Simd.{map-map, mask_l-mod, length-chunk, leading_from_mask_l, trailing_mask_l}
@@ -63,11 +63,30 @@ ends_within p (suc n) (x ∷ xs) room short =
     ]
 
 -- a run of which the first n bytes are
-pub goes_past : (p : ℕ → Bool) (n : ℕ) (d : List ℕ) → n ≤ length d → n ≤ prefix_len p (take n d) → prefix_len p d ≡ n + prefix_len p (drop n d)
-goes_past p zero d room e = omega arith
-goes_past p (suc n) [] room e = absurd (omega arith)
-goes_past p (suc n) (x ∷ xs) room e =
+pub goes_past : (p : ℕ → Bool) (n : ℕ) (d : List ℕ) → n ≤ prefix_len p d → prefix_len p d ≡ n + prefix_len p (drop n d)
+goes_past p zero d e = omega arith
+goes_past p (suc n) [] e = absurd (omega arith)
+goes_past p (suc n) (x ∷ xs) e =
     elim (cases_Bool (p x)) [
-      | inl pass ↦ rw pass (omega (arith, goes_past p n xs (omega arith) (omega (arith, rw pass at e))))
+      | inl pass ↦ rw pass (omega (arith, goes_past p n xs (omega (arith, rw pass at e))))
       | inr stop ↦ absurd (omega (arith, rw stop at e))
+    ]
+
+-- the run of the first n bytes is no longer than that of all
+pub front_run : (p : ℕ → Bool) (n : ℕ) (d : List ℕ) → prefix_len p (take n d) ≤ prefix_len p d
+front_run p zero d = omega arith
+front_run p (suc n) [] = omega arith
+front_run p (suc n) (x ∷ xs) =
+    elim (cases_Bool (p x)) [
+      | inl pass ↦ rw pass (omega (arith, front_run p n xs))
+      | inr stop ↦ rw stop (omega arith)
+    ]
+
+-- the run of some bytes, where others stand after them
+pub padded_run : (p : ℕ → Bool) (xs ys : List ℕ) → min (prefix_len p (xs ++ ys)) (length xs) ≡ prefix_len p xs
+padded_run p [] ys = omega arith
+padded_run p (x ∷ xs) ys =
+    elim (cases_Bool (p x)) [
+      | inl pass ↦ rw pass (omega (arith, padded_run p xs ys))
+      | inr stop ↦ rw stop (omega arith)
     ]

@@ -183,12 +183,6 @@ few_open Level w deep few = few
 few_open Opens w deep few = omega (arith, eqb-false w.openers (w.closers + 50) deep)
 few_open Closes w deep few = omega (arith, few)
 
--- what opens no bracket is not too deep
-pub not_too_deep : (n : Nesting) (w : Where) → (n ≡ Opens → ⊥) → is_too_deep n w ≡ false
-not_too_deep Level w other = refl
-not_too_deep Opens w other = absurd (other refl)
-not_too_deep Closes w other = refl
-
 -- The next item is a token, which opens at most one bracket more; the others are those of what is left, which stands after ignored text, at this place.
 pub token_then_rest : (w : Where) (text value after rest : List ℕ) (size n : ℕ) (k : Kind) (t : Nesting) (place : Pos) → Some (n, k, t) ≡ taken (front text)
     → is_too_deep t w ≡ false → value ≡ take n text → after ≡ drop n text

@@ -9,7 +9,7 @@ use Rattle.graphql_values.specs.{value_layout, parts, inside, each_argument, arg
 use Rattle.graphql_values.specs.{argument_symbol, arguments_symbol, directive_symbol, directives_symbol, default_symbol, spelling_at, pairs_of}
 use Rattle.graphql_values.specs.{optional_arguments_of, directive_of, directives_of, default_of, optional_default_of, IsPrintableArgument, IsPrintableDirective}
 use Rattle.graphql_values.specs.{IsPrintableDefault, argument_brackets, arguments_brackets, most, directive_brackets, directives_brackets, value_brackets}
-use Rattle.graphql_values.specs.{IsLawful, AreLawfulArguments, AreLawfulDirectives, each_of}
+use Rattle.graphql_values.specs.{IsLawful, AreLawfulArguments, AreLawfulDirectives}
 use Rattle.graphql_values.specs.declared.read.values.Sort.TheVariants.{Value, Constant}
 use Rattle.graphql_values.proofs.LeavesBack.{name_word}
 use Rattle.graphql_values.proofs.ValuesBack.{to_word, before_back, closer_back, pair_back, value_back}

@@ -16,6 +16,7 @@ pub mod Leaves
 pub mod Printable
 pub mod LeavesBack
 pub mod BlockBytes
+pub mod TextLines
 pub mod BlockForm
 pub mod BlockValues
 pub mod TypesBack
@@ -107,6 +108,7 @@ pub use Steps.{Leads, leads_in, here, into, past, after_left, after_right, befor
 pub use Steps.{Pushes, turn_fails, pushes_none, turn_appends, some_taken}
 pub use StringValues.{has_unquoted, some_unquoted, none_unquoted, string_means}
 pub use Told.{IsTold, read_alike}
+pub use TextLines.{line_parts, is_whole, all_whole, first_not_whole, last_whole, plain_unquoted}
 pub use TypesBack.{type_back}
 pub use Unplaced.{Ignores, there_bare, optional_bare, optional_list_bare, each_bare, enclosed_bare, each_same, enclosed_same, joined_bare, spelling_bare}
 pub use Unplaced.{optional_default_bare, type_bare, optional_arguments_bare, directives_bare, IgnoresPlaces, document_alike, minified_document, source_document}

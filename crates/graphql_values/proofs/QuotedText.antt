@@ -1,7 +1,7 @@
 -- What is written of the characters and lines of strings.
 use Rattle.std.specs.List.{slice_index}
-use Rattle.std.proofs.Common.{◌≡◌, ◌≢◌, ◌∙◌, ap, sym, refl, subst, ℕ, zero, suc, ◌-◌, ◌<◌, ◌≤◌, true, false, ◌==◌, inl, inr, Some, None, nat_lt, List, [], ◌∷◌}
-use Rattle.std.proofs.Common.{◌++◌, length, get_or, take, drop, codes, arith, append-nil}
+use Rattle.std.proofs.Common.{◌≡◌, ◌≢◌, ◌∙◌, ap, sym, refl, subst, ℕ, zero, suc, ◌-◌, ◌<◌, ◌≤◌, Bool, true, false, ◌==◌, inl, inr, Some, None, nat_lt, List, []}
+use Rattle.std.proofs.Common.{◌∷◌, ◌++◌, length, get_or, take, drop, codes, arith, append-nil}
 use Rattle.std.proofs.Math.Utf8.{encode}
 use Rattle.std.proofs.lemmas.Bool.{ne_eqb}
 use Rattle.std.proofs.lemmas.List.{drop_all}
@@ -44,18 +44,22 @@ control_byte b h r n t =
 pub escaped_ascii : (b : ℕ) → is_unescaped b ≡ false → b < 128
 escaped_ascii b h = grind (arith, nat_tests)
 
--- a text may be cut after the bytes that stand as they are
-pub unescaped_boundary : (text : List ℕ) (n : ℕ) → IsUtf8 text → n ≡ prefix_len is_unescaped text → IsCharBoundary text n
-unescaped_boundary text n u e =
+-- a text may be cut after the run of a class, where each byte that isn't of the class is one of ASCII
+pub run_cuts : (p : ℕ → Bool) → ((b : ℕ) → p b ≡ false → b < 128) → (text : List ℕ) (n : ℕ) → n ≡ prefix_len p text → IsCharBoundary text n
+run_cuts p ascii text n e =
     subst (IsCharBoundary text) (sym e)
-    (elim (cases_Bool (nat_lt (prefix_len is_unescaped text) (length text))) [
+    (elim (cases_Bool (nat_lt (prefix_len p text) (length text))) [
       | inl t ↦
-          let some : prefix_len is_unescaped text < length text = grind (arith, nat_tests) in
-          IsCharBoundary-before_ascii text _ some (escaped_ascii _ (prefix_len_stops is_unescaped text 0 some))
+          let some : prefix_len p text < length text = grind (arith, nat_tests) in
+          IsCharBoundary-before_ascii text _ some (ascii _ (prefix_len_stops p text 0 some))
       | inr t ↦
-          let all : prefix_len is_unescaped text ≡ length text = grind (arith, nat_tests, prefix_len-le-length is_unescaped text) in
+          let all : prefix_len p text ≡ length text = grind (arith, nat_tests, prefix_len-le-length p text) in
           subst (IsCharBoundary text) (sym all) (IsCharBoundary-end text)
     ])
+
+-- after the bytes that stand as they are
+pub unescaped_boundary : (text : List ℕ) (n : ℕ) → IsUtf8 text → n ≡ prefix_len is_unescaped text → IsCharBoundary text n
+unescaped_boundary text n u e = run_cuts is_unescaped escaped_ascii text n e
 
 -- the bytes at the front that stand as they are, and what is left
 quoted_run : (text : List ℕ) (n : ℕ) → n ≡ prefix_len is_unescaped text → flat_map quoted_byte text ≡ take n text ++ flat_map quoted_byte (drop n text)

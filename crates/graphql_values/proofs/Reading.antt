@@ -5,11 +5,11 @@ use Rattle.graphql_grammar.specs.{fails_first, fails_second, fails_neither, fail
 use Rattle.graphql_grammar.proofs.{sees-parts, take-or_fail, same-fail, exits, picks-neither}
 use Rattle.graphql_core.specs.{Grammar, TakesOne}
 use Rattle.graphql_core.specs.declared.helpers.read_error.ReadError.TheVariants.{Item}
-use Rattle.graphql_core.proofs.{and_from, cases_Bool, Stops-after, Turns-stop, picks-first}
-use Rattle.graphql_values.specs.{Token, Class, matches, Expr, Empty, One, Then, Either, Many, Shape, Nothing, Leaf, Both, First, Second, More, Row, optional}
-use Rattle.graphql_values.specs.{some_of, nullable, first, sees, choose, Left, Right, Takes, takes_nothing, takes_both, takes_first, takes_second, Reason}
-use Rattle.graphql_values.specs.{Unexpected, Fails, fails_one, fails_before, fails_after, TakesSome, Stops, Turns, values, ReadError, Memory, Integer, Float}
-use Rattle.graphql_values.specs.{Escape, Location, Items, kept, fault_by, place_next, TakesToken, Answered, GivesBy, Gives, Adds, reason_of, each}
+use Rattle.graphql_core.proofs.{and_from, cases_Bool, Turns-stop, picks-first}
+use Rattle.graphql_values.specs.{Token, Class, matches, Expr, Empty, One, Then, Either, Many, Shape, Nothing, Leaf, First, Second, More, Row, optional}
+use Rattle.graphql_values.specs.{nullable, first, sees, choose, Left, Right, Takes, takes_nothing, takes_first, takes_second, Reason}
+use Rattle.graphql_values.specs.{Unexpected, Fails, fails_one, fails_before, fails_after, Stops, Turns, values, ReadError, Memory, Integer, Float}
+use Rattle.graphql_values.specs.{Escape, Location, Items, kept, fault_by, place_next, TakesToken, Answered, GivesBy, Adds, reason_of, each}
 use Rattle.graphql_grammar.specs.Trees as trees
 
 -- ---- single tokens

@@ -1,7 +1,7 @@
 -- Which side of each choice is read, and which turn of each repetition.
 use Rattle.std.proofs.Common.{◌≡◌, ℕ, true, false, List, [], ◌∷◌, ◌++◌, Option, refl, ap, codes}
 use Rattle.graphql_grammar.proofs.{sees-apart}
-use Rattle.graphql_values.specs.{item, object, Token, Class, Expr, Empty, Nothing, Then, Either, Many, Sym, Shape, Both, First, Second, Node, optional, peek}
+use Rattle.graphql_values.specs.{item, object, Token, Class, Expr, Then, Either, Many, Sym, Shape, Both, First, Second, Node, optional, peek}
 use Rattle.graphql_values.specs.{first, sees, Takes, values, Name, Items, shared, rows, tables, name, any, punctuator, mark, value_symbol, const_symbol}
 use Rattle.graphql_values.specs.{plain_symbol, argument_symbol, const_pair_symbol, type_symbol, arguments_symbol, directive_symbol, default_symbol, spelling_at}
 use Rattle.graphql_values.specs.{plain_of, put_all, value_of, values_of, argument_of, pairs_of, const_of, consts_of, const_pair_of, const_pairs_of}
@@ -10,8 +10,8 @@ use Rattle.graphql_values.specs.{tree_of, trees_of, pair_of, pairs_by, as_variab
 use Rattle.graphql_values.specs.{listed_values, list, no_members, each_of}
 use Rattle.graphql_values.specs.declared.read.values.Sort.{Sort}
 use Rattle.graphql_values.specs.declared.read.values.Sort.TheVariants.{Value, Constant}
-use Rattle.graphql_values.proofs.Reading.{FailsUnseen, unseen_one, unseen_then, unseen_either, takes_none, one_of, many_means, each_means}
-use Rattle.graphql_values.proofs.Alternatives.{IsSide, through, side_node, side_first, side_second, side_left, side_right, unseen_symbol, sees_neither, side_in}
+use Rattle.graphql_values.proofs.Reading.{FailsUnseen, unseen_one, unseen_then, unseen_either, one_of, many_means, each_means}
+use Rattle.graphql_values.proofs.Alternatives.{IsSide, through, side_node, side_left, side_right, unseen_symbol, sees_neither, side_in}
 use Rattle.graphql_values.proofs.Alternatives.{side_nth}
 use Rattle.graphql_values.proofs.Lists.{is_list}
 use Rattle.graphql_values.proofs.Optional.{BegunBy}

@@ -1,5 +1,5 @@
 -- What the shapes of values, types and directives mean, a line for each production.
-use Rattle.std.specs.Prelude.{ℕ, true, false, List, [], ◌∷◌, Option, Some, None}
+use Rattle.std.specs.Prelude.{ℕ, true, false, List, [], ◌∷◌, Option}
 use Rattle.graphql_core.specs.{Token, Place, nowhere, Shape, Leaf, Both, First, Second, More, Node}
 use Rattle.graphql_values.specs.Values.{float, string, item, enum, object, int, ValueTree, variable, boolean, null, list, ValueItems, no_items, ValueMembers}
 use Rattle.graphql_values.specs.Values.{no_members, put, TypeTree, named, list_of, non_null, DirectiveTree}

@@ -18,13 +18,14 @@ fn is_number(kind: Kind) -> bool
     matches!(kind, Kind::IntValue | Kind::FloatValue)
 }
 
-/// Whether a space stands between a token of this kind and the next token, which is of the other kind. There is no branch on which of them are punctuators.
+/// Whether a space stands between a token of this kind and the next token, which is of the other kind. There is no branch on
+/// which of them are punctuators, and hardly one on which are numbers: few stand before a token of three bytes.
 #[inline(always)]
 fn is_spaced(before: Kind, kind: Kind, value: &str) -> bool
     ensures { (at : Pos) → result ≡ is_spaced (kind_number before) (token_of at kind value.now) }
 {
     let are_words = (before != Kind::Punctuator) & (kind != Kind::Punctuator);
-    are_words | (is_number(before) && value == "...")
+    are_words | ((is_number(before) & (value.len() == 3)) && value == "...")
 }
 
 /// The tokens up to the end, spaced.

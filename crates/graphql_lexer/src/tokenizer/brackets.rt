@@ -26,19 +26,16 @@ impl Brackets {
         self.openers == self.closers + MAX_DEPTH
     }
 
-    /// Whether a token would open a bracket after 50 that are open.
+    /// Whether a token would open a bracket after 50 that are open. There is no branch on which tokens are brackets.
     #[inline(always)]
     pub fn is_too_deep(self, nesting: Nesting) -> bool
         requires { self.closers < 2 ^ 62 }
         ensures { (w : Where) → w.openers ≡ self.openers → w.closers ≡ self.closers → result ≡ is_too_deep nesting w }
     {
-        match nesting {
-            Nesting::Opens => self.is_full(),
-            Nesting::Level | Nesting::Closes => false,
-        }
+        self.is_full() & matches!(nesting, Nesting::Opens)
     }
 
-    /// The brackets up to and with a token.
+    /// The brackets up to and with a token. There is no branch on which tokens are brackets.
     #[inline(always)]
     pub fn after(self, nesting: Nesting) -> Brackets
         requires openers { self.openers < 2 ^ 62 }
@@ -46,16 +43,9 @@ impl Brackets {
         ensures openers { result.openers ≡ openers_after nesting self.openers }
         ensures closers { result.closers ≡ closers_after nesting self.closers }
     {
-        match nesting {
-            Nesting::Opens => Brackets {
-                openers: self.openers + 1,
-                closers: self.closers,
-            },
-            Nesting::Closes => Brackets {
-                openers: self.openers,
-                closers: self.closers + 1,
-            },
-            Nesting::Level => self,
+        Brackets {
+            openers: self.openers + matches!(nesting, Nesting::Opens) as usize,
+            closers: self.closers + matches!(nesting, Nesting::Closes) as usize,
         }
     }
 }

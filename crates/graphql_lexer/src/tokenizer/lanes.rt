@@ -1,6 +1,8 @@
 //! How many of 16 bytes, from the first, are of a class.
 ghost use Rattle.std.specs.Prelude.{◌≡◌, ◌≤◌, length, take};
 ghost use Rattle.std.specs.List.{prefix_len};
+ghost use Rattle.std.specs.Char.{is_ascii_digit};
+ghost use Rattle.graphql_lexer.specs.Lexical.{is_in_line};
 ghost use Rattle.graphql_lexer.specs.{is_name_continue, is_flat, is_space, is_plain_in_string, is_plain_in_block, first_set};
 
 use std::simd::prelude::*;
@@ -78,5 +80,26 @@ pub fn string_lanes(bytes: &[u8]) -> usize
         | v.simd_eq(u8x16::splat(b'\\'))
         | v.simd_eq(u8x16::splat(b'\n'))
         | v.simd_ge(u8x16::splat(0x80));
+    first_set(stops.to_bitmask())
+}
+
+/// How many of the first 16 bytes are digits.
+#[inline(always)]
+pub fn digit_lanes(bytes: &[u8]) -> usize
+    requires { 16 ≤ length bytes.now }
+    ensures { result ≡ prefix_len is_ascii_digit (take 16 bytes.now) }
+{
+    let stops = (u8x16::from_slice(bytes) - u8x16::splat(b'0')).simd_ge(u8x16::splat(10));
+    first_set(stops.to_bitmask())
+}
+
+/// How many of the first 16 bytes are in a line.
+#[inline(always)]
+pub fn line_lanes(bytes: &[u8]) -> usize
+    requires { 16 ≤ length bytes.now }
+    ensures { result ≡ prefix_len is_in_line (take 16 bytes.now) }
+{
+    let v = u8x16::from_slice(bytes);
+    let stops = v.simd_eq(u8x16::splat(b'\n')) | v.simd_eq(u8x16::splat(b'\r'));
     first_set(stops.to_bitmask())
 }

@@ -10,6 +10,7 @@ ghost use Rattle.graphql_lexer.specs.steps.Numbers as spec;
 
 use crate::tokenizer::class::is_mark;
 use crate::tokenizer::piece::{Nesting, Piece, byte_at};
+use crate::tokenizer::run::{Digit, whole_len};
 use crate::tokenizer::token::Kind;
 
 #[inline(always)]
@@ -46,7 +47,7 @@ fn digits_len(bytes: &[u8]) -> usize
     ensures len { result ≡ spec.digits_len bytes.now }
     ensures within { result ≤ length bytes.now }
 {
-    bytes.iter().take_while(|b| b.is_ascii_digit()).count()
+    whole_len::<Digit>(bytes)
 }
 
 fn is_digits(bytes: &[u8]) -> bool

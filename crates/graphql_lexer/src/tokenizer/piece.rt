@@ -11,7 +11,7 @@ ghost use Rattle.graphql_lexer.specs.Lexical as lexical;
 use crate::tokenizer::class::{is_blank, is_mark, is_name_start, nesting_of};
 use crate::tokenizer::number::{number, plain_number, starts_number};
 use crate::tokenizer::quoted::{plain_string_len, quoted};
-use crate::tokenizer::run::{Flat, NameContinue, Space, near_len, whole_len};
+use crate::tokenizer::run::{Flat, InComment, NameContinue, Space, near_len, whole_len};
 use crate::tokenizer::token::Kind;
 
 /// How ignored text moves the position.
@@ -74,20 +74,13 @@ pub struct Taken {
     pub is_flat: bool,
 }
 
-#[inline(always)]
-fn is_in_line(byte: u8) -> bool
-    ensures { result ≡ lexical.is_in_line byte }
-{
-    byte != b'\n' && byte != b'\r'
-}
-
 /// How many bytes a comment goes on in its line.
 #[inline]
 fn line_len(bytes: &[u8]) -> usize
     ensures len { result ≡ prefix_len lexical.is_in_line bytes.now }
     ensures within { result ≤ length bytes.now }
 {
-    bytes.iter().take_while(|b| is_in_line(**b)).count()
+    whole_len::<InComment>(bytes)
 }
 
 /// The byte at `index`, or 0 past the end.

@@ -1,9 +1,9 @@
 //! Runs of bytes of a class at the front of a text, 16 bytes at a time.
-ghost use Rattle.std.specs.Prelude.{◌≡◌, ◌≤◌, length, IfSome};
+ghost use Rattle.std.specs.Prelude.{◌≡◌, ◌<◌, ◌≤◌, length, IfSome};
 ghost use Rattle.std.specs.List.{prefix_len};
 
 use crate::tokenizer::lanes::{
-    LANES, block_lanes, flat_lanes, name_lanes, space_lanes, string_lanes,
+    LANES, block_lanes, digit_lanes, flat_lanes, line_lanes, name_lanes, space_lanes, string_lanes,
 };
 
 /// A class of bytes.
@@ -12,10 +12,6 @@ pub trait Class {
     ghost use Rattle.std.specs.List.{prefix_len};
 
     ghost has: { ℕ → Bool };
-
-    /// Whether a byte is of the class.
-    fn has(byte: u8) -> bool
-        ensures { result ≡ has byte };
 
     /// How many of the first 16 bytes are of the class.
     fn lanes(bytes: &[u8]) -> usize
@@ -32,11 +28,6 @@ impl Class for NameContinue {
     ghost has = { is_name_continue };
 
     #[inline(always)]
-    fn has(byte: u8) -> bool {
-        byte.is_ascii_alphanumeric() || byte == b'_'
-    }
-
-    #[inline(always)]
     fn lanes(bytes: &[u8]) -> usize {
         name_lanes(bytes)
     }
@@ -49,11 +40,6 @@ impl Class for Space {
     ghost use Rattle.graphql_lexer.specs.{is_space};
 
     ghost has = { is_space };
-
-    #[inline(always)]
-    fn has(byte: u8) -> bool {
-        byte == b' '
-    }
 
     #[inline(always)]
     fn lanes(bytes: &[u8]) -> usize {
@@ -70,11 +56,6 @@ impl Class for PlainInString {
     ghost has = { is_plain_in_string };
 
     #[inline(always)]
-    fn has(byte: u8) -> bool {
-        (byte < 0x80 && byte != b'\n') && !(byte == b'"' || byte == b'\\')
-    }
-
-    #[inline(always)]
     fn lanes(bytes: &[u8]) -> usize {
         string_lanes(bytes)
     }
@@ -87,11 +68,6 @@ impl Class for PlainInBlock {
     ghost use Rattle.graphql_lexer.specs.{is_plain_in_block};
 
     ghost has = { is_plain_in_block };
-
-    #[inline(always)]
-    fn has(byte: u8) -> bool {
-        byte != b'"' && byte != b'\\'
-    }
 
     #[inline(always)]
     fn lanes(bytes: &[u8]) -> usize {
@@ -108,40 +84,70 @@ impl Class for Flat {
     ghost has = { is_flat };
 
     #[inline(always)]
-    fn has(byte: u8) -> bool {
-        byte < 0x80 && byte != b'\n'
-    }
-
-    #[inline(always)]
     fn lanes(bytes: &[u8]) -> usize {
         flat_lanes(bytes)
     }
 }
 
-/// How many bytes the run at the front has, one byte after another.
-#[inline]
+/// A digit.
+pub struct Digit;
+
+impl Class for Digit {
+    ghost use Rattle.std.specs.Char.{is_ascii_digit};
+
+    ghost has = { is_ascii_digit };
+
+    #[inline(always)]
+    fn lanes(bytes: &[u8]) -> usize {
+        digit_lanes(bytes)
+    }
+}
+
+/// What a comment goes on with.
+pub struct InComment;
+
+impl Class for InComment {
+    ghost use Rattle.graphql_lexer.specs.Lexical.{is_in_line};
+
+    ghost has = { is_in_line };
+
+    #[inline(always)]
+    fn lanes(bytes: &[u8]) -> usize {
+        line_lanes(bytes)
+    }
+}
+
+/// How many bytes the run at the front has, of fewer bytes than one load takes: zeros stand after them there.
 fn short_len<C: Class>(bytes: &[u8]) -> usize
+    requires { length bytes.now < 16 }
     ensures len { result ≡ prefix_len C.has bytes.now }
     ensures within { result ≤ length bytes.now }
 {
-    bytes.iter().take_while(|b| C::has(**b)).count()
+    let mut block = [0; LANES];
+    block[..bytes.len()].copy_from_slice(bytes);
+    C::lanes(&block).min(bytes.len())
 }
 
-/// How many bytes the run at the front has, for what is long or near the end of the text.
+/// How many bytes the run at the front has, for what is long or near the end of the text. The last load has the last 16
+/// bytes, though some of them were in the load before it.
 #[inline(never)]
 fn long_len<C: Class>(bytes: &[u8]) -> usize
     ensures len { result ≡ prefix_len C.has bytes.now }
     ensures within { result ≤ length bytes.now }
 {
-    let mut rest = bytes;
-    'loads: while rest.len() >= LANES {
-        let run = C::lanes(rest);
-        if run < LANES {
-            return bytes.len() - rest.len() + run;
-        }
-        rest = rest.split_at(LANES).1;
+    if bytes.len() < LANES {
+        return short_len::<C>(bytes);
     }
-    bytes.len() - rest.len() + short_len::<C>(rest)
+    let last = bytes.len() - LANES;
+    let mut start = 0;
+    'loads: while start < last {
+        let run = C::lanes(&bytes[start..]);
+        if run < LANES {
+            return start + run;
+        }
+        start += LANES;
+    }
+    last + C::lanes(&bytes[last..])
 }
 
 /// How many bytes the run at the front has, where one load shows its end.

@@ -6,7 +6,7 @@ use crate::position::Pos;
 use crate::tokenizer::bad::bad_at;
 use crate::tokenizer::brackets::Brackets;
 use crate::tokenizer::ignored::{skip_ignored, skip_plain};
-use crate::tokenizer::piece::{Nesting, near_token_at, token_at};
+use crate::tokenizer::piece::{near_token_at, token_at};
 use crate::tokenizer::place::{position_after_flat, position_after_token};
 use crate::tokenizer::token::{Bad, Token};
 use std::marker::Model;
@@ -104,10 +104,8 @@ impl<'a> Tokens<'a> {
         let Some((len, kind, nesting)) = near_token_at(self.rest) else {
             return None;
         };
-        if let Nesting::Opens = nesting {
-            if self.brackets.is_full() {
-                return None;
-            }
+        if self.brackets.is_too_deep(nesting) {
+            return None;
         }
         let (value, after) = self.rest.split_at(len);
         let end = position_after_flat(value, self.position);

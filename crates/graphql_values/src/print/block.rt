@@ -1,11 +1,15 @@
 //! Strings in block form.
-ghost use Rattle.std.specs.Prelude.{◌≡◌, not, ◌&&◌, ◌||◌, ◌==◌, OnOk};
-ghost use Rattle.graphql_values.specs.{list_all, list_any, chars, is_blank, is_block_byte};
+ghost use Rattle.std.specs.Prelude.{◌≡◌, ◌≤◌, ◌∷◌, [], false, not, ◌&&◌, ◌||◌, ◌==◌, length, OnOk};
+ghost use Rattle.std.specs.Option.{MatchOption};
+ghost use Rattle.graphql_values.specs.{list_all, list_any, flat_map, prefix_len, chars, IsCharBoundary, is_blank, is_block_byte};
 ghost use Rattle.graphql_values.specs.ValueLayout as spec;
 
 use crate::print::spaces::write_spaces;
 use graphql_core::common::strings::{ESCAPED_QUOTES, QUOTES, is_blank, is_white};
 use graphql_core::format::Sink;
+use graphql_lexer::tokenizer::lanes::first_set;
+use graphql_lexer::tokenizer::run::{Class, PlainInBlock, whole_len};
+use std::simd::prelude::*;
 
 /// Whether a text has more than one line.
 fn has_line_feed(text: &str) -> bool
@@ -94,12 +98,57 @@ fn is_whole_line(line: &str) -> bool
     is_empty_or_text(line) && ends_in_no_return(line)
 }
 
+/// The bytes of a line.
+struct InLine;
+
+impl Class for InLine {
+    ghost use Rattle.std.specs.Prelude.{not, ◌==◌};
+
+    ghost has = { λ b. not (b == 10) };
+
+    #[inline(always)]
+    fn lanes(bytes: &[u8]) -> usize {
+        let stops = u8x16::from_slice(bytes).simd_eq(u8x16::splat(b'\n'));
+        first_set(stops.to_bitmask())
+    }
+}
+
+/// How many bytes the first line of a text has.
+#[inline(always)]
+#[tactic(auto, using(crate::proofs::TextLines::line_cuts))]
+fn line_len(text: &str) -> usize
+    ensures len { result ≡ prefix_len (λ b. not (b == 10)) text.now }
+    ensures within { result ≤ length text.now }
+    ensures cuts { IsCharBoundary text.now result }
+{
+    whole_len::<InLine>(text.as_bytes())
+}
+
+/// The first line of a text, and the lines after it, if there are any.
+#[inline(always)]
+fn split_line(text: &str) -> (&str, Option<&str>)
+    ensures { MatchOption result.1 (spec.lines_of text.now ≡ result.0.now ∷ []) (λ rest. spec.lines_of text.now ≡ result.0.now ∷ spec.lines_of rest.now) }
+{
+    let (line, rest) = text.split_at(line_len(text));
+    (line, rest.strip_prefix('\n'))
+}
+
 /// Whether each line is empty or has text, and doesn't end in a carriage return.
 fn has_whole_lines(text: &str) -> bool
     ensures { result ≡ (list_all (λ l. not (is_blank l) || spec.is_empty l) (spec.lines_of text.now)
         && list_all (λ l. not (spec.ends_in_return l)) (spec.lines_of text.now)) }
 {
-    text.split('\n').all(is_whole_line)
+    let mut rest = text;
+    'lines: loop {
+        let (line, after) = split_line(rest);
+        if !is_whole_line(line) {
+            return false;
+        }
+        match after {
+            Some(lines) => rest = lines,
+            None => return true,
+        }
+    }
 }
 
 /// Whether some line begins with anything but a space or a tab.
@@ -139,18 +188,18 @@ pub fn has_block_form(text: &str) -> bool
     has_line_feed(text) && has_block_characters(text) && has_block_lines(text)
 }
 
-/// Whether a line has a quote, which most have not.
-fn has_quote(line: &str) -> bool
-    ensures { result ≡ list_any (λ b. b == 34) line.now }
+/// Whether a line may have quotes, which most have not: it has a quote or a backslash.
+fn may_have_quotes(line: &str) -> bool
+    ensures { result ≡ false → list_any (λ b. b == 34) line.now ≡ false }
 {
-    line.as_bytes().contains(&b'"')
+    whole_len::<PlainInBlock>(line.as_bytes()) < line.len()
 }
 
 /// Appends a line, with a backslash before each three quotes.
 fn write_escaped<S: Sink>(out: &mut S, line: &str) -> Result<(), S::Error>
     ensures { OnOk result (S.took out.old (spec.escaped_quotes line.now) out.new) }
 {
-    if !has_quote(line) {
+    if !may_have_quotes(line) {
         return out.push_str(line);
     }
     let mut rest = line;
@@ -174,6 +223,21 @@ fn write_block_line<S: Sink>(out: &mut S, line: &str, margin: usize) -> Result<(
     out.push_str("\n")
 }
 
+/// Appends the lines of a text at one margin.
+fn write_block_lines<S: Sink>(out: &mut S, text: &str, inside: usize) -> Result<(), S::Error>
+    ensures { OnOk result (S.took out.old (flat_map (spec.block_line inside) (spec.lines_of text.now)) out.new) }
+{
+    let mut rest = text;
+    'lines: loop {
+        let (line, after) = split_line(rest);
+        write_block_line(out, line, inside)?;
+        match after {
+            Some(lines) => rest = lines,
+            None => return Ok(()),
+        }
+    }
+}
+
 /// Appends a string in block form, with its lines at one margin and the closing quotes at another.
 pub fn write_block<S: Sink>(
     out: &mut S,
@@ -184,9 +248,7 @@ pub fn write_block<S: Sink>(
     ensures { OnOk result (S.took out.old (spec.in_block_form inside margin text.now) out.new) }
 {
     out.push_str("\"\"\"\n")?;
-    'lines: for line in text.split('\n') {
-        write_block_line(out, line, inside)?;
-    }
+    write_block_lines(out, text, inside)?;
     write_spaces(out, margin)?;
     out.push_str(QUOTES)
 }

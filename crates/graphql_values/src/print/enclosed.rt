@@ -20,6 +20,7 @@ pub fn inside(style: &Style, margin: usize) -> usize
 }
 
 /// Appends what stands before a part: the first one, or a later one.
+#[inline(always)]
 pub fn write_before_part<S: Sink>(
     out: &mut S,
     style: &Style,
@@ -38,6 +39,7 @@ pub fn write_before_part<S: Sink>(
 }
 
 /// Appends what stands after the parts, and the closer.
+#[inline(always)]
 pub fn write_closer<S: Sink>(
     out: &mut S,
     style: &Style,
@@ -53,6 +55,7 @@ pub fn write_closer<S: Sink>(
 }
 
 /// Appends the name of a part, a colon and a space.
+#[inline(always)]
 pub fn write_label<S: Sink>(out: &mut S, name: &str) -> Result<(), S::Error>
     ensures { OnOk result (S.took out.old (name.now ++ codes ": ") out.new) }
 {

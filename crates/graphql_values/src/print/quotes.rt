@@ -18,11 +18,6 @@ impl Class for Unescaped {
     ghost has = { is_unescaped };
 
     #[inline(always)]
-    fn has(byte: u8) -> bool {
-        byte >= 32 && byte != b'"' && byte != b'\\'
-    }
-
-    #[inline(always)]
     fn lanes(bytes: &[u8]) -> usize {
         let v = u8x16::from_slice(bytes);
         let stops = v.simd_eq(u8x16::splat(b'"'))

@@ -34,7 +34,7 @@ pub fn write_spaces<S: Sink>(out: &mut S, count: usize) -> Result<(), S::Error>
 }
 
 /// Appends a line end and the margin of the next line.
-#[inline]
+#[inline(never)]
 pub fn write_new_line<S: Sink>(out: &mut S, margin: usize) -> Result<(), S::Error>
     ensures { OnOk result (S.took out.old (text_of (new_line margin)) out.new) }
 {

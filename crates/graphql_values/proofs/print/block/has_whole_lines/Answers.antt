@@ -1,14 +1,16 @@
-use Rattle.std.proofs.Common.{◌∙◌, rules, tests, arith, not, ◌&&◌, ◌||◌}
-use Rattle.std.proofs.lemmas.Iterator.Search.{all_from_yields_List}
-use Rattle.graphql_values.specs.{is_blank}
-use Rattle.graphql_values.proofs.{YieldsList-from_str_split, all_both}
-use Rattle.graphql_values.specs.ValueLayout as spec
+use Rattle.std.proofs.Common.{◌≡◌, ◌∙◌, sym, true, false}
+use Rattle.graphql_values.specs.{lines_of}
+use Rattle.graphql_values.proofs.{is_whole, all_whole, first_not_whole, last_whole}
 use Rattle.graphql_values.proofs.print.block.has_whole_lines.Goals as goal
 
-pub returns : goal.returns
-returns c =
-    let text = c.args.text.now in
-    all_from_yields_List (λ l. (not (is_blank l) || spec.is_empty l) && not (spec.ends_in_return l)) _ _ c.all.result c.all.ensures.ran
-    (YieldsList-from_str_split 10 text (omega arith) c.split.ensures.text c.split.ensures.has_more c.split.ensures.pattern)
-    (λ x b q k. search (rules, tests))
-    ∙ all_both (λ l. not (is_blank l) || spec.is_empty l) (λ l. not (spec.ends_in_return l)) (spec.lines_of text)
+pub returns-then-not-is_whole_line : goal.returns-then-not-is_whole_line
+returns-then-not-is_whole_line c =
+    let first : is_whole c.split_line.result.0.now ≡ false = sym c.is_whole_line.ensures ∙ c.if-not-is_whole_line.true in
+    sym (first_not_whole (lines_of c.lines.rest.now) _ c.split_line.result.1 c.split_line.ensures first) ∙ c.lines.invariant.whole
+    ∙ all_whole (lines_of c.args.text.now)
+
+pub returns-in-None : goal.returns-in-None
+returns-in-None c =
+    let last : is_whole c.split_line.result.0.now ≡ true = sym c.is_whole_line.ensures ∙ c.if-not-is_whole_line.false in
+    sym (last_whole (lines_of c.lines.rest.now) _ (rw c.in-None.is at c.split_line.ensures) last) ∙ c.lines.invariant.whole
+    ∙ all_whole (lines_of c.args.text.now)

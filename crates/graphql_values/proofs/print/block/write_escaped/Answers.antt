@@ -27,7 +27,7 @@ returns g c =
     let none = escaped_none c.quotes.rest.now c.in_default.ensures.cases in
     and_last g.S.Sink.took g.met.S.Sink.took_more _ _ _ _ _ _ _ wrote c.push_str-2.ensures (ap (λ t. done ++ t) (sym none) ∙ whole)
 
-pub returns-then-not-has_quote : goal.returns-then-not-has_quote
-returns-then-not-has_quote g c =
+pub returns-then-not-may_have_quotes : goal.returns-then-not-may_have_quotes
+returns-then-not-may_have_quotes g c =
     and_alone g.S.Sink.took g.met.S.Sink.took_more _ _ _ _ _ c.push_str.ensures
-    (sym (unquoted c.args.line.now (sym c.has_quote.ensures ∙ c.if-not-has_quote.true)))
+    (sym (unquoted c.args.line.now (c.may_have_quotes.ensures c.if-not-may_have_quotes.true)))

@@ -1,9 +1,9 @@
-use Rattle.std.proofs.Common.{refl, sym, ap, ap₂, ◌∙◌, [], ◌++◌, arith, append-nil, codes}
-use Rattle.graphql_values.specs.{object, Leaf, shared, mark, put_all, pair_symbol_of, tree_of, pair_of, as_variable, as_plain, as_list, as_object, put}
+use Rattle.std.proofs.Common.{refl, sym, ap, ap₂, ◌∙◌, [], ◌++◌, arith, codes}
+use Rattle.graphql_values.specs.{object, Leaf, shared, mark, put_all, pair_symbol_of, tree_of, pair_of, put}
 use Rattle.graphql_values.specs.{value_view, listed_values, members_view, list}
 use Rattle.graphql_values.proofs.{Stops-turn, Turns-start, Turns-more, Turns-stop, variable_side, list_side, object_side, plain_side, pair_side, plain_means}
 use Rattle.graphql_values.proofs.{list_means, object_means, pair_means, unseen_value, ends_list, begins_pair, put_more, trees_means, pairs_means, view_insert}
-use Rattle.graphql_values.proofs.{stops_until, takes_seen, one_of, adds_one, adds_more, fills, leads_in, here, took, past, whole, fails, fails_last, lacks}
+use Rattle.graphql_values.proofs.{stops_until, takes_seen, one_of, adds_one, fills, leads_in, here, took, past, whole, fails, fails_last, lacks}
 use Rattle.graphql_values.proofs.{lacks_last, list_made, object_made, pushes_none, turn_appends, gives_led}
 use Rattle.graphql_values.proofs.read.values.+values.Goals as goal
 

@@ -1,7 +1,6 @@
-use Rattle.std.proofs.Common.{◌≡◌, ◌+◌, ◌-◌, false, length, take, refl, sym, ◌∙◌, ap, arith}
-use Rattle.graphql_lexer.specs.{front, Where, is_too_deep, past, past_token}
-use Rattle.graphql_lexer.proofs.{one_bracket, few_open, not_too_deep, token_then_rest}
-use Rattle.graphql_lexer.proofs.tokenizer.tokens.Tokens.near_token.Goals.{in-Opens+else-is_full, in_default-nesting}
+use Rattle.std.proofs.Common.{◌≡◌, ◌-◌, false, length, take, refl, sym, ◌∙◌, ap, arith}
+use Rattle.graphql_lexer.specs.{Where, is_too_deep, past, past_token}
+use Rattle.graphql_lexer.proofs.{one_bracket, few_open, token_then_rest}
 use Rattle.graphql_lexer.proofs.tokenizer.tokens.Tokens.near_token.Goals as goal
 
 pub position_after_flat-end-requires-clause-flat : goal.position_after_flat-end-requires-clause-flat
@@ -13,10 +12,7 @@ invariant_of-self c =
     let s = c.self.inside in
     let w : Where = record { position = s.position; offset = s.size - length s.rest.now; openers = s.brackets.openers; closers = s.brackets.closers } in
     let t = c.in-Some in
-    let deep : is_too_deep t.nesting w ≡ false = elim c.match-nesting.branch [
-      | in-Opens+else-is_full b ↦ rw b.in-Opens.is (sym (b.is_full.ensures w refl refl) ∙ b.if-is_full.false)
-      | in_default-nesting b ↦ not_too_deep t.nesting w b.in_default-nesting.not-Opens
-    ] in
+    let deep : is_too_deep t.nesting w ≡ false = sym (c.is_too_deep.ensures w refl refl) ∙ c.if-is_too_deep.false in
     let few = few_open t.nesting w deep c.self.invariant.6 in
     let after = c.after-self-inside.ensures in (
       omega arith,
@@ -33,10 +29,7 @@ returns-clause-item c =
     let s = c.self.inside in
     let w : Where = record { position = s.position; offset = s.size - length s.rest.now; openers = s.brackets.openers; closers = s.brackets.closers } in
     let t = c.in-Some in
-    let deep : is_too_deep t.nesting w ≡ false = elim c.match-nesting.branch [
-      | in-Opens+else-is_full b ↦ rw b.in-Opens.is (sym (b.is_full.ensures w refl refl) ∙ b.if-is_full.false)
-      | in_default-nesting b ↦ not_too_deep t.nesting w b.in_default-nesting.not-Opens
-    ] in
+    let deep : is_too_deep t.nesting w ≡ false = sym (c.is_too_deep.ensures w refl refl) ∙ c.if-is_too_deep.false in
     let end = sym (c.position_after_flat-end.ensures.is ∙ ap (λ v. past v s.position) c.split_at.ensures.front) in
     let more = c.skip_plain-is_item.ensures.skips.0 (past_token t.nesting (take t.len s.rest.now) w) end in
     let len = ap length c.split_at.ensures.front in

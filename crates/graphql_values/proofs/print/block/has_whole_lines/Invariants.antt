@@ -1,0 +1,15 @@
+use denote.Shadow.{shadow}
+use denote.Text.{Utf8}
+use Rattle.std.proofs.Common.{◌≡◌, length}
+use Rattle.graphql_values.specs.{list_all, lines_of}
+use Rattle.graphql_values.proofs.{is_whole}
+use Rattle.graphql_values.proofs.print.block.has_whole_lines.Given as goal
+
+abbrev pub invariant-lines : goal.invariant-lines
+invariant-lines l = record {
+  text : shadow (Utf8 l.rest);
+  whole : list_all is_whole (lines_of l.rest) ≡ list_all is_whole (lines_of l.text);
+}
+
+abbrev pub decreases-lines : goal.decreases-lines
+decreases-lines l = length (lines_of l.rest)
