@@ -6,21 +6,10 @@ use graphql_parser::schema::Document;
 use std::alloc::Global;
 
 /// A schema as its users write it.
-pub const USERS: &str = "    schema {
-        query: Query
-    }
-    type Query {
-        users: [User!]!,
-    }
-    \"\"\"
-       Example user object
-
-       This is just a demo comment.
-    \"\"\"
-    type User {
-        name: String!,
-    }
-";
+pub const USERS: &str = "    schema {\n        query: Query\n    }\n    \
+     type Query {\n        users: [User!]!,\n    }\n    \
+     \"\"\"\n       Example user object\n\n       This is just a demo comment.\n    \"\"\"\n    \
+     type User {\n        name: String!,\n    }\n";
 
 /// This schema, and a text in which each production stands, with their layouts in the default style.
 const SCHEMAS: [(&str, &str); 2] = [

@@ -17,6 +17,7 @@ pub mod Places
 pub mod ItemPlaces
 pub mod AfterTokens
 pub mod KeptTokens
+pub mod Contents
 pub use Rattle.std.proofs.lemmas.Bool.{and_from, and_parts, cases_Bool, false_from_ne_true, false≢true, not-true, or_parts}
 pub use Rattle.std.proofs.lemmas.Bool.Decides.{nat_tests}
 pub use Rattle.std.proofs.lemmas.Iterator.Consumers.{YieldsList-at}
@@ -33,6 +34,7 @@ pub use BlockLines.{boundary_in_indent, numbered, through_text, through_blank, n
 pub use BlockLines.{first_written, later_written, kept_at}
 pub use BracketRoom.{openers, room_after, are_balanced, HasRoom, room_nothing, room_leaf, room_both, room_first, room_second, room_stop, room_more, room_node}
 pub use BracketRoom.{has_room, past_tree, room_back, all_turns}
+pub use Contents.{spaced_alike, ends_alike}
 pub use CursorItems.{held_stream, fresh, cut_within, cut_all, later_lexemes, moved_lexemes}
 pub use Depths.{Rises, rises_as, none_rise, gap_rises, level_rises, both_rise, flat_rise, gap_sinks, closer_sinks, both_sink, opener_rises, either_rises}
 pub use Depths.{deepest_is}
@@ -42,7 +44,7 @@ pub use FloatLiterals.{float_is_literal, literal_is_float, literal_ends_in_digit
 pub use ItemPlaces.{other_position, same_position, Rise, items_rise, HasItemAt, holds_first, rise_on, holds_on, token_next, boundary}
 pub use Laid.{IsWord, is_blank}
 pub use Matches.{same_text_spelling, same_kind_number, takes_first, first_seen, seen_matches}
-pub use Minifying.{has_spaced_tokens, spaced_items, minified_tokens, minified_again, one_minified, AreItems, ok_minified, ok_tokens, ok_again}
+pub use Minifying.{spaced_first, has_spaced_tokens, spaced_items, minified_tokens, minified_again, one_minified}
 pub use NestingDepth.{Nests, Anything, Left, past_bytes, nests_before, nests, rest_lexemes, nests_open, nests_tree, class_name}
 pub use Places.{Placed-less, Placed-ends}
 pub use Refusals.{by_fault, tells_weaker, only_memory, as_error}

@@ -1,15 +1,14 @@
 -- Spaced tokens are cut into just these tokens.
-use Rattle.std.specs.Global.{Global}
-use Rattle.std.proofs.Common.{◌≡◌, ◌≢◌, ℕ, Bool, true, false, not, ◌&&◌, ◌||◌, List, [], ◌∷◌, ◌++◌, length, get_or, map, Result, Ok, Err, IfOk, string_bytes}
-use Rattle.std.proofs.Common.{String, refl, sym, ap, ◌∙◌, subst, arith}
+use Rattle.std.proofs.Common.{◌≡◌, ◌≢◌, ℕ, Bool, true, false, not, ◌&&◌, ◌||◌, List, [], ◌∷◌, ◌++◌, length, get_or, map}
+use Rattle.std.proofs.Common.{refl, sym, ap, ◌∙◌, subst, arith}
 use Rattle.std.proofs.lemmas.Bool.Decides.{nat_tests}
 use Rattle.graphql_lexer.specs.declared.tokenizer.piece.Piece.TheVariants.{AtEnd}
-use Rattle.graphql_lexer.specs.{is_name_continue, EndsRun, name, mark, BeginsNone, Wrong, openers_after, closers_after, items}
-use Rattle.graphql_lexer.proofs.{has_items, items_unique, shape, stands_front}
+use Rattle.graphql_lexer.specs.{is_name_continue, EndsRun, name, mark, BeginsNone, Wrong, openers_after, closers_after}
+use Rattle.graphql_lexer.proofs.{items_unique, shape, stands_front}
 use Rattle.graphql_core.specs.{space, Token, Place, nowhere, Kind, Punctuator, Name, IntValue, FloatValue, StringValue, BlockString, Over, Nesting, Level}
 use Rattle.graphql_core.specs.{Opens, Closes, kind_number, too_deep, front, is_mark, Meaning, Ignored, Word, Stands, spread, integer, float, string}
 use Rattle.graphql_core.specs.{block_string, Piece, IsCutInto, Where, Item, item, Lexeme, HasItems, start, past_ignored, past_token, is_too_deep, token_then}
-use Rattle.graphql_core.specs.{piece_then, items_of, Items, split, token_of, IsEnd, is_past, AreLexemes, is_punctuator, is_number, is_spaced, space_if}
+use Rattle.graphql_core.specs.{piece_then, items_of, split, token_of, IsEnd, is_past, AreLexemes, is_punctuator, is_number, is_spaced, space_if}
 use Rattle.graphql_core.specs.{spaced_after, spaced, unplaced, IsMinified, HasTokens}
 
 -- ---- what may follow a token
@@ -207,30 +206,3 @@ minified_again source text (items, has, end, e) =
 -- a source has one minified text
 pub one_minified : (source text other : List ℕ) → IsMinified source text → IsMinified source other → text ≡ other
 one_minified source text other (i, h, x, e) (j, k, y, f) = e ∙ ap (λ (l : List Item). spaced (split l).tokens) (items_unique source i j h k) ∙ sym f
-
--- ---- what a call answers
-
--- the items are those of the text
-abbrev pub AreItems : List ℕ → Items → Type 0
-AreItems text i = (items : List Item) → HasItems text items → i ≡ split items
-
-minified_by : (source text : List ℕ) (i : Items) → AreItems source i → IsEnd i.last → text ≡ spaced i.tokens → IsMinified source text
-minified_by source text i are end e =
-    let is = are (items start source) (has_items source) in
-    (items start source, has_items source, subst (λ (j : Items). IsEnd j.last) is end, e ∙ ap (λ (j : Items). spaced j.tokens) is)
-
-module _ {F : Type 0} (source : List ℕ) (i : Items) (are : AreItems source i) where
-  pub ok_minified : (r : Result (String Global) F) → IfOk r (λ text. string_bytes text ≡ spaced i.tokens) → IfOk r (λ text. IsEnd i.last)
-      → IfOk r (λ text. IsMinified source (string_bytes text))
-  ok_minified (Ok text) e end = minified_by source (string_bytes text) i are end e
-  ok_minified (Err f) e end = tt
-
-  pub ok_tokens : (r : Result (String Global) F) → IfOk r (λ text. string_bytes text ≡ spaced i.tokens) → IfOk r (λ text. IsEnd i.last)
-      → (items : List Item) → HasItems source items → IfOk r (λ text. HasTokens (string_bytes text) (split items).tokens)
-  ok_tokens (Ok text) e end items h = minified_tokens source (string_bytes text) (minified_by source (string_bytes text) i are end e) items h
-  ok_tokens (Err f) e end items h = tt
-
-  pub ok_again : (r : Result (String Global) F) → IfOk r (λ text. string_bytes text ≡ spaced i.tokens) → IfOk r (λ text. IsEnd i.last)
-      → IfOk r (λ text. IsMinified (string_bytes text) (string_bytes text))
-  ok_again (Ok text) e end = minified_again source (string_bytes text) (minified_by source (string_bytes text) i are end e)
-  ok_again (Err f) e end = tt

@@ -1,11 +1,13 @@
 -- From the mask of one load to the bytes that pass a test, and from one load to a run.
 use lib.Lanes.{zip2, mask_l, top}
+use native.Mathlib.Numerals.{unary_clauses}
 use Rattle.std.specs.List.{prefix_len}
-use Rattle.std.proofs.Common.{◌≡◌, ℕ, zero, suc, ◌+◌, ◌%◌, ◌^◌, ◌<◌, ◌≤◌, Bool, true, false, not, List, [], ◌∷◌, map, ◌++◌, take, drop, length, min, get_or, replicate}
-use Rattle.std.proofs.Common.{Fits, w8, refl, sym, ap, ap₂, ◌∙◌, arith, inl, inr}
+use Rattle.std.proofs.Common.{◌≡◌, ℕ, zero, suc, ◌+◌, ◌-◌, ◌*◌, ◌/◌, ◌%◌, ◌^◌, ◌<◌, ◌≤◌, Bool, true, false, not, List, [], ◌∷◌, map, ◌++◌, take, drop, length, min, get_or, replicate}
+use Rattle.std.proofs.Common.{Fits, w8, refl, sym, ap, ap₂, ◌∙◌, arith, inl, inr, length-drop}
 use Rattle.std.proofs.lemmas.Bool.{cases_Bool, agree_below, agree_below_at, cases_eq, eq-eqb, ne_eqb, cond-true, cond-false}
 use Rattle.std.proofs.lemmas.Simd.{map-map, mask_l-mod, length-chunk, leading_from_mask_l, trailing_mask_l}
-use Rattle.std.proofs.lemmas.List.{length-map}
+use Rattle.std.proofs.lemmas.List.{length-map, drop-map, drop-take, get_or-drop}
+use Rattle.std.proofs.Math.Nat.{div-div-eq-div-mul, zero-div}
 use Rattle.graphql_lexer.specs.{first_set}
 
 zip2-map : (h : ℕ → ℕ → ℕ) (f g : ℕ → ℕ) (xs : List ℕ) → zip2 h (map f xs) (map g xs) ≡ map (λ x. h (f x) (g x)) xs
@@ -51,6 +53,37 @@ lanes_run q d n r z room few fits found f lanes all =
     ∙ mask_l-mod (map stops v) 64 (omega (arith, length-map v stops, long)) in
     found ∙ ap (λ m. first_set m n) mask ∙ run_is stops v n long few
     ∙ same_prefix stops q (λ b lt. agree_below_at stops (λ x. not (q x)) 256 b all lt) n d (λ k. (fits k).fits)
+
+-- the lowest bits of a mask are those of the first lanes
+mask_drop : (ms : List Bool) (k : ℕ) → mask_l ms / 2 ^ k ≡ mask_l (drop k ms)
+mask_drop ms zero = omega arith
+mask_drop [] (suc k) = zero-div (2 ^ suc k)
+mask_drop (b ∷ ms) (suc k) =
+    let half : mask_l (b ∷ ms) / 2 ≡ mask_l ms = elim (cases_Bool b) [
+      | inl set ↦ rw set (omega arith)
+      | inr unset ↦ rw unset (omega arith)
+    ] in
+    let turned : 2 ^ k * 2 ≡ 2 * 2 ^ k = omega arith in
+    simp unary_clauses (ap (λ n. mask_l (b ∷ ms) / n) turned ∙ sym (div-div-eq-div-mul (mask_l (b ∷ ms)) 2 (2 ^ k)) ∙ ap (λ n. n / 2 ^ k) half ∙ mask_drop ms k)
+
+-- of the lanes from one on, one stops just where q fails
+pub lanes_run_from : (q : ℕ → Bool) (d : List ℕ) (n start r : ℕ) (z : List ℕ) → start ≤ n → n ≤ length d → n ≤ 64 → ((k : ℕ) → Fits w8 (get_or d k 0))
+    → r ≡ first_set (mask_l (map (top 7) z) % 2 ^ 64 / 2 ^ start) (n - start) → (f : ℕ → ℕ) → (length (take n d) ≡ n → z ≡ map f (take n d))
+    → agree_below (λ x. top 7 (f x)) (λ x. not (q x)) 256 ≡ true → r ≡ prefix_len q (take (n - start) (drop start d))
+lanes_run_from q d n start r z le room few fits found f lanes all =
+    let v = take n d in
+    let long : length v ≡ n = length-chunk 0 n d (omega arith) in
+    let stops : ℕ → Bool = λ x. top 7 (f x) in
+    let mask = ap (λ l. mask_l l % 2 ^ 64) (ap (map (top 7)) (lanes long) ∙ map-map (top 7) f v)
+    ∙ mask_l-mod (map stops v) 64 (omega (arith, length-map v stops, long)) in
+    let total : start + (n - start) ≡ n = omega arith in
+    let left : drop start v ≡ take (n - start) (drop start d) = ap (λ k. drop start (take k d)) (sym total) ∙ drop-take start (n - start) d in
+    let some : length (take (n - start) (drop start d)) ≡ n - start = ap length (sym left) ∙ length-drop start v ∙ ap (λ k. k - start) long in
+    let from = mask_drop (map stops v) start ∙ ap mask_l (drop-map stops start v ∙ ap (map stops) left) in
+    found ∙ ap (λ m. first_set (m / 2 ^ start) (n - start)) mask ∙ ap (λ m. first_set m (n - start)) from
+    ∙ run_is stops (take (n - start) (drop start d)) (n - start) some (omega arith)
+    ∙ same_prefix stops q (λ b lt. agree_below_at stops (λ x. not (q x)) 256 b all lt) (n - start) (drop start d)
+    (λ k. rw (get_or-drop start d k 0) (fits (start + k)).fits)
 
 -- a run that ends within the first n bytes
 pub ends_within : (p : ℕ → Bool) (n : ℕ) (d : List ℕ) → n ≤ length d → prefix_len p (take n d) < n → prefix_len p d ≡ prefix_len p (take n d)

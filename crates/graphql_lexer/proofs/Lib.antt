@@ -1,4 +1,5 @@
 pub mod Classes
+pub mod Contents
 pub mod Ending
 pub mod FrontFits
 pub mod FrontIsPiece
@@ -14,10 +15,11 @@ pub mod Strings
 pub mod Tokens
 pub use Classes.{by_class}
 unfoldable pub use Classes.{agree_below}
+pub use Contents.{skip_contents, gap_contents, spaces_gap, gap_boundary, lexeme_then_rest}
 pub use Ending.{end_once}
 pub use FrontFits.{Part, Within, front_within, items_at, further_skip, next_place_items, last_some}
 pub use FrontIsPiece.{shape, stands_front}
-pub use Lanes.{joined, splat_is, lanes_run, ends_within, goes_past, front_run, padded_run}
+pub use Lanes.{joined, splat_is, lanes_run, lanes_run_from, ends_within, goes_past, front_run, padded_run}
 pub use Near.{string_begins, number_begins, number_is, number_flat, other_flat}
 pub use Numbers.{run_boundary, natural_digits, float_found, float_is, NumberRun, integer_run, float_run}
 pub use OneCut.{cut_of, has_items, items_only, items_unique}
@@ -26,5 +28,5 @@ pub use Positions.{past_front, past_first, token_flat, characters_fit, character
 pub use Runs.{run_passes, not_equal, differs}
 pub use Spaces.{further_spaces, skips_first, no_front}
 pub use Strings.{string_step, string_none, block_none, block_closes, skips_escape, quotes_some, skips_unit, skips_plain, plain_string, plain_flat}
-pub use Tokens.{name_front, mark_front, takes_first, token_front, end_front, stops_front, begins_with_next, items_of_rest, one_bracket, few_open}
+pub use Tokens.{name_front, mark_front, near_fits, takes_first, token_front, end_front, stops_front, begins_with_next, items_of_rest, one_bracket, few_open}
 pub use Tokens.{token_then_rest, blank_front, feed_front, ignored_boundary, item_front}

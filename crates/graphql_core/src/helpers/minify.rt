@@ -28,20 +28,22 @@ fn is_spaced(before: Kind, kind: Kind, value: &str) -> bool
     are_words | ((is_number(before) & (value.len() == 3)) && value == "...")
 }
 
-/// The tokens up to the end, spaced.
+/// The tokens of a text, spaced.
 ///
-/// What is left of the text is about the most that they take, since few texts get more spaces than they lose. So there is
-/// room for so many bytes from the start, and a long text is not copied as it grows.
-fn spaced(alloc: Global, mut tokens: Tokens<'_>) -> Result<String, Fault>
-    ensures spaced { IfOk result (λ text. string_bytes text ≡ spaced (split tokens.entry).tokens) }
-    ensures end { IfOk result (λ text. IsEnd (split tokens.entry).last) }
-    ensures refused { IfErr result (IsBadPlaceOf (split tokens.entry)) }
+/// The text is about the most that they take, since few texts get more spaces than they lose. So there is room for so many
+/// bytes from the start, and a long text is not copied as it grows.
+fn spaced(alloc: Global, source: &str) -> Result<String, Fault>
+    requires { length source.now ≤ usize.MAX / 16 }
+    ensures minified { IfOk result (λ text. IsMinified source.now (string_bytes text)) }
+    // A refusal is the bad place in which the items end.
+    ensures refused { (items : List Item) → HasItems source.now items → IfErr result (IsBadPlaceOf (split items)) }
 {
-    let mut text = Buffer::with_capacity(alloc, tokens.rest().len())?;
+    let mut text = Buffer::with_capacity(alloc, source.len())?;
+    let mut tokens = Tokens::new(source);
     let mut before = Kind::Punctuator;
     'tokens: loop {
         let from = tokens.rest();
-        let token = match tokens.near_token() {
+        let token = match tokens.near_lexeme() {
             Some(token) => token,
             None => {
                 let (item, after) = far_item(tokens);
@@ -49,7 +51,7 @@ fn spaced(alloc: Global, mut tokens: Tokens<'_>) -> Result<String, Fault>
                 match item {
                     Ok(Some(token)) => token,
                     Ok(None) => return Ok(text.into_string()),
-                    Err(bad) => return Err(bad_place(alloc, bad, tokens.position())),
+                    Err(_) => return Err(fault_of_tokens(alloc, Tokens::new(source))),
                 }
             }
         };
@@ -59,6 +61,22 @@ fn spaced(alloc: Global, mut tokens: Tokens<'_>) -> Result<String, Fault>
             from,
         )?;
         before = token.kind;
+    }
+}
+
+/// The fault of the bad place in which the tokens end.
+#[cold]
+#[inline(never)]
+fn fault_of_tokens(alloc: Global, mut tokens: Tokens<'_>) -> Fault
+    requires { IsEnd (split tokens).last → ⊥ }
+    ensures { IsBadPlaceOf (split tokens.entry) result }
+{
+    'tokens: loop {
+        match tokens.next_token() {
+            Ok(Some(_)) => {}
+            Ok(None) => unreachable!(),
+            Err(bad) => return bad_place(alloc, bad, tokens.position()),
+        }
     }
 }
 
@@ -74,7 +92,7 @@ pub fn minified(alloc: Global, source: &str) -> Result<String, Fault>
     // A refusal is the bad place in which the items end.
     ensures refused { (items : List Item) → HasItems source.now items → IfErr result (IsBadPlaceOf (split items)) }
 {
-    spaced(alloc, Tokens::new(source))
+    spaced(alloc, source)
 }
 
 /// Tokens that are pieces, spaced, are the items of their text.

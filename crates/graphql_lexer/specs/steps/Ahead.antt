@@ -4,7 +4,7 @@ use Rattle.std.specs.Int.{w64, trailing_zeros}
 use Rattle.graphql_lexer.specs.steps.Front.{Cuts, is_flat}
 use Rattle.graphql_lexer.specs.Lexical.{steps_over}
 use Rattle.graphql_lexer.specs.Items.{Where}
-use Rattle.graphql_lexer.specs.Stream.{further}
+use Rattle.graphql_lexer.specs.Stream.{further, contents}
 use Rattle.graphql_lexer.specs.steps.Cut.{items}
 use Rattle.graphql_lexer.specs.declared.position.Pos.{Pos}
 use Rattle.graphql_lexer.specs.declared.tokenizer.piece.Move.{Move}
@@ -72,6 +72,10 @@ is_line_feed b = b == 10
 abbrev pub is_ignored : ℕ → Bool
 is_ignored b = is_blank b || is_line_feed b || b == 9 || b == 13 || b == 35 || b == 239
 
+-- a space, a comma or a line feed
+abbrev pub is_gap : ℕ → Bool
+is_gap b = is_blank b || is_line_feed b
+
 -- a text at a place is so short that numbers hold each place in it
 abbrev pub HasRoom : List ℕ → Pos → Type 0
 HasRoom text at = (length text < 2 ^ 62) × (at.line + length text < 2 ^ 62) × (at.column + 8 * length text < 2 ^ 63)
@@ -80,3 +84,7 @@ HasRoom text at = (length text < 2 ^ 62) × (at.line + length text < 2 ^ 62) × 
 abbrev pub SkipsTo : List ℕ → Pos → List ℕ → Pos → Type 0
 SkipsTo text at rest place = ((w : Where) → w.position ≡ at → items (further place (length text - length rest) w) rest ≡ items w text)
     × (length rest ≤ length text) × (place.line + length rest ≤ at.line + length text) × (place.column + 8 * length rest ≤ at.column + 8 * length text)
+
+-- but for their places these texts have the same items, whichever brackets are open before both
+abbrev pub HasContentsOf : List ℕ → List ℕ → Type 0
+HasContentsOf rest text = (w : Where) → contents (items w rest) ≡ contents (items w text)

@@ -1,6 +1,6 @@
 //! Past the ignored text at the front of a text.
-ghost use Rattle.std.specs.Prelude.{◌≡◌, slice_index, true};
-ghost use Rattle.graphql_lexer.specs.{front, IsItem, HasRoom, SkipsTo};
+ghost use Rattle.std.specs.Prelude.{◌≡◌, ◌≤◌, IfSome, length, slice_index, true};
+ghost use Rattle.graphql_lexer.specs.{front, IsItem, HasRoom, SkipsTo, HasContentsOf};
 
 use crate::position::Pos;
 use crate::tokenizer::class::{is_blank, is_ignored, is_line_feed};
@@ -64,6 +64,39 @@ pub fn skip_plain(text: &str, at: Pos) -> (&str, Pos, bool)
             return (rest, place, false);
         }
     }
+}
+
+/// Past plain ignored text at the front, where an item follows; nothing is told where other ignored text or a long run of
+/// spaces does. Where it stands is not told.
+#[inline(always)]
+pub fn past_plain(text: &str) -> Option<&str>
+    ensures skips { IfSome result (λ rest. HasContentsOf rest.now text.now × (length rest.now ≤ length text.now)) }
+    ensures first { IfSome result (λ rest. IsItem (front rest.now)) }
+{
+    let mut rest = text;
+    'plain: loop {
+        let byte = front_byte(rest);
+        if !is_ignored(byte) {
+            return Some(rest);
+        }
+        if is_blank(byte) {
+            rest = rest.split_at(1).1;
+        } else if is_line_feed(byte) {
+            let after = rest.split_at(1).1;
+            let spaces = near_spaces_of(after)?;
+            rest = after.split_at(spaces).1;
+        } else {
+            return None;
+        }
+    }
+}
+
+/// Whether an item is at the front, as its first byte tells.
+#[inline(always)]
+pub fn shows_item(text: &str) -> bool
+    ensures { result ≡ true → IsItem (front text.now) }
+{
+    !text.is_empty() && !is_ignored(front_byte(text))
 }
 
 /// Past the ignored text at the front.

@@ -1,9 +1,9 @@
 //! How many of 16 bytes, from the first, are of a class.
-ghost use Rattle.std.specs.Prelude.{◌≡◌, ◌≤◌, length, take};
+ghost use Rattle.std.specs.Prelude.{◌≡◌, ◌<◌, ◌≤◌, ◌-◌, ◌/◌, ◌^◌, length, take, drop};
 ghost use Rattle.std.specs.List.{prefix_len};
 ghost use Rattle.std.specs.Char.{is_ascii_digit};
 ghost use Rattle.graphql_lexer.specs.Lexical.{is_in_line};
-ghost use Rattle.graphql_lexer.specs.{is_name_continue, is_flat, is_space, is_plain_in_string, is_plain_in_block, first_set};
+ghost use Rattle.graphql_lexer.specs.{is_name_continue, is_gap, is_flat, is_space, is_plain_in_string, is_plain_in_block, first_set};
 
 use std::simd::prelude::*;
 
@@ -19,6 +19,20 @@ pub fn first_set(mask: u64) -> usize
         LANES
     } else {
         mask.trailing_zeros() as usize
+    }
+}
+
+/// How many bits stand from `start` on before the lowest that is set, of 16.
+#[inline(always)]
+fn first_set_from(mask: u64, start: usize) -> usize
+    requires { start < 16 }
+    ensures { result ≡ first_set (mask / 2 ^ start) (16 - start) }
+{
+    let rest = mask >> (start as u32);
+    if rest == 0 {
+        LANES - start
+    } else {
+        rest.trailing_zeros() as usize
     }
 }
 
@@ -102,4 +116,18 @@ pub fn line_lanes(bytes: &[u8]) -> usize
     let v = u8x16::from_slice(bytes);
     let stops = v.simd_eq(u8x16::splat(b'\n')) | v.simd_eq(u8x16::splat(b'\r'));
     first_set(stops.to_bitmask())
+}
+
+/// How many of the first 16 bytes, from `start` on, are blanks and line feeds.
+#[inline(always)]
+pub fn gap_lanes_from(bytes: &[u8], start: usize) -> usize
+    requires some { 16 ≤ length bytes.now }
+    requires within { start < 16 }
+    ensures { result ≡ prefix_len is_gap (take (16 - start) (drop start bytes.now)) }
+{
+    let v = u8x16::from_slice(bytes);
+    let stops = v.simd_ne(u8x16::splat(b' '))
+        & v.simd_ne(u8x16::splat(b','))
+        & v.simd_ne(u8x16::splat(b'\n'));
+    first_set_from(stops.to_bitmask(), start)
 }

@@ -1,14 +1,16 @@
 //! What stands at the front of a text.
-ghost use Rattle.std.specs.Prelude.{◌≡◌, ◌<◌, ◌≤◌, ◌^◌, ◌∷◌, true, length, take, slice_index, IfSome, Some};
+ghost use Rattle.std.specs.Prelude.{◌≡◌, ◌+◌, ◌<◌, ◌≤◌, ◌^◌, ◌∷◌, true, length, take, drop, slice_index, IfSome, Some};
 ghost use Rattle.std.specs.List.{prefix_len, list_all};
 ghost use Rattle.std.specs.Str.{IsCharBoundary};
 ghost use Rattle.graphql_lexer.specs.declared.tokenizer.piece.Nesting.TheVariants.{Level};
 ghost use Rattle.graphql_lexer.specs.declared.tokenizer.piece.Piece.TheVariants.{Takes};
-ghost use Rattle.graphql_lexer.specs.{is_space, is_byte_order_mark, ignored, FitsIgnored, taken, without_flat, FitsTaken};
+ghost use Rattle.graphql_lexer.specs.declared.tokenizer.token.Kind.TheVariants.{Name};
+ghost use Rattle.graphql_lexer.specs.{is_gap, is_name_start, is_space, is_byte_order_mark, ignored, FitsIgnored, taken, without_flat, FitsTaken};
 ghost use Rattle.graphql_lexer.specs.steps.Front as spec;
 ghost use Rattle.graphql_lexer.specs.Lexical as lexical;
 
 use crate::tokenizer::class::{is_blank, is_mark, is_name_start, nesting_of};
+use crate::tokenizer::lanes::{LANES, gap_lanes_from, name_lanes};
 use crate::tokenizer::number::{number, plain_number, starts_number};
 use crate::tokenizer::quoted::{plain_string_len, quoted};
 use crate::tokenizer::run::{Flat, InComment, NameContinue, Space, near_len, whole_len};
@@ -347,4 +349,34 @@ pub fn flat_of(text: &str) -> usize
     ensures cuts { IsCharBoundary text.now result }
 {
     whole_len::<Flat>(text.as_bytes())
+}
+
+/// Whether a name begins the text, and at least 16 bytes come after its first.
+#[inline(always)]
+pub fn begins_with_name(text: &str) -> bool
+    ensures begins { result ≡ true → is_name_start (slice_index text.now 0) ≡ true }
+    ensures long { result ≡ true → 17 ≤ length text.now }
+{
+    match text.as_bytes().split_first() {
+        Some((byte, rest)) => is_name_start(*byte) && rest.len() >= LANES,
+        None => false,
+    }
+}
+
+/// The name at the front of a text, and blanks and line feeds after it, as far as one load shows them: their lengths.
+#[inline(always)]
+pub fn near_name_at(text: &str) -> Option<(usize, usize)>
+    requires begins { is_name_start (slice_index text.now 0) ≡ true }
+    requires long { 17 ≤ length text.now }
+    requires small { length text.now < 2 ^ 62 }
+    ensures is { IfSome result (λ n. Some (n.0, Name, Level) ≡ taken (spec.front text.now)) }
+    ensures gap { IfSome result (λ n. n.1 ≤ prefix_len is_gap (drop n.0 text.now)) }
+    ensures cuts { IfSome result (λ n. IsCharBoundary text.now n.0) }
+{
+    let (_, rest) = text.as_bytes().split_first()?;
+    let len = name_lanes(rest);
+    if len == LANES {
+        return None;
+    }
+    Some((len + 1, gap_lanes_from(rest, len)))
 }

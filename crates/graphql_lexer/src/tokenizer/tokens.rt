@@ -1,14 +1,14 @@
 //! A text as its tokens.
 ghost use Rattle.std.specs.Prelude.{◌≡◌, List, ◌+◌, ◌-◌, ◌*◌, ◌/◌, ◌<◌, ◌≤◌, ◌^◌, length, IfSome, Ok, Some, None};
-ghost use Rattle.graphql_lexer.specs.{Item, HasItems, depth_of, NextItem, BeginsWithNext, AreItemsOfRest, next_place};
+ghost use Rattle.graphql_lexer.specs.{Item, HasItems, depth_of, NextItem, NextLexeme, BeginsWithNext, AreItemsOfRest, next_place};
 
 use crate::position::Pos;
 use crate::tokenizer::bad::bad_at;
 use crate::tokenizer::brackets::Brackets;
-use crate::tokenizer::ignored::{skip_ignored, skip_plain};
-use crate::tokenizer::piece::{near_token_at, token_at};
+use crate::tokenizer::ignored::{past_plain, shows_item, skip_ignored, skip_plain};
+use crate::tokenizer::piece::{begins_with_name, near_name_at, near_token_at, token_at};
 use crate::tokenizer::place::{position_after_flat, position_after_token};
-use crate::tokenizer::token::{Bad, Token};
+use crate::tokenizer::token::{Bad, Kind, Token};
 use std::marker::Model;
 
 /// The tokens of a text, one after another, and then its end or its first bad place. How often they are asked for is not
@@ -115,6 +115,40 @@ impl<'a> Tokens<'a> {
         }
         self.rest = rest;
         self.position = position;
+        self.brackets = self.brackets.after(nesting);
+        Some(Token { kind, value })
+    }
+
+    /// The next token, where one look shows it and what follows it. The positions of the items after it are told no more: so
+    /// that is faster than `near_token`, for who asks for none.
+    ///
+    /// `None` says nothing of the next item. They then stay, and `next_token` answers.
+    #[inline(always)]
+    pub fn near_lexeme(&mut self) -> Option<Token<'a>>
+        ensures item { IfSome result (λ t. NextLexeme self.old t self.new) }
+        ensures stays { result ≡ None → self.new ≡ self.old }
+    {
+        if begins_with_name(self.rest) {
+            let (len, gap) = near_name_at(self.rest)?;
+            let (value, after) = self.rest.split_at(len);
+            let rest = after.split_at(gap).1;
+            let name = Token {
+                kind: Kind::Name,
+                value,
+            };
+            if shows_item(rest) {
+                self.rest = rest;
+                return Some(name);
+            }
+            self.rest = past_plain(rest)?;
+            return Some(name);
+        }
+        let (len, kind, nesting) = near_token_at(self.rest)?;
+        if self.brackets.is_too_deep(nesting) {
+            return None;
+        }
+        let (value, after) = self.rest.split_at(len);
+        self.rest = past_plain(after)?;
         self.brackets = self.brackets.after(nesting);
         Some(Token { kind, value })
     }
