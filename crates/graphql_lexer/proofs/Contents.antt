@@ -14,8 +14,8 @@ use Rattle.graphql_lexer.specs.declared.tokenizer.piece.Nesting.{Nesting}
 use Rattle.graphql_lexer.specs.declared.tokenizer.piece.Nesting.TheVariants.{Level, Opens, Closes}
 use Rattle.graphql_lexer.specs.declared.tokenizer.piece.Piece.{Piece}
 use Rattle.graphql_lexer.specs.declared.tokenizer.piece.Piece.TheVariants.{AtEnd, Skips, Takes, Stops}
-use Rattle.graphql_lexer.specs.{Where, Item, Content, item, Lexeme, Wrong, contents, too_deep, is_too_deep, openers_after, closers_after, past_token, past_ignored}
-use Rattle.graphql_lexer.specs.{last_item, token_then, items, items_in, items_by, front, taken, is_space, is_blank, is_gap, HasContentsOf}
+use Rattle.graphql_lexer.specs.{Where, Item, Content, item, Lexeme, Wrong, contents, too_deep, is_too_deep, openers_after, closers_after, past_token}
+use Rattle.graphql_lexer.specs.{past_ignored, last_item, token_then, items, items_in, items_by, front, taken, is_space, is_blank, is_gap, HasContentsOf}
 use Rattle.graphql_lexer.proofs.FrontFits.{items_at, items_skip}
 use Rattle.graphql_lexer.proofs.Tokens.{takes_first, blank_front, feed_front}
 
@@ -98,11 +98,17 @@ gap_boundary bytes (suc n) utf8 h =
     let more : n + 1 ≡ suc n = omega arith in
     subst (IsCharBoundary bytes) more (IsCharBoundary-after_ascii bytes n utf8 (omega (arith, prefix_len-le-length is_gap bytes)) last)
 
+-- past a token of this length, and then past this many blanks and line feeds
+pub past_gap : (text : List ℕ) (len : ℕ) {after rest : List ℕ} {gap : ℕ} → after ≡ drop len text → gap ≤ prefix_len is_gap (drop len text)
+    → rest ≡ drop gap after → HasContentsOf rest after
+past_gap text len after_is within rest_is w = rw (rest_is, after_is) (gap_contents _ (drop len text) within w)
+
 -- the next item is a token, and the others are those of what is left, but for their places
-pub lexeme_then_rest : (w : Where) (text value after rest : List ℕ) (n : ℕ) (k : Kind) (t : Nesting) (v : Where) → Some (n, k, t) ≡ taken (front text)
+pub lexeme_then_rest : (w v : Where) (text value after rest : List ℕ) (n : ℕ) (k : Kind) (t : Nesting) → Some (n, k, t) ≡ taken (front text)
     → is_too_deep t w ≡ false → value ≡ take n text → after ≡ drop n text → HasContentsOf rest after
     → v.openers ≡ openers_after t w.openers → v.closers ≡ closers_after t w.closers
-    → (items w text ≡ item (Lexeme k value) w ∷ items (past_token t value w) after) × (contents (items v rest) ≡ contents (items (past_token t value w) after))
-lexeme_then_rest w text value after rest n k t v is deep value_is after_is left openers closers =
+    → (x : Where) × (more : List Item) × (items w text ≡ item (Lexeme k value) x ∷ more) × (contents (items v rest) ≡ contents more)
+lexeme_then_rest w v text value after rest n k t is deep value_is after_is left openers closers =
     let here = items_at w text (Takes n k t) (takes_first (front text) n k t (sym is)) in
-    (rw (value_is, after_is) (rw deep at here), left v ∙ same_contents v (past_token t value w) after (openers, closers))
+    let next = past_token t value w in
+    (w, items next after, rw (value_is, after_is) (rw deep at here), left v ∙ same_contents v next after (openers, closers))

@@ -15,7 +15,7 @@ pub mod Strings
 pub mod Tokens
 pub use Classes.{by_class}
 unfoldable pub use Classes.{agree_below}
-pub use Contents.{skip_contents, gap_contents, spaces_gap, gap_boundary, lexeme_then_rest}
+pub use Contents.{skip_contents, gap_contents, spaces_gap, gap_boundary, past_gap, lexeme_then_rest}
 pub use Ending.{end_once}
 pub use FrontFits.{Part, Within, front_within, items_at, further_skip, next_place_items, last_some}
 pub use FrontIsPiece.{shape, stands_front}
@@ -29,4 +29,4 @@ pub use Runs.{run_passes, not_equal, differs}
 pub use Spaces.{further_spaces, skips_first, no_front}
 pub use Strings.{string_step, string_none, block_none, block_closes, skips_escape, quotes_some, skips_unit, skips_plain, plain_string, plain_flat}
 pub use Tokens.{name_front, mark_front, near_fits, takes_first, token_front, end_front, stops_front, begins_with_next, items_of_rest, one_bracket, few_open}
-pub use Tokens.{token_then_rest, blank_front, feed_front, ignored_boundary, item_front}
+pub use Tokens.{token_then_rest, blank_front, feed_front, ignored_boundary, first_told, item_front}

@@ -216,6 +216,11 @@ feed_front (b ∷ bs) h = ap (λ x. front (x ∷ bs)) (eqb-true b 10 h) ∙ feed
 pub ignored_boundary : (bytes : List ℕ) (m : Move) → IsUtf8 bytes → front bytes ≡ Skips 1 m → IsCharBoundary bytes 1
 ignored_boundary bytes m utf8 e = (front_fits bytes (Skips 1 m) (sym e) utf8).0.2
 
+-- a test of the first byte is as it was found
+pub first_told : (p : ℕ → Bool) (bytes : List ℕ) {byte : ℕ} {found answer : Bool} → byte ≡ get_or bytes 0 0 → found ≡ p byte → found ≡ answer
+    → p (get_or bytes 0 0) ≡ answer
+first_told p bytes first found told = ap p (sym first) ∙ sym found ∙ told
+
 none_of : (b : ℕ) → is_ignored b ≡ false
     → ((b == 9) ≡ false) × ((b == 10) ≡ false) × ((b == 13) ≡ false) × (is_blank b ≡ false) × ((b == 35) ≡ false) × ((b == 239) ≡ false)
 none_of b h =

@@ -14,9 +14,9 @@ pub use Lexical.{is_natural, is_integer, is_fraction, is_exponent, IsFloat, with
 pub use Lexical.{begins_quotes, begins_escape, ClosesBlock, closing, escape, unit, steps_over, Meaning, Ignored, Word, Stands, tab, line_feed, carriage_return}
 pub use Lexical.{space, comma, byte_order_mark, comment_at_end, comment_feed, comment_return_feed, comment_return, name, mark, spread, integer, float, string}
 pub use Lexical.{block_string, BeginsNone, Piece, IsCutInto}
-pub use Stream.{further, next_place, one_more, NextItem, contents, NextLexeme, BeginsWithNext, AreItemsOfRest, last_alone, asked_once}
+pub use Stream.{further, next_place, one_more, NextItem, BeginsWithNext, AreItemsOfRest, last_alone, asked_once}
 pub use steps.Ahead.{is_space, is_plain_in_string, is_plain_in_block, is_blank, is_byte_order_mark, first_set, ignored, FitsIgnored, taken, without_flat}
-pub use steps.Ahead.{FitsTaken, is_line_feed, is_ignored, is_gap, HasRoom, SkipsTo, HasContentsOf}
+pub use steps.Ahead.{FitsTaken, is_line_feed, is_ignored, is_gap, HasRoom, SkipsTo, contents, NextLexeme, HasContentsOf}
 pub use steps.Cut.{items_by}
 unfoldable pub use steps.Cut.{items_in, items}
 pub use steps.Front.{line_end, dots, front_of, FitsIn, IsItem, is_flat, is_quoted, IsFlat}

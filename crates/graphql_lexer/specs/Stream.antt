@@ -1,11 +1,11 @@
 -- What the calls of a token stream answer.
-use Rattle.std.specs.Prelude.{◌≡◌, ℕ, ◌+◌, ◌-◌, ◌≤◌, ◌^◌, min, if◌then◌else◌, List, [], ◌∷◌, length, take, map, Option, Some, None, Result, Ok, Err}
+use Rattle.std.specs.Prelude.{◌≡◌, ℕ, ◌+◌, ◌-◌, ◌≤◌, ◌^◌, min, if◌then◌else◌, List, [], ◌∷◌, length, take, Option, Some, None, Result, Ok, Err}
 use Rattle.graphql_lexer.specs.declared.position.Pos.{Pos}
 use Rattle.graphql_lexer.specs.declared.tokenizer.token.Kind.{Kind}
 use Rattle.graphql_lexer.specs.declared.tokenizer.token.Token.{Token}
 use Rattle.graphql_lexer.specs.declared.tokenizer.token.Bad.{Bad}
 use Rattle.graphql_lexer.specs.BadTexts.{bad_text}
-use Rattle.graphql_lexer.specs.Items.{Where, start, Item, Content, item, Lexeme, End, Wrong, is_token, HasItemsFrom, Stream}
+use Rattle.graphql_lexer.specs.Items.{Where, start, Item, item, Lexeme, End, Wrong, is_token, HasItemsFrom, Stream}
 
 -- at this position, n bytes on, with no bracket in between
 abbrev pub further : Pos → ℕ → Where → Where
@@ -25,14 +25,6 @@ abbrev pub NextItem : List Item → Result (Option Token) Bad → List Item → 
 NextItem old (Ok (Some t)) new = (w : Where) × (old ≡ item (Lexeme t.kind t.value.now) w ∷ new)
 NextItem old (Ok None) new = (w : Where) × (old ≡ item End w ∷ []) × (new ≡ old)
 NextItem old (Err bad) new = (w : Where) × (old ≡ item (Wrong (bad_text bad)) w ∷ []) × (new ≡ old)
-
--- what the items are, without their places
-abbrev pub contents : List Item → List Content
-contents items = map (λ i. i.content) items
-
--- This token is next. The items after it are told without their places.
-abbrev pub NextLexeme : List Item → Token → List Item → Type 0
-NextLexeme old t new = (w : Where) × (more : List Item) × (old ≡ item (Lexeme t.kind t.value.now) w ∷ more) × (contents new ≡ contents more)
 
 -- Where the next item is a token, the text begins with its spelling.
 abbrev pub BeginsWithNext : List Item → List ℕ → Type 0

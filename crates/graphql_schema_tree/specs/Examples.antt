@@ -31,7 +31,14 @@ pub record WorkedMeanings : Type 0 where
     position = at 2 3;
     description = Some (codes "d");
     name = codes "f";
-    arguments = record { position = at 2 9; description = None; name = codes "x"; value_type = named (codes "Int"); default_value = None; directives = [] } ∷ [];
+    arguments = record {
+      position = at 2 9;
+      description = None;
+      name = codes "x";
+      value_type = named (codes "Int");
+      default_value = None;
+      directives = [];
+    } ∷ [];
     field_type = named (codes "B");
     directives = [];
   } ∷ [])))

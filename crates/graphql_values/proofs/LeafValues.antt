@@ -56,8 +56,8 @@ integer_numeral (b ∷ bs) h =
     ]
 
 -- `parse` reads an integer where it is in range
-pub integer_parsed : (text run : List ℕ) (v : ℤ) → text ≡ run → is_integer run ≡ true → ParsesSigned {E = Unit {0}} w64 10 text (Ok v) → (is_in_range run ≡ true)
-    × (to_z w64 (of_z w64 v) ≡ int_of run)
+pub integer_parsed : (text run : List ℕ) (v : ℤ) → text ≡ run → is_integer run ≡ true → ParsesSigned {E = Unit {0}} w64 10 text (Ok v)
+    → (is_in_range run ≡ true) × (to_z w64 (of_z w64 v) ≡ int_of run)
 integer_parsed text run v e h (p, is) =
     let fits : FitsSigned w64 v = subst (FitsSigned w64) (sym is) p.1 in
     (subst (λ t. is_in_range t ≡ true) e ((in_range text).1 p.1), to_z-of_z w64 v fits ∙ is ∙ ap int_of e)

@@ -31,7 +31,8 @@ fn is_spaced(before: Kind, kind: Kind, value: &str) -> bool
 /// The tokens of a text, spaced.
 ///
 /// The text is about the most that they take, since few texts get more spaces than they lose. So there is room for so many
-/// bytes from the start, and a long text is not copied as it grows.
+/// bytes from the start, and a long text is not copied as it grows. Positions are not kept: a text with a bad place is cut
+/// again for its fault.
 fn spaced(alloc: Global, source: &str) -> Result<String, Fault>
     requires { length source.now ≤ usize.MAX / 16 }
     ensures minified { IfOk result (λ text. IsMinified source.now (string_bytes text)) }

@@ -1,10 +1,11 @@
 -- What the quick tests of the tokenizer look for.
-use Rattle.std.specs.Prelude.{◌≡◌, ℕ, ◌+◌, ◌-◌, ◌*◌, ◌^◌, ◌<◌, ◌≤◌, length, Bool, not, ◌==◌, ◌&&◌, ◌||◌, List, slice_index, if◌then◌else◌, Option, Some, None}
+use Rattle.std.specs.Prelude.{◌≡◌, ℕ, ◌+◌, ◌-◌, ◌*◌, ◌^◌, ◌<◌, ◌≤◌, Bool, not, ◌==◌, ◌&&◌, ◌||◌, if◌then◌else◌, List, ◌∷◌, length, map, slice_index}
+use Rattle.std.specs.Prelude.{Option, Some, None}
 use Rattle.std.specs.Int.{w64, trailing_zeros}
 use Rattle.graphql_lexer.specs.steps.Front.{Cuts, is_flat}
 use Rattle.graphql_lexer.specs.Lexical.{steps_over}
-use Rattle.graphql_lexer.specs.Items.{Where}
-use Rattle.graphql_lexer.specs.Stream.{further, contents}
+use Rattle.graphql_lexer.specs.Items.{Where, Item, Content, item, Lexeme}
+use Rattle.graphql_lexer.specs.Stream.{further}
 use Rattle.graphql_lexer.specs.steps.Cut.{items}
 use Rattle.graphql_lexer.specs.declared.position.Pos.{Pos}
 use Rattle.graphql_lexer.specs.declared.tokenizer.piece.Move.{Move}
@@ -12,6 +13,7 @@ use Rattle.graphql_lexer.specs.declared.tokenizer.piece.Nesting.{Nesting}
 use Rattle.graphql_lexer.specs.declared.tokenizer.piece.Piece.{Piece}
 use Rattle.graphql_lexer.specs.declared.tokenizer.piece.Taken.{Taken}
 use Rattle.graphql_lexer.specs.declared.tokenizer.token.Kind.{Kind}
+use Rattle.graphql_lexer.specs.declared.tokenizer.token.Token.{Token}
 use Rattle.graphql_lexer.specs.declared.tokenizer.piece.Piece.TheVariants.{AtEnd, Skips, Takes, Stops}
 
 abbrev pub is_space : ℕ → Bool
@@ -84,6 +86,14 @@ HasRoom text at = (length text < 2 ^ 62) × (at.line + length text < 2 ^ 62) × 
 abbrev pub SkipsTo : List ℕ → Pos → List ℕ → Pos → Type 0
 SkipsTo text at rest place = ((w : Where) → w.position ≡ at → items (further place (length text - length rest) w) rest ≡ items w text)
     × (length rest ≤ length text) × (place.line + length rest ≤ at.line + length text) × (place.column + 8 * length rest ≤ at.column + 8 * length text)
+
+-- what the items are, without their places
+abbrev pub contents : List Item → List Content
+contents is = map (λ i. i.content) is
+
+-- This token is next. The items after it are told without their places.
+abbrev pub NextLexeme : List Item → Token → List Item → Type 0
+NextLexeme old t new = (w : Where) × (more : List Item) × (old ≡ item (Lexeme t.kind t.value.now) w ∷ more) × (contents new ≡ contents more)
 
 -- but for their places these texts have the same items, whichever brackets are open before both
 abbrev pub HasContentsOf : List ℕ → List ℕ → Type 0

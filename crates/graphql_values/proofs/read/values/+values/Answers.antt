@@ -70,7 +70,8 @@ list-returns-clause-reads g t c =
     let p = c.more.invariant.pushes in
     let r = Turns-stop shared _ (one_of (tree_of s)) _ _ p.means p.turns (ends_list s _ (sym c.sees_punctuator.ensures ∙ c.more-test.false)) in
     whole (past (past here (took opens refl)) r.1) (took ends refl)
-    (list_made _ _ bytes _ ∙ ap list (ap listed_values (fills (value_view bytes) _ _ p.means c.new-items.ensures.items p.adds ∙ sym r.2) ∙ sym (trees_means s r.1))
+    (list_made _ _ bytes _
+    ∙ ap list (ap listed_values (fills (value_view bytes) _ _ p.means c.new-items.ensures.items p.adds ∙ sym r.2) ∙ sym (trees_means s r.1))
     ∙ sym (list_means s (Leaf o) r.0 (Leaf e)))
 
 -- ---- object

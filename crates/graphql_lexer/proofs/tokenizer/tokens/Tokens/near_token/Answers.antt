@@ -14,12 +14,13 @@ invariant_of-self c =
     let t = c.in-Some in
     let deep : is_too_deep t.nesting w ≡ false = sym (c.is_too_deep.ensures w refl refl) ∙ c.if-is_too_deep.false in
     let few = few_open t.nesting w deep c.self.invariant.6 in
+    let within = c.skip_plain-is_item.ensures.skips.1 in
     let after = c.after-self-inside.ensures in (
       omega arith,
       omega arith,
       omega arith,
-      omega (arith, after.openers, (one_bracket t.nesting s.brackets.openers).0, c.in-Some.ensures.fits.0, c.split_at.ensures.back_len, c.skip_plain-is_item.ensures.skips.1),
-      omega (arith, after.closers, (one_bracket t.nesting s.brackets.closers).1, c.in-Some.ensures.fits.0, c.split_at.ensures.back_len, c.skip_plain-is_item.ensures.skips.1),
+      omega (arith, after.openers, (one_bracket t.nesting s.brackets.openers).0, t.ensures.fits.0, c.split_at.ensures.back_len, within),
+      omega (arith, after.closers, (one_bracket t.nesting s.brackets.closers).1, t.ensures.fits.0, c.split_at.ensures.back_len, within),
       c.skip_plain-is_item.ensures.first c.if-not-is_item.false,
       omega (arith, few, after.openers, after.closers),
     )
