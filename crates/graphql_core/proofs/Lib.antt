@@ -48,5 +48,6 @@ pub use Minifying.{spaced_first, has_spaced_tokens, spaced_items, minified_token
 pub use NestingDepth.{Nests, Anything, Left, past_bytes, nests_before, nests, rest_lexemes, nests_open, nests_tree, class_name}
 pub use Places.{Placed-less, Placed-ends}
 pub use Refusals.{by_fault, tells_weaker, only_memory, as_error}
-pub use SpanItems.{few_kinds, token_some, before, next_stands, next_of, is_token, marks, first_within, first_is, before_more, lexemes_left, fault_here}
+pub use SpanItems.{few_kinds, token_some, next_left, next_of, is_token, marks, first_within, first_is, one_cut, all_left, marked, next_span, lexemes_left}
+pub use SpanItems.{one_taken, next_seen, all_taken, last_taken, none_cut, fault_here}
 pub use TokenPlaces.{StandsIn, tokens_stand}

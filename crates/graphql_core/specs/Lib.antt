@@ -56,5 +56,5 @@ pub use steps.Matching.{sees_class, TakesToken, TakesOne}
 pub use steps.Placed.{Placed}
 pub use steps.Punctuators.{spelling_of, class_of, first_byte, front_byte}
 pub use steps.ReadErrors.{here, IsFaultFor}
-pub use steps.Spans.{kind_at, start_of, kind_of, span_token, Marks, last_of, span_items}
+pub use steps.Spans.{kind_at, start_of, kind_of, span_token, Marks, span_items, IsLeft, IsLast, IsCut}
 pub use steps.StringSink.{string_nil, string_more, list_nil, list_more}

@@ -18,4 +18,4 @@ pub use read_error::{ReadError, fault_of};
 pub use room::shrink_list;
 pub use source::{Lexeme, TokenSource};
 pub use span::{Span, WIDE_TEXT, Width};
-pub use spans::{SpanSource, Spans};
+pub use spans::SpanSource;

@@ -8,7 +8,7 @@ ghost use Rattle.graphql_schema_tree.specs.{DocumentTree, document_view, IsPrint
 use crate::error::ParseError;
 use crate::read::definitions;
 use graphql_core::common::{Fault, MAX_LENGTH, Text};
-use graphql_core::helpers::{Cursor, SpanSource, Spans, TokenSource, WIDE_TEXT, Width, fault_of};
+use graphql_core::helpers::{Cursor, SpanSource, TokenSource, WIDE_TEXT, Width, fault_of};
 use graphql_core::tokenizer::TokenStream;
 use graphql_schema_tree::tree::Document;
 use graphql_values::read::node_error::NodeError;
@@ -43,8 +43,7 @@ fn read_spans<'a, S: Text<'a>, W: Width>(
     requires narrow { 8 * length source.now < W.most }
     ensures { (items : List Item) → HasItems source.now items → ReadsDocument schemas (document_view S.Names.bytes) (split items) result }
 {
-    let spans: Spans<'a, W> = Spans::new(alloc, source)?;
-    let mut tokens: SpanSource<'a, '_, S, W> = spans.source();
+    let mut tokens: SpanSource<'a, S, W> = SpanSource::new(alloc, source)?;
     read_document(alloc, &mut tokens)
 }
 

@@ -1,15 +1,16 @@
 -- The tokens of a text by where they stand in it.
-use Rattle.std.specs.Prelude.{ℕ, ◌-◌, ◌/◌, ◌%◌, ◌≤◌, ◌==◌, if◌then◌else◌, List, take, drop, map, Option, Some, None}
-use Rattle.std.specs.Str.{IsCharBoundary}
+use Rattle.std.specs.Prelude.{◌≡◌, ℕ, ◌-◌, ◌*◌, ◌/◌, ◌%◌, ◌<◌, ◌≤◌, ◌==◌, if◌then◌else◌, List, [], ◌∷◌, ◌++◌, All, length, take, drop, map, Option, Some, None}
+use Rattle.std.specs.Str.{IsCharBoundary, IsUtf8}
 use Rattle.graphql_grammar.specs.{Token}
-use Rattle.graphql_lexer.specs.declared.position.Pos.{Pos}
 use Rattle.graphql_lexer.specs.declared.tokenizer.token.Kind.{Kind}
 use Rattle.graphql_lexer.specs.declared.tokenizer.token.Kind.TheVariants.{Punctuator, Name, IntValue, FloatValue, StringValue, BlockString}
 use Rattle.graphql_lexer.specs.declared.tokenizer.token.Bad.{Bad}
-use Rattle.graphql_lexer.specs.{bad_text}
+use Rattle.graphql_lexer.specs.{Where, Item, item, HasItems, bad_text}
+use Rattle.graphql_lexer.specs.Items as lexer
 use Rattle.graphql_core.specs.declared.helpers.span.Span.{Span}
-use Rattle.graphql_core.specs.Causes.{kind_number, no_token}
-use Rattle.graphql_core.specs.Source.{Items, Last, End, Wrong, IsLexeme, place_of, tokens_then}
+use Rattle.graphql_core.specs.Causes.{kind_number}
+use Rattle.graphql_core.specs.Source.{Items, IsLexeme, split}
+use Rattle.graphql_core.specs.Refusal.{max_length}
 
 -- what a number tells of a kind
 abbrev pub kind_at : ℕ → Kind
@@ -43,11 +44,25 @@ pub record Marks {W : Type 0} (number : W → ℕ) (text : List ℕ) (s : Span W
   pub ends : IsCharBoundary (drop (start_of number s) text) (number s.end - start_of number s)
   pub lexeme : IsLexeme (span_token number text s)
 
--- the end, or a bad place
-abbrev pub last_of : Pos → Option Bad → Last
-last_of p None = End (place_of p)
-last_of p (Some bad) = Wrong (place_of p) (no_token (bad_text bad))
+-- the tokens that stand there, and the items after them
+abbrev pub span_items : {W : Type 0} → (W → ℕ) → List ℕ → List (Span W) → Items → Items
+span_items number text spans i = record { tokens = map (span_token number text) spans ++ i.tokens; last = i.last; spent = i.spent }
 
--- the tokens that stand there, and what is after them
-abbrev pub span_items : {W : Type 0} → (W → ℕ) → List ℕ → List (Span W) → Last → Items
-span_items number text spans last = tokens_then (map (span_token number text) spans) last
+-- These items are left of those of the text, and a number up to `most` tells each position in it.
+pub record IsLeft (most : ℕ) (text : List ℕ) (items : List Item) : Type 0 where
+  pub past : List Item
+  pub all : HasItems text (past ++ items)
+  pub utf8 : IsUtf8 text
+  pub small : length text ≤ max_length
+  pub narrow : 8 * length text < most
+
+-- the last item alone is left: the end, or this bad place
+abbrev pub IsLast : List Item → Option Bad → Type 0
+IsLast items None = (w : Where) × (items ≡ item lexer.End w ∷ [])
+IsLast items (Some bad) = (w : Where) × (items ≡ item (lexer.Wrong (bad_text bad)) w ∷ [])
+
+-- the items that are left of a text are the tokens that stand there, and then these
+pub record IsCut {W : Type 0} (number : W → ℕ) (most : ℕ) (text : List ℕ) (old : List Item) (spans : List (Span W)) (new : List Item) : Type 0 where
+  pub marks : All (Marks number text) spans
+  pub left : IsLeft most text new
+  pub items : split old ≡ span_items number text spans (split new)

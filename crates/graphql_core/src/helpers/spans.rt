@@ -1,6 +1,7 @@
-//! The tokens of a text, cut before they are read.
-ghost use Rattle.std.specs.Prelude.{◌≡◌, ℕ, ◌+◌, ◌≤◌, ◌<◌, ◌*◌, ◌/◌, ◌^◌, List, All, IfOk, length, map};
-ghost use Rattle.graphql_core.specs.{HasItems, Item, NextItem, split, front_byte, Marks, start_of, kind_of, span_token, span_items, last_of};
+//! The tokens of a text, cut in pieces, each before it is read.
+ghost use Rattle.std.specs.Prelude.{◌≡◌, ℕ, ◌+◌, ◌≤◌, ◌<◌, ◌*◌, ◌/◌, ◌^◌, ◌⊎◌, List, All, IfOk, length, map, drop, vec_len, vec_capacity};
+ghost use Rattle.graphql_core.specs.{HasItems, Item, NextItem, split, after, first_byte, front_byte, Marks, start_of, kind_of, span_token};
+ghost use Rattle.graphql_core.specs.{IsLeft, IsLast, IsCut};
 
 use crate::common::{Cause, Fault, Names, Text};
 use crate::helpers::cursor::{bad_place, unexpected};
@@ -12,50 +13,37 @@ use graphql_lexer::position::Pos;
 use graphql_lexer::tokenizer::{Bad, Token, Tokens, is_name_start};
 use std::alloc::{AllocError, Global};
 use std::marker::{Model, PhantomData};
+use std::mem;
 
-/// The tokens of a text by where they stand in it, where they end, and the bad place there, if it is one.
+/// How many tokens are cut at once at most.
+const PIECE: usize = 16384;
+
+/// The tokens of a text that are left. They are cut a piece at a time, so that those that wait to be read take little room.
 #[derive(Drop)]
-pub struct Spans<'a, W: Width> {
+pub struct SpanSource<'a, T: Text<'a>, W: Width> {
     text: &'a str,
+    // The piece that was cut last, and how many of its tokens are taken.
     spans: Vec<Span<W>>,
-    end: Pos,
-    bad: Option<Bad<'a>>,
-}
-
-impl<'a, W: Width> Model for Spans<'a, W> {
-    ghost use Rattle.std.specs.Prelude.{All};
-    ghost use Rattle.graphql_core.specs.{Items, Marks, span_items, last_of};
-
-    ghost Value = { Items };
-
-    ghost view = { λ s. span_items W.number s.text.now s.spans.items (last_of s.end s.bad) };
-
-    ghost invariant = { λ s. All (Marks W.number s.text.now) s.spans.items };
-}
-
-/// The tokens of a text that are left, cut before they are read.
-#[derive(Drop)]
-pub struct SpanSource<'a, 's, T: Text<'a>, W: Width> {
-    text: &'a str,
-    rest: &'s [Span<W>],
+    taken: usize,
     // The first byte of the next token, 0 where there is none.
     front: u8,
-    // Where the tokens end, and the bad place that is there, if it is one.
-    end: Pos,
+    // What follows the piece, and the bad place that was met there, if one was.
+    stream: Tokens<'a>,
     bad: Option<Bad<'a>>,
     names: PhantomData<T>,
 }
 
-impl<'a, 's, T: Text<'a>, W: Width> Model for SpanSource<'a, 's, T, W> {
-    ghost use Rattle.std.specs.Prelude.{All, ◌≡◌, map};
-    ghost use Rattle.graphql_core.specs.{Items, front_byte, Marks, span_token, span_items, last_of};
+impl<'a, T: Text<'a>, W: Width> Model for SpanSource<'a, T, W> {
+    ghost use Rattle.std.specs.Prelude.{All, ◌≡◌, ◌≤◌, ◌<◌, map, drop, vec_len, vec_capacity};
+    ghost use Rattle.graphql_core.specs.{Items, front_byte, split, Marks, IsLeft, IsLast, span_token, span_items};
 
     ghost Value = { Items };
 
-    ghost view = { λ s. span_items W.number s.text.now s.rest.now (last_of s.end s.bad) };
+    ghost view = { λ s. span_items W.number s.text.now (drop s.taken s.spans.items) (split s.stream) };
 
-    ghost invariant = { λ s. All (Marks W.number s.text.now) s.rest.now
-        × (s.front ≡ front_byte (map (span_token W.number s.text.now) s.rest.now)) };
+    ghost invariant = { λ s. All (Marks W.number s.text.now) s.spans.items × IsLeft W.most s.text.now s.stream
+        × (s.front ≡ front_byte (map (span_token W.number s.text.now) (drop s.taken s.spans.items)))
+        × (s.taken ≤ vec_len s.spans) × (0 < vec_capacity s.spans) × (s.taken ≡ vec_len s.spans → IsLast s.stream s.bad) };
 }
 
 /// The span of a token that begins after `start` bytes of a text, at this position.
@@ -89,20 +77,19 @@ pub fn far_item<'a>(mut stream: Tokens<'a>) -> (Result<Option<Token<'a>>, Bad<'a
     (item, stream)
 }
 
-/// The spans of all tokens of a text, where they end, and the bad place there.
+/// Cuts the tokens that are next, as many as there is room for: their spans take the place of those that were there. It
+/// answers what follows them, and the bad place that it met, if it met one.
 fn cut<'a, W: Width>(
-    alloc: Global,
-    text: &'a str,
-) -> Result<(Vec<Span<W>>, Pos, Option<Bad<'a>>), AllocError>
-    requires small { length text.now ≤ usize.MAX / 16 }
-    requires narrow { 8 * length text.now < W.most }
-    ensures marks { IfOk result (λ r. All (Marks W.number text.now) r.0.items) }
-    ensures items { (items : List Item) → HasItems text.now items
-        → IfOk result (λ r. span_items W.number text.now r.0.items (last_of r.1 r.2) ≡ split items) }
+    mut stream: Tokens<'a>,
+    spans: &mut Vec<Span<W>>,
+) -> (Tokens<'a>, Option<Bad<'a>>)
+    requires left { (text : List ℕ) × IsLeft W.most text stream }
+    ensures cut { (text : List ℕ) → IsLeft W.most text stream.entry → IsCut W.number W.most text stream.entry spans.new.items result.0 }
+    ensures full { (vec_capacity spans.new ≤ vec_len spans.new) ⊎ IsLast result.0 result.1 }
+    ensures capacity { vec_capacity spans.new ≡ vec_capacity spans.old }
 {
-    let mut stream = Tokens::new(text);
-    let mut spans = Vec::with_capacity(alloc, text.len() / 4)?;
-    'items: loop {
+    spans.clear();
+    'items: while spans.len() < spans.capacity() {
         let start = stream.offset();
         let position = stream.position();
         let token = match stream.near_token() {
@@ -112,56 +99,78 @@ fn cut<'a, W: Width>(
                 stream = after;
                 match item {
                     Ok(Some(token)) => token,
-                    Ok(None) => return Ok((spans, position, None)),
-                    Err(bad) => return Ok((spans, position, Some(bad))),
+                    Ok(None) => return (stream, None),
+                    Err(bad) => return (stream, Some(bad)),
                 }
             }
         };
-        spans.push(span_of(start, position, token))?;
+        let span = span_of(start, position, token);
+        spans.push_reserved(span);
     }
+    (stream, None)
 }
 
-/// The first byte of the first token, 0 where there is none.
+/// The first byte of a token.
 #[inline(always)]
-fn front_of<W: Width>(text: &str, spans: &[Span<W>]) -> u8
-    requires { All (Marks W.number text.now) spans.now }
-    ensures { result ≡ front_byte (map (span_token W.number text.now) spans.now) }
+fn first_of<W: Width>(text: &str, span: Span<W>) -> u8
+    requires { Marks W.number text.now span }
+    ensures { result ≡ first_byte (span_token W.number text.now span).spelling }
 {
-    match spans.split_first() {
-        Some((span, _)) => text.as_bytes()[span.start()],
+    text.as_bytes()[span.start()]
+}
+
+/// The first byte of the token after this many, 0 where there is none.
+fn front_of<W: Width>(text: &str, spans: &[Span<W>], taken: usize) -> u8
+    requires { All (Marks W.number text.now) spans.now }
+    ensures { result ≡ front_byte (map (span_token W.number text.now) (drop taken spans.now)) }
+{
+    match spans.get(taken) {
+        Some(span) => first_of(text, *span),
         None => 0,
     }
 }
 
-impl<'a, W: Width> Spans<'a, W> {
+impl<'a, T: Text<'a>, W: Width> SpanSource<'a, T, W> {
     /// The items of a text whose positions are of this width.
     pub fn new(alloc: Global, text: &'a str) -> Result<Self, AllocError>
         requires small { length text.now ≤ usize.MAX / 16 }
         requires narrow { 8 * length text.now < W.most }
         ensures { (items : List Item) → HasItems text.now items → IfOk result (λ s. s ≡ split items) }
     {
-        let (spans, end, bad) = cut(alloc, text)?;
-        Ok(Spans {
+        let mut spans = Vec::with_capacity(alloc, PIECE.min(text.len() / 4 + 1))?;
+        let (stream, bad) = cut(Tokens::new(text), &mut spans);
+        let front = front_of(text, spans.as_slice(), 0);
+        Ok(SpanSource {
             text,
             spans,
-            end,
+            taken: 0,
+            front,
+            stream,
             bad,
+            names: PhantomData,
         })
     }
 
-    /// A source of all of them.
-    pub fn source<'s, T: Text<'a>>(&'s self) -> SpanSource<'a, 's, T, W>
-        ensures { result ≡ self.now }
+    /// Goes past a token, whatever is cut. The end and a bad place stay.
+    #[cold]
+    #[inline(never)]
+    fn advance_far(&mut self)
+        ensures { self.new ≡ after self.old }
     {
-        let rest = self.spans.as_slice();
-        SpanSource {
-            text: self.text,
-            rest,
-            front: front_of(self.text, rest),
-            end: self.end,
-            bad: self.bad,
-            names: PhantomData,
+        let next = self.taken + 1;
+        if next < self.spans.len() {
+            self.front = front_of(self.text, self.spans.as_slice(), next);
+            self.taken = next;
+            return;
         }
+        let (stream, bad) = cut(
+            mem::replace(&mut self.stream, Tokens::new("")),
+            &mut self.spans,
+        );
+        self.front = front_of(self.text, self.spans.as_slice(), 0);
+        self.taken = 0;
+        self.stream = stream;
+        self.bad = bad;
     }
 }
 
@@ -188,7 +197,7 @@ fn position_of<W: Width>(span: Span<W>) -> Pos
     }
 }
 
-impl<'a, 's, T: Text<'a>, W: Width> TokenSource for SpanSource<'a, 's, T, W> {
+impl<'a, T: Text<'a>, W: Width> TokenSource for SpanSource<'a, T, W> {
     type Text = &'a str;
 
     type Names = T;
@@ -199,7 +208,7 @@ impl<'a, 's, T: Text<'a>, W: Width> TokenSource for SpanSource<'a, 's, T, W> {
 
     #[inline(always)]
     fn peek(&self) -> Option<Lexeme<&'a str>> {
-        let span = *self.rest.first()?;
+        let span = *self.spans.get(self.taken)?;
         Some(Lexeme {
             kind: span.kind(),
             text: spelling(self.text, span),
@@ -219,15 +228,15 @@ impl<'a, 's, T: Text<'a>, W: Width> TokenSource for SpanSource<'a, 's, T, W> {
 
     #[inline(always)]
     fn position(&self) -> Pos {
-        match self.rest.first() {
+        match self.spans.get(self.taken) {
             Some(span) => position_of(*span),
-            None => self.end,
+            None => self.stream.position(),
         }
     }
 
     #[inline(always)]
     fn is_at_end(&self) -> bool {
-        self.rest.is_empty() && self.bad.is_none()
+        self.taken == self.spans.len() && self.bad.is_none()
     }
 
     #[inline(always)]
@@ -237,17 +246,21 @@ impl<'a, 's, T: Text<'a>, W: Width> TokenSource for SpanSource<'a, 's, T, W> {
 
     #[inline(always)]
     fn advance(&mut self) {
-        if let Some((_, rest)) = self.rest.split_first() {
-            self.rest = rest;
-            self.front = front_of(self.text, rest);
+        let next = self.taken + 1;
+        match self.spans.get(next) {
+            Some(span) => {
+                self.front = first_of(self.text, *span);
+                self.taken = next;
+            }
+            None => self.advance_far(),
         }
     }
 
     #[cold]
     #[inline(never)]
     fn fault(&self, alloc: Global) -> Fault {
-        match self.rest.split_first() {
-            Some((span, _)) => {
+        match self.spans.get(self.taken) {
+            Some(span) => {
                 let token = Token {
                     kind: span.kind(),
                     value: spelling(self.text, *span),
@@ -255,8 +268,8 @@ impl<'a, 's, T: Text<'a>, W: Width> TokenSource for SpanSource<'a, 's, T, W> {
                 unexpected(alloc, token, position_of(*span))
             }
             None => match self.bad {
-                None => Fault::at(Cause::UnexpectedEnd, self.end),
-                Some(bad) => bad_place(alloc, bad, self.end),
+                None => Fault::at(Cause::UnexpectedEnd, self.stream.position()),
+                Some(bad) => bad_place(alloc, bad, self.stream.position()),
             },
         }
     }

@@ -2,7 +2,7 @@
 ghost use Rattle.std.specs.Prelude.{◌≤◌, ◌<◌, ◌*◌, ◌/◌, length};
 
 use crate::tokenizer::Token;
-use graphql_core::helpers::{Cursor, Lexeme, SpanSource, Spans, TokenSource, WIDE_TEXT, Width};
+use graphql_core::helpers::{Cursor, Lexeme, SpanSource, TokenSource, WIDE_TEXT, Width};
 use std::alloc::Global;
 use std::test::Fail;
 
@@ -28,6 +28,9 @@ const STRING: &str = "{ a(s: \"é\") b }";
 
 const BLOCK_STRING: &str = "{ a(s: \"\"\"x\né\"\"\") b }";
 
+// Spans of it are cut in several pieces, since each of its tokens is one byte.
+const MARKS: &str = "{[(:!|&=@$)]}{[(:!|&=@$)]}?";
+
 /// A token of a source.
 fn token_of(lexeme: Lexeme<&str>) -> Token<'_> {
     Token {
@@ -41,9 +44,8 @@ fn have_same_items<W: Width>(alloc: Global, source: &str) -> Result<bool, Fail>
     requires small { length source.now ≤ usize.MAX / 16 }
     requires narrow { 8 * length source.now < W.most }
 {
-    let mut cursor: Cursor<'_, &str> = Cursor::new(source);
-    let cut: Spans<'_, W> = Spans::new(alloc, source)?;
-    let mut spans: SpanSource<'_, '_, &str, W> = cut.source();
+    let mut cursor: Cursor<'_, String> = Cursor::new(source);
+    let mut spans: SpanSource<'_, String, W> = SpanSource::new(alloc, source)?;
     'items: for _ in 0..=source.len() {
         if cursor.peek().map(token_of) != spans.peek().map(token_of)
             || cursor.position() != spans.position()
@@ -78,7 +80,7 @@ fn have_same_beginnings(alloc: Global, source: &str) -> Result<bool, Fail> {
 
 #[test]
 fn each_beginning(rt: HostRuntime) -> Result<(), Fail> {
-    'texts: for text in [QUERY, SCHEMA, STRING, BLOCK_STRING] {
+    'texts: for text in [QUERY, SCHEMA, STRING, BLOCK_STRING, MARKS] {
         assert!(rt; have_same_beginnings(rt.alloc(), text)?);
     }
     Ok(())

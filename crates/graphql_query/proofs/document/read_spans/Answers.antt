@@ -1,4 +1,4 @@
-use Rattle.std.proofs.Common.{subst, ◌∙◌}
+use Rattle.std.proofs.Common.{subst}
 use Rattle.graphql_values.specs.{Items, ReadsDocument}
 use Rattle.graphql_query_tree.specs.{queries, document_view}
 use Rattle.graphql_query.proofs.document.read_spans.Goals as goal
@@ -6,4 +6,4 @@ use Rattle.graphql_query.proofs.document.read_spans.Goals as goal
 pub returns : goal.returns
 returns g c items has =
     subst (λ (i : Items). ReadsDocument queries (document_view g.S.Names.bytes) i c.read_document.result)
-    (c.source-tokens.ensures ∙ c.in_ok-spans.ensures items has) c.read_document.ensures.reads
+    (c.in_ok-tokens.ensures items has) c.read_document.ensures.reads

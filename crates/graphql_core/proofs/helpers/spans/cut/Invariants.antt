@@ -1,15 +1,13 @@
-use Rattle.std.proofs.Common.{◌≡◌, List, All, length, map}
-use Rattle.graphql_core.specs.{Item, HasItems, split, Marks, span_token}
-use Rattle.graphql_core.proofs.{StandsIn, before}
+use Rattle.std.proofs.Common.{◌≡◌, ℕ, List, length, vec_capacity}
+use Rattle.graphql_core.specs.{IsLeft, IsCut}
 use Rattle.graphql_core.proofs.helpers.spans.cut.Given as goal
 
 -- the items are the tokens of the spans, and then those that are left
 abbrev pub invariant-items : goal.invariant-items
 invariant-items g l = record {
-  marks : All (Marks g.W.Width.number l.text) l.spans.items;
-  standing : All (StandsIn l.text) l.stream;
-  items : (items : List Item) → HasItems l.text items
-      → split items ≡ before (map (span_token g.W.Width.number l.text) l.spans.items) (split l.stream);
+  cut : (text : List ℕ) → IsLeft g.W.Width.most text l.fn.stream
+      → IsCut g.W.Width.number g.W.Width.most text l.fn.stream l.spans.items l.stream;
+  capacity : vec_capacity l.spans ≡ vec_capacity l.fn.spans;
 }
 
 abbrev pub decreases-items : goal.decreases-items

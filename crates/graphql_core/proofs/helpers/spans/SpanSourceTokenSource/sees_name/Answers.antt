@@ -1,11 +1,15 @@
-use Rattle.std.proofs.Common.{ap, ◌∙◌}
-use Rattle.graphql_core.specs.{AnyOf, Name, is_name_start, kind_number, sees_class}
-use Rattle.graphql_core.proofs.{lexemes_left}
+use Rattle.std.proofs.Common.{[], ◌∷◌, ap, ◌∙◌}
+use Rattle.graphql_core.specs.{AnyOf, Name, is_name_start, kind_number, sees, sees_class}
+use Rattle.graphql_core.proofs.{lexemes_left, next_seen}
 use Rattle.graphql_core.proofs.Fronts as fronts
 use Rattle.graphql_core.proofs.helpers.spans.SpanSourceTokenSource.sees_name.Goals as goal
 
 pub returns : goal.returns
 returns g c =
-    let lexemes = lexemes_left g.W.Width.number c.self.inside.text.now c.self.inside.rest.now c.self.invariant.0 in
-    c.is_name_start.ensures ∙ ap is_name_start c.self.invariant.1 ∙ fronts.sees_name _ lexemes
-    ∙ ap (sees_class (AnyOf (kind_number Name))) c.self.view_is
+    let s = c.self.inside in
+    let number = g.W.Width.number in
+    let class = AnyOf (kind_number Name) in
+    c.is_name_start.ensures ∙ ap is_name_start c.self.invariant.2
+    ∙ fronts.sees_name _ (lexemes_left number s.text.now s.spans.items s.taken c.self.invariant.0)
+    ∙ ap (sees (class ∷ [])) (next_seen number s.text.now s.spans.items s.taken _ s.stream s.bad s.spans.ok.0 c.self.invariant.3 c.self.invariant.5)
+    ∙ ap (sees_class class) c.self.view_is
