@@ -104,7 +104,8 @@ pub sees_punctuator : (m : Punctuator) (ts : List Token) → All IsLexeme ts →
 sees_punctuator m [] all = no_mark m
 sees_punctuator m (t ∷ ts) all =
     let (k, s, rest, kind, stands) = All-head IsLexeme t ts all in
-    mark_seen m stands ∙ ap (λ n. (kind_number kinds.Punctuator == n) && same_spelling (spelling_of m) t.spelling) (sym kind) ∙ or_false (matches (class_of m) t)
+    mark_seen m stands ∙ ap (λ n. (kind_number kinds.Punctuator == n) && same_spelling (spelling_of m) t.spelling) (sym kind)
+    ∙ or_false (matches (class_of m) t)
 
 pub sees_name : (ts : List Token) → All IsLexeme ts → is_name_start (front_byte ts) ≡ sees (AnyOf (kind_number Name) ∷ []) (peek ts)
 sees_name [] all = refl

@@ -54,7 +54,8 @@ past_more (c ∷ cs) ds p = past_more cs ds (past_character c p)
 -- the position after a text whose front is flat
 pub past_front : (text : List ℕ) (n : ℕ) (p : Pos) → IsUtf8 text → IsCharBoundary text n → past text p ≡ past (drop n text) (past (take n text) p)
 past_front text n p utf8 cut =
-    ap (λ l. past l p) (sym (take-append-drop n text)) ∙ ap (λ cs. past_characters cs p) (chars-append (take n text) (drop n text) (IsUtf8-take text n utf8 cut))
+    ap (λ l. past l p) (sym (take-append-drop n text))
+    ∙ ap (λ cs. past_characters cs p) (chars-append (take n text) (drop n text) (IsUtf8-take text n utf8 cut))
     ∙ past_more (chars (take n text)) (chars (drop n text)) p
 
 -- the position after a text that begins with a character

@@ -51,7 +51,8 @@ quotes_some (b ∷ []) e = absurd cc
 quotes_some (b ∷ x ∷ []) e = absurd cc
 quotes_some (b ∷ x ∷ y ∷ more) e = omega arith
 
-pub skips_unit : (n : ℕ) (bs : List ℕ) → 0 < length bs → begins_quotes bs ≡ false → begins_escape bs ≡ false → block_end n 0 bs ≡ block_end (n + 1) 0 (drop 1 bs)
+pub skips_unit : (n : ℕ) (bs : List ℕ) → 0 < length bs → begins_quotes bs ≡ false → begins_escape bs ≡ false
+    → block_end n 0 bs ≡ block_end (n + 1) 0 (drop 1 bs)
 unfolding block_end
 skips_unit n [] h q e = absurd (omega arith)
 skips_unit n (b ∷ bs) h q e = rw (q, e) refl

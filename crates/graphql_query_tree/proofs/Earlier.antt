@@ -42,7 +42,8 @@ name_grown (fits_second fits_nothing) = refl
 
 keyword_grown : {x : Shape} (kind : OperationKind) (w : Shape) → Fits query_0_4_1 (Sym operation_body_symbol) x
     → keyword_of kind (Both w (grown new_parts x)) ≡ keyword_of kind (Both w x)
-keyword_grown kind w (fits_node (fits_both n (fits_both vs (fits_both {x = ds} (fits_node d e) (fits_node {x = s} f g)))) c) = rw (name_grown n, variable_definitions_grown vs) refl
+keyword_grown kind w (fits_node (fits_both n (fits_both vs (fits_both {x = ds} (fits_node d e) (fits_node {x = s} f g)))) c) =
+    rw (name_grown n, variable_definitions_grown vs) refl
 
 operation_grown : {x : Shape} → Fits query_0_4_1 (Sym operation_symbol) x → operation_of (grown new_parts x) ≡ operation_of x
 operation_grown (fits_node (fits_first (fits_node s e)) c) = refl
@@ -89,7 +90,8 @@ no_variable_has_directives (fits_second z) = tt
 
 operation_has_none : {x : Shape} → Fits query_0_4_1 (Sym operation_symbol) x → HasNoNewPart (operation_of x)
 operation_has_none (fits_node (fits_first s) c) = tt
-operation_has_none (fits_node (fits_second (fits_first (fits_both k (fits_node (fits_both n (fits_both vs (fits_both ds s))) e)))) c) = no_variable_has_directives vs
+operation_has_none (fits_node (fits_second (fits_first (fits_both k (fits_node (fits_both n (fits_both vs (fits_both ds s))) e)))) c) =
+    no_variable_has_directives vs
 operation_has_none (fits_node (fits_second (fits_second (fits_first (fits_both k (fits_node (fits_both n (fits_both vs (fits_both ds s))) e))))) c) =
     no_variable_has_directives vs
 operation_has_none (fits_node (fits_second (fits_second (fits_second (fits_both k (fits_node (fits_both n (fits_both vs (fits_both ds s))) e))))) c) =

@@ -9,8 +9,8 @@ use Rattle.graphql_values.proofs.Reading.{takes_one, stops_one}
 use Rattle.graphql_values.proofs.LeafValues.{IsSpelledAs, lexeme_spelled}
 
 -- where the item is none of the kind
-pub not_shown : {A T : Type 0} (bytes : T → List ℕ) (k : Kind) (i : Items) (P : A → Shape → Type 0) (r : Result A ReadError) (e : ReadError) → Shows bytes k i (Err e)
-    → IsErrAnd r (λ d. d ≡ e) → Gives shared (One (any k)) i i P r
+pub not_shown : {A T : Type 0} (bytes : T → List ℕ) (k : Kind) (i : Items) (P : A → Shape → Type 0) (r : Result A ReadError) (e : ReadError)
+    → Shows bytes k i (Err e) → IsErrAnd r (λ d. d ≡ e) → Gives shared (One (any k)) i i P r
 not_shown bytes k i P (Ok v) e s h = absurd h
 not_shown bytes k i P (Err d) e s h = rw h (stops_one shared (any k) i i e s)
 

@@ -202,7 +202,8 @@ optional_non_null_printable t (room_first f) a (is, b) = ((a, is), b)
 optional_non_null_printable t (room_second room_nothing) a h = h
 
 pub type_printable : {n : ℕ} {x : Shape} → HasRoom shared n (Sym type_symbol) x → Within IsPrintableType type_brackets n (type_of x)
-type_printable (room_node (room_first (room_both {x = x} name m)) c) = optional_non_null_printable (named (spelling_at x)) m tt (leaf_name refl name, omega arith)
+type_printable (room_node (room_first (room_both {x = x} name m)) c) =
+    optional_non_null_printable (named (spelling_at x)) m tt (leaf_name refl name, omega arith)
 type_printable (room_node (room_second (room_both (room_leaf a l most) (room_both {x = x} f (room_both e m)))) c) =
     let (is, b) = type_printable f in
     optional_non_null_printable (list_of (type_of x)) m tt (is, omega arith)

@@ -21,7 +21,8 @@ abbrev Admits : Bool → TypeTree → Type 0
 Admits true t = AdmitsNull t
 Admits false t = Unit {0}
 
-bang_back : (b : Bool) (d : ℕ) → Back shared (optional (punctuator (codes "!"))) true d (bang b) true d (λ m. (t : TypeTree) → optional_non_null m t ≡ banged b t)
+bang_back : (b : Bool) (d : ℕ)
+    → Back shared (optional (punctuator (codes "!"))) true d (bang b) true d (λ m. (t : TypeTree) → optional_non_null m t ≡ banged b t)
 bang_back true d = as_word_back (first_back (means (λ x h t. refl) (mark_back (codes "!") (refl, refl) (λ p. refl))))
 bang_back false d = second_back (nothing_back (λ t. refl))
 

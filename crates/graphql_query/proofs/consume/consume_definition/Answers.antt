@@ -46,7 +46,8 @@ returns-in_err-definition-clause-one_fault g c = one_each one_definition readabl
 
 pub returns-clause-first : goal.returns-clause-first
 returns-clause-first g c =
-    found c.args.source.now _ _ _ c.position.result (from_stream _ _ c.new-cursor.ensures) c.in_ok-definition.ensures.takes c.position.ensures _ c.text_from-rest.ensures
+    found c.args.source.now _ _ _ c.position.result (from_stream _ _ c.new-cursor.ensures) c.in_ok-definition.ensures.takes c.position.ensures _
+    c.text_from-rest.ensures
 
 pub returns-clause-shorter : goal.returns-clause-shorter
 returns-clause-shorter g c = shorter c.args.source.now _ _ (returns-clause-first g c)

@@ -26,7 +26,8 @@ returns-then-not-sees_name-clause-reads g c =
 pub returns-in_err-other-clause-reads : goal.returns-in_err-other-clause-reads
 returns-in_err-other-clause-reads g c =
     let lead = after_right (reading worked) _ _ int _ _ _ refl c.in_ok-name.ensures.1 refl (sym c.sees_name.ensures ∙ c.if-not-sees_name.false) in
-    node_lacks worked refusals _ _ _ (g.S.TokenSource.items c.expect_name.new.source) _ _ _ lead.stops c.in_err-other.ensures c.from_residual-in_err-other.ensures.1
+    node_lacks worked refusals _ _ _ (g.S.TokenSource.items c.expect_name.new.source) _ _ _ lead.stops c.in_err-other.ensures
+    c.from_residual-in_err-other.ensures.1
 
 pub returns-then-is_same-clause-reads : goal.returns-then-is_same-clause-reads
 returns-then-is_same-clause-reads g c =

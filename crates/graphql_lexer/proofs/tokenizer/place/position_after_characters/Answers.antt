@@ -25,8 +25,9 @@ runs-preserved c =
     let long : length after ≡ length (encode_utf8 character) + length more = ap length text ∙ length-append (encode_utf8 character) more in
     let some = len_utf8_bounds character in
     let wide = length-encode character in
+    let first = past_first after more character c.position_after_flat-place.result utf8 text in
     record {
-      past_all = rw c.position_after_character-place.ensures (sym (past_first after more character c.position_after_flat-place.result utf8 text) ∙ sym flat ∙ c.runs.invariant.past_all);
+      past_all = rw c.position_after_character-place.ensures (sym first ∙ sym flat ∙ c.runs.invariant.past_all);
       line = rw c.position_after_character-place.ensures (omega (arith, bounds.0, long, some.0, wide));
       column = rw c.position_after_character-place.ensures (omega (arith, bounds.1, long, some.0, wide));
       utf8 = c.as_str-rest.utf8;

@@ -21,7 +21,8 @@ units-preserved c =
     let rest = take_rest c.args.bytes.now c.units.len in
     let skips = c.units_len-len.ensures.skips c.units.len in
     record {
-      end = sym (ap (block_end c.units.len 0) (sym rest) ∙ skips ∙ ap (λ l. block_end (c.units.len + c.units_len-len.result) 0 (drop c.units_len-len.result l)) rest
+      end = sym (ap (block_end c.units.len 0) (sym rest) ∙ skips
+          ∙ ap (λ l. block_end (c.units.len + c.units_len-len.result) 0 (drop c.units_len-len.result l)) rest
           ∙ ap (block_end (c.units.len + c.units_len-len.result) 0) (drop-drop c.units_len-len.result c.units.len c.args.bytes.now)) ∙ c.units.invariant.end;
       within = omega (arith, rest, length-drop c.units.len c.args.bytes.now);
     }

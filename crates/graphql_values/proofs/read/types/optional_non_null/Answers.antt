@@ -12,4 +12,5 @@ returns-then-sees_punctuator-clause-reads g c =
     )
 
 pub returns-clause-reads : goal.returns-clause-reads
-returns-clause-reads g c = (Second Nothing, takes_none shared (punctuator (codes "!")) _ refl (sym c.sees_punctuator.ensures ∙ c.if-sees_punctuator.false), refl)
+returns-clause-reads g c =
+    (Second Nothing, takes_none shared (punctuator (codes "!")) _ refl (sym c.sees_punctuator.ensures ∙ c.if-sees_punctuator.false), refl)

@@ -5,4 +5,5 @@ use Rattle.graphql_core.proofs.helpers.cursor.CursorTokenSource.sees_punctuator.
 
 pub returns : goal.returns
 returns g c =
-    rw (c.first_byte.ensures, c.self.invariant.1) (fronts.sees_punctuator c.args.mark _ c.self.invariant.0) ∙ ap (sees_class (class_of c.args.mark)) c.self.view_is
+    rw (c.first_byte.ensures, c.self.invariant.1) (fronts.sees_punctuator c.args.mark _ c.self.invariant.0)
+    ∙ ap (sees_class (class_of c.args.mark)) c.self.view_is
