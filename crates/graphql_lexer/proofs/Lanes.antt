@@ -2,11 +2,12 @@
 use lib.Lanes.{zip2, mask_l, top}
 use native.Mathlib.Numerals.{unary_clauses}
 use Rattle.std.specs.List.{prefix_len}
-use Rattle.std.proofs.Common.{◌≡◌, ℕ, zero, suc, ◌+◌, ◌-◌, ◌*◌, ◌/◌, ◌%◌, ◌^◌, ◌<◌, ◌≤◌, Bool, true, false, not, List, [], ◌∷◌, map, ◌++◌, take, drop}
+use Rattle.std.proofs.Common.{◌≡◌, ℕ, zero, suc, ◌+◌, ◌-◌, ◌*◌, ◌/◌, ◌%◌, ◌^◌, ◌<◌, ◌≤◌, ◌≢◌, Bool, true, false, not, List, [], ◌∷◌, map, ◌++◌, take, drop}
 use Rattle.std.proofs.Common.{length, min, get_or, replicate, Fits, w8, refl, sym, ap, ap₂, ◌∙◌, arith, inl, inr, length-drop}
 use Rattle.std.proofs.lemmas.Bool.{cases_Bool, agree_below, agree_below_at, cases_eq, eq-eqb, ne_eqb, cond-true, cond-false}
 use Rattle.std.proofs.lemmas.Simd.{map-map, mask_l-mod, length-chunk, leading_from_mask_l, trailing_mask_l}
-use Rattle.std.proofs.lemmas.List.{length-map, drop-map, drop-take, get_or-drop}
+use Rattle.std.proofs.lemmas.List.{length-map, length-take, drop-map, drop-take, get_or-drop}
+use Rattle.std.proofs.lemmas.List.Sums.{prefix_len-le-length}
 use Rattle.std.proofs.Math.Nat.{div-div-eq-div-mul, zero-div}
 use Rattle.graphql_lexer.specs.{first_set}
 
@@ -84,6 +85,10 @@ lanes_run_from q d n start r z le room few fits found f lanes all =
     ∙ run_is stops (take (n - start) (drop start d)) (n - start) some (omega arith)
     ∙ same_prefix stops q (λ b lt. agree_below_at stops (λ x. not (q x)) 256 b all lt) (n - start) (drop start d)
     (λ k. rw (get_or-drop start d k 0) (fits (start + k)).fits)
+
+-- a run of the first n bytes that is not all of them
+pub ends_short : (p : ℕ → Bool) (n r : ℕ) (d : List ℕ) → r ≡ prefix_len p (take n d) → r ≢ n → r < n
+ends_short p n r d e other = omega (arith, e, other, prefix_len-le-length p (take n d), length-take n d)
 
 -- a run that ends within the first n bytes
 pub ends_within : (p : ℕ → Bool) (n : ℕ) (d : List ℕ) → n ≤ length d → prefix_len p (take n d) < n → prefix_len p d ≡ prefix_len p (take n d)

@@ -19,7 +19,7 @@ pub use Contents.{skip_contents, gap_contents, spaces_gap, gap_boundary, past_ga
 pub use Ending.{end_once}
 pub use FrontFits.{Part, Within, front_within, items_at, further_skip, next_place_items, last_some}
 pub use FrontIsPiece.{shape, stands_front}
-pub use Lanes.{joined, splat_is, lanes_run, lanes_run_from, ends_within, goes_past, front_run, padded_run}
+pub use Lanes.{joined, splat_is, lanes_run, lanes_run_from, ends_short, ends_within, goes_past, front_run, padded_run}
 pub use Near.{string_begins, number_begins, number_is, number_flat, other_flat}
 pub use Numbers.{run_boundary, natural_digits, float_found, float_is, NumberRun, integer_run, float_run}
 pub use OneCut.{cut_of, has_items, items_only, items_unique}

@@ -156,13 +156,14 @@ pub fn near_len<C: Class>(bytes: &[u8]) -> Option<usize>
     ensures len { IfSome result (λ n. n ≡ prefix_len C.has bytes.now) }
     ensures within { IfSome result (λ n. n ≤ length bytes.now) }
 {
-    if bytes.len() >= LANES {
-        let run = C::lanes(bytes);
-        if run < LANES {
-            return Some(run);
-        }
+    if bytes.len() < LANES {
+        return None;
     }
-    None
+    let run = C::lanes(bytes);
+    if run == LANES {
+        return None;
+    }
+    Some(run)
 }
 
 /// How many bytes the run at the front has.

@@ -6,6 +6,7 @@ use crate::position::Pos;
 use crate::tokenizer::bad::bad_at;
 use crate::tokenizer::brackets::Brackets;
 use crate::tokenizer::ignored::{past_plain, shows_item, skip_ignored, skip_plain};
+use crate::tokenizer::lanes::LANES;
 use crate::tokenizer::piece::{begins_with_name, near_name_at, near_token_at, token_at};
 use crate::tokenizer::place::{position_after_flat, position_after_token};
 use crate::tokenizer::token::{Bad, Kind, Token};
@@ -92,8 +93,8 @@ impl<'a> Tokens<'a> {
     }
 
     /// The next token, where one look shows it and what follows it: it is a short name, a punctuator of one character, a
-    /// string of ASCII that is not empty and has no escape, or a number with no exponent; and no tab, return, comment or
-    /// long run of spaces comes after it.
+    /// string of ASCII that is not empty and has no escape, or a number with no exponent; no tab, return, comment or long run
+    /// of spaces comes after it; and the text goes on for more bytes than one load takes.
     ///
     /// `None` says nothing of the next item. They then stay, and `next_token` answers.
     #[inline(always)]
@@ -101,6 +102,9 @@ impl<'a> Tokens<'a> {
         ensures item { IfSome result (λ t. NextItem self.old (Ok (Some t)) self.new) }
         ensures stays { result ≡ None → self.new ≡ self.old }
     {
+        if self.rest.len() <= LANES {
+            return None;
+        }
         let Some((len, kind, nesting)) = near_token_at(self.rest) else {
             return None;
         };

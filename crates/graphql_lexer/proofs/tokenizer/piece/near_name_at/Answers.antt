@@ -1,22 +1,17 @@
 use Rattle.std.specs.List.{prefix_len}
-use Rattle.std.proofs.Common.{◌≡◌, ℕ, suc, ◌+◌, ◌-◌, ◌<◌, ◌≤◌, ◌≢◌, List, ◌∷◌, true, drop, take, length, get_or, sym, ap, ◌∙◌, arith, Some}
-use Rattle.std.proofs.lemmas.List.{length-take}
-use Rattle.std.proofs.lemmas.List.Sums.{prefix_len-le-length}
+use Rattle.std.proofs.Common.{◌≡◌, ℕ, suc, ◌+◌, ◌-◌, ◌<◌, ◌≤◌, List, ◌∷◌, true, drop, take, length, get_or, sym, ap, ◌∙◌, arith, Some}
 use Rattle.graphql_lexer.specs.{front, taken, is_name_start, is_name_continue, is_gap}
 use Rattle.graphql_lexer.specs.declared.tokenizer.token.Kind.TheVariants.{Name}
 use Rattle.graphql_lexer.specs.declared.tokenizer.piece.Nesting.TheVariants.{Level}
 use Rattle.graphql_lexer.specs.declared.tokenizer.piece.Piece.TheVariants.{Takes}
-use Rattle.graphql_lexer.proofs.{name_front, near_fits, ends_within, front_run}
+use Rattle.graphql_lexer.proofs.{name_front, near_fits, ends_short, ends_within, front_run}
 use Rattle.graphql_lexer.proofs.tokenizer.piece.near_name_at.Goals as goal
 
-short : (rest : List ℕ) (n : ℕ) → n ≡ prefix_len is_name_continue (take 16 rest) → n ≢ 16 → n < 16
-short rest n e other = omega (arith, e, other, prefix_len-le-length is_name_continue (take 16 rest), length-take 16 rest)
-
 pub overflow_add-result : goal.overflow_add-result
-overflow_add-result c = let few = short c.in_ok-rest.rest.now _ c.name_lanes-len.ensures c.if-len-eq-LANES.false in omega (arith, few)
+overflow_add-result c = let few = ends_short is_name_continue 16 _ c.in_ok-rest.rest.now c.name_lanes-len.ensures c.if-len-eq-LANES.false in omega (arith, few)
 
 pub gap_lanes_from-requires-clause-within : goal.gap_lanes_from-requires-clause-within
-gap_lanes_from-requires-clause-within c = short c.in_ok-rest.rest.now _ c.name_lanes-len.ensures c.if-len-eq-LANES.false
+gap_lanes_from-requires-clause-within c = ends_short is_name_continue 16 _ c.in_ok-rest.rest.now c.name_lanes-len.ensures c.if-len-eq-LANES.false
 
 -- the name that stands there
 stands : (text rest : List ℕ) (b n : ℕ) → text ≡ b ∷ rest → is_name_start (get_or text 0 0) ≡ true → n ≡ prefix_len is_name_continue (take 16 rest) → n < 16
@@ -29,13 +24,13 @@ pub returns-clause-is : goal.returns-clause-is
 returns-clause-is c =
     let rest = c.in_ok-rest.rest.now in
     let whole = sym c.as_bytes.ensures.value ∙ c.in_ok-rest.ensures.cases.0 in
-    let few = short rest _ c.name_lanes-len.ensures c.if-len-eq-LANES.false in
+    let few = ends_short is_name_continue 16 _ rest c.name_lanes-len.ensures c.if-len-eq-LANES.false in
     sym (ap taken (stands c.args.text.now rest c.in_ok-rest.field-0-0.now c.name_lanes-len.result whole c.requires.begins c.name_lanes-len.ensures few
     (omega (arith, c.requires.long, ap length whole))))
 
 pub returns-clause-gap : goal.returns-clause-gap
 returns-clause-gap c =
-    let few = short c.in_ok-rest.rest.now _ c.name_lanes-len.ensures c.if-len-eq-LANES.false in
+    let few = ends_short is_name_continue 16 _ c.in_ok-rest.rest.now c.name_lanes-len.ensures c.if-len-eq-LANES.false in
     let n = c.name_lanes-len.result in
     let rest = c.in_ok-rest.rest.now in
     let more : n + 1 ≡ suc n = omega arith in
