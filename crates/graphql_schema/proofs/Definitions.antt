@@ -70,7 +70,8 @@ none_extended ts none = unseen schemas readable extended refl refl refl ts (sees
 
 pub directive_extended : (ts : List Token) → sees (directive_keyword ∷ []) (peek ts) ≡ true → Stops reading extended ts ts (Some Unexpected)
 unfolding tables shared_tables unquoted
-directive_extended ts seen = unseen schemas readable extended refl refl refl ts (sees-apart (first reading.rows extended) (directive_keyword ∷ []) (peek ts) refl seen)
+directive_extended ts seen =
+    unseen schemas readable extended refl refl refl ts (sees-apart (first reading.rows extended) (directive_keyword ∷ []) (peek ts) refl seen)
 
 -- so an extension stops after `extend`
 pub not_extended : {old mid : Items} {t : Token} → TakesToken extend_keyword old mid t → Stops reading extended mid.tokens mid.tokens (Some Unexpected)

@@ -26,7 +26,8 @@ full_means k _ = no_body
 
 taken : (k : TypeKind) {ts us : List Token} {x : Shape} → Takes reading (full_rule k) ts x us
     → (y : Shape) × Takes reading (Sym (symbol_of k)) ts y us × (full_means k (written changes x) ≡ means k (written changes y))
-taken Scalar (takes_both w (takes_both n (takes_both takes_nothing (takes_both ds takes_nothing)))) = (_, takes_node (takes_both w (takes_both n ds)) refl, refl)
+taken Scalar (takes_both w (takes_both n (takes_both takes_nothing (takes_both ds takes_nothing)))) =
+    (_, takes_node (takes_both w (takes_both n ds)) refl, refl)
 taken Object (takes_both w (takes_both n (takes_both is (takes_both ds x)))) =
     (_, takes_node (takes_both w (takes_both n (takes_both is (takes_both ds x)))) refl, refl)
 taken Interface (takes_both w (takes_both n (takes_both is (takes_both ds x)))) =

@@ -26,7 +26,7 @@ impl Brackets {
         self.openers == self.closers + MAX_DEPTH
     }
 
-    /// Whether a token would open a bracket after 50 that are open. There is no branch on which tokens are brackets.
+    /// Whether a token would open a bracket after 50 that are open.
     #[inline(always)]
     pub fn is_too_deep(self, nesting: Nesting) -> bool
         requires { self.closers < 2 ^ 62 }

@@ -94,7 +94,7 @@ impl<'a> Tokens<'a> {
 
     /// The next token, where one look shows it and what follows it: it is a short name, a punctuator of one character, a
     /// string of ASCII that is not empty and has no escape, or a number with no exponent; no tab, return, comment or long run
-    /// of spaces comes after it; and the text goes on for more bytes than one load takes.
+    /// of spaces comes after it; and more than 16 bytes of the text are left.
     ///
     /// `None` says nothing of the next item. They then stay, and `next_token` answers.
     #[inline(always)]

@@ -21,7 +21,8 @@ returns-then-is_at_end-clause-reads g c =
 
 pub returns-else-is_at_end-clause-reads : goal.returns-else-is_at_end-clause-reads
 returns-else-is_at_end-clause-reads g c =
-    read_left schemas readable _ _ _ c.in-Ok.ensures.kept _ _ _ c.in-Ok.ensures.reads.gives c.is_at_end.ensures c.if-is_at_end.false c.fault-else-is_at_end.ensures
+    read_left schemas readable _ _ _ c.in-Ok.ensures.kept _ _ _ c.in-Ok.ensures.reads.gives c.is_at_end.ensures
+    c.if-is_at_end.false c.fault-else-is_at_end.ensures
 
 pub returns-then-is_at_end-clause-end : goal.returns-then-is_at_end-clause-end
 returns-then-is_at_end-clause-end g c = c.is_at_end.ensures.0 c.if-is_at_end.true
