@@ -17,7 +17,7 @@ use std::alloc::Global;
 ///
 /// The error is `TextTooLong` at 1:1 for a text of more than `usize::MAX / 16` bytes, which is tested first;
 /// `OutOfMemory` where an allocation fails; else `BadToken` or `TooDeep` at the bad place in which the text's items end.
-// It stays a function of its own: its one loop takes longer or less long as the code before it in a caller comes to end.
+// It stays a function of its own, since the time of its loop hangs on where its code lies.
 #[inline(never)]
 pub fn minify_query(alloc: Global, source: String) -> Result<String, MinifyError>
     // What is answered is the spaced tokens of the source.

@@ -16,7 +16,7 @@ use std::marker::{Model, PhantomData};
 use std::mem;
 
 /// How many tokens are cut at once at most.
-const PIECE: usize = 16384;
+const PIECE: usize = 3072;
 
 /// The tokens of a text that are left. They are cut a piece at a time, so that those that wait to be read take little room.
 #[derive(Drop)]

@@ -351,16 +351,12 @@ pub fn flat_of(text: &str) -> usize
     whole_len::<Flat>(text.as_bytes())
 }
 
-/// Whether a name begins the text, and at least 16 bytes come after its first.
+/// Whether a name begins the text.
 #[inline(always)]
 pub fn begins_with_name(text: &str) -> bool
-    ensures begins { result ≡ true → is_name_start (slice_index text.now 0) ≡ true }
-    ensures long { result ≡ true → 17 ≤ length text.now }
+    ensures { result ≡ is_name_start (slice_index text.now 0) }
 {
-    match text.as_bytes().split_first() {
-        Some((byte, rest)) => is_name_start(*byte) && rest.len() >= LANES,
-        None => false,
-    }
+    is_name_start(byte_at(text.as_bytes(), 0))
 }
 
 /// The name at the front of a text, and blanks and line feeds after it, as far as one load shows them: their lengths.

@@ -132,6 +132,9 @@ impl<'a> Tokens<'a> {
         ensures item { IfSome result (λ t. NextLexeme self.old t self.new) }
         ensures stays { result ≡ None → self.new ≡ self.old }
     {
+        if self.rest.len() <= LANES {
+            return None;
+        }
         if begins_with_name(self.rest) {
             let (len, gap) = near_name_at(self.rest)?;
             let (value, after) = self.rest.split_at(len);
