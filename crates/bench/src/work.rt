@@ -159,7 +159,11 @@ fn time_to_minify(rt: &HostRuntime, source: &str) -> io::Result<Option<Duration>
     let start = Instant::now(rt)?;
     let minified = minify_query(rt.alloc(), copy);
     let elapsed = start.elapsed(rt)?;
-    Ok(minified.ok().map(|_| elapsed))
+    Ok(if minified.is_ok() {
+        Some(elapsed)
+    } else {
+        None
+    })
 }
 
 /// Does the work once that has nothing to leave out of its time; whether it came to its end.
