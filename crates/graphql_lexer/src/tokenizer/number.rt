@@ -1,5 +1,5 @@
 //! Numbers: the run at the front of a text, and whether it is one.
-ghost use Rattle.std.specs.Prelude.{◌≡◌, ◌≤◌, true, false, length, take, IfSome};
+ghost use Rattle.std.specs.Prelude.{◌≡◌, ◌≤◌, ◌||◌, ◌==◌, true, false, length, take, IfSome};
 ghost use Rattle.std.specs.List.{prefix_len, list_all};
 ghost use Rattle.graphql_lexer.specs.{is_quoted};
 ghost use Rattle.graphql_lexer.specs.declared.tokenizer.piece.Nesting.TheVariants.{Level};
@@ -87,6 +87,13 @@ fn is_integer(run: &[u8]) -> bool
     }
 }
 
+/// Whether it may follow the `e` of an exponent: a sign, or a digit 1 to 8.
+fn goes_on_exponent(byte: u8) -> bool
+    ensures { result ≡ (byte == 43 || byte == 45 || lexical.is_in 49 56 byte) }
+{
+    byte == b'+' || byte == b'-' || (byte >= b'1' && byte <= b'8')
+}
+
 /// Whether it is `e` or `E`, and then a sign and any digits, or a digit 1 to 8 and any digits.
 fn is_exponent(bytes: &[u8]) -> bool
     ensures { result ≡ lexical.is_exponent bytes.now }
@@ -96,9 +103,7 @@ fn is_exponent(bytes: &[u8]) -> bool
         Some((mark, rest)) => match rest.split_first() {
             None => false,
             Some((first, digits)) => {
-                (*mark == b'e' || *mark == b'E')
-                    && ((*first == b'+' || *first == b'-' || (*first >= b'1' && *first <= b'8'))
-                        && is_digits(digits))
+                (*mark == b'e' || *mark == b'E') && goes_on_exponent(*first) && is_digits(digits)
             }
         },
     }
