@@ -1,4 +1,4 @@
-use Rattle.std.proofs.Common.{◌+◌, List, Some, Ok, length, refl, sym, ap, ◌∙◌, arith}
+use Rattle.std.proofs.Common.{◌+◌, List, Some, Ok, length, refl, sym, ap, ◌∙◌, inr, arith}
 use Rattle.std.proofs.lemmas.List.Elements.{All-nil, All-push}
 use Rattle.graphql_core.specs.{Pos, NextItem, next_place, split, Marks, span_items}
 use Rattle.graphql_core.specs.declared.helpers.span.Span.{Span}
@@ -88,3 +88,8 @@ pub returns-in-Err-clause-cut : goal.returns-in-Err-clause-cut
 returns-in-Err-clause-cut g c text left =
     let (w, is, same) = rw c.in-Err.is at c.far_item-after.ensures in
     rw (same ∙ c.in-None.ensures.stays refl) (c.items.invariant.cut text left)
+
+pub returns-in-Err-clause-full : goal.returns-in-Err-clause-full
+returns-in-Err-clause-full g c =
+    let (w, is, same) = rw c.in-Err.is at c.far_item-after.ensures in
+    inr (w, same ∙ is)
