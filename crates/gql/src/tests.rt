@@ -1,7 +1,9 @@
 //! Runs over readers and writers of the tests' own.
+mod calls;
 mod devices;
 mod documents;
 mod failures;
+mod shown;
 mod words;
 
 use crate::command::{Command, read_words};

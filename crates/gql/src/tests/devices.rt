@@ -40,7 +40,8 @@ impl<'a> Read for Source<'a> {
     }
 }
 
-/// Takes at most `step` bytes a call, and fails at the call numbered `failing`, or where it is flushed.
+/// Takes at most `step` bytes a call, and fails at the call numbered `failing`, or where it is flushed. `flushed` counts
+/// the flushes, failed ones too.
 #[derive(Drop)]
 pub struct Sink {
     pub taken: Vec<u8>,
@@ -48,6 +49,7 @@ pub struct Sink {
     pub calls: usize,
     pub failing: usize,
     pub flushes: bool,
+    pub flushed: usize,
     pub kind: ErrorKind,
 }
 
@@ -60,6 +62,7 @@ impl Sink {
             calls: 0,
             failing: 0,
             flushes: true,
+            flushed: 0,
             kind: ErrorKind::BrokenPipe,
         }
     }
@@ -79,6 +82,7 @@ impl Write for Sink {
     }
 
     fn flush(&mut self) -> io::Result<()> {
+        self.flushed = self.flushed.saturating_add(1);
         if self.flushes {
             Ok(())
         } else {

@@ -4,6 +4,7 @@ ghost use Rattle.std.specs.Prelude.{◌≤◌, ◌<◌, ◌*◌, ◌/◌, length
 use crate::tokenizer::Token;
 use graphql_core::helpers::{Cursor, Lexeme, SpanSource, TokenSource, WIDE_TEXT, Width};
 use std::alloc::Global;
+use std::process::Abort;
 use std::test::Fail;
 
 const QUERY: &str = "query Q($a: [Int!]! = [1, 2]) @d(x: $a) { b: c ... on T @e { f } ...G }";
@@ -63,7 +64,34 @@ fn have_same_items<W: Width>(alloc: Global, source: &str) -> Result<bool, Fail>
     Ok(cursor.peek().is_none())
 }
 
-/// Whether that is so at both widths, for every beginning of a text that ends between two characters.
+/// The faults of a text's items, the last of them twice, are these from a cursor and from spans of this width.
+fn assert_faults<W: Width>(
+    rt: &impl Abort,
+    alloc: Global,
+    source: &str,
+    faults: &[&str],
+) -> Result<(), Fail>
+    requires small { length source.now ≤ usize.MAX / 16 }
+    requires narrow { 8 * length source.now < W.most }
+{
+    let mut cursor: Cursor<'_, String> = Cursor::new(source);
+    let mut spans: SpanSource<'_, String, W> = SpanSource::new(alloc, source)?;
+    for fault in faults {
+        assert_eq!(rt;
+            format!(in alloc; "{:?}", cursor.fault(alloc))?.as_str(),
+            *fault
+        );
+        assert_eq!(rt;
+            format!(in alloc; "{:?}", spans.fault(alloc))?.as_str(),
+            *fault
+        );
+        cursor.advance();
+        spans.advance();
+    }
+    Ok(())
+}
+
+/// Whether the items are the same at both widths, for every beginning of a text that ends between two characters.
 fn have_same_beginnings(alloc: Global, source: &str) -> Result<bool, Fail> {
     'beginnings: for len in 0..=source.len() {
         if let Some((text, _)) = source.split_at_checked(len) {
@@ -82,6 +110,34 @@ fn have_same_beginnings(alloc: Global, source: &str) -> Result<bool, Fail> {
 fn each_beginning(rt: HostRuntime) -> Result<(), Fail> {
     'texts: for text in [QUERY, SCHEMA, STRING, BLOCK_STRING, MARKS] {
         assert!(rt; have_same_beginnings(rt.alloc(), text)?);
+    }
+    Ok(())
+}
+
+#[test]
+fn faults_of_items(rt: HostRuntime) -> Result<(), Fail> {
+    const BRACE: &str =
+        "Fault { cause: UnexpectedToken { kind: Punctuator, text: \"{\" }, position: Some(Pos(1:1)) }";
+    const STRING: &str =
+        "Fault { cause: UnexpectedToken { kind: StringValue, text: \"\\\"é\\\"\" }, position: Some(Pos(2:2)) }";
+    for (text, last) in [
+        (
+            "{\n \"é\"",
+            "Fault { cause: UnexpectedEnd, position: Some(Pos(2:5)) }",
+        ),
+        (
+            "{\n \"é\" ;",
+            "Fault { cause: BadToken(Character(';')), position: Some(Pos(2:6)) }",
+        ),
+        (
+            "{\n \"é\",01 a",
+            "Fault { cause: BadToken(Integer(\"01\")), position: Some(Pos(2:6)) }",
+        ),
+    ] {
+        let faults = [BRACE, STRING, last, last];
+        assert!(rt; text.len() < WIDE_TEXT);
+        assert_faults::<u32>(&rt, rt.alloc(), text, &faults)?;
+        assert_faults::<usize>(&rt, rt.alloc(), text, &faults)?;
     }
     Ok(())
 }

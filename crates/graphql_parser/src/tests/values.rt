@@ -25,10 +25,32 @@ fn positions(rt: HostRuntime) -> Result<(), Fail> {
 }
 
 #[test]
-fn styles_and_numbers(rt: HostRuntime) -> Result<(), Fail> {
+fn styles_are_cloned_compared_and_shown(rt: HostRuntime) -> Result<(), Fail> {
+    for (indent, multiline, shown) in [
+        (2, false, "Style { indent: 2, multiline_arguments: false }"),
+        (2, true, "Style { indent: 2, multiline_arguments: true }"),
+        (7, false, "Style { indent: 7, multiline_arguments: false }"),
+        (7, true, "Style { indent: 7, multiline_arguments: true }"),
+    ] {
+        let mut style = Style::default();
+        style.indent(indent).multiline_arguments(multiline);
+        let copy = style.clone()?;
+        let settings = (copy.indentation(), copy.has_multiline_arguments());
+        assert_eq!(rt; settings, (indent, multiline));
+        assert!(rt; copy == style, "{shown}");
+        assert_eq!(rt;
+            copy == Style::default(),
+            (indent, multiline) == (2, false),
+            "{shown}"
+        );
+        assert_eq!(rt; format!(in rt.alloc(); "{copy:?}")?.as_str(), shown);
+    }
+    Ok(())
+}
+
+#[test]
+fn numbers(rt: HostRuntime) -> Result<(), Fail> {
     let alloc = rt.alloc();
-    let style = Style::default();
-    assert!(rt; style.clone()? == style);
     assert_eq!(rt; Number::from(-7).as_i64(), Some(-7));
     assert_eq!(rt; Number::from_i64(i64::MIN).as_i64(), Some(i64::MIN));
     assert!(rt; Number::from(1) != Number::from_i64(2));
@@ -85,7 +107,7 @@ fn tokens_and_bad_places_are_shown_and_compared(rt: HostRuntime) -> Result<(), F
 }
 
 #[test]
-fn causes_and_settings_are_shown_and_compared(rt: HostRuntime) -> Result<(), Fail> {
+fn causes_and_literals_are_shown_and_compared(rt: HostRuntime) -> Result<(), Fail> {
     let alloc = rt.alloc();
     let character = Cause::BadToken(BadToken::Character(';'));
     let run = Cause::BadToken(BadToken::Integer(String::from_str(alloc, "01")?));
@@ -103,12 +125,6 @@ fn causes_and_settings_are_shown_and_compared(rt: HostRuntime) -> Result<(), Fai
     assert_eq!(rt;
         debugged(alloc, &UnquoteError::BadEscape, &UnquoteError::OutOfMemory)?.as_str(),
         "BadEscape OutOfMemory"
-    );
-    let mut style = Style::default();
-    style.indent(4).multiline_arguments(true);
-    assert_eq!(rt;
-        debugged(alloc, &Style::default(), &style)?.as_str(),
-        "Style { indent: 2, multiline_arguments: false } Style { indent: 4, multiline_arguments: true }"
     );
     let literal = FloatLiteral::new(String::from_str(alloc, "1.5")?)?;
     let longer = FloatLiteral::new(String::from_str(alloc, "1.50")?)?;
