@@ -168,9 +168,17 @@ fn read_sized_answer<'a>(words: &str, after: &'a str) -> Option<(Answer<'a>, &'a
     }
 }
 
-/// The case at the front, and what follows.
+/// What follows the line at the front, where that begins with `#`.
+fn past_heading(text: &str) -> &str {
+    match text.split_once('\n') {
+        Some((line, after)) if line.starts_with('#') => after,
+        _ => text,
+    }
+}
+
+/// The case at the front, and what follows. A heading may stand before it.
 pub fn next_case<'a>(text: &'a str) -> Option<(Case<'a>, &'a str)> {
-    let (line, after) = text.split_once('\n')?;
+    let (line, after) = past_heading(text).split_once('\n')?;
     let (asked, length) = read_asked(line)?;
     let (source, after) = sized(after, length)?;
     let (answer, after) = read_answer(after)?;

@@ -77,7 +77,11 @@ fn recorded_cases_agree() {
     let bytes = fs::read(repository().join("crates/vectors/stdin")).expect("the recorded cases");
     let (mut rest, mut count) = (Rest(&bytes), 0);
     while !rest.0.is_empty() {
-        let mut words = rest.line().split(' ');
+        let line = rest.line();
+        if line.starts_with('#') {
+            continue;
+        }
+        let mut words = line.split(' ');
         let (word, length) = (words.next().expect("a word"), words.next().expect("a length"));
         let indent = words.next().map_or(2, |indent| indent.parse().expect("an indentation"));
         let (text, wanted) = (rest.sized(length), rest.wanted());
