@@ -1,11 +1,13 @@
 /* Tries each call with buffers of every length, from none to more than it needs: it writes all of its output or its message, or nothing, and tells
- * the same length throughout. Prints nothing, and ends with status 0, where all is well. */
+ * the same length throughout. Around each buffer are bytes that have to stay as they are, and each text ends where its block of memory ends, so that
+ * valgrind sees a byte that is read too far. Prints nothing, and ends with status 0, where all is well. */
 #include "graphql.h"
 #include <stdio.h>
 #include <stdlib.h>
 #include <string.h>
 
 #define FILLED 0xa5
+#define AROUND 16
 
 typedef graphql_answer (*caller)(const uint8_t *text, size_t length, uint8_t *out, size_t capacity);
 
@@ -48,28 +50,45 @@ static const struct wanted all[] = {
     {graphql_check_schema, "\xff", GRAPHQL_NOT_UTF8, 0, 0, "text is not UTF-8"},
 };
 
-/* A call with a buffer of some capacity, in which each byte has the same value before it. */
+/* A call with a buffer of some capacity. It has AROUND more bytes on both sides, and each byte has the same value before the call. */
 struct tried {
     graphql_answer answer;
-    uint8_t *out;
+    uint8_t *block, *out;
     size_t capacity;
 };
 
-static struct tried tried(const struct wanted *it, size_t capacity) {
-    struct tried done = {{0, 0, 0, 0}, malloc(capacity > 0 ? capacity : 1), capacity};
-    if (done.out == NULL)
+static uint8_t *block_of(size_t length) {
+    uint8_t *block = malloc(length > 0 ? length : 1);
+    if (block == NULL)
         abort();
-    memset(done.out, FILLED, capacity);
-    done.answer = it->call((const uint8_t *)it->text, strlen(it->text), done.out, capacity);
+    return block;
+}
+
+static struct tried tried(const struct wanted *it, size_t capacity) {
+    struct tried done = {{0, 0, 0, 0}, block_of(capacity + 2 * AROUND), NULL, capacity};
+    size_t length = strlen(it->text);
+    uint8_t *text = block_of(length);
+    memcpy(text, it->text, length);
+    memset(done.block, FILLED, capacity + 2 * AROUND);
+    done.out = done.block + AROUND;
+    done.answer = it->call(text, length, done.out, capacity);
+    if (memcmp(text, it->text, length) != 0)
+        abort();
+    free(text);
     return done;
 }
 
-/* Whether so many bytes at the beginning of the buffer are these, and the others are as they were. */
-static int holds(const struct tried *done, const void *bytes, size_t length) {
-    size_t at = length;
-    while (at < done->capacity && done->out[at] == FILLED)
+static bool is_filled(const uint8_t *bytes, size_t length) {
+    size_t at = 0;
+    while (at < length && bytes[at] == FILLED)
         at++;
-    return memcmp(done->out, bytes, length) == 0 && at == done->capacity;
+    return at == length;
+}
+
+/* Whether so many bytes at the beginning of the buffer are these, and all others are as they were, also those around it. */
+static bool holds(const struct tried *done, const void *bytes, size_t length) {
+    return length <= done->capacity && memcmp(done->out, bytes, length) == 0 && is_filled(done->block, AROUND)
+        && is_filled(done->out + length, done->capacity - length + AROUND);
 }
 
 /* Whether an answer is the wanted one, but for its status and its length. */
@@ -89,9 +108,9 @@ static int is_right(const struct wanted *it) {
         uint32_t short_of = it->status == GRAPHQL_OK ? (uint32_t)GRAPHQL_BUFFER_TOO_SHORT : it->status;
         right = done.answer.status == (written <= capacity ? it->status : short_of) && done.answer.length == told && has_place(it, done.answer)
             && holds(&done, roomy.out, written <= capacity ? written : 0);
-        free(done.out);
+        free(done.block);
     }
-    free(roomy.out);
+    free(roomy.block);
     return right;
 }
 
