@@ -41,6 +41,8 @@ pub enum Cause {
     OutOfMemory,
     TooWide,
     NotUtf8,
+    /// A status that this version does not know.
+    Other(u32),
 }
 
 /// Where a text is refused: a line and a column, both from 1.

@@ -66,9 +66,10 @@ fn cause(status: u32) -> Cause {
         10 => Cause::UnknownOperation,
         11 => Cause::EmptyExtension,
         12 => Cause::TextTooLong,
+        13 => Cause::OutOfMemory,
         14 => Cause::TooWide,
         15 => Cause::NotUtf8,
-        _ => Cause::OutOfMemory,
+        _ => Cause::Other(status),
     }
 }
 
