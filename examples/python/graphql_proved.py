@@ -31,9 +31,13 @@ for _name in ("format_query", "format_schema", "minify", "first_definition", "ch
     _call.argtypes = [*_text, *([ctypes.c_uint32, ctypes.c_bool] if _name.startswith("format") else []), *_buffer]
 
 
+def _bytes(text):
+    return text.encode("utf-8") if isinstance(text, str) else bytes(text)
+
+
 def _called(call, text, capacity, *style):
     """The answer of a call for a text, with what it wrote. The buffer is made longer where the output or the message does not fit."""
-    given = text.encode("utf-8") if isinstance(text, str) else bytes(text)
+    given = _bytes(text)
     while True:
         # (a buffer is never empty, since ctypes may pass an empty one as a null pointer)
         out = ctypes.create_string_buffer(max(capacity, 1))
@@ -50,14 +54,21 @@ def _output(call, text, *style):
     return out.raw[: answer.length].decode("utf-8")
 
 
+def _formatted(call, text, indent, multiline):
+    # (ctypes would take the number modulo 2**32)
+    if not 0 <= indent < 2**32:
+        raise ValueError(f"indent {indent} is not from 0 to {2**32 - 1}")
+    return _output(call, text, indent, multiline)
+
+
 def format_query(text, indent=2, multiline=False):
     """A query document, laid out."""
-    return _output(_library.graphql_format_query, text, indent, multiline)
+    return _formatted(_library.graphql_format_query, text, indent, multiline)
 
 
 def format_schema(text, indent=2, multiline=False):
     """A schema document, laid out."""
-    return _output(_library.graphql_format_schema, text, indent, multiline)
+    return _formatted(_library.graphql_format_schema, text, indent, multiline)
 
 
 def minify(text):
@@ -66,10 +77,12 @@ def minify(text):
 
 
 def first_definition(text):
-    """The first definition of a query document with the ignored text after it, and the rest."""
-    given = text.encode("utf-8")
-    end = _called(_library.graphql_first_definition, text, 256)[0].length
-    return given[:end].decode("utf-8"), given[end:].decode("utf-8")
+    """The first definition of a query document with the ignored text after it, and the rest: str of a str, else bytes."""
+    given = _bytes(text)
+    end = _called(_library.graphql_first_definition, given, 256)[0].length
+    if isinstance(text, str):
+        return given[:end].decode("utf-8"), given[end:].decode("utf-8")
+    return given[:end], given[end:]
 
 
 def check_query(text):

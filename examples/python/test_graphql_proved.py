@@ -11,6 +11,7 @@ class Calls(unittest.TestCase):
         self.assertEqual(graphql.format_schema('"""d""" enum E { "v" A @x B }'), '"d"\nenum E {\n  "v" A @x\n  B\n}\n')
         self.assertEqual(graphql.minify("query { a , b }"), "query{a b}")
         self.assertEqual(graphql.first_definition("{ a } # é\n{ b } ?"), ("{ a } # é\n", "{ b } ?"))
+        self.assertEqual(graphql.first_definition("{ a } b".encode()), (b"{ a } ", b"b"))
         self.assertIsNone(graphql.check_query("{ a }"))
         self.assertIsNone(graphql.check_schema("scalar S"))
 
@@ -26,6 +27,14 @@ class Calls(unittest.TestCase):
             with self.assertRaises(graphql.GraphQLError) as caught:
                 call(text)
             self.assertEqual((caught.exception.status, caught.exception.position), (status, position), text)
+
+    def test_indents(self):
+        self.assertEqual(graphql.format_query("{ a }", 0), "{\na\n}\n")
+        for indent in (-1, 2**32, 2**32 + 1):
+            for call in (graphql.format_query, graphql.format_schema):
+                with self.assertRaises(ValueError) as caught:
+                    call("scalar S", indent)
+                self.assertNotIsInstance(caught.exception, graphql.GraphQLError)
 
     def test_long_messages_and_outputs(self):
         name = "a" * 2000
