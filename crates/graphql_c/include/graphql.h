@@ -4,6 +4,12 @@
  * Each function reads a text of `length` bytes at `text`, and may write into the `capacity` bytes at `out`. It keeps neither pointer after it
  * returns, writes nowhere else, and frees what memory it took. No two calls share anything: threads may call at once.
  *
+ * What a call takes:
+ *  - 64 KB of stack are enough for every call;
+ *  - its time and its memory grow about in proportion to the text and the output;
+ *  - an output can be far longer than its text: about fifty times with an `indent` of 2, since brackets nest up to 50 deep;
+ *  - an `indent` has no bound of its own: `{a}` with one of UINT32_MAX takes 4 GB. Who lets others choose it has to bound it.
+ *
  * What nothing checks, and the caller owes:
  *  - `text` and `out` are never null, also where the length or the capacity is 0: the address of any object does then;
  *  - `text` points to `length` bytes that can be read, and `out` to `capacity` bytes that can be written, which do not overlap; the bytes of `out`
@@ -66,8 +72,8 @@ typedef struct graphql_answer {
 
     /* Of GRAPHQL_OK the bytes of the output, which is at the beginning of the buffer; for `graphql_first_definition` the offset of the rest, and for
      * the two checks 0. Of GRAPHQL_BUFFER_TOO_SHORT the bytes of the output, of which none is written. Of any other status the bytes of the message
-     * in UTF-8, which is at the beginning of the buffer if it is no longer than the buffer, and else not written. No zero byte is added. The rest of
-     * the buffer is as it was. */
+     * in UTF-8, or 0 where there is no memory for the message. A message is at the beginning of the buffer if it is no longer than the buffer, and
+     * else not written; that it is written, and what it says, is tested and not proved. No zero byte is added. The rest of the buffer is as it was. */
     size_t length;
 
     /* Where a text is refused, from 1; 0 where there is no place. A tab takes 8 columns outside of tokens. */
