@@ -44,6 +44,8 @@ static const struct wanted all[] = {
     {query_too_wide, "{ a { b } }", GRAPHQL_TOO_WIDE, 0, 0, "format error: indentation too wide"},
     {schema, "extend type A", GRAPHQL_EMPTY_EXTENSION, 1, 8, "schema parse error: Parse error at 1:8\n"},
     {graphql_minify, "{ a ; }", GRAPHQL_BAD_TOKEN, 1, 5, "query minify error: "},
+    {graphql_first_definition, "{ a } b\xff", GRAPHQL_OK, 0, 0, ""},
+    {graphql_first_definition, "{ a } \xff", GRAPHQL_NOT_UTF8, 0, 0, "text is not UTF-8"},
     {graphql_first_definition, "where", GRAPHQL_UNEXPECTED_TOKEN, 1, 1, "query parse error: Parse error at 1:1\n"},
     {graphql_check_query, "", GRAPHQL_UNEXPECTED_END, 1, 1, "query parse error: Parse error at 1:1\n"},
     {graphql_check_schema, "schema { what: A }", GRAPHQL_UNKNOWN_OPERATION, 1, 1, "schema parse error: Parse error at 1:1\n"},

@@ -11,7 +11,7 @@ class Calls(unittest.TestCase):
         self.assertEqual(graphql.format_schema('"""d""" enum E { "v" A @x B }'), '"d"\nenum E {\n  "v" A @x\n  B\n}\n')
         self.assertEqual(graphql.minify("query { a , b }"), "query{a b}")
         self.assertEqual(graphql.first_definition("{ a } # é\n{ b } ?"), ("{ a } # é\n", "{ b } ?"))
-        self.assertEqual(graphql.first_definition("{ a } b".encode()), (b"{ a } ", b"b"))
+        self.assertEqual(graphql.first_definition(b"{ a } b\xff"), (b"{ a } ", b"b\xff"))
         self.assertIsNone(graphql.check_query("{ a }"))
         self.assertIsNone(graphql.check_schema("scalar S"))
 

@@ -6,7 +6,7 @@
  *
  * What a call takes:
  *  - 64 KB of stack are enough for every call;
- *  - its time and its memory grow about in proportion to the text and the output;
+ *  - its time and its memory grow about in proportion to the text and the output; `graphql_first_definition` says more of its own;
  *  - an output can be far longer than its text: about fifty times with an `indent` of 2, since brackets nest up to 50 deep;
  *  - an `indent` has no bound of its own: `{a}` with one of UINT32_MAX takes 4 GB. Who lets others choose it has to bound it.
  *
@@ -94,8 +94,11 @@ graphql_answer graphql_format_schema(const uint8_t *text, size_t length, uint32_
 graphql_answer graphql_minify(const uint8_t *text, size_t length, uint8_t *out, size_t capacity);
 
 /* Finds where the first definition of a query document ends, with the spaces, commas and comments after it: on GRAPHQL_OK the rest of the text
- * begins at the offset `length`. The rest may be anything, and is not looked at. Only a message is written, so GRAPHQL_BUFFER_TOO_SHORT is never
- * answered, and a capacity of 0 is enough where no message is wanted. */
+ * begins at the offset `length`. What follows the first character of the rest changes nothing, and may be any bytes. GRAPHQL_NOT_UTF8 is answered where
+ * the text is not UTF-8, and no definition with a character after it is found before the first wrong byte.
+ * The time of a call grows in proportion to the offset, and where the text is refused in proportion to the text. So to take off all definitions of a
+ * text, one by one, takes time in proportion to the text. Only a message is written, so GRAPHQL_BUFFER_TOO_SHORT is never answered, and a capacity of 0
+ * is enough where no message is wanted. */
 graphql_answer graphql_first_definition(const uint8_t *text, size_t length, uint8_t *out, size_t capacity);
 
 /* Parses a text alone: GRAPHQL_OK where it is a query document. Only a message is written, as above. */

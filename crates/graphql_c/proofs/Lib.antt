@@ -1,3 +1,4 @@
+pub mod Fronts
 pub mod Rest
 pub mod Told
 pub use Rest.*

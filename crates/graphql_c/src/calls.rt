@@ -1,5 +1,5 @@
 //! What the calls make of bytes.
-ghost use Rattle.std.specs.Prelude.{◌≡◌, string_bytes, Ok, None, MatchResult, IsErrAnd};
+ghost use Rattle.std.specs.Prelude.{◌≡◌, ◌++◌, ℕ, List, length, take, string_bytes, Ok, None, IfSome, MatchResult, IsErrAnd};
 ghost use Rattle.graphql_core.specs.{IsMinified};
 ghost use Rattle.graphql_values.specs.{IsDocumentOf};
 ghost use Rattle.graphql_query_tree.specs.{queries};
@@ -16,6 +16,9 @@ use graphql_query::{Document as QueryDocument, consume_definition, minify_query,
 use graphql_schema::{Document as SchemaDocument, parse_schema};
 use std::alloc::Global;
 use std::str;
+
+/// How many bytes of a text are searched for its first definition at first.
+const FIRST_LENGTH: usize = 4096;
 
 /// The style with so many spaces a level, and under `multiline` with a line for each argument.
 pub fn style_in(indent: u32, multiline: bool) -> Style
@@ -113,13 +116,56 @@ pub fn minified(alloc: Global, bytes: &[u8]) -> Result<String, Failure>
     }
 }
 
-/// The offset of the rest of these bytes, after their first definition and the ignored text after that.
-pub fn first_end(alloc: Global, bytes: &[u8]) -> Result<usize, Failure>
-    ensures { MatchResult result (EndsAt bytes.now) (Fails (HasNoFirst bytes.now) ⊥ bytes.now) }
+/// The text at the front of these bytes, up to the first of them that are not UTF-8.
+fn valid_front(bytes: &[u8]) -> &str
+    ensures { result.now ≡ take (length result.now) bytes.now }
 {
-    let text = text_of(alloc, bytes)?;
+    match str::from_utf8(bytes) {
+        Ok(text) => text,
+        Err(error) => unsafe { str::from_utf8_unchecked(bytes.split_at(error.valid_up_to()).0) },
+    }
+}
+
+/// The offset of the rest of every text that begins with this front: after its first definition and the ignored text after
+/// that. There is none where that may depend on what follows the front.
+fn end_within(alloc: Global, front: &str) -> Option<usize>
+    ensures { IfSome result (λ n. (more : List ℕ) → EndsAt (front.now ++ more) n) }
+{
+    let (_, rest) = consume_definition::<&str>(alloc, front).ok()?;
+    if rest.is_empty() {
+        None
+    } else {
+        Some(front.len() - rest.len())
+    }
+}
+
+/// The offset of the rest of a text, after its first definition and the ignored text after that.
+fn end_of(alloc: Global, text: &str) -> Result<usize, Failure>
+    ensures { MatchResult result (EndsAt text.now) (Fails (HasNoFirst text.now) ⊥ text.now) }
+{
     match consume_definition::<&str>(alloc, text) {
         Ok(first) => Ok(text.len() - first.1.len()),
         Err(error) => Err(Failure::refused(alloc, error.cause(), error.position(), &error)),
+    }
+}
+
+/// The offset of the rest of these bytes, after their first definition and the ignored text after that. It tries fronts of
+/// doubling length, so that it looks at no more bytes than in proportion to that offset.
+pub fn first_end(alloc: Global, bytes: &[u8]) -> Result<usize, Failure>
+    ensures { MatchResult result (EndsAt bytes.now) (Fails (HasNoFirst bytes.now) ⊥ bytes.now) }
+{
+    let mut length = FIRST_LENGTH;
+    'fronts: while length < bytes.len() {
+        if let Some(end) = end_within(alloc, valid_front(bytes.split_at(length).0)) {
+            return Ok(end);
+        }
+        length = length.saturating_mul(2);
+    }
+    match str::from_utf8(bytes) {
+        Ok(text) => end_of(alloc, text),
+        Err(_) => match end_within(alloc, valid_front(bytes)) {
+            Some(end) => Ok(end),
+            None => Err(Failure::not_utf8(alloc)),
+        },
     }
 }

@@ -1,24 +1,25 @@
-use Rattle.std.proofs.Common.{◌-◌, length, subst}
-use Rattle.std.proofs.lemmas.Result.{IfErr-at_err}
-use Rattle.graphql_values.proofs.Outputs.{has_none}
-use Rattle.graphql_query.specs.{one_definition, IsFirstDefinition}
-use Rattle.graphql_c.specs.{HasNoFirst, EndsAt}
-use Rattle.graphql_c.proofs.{rest_at, halts, refused_at}
-use Rattle.graphql_values.proofs.Outputs.{has_none}
+use Rattle.std.proofs.Common.{◌≡◌, ◌∙◌, ◌++◌, length, drop, MatchResult, append_assoc, sym, ap, subst}
+use Rattle.graphql_c.specs.{Fails, HasNoFirst, EndsAt, not_utf8}
+use Rattle.graphql_c.proofs.{begins, explains_as}
 use Rattle.graphql_c.proofs.calls.first_end.Goals as goal
 
-pub returns-in_err-text : goal.returns-in_err-text
-returns-in_err-text c = halts _ _ _ _ _ (λ e no. absurd no) c.in_err-text.ensures c.from_residual.ensures.1
+pub returns-in-Some : goal.returns-in-Some
+returns-in-Some c =
+    let front = c.valid_front.result.now in
+    let given = c.split_at.result.0.now in
+    let behind = c.split_at.result.1.now in
+    let is : c.args.bytes.now ≡ front ++ (drop (length front) given ++ behind) =
+    c.split_at.ensures.by_index.0 ∙ ap (λ t. t ++ behind) (begins front given c.valid_front.ensures) ∙ append_assoc front _ behind in
+    subst (λ t. EndsAt t c.in-Some.end) (sym is) (c.in-Some.ensures (drop (length front) given ++ behind))
 
 pub returns-in-Ok : goal.returns-in-Ok
 returns-in-Ok c =
-    let rest = c.in-Ok.first.1.now in
-    let ends : EndsAt c.in_ok-text.text.now (length c.in_ok-text.text.now - length rest) = rest_at c.in_ok-text.text.now rest _ c.in-Ok.ensures.first in
-    subst (λ t. EndsAt t (length c.in_ok-text.text.now - length rest)) c.in_ok-text.ensures ends
+    subst (λ t. MatchResult c.end_of.result (EndsAt t) (Fails (HasNoFirst t) ⊥ t)) c.in-Ok.ensures.cases.0 c.end_of.ensures
 
-pub returns-in-Err : goal.returns-in-Err
-returns-in-Err c =
-    let consumed = c.consume_definition.ensures in
-    let none = has_none IsFirstDefinition one_definition _ c.in_ok-text.text.now c.consume_definition.result consumed.refused consumed.complete in
-    let here = subst (λ t. HasNoFirst t c.in-Err.error) c.in_ok-text.ensures (IfErr-at_err _ c.in-Err.is none) in
-    refused_at _ here c.cause.ensures c.position.ensures c.refused.ensures
+pub returns-in-Some-end_within : goal.returns-in-Some-end_within
+returns-in-Some-end_within c =
+    let is = begins _ c.args.bytes.now c.valid_front-in-Err.ensures in
+    subst (λ t. EndsAt t c.in-Some-end_within.end) (sym is) (c.in-Some-end_within.ensures _)
+
+pub returns-in-None : goal.returns-in-None
+returns-in-None c = explains_as c.not_utf8.ensures (not_utf8 c.in-Err.ensures.cases.0)
