@@ -8,24 +8,24 @@ use Rattle.graphql_core.specs.declared.format.error.FormatError.TheVariants.{Too
 use Rattle.gql.specs.declared.command.Command.{Command}
 use Rattle.gql.specs.declared.error.RunError.{RunError}
 use Rattle.gql.specs.declared.error.RunError.TheVariants.{Format}
-use Rattle.gql.specs.{HasNoLayout, EndsEngine}
+use Rattle.gql.specs.{HasNoLayout, HasDocument, HasOne, EndsEngine}
 use Rattle.graphql_values.specs.Outputs.{IsWrittenOf, IsWide}
 
 -- what is not laid out is too wide, unless memory runs out
-pub not_laid_out : {A : Type 0} (command : Command) (style : Layout) (text : List ℕ) (made : Result A FormatError)
+pub not_laid_out : {A : Type 0} (command : Command) (style : Layout) (text : List ℕ) (made : Result A FormatError) → HasDocument command text
     → (made ≡ Err TooWide → HasNoLayout command style text) → IfErr made (λ e. EndsEngine command style text (Format e))
-not_laid_out command style text (Ok x) wide = tt
-not_laid_out command style text (Err TooWide) wide = wide refl
-not_laid_out command style text (Err OutOfMemory) wide = tt
+not_laid_out command style text (Ok x) some wide = tt
+not_laid_out command style text (Err TooWide) some wide = wide refl
+not_laid_out command style text (Err OutOfMemory) some wide = some
 
 -- a layout of the document that was parsed, or that is too wide, unless memory runs out
 pub laid_out : {D V : Type 0} {l : Language D} {view : V → D} {text : List ℕ} {v : V} (command : Command) (style : Layout) (lay : D → List ℕ)
     (IsTooWide : D → Type 0) (made : Result (String Global) FormatError) (r : Result (String Global) RunError)
-    → (IsWide (IsDocumentOf l) IsTooWide text → HasNoLayout command style text) → ParsesDocument l view text (Ok v)
-    → IfOk made (λ s. string_bytes s ≡ lay (view v)) → (made ≡ Err TooWide → IsTooWide (view v))
+    → (HasOne (IsDocumentOf l) text → HasDocument command text) → (IsWide (IsDocumentOf l) IsTooWide text → HasNoLayout command style text)
+    → ParsesDocument l view text (Ok v) → IfOk made (λ s. string_bytes s ≡ lay (view v)) → (made ≡ Err TooWide → IsTooWide (view v))
     → MatchResult made (λ s. r ≡ Ok s) (λ e. IsErrAnd r (λ y. y ≡ Format e))
     → MatchResult r (λ s. IsWrittenOf (IsDocumentOf l) lay text (string_bytes s)) (EndsEngine command style text)
-laid_out command style lay IsTooWide (Ok s) r wide parses is too_wide same = rw same (_, parses.derived, is)
-laid_out command style lay IsTooWide (Err e) (Ok s) wide parses is too_wide failed = absurd failed
-laid_out {text = text} command style lay IsTooWide (Err e) (Err y) wide parses is too_wide same =
-    rw same (not_laid_out command style text (Err e) (λ why. wide (_, parses.derived, too_wide why)))
+laid_out command style lay IsTooWide (Ok s) r some wide parses is too_wide same = rw same (_, parses.derived, is)
+laid_out command style lay IsTooWide (Err e) (Ok s) some wide parses is too_wide failed = absurd failed
+laid_out {text = text} command style lay IsTooWide (Err e) (Err y) some wide parses is too_wide same =
+    rw same (not_laid_out command style text (Err e) (some (_, parses.derived)) (λ why. wide (_, parses.derived, too_wide why)))

@@ -58,6 +58,24 @@ HasBadPlace Schema text e = ⊥
 HasBadPlace Minify text e = IsMinifyRefusalOf text e
 HasBadPlace First text e = ⊥
 
+module _ {T : Type 0} (Has : List ℕ → T → Type 0) where
+  abbrev pub HasOne : List ℕ → Type 0
+  HasOne text = (t : T) × Has text t
+
+-- the text has a document to lay out, or begins with a definition
+abbrev pub HasDocument : Command → List ℕ → Type 0
+HasDocument Query text = HasOne (IsDocumentOf queries) text
+HasDocument Schema text = HasOne (IsDocumentOf schemas) text
+HasDocument Minify text = ⊥
+HasDocument First text = HasOne IsFirstDefinition text
+
+-- the engine itself takes memory, for the document that is made of a first definition, or for the rest behind it
+abbrev pub TakesMemory : Command → List ℕ → Type 0
+TakesMemory Query text = ⊥
+TakesMemory Schema text = ⊥
+TakesMemory Minify text = ⊥
+TakesMemory First text = HasOne IsFirstDefinition text
+
 -- the text's document, or its first definition, is too wide for the style
 abbrev pub HasNoLayout : Command → Layout → List ℕ → Type 0
 HasNoLayout Query style text = IsWide (IsDocumentOf queries) (query.IsTooWide style) text
@@ -88,10 +106,10 @@ EndsReading old new (error.Minify e) = ⊥
 EndsReading old new (Format e) = ⊥
 EndsReading old new Write = ⊥
 
--- what a layout that failed says of a text
+-- what a layout that failed says of a text: that memory ran out, only where there was a document to lay out
 abbrev pub RefusesLayout : Command → Layout → List ℕ → FormatError → Type 0
 RefusesLayout command style text TooWide = HasNoLayout command style text
-RefusesLayout command style text layout_error.OutOfMemory = Unit {0}
+RefusesLayout command style text layout_error.OutOfMemory = HasDocument command text
 
 -- a text gets no output where it is refused or has a bad place, or its document is not laid out
 abbrev pub EndsEngine : Command → Layout → List ℕ → RunError → Type 0
@@ -99,7 +117,7 @@ EndsEngine command style text (error.Query e) = HasNoQuery command text e
 EndsEngine command style text (error.Schema e) = HasNoSchema command text e
 EndsEngine command style text (error.Minify e) = HasBadPlace command text e
 EndsEngine command style text (Format e) = RefusesLayout command style text e
-EndsEngine command style text OutOfMemory = Unit {0}
+EndsEngine command style text OutOfMemory = TakesMemory command text
 EndsEngine command style text Read = ⊥
 EndsEngine command style text NotUtf8 = ⊥
 EndsEngine command style text Write = ⊥

@@ -1,9 +1,9 @@
 //! All of the input, and then all of the output.
-ghost use Rattle.std.specs.Prelude.{◌≡◌, ◌≢◌, List, ℕ, Err, string_bytes, MatchResult, OnOk, IfOk, IfErr, IfSome};
+ghost use Rattle.std.specs.Prelude.{◌≡◌, ◌≢◌, ◌++◌, List, [], ◌∷◌, ℕ, Err, string_bytes, MatchResult, OnOk, IfOk, IfErr, IfSome};
 ghost use Rattle.std.specs.Str.{IsUtf8};
 ghost use Rattle.std.specs.Io.KnownBytes.{Keeps, Appends, Consumes, IsAtEnd};
 ghost use Rattle.graphql_values.specs.{Refusal};
-ghost use Rattle.gql.specs.{HasFault, IsOutputOf, HasNoQuery, HasNoSchema, HasBadPlace, HasNoLayout, ReadsAll, EndsReading, EndsEngine, WritesPart};
+ghost use Rattle.gql.specs.{HasFault, IsOutputOf, HasNoQuery, HasNoSchema, HasBadPlace, RefusesLayout, ReadsAll, EndsReading, EndsEngine, WritesPart};
 
 use crate::command::Command;
 use crate::counted::Counted;
@@ -80,18 +80,37 @@ fn minified(alloc: Global, style: &Style, text: String) -> Result<String, RunErr
     minify_query(alloc, text).map_err(RunError::Minify)
 }
 
+/// A definition as a document of its own. Nothing is laid out here: memory that runs out is an error of the engine.
+fn alone<'a>(
+    alloc: Global,
+    definition: query::Definition<'a, &'a str>,
+) -> Result<query::Document<'a, &'a str>, RunError>
+    ensures ok { IfOk result (λ d. d.definitions.items ≡ definition.entry ∷ []) }
+    ensures err { IfErr result (λ e. e ≡ RunError.OutOfMemory) }
+{
+    match vec![in alloc; definition] {
+        Ok(definitions) => Ok(query::Document { definitions }),
+        Err(_) => Err(RunError::OutOfMemory),
+    }
+}
+
+/// An output with the rest of its text behind it. Memory that runs out is an error of the engine here too.
+fn with_rest(mut output: String, rest: &str) -> Result<String, RunError>
+    ensures ok { IfOk result (λ s. string_bytes s ≡ string_bytes output ++ rest.now) }
+    ensures err { IfErr result (λ e. e ≡ RunError.OutOfMemory) }
+{
+    output.push_str(rest)?;
+    Ok(output)
+}
+
 /// The first definition of a text, laid out as a document of its own, and then the rest as it is.
 fn first_laid_out(alloc: Global, style: &Style, text: &str) -> Result<String, RunError>
     ensures { MatchResult result (λ s. IsOutputOf Command.First style.now text.now (string_bytes s)) (EndsEngine Command.First style.now text.now) }
 {
     let (definition, rest) = consume_definition::<&str>(alloc, text).map_err(RunError::Query)?;
-    let Ok(definitions) = vec![in alloc; definition] else {
-        return Err(RunError::OutOfMemory);
-    };
-    let document: query::Document<'_, &str> = query::Document { definitions };
-    let mut output = document.format(alloc, style).map_err(RunError::Format)?;
-    output.push_str(rest)?;
-    Ok(output)
+    let document = alone(alloc, definition)?;
+    let output = document.format(alloc, style).map_err(RunError::Format)?;
+    with_rest(output, rest)
 }
 
 /// What a command makes of a text.
@@ -132,8 +151,8 @@ pub fn run<R: Read, W: Write>(
         (λ input. HasNoSchema command input e) }
     ensures minify { (e : Refusal) → result ≡ Err (RunError.Minify e) → ReadsAll (R.remaining reader.old.device) (R.remaining reader.new.device)
         (λ input. HasBadPlace command input e) }
-    ensures format { result ≡ Err (RunError.Format FormatError.TooWide) → ReadsAll (R.remaining reader.old.device) (R.remaining reader.new.device)
-        (λ input. HasNoLayout command style.now input) }
+    ensures format { (e : FormatError) → result ≡ Err (RunError.Format e) → ReadsAll (R.remaining reader.old.device) (R.remaining reader.new.device)
+        (λ input. RefusesLayout command style.now input e) }
     // The first fault of a device ends the run.
     ensures reader_faults { result ≢ Err RunError.Read → reader.new.faults ≡ reader.old.faults }
     ensures writer_faults { result ≢ Err RunError.Write → writer.new.faults ≡ writer.old.faults }

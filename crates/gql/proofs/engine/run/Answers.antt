@@ -46,6 +46,9 @@ returns-in_err-output-clause-schema g c e is = ended g c (error.Schema e) is
 pub returns-in_err-output-clause-minify : goal.returns-in_err-output-clause-minify
 returns-in_err-output-clause-minify g c e is = ended g c (error.Minify e) is
 
+pub returns-in_err-output-clause-format : goal.returns-in_err-output-clause-format
+returns-in_err-output-clause-format g c e is = ended g c (error.Format e) is
+
 pub returns-clause-ok : goal.returns-clause-ok
 returns-clause-ok g c =
     let read = c.in_ok-bytes.ensures in
