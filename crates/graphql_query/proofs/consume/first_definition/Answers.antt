@@ -9,3 +9,6 @@ returns-in-Err-clause-complete g c x others h =
 pub returns-in-Err-clause-refused : goal.returns-in-Err-clause-refused
 returns-in-Err-clause-refused g c =
     least_refusal _ (g.S.TokenSource.items c.definition.new.source) c.in-Err.error _ c.in-Err.ensures.reads c.fault_of.ensures c.in-Err.ensures.kept
+
+pub returns-in-Ok-clause-complete : goal.returns-in-Ok-clause-complete
+returns-in-Ok-clause-complete g c x others h = tt
