@@ -8,14 +8,13 @@ use Rattle.std.proofs.lemmas.Str.{is_utf8-from_IsUtf8}
 use Rattle.std.proofs.Math.Seq.{drop-append-add}
 use Rattle.graphql_lexer.specs.declared.tokenizer.piece.Piece.{Piece as Ahead}
 use Rattle.graphql_lexer.specs.declared.tokenizer.piece.Piece.TheVariants.{AtEnd, Skips, Takes, Stops}
-use Rattle.graphql_lexer.specs.{front, ignored, line_end, comment, Wrong, tab, line_feed, carriage_return, comma, byte_order_mark, comment_feed}
-use Rattle.graphql_lexer.specs.{comment_return_feed, comment_return, name, mark, BeginsNone, is_in_line}
+use Rattle.graphql_lexer.specs.{front, ignored, line_end, comment, Wrong, BeginsNone, is_in_line}
 use Rattle.graphql_lexer.proofs.Spaces.{no_front}
 use Rattle.graphql_lexer.proofs.OneCut.{cut_of, front_sees, Sees}
 use Rattle.graphql_lexer.proofs.FrontIsPiece.{stands_front}
-use Rattle.graphql_core.specs.{items_of, token_of, Token, Kind, Nesting, too_deep, Meaning, Ignored, Word, Piece, IsCutInto, Stands, space, spread}
-use Rattle.graphql_core.specs.{integer, float, string, block_string, Where, Item, item, Lexeme, past_ignored, past_token, is_too_deep, token_then, piece_then}
-use Rattle.graphql_core.specs.{next_place, split}
+use Rattle.graphql_core.specs.{items_of, token_of, Token, Kind, Nesting, too_deep, Meaning, Ignored, Word, Piece, IsCutInto, Stands, Where}
+use Rattle.graphql_core.specs.{Item, item, Lexeme, past_ignored, past_token, is_too_deep, token_then, piece_then, next_place, split}
+use Rattle.graphql_core.proofs.KeptTokens.{stands_before_same}
 
 -- ---- where no ignored text begins, none does with more after the text
 
@@ -75,25 +74,6 @@ none_begins (Skips n m) text s none = absurd (none s.0 s.1 s.2 s.4 s.3)
 none_begins (Takes n k t) text s none = refl
 
 -- ---- pieces
-
--- where the first byte of what follows stays, a piece stays
-stands_before_same : {s : List ℕ} {m : Meaning} {b : ℕ} {bs : List ℕ} → Stands s m (b ∷ bs) → (cs : List ℕ) → Stands s m (b ∷ cs)
-stands_before_same tab cs = tab
-stands_before_same line_feed cs = line_feed
-stands_before_same carriage_return cs = carriage_return
-stands_before_same space cs = space
-stands_before_same comma cs = comma
-stands_before_same byte_order_mark cs = byte_order_mark
-stands_before_same (comment_feed line all) cs = comment_feed line all
-stands_before_same (comment_return_feed line all) cs = comment_return_feed line all
-stands_before_same (comment_return line all stop) cs = comment_return line all stop
-stands_before_same (name first more ends) cs = name first more ends
-stands_before_same (mark h) cs = mark h
-stands_before_same spread cs = spread
-stands_before_same (integer h ends) cs = integer h ends
-stands_before_same (float h ends) cs = float h ends
-stands_before_same (string body valid some) cs = string body valid some
-stands_before_same (block_string closes) cs = block_string closes
 
 -- a piece that stands before some text stands before it with more
 stands_on : {s : List ℕ} {m : Meaning} (rest more : List ℕ) → 0 < length rest → Stands s m rest → Stands s m (rest ++ more)

@@ -12,7 +12,7 @@ use Rattle.graphql_core.proofs.TokenPlaces.{part}
 -- ---- what a piece may stand before
 
 -- where the first byte of what follows stays, a piece stays
-stands_before_same : {s : List ℕ} {m : Meaning} {b : ℕ} {bs : List ℕ} → Stands s m (b ∷ bs) → (cs : List ℕ) → Stands s m (b ∷ cs)
+pub stands_before_same : {s : List ℕ} {m : Meaning} {b : ℕ} {bs : List ℕ} → Stands s m (b ∷ bs) → (cs : List ℕ) → Stands s m (b ∷ cs)
 stands_before_same tab cs = tab
 stands_before_same line_feed cs = line_feed
 stands_before_same carriage_return cs = carriage_return
