@@ -1,5 +1,5 @@
 use Rattle.std.specs.Result.{result_ok}
-use Rattle.std.proofs.Common.{◌≡◌, ◌<◌, Option, Some, Result, Ok, Err, IfOk, length, subst, arith}
+use Rattle.std.proofs.Common.{◌≡◌, ◌<◌, Some, Result, Ok, Err, IfOk, length, subst, arith}
 use Rattle.std.proofs.lemmas.Bool.Decides.{nat_tests}
 use Rattle.graphql_c.proofs.{still_at}
 use Rattle.graphql_c.proofs.calls.end_within.Goals as goal
