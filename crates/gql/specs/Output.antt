@@ -62,7 +62,7 @@ module _ {T : Type 0} (Has : List ℕ → T → Type 0) where
   abbrev pub HasOne : List ℕ → Type 0
   HasOne text = (t : T) × Has text t
 
--- the text has a document to lay out, or begins with a definition
+-- the input parses to a document, or begins with a definition
 abbrev pub HasDocument : Command → List ℕ → Type 0
 HasDocument Query text = HasOne (IsDocumentOf queries) text
 HasDocument Schema text = HasOne (IsDocumentOf schemas) text
@@ -106,7 +106,7 @@ EndsReading old new (error.Minify e) = ⊥
 EndsReading old new (Format e) = ⊥
 EndsReading old new Write = ⊥
 
--- what a layout that failed says of a text: that memory ran out, only where there was a document to lay out
+-- what an error of formatting says of the input: out of memory comes only where there was a document to format
 abbrev pub RefusesLayout : Command → Layout → List ℕ → FormatError → Type 0
 RefusesLayout command style text TooWide = HasNoLayout command style text
 RefusesLayout command style text layout_error.OutOfMemory = HasDocument command text

@@ -80,7 +80,7 @@ fn minified(alloc: Global, style: &Style, text: String) -> Result<String, RunErr
     minify_query(alloc, text).map_err(RunError::Minify)
 }
 
-/// A definition as a document of its own. Nothing is laid out here: memory that runs out is an error of the engine.
+/// A definition as a document with no other. Nothing is formatted here: out of memory is an error of the engine.
 fn alone<'a>(
     alloc: Global,
     definition: query::Definition<'a, &'a str>,
@@ -94,7 +94,7 @@ fn alone<'a>(
     }
 }
 
-/// An output with the rest of its text behind it. Memory that runs out is an error of the engine here too.
+/// An output followed by the rest of the input. Out of memory is an error of the engine here also.
 fn with_rest(mut output: String, rest: &str) -> Result<String, RunError>
     ensures ok { IfOk result (λ s. string_bytes s ≡ string_bytes output ++ rest.now) }
     ensures err { IfErr result (λ e. e ≡ RunError.OutOfMemory) }

@@ -1,4 +1,4 @@
--- A text and the same text with more after it: where some of it is left after a number of its tokens, both go on from the same byte.
+-- A source, and the same source with more after it: if some of it is left after some of its tokens, both continue at the same byte.
 use Rattle.std.specs.List.{prefix_len}
 use Rattle.std.specs.Str.{is_utf8, chars}
 use Rattle.std.proofs.Common.{◌≡◌, ◌∙◌, ◌+◌, ◌<◌, ℕ, Bool, true, false, ◌==◌, ◌&&◌, List, [], ◌∷◌, ◌++◌, length, drop, get_or, None, inl, inr, IsUtf8}
@@ -16,9 +16,9 @@ use Rattle.graphql_core.specs.{items_of, token_of, Token, Kind, Nesting, too_dee
 use Rattle.graphql_core.specs.{Item, item, Lexeme, past_ignored, past_token, is_too_deep, token_then, piece_then, next_place, split}
 use Rattle.graphql_core.proofs.KeptTokens.{stands_before_same}
 
--- ---- where no ignored text begins, none does with more after the text
+-- ---- where no ignored token begins, none begins with more after the source
 
--- a comment is ignored text
+-- a comment is an ignored token
 line_ignored : (n : ℕ) (rest : List ℕ) → ignored (line_end n rest) ≡ None → ⊥
 line_ignored n [] e = cc
 line_ignored n (b ∷ bs) e = elim (cases_Bool (b == 13 && get_or bs 0 0 == 10)) [
@@ -26,7 +26,7 @@ line_ignored n (b ∷ bs) e = elim (cases_Bool (b == 13 && get_or bs 0 0 == 10))
   | inr t ↦ let f = rw t at e in cc
 ]
 
--- a part of a byte order mark is no text
+-- a part of a byte order mark is not UTF-8
 first_is_none : is_utf8 (239 ∷ []) ≡ false
 unfolding is_utf8 chars
 first_is_none = refl
@@ -66,21 +66,21 @@ module _ (b : ℕ) (bs more : List ℕ) (none : ignored (front (b ∷ bs)) ≡ N
       (let s = differs 32 (λ e. cc) in let c = differs 44 (λ e. cc) in rw (s, c) refl)
       (differs 35 (λ e. line_ignored (prefix_len is_in_line bs) (drop (prefix_len is_in_line bs) bs) e)) (no_mark utf8)
 
--- text that no piece of ignored text begins
+-- a source that begins with no ignored token
 none_begins : (x : Ahead) (text : List ℕ) → Sees text x → BeginsNone text → ignored x ≡ None
 none_begins AtEnd text s none = refl
 none_begins Stops text s none = refl
 none_begins (Skips n m) text s none = absurd (none s.0 s.1 s.2 s.4 s.3)
 none_begins (Takes n k t) text s none = refl
 
--- ---- pieces
+-- ---- lexical elements
 
--- a piece that stands before some text stands before it with more
+-- a lexical element that can come before some bytes can come before them with more behind
 stands_on : {s : List ℕ} {m : Meaning} (rest more : List ℕ) → 0 < length rest → Stands s m rest → Stands s m (rest ++ more)
 stands_on [] more some st = absurd (omega (arith, some))
 stands_on (b ∷ bs) more some st = stands_before_same st (bs ++ more)
 
--- ---- where items stand
+-- ---- positions of tokens
 
 token_placed : (b : Bool) (k : Kind) (bytes : List ℕ) (w : Where) (more : List Item)
     → (next_place (token_then b (item (Wrong too_deep) w) (item (Lexeme k bytes) w) more)).offset ≡ w.offset
@@ -92,7 +92,7 @@ piece_placed : (m : Meaning) (bytes rest : List ℕ) (w : Where) (more : Where �
 piece_placed (Ignored m) bytes rest w more st none = let skips = ap ignored (sym (stands_front st)) ∙ none in absurd cc
 piece_placed (Word k t) bytes rest w more st none = token_placed (is_too_deep t w) k bytes w (more (past_token t bytes w))
 
--- an item stands where no ignored text does
+-- a token is at the first byte where no ignored token is
 placed : (w : Where) (ps : List Piece) (text stop : List ℕ) → IsCutInto text ps stop → ignored (front text) ≡ None
     → (next_place (items_of w ps stop)).offset ≡ w.offset
 unfolding items_of
@@ -103,13 +103,13 @@ placed w (q ∷ qs) text stop (rest, e, st, cut) none =
 
 -- ---- the same tokens
 
--- With more after it the text begins with these tokens too, and the item after them stands so many bytes on.
+-- With more after it the source also begins with these tokens, and the next token is at this offset.
 abbrev pub GoesOn : Where → List ℕ → List Token → ℕ → Type 0
 GoesOn w text front n = (ps : List Piece) × (stop : List ℕ) × IsCutInto text ps stop × (others : List Token)
     × ((split (items_of w ps stop)).tokens ≡ front ++ others) × ((next_place (drop (length front) (items_of w ps stop))).offset ≡ w.offset + n)
 
--- After these tokens of a text, of which these are the items, the next item stands so many bytes on; and so it does with any more after the text,
--- where that item has some byte of the text.
+-- After these tokens of a source the next token is at this offset; it is there also with more after the source,
+-- if some byte of the source is left there.
 pub record Kept (w : Where) (text : List ℕ) (is : List Item) (front : List Token) : Type 0 where
   pub on : ℕ
   pub here : (next_place (drop (length front) is)).offset ≡ w.offset + on
@@ -131,7 +131,7 @@ none_kept w text is at none = record {
 }
 
 module _ (qs : List Piece) (stop rest bytes text : List ℕ) (w : Where) (e : text ≡ bytes ++ rest) where
-  -- what is kept after a piece is kept with it
+  -- what holds after a lexical element holds with it
   after_piece : (m : Meaning) (v : Where) (all front : List Token) (is : List Item) → Stands bytes m rest → v.offset ≡ w.offset + length bytes
       → (next_place (drop (length all) is)).offset ≡ (next_place (drop (length front) (items_of v qs stop))).offset
       → ((ps : List Piece) (end : List ℕ) (us : List Token) → (split (items_of v ps end)).tokens ≡ front ++ us

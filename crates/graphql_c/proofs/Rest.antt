@@ -36,14 +36,14 @@ kept_first text items x others (ps, stop, cut, e) parts =
     subst (λ (l : List Item). Kept start text l (leaves x)) (sym e)
     (kept ps text stop start (leaves x) others cut (ap (λ (l : List Item). (split l).tokens) (sym e) ∙ parts))
 
--- a text is UTF-8 from an item on
+-- a source is UTF-8 from any token on
 utf8_from : (text : List ℕ) (items : List Item) (n : ℕ) → IsUtf8 text → Rise text items → IsUtf8 (drop (next_place (drop n items)).offset text)
 utf8_from text [] zero utf8 rise = utf8
 utf8_from text [] (suc n) utf8 rise = utf8
 utf8_from text (i ∷ is) zero utf8 rise = rise.0.1
 utf8_from text (i ∷ is) (suc n) utf8 rise = utf8_from text is n utf8 rise.2
 
--- a text that goes on after its rest has the same first definition, and the same rest with more after it
+-- a source with more after its rest has the same first definition, and the same rest with more after it
 still_first : (text rest more : List ℕ) (d : DefinitionTree) → IsFirstDefinition text (d, rest) → 0 < length rest → IsUtf8 text
     → IsFirstDefinition (text ++ more) (d, rest ++ more)
 still_first text rest more d (items, (ps, stop, cut, e), x, others, (fits, parts), means, after) some utf8 =

@@ -95,7 +95,7 @@ pub data Writes (Makes : List ℕ → Type 0) (old new : List ℕ) (a : Answer) 
 abbrev pub Finds : (ℕ → Type 0) → List ℕ → List ℕ → Answer → Type 0
 Finds IsAt old new a = (n : ℕ) × IsAt n × (new ≡ old) × (a ≡ plain 0 n)
 
--- The call did what it was asked for, or tells why it did not: by a status and a place. Some message is put into the buffer; which one is not said.
+-- The call did what it was asked for, or returns why it did not: a status and a position. Some message is put into the buffer; which one is not said.
 pub data Answers (Done : List ℕ → List ℕ → Answer → Type 0) (Refuses : Refusal → Type 0) (IsTooWide : Type 0) (text old new : List ℕ) (a : Answer)
     : Type 0 where
   done : Done old new a → Answers Done Refuses IsTooWide text old new a

@@ -43,7 +43,7 @@ abbrev pub IsSchemaTooWide : Layout → List ℕ → Type 0
 IsSchemaTooWide style = IsWide (IsDocumentOf schemas) (schema.IsTooWide style)
 
 -- ---- first definitions
--- The text may be any bytes: the lexical grammar finds the items of each list of bytes, be it UTF-8 or not.
+-- The source may be any bytes: the lexical grammar defines the tokens of each list of bytes, UTF-8 or not.
 
 -- the rest of the text, after its first definition and the ignored text after that, begins at this offset
 abbrev pub EndsAt : List ℕ → ℕ → Type 0

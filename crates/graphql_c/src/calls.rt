@@ -17,7 +17,7 @@ use graphql_schema::{Document as SchemaDocument, parse_schema};
 use std::alloc::Global;
 use std::str;
 
-/// How many bytes of a text are searched for its first definition at first.
+/// How many bytes of the input are searched for its first definition at first.
 const FIRST_LENGTH: usize = 4096;
 
 /// The style with so many spaces a level, and under `multiline` with a line for each argument.
@@ -116,7 +116,7 @@ pub fn minified(alloc: Global, bytes: &[u8]) -> Result<String, Failure>
     }
 }
 
-/// The text at the front of these bytes, up to the first of them that are not UTF-8.
+/// The longest prefix of these bytes that is UTF-8.
 fn valid_front(bytes: &[u8]) -> &str
     ensures { result.now ≡ take (length result.now) bytes.now }
 {
@@ -126,8 +126,8 @@ fn valid_front(bytes: &[u8]) -> &str
     }
 }
 
-/// The offset of the rest of every text that begins with this front: after its first definition and the ignored text after
-/// that. There is none where that may depend on what follows the front.
+/// The offset of the rest in every source that begins with this front: after the first definition and the ignored tokens
+/// behind it. `None` if that may depend on what follows the front.
 fn end_within(alloc: Global, front: &str) -> Option<usize>
     ensures { IfSome result (λ n. (more : List ℕ) → EndsAt (front.now ++ more) n) }
 {
@@ -139,7 +139,7 @@ fn end_within(alloc: Global, front: &str) -> Option<usize>
     }
 }
 
-/// The offset of the rest of a text, after its first definition and the ignored text after that.
+/// The offset of the rest of a source, after its first definition and the ignored tokens behind it.
 fn end_of(alloc: Global, text: &str) -> Result<usize, Failure>
     ensures { MatchResult result (EndsAt text.now) (Fails (HasNoFirst text.now) ⊥ text.now) }
 {
@@ -149,8 +149,8 @@ fn end_of(alloc: Global, text: &str) -> Result<usize, Failure>
     }
 }
 
-/// The offset of the rest of these bytes, after their first definition and the ignored text after that. It tries fronts of
-/// doubling length, so that it looks at no more bytes than in proportion to that offset.
+/// The offset of the rest of these bytes, after their first definition and the ignored tokens behind it. It tries fronts
+/// of 4,096 bytes, 8,192 and so on, so its time grows with that offset and not with the length of the bytes.
 pub fn first_end(alloc: Global, bytes: &[u8]) -> Result<usize, Failure>
     ensures { MatchResult result (EndsAt bytes.now) (Fails (HasNoFirst bytes.now) ⊥ bytes.now) }
 {

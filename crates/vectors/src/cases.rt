@@ -176,7 +176,7 @@ fn past_heading(text: &str) -> &str {
     }
 }
 
-/// The case at the front, and what follows. A heading may stand before it.
+/// The case at the front, and what follows. A heading may come before it.
 pub fn next_case<'a>(text: &'a str) -> Option<(Case<'a>, &'a str)> {
     let (line, after) = past_heading(text).split_once('\n')?;
     let (asked, length) = read_asked(line)?;

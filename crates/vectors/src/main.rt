@@ -3,7 +3,7 @@
 //! The cases stand on standard input, one after another, all lengths in bytes: a line with a word and a length, and a
 //! text of that length and LF; then a line `ok` or `refused` with a length, and the text that is wanted or the message,
 //! of that length, and LF; or a line `accepted` or `refused` alone. A heading, which is a line that begins with `#`, may
-//! stand before a case. The words are
+//! come before a case. The words are
 //!
 //! - `query` and `lines`, whose text is a query document and wanted is its layout, with a line for each part under
 //!   `lines`, and with two spaces a level where no number of them follows the length;

@@ -8,14 +8,14 @@ use std::alloc::{AllocError, Global};
 use std::io::Write;
 use std::test::Fail;
 
-/// A text of 20,000 bytes, nearly all of it a comment.
+/// An input of 20,000 bytes, nearly all of it a comment.
 fn long_text(alloc: Global) -> Result<String, AllocError> {
     let mut text = "#".repeat(alloc, 19_995)?;
     text.push_str("\n{ a }")?;
     Ok(text)
 }
 
-/// Pieces of at least 5,000 bytes are asked for, and the output is handed over and flushed once.
+/// A run reads at least 5,000 bytes at once, and writes and flushes its output once.
 #[test]
 fn a_long_input_takes_few_reads(rt: HostRuntime) -> Result<(), Fail> {
     let alloc = rt.alloc();
@@ -33,7 +33,7 @@ fn a_long_input_takes_few_reads(rt: HostRuntime) -> Result<(), Fail> {
     assert!(rt; answer.is_ok());
     assert_eq!(rt; sink.taken.as_slice(), b"{\n  a\n}\n".as_slice());
     assert!(rt; source.left.is_empty());
-    // four pieces at most, and the end
+    // four reads at most, and the end
     assert!(rt; source.calls <= 5, "{} reads", source.calls);
     assert_eq!(rt; (sink.calls, sink.flushed), (1, 1));
     Ok(())

@@ -1,4 +1,4 @@
-//! The texts of errors: each message, and what `Debug` shows.
+//! Errors: each message, and what `Debug` shows.
 use crate::common::UnquoteError;
 use crate::query::parse_query;
 use crate::schema::{DirectiveLocation, parse_schema};

@@ -64,7 +64,7 @@ fn have_same_items<W: Width>(alloc: Global, source: &str) -> Result<bool, Fail>
     Ok(cursor.peek().is_none())
 }
 
-/// The faults of a text's items, the last of them twice, are these from a cursor and from spans of this width.
+/// A cursor and spans of this width report these errors at each token of a source, and at its end twice.
 fn assert_faults<W: Width>(
     rt: &impl Abort,
     alloc: Global,
@@ -91,7 +91,7 @@ fn assert_faults<W: Width>(
     Ok(())
 }
 
-/// Whether the items are the same at both widths, for every beginning of a text that ends between two characters.
+/// Whether the items are the same at both widths, for every prefix of a source that ends between two characters.
 fn have_same_beginnings(alloc: Global, source: &str) -> Result<bool, Fail> {
     'beginnings: for len in 0..=source.len() {
         if let Some((text, _)) = source.split_at_checked(len) {
