@@ -1,4 +1,4 @@
-//! The calls that allocate, and what is right.
+//! The calls that allocate, and the right results.
 use crate::documents::{Refusal, Texts, use_texts};
 use crate::parts::use_parts;
 use crate::schemas::{USERS, use_schemas};
@@ -8,7 +8,7 @@ use graphql_parser::query::{Document, consume_definition, minify_query};
 use std::alloc::{AllocError, Global};
 use std::borrow::CowStr;
 
-/// Documents, and their layouts in the default style.
+/// Inputs, and their documents formatted in the default style.
 pub const DOCUMENTS: [(&str, &str); 4] = [
     ("{ a { b } }", "{\n  a {\n    b\n  }\n}\n"),
     (
@@ -25,7 +25,7 @@ pub const DOCUMENTS: [(&str, &str); 4] = [
     ),
 ];
 
-/// Texts that are no documents, and the columns at which they are refused.
+/// Inputs that are no query documents, and the columns of their errors.
 const REFUSED: [(&str, usize); 7] = [
     ("{ }", 3),
     ("{ a", 4),
@@ -36,7 +36,7 @@ const REFUSED: [(&str, usize); 7] = [
     ("{ a(x: 9223372036854775808) }", 8),
 ];
 
-/// Texts, and what they are minified to.
+/// Inputs, and their minified forms.
 const MINIFIED: [(&str, &str); 4] = [
     ("", ""),
     ("a-1 ... \"b\"\"c\"", "a -1 ...\"b\" \"c\""),
@@ -51,7 +51,7 @@ const MINIFIED: [(&str, &str); 4] = [
     ),
 ];
 
-/// Minifies texts.
+/// Minifies inputs.
 fn minify(alloc: Global, tally: &mut Tally) {
     for (text, minified) in MINIFIED {
         let Ok(source) = String::from_str(alloc, text) else {
@@ -64,7 +64,7 @@ fn minify(alloc: Global, tally: &mut Tally) {
     }
 }
 
-/// Refuses to minify a text.
+/// Minifies an input with a lexical error.
 fn refuse_to_minify(alloc: Global, tally: &mut Tally) {
     match String::from_str(alloc, "{ a ; }") {
         Ok(source) => match minify_query(alloc, source) {
@@ -75,7 +75,7 @@ fn refuse_to_minify(alloc: Global, tally: &mut Tally) {
     }
 }
 
-/// Texts that begin with a definition, the definition's layout in the default style, and what is left of the text.
+/// Inputs that begin with a definition, the definition formatted in the default style, and the rest of the input.
 const FIRST: [(&str, &str, &str); 2] = [
     (
         "query Q($a: [Int] = [1]) @d(x: $a) { b: c(e: \"f\") ...G } # and\n{ c",
@@ -89,7 +89,7 @@ const FIRST: [(&str, &str, &str); 2] = [
     ),
 ];
 
-/// Takes the first definition of texts, with names of a text type.
+/// Consumes the first definition of inputs, with names of a text type.
 fn take_definitions<'a, T: Text<'a>>(alloc: Global, tally: &mut Tally) {
     for (text, laid_out, left) in FIRST {
         match consume_definition::<T>(alloc, text) {
@@ -103,12 +103,12 @@ fn take_definitions<'a, T: Text<'a>>(alloc: Global, tally: &mut Tally) {
     }
 }
 
-/// Uses texts as query documents with names of a text type.
+/// Uses inputs as query documents, with names of a text type.
 fn use_as_queries<'a, T: Text<'a>>(alloc: Global, tally: &mut Tally, texts: &Texts<'a, '_>) {
     use_texts::<Document<'a, T>>(alloc, tally, texts);
 }
 
-/// Uses texts as query documents with names of each text type.
+/// Uses inputs as query documents, with names of each text type.
 fn use_queries(alloc: Global, tally: &mut Tally) {
     let (read, all) = (Texts::read(&DOCUMENTS), Texts::all(&DOCUMENTS, &REFUSED));
     use_as_queries::<&str>(alloc, tally, &all);
@@ -116,7 +116,7 @@ fn use_queries(alloc: Global, tally: &mut Tally) {
     use_as_queries::<CowStr<'_>>(alloc, tally, &read);
 }
 
-/// Makes each call.
+/// Makes every call that allocates.
 pub fn make_calls(alloc: Global) -> Tally {
     let mut tally = Tally::default();
     use_queries(alloc, &mut tally);

@@ -1,4 +1,4 @@
-//! Documents of both languages, and why a text is none.
+//! Documents of both languages, and their errors.
 use crate::streams::read_streams;
 use crate::tally::Tally;
 use graphql_parser::common::Text;
@@ -7,12 +7,12 @@ use graphql_parser::{Cause, FormatError, Pos, Style, query, schema};
 use std::alloc::Global;
 use std::fmt::Display;
 
-/// Why a text is refused.
+/// Why an input is rejected.
 #[derive(Clone, Copy)]
 pub struct Refusal {
-    /// Where the text is refused.
+    /// The position of the error.
     position: Option<Pos>,
-    /// Whether it is because an allocation failed, which has no position.
+    /// Whether an allocation failed. Then there is no position.
     pub ran_out: bool,
 }
 
@@ -24,22 +24,22 @@ impl Refusal {
         }
     }
 
-    /// Why a text is no query document.
+    /// Why an input is not a query document.
     pub fn of_query(error: &query::ParseError) -> Self {
         Refusal::new(error.cause(), error.position())
     }
 
-    /// Why a text is no schema document.
+    /// Why an input is not a schema document.
     pub fn of_schema(error: &schema::ParseError) -> Self {
         Refusal::new(error.cause(), error.position())
     }
 
-    /// Why a text is not minified.
+    /// Why an input is not minified.
     pub fn of_minifying(error: &query::MinifyError) -> Self {
         Refusal::new(error.cause(), error.position())
     }
 
-    /// Counts a refusal that is wanted at a column of the first line.
+    /// Counts an error that must be at this column of the first line.
     pub fn count(self, tally: &mut Tally, column: usize) {
         let place = Pos { line: 1, column };
         tally.add(self.position == Some(place), self.ran_out);
@@ -48,13 +48,13 @@ impl Refusal {
 
 /// A document of a language, with names of a text type.
 pub trait Document<'a>: Clone + PartialEq + Display + Drop {
-    /// The document of a text.
+    /// Parses an input.
     fn parse(alloc: Global, source: &'a str) -> Result<Self, Refusal>;
 
-    /// The document of what is left of a stream, of which no bracket was taken.
+    /// Parses the rest of a stream; `None` if the depth of the stream is negative.
     fn parse_rest(alloc: Global, stream: &mut TokenStream<'a>) -> Option<Result<Self, Refusal>>;
 
-    /// Its text in the default style.
+    /// The document formatted in the default style.
     fn laid_out(&self, alloc: Global) -> Result<String, FormatError>;
 }
 
@@ -94,19 +94,19 @@ impl<'a, T: Text<'a>> Document<'a> for schema::Document<'a, T> {
     }
 }
 
-/// Texts that are used in three ways.
+/// Inputs for three uses.
 #[derive(Clone, Copy)]
 pub struct Texts<'a, 'b> {
-    /// Those that are read, also from a stream, laid out and cloned, each with its layout.
+    /// Inputs to parse, also from a stream, to format and to clone, each with its layout.
     pub read: &'b [(&'a str, &'b str)],
-    /// Those whose documents are shown, each with its layout.
+    /// Inputs whose documents are shown, each with its layout.
     pub shown: &'b [(&'a str, &'b str)],
-    /// Those that are no documents, each with the column at which it is refused.
+    /// Inputs that are no documents, each with the column of its error.
     pub refused: &'b [(&'a str, usize)],
 }
 
 impl<'a, 'b> Texts<'a, 'b> {
-    /// Texts that are read alone.
+    /// Inputs that are only parsed.
     pub fn read(documents: &'b [(&'a str, &'b str)]) -> Texts<'a, 'b> {
         Texts {
             read: documents,
@@ -115,7 +115,7 @@ impl<'a, 'b> Texts<'a, 'b> {
         }
     }
 
-    /// Texts that are read and shown, and those that are no documents.
+    /// Inputs that are parsed and shown, and inputs that are no documents.
     pub fn all(
         documents: &'b [(&'a str, &'b str)],
         refused: &'b [(&'a str, usize)],
@@ -128,7 +128,7 @@ impl<'a, 'b> Texts<'a, 'b> {
     }
 }
 
-/// Uses texts as documents.
+/// Uses inputs as documents.
 pub fn use_texts<'a, D: Document<'a>>(alloc: Global, tally: &mut Tally, texts: &Texts<'a, '_>) {
     read_documents::<D>(alloc, tally, texts.read);
     read_streams::<D>(alloc, tally, texts.read);
@@ -136,7 +136,7 @@ pub fn use_texts<'a, D: Document<'a>>(alloc: Global, tally: &mut Tally, texts: &
     refuse::<D>(alloc, tally, texts.refused);
 }
 
-/// Reads texts, each with its layout, lays their documents out and clones them.
+/// Parses inputs, and formats and clones their documents.
 fn read_documents<'a, D: Document<'a>>(
     alloc: Global,
     tally: &mut Tally,
@@ -156,7 +156,7 @@ fn read_documents<'a, D: Document<'a>>(
     }
 }
 
-/// Shows the documents of texts as `Display` has them.
+/// Shows the documents of inputs with `Display`.
 fn show_documents<'a, D: Document<'a>>(
     alloc: Global,
     tally: &mut Tally,
@@ -170,7 +170,7 @@ fn show_documents<'a, D: Document<'a>>(
     }
 }
 
-/// Reads texts that are no documents, each with the column at which it is refused.
+/// Parses inputs that are no documents, each with the column of its error.
 fn refuse<'a, D: Document<'a>>(alloc: Global, tally: &mut Tally, texts: &[(&'a str, usize)]) {
     for (text, column) in texts {
         match D::parse(alloc, *text) {

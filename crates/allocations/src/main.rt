@@ -1,5 +1,5 @@
-//! `allocations`: makes the calls of the library, and tells how many answers are right, how many say that an allocation
-//! failed, and how many are neither: first of the calls that take no memory, and then of those that allocate.
+//! `allocations`: calls the library, and prints how many results are right, out of memory, or wrong: first for the
+//! calls that take no memory, and then for those that allocate.
 //!
 //! `tools/failing_allocations` runs it with each allocation failing in turn, and with all of them failing from each on.
 #![tactic(auto)]
@@ -17,7 +17,7 @@ use crate::tally::Tally;
 use crate::unfailing::make_unfailing_calls;
 use std::process::ExitCode;
 
-/// Tells of the answers to some calls.
+/// Prints the tally of some calls.
 fn tell(rt: &HostRuntime, calls: &str, tally: Tally) {
     let Tally {
         right,

@@ -1,4 +1,4 @@
-//! Parts of trees by themselves, values and documents that are made static, and the values of strings.
+//! Parts of trees, values and documents that are made static, and the values of strings.
 use crate::calls::DOCUMENTS;
 use crate::documents::Refusal;
 use crate::schemas::USERS;
@@ -49,7 +49,7 @@ fn unquote_blocks(alloc: Global, tally: &mut Tally) {
     }
 }
 
-/// A value with a field, an item and each kind of name.
+/// A list of an object with an enum value, and of a variable.
 fn nested<'a>(alloc: Global) -> Result<Value<'a, &'a str>, AllocError> {
     let mut fields: BTreeMap<&'a str, Value<'a, &'a str>> = BTreeMap::new(alloc);
     drop(fields.insert("a", Value::Enum("E"))?);
@@ -59,7 +59,7 @@ fn nested<'a>(alloc: Global) -> Result<Value<'a, &'a str>, AllocError> {
     Ok(Value::List(items))
 }
 
-/// Makes a value static, which stays as it was; so says a clone of it.
+/// Makes a value static, and checks that the value is unchanged.
 fn make_static(alloc: Global, tally: &mut Tally, value: &Value<'_, &str>, text: &str) {
     let Ok(copy) = value.clone() else {
         tally.add(false, true);
@@ -108,7 +108,7 @@ fn use_parts_of_documents(alloc: Global, tally: &mut Tally) {
     }
 }
 
-/// Clones a float literal and a value that holds others, and makes that static.
+/// Clones a float literal and a nested value, and makes the value static.
 fn use_values(alloc: Global, tally: &mut Tally) {
     match String::from_str(alloc, "-1.5E3") {
         Ok(text) => match FloatLiteral::new(text) {
@@ -126,7 +126,7 @@ fn use_values(alloc: Global, tally: &mut Tally) {
     }
 }
 
-/// Makes a schema static; it is what it was.
+/// Makes a schema static, and checks that it is unchanged.
 fn make_schema_static(alloc: Global, tally: &mut Tally, document: schema::Document<'_, String>) {
     let copy: Result<_, _> = document.clone();
     match (copy, document.into_static(alloc)) {
@@ -136,7 +136,7 @@ fn make_schema_static(alloc: Global, tally: &mut Tally, document: schema::Docume
     }
 }
 
-/// Makes queries and a schema static; each is what it was.
+/// Makes queries and a schema static, and checks that each is unchanged.
 fn make_documents_static(alloc: Global, tally: &mut Tally) {
     for (text, layout) in DOCUMENTS {
         match parse_query::<String>(alloc, text) {
@@ -153,7 +153,7 @@ fn make_documents_static(alloc: Global, tally: &mut Tally) {
     }
 }
 
-/// Makes each call for parts of trees that allocates.
+/// Makes every call that allocates for parts of trees.
 pub fn use_parts(alloc: Global, tally: &mut Tally) {
     unquote(alloc, tally);
     unquote_blocks(alloc, tally);

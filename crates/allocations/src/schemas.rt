@@ -5,13 +5,13 @@ use graphql_parser::common::Text;
 use graphql_parser::schema::Document;
 use std::alloc::Global;
 
-/// A schema as its users write it.
+/// A schema as a user writes it.
 pub const USERS: &str = "    schema {\n        query: Query\n    }\n    \
      type Query {\n        users: [User!]!,\n    }\n    \
      \"\"\"\n       Example user object\n\n       This is just a demo comment.\n    \"\"\"\n    \
      type User {\n        name: String!,\n    }\n";
 
-/// This schema, and a text in which each production stands, with their layouts in the default style.
+/// This schema, and an input that uses every production, with their layouts in the default style.
 const SCHEMAS: [(&str, &str); 2] = [
     (
         USERS,
@@ -44,7 +44,7 @@ const SCHEMAS: [(&str, &str); 2] = [
     ),
 ];
 
-/// Texts that are no schema documents, and the columns at which they are refused.
+/// Inputs that are no schema documents, and the columns of their errors.
 const REFUSED: [(&str, usize); 13] = [
     ("", 1),
     ("type A { }", 10),
@@ -61,12 +61,12 @@ const REFUSED: [(&str, usize); 13] = [
     ("enum A { B @c(d: 1e+) }", 18),
 ];
 
-/// Uses texts as schema documents with names of a text type.
+/// Uses inputs as schema documents, with names of a text type.
 fn use_as_schemas<'a, T: Text<'a>>(alloc: Global, tally: &mut Tally, texts: &Texts<'a, '_>) {
     use_texts::<Document<'a, T>>(alloc, tally, texts);
 }
 
-/// Makes each call for schemas that allocates.
+/// Makes every call that allocates for schemas.
 pub fn use_schemas(alloc: Global, tally: &mut Tally) {
     let (read, all) = (Texts::read(&SCHEMAS), Texts::all(&SCHEMAS, &REFUSED));
     use_as_schemas::<&str>(alloc, tally, &all);

@@ -1,10 +1,10 @@
-//! Streams that are lent.
+//! Parsing from borrowed streams.
 use crate::documents::{Document, Refusal};
 use crate::tally::Tally;
 use graphql_parser::tokenizer::TokenStream;
 use std::alloc::Global;
 
-/// Counts what was read of a stream, which stands at its end after a document.
+/// Counts what was parsed from a stream. After a document the stream must be at its end.
 fn count<'a, D: Document<'a>>(
     alloc: Global,
     tally: &mut Tally,
@@ -21,7 +21,7 @@ fn count<'a, D: Document<'a>>(
     }
 }
 
-/// Reads texts, each with its layout, from streams that are lent.
+/// Parses inputs, each with its layout, from borrowed streams.
 pub fn read_streams<'a, D: Document<'a>>(
     alloc: Global,
     tally: &mut Tally,

@@ -1,6 +1,6 @@
-//! What is told of the answers.
+//! The tally of results.
 
-/// How many answers are right, how many tell in the form of their call that an allocation failed, and how many are neither.
+/// How many results are right, how many report a failed allocation as their call specifies, and how many are wrong.
 #[derive(Clone, Copy, Default)]
 pub struct Tally {
     pub right: u32,
@@ -9,7 +9,7 @@ pub struct Tally {
 }
 
 impl Tally {
-    /// Counts an answer.
+    /// Counts a result.
     pub fn add(&mut self, right: bool, out_of_memory: bool) {
         if right {
             self.right = self.right.saturating_add(1);
@@ -20,12 +20,12 @@ impl Tally {
         }
     }
 
-    /// Counts an answer that no allocation can change.
+    /// Counts a result that no failed allocation can change.
     pub fn check(&mut self, right: bool) {
         self.add(right, false);
     }
 
-    /// Counts a text that was asked for.
+    /// Counts an output, or an error.
     pub fn add_text<E>(&mut self, answer: &Result<String, E>, wanted: &str, out_of_memory: bool) {
         match answer {
             Ok(text) => self.add(text.as_str() == wanted, false),
@@ -33,7 +33,7 @@ impl Tally {
         }
     }
 
-    /// Counts a clone, which is equal.
+    /// Counts a clone, which must be equal.
     pub fn add_copy<D: Clone + PartialEq + Drop>(&mut self, made: &D) {
         match made.clone() {
             Ok(copy) => self.add(copy == *made, false),

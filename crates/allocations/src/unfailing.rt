@@ -1,4 +1,4 @@
-//! The calls that take no memory, and so succeed where each allocation fails.
+//! The calls that take no memory, so that they succeed even if every allocation fails.
 use crate::documents::Refusal;
 use crate::tally::Tally;
 use graphql_parser::common::{FloatLiteral, Names, Number, Text};
@@ -17,7 +17,7 @@ use std::fmt::{self, Write};
 use std::hash::{BuildHasher, BuildHasherDefault, FoldHasher};
 use std::str::FromStr;
 
-/// A writer that takes the parts of one text, and nothing else.
+/// A writer that accepts the parts of one string, and nothing else.
 #[derive(Drop)]
 struct Expected<'a> {
     left: &'a str,
@@ -35,39 +35,38 @@ impl<'a> fmt::Write for Expected<'a> {
     }
 }
 
-/// Whether `Display` shows a value so.
+/// Whether `Display` shows a value as this string.
 fn is_shown<D: fmt::Display>(value: &D, text: &str) -> bool {
     let mut expected = Expected { left: text };
     write!(expected, "{value}").is_ok() && expected.left.is_empty()
 }
 
-/// Whether `Debug` shows a value so.
+/// Whether `Debug` shows a value as this string.
 fn is_debugged<D: fmt::Debug>(value: &D, text: &str) -> bool {
     let mut expected = Expected { left: text };
     write!(expected, "{value:?}").is_ok() && expected.left.is_empty()
 }
 
-/// What is made before the calls.
+/// The values that are made before the calls.
 #[derive(Drop)]
 struct Made {
-    /// Of two levels, and of three where each argument takes a line.
+    /// A document of two levels, and one of three in multi-line style.
     queries: (
         query::Document<'static, &'static str>,
         query::Document<'static, &'static str>,
     ),
-    /// Of two levels: a description in block form among fields.
+    /// A document of two levels: a block string as a description among fields.
     schema: schema::Document<'static, &'static str>,
-    /// With names that are owned.
+    /// A document with owned names.
     owned: query::Document<'static, String>,
-    /// A text that is a float literal, and one that is none.
+    /// The spelling of a float literal, and a string that is none.
     texts: (String, String),
-    /// A name.
     name: String,
-    /// Why texts are refused.
+    /// Why inputs are rejected.
     faults: (query::ParseError, schema::ParseError, MinifyError),
 }
 
-/// Why texts are refused, unless an allocation fails.
+/// Why inputs are rejected, unless an allocation fails.
 fn faults(alloc: Global) -> Option<(query::ParseError, schema::ParseError, MinifyError)> {
     let query = parse_query::<&str>(alloc, "{ }").err()?;
     let schema = parse_schema::<&str>(alloc, "type A { }").err()?;
@@ -81,7 +80,7 @@ fn faults(alloc: Global) -> Option<(query::ParseError, schema::ParseError, Minif
     Some((query, schema, minified))
 }
 
-/// What is made before, unless an allocation fails.
+/// The values that are made before the calls, unless an allocation fails.
 fn make(alloc: Global) -> Option<Made> {
     let nested = parse_query::<&str>(alloc, "{ a { b } }").ok()?;
     let list = parse_query::<&str>(alloc, "{ a(l: []) }").ok()?;
@@ -100,7 +99,7 @@ fn make(alloc: Global) -> Option<Made> {
     })
 }
 
-/// Counts a layout that has to be too wide.
+/// Counts a result of formatting, which must be too wide.
 fn count_too_wide(tally: &mut Tally, answer: Result<String, FormatError>) {
     match answer {
         Err(error) => {
@@ -111,7 +110,7 @@ fn count_too_wide(tally: &mut Tally, answer: Result<String, FormatError>) {
     }
 }
 
-/// Lays documents out too wide: so many levels are open at once that they take 2^32 spaces or more.
+/// Formats documents too wide: the levels that are open at once take 2^32 spaces or more.
 fn lay_out_too_wide(alloc: Global, tally: &mut Tally, made: &Made) {
     let (nested, list) = &made.queries;
     let mut style = Style::default();
@@ -125,7 +124,7 @@ fn lay_out_too_wide(alloc: Global, tally: &mut Tally, made: &Made) {
     count_too_wide(tally, list.format(alloc, &style));
 }
 
-/// Tells why texts are refused.
+/// Checks why inputs are rejected.
 fn tell_faults(tally: &mut Tally, made: &Made) {
     let (query, schema, minified) = &made.faults;
     tally.check(query.position() == Some(Pos { line: 1, column: 3 }));
@@ -152,7 +151,7 @@ fn tell_faults(tally: &mut Tally, made: &Made) {
     tally.check(matches!(minified.cause(), Cause::BadToken(_)));
 }
 
-/// Takes the items of a text, and tells the places.
+/// Tokenizes inputs, and checks the positions.
 fn cut(tally: &mut Tally) {
     let mut stream = TokenStream::new("\"é\" b");
     tally.check((stream.offset(), stream.depth(), stream.cuts()) == (0, 0, 0));
@@ -180,7 +179,7 @@ fn cut(tally: &mut Tally) {
     tally.check(bad.next_token().is_err() && bad.depth() == 1);
 }
 
-/// Compares positions, styles and numbers, and makes a literal of a text.
+/// Compares positions, styles and numbers, and makes a float literal.
 fn use_plain_values(tally: &mut Tally, literal: String, no_literal: String) {
     let early = Pos { line: 1, column: 9 };
     let late = Pos { line: 2, column: 1 };
@@ -208,7 +207,7 @@ fn use_plain_values(tally: &mut Tally, literal: String, no_literal: String) {
     }
 }
 
-/// Names directive locations.
+/// Converts directive locations to and from their words.
 fn name_locations(tally: &mut Tally) {
     match DirectiveLocation::from_str("FIELD") {
         Ok(location) => {
@@ -226,14 +225,14 @@ fn name_locations(tally: &mut Tally) {
     }
 }
 
-/// Makes things of a name alone.
+/// Makes trees with only a name.
 macro_rules! make_named {
     ($alloc:expr, $tally:expr; $($kind:ident),*) => {{
         $($tally.check($kind::<&str>::new($alloc, "A").name == "A");)*
     }};
 }
 
-/// Makes types, their parts and their extensions of a name alone, and what holds nothing.
+/// Makes types, their parts and their extensions with only a name, and empty trees.
 fn make_types(alloc: Global, tally: &mut Tally) {
     make_named!(alloc, tally; ScalarType, ObjectType, InterfaceType, UnionType, EnumType, InputObjectType);
     make_named!(alloc, tally; EnumValue, DirectiveDefinition, ScalarTypeExtension, ObjectTypeExtension);
@@ -247,7 +246,7 @@ fn make_types(alloc: Global, tally: &mut Tally) {
     );
 }
 
-/// Whether a name was made, and has this text.
+/// Whether a name was made, and is this string.
 fn is_name<N: Names>(made: &Result<N::Value, AllocError>, text: &str) -> bool {
     match made {
         Ok(name) => N::view(name) == text,
@@ -264,7 +263,7 @@ fn name_texts(alloc: Global, tally: &mut Tally, name: &String) {
     tally.check(<String as Names>::view(name) == "a");
 }
 
-/// Makes each call that takes no memory, once what they take is made.
+/// Makes every call that takes no memory, after the values that the calls need were made.
 pub fn make_unfailing_calls(alloc: Global) -> Tally {
     let mut tally = Tally::default();
     let Some(made) = make(alloc) else {

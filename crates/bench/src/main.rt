@@ -1,6 +1,6 @@
-//! `bench`: how long the library takes to cut, parse, lay out and minify a document in memory.
+//! `bench`: how long the library takes to tokenize, parse, format and minify a document in memory.
 //!
-//! It does all kinds of work by turns, or one kind alone, named by the last word as the output names it.
+//! It does all kinds of work in turn. A last argument selects only one of them, by its name in the output.
 #![tactic(auto)]
 
 mod work;
@@ -11,10 +11,9 @@ use std::process::ExitCode;
 use std::time::{Duration, Instant};
 use std::{env, fs, io};
 
-/// What is told where the words are no language, no file and no number of rounds, or the last one is no kind of work.
+/// The message for invalid arguments.
 const USAGE: &str = "usage: bench query|schema FILE ROUNDS [WORK]";
 
-/// The languages of documents.
 #[derive(Clone, Copy)]
 enum Language {
     Query,
@@ -30,17 +29,17 @@ fn read_language(word: &str) -> Option<Language> {
     }
 }
 
-/// What the words ask for.
+/// What the arguments ask for.
 #[derive(Drop)]
 struct Order {
     language: Language,
     file: String,
     rounds: u32,
-    /// The only kind of work to be done; none where all are.
+    /// The only kind of work to do; `None` for all.
     only: Option<Work>,
 }
 
-/// What the words ask for, where they are right.
+/// What the arguments ask for; `None` if they are invalid.
 fn read_order(rt: &HostRuntime) -> Option<Order> {
     let mut args = env::args(rt).ok()?.skip(1);
     let language = read_language(args.next()?.as_str())?;
@@ -61,14 +60,14 @@ fn read_order(rt: &HostRuntime) -> Option<Order> {
     })
 }
 
-/// Work, and the least time that it took so far.
+/// A kind of work, and the least time that it took so far.
 #[derive(Drop)]
 struct Measure {
     work: Work,
     least: Option<Duration>,
 }
 
-/// The lesser of the least time so far, where there is one, and another.
+/// The lesser of the least time so far, if there is one, and another time.
 fn lesser(least: Option<Duration>, elapsed: Duration) -> Option<Duration> {
     match least {
         Some(before) if before < elapsed => Some(before),
@@ -76,7 +75,7 @@ fn lesser(least: Option<Duration>, elapsed: Duration) -> Option<Duration> {
     }
 }
 
-/// Whether this kind of work is left out where another is the only one.
+/// Whether this kind of work is left out, because another is the only one.
 fn is_left_out(work: Work, only: Option<Work>) -> bool {
     match only {
         Some(only) => only != work,
@@ -84,7 +83,7 @@ fn is_left_out(work: Work, only: Option<Work>) -> bool {
     }
 }
 
-/// Does each kind of work once, or the only one; whether all came to their end.
+/// Does each kind of work once, or the only one. Returns whether all succeeded.
 fn measure_once<'a, B: Document<'a>, O: Document<'a>>(
     rt: &HostRuntime,
     measures: &mut [Measure],
@@ -114,12 +113,12 @@ fn print_times(rt: &HostRuntime, measures: &[Measure]) -> io::Result<()> {
     Ok(())
 }
 
-/// The kinds of work, of which none has been done.
+/// All kinds of work, not yet measured.
 fn measures() -> [Measure; 8] {
     ALL.map(|work| Measure { work, least: None })
 }
 
-/// The document of a text, and the time that it takes to parse it for the first time.
+/// The document of an input, and the time to parse it for the first time; `None` if the input is rejected.
 fn parse_cold<'a, B: Document<'a>>(
     rt: &HostRuntime,
     source: &'a str,
@@ -134,7 +133,7 @@ fn parse_cold<'a, B: Document<'a>>(
     }
 }
 
-/// Measures every kind of work on one document, by turns, or the only one, and prints its least time in microseconds.
+/// Measures all kinds of work on one document in turn, or the only one, and prints the least times.
 fn measure_all<'a, B: Document<'a>, O: Document<'a>>(
     rt: &HostRuntime,
     rounds: u32,

@@ -1,4 +1,4 @@
-//! What is measured.
+//! The work that is measured.
 use graphql_parser::common::Text;
 use graphql_parser::tokenizer::TokenStream;
 use graphql_parser::{Style, minify_query, query, schema};
@@ -9,13 +9,13 @@ use std::time::{Duration, Instant};
 
 /// A document of a language, with names of a text type.
 pub trait Document<'a>: Drop {
-    /// Why a text is none.
+    /// Why an input is not a document.
     type Error: Display + Drop;
 
-    /// The document of a text.
+    /// Parses an input.
     fn parse(alloc: Global, source: &'a str) -> Result<Self, Self::Error>;
 
-    /// Its layout in the default style, where that can be had.
+    /// The document formatted in the default style; `None` after an error.
     fn lay_out(&self, alloc: Global) -> Option<String>;
 }
 
@@ -43,24 +43,24 @@ impl<'a, T: Text<'a>> Document<'a> for schema::Document<'a, T> {
     }
 }
 
-/// Work whose time is taken.
+/// A kind of work whose time is measured.
 #[derive(Clone, Copy, PartialEq)]
 pub enum Work {
-    /// Cutting the text into its tokens.
+    /// Tokenizing the input.
     Cut,
-    /// Parsing it with names that are borrowed, and dropping what was parsed.
+    /// Parsing it with borrowed names, and dropping the result.
     ParseBorrowed,
-    /// Parsing it with names that are owned, and dropping what was parsed.
+    /// Parsing it with owned names, and dropping the result.
     ParseOwned,
-    /// Parsing it with names that are borrowed, and no more.
+    /// Parsing it with borrowed names, without dropping the result.
     ParseAlone,
-    /// Dropping what was parsed with names that are borrowed.
+    /// Dropping a document with borrowed names.
     DropAlone,
-    /// Laying out its document.
+    /// Formatting its document.
     Format,
-    /// Cutting what laying out writes.
+    /// Tokenizing the formatted document.
     CutWritten,
-    /// Minifying it, which drops the copy that is handed over.
+    /// Minifying a copy of it, which is dropped.
     Minify,
 }
 
@@ -76,7 +76,7 @@ pub const ALL: [Work; 8] = [
     Work::Minify,
 ];
 
-/// What a kind of work is called.
+/// The name of a kind of work.
 pub fn name(work: Work) -> &'static str {
     match work {
         Work::Cut => "cut",
@@ -90,7 +90,7 @@ pub fn name(work: Work) -> &'static str {
     }
 }
 
-/// The kind of work that a word names.
+/// The kind of work with this name.
 pub fn work_named(word: &str) -> Option<Work> {
     'works: for work in ALL {
         if name(work) == word {
@@ -103,15 +103,15 @@ pub fn work_named(word: &str) -> Option<Work> {
 /// What the work is done on.
 #[derive(Drop)]
 pub struct Sample<'a, 'b, D> {
-    /// The text.
+    /// The input.
     pub source: &'a str,
     /// Its document.
     pub document: &'b D,
-    /// The layout of that.
+    /// The formatted document.
     pub written: &'b str,
 }
 
-/// Cuts a text to its end; whether it came there.
+/// Tokenizes an input. Returns whether the end was reached.
 fn cut(source: &str) -> bool {
     if source.len() > usize::MAX / 16 {
         return false;
@@ -127,7 +127,7 @@ fn cut(source: &str) -> bool {
     false
 }
 
-/// The time to parse a text, without the time to drop what was parsed; none where it is refused.
+/// The time to parse an input, without the time to drop the result; `None` if the input is rejected.
 fn time_to_parse<'a, D: Document<'a>>(
     rt: &HostRuntime,
     source: &'a str,
@@ -138,7 +138,7 @@ fn time_to_parse<'a, D: Document<'a>>(
     Ok(parsed.ok().map(|_| elapsed))
 }
 
-/// The time to drop the document of a text; none where it is refused.
+/// The time to drop the document of an input; `None` if the input is rejected.
 fn time_to_drop<'a, D: Document<'a>>(
     rt: &HostRuntime,
     source: &'a str,
@@ -151,7 +151,7 @@ fn time_to_drop<'a, D: Document<'a>>(
     Ok(Some(start.elapsed(rt)?))
 }
 
-/// The time to minify a text, without the time to copy it; none where it has a bad place.
+/// The time to minify an input, without the time to copy it; `None` after an error.
 fn time_to_minify(rt: &HostRuntime, source: &str) -> io::Result<Option<Duration>> {
     let Ok(copy) = String::from_str(rt.alloc(), source) else {
         return Ok(None);
@@ -166,7 +166,7 @@ fn time_to_minify(rt: &HostRuntime, source: &str) -> io::Result<Option<Duration>
     })
 }
 
-/// Does the work once that has nothing to leave out of its time; whether it came to its end.
+/// Does a kind of work once, if all of its time counts. Returns whether it succeeded.
 fn run<'a, B: Document<'a>, O: Document<'a>>(
     alloc: Global,
     work: Work,
@@ -182,7 +182,7 @@ fn run<'a, B: Document<'a>, O: Document<'a>>(
     }
 }
 
-/// The time that the work takes once, with borrowed names in `B` and owned ones in `O`; none where it does not come to its end.
+/// The time that the work takes once, with borrowed names in `B` and owned names in `O`; `None` if it fails.
 pub fn time<'a, B: Document<'a>, O: Document<'a>>(
     rt: &HostRuntime,
     work: Work,

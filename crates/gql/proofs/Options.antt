@@ -1,14 +1,16 @@
--- What words say: options after what was said so far, and commands.
+-- What the arguments mean: options after those already read, and commands.
 use Rattle.std.proofs.Common.{◌≡◌, ◌∙◌, ℕ, Bool, true, false, List, [], ◌∷◌, Option, Some, None, refl, sym, ap, subst, arith}
 use Rattle.std.specs.Prelude.{◌↔◌, codes, nat_eq}
 use Rattle.std.proofs.lemmas.Bool.{and_parts, eqb-true, false≢true}
-use Rattle.graphql_core.specs.{pointwise, digits_value, Layout, default_style}
+use Rattle.std.specs.Cmp.Lexicographic.{pointwise}
+use Rattle.std.specs.Str.Parse.{digits_value}
+use Rattle.graphql_core.specs.{Layout, default_style}
 use Rattle.gql.specs.{is_indent, is_multiline, is_number, number_of, style_said, Says, SaysStyle, all_said, says_multiline, says_indent, Means, means_styled}
 use Rattle.gql.specs.{means_minify, styled_command}
 use Rattle.gql.specs.declared.command.Command.{Command}
 use Rattle.gql.specs.declared.command.Command.TheVariants.{Minify}
 
--- no word is both
+-- no word is both options
 both_words : (w : List ℕ) → is_multiline w ≡ true → is_indent w ≡ true → ⊥
 both_words [] m i = absurd (false≢true m)
 both_words (a ∷ []) m i = absurd (false≢true (and_parts _ _ m).1)
@@ -33,15 +35,15 @@ said_indent h (says_indent k number more) = (number, more)
 pub said_no_number : {m : Bool} {w : List ℕ} {s : Layout} → is_indent w ≡ true → Says None m (w ∷ []) s → ⊥
 said_no_number {w = w} h (says_multiline k more) = both_words w k h
 
--- no option, or one that was said
+-- a word that is no option, or an option that was already read, is invalid
 pub said_no_more : {i : Option ℕ} {m : Bool} {w : List ℕ} {ws : List (List ℕ)} {s : Layout} → (is_multiline w ≡ true → m ≡ false → ⊥)
     → (is_indent w ≡ true → i ≡ None → ⊥) → Says i m (w ∷ ws) s → ⊥
 said_no_more lines spaces (says_multiline k more) = lines k refl
 said_no_more lines spaces (says_indent k number more) = spaces k refl
 
--- ---- turns of a loop over options, after so much was said
+-- ---- iterations of the loop over options
 
--- these words are left, and say what all options say
+-- with the options already read, the remaining words have the same style as all options
 abbrev pub Left : List (List ℕ) → Option ℕ → Bool → List (List ℕ) → Type 0
 Left options i m rest = (style : Layout) → Says i m rest style ↔ SaysStyle options style
 

@@ -1,4 +1,4 @@
--- A device whose faults are counted.
+-- A device whose failures are counted.
 use Rattle.std.specs.Prelude.{ℕ}
 
 -- the device, and how many of its calls failed

@@ -1,4 +1,4 @@
--- How the faults of a device are counted.
+-- How the failures of a device are counted.
 use Rattle.std.specs.Prelude.{ℕ, ◌+◌, ◌-◌, ◌^◌, ◌<◌, ◌≤◌, ◌⊎◌, min, ◌&&◌, ◌==◌, not, if◌then◌else◌, Result, Ok, Err}
 
 -- one more, up to the largest count
@@ -9,7 +9,7 @@ abbrev pub faults_after_read : {E : Type 0} → ℕ → Result ℕ E → ℕ
 faults_after_read n (Ok count) = n
 faults_after_read n (Err e) = one_more n
 
--- a write that took none of some bytes is a fault
+-- a write that took 0 bytes of a non-empty buffer is a failure
 abbrev pub faults_after_write : {E : Type 0} → ℕ → Result ℕ E → ℕ → ℕ
 faults_after_write n (Ok count) len = if count == 0 && not (len == 0) then one_more n else n
 faults_after_write n (Err e) len = one_more n
@@ -18,6 +18,6 @@ abbrev pub faults_after_flush : {E : Type 0} → ℕ → Result (Unit {0}) E →
 faults_after_flush n (Ok u) = n
 faults_after_flush n (Err e) = one_more n
 
--- the count grew, or stood at its largest before
+-- the count grew, or was already at its largest
 abbrev pub HasFault : ℕ → ℕ → Type 0
 HasFault old new = (old < new) ⊎ (2 ^ 64 - 1 ≤ old)

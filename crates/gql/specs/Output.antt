@@ -1,17 +1,15 @@
--- What is written for what is read.
+-- The output of each command, and the errors.
 use Rattle.std.specs.Prelude.{◌≡◌, ◌++◌, ℕ, List, [], ◌∷◌, Option, IfSome}
 use Rattle.std.specs.Io.KnownBytes.{Appends, IsAtEnd}
-use Rattle.graphql_values.specs.{Refusal, Layout, IsMinified, IsDocumentOf}
-use Rattle.graphql_query_tree.specs.{queries, DefinitionTree}
-use Rattle.graphql_query_tree.specs.Layout as query
-use Rattle.graphql_query.specs.{one_definition, IsFirstDefinition, IsMinifyRefusalOf}
-use Rattle.graphql_schema_tree.specs.{schemas}
-use Rattle.graphql_schema_tree.specs.Layout as schema
+use Rattle.graphql_core.specs.{Refusal, Layout, IsMinified, IsDocumentOf, IsWrittenOf, HasNone, IsWide}
+use Rattle.graphql_query.specs.{queries, DefinitionTree, one_definition, IsFirstDefinition, IsMinifyRefusalOf}
+use Rattle.graphql_query.specs.Layout as query
+use Rattle.graphql_schema.specs.{schemas}
+use Rattle.graphql_schema.specs.Layout as schema
 use Rattle.graphql_core.specs.declared.format.error.FormatError.{FormatError}
 use Rattle.graphql_core.specs.declared.format.error.FormatError.TheVariants.{TooWide}
 use Rattle.graphql_core.specs.declared.format.error.FormatError.TheVariants as layout_error
 use Rattle.gql.specs.Faults.{HasFault}
-use Rattle.graphql_values.specs.Outputs.{IsWrittenOf, HasNone, IsWide}
 use Rattle.gql.specs.declared.error.RunError.{RunError}
 use Rattle.gql.specs.declared.error.RunError.TheVariants.{Read, NotUtf8, Format, Write, OutOfMemory}
 use Rattle.gql.specs.declared.error.RunError.TheVariants as error
@@ -20,38 +18,38 @@ use Rattle.gql.specs.declared.command.Command.TheVariants.{Query, Schema, Minify
 
 -- ---- first definitions
 
--- a definition as a document of its own, and then the rest as it is
+-- a definition formatted as a document, and then the rest unchanged
 abbrev pub definition_and_rest : Layout → DefinitionTree × List ℕ → List ℕ
 definition_and_rest style (d, rest) = query.layout style (d ∷ []) ++ rest
 
--- a definition is too wide as a document of its own
+-- a definition is too wide as a document
 abbrev pub IsTooWideAlone : Layout → DefinitionTree × List ℕ → Type 0
 IsTooWideAlone style (d, rest) = query.IsTooWide style (d ∷ [])
 
 -- ---- commands
 
--- a command makes this output of a text
+-- the command has this output for this input
 abbrev pub IsOutputOf : Command → Layout → List ℕ → List ℕ → Type 0
 IsOutputOf Query style text output = IsWrittenOf (IsDocumentOf queries) (query.layout style) text output
 IsOutputOf Schema style text output = IsWrittenOf (IsDocumentOf schemas) (schema.layout style) text output
 IsOutputOf Minify style text output = IsMinified text output
 IsOutputOf First style text output = IsWrittenOf IsFirstDefinition (definition_and_rest style) text output
 
--- this is why the text is no query document, or begins with no definition of one
+-- why the input is no query document, or begins with no definition of one
 abbrev pub HasNoQuery : Command → List ℕ → Refusal → Type 0
 HasNoQuery Query text e = HasNone (IsDocumentOf queries) queries text e
 HasNoQuery Schema text e = ⊥
 HasNoQuery Minify text e = ⊥
 HasNoQuery First text e = HasNone IsFirstDefinition one_definition text e
 
--- this is why the text is no schema document
+-- why the input is no schema document
 abbrev pub HasNoSchema : Command → List ℕ → Refusal → Type 0
 HasNoSchema Query text e = ⊥
 HasNoSchema Schema text e = HasNone (IsDocumentOf schemas) schemas text e
 HasNoSchema Minify text e = ⊥
 HasNoSchema First text e = ⊥
 
--- this is why the text is not minified: an allocation failed, or it is too long, or its items end in a bad place
+-- why the input is not minified: an allocation failed, the input is too long, or it has a lexical error
 abbrev pub HasBadPlace : Command → List ℕ → Refusal → Type 0
 HasBadPlace Query text e = ⊥
 HasBadPlace Schema text e = ⊥
@@ -69,14 +67,14 @@ HasDocument Schema text = HasOne (IsDocumentOf schemas) text
 HasDocument Minify text = ⊥
 HasDocument First text = HasOne IsFirstDefinition text
 
--- the engine itself takes memory, for the document that is made of a first definition, or for the rest behind it
+-- the engine itself allocates, for the document with a first definition, or for the rest behind it
 abbrev pub TakesMemory : Command → List ℕ → Type 0
 TakesMemory Query text = ⊥
 TakesMemory Schema text = ⊥
 TakesMemory Minify text = ⊥
 TakesMemory First text = HasOne IsFirstDefinition text
 
--- the text's document, or its first definition, is too wide for the style
+-- the document of the input, or its first definition, is too wide for the style
 abbrev pub HasNoLayout : Command → Layout → List ℕ → Type 0
 HasNoLayout Query style text = IsWide (IsDocumentOf queries) (query.IsTooWide style) text
 HasNoLayout Schema style text = IsWide (IsDocumentOf schemas) (schema.IsTooWide style) text
@@ -85,17 +83,17 @@ HasNoLayout First style text = IsWide IsFirstDefinition (IsTooWideAlone style) t
 
 -- ---- devices
 
--- all that was left was read, and this holds of it
+-- all that was left was read, and P holds of it
 abbrev pub ReadsAll : Option (List ℕ) → Option (List ℕ) → (List ℕ → Type 0) → Type 0
 ReadsAll old new P = IsAtEnd new × IfSome old P
 
--- a beginning of these bytes was written
+-- a prefix of these bytes was written
 abbrev pub WritesPart : Option (List ℕ) → Option (List ℕ) → List ℕ → Type 0
 WritesPart old new all = (front : List ℕ) × (rest : List ℕ) × (all ≡ front ++ rest) × Appends old new front
 
 -- ---- runs that end early
 
--- reading ends early where memory runs out, or a read failed
+-- reading ends early if an allocation failed, or a read failed
 abbrev pub EndsReading : ℕ → ℕ → RunError → Type 0
 EndsReading old new Read = HasFault old new
 EndsReading old new OutOfMemory = Unit {0}
@@ -106,12 +104,12 @@ EndsReading old new (error.Minify e) = ⊥
 EndsReading old new (Format e) = ⊥
 EndsReading old new Write = ⊥
 
--- what an error of formatting says of the input: out of memory comes only where there was a document to format
+-- what an error of formatting says of the input: `OutOfMemory` comes only if there was a document to format
 abbrev pub RefusesLayout : Command → Layout → List ℕ → FormatError → Type 0
 RefusesLayout command style text TooWide = HasNoLayout command style text
 RefusesLayout command style text layout_error.OutOfMemory = HasDocument command text
 
--- a text gets no output where it is refused or has a bad place, or its document is not laid out
+-- what an error of the engine says of the input
 abbrev pub EndsEngine : Command → Layout → List ℕ → RunError → Type 0
 EndsEngine command style text (error.Query e) = HasNoQuery command text e
 EndsEngine command style text (error.Schema e) = HasNoSchema command text e

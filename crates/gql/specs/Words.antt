@@ -1,15 +1,14 @@
--- The words of a command.
-use Rattle.std.specs.Prelude.{◌≡◌, ℕ, ◌^◌, Bool, true, false, ◌&&◌, nat_lt, nat_le, nat_eq, List, [], ◌∷◌, length, Option, Some, None, if◌then◌else◌}
-use Rattle.std.specs.Prelude.{codes}
+-- The arguments of the program.
+use Rattle.std.specs.Prelude.{◌≡◌, ℕ, ◌^◌, Bool, true, false, ◌&&◌, nat_lt, nat_le, nat_eq, List, [], ◌∷◌, length, Option, Some, None, if◌then◌else◌, codes}
 use Rattle.std.specs.Cmp.Lexicographic.{pointwise}
 use Rattle.std.specs.List.{list_all}
 use Rattle.std.specs.Char.{is_ascii_digit}
 use Rattle.std.specs.Str.Parse.{digits_value}
-use Rattle.graphql_core.specs.Style.{Layout, default_style, with_indent, with_multiline}
+use Rattle.graphql_core.specs.{Layout, default_style, with_indent, with_multiline}
 use Rattle.gql.specs.declared.command.Command.{Command}
 use Rattle.gql.specs.declared.command.Command.TheVariants.{Query, Schema, Minify, First}
 
--- one to ten digits, of at most 4294967295
+-- one to ten digits, at most 4294967295
 abbrev pub is_number : List ℕ → Bool
 is_number w = nat_le (length w) 10 && (list_all is_ascii_digit w && (nat_lt 0 (length w) && nat_lt (digits_value 10 w) (2 ^ 32)))
 
@@ -22,12 +21,12 @@ is_indent w = pointwise nat_eq w (codes "--indent")
 abbrev pub is_multiline : List ℕ → Bool
 is_multiline w = pointwise nat_eq w (codes "--multiline")
 
--- the style with the settings that were said, and the default ones for the others
+-- the style with these settings, and the default indentation if there is none
 abbrev pub style_said : Option ℕ → Bool → Layout
 style_said None multiline = with_multiline default_style multiline
 style_said (Some n) multiline = with_multiline (with_indent default_style n) multiline
 
--- options, and the style that they say after what was said so far: each at most once, and in any order
+-- options, and the style with them and those already read: each option at most once, in any order
 pub data Says : Option ℕ → Bool → List (List ℕ) → Layout → Type 0 where
   all_said : {indent : Option ℕ} {multiline : Bool} → Says indent multiline [] (style_said indent multiline)
   says_multiline : {indent : Option ℕ} {w : List ℕ} {ws : List (List ℕ)} {style : Layout} → is_multiline w ≡ true
@@ -35,11 +34,11 @@ pub data Says : Option ℕ → Bool → List (List ℕ) → Layout → Type 0 wh
   says_indent : {multiline : Bool} {w n : List ℕ} {ws : List (List ℕ)} {style : Layout} → is_indent w ≡ true → is_number n ≡ true
       → Says (Some (digits_value 10 n)) multiline ws style → Says None multiline (w ∷ n ∷ ws) style
 
--- options alone, and the style that they say
+-- options alone, and the style with them
 abbrev pub SaysStyle : List (List ℕ) → Layout → Type 0
 SaysStyle = Says None false
 
--- the command that a word says, of those that take options
+-- the command of this name, if it takes options
 abbrev pub styled_command : List ℕ → Option Command
 styled_command w =
     if pointwise nat_eq w (codes "query") then Some Query
@@ -47,7 +46,7 @@ styled_command w =
     else if pointwise nat_eq w (codes "first") then Some First
     else None
 
--- the words, each by its bytes, and the command and the style that they say; `minify` takes no options
+-- the arguments as bytes, and their command and style; `minify` takes no options
 pub data Means : List (List ℕ) → Command × Layout → Type 0 where
   means_styled : {w : List ℕ} {ws : List (List ℕ)} {command : Command} {style : Layout} → styled_command w ≡ Some command → SaysStyle ws style
       → Means (w ∷ ws) (command, style)

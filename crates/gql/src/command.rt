@@ -1,6 +1,8 @@
-//! The words of a command.
+//! The arguments of the program.
 ghost use Rattle.std.specs.Prelude.{◌≡◌, ◌↔◌, Some, map, string_bytes};
-ghost use Rattle.graphql_core.specs.{list_all, is_ascii_digit, Layout};
+ghost use Rattle.std.specs.List.{list_all};
+ghost use Rattle.std.specs.Char.{is_ascii_digit};
+ghost use Rattle.graphql_core.specs.{Layout};
 ghost use Rattle.gql.specs.{is_indent, is_multiline, number_of, style_said, styled_command, SaysStyle, Means};
 
 use graphql_parser::Style;
@@ -8,20 +10,20 @@ use graphql_parser::Style;
 /// How the program is called.
 pub const USAGE: &str = "usage: gql query|schema|minify|first [--indent N] [--multiline]";
 
-/// What is done with the text.
+/// What the program does with its input.
 #[derive(Clone, Copy, Debug, PartialEq, Eq)]
 pub enum Command {
-    /// Lays out a query document.
+    /// Formats a query document.
     Query,
-    /// Lays out a schema document.
+    /// Formats a schema document.
     Schema,
-    /// Writes the tokens with no more spaces between them than keep them apart.
+    /// Writes the tokens, with a space only where two tokens would otherwise run together.
     Minify,
-    /// Lays out the first definition of a query text, and leaves the rest as it is.
+    /// Formats the first definition of a query document, and writes the rest of the input unchanged.
     First,
 }
 
-/// The style with the settings that were said, and the default ones for the others.
+/// The style with these settings, and the default indentation if there is no `indent`.
 fn style_said(indent: Option<u32>, multiline: bool) -> Style
     ensures { result ≡ style_said indent multiline }
 {
@@ -33,14 +35,14 @@ fn style_said(indent: Option<u32>, multiline: bool) -> Style
     style
 }
 
-/// Whether a word has digits alone.
+/// Whether a word has only ASCII digits.
 fn has_only_digits(word: &str) -> bool
     ensures { result ≡ list_all is_ascii_digit word.now }
 {
     word.bytes().all(|byte| byte.is_ascii_digit())
 }
 
-/// The number that a word of one to ten digits says; `None` for any other word.
+/// The number with these one to ten digits; `None` for any other word.
 fn number_of(word: &str) -> Option<u32>
     ensures { result ≡ number_of word.now }
 {
@@ -65,7 +67,7 @@ fn is_multiline(word: &str) -> bool
     word == "--multiline"
 }
 
-/// The style that the options say, each at most once and in any order; `None` for other words.
+/// The style with these options, each at most once and in any order; `None` if an option is invalid.
 fn style_of(options: &[String]) -> Option<Style>
     ensures { (style : Layout) → result ≡ Some style ↔ SaysStyle (map string_bytes options.now) style }
 {
@@ -87,7 +89,7 @@ fn style_of(options: &[String]) -> Option<Style>
     Some(style_said(indent, multiline))
 }
 
-/// The command that a word says, of those that take options.
+/// The command of this name, if it takes options.
 fn styled_command(word: &str) -> Option<Command>
     ensures { result ≡ styled_command word.now }
 {
@@ -102,7 +104,7 @@ fn styled_command(word: &str) -> Option<Command>
     }
 }
 
-/// The command that the words after the program's name say, and `None` for wrong words.
+/// The command and the style from the arguments after the program's name; `None` if the arguments are invalid.
 pub fn read_words(words: Vec<String>) -> Option<(Command, Style)>
     ensures { (said : Command × Layout) → result ≡ Some said ↔ Means (map string_bytes words.items) said }
 {

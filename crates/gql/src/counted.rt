@@ -1,4 +1,4 @@
-//! A device whose faults are counted.
+//! A reader or writer whose failures are counted.
 ghost use Rattle.std.specs.Prelude.{◌≡◌, ◌<◌, ◌+◌, ◌-◌, ◌^◌, length};
 ghost use Rattle.std.specs.Io.{ReadsAtMost, WritesAtMost};
 ghost use Rattle.std.specs.Io.KnownBytes.{ReadConsumes, WriteAppends, Keeps};
@@ -8,7 +8,7 @@ use std::io;
 use std::io::{Read, Write};
 use std::marker::Model;
 
-/// Hands each call on to its device, and counts the calls that fail.
+/// Forwards each call to its device once, and counts the calls that fail.
 #[derive(Drop)]
 pub struct Counted<D> {
     device: D,
@@ -24,7 +24,7 @@ impl<D> Model for Counted<D> {
 }
 
 impl<D> Counted<D> {
-    /// None of its calls has failed yet.
+    /// Wraps a device, with a count of 0.
     pub fn new(device: D) -> Self
         ensures device { result.device ≡ device }
         ensures faults { result.faults ≡ 0 }
@@ -32,8 +32,8 @@ impl<D> Counted<D> {
         Counted { device, faults: 0 }
     }
 
-    /// How many calls failed, at most `u64::MAX`: those that answered an error, and the writes that took
-    /// nothing of some bytes.
+    /// How many calls failed, at most `u64::MAX`: those that returned an error, and the writes that took 0 bytes of a
+    /// non-empty buffer.
     pub fn faults(&self) -> u64
         ensures { result ≡ self.now.faults }
     {

@@ -1,8 +1,8 @@
-//! All of the input, and then all of the output.
+//! The engine: it reads all of the input, and then writes all of the output.
 ghost use Rattle.std.specs.Prelude.{◌≡◌, ◌≢◌, ◌++◌, List, [], ◌∷◌, ℕ, Err, string_bytes, MatchResult, OnOk, IfOk, IfErr, IfSome};
 ghost use Rattle.std.specs.Str.{IsUtf8};
 ghost use Rattle.std.specs.Io.KnownBytes.{Keeps, Appends, Consumes, IsAtEnd};
-ghost use Rattle.graphql_values.specs.{Refusal};
+ghost use Rattle.graphql_core.specs.{Refusal};
 ghost use Rattle.gql.specs.{HasFault, IsOutputOf, HasNoQuery, HasNoSchema, HasBadPlace, RefusesLayout, ReadsAll, EndsReading, EndsEngine, WritesPart};
 
 use crate::command::Command;
@@ -13,7 +13,7 @@ use graphql_parser::{FormatError, Style, minify_query, parse_query, parse_schema
 use std::alloc::Global;
 use std::io::{Read, Write};
 
-/// Reads all that the reader has.
+/// Reads all that the reader has left.
 fn read_all<R: Read>(alloc: Global, reader: &mut Counted<R>) -> Result<Vec<u8>, RunError>
     ensures bytes { IfOk result (λ v. Consumes (R.remaining reader.old.device) (R.remaining reader.new.device) v.items) }
     ensures end { OnOk result (IsAtEnd (R.remaining reader.new.device)) }
@@ -31,7 +31,7 @@ fn read_all<R: Read>(alloc: Global, reader: &mut Counted<R>) -> Result<Vec<u8>, 
     unreachable!()
 }
 
-/// Writes all of these bytes.
+/// Writes these bytes, and then flushes.
 fn write_all<W: Write>(writer: &mut Counted<W>, bytes: &[u8]) -> Result<(), RunError>
     ensures ok { OnOk result (Appends (W.contents writer.old.device) (W.contents writer.new.device) bytes.now) }
     ensures faults { OnOk result (writer.new.faults ≡ writer.old.faults) }
@@ -51,7 +51,7 @@ fn write_all<W: Write>(writer: &mut Counted<W>, bytes: &[u8]) -> Result<(), RunE
     unreachable!()
 }
 
-/// The query document of a text, laid out.
+/// Parses an input as a query document, and formats it.
 fn query_laid_out(alloc: Global, style: &Style, text: &str) -> Result<String, RunError>
     ensures { MatchResult result (λ s. IsOutputOf Command.Query style.now text.now (string_bytes s)) (EndsEngine Command.Query style.now text.now) }
 {
@@ -61,7 +61,7 @@ fn query_laid_out(alloc: Global, style: &Style, text: &str) -> Result<String, Ru
     }
 }
 
-/// The schema document of a text, laid out.
+/// Parses an input as a schema document, and formats it.
 fn schema_laid_out(alloc: Global, style: &Style, text: &str) -> Result<String, RunError>
     ensures { MatchResult result (λ s. IsOutputOf Command.Schema style.now text.now (string_bytes s)) (EndsEngine Command.Schema style.now text.now) }
 {
@@ -71,7 +71,7 @@ fn schema_laid_out(alloc: Global, style: &Style, text: &str) -> Result<String, R
     }
 }
 
-/// The tokens of a text, with no more spaces between them than keep them apart.
+/// Minifies an input. The style is ignored.
 fn minified(alloc: Global, style: &Style, text: String) -> Result<String, RunError>
     ensures { MatchResult result (λ s. IsOutputOf Command.Minify style.now (string_bytes text) (string_bytes s))
         (EndsEngine Command.Minify style.now (string_bytes text)) }
@@ -80,7 +80,7 @@ fn minified(alloc: Global, style: &Style, text: String) -> Result<String, RunErr
     minify_query(alloc, text).map_err(RunError::Minify)
 }
 
-/// A definition as a document with no other. Nothing is formatted here: out of memory is an error of the engine.
+/// A document with this definition alone. Nothing is formatted here, so out of memory is an error of the engine.
 fn alone<'a>(
     alloc: Global,
     definition: query::Definition<'a, &'a str>,
@@ -103,7 +103,7 @@ fn with_rest(mut output: String, rest: &str) -> Result<String, RunError>
     Ok(output)
 }
 
-/// The first definition of a text, laid out as a document of its own, and then the rest as it is.
+/// Formats the first definition of an input as a document, and appends the rest of the input unchanged.
 fn first_laid_out(alloc: Global, style: &Style, text: &str) -> Result<String, RunError>
     ensures { MatchResult result (λ s. IsOutputOf Command.First style.now text.now (string_bytes s)) (EndsEngine Command.First style.now text.now) }
 {
@@ -113,7 +113,7 @@ fn first_laid_out(alloc: Global, style: &Style, text: &str) -> Result<String, Ru
     with_rest(output, rest)
 }
 
-/// What a command makes of a text.
+/// The output of a command for an input.
 fn output_of(
     alloc: Global,
     command: Command,
@@ -130,7 +130,7 @@ fn output_of(
     }
 }
 
-/// Reads the input to its end, and writes what the command makes of it.
+/// Reads the input to its end, and writes the output of the command. `RunError` lists the errors.
 pub fn run<R: Read, W: Write>(
     alloc: Global,
     command: Command,
@@ -138,7 +138,7 @@ pub fn run<R: Read, W: Write>(
     reader: &mut Counted<R>,
     writer: &mut Counted<W>,
 ) -> Result<(), RunError>
-    // All that the reader had left was read, and the output that the command makes of it was written.
+    // The reader was read to its end, and the output of the command for that input was written.
     ensures ok { OnOk result (ReadsAll (R.remaining reader.old.device) (R.remaining reader.new.device)
         (λ input. (output : List ℕ) × IsOutputOf command style.now input output
         × Appends (W.contents writer.old.device) (W.contents writer.new.device) output)) }
@@ -153,10 +153,10 @@ pub fn run<R: Read, W: Write>(
         (λ input. HasBadPlace command input e) }
     ensures format { (e : FormatError) → result ≡ Err (RunError.Format e) → ReadsAll (R.remaining reader.old.device) (R.remaining reader.new.device)
         (λ input. RefusesLayout command style.now input e) }
-    // The first fault of a device ends the run.
+    // The reader reports a failure only if the run returns `Read`, and the writer only if the run returns `Write`.
     ensures reader_faults { result ≢ Err RunError.Read → reader.new.faults ≡ reader.old.faults }
     ensures writer_faults { result ≢ Err RunError.Write → writer.new.faults ≡ writer.old.faults }
-    // Only a run that fails to write may leave a part of its output after.
+    // Only a run that returns `Write` can leave a part of the output written.
     ensures untouched { IfErr result (λ e. e ≢ RunError.Write → Keeps (W.contents writer.old.device) (W.contents writer.new.device)) }
     ensures write { result ≡ Err RunError.Write → HasFault writer.old.faults writer.new.faults
         × ReadsAll (R.remaining reader.old.device) (R.remaining reader.new.device) (λ input. (output : List ℕ) × IsOutputOf command style.now input output

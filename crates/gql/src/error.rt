@@ -1,4 +1,4 @@
-//! Why a run ends early.
+//! The errors of a run, and the exit status.
 ghost use Rattle.std.specs.Prelude.{◌≡◌, option_map};
 ghost use Rattle.gql.specs.{ends_its_line, status_of};
 
@@ -10,25 +10,25 @@ use thiserror::Error;
 /// Why a run ends early.
 #[derive(Debug, Drop, Error)]
 pub enum RunError {
-    /// A read answered an error. Nothing was written.
+    /// A read returned an error. Nothing was written.
     #[error("gql: read failed")]
     Read,
     /// The input is not UTF-8. Nothing was written.
     #[error("gql: input is not UTF-8")]
     NotUtf8,
-    /// The input is no query document, or begins with no definition of one. Nothing was written.
+    /// `parse_query` or `consume_definition` returned this error. Nothing was written.
     #[error("{0}")]
     Query(query::ParseError),
-    /// The input is no schema document. Nothing was written.
+    /// `parse_schema` returned this error. Nothing was written.
     #[error("{0}")]
     Schema(schema::ParseError),
-    /// The input has a bad place, or is too long. Nothing was written.
+    /// `minify_query` returned this error. Nothing was written.
     #[error("{0}")]
     Minify(MinifyError),
-    /// The document, or the first definition, cannot be laid out. Nothing was written.
+    /// Formatting returned this error. Nothing was written.
     #[error("{0}")]
     Format(FormatError),
-    /// A write or the last flush failed, or a write took nothing. A beginning of the output was written.
+    /// A write or the last flush failed, or a write took 0 bytes. A prefix of the output was written.
     #[error("gql: write failed")]
     Write,
     /// An allocation of the engine itself failed. Nothing was written.
@@ -37,7 +37,7 @@ pub enum RunError {
 }
 
 impl RunError {
-    /// Whether the message ends in a line end.
+    /// Whether the message ends with a line feed.
     pub fn ends_its_line(&self) -> bool
         ensures { result ≡ ends_its_line self.now }
     {
@@ -60,8 +60,11 @@ impl From<AllocError> for RunError {
     }
 }
 
-/// The status with which the program ends: 0 where all was written, 1 for a refused text, 2 for a
-/// device, for an allocation of the engine itself that failed, and for wrong words (`None`).
+/// The exit status:
+/// - 0: all output was written.
+/// - 1: parsing, minifying or formatting returned an error.
+/// - 2: a device failed, the input is not UTF-8, or an allocation of the engine failed.
+/// - 2 for `None`: the arguments are invalid.
 pub fn status(answer: Option<&Result<(), RunError>>) -> u8
     ensures { result ≡ status_of (option_map (λ r. r.now) answer.entry) }
 {

@@ -1,4 +1,4 @@
-//! `gql`: reads a GraphQL document from standard input, and writes it laid out to standard output.
+//! `gql`: reads GraphQL from standard input, and writes it formatted or minified to standard output.
 #![tactic(auto)]
 
 mod command;
@@ -16,7 +16,7 @@ use graphql_parser::Style;
 use std::process::ExitCode;
 use std::{env, io};
 
-/// The words after the program's name.
+/// The command and the style from the arguments; `None` if the arguments are invalid or cannot be read.
 fn words(rt: &HostRuntime) -> Option<(Command, Style)> {
     let mut words = Vec::new(rt.alloc());
     let args = env::args(rt).ok()?;
@@ -26,14 +26,14 @@ fn words(rt: &HostRuntime) -> Option<(Command, Style)> {
     read_words(words)
 }
 
-/// Runs a command over standard input and output.
+/// Runs a command on standard input and output.
 fn run_command(rt: &HostRuntime, command: Command, style: &Style) -> Result<(), RunError> {
     let mut reader = Counted::new(rt.reader());
     let mut writer = Counted::new(io::writer(rt));
     run(rt.alloc(), command, style, &mut reader, &mut writer)
 }
 
-/// Writes to standard error why a run ended early. A failure to write it is ignored.
+/// Writes the message of an error to standard error, ended by a line feed. A failed write is ignored.
 fn report(rt: &HostRuntime, error: &RunError) {
     let _ = if error.ends_its_line() {
         eprint!(rt; "{error}")

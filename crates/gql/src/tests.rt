@@ -1,4 +1,4 @@
-//! Runs over readers and writers of the tests' own.
+//! Runs with readers and writers made for tests.
 mod calls;
 mod devices;
 mod documents;
@@ -16,7 +16,7 @@ use std::alloc::{AllocError, Global};
 use std::process::Abort;
 use std::test::Fail;
 
-/// What these words say, which are parted by commas.
+/// Parses arguments that are separated by commas.
 fn said(alloc: Global, words: &str) -> Result<Option<(Command, Style)>, AllocError> {
     let mut owned = Vec::new(alloc);
     for word in words.split(',') {
@@ -25,7 +25,7 @@ fn said(alloc: Global, words: &str) -> Result<Option<(Command, Style)>, AllocErr
     Ok(read_words(owned))
 }
 
-/// What a run left after.
+/// The result of a run, what was written, and the counts of failures.
 #[derive(Drop)]
 struct Ran {
     answer: Result<(), RunError>,
@@ -34,7 +34,7 @@ struct Ran {
     write_faults: u64,
 }
 
-/// Runs what words say from a source to a sink.
+/// Runs the engine with these arguments, from a source to a sink.
 fn run_over(alloc: Global, words: &str, source: Source<'_>, mut sink: Sink) -> Result<Ran, Fail> {
     let (command, style) = said(alloc, words)?.ok_or("wrong words")?;
     let mut reader = Counted::new(source);
@@ -50,7 +50,7 @@ fn run_over(alloc: Global, words: &str, source: Source<'_>, mut sink: Sink) -> R
     })
 }
 
-/// What standard error is told of a run.
+/// The message on standard error; empty for `Ok`.
 fn told(alloc: Global, answer: &Result<(), RunError>) -> Result<String, AllocError> {
     match answer {
         Ok(()) => Ok(String::new(alloc)),
@@ -58,7 +58,7 @@ fn told(alloc: Global, answer: &Result<(), RunError>) -> Result<String, AllocErr
     }
 }
 
-/// The run wrote these bytes, told this message, and ended with this status.
+/// The run wrote these bytes, and ended with this message and this status.
 fn assert_ended(
     rt: &impl Abort,
     alloc: Global,

@@ -1,25 +1,25 @@
--- A source, and the same source with more after it: if some of it is left after some of its tokens, both continue at the same byte.
+-- A source, and the same with more bytes after it. If bytes are left after some tokens, both continue at the same byte.
 use Rattle.std.specs.List.{prefix_len}
 use Rattle.std.specs.Str.{is_utf8, chars}
-use Rattle.std.proofs.Common.{◌≡◌, ◌∙◌, ◌+◌, ◌<◌, ℕ, Bool, true, false, ◌==◌, ◌&&◌, List, [], ◌∷◌, ◌++◌, length, drop, get_or, None, inl, inr, IsUtf8}
-use Rattle.std.proofs.Common.{refl, sym, ap, subst, arith, append_assoc, length-append, eqb-true}
+use Rattle.std.proofs.Common.{◌≡◌, ◌∙◌, ◌+◌, ◌<◌, ℕ, Bool, true, false, ◌==◌, ◌&&◌, List, [], ◌∷◌, ◌++◌, length, drop, get_or, None, inl, inr, IsUtf8, refl}
+use Rattle.std.proofs.Common.{sym, ap, subst, arith, append_assoc, length-append, eqb-true}
 use Rattle.std.proofs.lemmas.Bool.{cases_Bool, and_parts, false≢true}
 use Rattle.std.proofs.lemmas.Str.{is_utf8-from_IsUtf8}
 use Rattle.std.proofs.Math.Seq.{drop-append-add}
-use Rattle.graphql_lexer.specs.declared.tokenizer.piece.Piece.{Piece as Ahead}
-use Rattle.graphql_lexer.specs.declared.tokenizer.piece.Piece.TheVariants.{AtEnd, Skips, Takes, Stops}
-use Rattle.graphql_lexer.specs.{front, ignored, line_end, comment, Wrong, BeginsNone, is_in_line}
-use Rattle.graphql_lexer.proofs.Spaces.{no_front}
-use Rattle.graphql_lexer.proofs.OneCut.{cut_of, front_sees, Sees}
-use Rattle.graphql_lexer.proofs.FrontIsPiece.{stands_front}
-use Rattle.graphql_core.specs.{items_of, token_of, Token, Kind, Nesting, too_deep, Meaning, Ignored, Word, Piece, IsCutInto, Stands, Where}
-use Rattle.graphql_core.specs.{Item, item, Lexeme, past_ignored, past_token, is_too_deep, token_then, piece_then, next_place, split}
-use Rattle.graphql_core.proofs.KeptTokens.{stands_before_same}
+use Rattle.graphql_core.specs.declared.tokenizer.piece.Piece.{Piece as Ahead}
+use Rattle.graphql_core.specs.declared.tokenizer.piece.Piece.TheVariants.{AtEnd, Skips, Takes, Stops}
+use Rattle.graphql_core.specs.{front, line_end, comment, BeginsNone, is_in_line, items_of, Token, too_deep, Meaning}
+use Rattle.graphql_core.specs.{Ignored, Word, Piece, IsCutInto, Stands, Where, Item, past_ignored, past_token}
+use Rattle.graphql_core.specs.{is_too_deep, token_then, piece_then, next_place, split, ignored_front, LexicalError}
+use Rattle.graphql_core.specs.{item_at, TokenContent, token_of}
+use Rattle.graphql_core.specs.declared.tokenizer.token.Kind.{Kind}
+use Rattle.graphql_core.specs.declared.tokenizer.piece.Nesting.{Nesting}
+use Rattle.graphql_core.proofs.{no_front, cut_of, front_sees, Sees, stands_front, stands_before_same}
 
 -- ---- where no ignored token begins, none begins with more after the source
 
 -- a comment is an ignored token
-line_ignored : (n : ℕ) (rest : List ℕ) → ignored (line_end n rest) ≡ None → ⊥
+line_ignored : (n : ℕ) (rest : List ℕ) → ignored_front (line_end n rest) ≡ None → ⊥
 line_ignored n [] e = cc
 line_ignored n (b ∷ bs) e = elim (cases_Bool (b == 13 && get_or bs 0 0 == 10)) [
   | inl t ↦ let f = rw t at e in cc
@@ -35,16 +35,16 @@ second_is_none : is_utf8 (239 ∷ 187 ∷ []) ≡ false
 unfolding is_utf8 chars
 second_is_none = refl
 
-no_part : (bs more : List ℕ) → ignored (front (239 ∷ bs)) ≡ None → IsUtf8 (239 ∷ bs) → get_or (bs ++ more) 0 0 ≡ 187 → get_or (bs ++ more) 1 0 ≡ 191 → ⊥
+no_part : (bs more : List ℕ) → ignored_front (front (239 ∷ bs)) ≡ None → IsUtf8 (239 ∷ bs) → get_or (bs ++ more) 0 0 ≡ 187 → get_or (bs ++ more) 1 0 ≡ 191 → ⊥
 unfolding front
 no_part [] more none utf8 e f = false≢true (sym first_is_none ∙ is_utf8-from_IsUtf8 _ utf8)
 no_part (x ∷ []) more none utf8 e f = false≢true (sym second_is_none ∙ ap (λ y. is_utf8 (239 ∷ y ∷ [])) (sym e) ∙ is_utf8-from_IsUtf8 _ utf8)
 no_part (x ∷ y ∷ bs) more none utf8 e f = let b = rw (e, f) at none in cc
 
-module _ (b : ℕ) (bs more : List ℕ) (none : ignored (front (b ∷ bs)) ≡ None) where
-  differs : (k : ℕ) → (ignored (front (k ∷ bs)) ≡ None → ⊥) → (b == k) ≡ false
+module _ (b : ℕ) (bs more : List ℕ) (none : ignored_front (front (b ∷ bs)) ≡ None) where
+  differs : (k : ℕ) → (ignored_front (front (k ∷ bs)) ≡ None → ⊥) → (b == k) ≡ false
   differs k never = elim (cases_Bool (b == k)) [
-    | inl t ↦ absurd (never (subst (λ x. ignored (front (x ∷ bs)) ≡ None) (eqb-true b k t) none))
+    | inl t ↦ absurd (never (subst (λ x. ignored_front (front (x ∷ bs)) ≡ None) (eqb-true b k t) none))
     | inr f ↦ f
   ]
 
@@ -54,12 +54,12 @@ module _ (b : ℕ) (bs more : List ℕ) (none : ignored (front (b ∷ bs)) ≡ N
         let (first, others) = and_parts _ _ t in
         let (second, third) = and_parts _ _ others in
         let is = eqb-true b 239 first in
-        let here = subst (λ x. ignored (front (x ∷ bs)) ≡ None) is none in
+        let here = subst (λ x. ignored_front (front (x ∷ bs)) ≡ None) is none in
         absurd (no_part bs more here (subst (λ x. IsUtf8 (x ∷ bs)) is utf8) (eqb-true _ _ second) (eqb-true _ _ third))
     | inr f ↦ f
   ]
 
-  still_none : IsUtf8 (b ∷ bs) → ignored (front (b ∷ (bs ++ more))) ≡ None
+  still_none : IsUtf8 (b ∷ bs) → ignored_front (front (b ∷ (bs ++ more))) ≡ None
   unfolding front comment
   still_none utf8 =
       no_front b (bs ++ more) (differs 9 (λ e. cc)) (differs 10 (λ e. cc)) (differs 13 (λ e. cc))
@@ -67,7 +67,7 @@ module _ (b : ℕ) (bs more : List ℕ) (none : ignored (front (b ∷ bs)) ≡ N
       (differs 35 (λ e. line_ignored (prefix_len is_in_line bs) (drop (prefix_len is_in_line bs) bs) e)) (no_mark utf8)
 
 -- a source that begins with no ignored token
-none_begins : (x : Ahead) (text : List ℕ) → Sees text x → BeginsNone text → ignored x ≡ None
+none_begins : (x : Ahead) (text : List ℕ) → Sees text x → BeginsNone text → ignored_front x ≡ None
 none_begins AtEnd text s none = refl
 none_begins Stops text s none = refl
 none_begins (Skips n m) text s none = absurd (none s.0 s.1 s.2 s.4 s.3)
@@ -75,7 +75,7 @@ none_begins (Takes n k t) text s none = refl
 
 -- ---- lexical elements
 
--- a lexical element that can come before some bytes can come before them with more behind
+-- a lexical element before some bytes is also one if more bytes follow them
 stands_on : {s : List ℕ} {m : Meaning} (rest more : List ℕ) → 0 < length rest → Stands s m rest → Stands s m (rest ++ more)
 stands_on [] more some st = absurd (omega (arith, some))
 stands_on (b ∷ bs) more some st = stands_before_same st (bs ++ more)
@@ -83,23 +83,23 @@ stands_on (b ∷ bs) more some st = stands_before_same st (bs ++ more)
 -- ---- positions of tokens
 
 token_placed : (b : Bool) (k : Kind) (bytes : List ℕ) (w : Where) (more : List Item)
-    → (next_place (token_then b (item (Wrong too_deep) w) (item (Lexeme k bytes) w) more)).offset ≡ w.offset
+    → (next_place (token_then b (item_at (LexicalError too_deep) w) (item_at (TokenContent k bytes) w) more)).offset ≡ w.offset
 token_placed true k bytes w more = refl
 token_placed false k bytes w more = refl
 
-piece_placed : (m : Meaning) (bytes rest : List ℕ) (w : Where) (more : Where → List Item) → Stands bytes m rest → ignored (front (bytes ++ rest)) ≡ None
+piece_placed : (m : Meaning) (bytes rest : List ℕ) (w : Where) (more : Where → List Item) → Stands bytes m rest → ignored_front (front (bytes ++ rest)) ≡ None
     → (next_place (piece_then m more w bytes)).offset ≡ w.offset
-piece_placed (Ignored m) bytes rest w more st none = let skips = ap ignored (sym (stands_front st)) ∙ none in absurd cc
+piece_placed (Ignored m) bytes rest w more st none = let skips = ap ignored_front (sym (stands_front st)) ∙ none in absurd cc
 piece_placed (Word k t) bytes rest w more st none = token_placed (is_too_deep t w) k bytes w (more (past_token t bytes w))
 
--- a token is at the first byte where no ignored token is
-placed : (w : Where) (ps : List Piece) (text stop : List ℕ) → IsCutInto text ps stop → ignored (front text) ≡ None
+-- if no ignored token comes first, the first token is at the first byte
+placed : (w : Where) (ps : List Piece) (text stop : List ℕ) → IsCutInto text ps stop → ignored_front (front text) ≡ None
     → (next_place (items_of w ps stop)).offset ≡ w.offset
 unfolding items_of
 placed w [] text [] cut none = refl
 placed w [] text (b ∷ bs) cut none = refl
 placed w (q ∷ qs) text stop (rest, e, st, cut) none =
-    piece_placed q.meaning q.bytes rest w (λ v. items_of v qs stop) st (ap (λ t. ignored (front t)) (sym e) ∙ none)
+    piece_placed q.meaning q.bytes rest w (λ v. items_of v qs stop) st (ap (λ t. ignored_front (front t)) (sym e) ∙ none)
 
 -- ---- the same tokens
 
@@ -108,22 +108,22 @@ abbrev pub GoesOn : Where → List ℕ → List Token → ℕ → Type 0
 GoesOn w text front n = (ps : List Piece) × (stop : List ℕ) × IsCutInto text ps stop × (others : List Token)
     × ((split (items_of w ps stop)).tokens ≡ front ++ others) × ((next_place (drop (length front) (items_of w ps stop))).offset ≡ w.offset + n)
 
--- After these tokens of a source the next token is at this offset; it is there also with more after the source,
--- if some byte of the source is left there.
+-- After these tokens of a source the next token is at this offset. If some byte of the source is left there, the token
+-- is also there with more after the source.
 pub record Kept (w : Where) (text : List ℕ) (is : List Item) (front : List Token) : Type 0 where
   pub on : ℕ
   pub here : (next_place (drop (length front) is)).offset ≡ w.offset + on
   pub again : on < length text → IsUtf8 (drop on text) → (more : List ℕ) → GoesOn w (text ++ more) front on
 
-some_kept : (w : Where) (text more : List ℕ) → 0 < length text → IsUtf8 text → ignored (front text) ≡ None → GoesOn w (text ++ more) [] 0
+some_kept : (w : Where) (text more : List ℕ) → 0 < length text → IsUtf8 text → ignored_front (front text) ≡ None → GoesOn w (text ++ more) [] 0
 some_kept w [] more some utf8 none = absurd (omega (arith, some))
 some_kept w (b ∷ bs) more some utf8 none =
     let (ps, stop, cut) = cut_of (b ∷ (bs ++ more)) in
     let at = placed w ps (b ∷ (bs ++ more)) stop cut (still_none b bs more none utf8) in
     (ps, stop, cut, (split (items_of w ps stop)).tokens, refl, omega (arith, at))
 
--- no token is taken off
-none_kept : (w : Where) (text : List ℕ) (is : List Item) → (next_place is).offset ≡ w.offset → ignored (front text) ≡ None → Kept w text is []
+-- after no token, the next token is at the first byte
+none_kept : (w : Where) (text : List ℕ) (is : List Item) → (next_place is).offset ≡ w.offset → ignored_front (front text) ≡ None → Kept w text is []
 none_kept w text is at none = record {
   on = 0;
   here = omega (arith, at);
@@ -131,7 +131,7 @@ none_kept w text is at none = record {
 }
 
 module _ (qs : List Piece) (stop rest bytes text : List ℕ) (w : Where) (e : text ≡ bytes ++ rest) where
-  -- what holds after a lexical element holds with it
+  -- what holds after a lexical element also holds before it
   after_piece : (m : Meaning) (v : Where) (all front : List Token) (is : List Item) → Stands bytes m rest → v.offset ≡ w.offset + length bytes
       → (next_place (drop (length all) is)).offset ≡ (next_place (drop (length front) (items_of v qs stop))).offset
       → ((ps : List Piece) (end : List ℕ) (us : List Token) → (split (items_of v ps end)).tokens ≡ front ++ us
@@ -161,11 +161,11 @@ module _ (qs : List Piece) (stop rest bytes text : List ℕ) (w : Where) (e : te
     KeptLater = (v : Where) (front : List Token) → (split (items_of v qs stop)).tokens ≡ front ++ others → Kept v rest (items_of v qs stop) front
 
     word_kept : (b : Bool) (k : Kind) (t : Nesting) (front : List Token) → is_too_deep t w ≡ b → Stands bytes (Word k t) rest
-        → (split (token_then b (item (Wrong too_deep) w) (item (Lexeme k bytes) w) (items_of (past_token t bytes w) qs stop))).tokens ≡ front ++ others
-        → KeptLater → Kept w text (token_then b (item (Wrong too_deep) w) (item (Lexeme k bytes) w) (items_of (past_token t bytes w) qs stop)) front
+        → (split (token_then b (item_at (LexicalError too_deep) w) (item_at (TokenContent k bytes) w) (items_of (past_token t bytes w) qs stop))).tokens ≡ front ++ others
+        → KeptLater → Kept w text (token_then b (item_at (LexicalError too_deep) w) (item_at (TokenContent k bytes) w) (items_of (past_token t bytes w) qs stop)) front
     unfolding items_of
     word_kept b k t [] deep st is f =
-        none_kept w text _ (token_placed b k bytes w _) (ap (λ x. ignored (front x)) e ∙ ap ignored (stands_front st))
+        none_kept w text _ (token_placed b k bytes w _) (ap (λ x. ignored_front (front x)) e ∙ ap ignored_front (stands_front st))
     word_kept true k t (u ∷ us) deep st is f = absurd cc
     word_kept false k t (u ∷ us) deep st is f =
         let first : token_of w.position k bytes ≡ u = cc in
@@ -184,9 +184,9 @@ module _ (qs : List Piece) (stop rest bytes text : List ℕ) (w : Where) (e : te
 pub kept : (ps : List Piece) (text stop : List ℕ) (w : Where) (front others : List Token) → IsCutInto text ps stop
     → (split (items_of w ps stop)).tokens ≡ front ++ others → Kept w text (items_of w ps stop) front
 unfolding items_of
-kept [] text [] w [] others (e, none) is = none_kept w text _ refl (ap (λ x. ignored (front x)) e ∙ none_begins (front []) [] (front_sees []) none)
+kept [] text [] w [] others (e, none) is = none_kept w text _ refl (ap (λ x. ignored_front (front x)) e ∙ none_begins (front []) [] (front_sees []) none)
 kept [] text (b ∷ bs) w [] others (e, none) is =
-    none_kept w text _ refl (ap (λ x. ignored (front x)) e ∙ none_begins (front (b ∷ bs)) (b ∷ bs) (front_sees (b ∷ bs)) none)
+    none_kept w text _ refl (ap (λ x. ignored_front (front x)) e ∙ none_begins (front (b ∷ bs)) (b ∷ bs) (front_sees (b ∷ bs)) none)
 kept [] text [] w (t ∷ ts) others cut is = absurd cc
 kept [] text (b ∷ bs) w (t ∷ ts) others cut is = absurd cc
 kept (q ∷ qs) text stop w ts others (rest, e, st, cut) is =

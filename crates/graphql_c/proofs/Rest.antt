@@ -1,17 +1,16 @@
--- Where a text's first definition ends.
+-- Where the first definition of a source ends.
 use Rattle.std.proofs.Common.{◌≡◌, ◌∙◌, ◌-◌, ◌<◌, ℕ, zero, suc, List, [], ◌∷◌, ◌++◌, length, take, drop, inl, inr, IsUtf8, refl, sym, ap, subst, arith}
 use Rattle.std.proofs.Common.{length-append}
 use Rattle.std.proofs.lemmas.Bool.{cases_lt}
 use Rattle.std.proofs.lemmas.List.{length-drop, drop-append-le, take-append-drop}
 use Rattle.std.proofs.Math.ListN.{drop_of_length-le}
 use Rattle.graphql_core.proofs.{Rise, items_rise}
-use Rattle.graphql_core.specs.{Token, Shape, leaves, Item, HasItems, items_of, start, next_place, split}
-use Rattle.graphql_query_tree.specs.{DefinitionTree}
-use Rattle.graphql_query.specs.{IsFirstDefinition}
+use Rattle.graphql_core.specs.{Token, ParseTree, leaves, Item, HasItems, items_of, start, next_place, split}
+use Rattle.graphql_query.specs.{DefinitionTree, IsFirstDefinition}
 use Rattle.graphql_c.specs.{EndsAt}
 use Rattle.graphql_c.proofs.Fronts.{Kept, kept}
 
--- what is left of a list begins as far before its end as it is long
+-- a suffix of n values begins n values before the end of the list
 drop_back : (xs : List ℕ) (k : ℕ) → drop (length xs - length (drop k xs)) xs ≡ drop k xs
 drop_back xs k = elim (cases_lt (length xs) k) [
   | inl past ↦
@@ -30,7 +29,7 @@ rest_at text rest d first =
     is ∙ sym (drop_back text _) ∙ ap (λ r. drop (length text - length r) text) (sym is) in
     (omega arith, d, subst (λ r. IsFirstDefinition text (d, r)) same first)
 
-kept_first : (text : List ℕ) (items : List Item) (x : Shape) (others : List Token) → HasItems text items → (split items).tokens ≡ leaves x ++ others
+kept_first : (text : List ℕ) (items : List Item) (x : ParseTree) (others : List Token) → HasItems text items → (split items).tokens ≡ leaves x ++ others
     → Kept start text items (leaves x)
 kept_first text items x others (ps, stop, cut, e) parts =
     subst (λ (l : List Item). Kept start text l (leaves x)) (sym e)
@@ -57,7 +56,7 @@ still_first text rest more d (items, (ps, stop, cut, e), x, others, (fits, parts
     let still : drop k.on (text ++ more) ≡ rest ++ more = drop-append-le k.on text more (omega (arith, within)) ∙ ap (λ r. r ++ more) (sym is) in
     (items_of start qs end, (qs, end, longer, refl), x, us, (fits, tokens), means, rw there (sym still))
 
--- so the rest begins where it did
+-- the rest begins at the same offset if more follows it
 pub still_at : (text rest more : List ℕ) (d : DefinitionTree) → IsFirstDefinition text (d, rest) → 0 < length rest → IsUtf8 text
     → EndsAt (text ++ more) (length text - length rest)
 still_at text rest more d first some utf8 =
@@ -65,6 +64,6 @@ still_at text rest more d first some utf8 =
     let same : length (text ++ more) - length (rest ++ more) ≡ length text - length rest = omega (arith, length-append text more, length-append rest more) in
     subst (EndsAt (text ++ more)) same here
 
--- a front of some bytes, and what follows it
+-- a prefix of some bytes, and what follows it
 pub begins : (front whole : List ℕ) → front ≡ take (length front) whole → whole ≡ front ++ drop (length front) whole
 begins front whole is = sym (ap (λ f. f ++ drop (length front) whole) is ∙ take-append-drop (length front) whole)

@@ -1,18 +1,17 @@
--- What a call answers, and what it leaves in the caller's buffer.
+-- The result of a call, and what the call leaves in the caller's buffer.
 use Rattle.std.specs.Prelude.{◌≡◌, ◌<◌, ◌≤◌, ◌++◌, ℕ, nat_le, List, length, drop, string_bytes, Option, Some, None, if◌then◌else◌}
 use Rattle.std.specs.Str.{IsUtf8}
-use Rattle.graphql_core.specs.{too_deep, Place, CauseText, no_token, unexpected_token, int_out_of_range, malformed_float, bad_escape, unknown_location}
-use Rattle.graphql_core.specs.{duplicate_operation, unknown_operation, empty_extension}
-use Rattle.graphql_core.specs.Causes.{unexpected_end, text_too_long, out_of_memory}
-use Rattle.graphql_core.specs.Refusal.{Refusal}
+use Rattle.graphql_core.specs.{too_deep, Place, CauseText, no_token, unexpected_token, int_out_of_range}
+use Rattle.graphql_core.specs.{malformed_float, bad_escape, unknown_location, duplicate_operation, unknown_operation}
+use Rattle.graphql_core.specs.{empty_extension, unexpected_end, text_too_long, out_of_memory, Refusal}
 use Rattle.graphql_core.specs.declared.format.error.FormatError.{FormatError}
 use Rattle.graphql_core.specs.declared.format.error.FormatError.TheVariants.{TooWide, OutOfMemory}
 use Rattle.graphql_c.specs.declared.answer.Answer.{Answer}
 use Rattle.graphql_c.specs.declared.failure.Failure.{Failure}
 
--- ---- numbers of an answer
+-- ---- numbers of an `Answer`
 
--- the statuses of refusals; 0 is that of a call that did what it was asked for
+-- the statuses of errors; 0 is the status of a call that succeeded
 abbrev pub status_of : CauseText → ℕ
 status_of (no_token too_deep) = 4
 status_of (no_token other) = 1
@@ -37,7 +36,7 @@ status_not_utf8 = 15
 abbrev pub status_too_short : ℕ
 status_too_short = 16
 
--- the numbers of a place, which are 0 where there is none
+-- the numbers of a position, which are 0 if there is none
 abbrev pub line_of : Option Place → ℕ
 line_of (Some p) = p.line
 line_of None = 0
@@ -46,24 +45,24 @@ abbrev pub column_of : Option Place → ℕ
 column_of (Some p) = p.column
 column_of None = 0
 
--- the status of a document that is not laid out
+-- the status of a failure to format
 abbrev pub layout_status : FormatError → ℕ
 layout_status TooWide = status_too_wide
 layout_status OutOfMemory = status_of out_of_memory
 
--- the failure has this status and the numbers of this place
+-- the failure has this status and the numbers of this position
 abbrev pub HasNumbers : ℕ → Option Place → Failure → Type 0
 HasNumbers status place f = (f.status ≡ status) × (f.line ≡ line_of place) × (f.column ≡ column_of place)
 
 -- ---- buffers
 
--- The buffer with this text at its beginning, and from there on as it was; where it is shorter than the text, it stays as it was.
+-- the buffer with these bytes at its beginning; a buffer that is too short is unchanged
 abbrev pub put : List ℕ → List ℕ → List ℕ
 put text buffer = if nat_le (length text) (length buffer) then text ++ drop (length text) buffer else buffer
 
--- ---- answers
+-- ---- results of calls
 
--- Why a call made nothing of its text: a refusal with its status and its place, or a status alone.
+-- Why a call failed: an error with its status and its position, or a status alone.
 pub data Explains (Refuses : Refusal → Type 0) (IsTooWide : Type 0) (text : List ℕ) : (status line column : ℕ) → Type 0 where
   refused : (e : Refusal) → Refuses e → Explains Refuses IsTooWide text (status_of e.cause) (line_of e.place) (column_of e.place)
   too_wide : IsTooWide → Explains Refuses IsTooWide text status_too_wide 0 0
@@ -75,17 +74,17 @@ pub data Explains (Refuses : Refusal → Type 0) (IsTooWide : Type 0) (text : Li
 abbrev pub Fails : (Refusal → Type 0) → Type 0 → List ℕ → Failure → Type 0
 Fails Refuses IsTooWide text f = Explains Refuses IsTooWide text f.status f.line f.column
 
--- the answer tells of the failure, and its message is put into the buffer
+-- the `Answer` has the numbers of the failure, and its message is written into the buffer if it fits
 abbrev pub IsToldOf : Failure → List ℕ → List ℕ → Answer → Type 0
 IsToldOf f old new a =
     (a ≡ record { status = f.status; length = length (string_bytes f.message); line = f.line; column = f.column })
     × (new ≡ put (string_bytes f.message) old)
 
--- an answer with no place
+-- an `Answer` without a position
 abbrev pub plain : ℕ → ℕ → Answer
 plain status n = record { status = status; length = n; line = 0; column = 0 }
 
--- The call made this output: it stands in the buffer, or the buffer is too short for it, and its length is told.
+-- The call made this output: it is in the buffer, or the buffer is too short and `length` is that of the output.
 pub data Writes (Makes : List ℕ → Type 0) (old new : List ℕ) (a : Answer) : Type 0 where
   written : (output : List ℕ) → Makes output → length output ≤ length old → new ≡ put output old → a ≡ plain 0 (length output) → Writes Makes old new a
   too_short : (output : List ℕ) → Makes output → length old < length output → new ≡ old → a ≡ plain status_too_short (length output)
@@ -95,7 +94,8 @@ pub data Writes (Makes : List ℕ → Type 0) (old new : List ℕ) (a : Answer) 
 abbrev pub Finds : (ℕ → Type 0) → List ℕ → List ℕ → Answer → Type 0
 Finds IsAt old new a = (n : ℕ) × IsAt n × (new ≡ old) × (a ≡ plain 0 n)
 
--- The call did what it was asked for, or returns why it did not: a status and a position. Some message is put into the buffer; which one is not said.
+-- The call succeeded, or its `Answer` has the status and the position of the error. Then some message is written into
+-- the buffer; which one is not specified.
 pub data Answers (Done : List ℕ → List ℕ → Answer → Type 0) (Refuses : Refusal → Type 0) (IsTooWide : Type 0) (text old new : List ℕ) (a : Answer)
     : Type 0 where
   done : Done old new a → Answers Done Refuses IsTooWide text old new a

@@ -1,24 +1,24 @@
-//! What a call answers, and what it writes into the caller's buffer.
+//! The result of a call, and what the call writes into the caller's buffer.
 ghost use Rattle.std.specs.Prelude.{◌≡◌, length, string_bytes, nat_le, MatchResult};
 ghost use Rattle.graphql_c.specs.{put, Writes, Finds, IsToldOf};
 
 use crate::failure::Failure;
 
-/// What a call answers. `include/graphql.h` says what each field is for.
+/// The result of a call. `include/graphql.h` says what each field is for.
 #[repr(C)]
 #[derive(Drop)]
 pub struct Answer {
-    /// 0 where the call did what it was asked for, and else why it did not.
+    /// 0 if the call succeeded, otherwise the number of the error.
     pub status: u32,
-    /// The bytes of the output, or of the message; of a first definition the offset at which the rest begins.
+    /// The length of the output or of the message in bytes; for `graphql_first_definition`, the offset of the rest.
     pub length: usize,
-    /// The line of a refusal, from 1; 0 where there is none.
+    /// The line of the error, from 1; 0 if the error has no position.
     pub line: usize,
-    /// The column of a refusal, from 1; 0 where there is none.
+    /// The column of the error in characters (a tab between tokens counts 8), from 1; 0 if the error has no position.
     pub column: usize,
 }
 
-/// Puts a text at the beginning of a buffer, if it fits, and answers whether it does.
+/// Copies a string to the beginning of a buffer if it fits, and returns whether it does.
 fn put(out: &mut [u8], text: &str) -> bool
     ensures fits { result ≡ nat_le (length text.now) (length out.old) }
     ensures put { out.new ≡ put text.now out.old }
@@ -32,7 +32,7 @@ fn put(out: &mut [u8], text: &str) -> bool
     true
 }
 
-/// Hands an output to the caller.
+/// The `Answer` for an output, which is written if it fits.
 fn written(out: &mut [u8], output: &str) -> Answer
     ensures { Writes (λ text. text ≡ output.now) out.old out.new result }
 {
@@ -45,7 +45,7 @@ fn written(out: &mut [u8], output: &str) -> Answer
     }
 }
 
-/// Tells the caller of a failure.
+/// The `Answer` for a failure, whose message is written if it fits.
 fn told(out: &mut [u8], failure: Failure) -> Answer
     ensures { IsToldOf failure out.old out.new result }
 {
@@ -64,7 +64,7 @@ fn told(out: &mut [u8], failure: Failure) -> Answer
     }
 }
 
-/// Hands an output to the caller, or tells why there is none.
+/// The `Answer` for an output, or for the failure to make one.
 pub fn answer_of(out: &mut [u8], made: Result<String, Failure>) -> Answer
     ensures { MatchResult made (λ s. Writes (λ text. text ≡ string_bytes s) out.old out.new result) (λ f. IsToldOf f out.old out.new result) }
 {
@@ -74,7 +74,7 @@ pub fn answer_of(out: &mut [u8], made: Result<String, Failure>) -> Answer
     }
 }
 
-/// Tells the caller an offset, or why there is none.
+/// The `Answer` for an offset, or for the failure to find one.
 pub fn offset_of(out: &mut [u8], found: Result<usize, Failure>) -> Answer
     ensures { MatchResult found (λ n. Finds (λ offset. offset ≡ n) out.old out.new result) (λ f. IsToldOf f out.old out.new result) }
 {

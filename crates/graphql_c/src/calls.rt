@@ -1,14 +1,13 @@
-//! What the calls make of bytes.
+//! What each call does with its bytes.
 ghost use Rattle.std.specs.Prelude.{◌≡◌, ◌++◌, ℕ, List, length, take, string_bytes, Ok, None, IfSome, MatchResult, IsErrAnd};
-ghost use Rattle.graphql_core.specs.{IsMinified};
-ghost use Rattle.graphql_values.specs.{IsDocumentOf};
-ghost use Rattle.graphql_query_tree.specs.{queries};
-ghost use Rattle.graphql_query_tree.specs.Tree as query;
-ghost use Rattle.graphql_query.specs.{IsMinifyRefusalOf};
-ghost use Rattle.graphql_schema_tree.specs.{schemas};
-ghost use Rattle.graphql_schema_tree.specs.Views as schema;
-ghost use Rattle.graphql_c.specs.{Fails, HasNumbers, layout_status, layout_in, IsQueryLaidOut, IsSchemaLaidOut, IsQueryChecked, IsSchemaChecked};
-ghost use Rattle.graphql_c.specs.{HasNoQuery, HasNoSchema, HasNoFirst, IsQueryTooWide, IsSchemaTooWide, EndsAt};
+ghost use Rattle.graphql_core.specs.{IsMinified, IsDocumentOf};
+ghost use Rattle.graphql_query.specs.{queries, IsMinifyRefusalOf};
+ghost use Rattle.graphql_query.specs.Tree as query;
+ghost use Rattle.graphql_schema.specs.{schemas};
+ghost use Rattle.graphql_schema.specs.Views as schema;
+ghost use Rattle.graphql_c.specs.{Fails, HasNumbers, layout_status, layout_in, IsQueryLaidOut, IsSchemaLaidOut};
+ghost use Rattle.graphql_c.specs.{IsQueryChecked, IsSchemaChecked, HasNoQuery, HasNoSchema, HasNoFirst};
+ghost use Rattle.graphql_c.specs.{IsQueryTooWide, IsSchemaTooWide, EndsAt};
 
 use crate::failure::Failure;
 use graphql_core::format::{FormatError, Style};
@@ -17,10 +16,10 @@ use graphql_schema::{Document as SchemaDocument, parse_schema};
 use std::alloc::Global;
 use std::str;
 
-/// How many bytes of the input are searched for its first definition at first.
+/// The length in bytes of the first prefix of the input that is searched for a definition.
 const FIRST_LENGTH: usize = 4096;
 
-/// The style with so many spaces a level, and under `multiline` with a line for each argument.
+/// The style with `indent` spaces a level, and under `multiline` with a line for each argument, list item and field.
 pub fn style_in(indent: u32, multiline: bool) -> Style
     ensures { result ≡ layout_in indent multiline }
 {
@@ -29,7 +28,7 @@ pub fn style_in(indent: u32, multiline: bool) -> Style
     style
 }
 
-/// The text that these bytes are.
+/// The bytes as a string, if they are UTF-8.
 fn text_of(alloc: Global, bytes: &[u8]) -> Result<&str, Failure>
     ensures { MatchResult result (λ text. text.now ≡ bytes.now) (Fails (λ e. ⊥) ⊥ bytes.now) }
 {
@@ -39,7 +38,7 @@ fn text_of(alloc: Global, bytes: &[u8]) -> Result<&str, Failure>
     }
 }
 
-/// A layout, or why there is none.
+/// The formatted document, or the failure to format it.
 fn output_of(alloc: Global, made: Result<String, FormatError>) -> Result<String, Failure>
     ensures { MatchResult made (λ s. result ≡ Ok s) (λ e. IsErrAnd result (HasNumbers (layout_status e) None)) }
 {
@@ -49,7 +48,7 @@ fn output_of(alloc: Global, made: Result<String, FormatError>) -> Result<String,
     }
 }
 
-/// The query document of these bytes.
+/// Parses these bytes as a query document.
 fn query_of(alloc: Global, bytes: &[u8]) -> Result<QueryDocument<'_, &str>, Failure>
     ensures { MatchResult result (λ d. IsDocumentOf queries bytes.now (query.document_view (λ name. name.now) d)) (Fails (HasNoQuery bytes.now) ⊥ bytes.now) }
 {
@@ -59,7 +58,7 @@ fn query_of(alloc: Global, bytes: &[u8]) -> Result<QueryDocument<'_, &str>, Fail
     }
 }
 
-/// The schema document of these bytes.
+/// Parses these bytes as a schema document.
 fn schema_of(alloc: Global, bytes: &[u8]) -> Result<SchemaDocument<'_, &str>, Failure>
     ensures { MatchResult result (λ d. IsDocumentOf schemas bytes.now (schema.document_view (λ name. name.now) d)) (Fails (HasNoSchema bytes.now) ⊥ bytes.now) }
 {
@@ -69,7 +68,7 @@ fn schema_of(alloc: Global, bytes: &[u8]) -> Result<SchemaDocument<'_, &str>, Fa
     }
 }
 
-/// The query document of these bytes, laid out.
+/// Parses these bytes as a query document, and formats it.
 pub fn query_laid_out(alloc: Global, bytes: &[u8], style: &Style) -> Result<String, Failure>
     ensures { MatchResult result (λ s. IsQueryLaidOut style.now bytes.now (string_bytes s))
         (Fails (HasNoQuery bytes.now) (IsQueryTooWide style.now bytes.now) bytes.now) }
@@ -78,7 +77,7 @@ pub fn query_laid_out(alloc: Global, bytes: &[u8], style: &Style) -> Result<Stri
     output_of(alloc, document.format(alloc, style))
 }
 
-/// The schema document of these bytes, laid out.
+/// Parses these bytes as a schema document, and formats it.
 pub fn schema_laid_out(alloc: Global, bytes: &[u8], style: &Style) -> Result<String, Failure>
     ensures { MatchResult result (λ s. IsSchemaLaidOut style.now bytes.now (string_bytes s))
         (Fails (HasNoSchema bytes.now) (IsSchemaTooWide style.now bytes.now) bytes.now) }
@@ -87,7 +86,7 @@ pub fn schema_laid_out(alloc: Global, bytes: &[u8], style: &Style) -> Result<Str
     output_of(alloc, document.format(alloc, style))
 }
 
-/// Nothing, where these bytes have a query document.
+/// Parses these bytes as a query document. The output is empty.
 pub fn query_checked(alloc: Global, bytes: &[u8]) -> Result<String, Failure>
     ensures { MatchResult result (λ s. IsQueryChecked bytes.now (string_bytes s)) (Fails (HasNoQuery bytes.now) ⊥ bytes.now) }
 {
@@ -95,7 +94,7 @@ pub fn query_checked(alloc: Global, bytes: &[u8]) -> Result<String, Failure>
     Ok(String::new(alloc))
 }
 
-/// Nothing, where these bytes have a schema document.
+/// Parses these bytes as a schema document. The output is empty.
 pub fn schema_checked(alloc: Global, bytes: &[u8]) -> Result<String, Failure>
     ensures { MatchResult result (λ s. IsSchemaChecked bytes.now (string_bytes s)) (Fails (HasNoSchema bytes.now) ⊥ bytes.now) }
 {
@@ -103,7 +102,7 @@ pub fn schema_checked(alloc: Global, bytes: &[u8]) -> Result<String, Failure>
     Ok(String::new(alloc))
 }
 
-/// The tokens of these bytes, with only the spaces that keep them apart.
+/// The tokens of these bytes, with a space only where two tokens would otherwise run together.
 pub fn minified(alloc: Global, bytes: &[u8]) -> Result<String, Failure>
     ensures { MatchResult result (λ s. IsMinified bytes.now (string_bytes s)) (Fails (IsMinifyRefusalOf bytes.now) ⊥ bytes.now) }
 {
@@ -126,8 +125,8 @@ fn valid_front(bytes: &[u8]) -> &str
     }
 }
 
-/// The offset of the rest in every source that begins with this front: after the first definition and the ignored tokens
-/// behind it. `None` if that may depend on what follows the front.
+/// The offset of the rest in every source that begins with this prefix: after the first definition and the ignored
+/// tokens behind it. `None` if the offset may depend on what follows the prefix.
 fn end_within(alloc: Global, front: &str) -> Option<usize>
     ensures { IfSome result (λ n. (more : List ℕ) → EndsAt (front.now ++ more) n) }
 {
@@ -149,8 +148,8 @@ fn end_of(alloc: Global, text: &str) -> Result<usize, Failure>
     }
 }
 
-/// The offset of the rest of these bytes, after their first definition and the ignored tokens behind it. It tries fronts
-/// of 4,096 bytes, 8,192 and so on, so its time grows with that offset and not with the length of the bytes.
+/// The offset of the rest of these bytes, after their first definition and the ignored tokens behind it. Prefixes of
+/// 4,096 bytes, 8,192 and so on are tried, so the time grows with the offset and not with the length of the bytes.
 pub fn first_end(alloc: Global, bytes: &[u8]) -> Result<usize, Failure>
     ensures { MatchResult result (EndsAt bytes.now) (Fails (HasNoFirst bytes.now) ⊥ bytes.now) }
 {

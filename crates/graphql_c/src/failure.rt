@@ -1,7 +1,6 @@
-//! Why a call makes nothing of its text.
+//! Why a call fails.
 ghost use Rattle.std.specs.Prelude.{◌≡◌, None, option_map};
-ghost use Rattle.graphql_core.specs.{cause_text, place_of};
-ghost use Rattle.graphql_core.specs.Causes.{out_of_memory};
+ghost use Rattle.graphql_core.specs.{cause_text, place_of, out_of_memory};
 ghost use Rattle.graphql_c.specs.{status_of, status_not_utf8, layout_status, HasNumbers};
 
 use graphql_core::common::Cause;
@@ -10,8 +9,7 @@ use graphql_core::position::Pos;
 use std::alloc::Global;
 use std::fmt::Display;
 
-/// Why a call makes nothing of its text: a status, a place, or 0 and 0 where there is none, and a message, which is empty
-/// where there is no memory for it.
+/// Why a call fails: a status, a position (0 and 0 if there is none), and a message (empty if an allocation failed).
 #[derive(Drop)]
 pub struct Failure {
     pub status: u32,
@@ -20,7 +18,6 @@ pub struct Failure {
     pub message: String,
 }
 
-/// The status of a cause.
 fn status_of(cause: &Cause) -> u32
     ensures { result ≡ status_of (cause_text cause.now) }
 {
@@ -42,7 +39,7 @@ fn status_of(cause: &Cause) -> u32
 }
 
 impl Failure {
-    /// A failure with this status, at no place.
+    /// A failure with this status and without a position.
     fn nowhere<E: Display>(alloc: Global, status: u32, error: &E) -> Failure
         ensures { HasNumbers status None result }
     {
@@ -58,7 +55,7 @@ impl Failure {
         }
     }
 
-    /// A refusal for this cause at this position, with the message of this error.
+    /// An error with this cause at this position, and its message.
     pub fn refused<E: Display>(
         alloc: Global,
         cause: &Cause,
@@ -78,7 +75,7 @@ impl Failure {
         }
     }
 
-    /// A document is not laid out.
+    /// The failure to format a document.
     pub fn no_layout(alloc: Global, error: &FormatError) -> Failure
         ensures { HasNumbers (layout_status error.now) None result }
     {
@@ -89,14 +86,12 @@ impl Failure {
         Failure::nowhere(alloc, status, error)
     }
 
-    /// A text is not UTF-8.
     pub fn not_utf8(alloc: Global) -> Failure
         ensures { HasNumbers status_not_utf8 None result }
     {
         Failure::nowhere(alloc, 15, &"text is not UTF-8")
     }
 
-    /// An allocation failed.
     pub fn out_of_memory(alloc: Global) -> Failure
         ensures { HasNumbers (status_of out_of_memory) None result }
     {

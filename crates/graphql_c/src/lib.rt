@@ -1,13 +1,15 @@
-//! The library for C: each function takes bytes and gives bytes. `include/graphql.h` declares them, and `docs/FROM_C.md` shows how they are called.
+//! The library for C: each function takes bytes and writes bytes. `include/graphql.h` declares the functions, and
+//! `docs/FROM_C.md` shows how to call them.
 //!
-//! A `Global` is no parameter in C, and a slice is two: a pointer, which is never null, and a length.
+//! In C a `Global` is no parameter, and a slice is two: a pointer, which must never be null, and a length.
 #![tactic(auto)]
 
 ghost use Rattle.graphql_core.specs.{IsMinified};
 ghost use Rattle.graphql_query.specs.{IsMinifyRefusalOf};
 ghost use Rattle.graphql_c.specs.Answers.{Answers};
-ghost use Rattle.graphql_c.specs.{Writes, Finds, layout_in, IsQueryLaidOut, IsSchemaLaidOut, IsQueryChecked, IsSchemaChecked, HasNoQuery};
-ghost use Rattle.graphql_c.specs.{HasNoSchema, HasNoFirst, IsQueryTooWide, IsSchemaTooWide, EndsAt};
+ghost use Rattle.graphql_c.specs.{Writes, Finds, layout_in, IsQueryLaidOut, IsSchemaLaidOut, IsQueryChecked};
+ghost use Rattle.graphql_c.specs.{IsSchemaChecked, HasNoQuery, HasNoSchema, HasNoFirst, IsQueryTooWide};
+ghost use Rattle.graphql_c.specs.{IsSchemaTooWide, EndsAt};
 
 mod answer;
 mod calls;
@@ -17,8 +19,8 @@ pub use answer::Answer;
 use answer::{answer_of, offset_of};
 use std::alloc::Global;
 
-/// Lays a query document out (October 2021, section 2.2), with so many spaces a level, and under `multiline` with a line
-/// for each argument, list item and object field.
+/// Formats a query document (October 2021, section 2.2) into `out`, with `indent` spaces a level. Under `multiline`
+/// each argument, list item and object field has a separate line.
 #[unsafe(no_mangle)]
 pub extern "C" fn graphql_format_query(
     alloc: Global,
@@ -34,8 +36,8 @@ pub extern "C" fn graphql_format_query(
     answer_of(out, calls::query_laid_out(alloc, text, &style))
 }
 
-/// Lays a schema document out (section 3), with so many spaces a level, and under `multiline` with a line for each
-/// argument, list item and object field.
+/// Formats a schema document (section 3) into `out`, with `indent` spaces a level. Under `multiline` each argument,
+/// list item and object field has a separate line.
 #[unsafe(no_mangle)]
 pub extern "C" fn graphql_format_schema(
     alloc: Global,
@@ -51,7 +53,7 @@ pub extern "C" fn graphql_format_schema(
     answer_of(out, calls::schema_laid_out(alloc, text, &style))
 }
 
-/// Writes the tokens of a text, with only the spaces that keep them apart.
+/// Writes the tokens of the input into `out`, with a space only where two tokens would otherwise run together.
 #[unsafe(no_mangle)]
 pub extern "C" fn graphql_minify(alloc: Global, text: &[u8], out: &mut [u8]) -> Answer
     ensures { Answers (Writes (IsMinified text.now)) (IsMinifyRefusalOf text.now) ⊥ text.now out.old out.new result }
@@ -59,7 +61,7 @@ pub extern "C" fn graphql_minify(alloc: Global, text: &[u8], out: &mut [u8]) -> 
     answer_of(out, calls::minified(alloc, text))
 }
 
-/// Finds the end of a text's first definition (section 2.2) and of the ignored text after it. The rest may be any text.
+/// Finds the end of the first definition (section 2.2) and of the ignored tokens behind it. The rest can be any bytes.
 #[unsafe(no_mangle)]
 pub extern "C" fn graphql_first_definition(alloc: Global, text: &[u8], out: &mut [u8]) -> Answer
     ensures { Answers (Finds (EndsAt text.now)) (HasNoFirst text.now) ⊥ text.now out.old out.new result }
@@ -67,7 +69,7 @@ pub extern "C" fn graphql_first_definition(alloc: Global, text: &[u8], out: &mut
     offset_of(out, calls::first_end(alloc, text))
 }
 
-/// Tells whether a text is a query document (section 2.2). No output is written.
+/// Checks that the input is a query document (section 2.2). Nothing is written into `out` except a message.
 #[unsafe(no_mangle)]
 pub extern "C" fn graphql_check_query(alloc: Global, text: &[u8], out: &mut [u8]) -> Answer
     ensures { Answers (Writes (IsQueryChecked text.now)) (HasNoQuery text.now) ⊥ text.now out.old out.new result }
@@ -75,7 +77,7 @@ pub extern "C" fn graphql_check_query(alloc: Global, text: &[u8], out: &mut [u8]
     answer_of(out, calls::query_checked(alloc, text))
 }
 
-/// Tells whether a text is a schema document (section 3). No output is written.
+/// Checks that the input is a schema document (section 3). Nothing is written into `out` except a message.
 #[unsafe(no_mangle)]
 pub extern "C" fn graphql_check_schema(alloc: Global, text: &[u8], out: &mut [u8]) -> Answer
     ensures { Answers (Writes (IsSchemaChecked text.now)) (HasNoSchema text.now) ⊥ text.now out.old out.new result }

@@ -1,23 +1,14 @@
-pub mod Matches
-pub mod Fronts
-pub mod CursorItems
-pub mod TokenPlaces
-pub mod SpanItems
-pub mod NestingDepth
-pub mod BracketRoom
-pub mod Escapes
-pub mod BlockLines
-pub mod FloatLiterals
-pub mod Depths
-pub mod Laid
-pub mod Back
-pub mod Minifying
-pub mod Refusals
-pub mod Places
-pub mod ItemPlaces
-pub mod AfterTokens
-pub mod KeptTokens
-pub mod Contents
+pub mod grammar
+pub mod rules
+pub mod first_errors
+pub mod lexical
+pub mod sources
+pub mod strings
+pub mod readers
+pub mod values
+pub mod layouts
+pub mod round_trip
+pub mod documents
 pub use Rattle.std.proofs.lemmas.Bool.{and_from, and_parts, cases_Bool, false_from_ne_true, false≢true, not-true, or_parts}
 pub use Rattle.std.proofs.lemmas.Bool.Decides.{nat_tests}
 pub use Rattle.std.proofs.lemmas.Iterator.Consumers.{YieldsList-at}
@@ -25,29 +16,60 @@ pub use Rattle.std.proofs.lemmas.Iterator.Splits.{YieldsList-from_lines}
 pub use Rattle.std.proofs.lemmas.List.{take_all}
 pub use Rattle.std.proofs.lemmas.List.Elements.{All-head, All-same}
 pub use Rattle.std.proofs.lemmas.Str.{IsCharBoundary-after_ascii, encode_ascii}
-pub use Rattle.graphql_grammar.proofs.{Turns-stop, Stops-before, Stops-after, Stops-turn, picks-first}
-pub use Rattle.graphql_lexer.proofs.{has_items, items_unique}
-pub use Back.{Any, as_word_back, anywhere_back, same_parts, means, margin_back, gap_back, then_gap, Takes, word_back, IsMark, mark_back, open_back, close_back}
-pub use Back.{dots_back, nothing_back, both_back, first_back, second_back, node_back, checked_back, stop_back, more_back, three_back, four_back, five_back}
-pub use Back.{six_back, seven_back, lift_back, read_back}
-pub use BlockLines.{boundary_in_indent, numbered, through_text, through_blank, no_quotes, unescaped_at, unescaped_none, completed, piece, kept, pieces_kept}
-pub use BlockLines.{first_written, later_written, kept_at}
-pub use BracketRoom.{openers, room_after, are_balanced, HasRoom, room_nothing, room_leaf, room_both, room_first, room_second, room_stop, room_more, room_node}
-pub use BracketRoom.{has_room, past_tree, room_back, all_turns}
-pub use Contents.{spaced_alike, ends_alike}
-pub use CursorItems.{held_stream, fresh, cut_within, cut_all, later_lexemes, moved_lexemes}
-pub use Depths.{Rises, rises_as, none_rise, gap_rises, level_rises, both_rise, flat_rise, gap_sinks, closer_sinks, both_sink, opener_rises, either_rises}
-pub use Depths.{deepest_is}
-pub use Escapes.{all_digits, some_from_parsed, boundary_after_name, digits_at, letter_escape, no_escape_named, no_escape_other, named_result, unnamed_result}
-pub use Escapes.{one_value, plain_value, add_escape, past_escape, no_value, between}
-pub use FloatLiterals.{float_is_literal, literal_is_float, literal_ends_in_digit}
-pub use ItemPlaces.{other_position, same_position, Rise, items_rise, HasItemAt, holds_first, rise_on, holds_on, token_next, boundary}
-pub use Laid.{IsWord, is_blank}
-pub use Matches.{same_text_spelling, same_kind_number, takes_first, first_seen, seen_matches}
-pub use Minifying.{spaced_first, has_spaced_tokens, spaced_items, minified_tokens, minified_again, one_minified}
-pub use NestingDepth.{Nests, Anything, Left, past_bytes, nests_before, nests, rest_lexemes, nests_open, nests_tree, class_name}
-pub use Places.{Placed-less, Placed-ends}
-pub use Refusals.{by_fault, tells_weaker, only_memory, as_error}
-pub use SpanItems.{few_kinds, token_some, next_left, next_of, is_token, marks, first_within, first_is, one_cut, all_left, marked, next_span, lexemes_left}
-pub use SpanItems.{one_taken, next_seen, all_taken, last_taken, none_cut, fault_here}
-pub use TokenPlaces.{StandsIn, tokens_stand}
+pub use Rattle.std.proofs.lemmas.Iterator.Splits.{YieldsList-from_str_split}
+pub use Rattle.std.proofs.lemmas.Result.{on_ok_weaker}
+unfoldable pub use grammar.*
+unfoldable pub use rules.*
+unfoldable pub use first_errors.*
+unfoldable pub use lexical.*
+unfoldable pub use sources.*
+unfoldable pub use strings.*
+unfoldable pub use readers.*
+unfoldable pub use values.*
+unfoldable pub use layouts.*
+unfoldable pub use round_trip.*
+unfoldable pub use documents.*
+pub use grammar.{same_spelling-true, sees-apart, sees-parts, sees-within, take-or_fail}
+pub use rules.{IsSecond-head, IsSecond-prefix, IsSecond-second, IsSecond-sides, IsSecond-symbols, alone_before}
+pub use rules.{each_is_second, tests_alike, unchanged_then, with_more}
+pub use lexical.{Sees, cut_of, front_sees, has_items, items_unique, no_front, stands_front}
+pub use sources.{EndsInMark, HasItemAt, Rise, TokensKept, boundary, ends_after, holds_first, holds_on, items_rise}
+pub use sources.{more_items, one_minified, one_position, other_position, place_after, prefix, rise_on, same_position}
+pub use sources.{stands_before_same, token_next, tokens_kept}
+pub use readers.{BegunBy, FailsUnseen, IsSide, Leads, Pushes, Stops-after, Stops-before, Stops-node, Stops-turn}
+pub use readers.{TakesNone, Turns-more, Turns-start, Turns-stop, adds_more, adds_none, adds_one, adds_reserved}
+pub use readers.{after, answered_error, before, begun, each_means, fails, fails_last, fills, gives_error_by}
+pub use readers.{gives_led, here, into, is_list, lacks, lacks_last, leads_in, many_means, next_matches, none_given}
+pub use readers.{none_within, one_of, past, placed, pushes_none, same_text_spelling, sees_both, sees_neither}
+pub use readers.{side_first, side_in, side_left, side_node, side_nth, side_right, side_second, some_given}
+pub use readers.{some_taken, spelling_differs, stops_one, takes_none, takes_one, takes_some, takes_token, there}
+pub use readers.{through, took, turn_appends, turn_fails, unseen_either, unseen_one, unseen_symbol, unseen_then}
+pub use readers.{whole}
+pub use values.{Anything, HasRoom, Ignores, IgnoresPlaces, Left, Nests, OfItsOwn, Within, all_turns, all_within}
+pub use values.{bare, directives_bare, directives_printable, document_alike, each_bare, each_of_both, each_same}
+pub use values.{enclosed_bare, enclosed_printable, enclosed_same, has_room, joined_bare, leaf_except, leaf_name}
+pub use values.{minified_document, nests, nests_before, nests_open, nests_tree, optional_arguments_bare}
+pub use values.{optional_arguments_printable, optional_bare, optional_default_bare, optional_default_printable}
+pub use values.{optional_list_bare, own_text, parsed_alike, part_printable, past_tree, room_back, room_both}
+pub use values.{room_first, room_leaf, room_more, room_node, room_nothing, room_second, room_stop, some_printable}
+pub use values.{source_document, spelling_bare, there_bare, type_bare, type_printable}
+pub use layouts.{Rises, all_counted, all_hold, all_seen, and_alone, and_last, and_part, arguments_bounded}
+pub use layouts.{arguments_rise, block_means, block_word, both_fit, both_rise, braces_rise, braces_text, deepest_is}
+pub use layouts.{default_bounded, default_rises, directives_alike, directives_bounded, directives_rise, flat_rise}
+pub use layouts.{gap_rises, in_parentheses_alike, in_parentheses_rise, in_parentheses_seen, item_here, level_rises}
+pub use layouts.{line_end_rises, lines_rise, most_bounded, most_seen, narrower, none_rise, on_ok, rises_as}
+pub use layouts.{separated_alike, separated_rise, separated_seen, some_items, string_bounded, string_rises}
+pub use layouts.{text_append, type_rises, written, written_plain}
+pub use round_trip.{Any, Back, IsMark, Takes, arguments_back, as_word_back, both_back, both_of_each, checked_back}
+pub use round_trip.{close_back, directives_back, document_back, dots_back, first_back, five_back, four_back}
+pub use round_trip.{gap_back, in_braces_back, in_parentheses_back, lift_back, margin_back, means, more_back}
+pub use round_trip.{name_word, node_back, not_listed, nothing_back, open_back, optional_default_back}
+pub use round_trip.{punctuator_back, quoted_means, quoted_takes, quoted_word, same_parts, second_back, seven_back}
+pub use round_trip.{six_back, some_back, spaces_blank, stop_back, then_gap, three_back, type_back, word_back}
+pub use documents.{AreItems, IsGrown, IsReadable, RefusesAlike, as_error, begins_at, by_fault, computed, cut_first}
+pub use documents.{exact, exact_lax, exit, from_stream, gives_lifted, halts_before, halts_led, has_none}
+pub use documents.{later_document_of, later_parse_tree, least_is_first, least_stop, node_lacks, node_passes}
+pub use documents.{node_refused, node_stops, none_goes_on, none_parsed, none_there, one_cause, one_cause_alike}
+pub use documents.{one_each, one_least, only_memory, parsed, read_left, read_refused, read_stopped, read_whole}
+pub use documents.{reads_led, refusal, refused, shared_rows, stops_led, stream_parsed, stream_unparsed, turn_done}
+pub use documents.{turn_halts, unparsed, unread, unseen, valueless_alike, valueless_not}

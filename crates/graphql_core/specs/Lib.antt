@@ -1,15 +1,11 @@
-pub mod Refusal
-pub mod ValueExamples
-pub mod Causes
-pub mod Source
-pub mod Style
-pub mod Parts
-pub mod Depths
-pub mod Minified
-pub mod Strings
-pub mod BlockStrings
-pub mod Literals
+pub mod grammar
+pub mod lexical
+pub mod strings
+pub mod sources
+pub mod values
+pub mod layouts
 pub mod steps
+pub mod documents
 pub use Rattle.std.specs.Char.{is_ascii_digit, is_ascii_hexdigit}
 pub use Rattle.std.specs.Cmp.Lexicographic.{pointwise, slice_cmp}
 pub use Rattle.std.specs.List.{AllByRecursion, flat_map, join_by, list_all, list_any, prefix_len, suffix_len}
@@ -17,44 +13,61 @@ pub use Rattle.std.specs.Option.{IfSome, option_map_or, unwrap_or}
 pub use Rattle.std.specs.Str.{IsCharBoundary, IsUtf8}
 pub use Rattle.std.specs.Str.Lines.{lines}
 pub use Rattle.std.specs.Str.Parse.{digits_value}
-pub use Rattle.graphql_grammar.specs.{is_below, TestsAlike, Extends, Change, sees, Reason, Unexpected, Improper, lax, with_tables, Place, Token, nowhere, Class}
-pub use Rattle.graphql_grammar.specs.{Spelled, AnyOf, same_spelling, matches, Expr, Empty, One, Then, Either, Many, Sym, some_of, Shape, Nothing, Leaf, Both}
-pub use Rattle.graphql_grammar.specs.{First, Second, Stop, More, Node, leaves, Row, Grammar, row_at, row, accepts, Fits, fits_nothing, fits_leaf, fits_both}
-pub use Rattle.graphql_grammar.specs.{fits_first, fits_second, fits_stop, fits_more, fits_node, peek}
-pub use Rattle.graphql_lexer.specs.{too_deep, Where, Lexeme, Item, start, past_ignored, past_token, is_too_deep, item, token_then, piece_then, HasItems}
-pub use Rattle.graphql_lexer.specs.{is_name_start, IsName, is_mark, begins_quotes, Meaning, Ignored, Word, Stands, space, spread, integer, float, string}
-pub use Rattle.graphql_lexer.specs.{block_string, Piece, IsCutInto, next_place, NextItem}
-pub use Rattle.graphql_lexer.specs.Items.{Stream}
-pub use Rattle.graphql_lexer.specs.declared.position.Pos.{Pos}
-pub use Rattle.graphql_lexer.specs.declared.tokenizer.piece.Move.{Move}
-pub use Rattle.graphql_lexer.specs.declared.tokenizer.piece.Move.TheVariants.{Down, Over}
-pub use Rattle.graphql_lexer.specs.declared.tokenizer.piece.Nesting.{Nesting}
-pub use Rattle.graphql_lexer.specs.declared.tokenizer.piece.Nesting.TheVariants.{Closes, Level, Opens}
-pub use Rattle.graphql_lexer.specs.declared.tokenizer.token.Bad.{Bad}
-pub use Rattle.graphql_lexer.specs.declared.tokenizer.token.Kind.{Kind}
-pub use Rattle.graphql_lexer.specs.declared.tokenizer.token.Kind.TheVariants.{BlockString, FloatValue, IntValue, Name, Punctuator, StringValue}
 unfoldable pub use Rattle.std.specs.Char.{encode_utf8}
 unfoldable pub use Rattle.std.specs.Str.{chars}
-unfoldable pub use Rattle.graphql_lexer.specs.{items_of, front}
-pub use BlockStrings.{is_white, is_blank, indent, unindented, without_blank_ends, unescaped, joined, value_of_lines, block_value, IsInTripleQuotes}
-unfoldable pub use BlockStrings.{common_indent}
-pub use Causes.{kind_number, CauseText, no_token, unexpected_token, int_out_of_range, malformed_float, bad_escape, unknown_location, duplicate_operation}
-pub use Causes.{unknown_operation, empty_extension, cause_text, is_unexpected}
-pub use Depths.{bracket_of, open_after, deepest_from, deepest}
-pub use Literals.{is_whole_exponent, EndsFloat, fraction, exponent, both, IsFloatLiteral}
-pub use Minified.{is_punctuator, is_number, is_spaced, space_if, spaced_after, spaced, IsMinified, unplaced, HasTokens, is_past, AreLexemes, IsBadPlaceOf}
-pub use Parts.{Part, token, ignored, part_text, text_of, name, mark, gap, new_line}
-pub use Refusal.{at, no_memory, max_length, too_long, TellsAt, Tells, IsFaultOf}
-pub use Source.{Last, End, Wrong, Items, place_of, token_of, then_items, tokens_then, only_last, split, spending, items_of_stream, items_of_text, kept, after}
-pub use Source.{lexeme_token, Peeks, IsLexeme, IsEnd, IsAtEnd, held, FaultText, fault_by, fault_at, place_next}
-pub use Strings.{NamesCharacter, StandsFor, plain, quote, backslash, slash, backspace, form_feed, line_feed, carriage_return, tab, unicode, HasValue, empty}
-pub use Strings.{more, HasNoValue, IsInQuotes, BeginsEscape, BeginsNoEscape, BeginsName, BeginsNoName}
-pub use Style.{Layout, default_style, with_indent, with_multiline, spaces}
-pub use steps.Endings.{shown}
-pub use steps.FormatterSink.{formatter_nil, formatter_more}
-pub use steps.Matching.{sees_class, TakesToken, TakesOne}
-pub use steps.Placed.{Placed}
-pub use steps.Punctuators.{spelling_of, class_of, first_byte, front_byte}
-pub use steps.ReadErrors.{here, IsFaultFor}
-pub use steps.Spans.{kind_at, start_of, kind_of, span_token, Marks, span_items, IsLeft, IsLast, IsCut}
-pub use steps.StringSink.{string_nil, string_more, list_nil, list_more}
+pub use Rattle.std.specs.Fmt.{DisplaysOnOk, DisplaysStyledOnOk, decimal, signed_decimal}
+pub use Rattle.std.specs.Global.{Global}
+pub use Rattle.std.specs.List.{slice_get}
+pub use Rattle.std.specs.Result.{IsErrAnd}
+unfoldable pub use Rattle.std.specs.List.Sorted.{IsStrictlySortedBy}
+unfoldable pub use grammar.*
+unfoldable pub use lexical.*
+unfoldable pub use strings.*
+unfoldable pub use sources.*
+unfoldable pub use values.*
+unfoldable pub use layouts.*
+unfoldable pub use steps.*
+unfoldable pub use documents.*
+pub use grammar.{After, AnyOf, AsFirst, Before, Both, Change, Class, EachIsSecond, Either, Empty, Except, Expr}
+pub use grammar.{Extends, Fails, First, Fits, Grammar, Growth, Improper, InParts, InSides, IsLeast, Leaf, Many, More}
+pub use grammar.{Node, Nothing, One, ParseTree, Place, Reason, Refused, RefusesTokens, Row, Same, Second, Spelled}
+pub use grammar.{Stop, Stops, Sym, Takes, TakesSome, TestsAlike, Then, Token, Turns, Unexpected, accepts, all_apart}
+pub use grammar.{all_within, change_at, cont, decides, either_way, fails_after, fails_before, fails_check}
+pub use grammar.{fails_node, fails_one, fails_value, first, fits_both, fits_first, fits_leaf, fits_more, fits_node}
+pub use grammar.{fits_nothing, fits_second, fits_stop, grown, growth_at, in_any, in_second, is_below, is_listed}
+pub use grammar.{is_row, lax, leads_node, leaves, matches, nowhere, optional, out_of_head, out_of_prefix}
+pub use grammar.{out_of_sides, out_of_symbols, peek, row, row_at, same_spelling, sees, solve, some_of, takes_both}
+pub use grammar.{takes_first, takes_leaf, takes_node, takes_nothing, takes_second, takes_stop, turn_values}
+pub use grammar.{unchanged, with_rows, with_tables, written}
+pub use lexical.{BeginsNone, HasItems, Ignored, IsCutInto, IsName, Item, LexicalError, Meaning, Piece, Stands}
+pub use lexical.{Stream, TokenContent, Where, Word, depth_of, is_in_line, is_too_deep, item_at, next_place}
+pub use lexical.{past_ignored, past_token, piece_then, start, token_then, too_deep}
+unfoldable pub use lexical.{items_of}
+unfoldable pub use strings.{common_indent}
+pub use sources.{CauseText, FaultText, HasTokens, IsAtEnd, IsBadPlaceOf, IsEnd, IsMinified, Items, Last, LastIsError}
+pub use sources.{Refusal, after, at, bad_escape, cause_text, duplicate_operation, empty_extension, int_out_of_range}
+pub use sources.{is_unexpected, items_of_stream, kept, kind_number, lexeme_token, malformed_float, max_length}
+pub use sources.{no_memory, no_token, out_of_memory, place_next, place_of, split, text_too_long, token_of}
+pub use sources.{tokens_then, too_long, unexpected_end, unexpected_token, unknown_location, unknown_operation}
+pub use sources.{unplaced}
+pub use values.{AreLawfulArguments, AreLawfulDirectives, DirectiveTree, IsLawful, IsNameBut, IsPrintableArgument}
+pub use values.{IsPrintableDefault, IsPrintableDirective, IsPrintableType, TypeTree, ValueTree, Weights, any}
+pub use values.{argument_view, arguments_brackets, arguments_depth, arguments_symbol, arguments_view, default_depth}
+pub use values.{default_symbol, directive_symbol, directive_view, directives_brackets, directives_depth}
+pub use values.{directives_of, directives_symbol, directives_view, each_of, enclosed_of, erase, erase_all}
+pub use values.{first_place, has_any, in_brackets, is_there, joined_of, keyword, location_class, most, most_around}
+pub use values.{most_enclosed, name, named, no_place, optional_arguments_of, optional_default_of, optional_list_of}
+pub use values.{optional_of, place_at, punctuator, punctuator_class, sample, separated_of, shared, shared_symbols}
+pub use values.{spelling_at, type_of, type_symbol, type_view, value_brackets, value_view, variable, word}
+unfoldable pub use values.{block_string_of, is_good, string_of, tables, unquoted}
+pub use layouts.{IsNarrow, Layout, Part, arguments_layout, bracket_of, deepest, default_layout, default_style}
+pub use layouts.{description_levels, directives_layout, gap, has_block_form, in_block_form, in_braces, in_levels}
+pub use layouts.{in_parentheses, name_part, punctuator_part, quoted, separated, spaces, string_layout, text_of}
+pub use layouts.{token, type_layout, with_indent, with_multiline}
+pub use steps.{Adds, Answered, Gives, IsFaultFor, IsList, IsNext, Shortens, Shows, TakesOne, TakesToken}
+pub use steps.{ignored_front, line_end, reason_of, sees_class, spelling_of}
+unfoldable pub use steps.{block_end, comment, front, items, items_in, number, other_token, quoted_front, string_end}
+pub use documents.{AnswersUnlessMemory, AreAlike, AreReadBack, HasNoValue, HasNone, HasOneFaultEach, IsDocument}
+pub use documents.{IsDocumentOf, IsLeastFault, IsParsed, IsReadBack, IsRefusalFor, IsRefusalOf, IsWide, IsWrittenOf}
+pub use documents.{Language, NoneGoesOn, ParsesDocument, ParsesStream, Reads, ReadsDocument, Refusals, SaysNode}
+pub use documents.{halt_reason, numbered, past_bound, reading}

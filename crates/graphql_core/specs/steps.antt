@@ -1,8 +1,40 @@
+pub mod Ahead
+pub mod Answers
+pub mod BlockBytes
+pub mod Constness
+pub mod Cut
 pub mod Endings
-pub mod Punctuators
-pub mod Matching
-pub mod ReadErrors
 pub mod FormatterSink
-pub mod StringSink
-pub mod Placed
+pub mod Front
+pub mod Joined
+pub mod NextLeaf
+pub mod Lists
+pub mod Matching
+pub mod Numbers
+pub mod Places
+pub mod Punctuators
+pub mod Quoted
+pub mod ReadErrors
 pub mod Spans
+pub mod StringSink
+pub mod Unescaped
+unfoldable pub use Ahead.*
+unfoldable pub use Answers.*
+unfoldable pub use BlockBytes.*
+unfoldable pub use Constness.*
+unfoldable pub use Cut.*
+unfoldable pub use Endings.*
+unfoldable pub use FormatterSink.*
+unfoldable pub use Front.*
+unfoldable pub use Joined.*
+unfoldable pub use NextLeaf.*
+unfoldable pub use Lists.*
+unfoldable pub use Matching.*
+unfoldable pub use Numbers.*
+unfoldable pub use Places.*
+unfoldable pub use Punctuators.*
+unfoldable pub use Quoted.*
+unfoldable pub use ReadErrors.*
+unfoldable pub use Spans.*
+unfoldable pub use StringSink.*
+unfoldable pub use Unescaped.*

@@ -1,8 +1,9 @@
-//! How trees are written.
+//! Formatting of trees.
 
 mod buffer;
 mod error;
 mod place;
+pub mod print;
 mod sink;
 mod style;
 

@@ -1,4 +1,4 @@
-//! Tokens with one item of lookahead.
+//! Token sources with one token of lookahead, and readers of single tokens.
 
 mod cursor;
 mod matching;

@@ -1,8 +1,8 @@
-//! What queries and schemas share: positions, tokens, text types, causes of faults, style and output.
+//! What queries and schemas share: positions, tokens, text types, error causes, style and output.
 #![tactic(auto)]
 
 pub mod common;
 pub mod format;
 pub mod helpers;
-
-pub use graphql_lexer::{position, tokenizer};
+pub mod position;
+pub mod tokenizer;

@@ -2,8 +2,7 @@
 use Rattle.std.proofs.Common.{◌≡◌, ◌<◌, ◌⊎◌, ℕ, List, length, Result, Ok, Err, MatchResult, IfOk, inl, inr, ap, subst, ◌∙◌}
 use Rattle.std.specs.Result.{IsErrAnd}
 use Rattle.std.proofs.lemmas.Bool.{cases_lt}
-use Rattle.graphql_values.specs.{Refusal, no_memory, max_length, too_long, IsReadBack, ParsesDocument}
-use Rattle.graphql_values.specs.Language.{Language}
+use Rattle.graphql_core.specs.{Refusal, no_memory, max_length, too_long, IsReadBack, ParsesDocument, Language}
 
 module _ {D V L : Type 0} {l : Language D} {view : V → D} {text bytes : List ℕ} where
   -- the document but for positions

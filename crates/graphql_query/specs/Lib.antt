@@ -1,8 +1,32 @@
+pub mod Document
+pub mod Earlier
+pub mod Examples
+pub mod Grammar
+pub mod Lawful
+pub mod Layout
+pub mod Meanings
+pub mod Printable
+pub mod Tree
+pub mod TreeDepth
 pub mod FirstDefinition
 pub mod Minifying
 pub mod steps
-pub use FirstDefinition.{one_definition_of, one_definition, text_after, BeginsWith, IsFirstDefinition, IsFirstDefinition_0_4_1, BeginsWithDefinition}
-pub use FirstDefinition.{IsFirstShape, BeginsWithShape, NoneBeginsAnother, HasDefinitions}
-pub use Minifying.{IsMinifyRefusalOf, ran_out, past_bound, bad_place, TellsUnlessMemory}
-pub use steps.Operations.{kind_of, word_of, keyword_rule, Tells, operation_body_view}
-pub use steps.Reads.{Reads, read_variable_definition, AddsSet, first_names, alias_and_name_of, after_dots_of, sees_definition, TakesDefinition}
+unfoldable pub use Document.*
+unfoldable pub use Earlier.*
+unfoldable pub use Examples.*
+unfoldable pub use Grammar.*
+unfoldable pub use Lawful.*
+unfoldable pub use Layout.*
+unfoldable pub use Meanings.*
+unfoldable pub use Printable.*
+unfoldable pub use Tree.*
+unfoldable pub use TreeDepth.*
+unfoldable pub use FirstDefinition.*
+unfoldable pub use Minifying.*
+unfoldable pub use steps.*
+pub use Document.{IsDocument, IsDocumentOf, IsReadBack, queries}
+pub use Layout.{IsTooWide, layout}
+pub use Printable.{IsPrintable}
+pub use Tree.{DefinitionTree, DocumentTree, definitions_view, document_view, erase}
+pub use FirstDefinition.{IsFirstDefinition, one_definition}
+pub use Minifying.{IsMinifyRefusalOf}

@@ -1,2 +1,6 @@
+pub mod Sets
 pub mod Operations
-pub mod Reads
+pub mod Readers
+unfoldable pub use Sets.*
+unfoldable pub use Operations.*
+unfoldable pub use Readers.*

@@ -1,26 +1,26 @@
-//! Whole documents.
+//! Parsing whole documents.
 ghost use Rattle.std.specs.Prelude.{◌≡◌, ◌*◌, ◌/◌, ◌<◌, ◌≤◌, ◌≤ℤ◌, pos, List, length, IfOk};
-ghost use Rattle.graphql_lexer.specs.{depth_of};
-ghost use Rattle.graphql_values.specs.{HasItems, Item, next_place, max_length, IsAtEnd, kept, split, AnswersUnlessMemory, ReadsDocument, ParsesDocument};
-ghost use Rattle.graphql_values.specs.{ParsesStream};
-ghost use Rattle.graphql_query_tree.specs.{DocumentTree, document_view, queries, IsDocumentOf_0_4_1, HasNoNewParts, IsPrintable};
+ghost use Rattle.graphql_core.specs.{depth_of, HasItems, Item, next_place, max_length, IsAtEnd, kept, split};
+ghost use Rattle.graphql_core.specs.{AnswersUnlessMemory, ReadsDocument, ParsesDocument, ParsesStream};
+ghost use Rattle.graphql_query.specs.{DocumentTree, document_view, queries, IsDocumentOf_0_4_1, HasNoNewParts};
+ghost use Rattle.graphql_query.specs.{IsPrintable};
 
 use crate::error::ParseError;
 use crate::read::definitions;
+use crate::tree::Document;
 use graphql_core::common::{Fault, MAX_LENGTH, Text};
 use graphql_core::helpers::{Cursor, SpanSource, TokenSource, WIDE_TEXT, Width, fault_of};
 use graphql_core::tokenizer::TokenStream;
-use graphql_query_tree::tree::Document;
 use std::alloc::Global;
 use std::mem;
 
-/// The document that all items of a source are.
+/// Parses all tokens of a source as a document.
 pub fn read_document<S: TokenSource>(
     alloc: Global,
     source: &mut S,
 ) -> Result<Document<S::Names>, Fault>
     ensures reads { ReadsDocument queries (document_view S.Names.bytes) (S.items source.old) result }
-    // After a document the source is at its end. What else it has stays as it is.
+    // After a document the source is at its end. The other state of the source is unchanged.
     ensures end { IfOk result (λ d. IsAtEnd (S.items source.new)) }
     ensures kept { kept (S.items source.new) ≡ kept (S.items source.old) }
 {
@@ -35,7 +35,7 @@ pub fn read_document<S: TokenSource>(
     }
 }
 
-/// The document of a text whose positions are of this width.
+/// Parses an input whose positions fit `W`.
 fn read_spans<'a, S: Text<'a>, W: Width>(
     alloc: Global,
     source: &'a str,
@@ -48,7 +48,7 @@ fn read_spans<'a, S: Text<'a>, W: Width>(
     read_document(alloc, &mut tokens)
 }
 
-/// The document of a text.
+/// Parses an input of at most `usize::MAX / 16` bytes.
 fn read_text<'a, S: Text<'a>>(alloc: Global, source: &'a str) -> Result<Document<S>, Fault>
     requires { length source.now ≤ usize.MAX / 16 }
     ensures { (items : List Item) → HasItems source.now items → ReadsDocument queries (document_view S.Names.bytes) (split items) result }
@@ -60,26 +60,27 @@ fn read_text<'a, S: Text<'a>>(alloc: Global, source: &'a str) -> Result<Document
     }
 }
 
-/// Parses a text as a query document (October 2021, section 2.2).
+/// Parses the source as a query document (October 2021, section 2.2).
 ///
-/// The error is `TextTooLong` at 1:1 for a text of more than `usize::MAX / 16` bytes, which is tested first;
-/// `OutOfMemory` where an allocation fails; else the text is no document, and the error is the fault that the first
-/// item shows that shows one: `BadToken` and `TooDeep` for a bad place; `UnexpectedToken` for a token and
-/// `UnexpectedEnd` for the end, where no document goes on with it; `IntOutOfRange`, `MalformedFloat` and
-/// `BadEscape` for a token that stands as a value and has none.
+/// `TextTooLong` at 1:1 means more than `usize::MAX / 16` bytes, and is tested first. `OutOfMemory` means that an
+/// allocation failed. Every other error describes the first token (or the end of the input) that is wrong. `BadToken`
+/// means an invalid token, and `TooDeep` the 51st bracket that is open at once. `UnexpectedToken` and `UnexpectedEnd`
+/// mean that no document can continue with the token, or end there. `IntOutOfRange`, `MalformedFloat` and `BadEscape`
+/// mean an integer outside `i64`, a float whose exponent has no digit, and an escape without a character.
 pub fn parse_query<'a, S: Text<'a>>(
     alloc: Global,
     source: &'a str,
 ) -> Result<Document<S>, ParseError>
-    // What is answered is derived, and what is derived is answered; a refusal is the fault of least index; and more: each
-    // field of `ParsesDocument` in `specs/Parsing.antt` of graphql_values is a promise.
+    // Parsing is sound, complete and unambiguous, and every error is the first error. Each field of `ParsesDocument` in
+    // `specs/documents/Parsing.antt` of graphql_core is a promise.
     ensures parses { ParsesDocument queries (document_view S.Names.bytes) source.now result }
 
-    // A document of version 0.4.1 is answered as it was there, unless an allocation fails, and has none of the parts that are new since then.
+    // Every input of at most `MAX_LENGTH` bytes that is valid in version 0.4.1 parses as it did there, or the call
+    // returns `OutOfMemory`. The document has no part that was added since.
     ensures earlier { (d : DocumentTree) → length source.now ≤ max_length → IsDocumentOf_0_4_1 source.now d
         → HasNoNewParts d × AnswersUnlessMemory (document_view S.Names.bytes) d result }
 
-    // What is answered can be printed.
+    // Every parsed document is printable.
     ensures printable { IfOk result (λ d. IsPrintable (document_view S.Names.bytes d)) }
 {
     if source.len() > MAX_LENGTH {
@@ -88,20 +89,20 @@ pub fn parse_query<'a, S: Text<'a>>(
     Ok(read_text(alloc, source)?)
 }
 
-/// Parses what is left of a stream as a query document, from the item at which it stands on. As many brackets have to be
-/// closed before that item as were opened, or fewer.
+/// Parses the rest of a stream as a query document, from its next token. The tokens before that one must not close more
+/// brackets than they open.
 ///
-/// The stream is asked for each item once at most. After a document it stands at its end; after an error it stands
-/// somewhere, and only its `cuts` is known. The errors are those of `parse_query`, but for `TextTooLong`.
+/// The stream tokenizes each token at most once. After a document the stream is at its end. After an error only the
+/// bound on its `cuts` is specified. The errors are those of `parse_query`, except `TextTooLong`.
 pub fn parse_query_from<'a, S: Text<'a>>(
     alloc: Global,
     stream: &mut TokenStream<'a>,
 ) -> Result<Document<S>, ParseError>
     requires { pos 0 ≤ℤ depth_of (next_place stream.old.items) }
-    // What is answered is derived, and what is derived is answered; a refusal is the fault of least index; each item is cut
-    // once; and more: each field of `ParsesStream` in `specs/Parsing.antt` of graphql_values is a promise.
+    // Parsing is sound, complete and unambiguous, every error is the first error, and no token is tokenized
+    // twice. Each field of `ParsesStream` in `specs/documents/Parsing.antt` of graphql_core is a promise.
     ensures parses { ParsesStream queries (document_view S.Names.bytes) stream.old stream.new result }
-    // What is answered can be printed.
+    // Every parsed document is printable.
     ensures printable { IfOk result (λ d. IsPrintable (document_view S.Names.bytes d)) }
 {
     let mut cursor: Cursor<'a, S> = Cursor::over(mem::replace(stream, TokenStream::new("")));

@@ -1,13 +1,13 @@
-//! Why a text is no query document.
+//! The error of parsing a query.
 ghost use Rattle.std.specs.Prelude.{◌≡◌, option_map};
-ghost use Rattle.graphql_values.specs.{cause_text, place_of};
+ghost use Rattle.graphql_core.specs.{cause_text, place_of};
 
 use graphql_core::common::{Cause, Fault};
 use graphql_core::position::Pos;
 use std::marker::Model;
 use thiserror::Error;
 
-/// Why a text is no query document: a cause, and the position at which it stands.
+/// Why an input is not a query document: a cause, and a position if there is one.
 #[derive(Debug, Drop, Error)]
 #[error("query parse error: {}", .fault)]
 pub struct ParseError {
@@ -15,7 +15,7 @@ pub struct ParseError {
 }
 
 impl Model for ParseError {
-    ghost use Rattle.graphql_values.specs.{Refusal};
+    ghost use Rattle.graphql_core.specs.{Refusal};
 
     ghost Value = { Refusal };
 
@@ -23,14 +23,15 @@ impl Model for ParseError {
 }
 
 impl ParseError {
-    /// Where the cause stands, and `None` where an allocation failed.
+    /// The position of the token (or of the end of the input) that is wrong: 1:1 for `TextTooLong`, `None` for
+    /// `OutOfMemory`.
     pub fn position(&self) -> Option<Pos>
         ensures { option_map place_of result ≡ self.now.place }
     {
         self.fault.position
     }
 
-    /// Why the text is refused.
+    /// Why the input is rejected, or `OutOfMemory`.
     pub fn cause(&self) -> &Cause
         ensures { cause_text result.now ≡ self.now.cause }
     {

@@ -1,19 +1,20 @@
-//! Laws of the definitions alone.
+//! Theorems about the specification of errors and of minifying.
 ghost use Rattle.std.specs.Prelude.{◌≡◌, ℕ, true, List, Result};
-ghost use Rattle.graphql_values.specs.{Item, is_unexpected, IsMinified, FaultText, split, IsLeastFault, NoneGoesOn, Refusal};
-ghost use Rattle.graphql_query_tree.specs.{DocumentTree, queries, IsParsed, AreAlike, IsFirstFaultOf, IsLeastFaultOf};
+ghost use Rattle.graphql_core.specs.{Item, is_unexpected, IsMinified, FaultText, split, IsLeastFault, NoneGoesOn};
+ghost use Rattle.graphql_core.specs.{Refusal};
+ghost use Rattle.graphql_query.specs.{DocumentTree, queries, IsParsed, AreAlike, IsFirstFaultOf, IsLeastFaultOf};
 ghost use Rattle.graphql_query.specs.{one_definition};
 
-/// The fault of least index of a text is one, and it is the first: some document begins with the items before it, were
-/// the item good or another, and none goes on with it.
+/// An input has at most one first error (the one at the lowest token index). The tokens before it are a prefix of some
+/// document. With the offending token, or the end of the input, they are not.
 pub fn least_faults_are_first()
     ensures one { (text : List ℕ) (f g : FaultText) → IsLeastFaultOf text f → IsLeastFaultOf text g → f ≡ g }
     ensures first { (text : List ℕ) (f : FaultText) → IsLeastFaultOf text f → IsFirstFaultOf text f }
 {}
 
-/// Where the fault of least index is an unexpected token or end, some list that the plain grammar derives begins with the
-/// items before it, and none with them and it. The plain grammar tests no leaf; the items are those of a text, or of what
-/// is left of a stream.
+/// If the first error is an unexpected token or end, the tokens before it are a prefix of some list that the plain
+/// grammar accepts. With the offending token or end they are not. The plain grammar also accepts literals without a
+/// value. The theorem holds for an input and for the rest of a stream.
 pub fn none_goes_on_with_an_unexpected_item()
     ensures documents { (items : List Item) (f : FaultText) → IsLeastFault queries (split items) f → is_unexpected f.cause ≡ true
         → NoneGoesOn queries (split items) f }
@@ -21,10 +22,10 @@ pub fn none_goes_on_with_an_unexpected_item()
         → NoneGoesOn one_definition (split items) f }
 {}
 
-/// A minified text is parsed as its source is, but for positions: a document for a document, a refusal for a refusal.
+/// A minified source parses as its original does, ignoring positions: both to equal documents, or both to an error.
 pub fn minified_texts_are_parsed_alike()
     ensures alike { (source text : List ℕ) (r s : Result DocumentTree Refusal) → IsMinified source text → IsParsed source r → IsParsed text s → AreAlike r s }
-    // Both are refused for one cause.
+    // The two errors have the same cause.
     ensures one_cause { (source text : List ℕ) (f g : FaultText) → IsMinified source text → IsLeastFaultOf source f → IsLeastFaultOf text g
         → f.cause ≡ g.cause }
 {}

@@ -1,4 +1,4 @@
-//! Queries: their grammar is read here; trees and text are those of `graphql_query_tree`.
+//! Queries: their trees, parsers, formatter and minifier.
 #![tactic(auto)]
 
 mod consume;
@@ -6,20 +6,23 @@ mod document;
 mod error;
 mod laws;
 mod minify;
+mod print;
 mod read;
+mod text_laws;
+pub mod tree;
 
 pub use consume::consume_definition;
 pub use document::{parse_query, parse_query_from};
 pub use error::ParseError;
 pub use graphql_core::common::{Names, Text};
-pub use graphql_query_tree::{
-    brackets_are_those_of_the_layout, printed_documents_are_read_back, text_has_no_positions, tree,
-    worked_examples,
-};
 pub use laws::{
     least_faults_are_first, minified_texts_are_parsed_alike, none_goes_on_with_an_unexpected_item,
 };
 pub use minify::{MinifyError, minify_query};
+pub use text_laws::{
+    brackets_are_those_of_the_layout, printed_documents_are_read_back, text_has_no_positions,
+    worked_examples,
+};
 
 /// A query document (October 2021, section 2.2).
 pub type Document<'a, T> = tree::Document<T>;
@@ -39,13 +42,13 @@ pub type Mutation<'a, T> = tree::Mutation<T>;
 /// A subscription (section 2.3).
 pub type Subscription<'a, T> = tree::Subscription<T>;
 
-/// A variable of an operation (section 2.10).
+/// The definition of a variable (section 2.10).
 pub type VariableDefinition<'a, T> = tree::VariableDefinition<T>;
 
 /// A fragment (section 2.8).
 pub type FragmentDefinition<'a, T> = tree::FragmentDefinition<T>;
 
-/// On which type selections apply (section 2.8.1).
+/// The type to which selections apply (section 2.8.1).
 pub type TypeCondition<'a, T> = tree::TypeCondition<T>;
 
 /// Selections in braces (section 2.4).
@@ -57,8 +60,8 @@ pub type Selection<'a, T> = tree::Selection<T>;
 /// A field (section 2.5).
 pub type Field<'a, T> = tree::Field<T>;
 
-/// The selections of a fragment, by its name (section 2.8).
+/// A fragment spread: `...` and the name of a fragment (section 2.8).
 pub type FragmentSpread<'a, T> = tree::FragmentSpread<T>;
 
-/// Selections that apply on a type (section 2.8.2).
+/// An inline fragment: selections after `...`, with or without a type (section 2.8.2).
 pub type InlineFragment<'a, T> = tree::InlineFragment<T>;

@@ -1,6 +1,33 @@
+pub mod Earlier
+pub mod Examples
+pub mod Grammar
+pub mod Language
+pub mod Lawful
+pub mod Layout
+pub mod Locations
+pub mod Meanings
+pub mod Printable
+pub mod Roots
+pub mod Tree
+pub mod TreeDepth
+pub mod Views
 pub mod steps
-pub use steps.Keywords.{kind_word, has_interfaces, class_of, keywords, TellsToken, Tells, sees_definition}
-pub use steps.Reads.{Reads, as_written, sees_description, sees_described_name}
-pub use steps.Refusals.{fault_said, refusals, ReadsNode}
-pub use steps.Roots.{HasRoots, Fills}
-pub use steps.TypeBodies.{parts_view, type_body_view, symbol_of, means, interfaces_rule, parts_rule, parts_of}
+unfoldable pub use Earlier.*
+unfoldable pub use Examples.*
+unfoldable pub use Grammar.*
+unfoldable pub use Language.*
+unfoldable pub use Lawful.*
+unfoldable pub use Layout.*
+unfoldable pub use Locations.*
+unfoldable pub use Meanings.*
+unfoldable pub use Printable.*
+unfoldable pub use Roots.*
+unfoldable pub use Tree.*
+unfoldable pub use TreeDepth.*
+unfoldable pub use Views.*
+unfoldable pub use steps.*
+pub use Language.{schemas}
+pub use Layout.{IsTooWide, layout}
+pub use Printable.{IsPrintable}
+pub use Tree.{erase}
+pub use Views.{document_view}

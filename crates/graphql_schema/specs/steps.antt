@@ -1,5 +1,12 @@
-pub mod Keywords
-pub mod Reads
-pub mod Refusals
-pub mod Roots
+pub mod RootsRead
+pub mod Body
 pub mod TypeBodies
+pub mod Readers
+pub mod Refusals
+pub mod Keywords
+unfoldable pub use RootsRead.*
+unfoldable pub use Body.*
+unfoldable pub use TypeBodies.*
+unfoldable pub use Readers.*
+unfoldable pub use Refusals.*
+unfoldable pub use Keywords.*

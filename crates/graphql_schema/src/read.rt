@@ -1,4 +1,4 @@
-//! Readers, one for each symbol of the grammar. Each has its production above it.
+//! One reader for each symbol of the grammar. The comment above a reader quotes its production.
 mod definition;
 mod description;
 mod directive;

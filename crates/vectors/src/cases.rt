@@ -1,54 +1,53 @@
-//! Cases: what is asked of a text, and what is wanted.
+//! Cases: an input, what to do with it, and the wanted result.
 use crate::languages::Language;
 use crate::told::Told;
 
-/// What is asked of a text.
+/// What a case does with its input.
 #[derive(Clone, Copy)]
 pub enum Asked {
-    /// To parse it as a document of a language, and to tell of that.
+    /// Parse it as a document of a language, and report on the document.
     Document(Language, Telling),
-    /// To parse each of its lines as a document of a language, of which no two are equal.
+    /// Parse each of its lines as a document of a language. No two of the documents are equal.
     Unlike(Language),
-    /// To minify it.
     Minify,
-    /// To cut it into its tokens.
+    /// Tokenize it.
     Tokens,
-    /// The value of the string with this between its quotes.
+    /// Find the value of the string with the input between its quotes.
     Quoted,
-    /// The value of the block string with this between its quotes.
+    /// Find the value of the block string with the input between its quotes.
     Block,
-    /// To take it as a float literal.
+    /// Make a float literal of it.
     Float,
-    /// To make as many boxes as the number that it is, one after another.
+    /// Make as many boxes as its number says, one after another.
     Boxes,
 }
 
-/// What is asked of a document.
+/// What to report on a document.
 #[derive(Clone, Copy)]
 pub enum Telling {
-    /// To lay it out in a style.
+    /// The document formatted in a style.
     Layout { indent: u32, multiline: bool },
-    /// To show the tree.
+    /// The tree, as `Debug` shows it.
     Tree,
-    /// To show the parts of the tree one by one.
+    /// The parts of the tree one by one, as `Display` shows them.
     Parts,
 }
 
-/// What is wanted of a text.
+/// The wanted result of an input.
 #[derive(Clone, Copy)]
 pub enum Answer<'a> {
-    /// This text in place of it.
+    /// This output.
     Text(&'a str),
-    /// That it is accepted.
+    /// The input is accepted.
     Accepted,
-    /// That it is refused.
+    /// The input is rejected.
     Refused,
-    /// That it is refused with this message.
+    /// The input is rejected with this message.
     Message(&'a str),
 }
 
 impl Answer<'_> {
-    /// Whether this is what a case wants to be told.
+    /// Whether the report is the wanted result.
     pub fn is_met(self, told: &Told) -> bool {
         match self {
             Answer::Text(wanted) => !told.is_refusal() && told.text() == wanted,
@@ -59,7 +58,7 @@ impl Answer<'_> {
     }
 }
 
-/// A text, what is asked of it, and the answer that is wanted.
+/// An input, what to do with it, and the wanted result.
 #[derive(Clone, Copy)]
 pub struct Case<'a> {
     pub asked: Asked,
@@ -68,7 +67,7 @@ pub struct Case<'a> {
 }
 
 impl Case<'_> {
-    /// Whether this is what the case wants to be told; a tree may be wanted with line ends in place of spaces.
+    /// Whether the report is the wanted result. A wanted tree can have line ends in place of spaces.
     pub fn is_met(&self, told: &Told) -> bool {
         if told.is_wrong() {
             return false;
@@ -81,21 +80,21 @@ impl Case<'_> {
     }
 }
 
-/// Whether the lines are the text, each line end of theirs in place of a space.
+/// Whether `lines` is `text` with line ends in place of some spaces.
 fn is_in_lines(text: &str, lines: &str) -> bool {
     text.len() == lines.len()
         && text.bytes().zip(lines.bytes()).all(|(one, other)| one == other
             || one == b' ' && other == b'\n')
 }
 
-/// A text of so many bytes with LF after it, and what follows.
+/// The first `length` bytes of `text`, and what follows the LF after them.
 fn sized<'a>(text: &'a str, length: &str) -> Option<(&'a str, &'a str)> {
     let length: usize = length.parse().ok()?;
     let (sized, after) = text.split_at_checked(length)?;
     Some((sized, after.strip_prefix('\n')?))
 }
 
-/// What a word asks of documents of a language, with so many spaces a level.
+/// The language and the report that a word asks for, with `indent` spaces a level.
 fn read_telling(word: &str, indent: u32) -> Option<(Language, Telling)> {
     let lines = Telling::Layout {
         indent,
@@ -118,7 +117,7 @@ fn read_telling(word: &str, indent: u32) -> Option<(Language, Telling)> {
     }
 }
 
-/// What another word asks.
+/// What a word without an indentation asks for.
 fn read_word(word: &str) -> Option<Asked> {
     match word {
         "unlike" => Some(Asked::Unlike(Language::Query)),
@@ -133,7 +132,7 @@ fn read_word(word: &str) -> Option<Asked> {
     }
 }
 
-/// What a line asks, and the length that it names.
+/// What a line asks for, and the length that it names.
 fn read_asked(line: &str) -> Option<(Asked, &str)> {
     let (word, numbers) = line.split_once(' ')?;
     let (length, indent) = match numbers.split_once(' ') {
@@ -147,7 +146,7 @@ fn read_asked(line: &str) -> Option<(Asked, &str)> {
     Some((asked, length))
 }
 
-/// The answer at the front, and what follows.
+/// The wanted result at the front of `text`, and what follows.
 fn read_answer<'a>(text: &'a str) -> Option<(Answer<'a>, &'a str)> {
     let (words, after) = text.split_once('\n')?;
     match words {
@@ -157,7 +156,7 @@ fn read_answer<'a>(text: &'a str) -> Option<(Answer<'a>, &'a str)> {
     }
 }
 
-/// The same of an answer with a length.
+/// The same for a result with a length.
 fn read_sized_answer<'a>(words: &str, after: &'a str) -> Option<(Answer<'a>, &'a str)> {
     let (word, length) = words.split_once(' ')?;
     let (text, after) = sized(after, length)?;
@@ -168,7 +167,7 @@ fn read_sized_answer<'a>(words: &str, after: &'a str) -> Option<(Answer<'a>, &'a
     }
 }
 
-/// What follows the line at the front, where that begins with `#`.
+/// What follows the heading at the front of `text`, if there is one.
 fn past_heading(text: &str) -> &str {
     match text.split_once('\n') {
         Some((line, after)) if line.starts_with('#') => after,
@@ -176,7 +175,7 @@ fn past_heading(text: &str) -> &str {
     }
 }
 
-/// The case at the front, and what follows. A heading may come before it.
+/// The case at the front of `text`, and what follows. A heading can come before the case.
 pub fn next_case<'a>(text: &'a str) -> Option<(Case<'a>, &'a str)> {
     let (line, after) = past_heading(text).split_once('\n')?;
     let (asked, length) = read_asked(line)?;

@@ -1,11 +1,11 @@
-//! Texts that are documents of a language: their layouts, their trees, their parts, and what equals them.
+//! Inputs that are documents of a language: their layouts, trees and parts, and which are equal.
 use crate::cases::Telling;
 use crate::languages::{Language, are_equal, told_with};
 use crate::told::Told;
 use std::alloc::Global;
 use std::borrow::CowStr;
 
-/// What is told of a text's document, the same with names of each text type.
+/// The report on the document of an input, which must be the same with names of each text type.
 pub fn told_of(alloc: Global, language: Language, source: &str, telling: Telling) -> Told {
     let mut told = told_with::<&str>(alloc, language, source, telling);
     told.compare(&told_with::<String>(alloc, language, source, telling));
@@ -13,7 +13,7 @@ pub fn told_of(alloc: Global, language: Language, source: &str, telling: Telling
     told
 }
 
-/// What is told of a text's layout. Of a document's layouts, in both styles and three indentations, each is read back.
+/// The report on a formatted document. In both styles and with three indentations, the output must parse back.
 pub fn told_of_layouts(alloc: Global, language: Language, source: &str, telling: Telling) -> Told {
     let mut told = told_of(alloc, language, source, telling);
     let tree = told_with::<&str>(alloc, language, source, Telling::Tree);
@@ -36,7 +36,7 @@ pub fn told_of_layouts(alloc: Global, language: Language, source: &str, telling:
     told
 }
 
-/// A layout is read back as the tree that it is of, positions aside, and has the same layout again.
+/// Checks that a layout parses back to the tree, ignoring positions, and that formatting is idempotent.
 fn read_back(told: &mut Told, language: Language, tree: &Told, layout: &Told, telling: Telling) {
     let mut again = told_with::<&str>(told.alloc, language, layout.text(), telling);
     again.compare(layout);
@@ -49,7 +49,7 @@ fn read_back(told: &mut Told, language: Language, tree: &Told, layout: &Told, te
     }
 }
 
-/// Whether two trees are shown as the same, with each `Pos(..)` left out.
+/// Whether two trees are shown as the same, ignoring each `Pos(..)`.
 fn are_like(one: &str, other: &str) -> bool {
     let mut others = other.split("Pos(");
     for part in one.split("Pos(") {
@@ -68,7 +68,7 @@ fn after_position(part: &str) -> &str {
     }
 }
 
-/// Whether two texts have equal documents, if they have any and it is the same with names of each text type.
+/// Whether two inputs have equal documents; `None` if one has none, or if text types disagree.
 fn are_equal_in_each(alloc: Global, language: Language, one: &str, other: &str) -> Option<bool> {
     let are_equal_borrowed = are_equal::<&str>(alloc, language, one, other)?;
     let are_equal_owned = are_equal::<String>(alloc, language, one, other)?;
@@ -80,8 +80,7 @@ fn are_equal_in_each(alloc: Global, language: Language, one: &str, other: &str) 
     }
 }
 
-/// Whether each line of a text is a document, equal to what is read of it once more and to no other: nothing is
-/// told.
+/// Checks that each line is a document, equal to that of the same line and of no other. Nothing is reported.
 pub fn told_of_lines(alloc: Global, language: Language, lines: &str) -> Told {
     let mut told = Told::new(alloc);
     for (i, line) in lines.split('\n').enumerate() {

@@ -1,4 +1,4 @@
-//! The languages whose documents are told of: queries and schemas.
+//! The languages of documents: queries and schemas.
 use crate::cases::Telling;
 use crate::told::Told;
 use crate::{parts, schema_parts};
@@ -7,16 +7,13 @@ use graphql_parser::{FormatError, Style, query, schema};
 use std::alloc::Global;
 use std::fmt::{Debug, Display};
 
-/// A language.
 #[derive(Clone, Copy)]
 pub enum Language {
-    /// Query documents.
     Query,
-    /// Schema documents.
     Schema,
 }
 
-/// What is told of a text's document with names of a text type.
+/// The report on the document of an input, with names of a text type.
 pub fn told_with<'a, T: Text<'a>>(
     alloc: Global,
     language: Language,
@@ -29,7 +26,7 @@ pub fn told_with<'a, T: Text<'a>>(
     }
 }
 
-/// Whether two texts have equal documents, if they have any, with names of a text type.
+/// Whether two inputs have equal documents, with names of a text type; `None` if one has none.
 pub fn are_equal<'a, T: Text<'a>>(
     alloc: Global,
     language: Language,
@@ -44,20 +41,20 @@ pub fn are_equal<'a, T: Text<'a>>(
 
 /// A document of a language, with names of a text type.
 trait Document<'a>: Clone + PartialEq + Debug + Drop {
-    /// Why a text is none.
+    /// Why an input is not a document.
     type Error: Display + Drop;
 
-    /// The document of a text.
+    /// Parses an input.
     fn parse(alloc: Global, source: &'a str) -> Result<Self, Self::Error>;
 
-    /// Its text in a style.
+    /// The document formatted in a style.
     fn laid_out(&self, alloc: Global, style: &Style) -> Result<String, FormatError>;
 
-    /// Tells what is shown of it and of its parts.
+    /// Reports the document and its parts.
     fn tell_parts(&self, told: &mut Told);
 }
 
-/// What is told of a text's document; its clone is equal.
+/// The report on the document of an input. The clone of the document must be equal.
 fn told_as<'a, D: Document<'a>>(alloc: Global, source: &'a str, telling: Telling) -> Told {
     let mut told = Told::new(alloc);
     match D::parse(alloc, source) {
@@ -70,7 +67,7 @@ fn told_as<'a, D: Document<'a>>(alloc: Global, source: &'a str, telling: Telling
     told
 }
 
-/// Finds wrong that the clone of a document is not equal.
+/// Marks the report as wrong if the clone of a document is not equal.
 fn compare_with_copy<'a, D: Document<'a>>(told: &mut Told, document: &D) {
     match document.clone() {
         Ok(copy) if copy == *document => {}
@@ -79,14 +76,14 @@ fn compare_with_copy<'a, D: Document<'a>>(told: &mut Told, document: &D) {
     }
 }
 
-/// Whether two texts have equal documents, if they have any.
+/// Whether two inputs have equal documents; `None` if one has none.
 fn are_equal_as<'a, D: Document<'a>>(alloc: Global, one: &'a str, other: &'a str) -> Option<bool> {
     let one = D::parse(alloc, one).ok()?;
     let other = D::parse(alloc, other).ok()?;
     Some(one == other)
 }
 
-/// Tells of a document what is asked.
+/// Reports on a document what is asked for.
 fn tell<'a, D: Document<'a>>(told: &mut Told, document: &D, telling: Telling) {
     match telling {
         Telling::Layout { indent, multiline } => {
@@ -97,7 +94,7 @@ fn tell<'a, D: Document<'a>>(told: &mut Told, document: &D, telling: Telling) {
     }
 }
 
-/// The style with so many spaces a level.
+/// The style with `indent` spaces a level.
 fn style_of(indent: u32, multiline: bool) -> Style {
     let mut style = Style::default();
     style.indent(indent).multiline_arguments(multiline);

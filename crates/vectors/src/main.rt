@@ -1,24 +1,25 @@
-//! `vectors`: replays cases of texts, and tells how many of the answers are those that a case wants.
+//! `vectors`: replays cases, and prints how many of the results are those that the cases want.
 //!
-//! The cases stand on standard input, one after another, all lengths in bytes: a line with a word and a length, and a
-//! text of that length and LF; then a line `ok` or `refused` with a length, and the text that is wanted or the message,
-//! of that length, and LF; or a line `accepted` or `refused` alone. A heading, which is a line that begins with `#`, may
-//! come before a case. The words are
+//! The cases are on standard input, one after another. All lengths are in bytes. A case begins with a line with a word
+//! and a length, then an input of that length, and LF. Then comes a line `ok` or `refused` with a length, and the
+//! wanted output or message of that length, and LF. Or there is only a line `accepted` or `refused`. A heading, which
+//! is a line that begins with `#`, can come before a case. The words are
 //!
-//! - `query` and `lines`, whose text is a query document and wanted is its layout, with a line for each part under
-//!   `lines`, and with two spaces a level where no number of them follows the length;
-//! - `tree`: wanted is what `Debug` shows of the query document, in which line ends may stand for spaces;
+//! - `query` and `lines`: the input is a query document, and wanted is the formatted document, under `lines` in
+//!   multi-line style. A level has two spaces, unless another number follows the length;
+//! - `tree`: wanted is what `Debug` shows of the query document, in which line ends can replace spaces;
 //! - `parts`: wanted is what `Display` shows of the query document, and then of its parts down to the first selections,
 //!   each with LF after it;
-//! - `unlike`: each line of the text is a query document, and no two of them are equal;
-//! - `schema`, `schema-lines`, `schema-tree`, `schema-parts` and `schemas-unlike`: the same of schema documents;
-//! - `minify`: wanted is the minified text;
-//! - `tokens`: wanted is a line for each item, the last without LF: its position, its offset, the brackets that are open
-//!   before it, and the token and its kind, or `end` or the bad place and the count of cuts when it is answered twice;
-//! - `quoted` and `block`: wanted is the value of a string or a block string with the text between its quotes;
-//! - `float`: wanted is the text itself, or that it is handed back;
-//! - `boxes`: a number; so many boxes are made and dropped, which is accepted. Where one allocation of the run is made to
-//!   fail from outside, at a fixed count, the number says which allocation of the cases after it that is.
+//! - `unlike`: each line of the input is a query document, and no two of them are equal;
+//! - `schema`, `schema-lines`, `schema-tree`, `schema-parts` and `schemas-unlike`: the same for schema documents;
+//! - `minify`: wanted is the minified input;
+//! - `tokens`: wanted is a line for each token and for the end, the last without LF: its position, its offset, the
+//!   brackets that are open before it, and the token and its kind. The last line has `end` or the lexical error, and
+//!   the count of cuts after it was requested twice;
+//! - `quoted` and `block`: wanted is the value of a string or a block string with the input between its quotes;
+//! - `float`: wanted is the input itself, or that it is returned as the error;
+//! - `boxes`: the input is a number; that many boxes are made and dropped, which is accepted. If one allocation of the
+//!   run is made to fail from outside, at a fixed count, the number decides which allocation of the next cases that is.
 #![tactic(auto)]
 
 mod cases;
@@ -49,7 +50,7 @@ fn tell_boxes(told: &mut Told, number: &str) {
     }
 }
 
-/// What is told of a text's tokens, or of the value of one.
+/// The report on the tokens of an input, or on the value of one.
 fn told_of_tokens(alloc: Global, source: &str, asked: Asked) -> Told {
     let mut told = Told::new(alloc);
     match asked {
@@ -62,7 +63,7 @@ fn told_of_tokens(alloc: Global, source: &str, asked: Asked) -> Told {
     told
 }
 
-/// What is told of a case's text.
+/// The report on the input of a case.
 fn told_of_case(alloc: Global, case: &Case<'_>) -> Told {
     match case.asked {
         Asked::Document(language, telling @ Telling::Layout { .. }) => told_of_layouts(
@@ -78,7 +79,7 @@ fn told_of_case(alloc: Global, case: &Case<'_>) -> Told {
     }
 }
 
-/// How many cases agree, how many are cut short, since an allocation failed, and how many there are.
+/// How many cases agree, how many are cut short by a failed allocation, and how many there are.
 #[derive(Clone, Copy, Default)]
 struct Tally {
     agreeing: usize,
@@ -99,7 +100,7 @@ impl Tally {
     }
 }
 
-/// Counts the cases; none where they are not written as cases.
+/// Counts the cases; `None` if `text` is not written as cases.
 fn count(alloc: Global, text: &str) -> Option<Tally> {
     let mut rest = text;
     let mut tally = Tally::default();

@@ -11,7 +11,7 @@ fn tell_directives<N: Names>(told: &mut Told, directives: &[Directive<'_, N>]) {
     }
 }
 
-/// A selection, the values of a field's arguments, the condition of an inline fragment, and the directives.
+/// Reports a selection, the values of a field's arguments, the condition of an inline fragment, and the directives.
 fn tell_selection<N: Names>(told: &mut Told, selection: &Selection<'_, N>) {
     match selection {
         Selection::Field(field) => {
@@ -35,7 +35,7 @@ fn tell_selection<N: Names>(told: &mut Told, selection: &Selection<'_, N>) {
     }
 }
 
-/// A set, and each of its selections.
+/// Reports a selection set, and each of its selections.
 fn tell_set<N: Names>(told: &mut Told, set: &SelectionSet<'_, N>) {
     told.show_line(set);
     for selection in set.items.iter() {
@@ -43,7 +43,7 @@ fn tell_set<N: Names>(told: &mut Told, set: &SelectionSet<'_, N>) {
     }
 }
 
-/// Each variable, its type, its default value, and its directives.
+/// Reports each variable, its type, its default value, and its directives.
 fn tell_variables<N: Names>(told: &mut Told, variables: &[VariableDefinition<'_, N>]) {
     for variable in variables {
         told.show_line(variable);
@@ -55,7 +55,7 @@ fn tell_variables<N: Names>(told: &mut Told, variables: &[VariableDefinition<'_,
     }
 }
 
-/// A query, a mutation or a subscription, and its parts.
+/// Reports a query, a mutation or a subscription, and its parts.
 macro_rules! tell_named {
     ($told:expr, $operation:expr) => {{
         $told.show_line($operation);
@@ -65,7 +65,7 @@ macro_rules! tell_named {
     }};
 }
 
-/// An operation as such and as what it is, and its parts.
+/// Reports an operation, the variant that is in it, and its parts.
 fn tell_operation<N: Names>(told: &mut Told, operation: &OperationDefinition<'_, N>) {
     told.show_line(operation);
     match operation {
@@ -76,7 +76,7 @@ fn tell_operation<N: Names>(told: &mut Told, operation: &OperationDefinition<'_,
     }
 }
 
-/// A definition as such and as what it is, and its parts.
+/// Reports a definition, the variant that is in it, and its parts.
 fn tell_definition<N: Names>(told: &mut Told, definition: &Definition<'_, N>) {
     told.show_line(definition);
     match definition {
@@ -90,7 +90,7 @@ fn tell_definition<N: Names>(told: &mut Told, definition: &Definition<'_, N>) {
     }
 }
 
-/// Tells what is shown of a document and of its parts, down to its first selections, one after another.
+/// Reports a document and its parts down to the first selections, one after another.
 pub fn tell_parts<N: Names>(told: &mut Told, document: &Document<'_, N>) {
     told.show(document);
     for definition in document.definitions.iter() {

@@ -10,7 +10,7 @@ fn tell_inputs<N: Names>(told: &mut Told, inputs: &[InputValue<'_, N>]) {
     }
 }
 
-/// Fields, and their arguments.
+/// Reports fields and their arguments.
 fn tell_fields<N: Names>(told: &mut Told, fields: &[Field<'_, N>]) {
     for field in fields {
         told.show_line(field);
@@ -18,7 +18,7 @@ fn tell_fields<N: Names>(told: &mut Told, fields: &[Field<'_, N>]) {
     }
 }
 
-/// A type as what it is, and its parts.
+/// Reports the type of its kind that is in a type definition, and its parts.
 fn tell_type<N: Names>(told: &mut Told, definition: &TypeDefinition<'_, N>) {
     match definition {
         TypeDefinition::Scalar(scalar) => told.show_line(scalar),
@@ -39,7 +39,7 @@ fn tell_type<N: Names>(told: &mut Told, definition: &TypeDefinition<'_, N>) {
     }
 }
 
-/// An extension as what it is.
+/// Reports the extension of its kind that is in a type extension.
 fn tell_extension<N: Names>(told: &mut Told, extension: &TypeExtension<'_, N>) {
     match extension {
         TypeExtension::Scalar(scalar) => told.show_line(scalar),
@@ -51,7 +51,7 @@ fn tell_extension<N: Names>(told: &mut Told, extension: &TypeExtension<'_, N>) {
     }
 }
 
-/// A definition as such and as what it is, and its parts.
+/// Reports a definition, the variant that is in it, and its parts.
 fn tell_definition<N: Names>(told: &mut Told, definition: &Definition<'_, N>) {
     told.show_line(definition);
     match definition {
@@ -72,7 +72,7 @@ fn tell_definition<N: Names>(told: &mut Told, definition: &Definition<'_, N>) {
     }
 }
 
-/// Tells what is shown of a document and of its parts, one after another.
+/// Reports a document and its parts, one after another.
 pub fn tell_parts<N: Names>(told: &mut Told, document: &Document<'_, N>) {
     told.show(document);
     for definition in document.definitions.iter() {

@@ -1,11 +1,11 @@
-//! Texts cut into their tokens, and the values of tokens.
+//! The tokens of inputs, and the values of tokens.
 use crate::told::Told;
 use graphql_parser::common::{FloatLiteral, unquote_block_string, unquote_string};
 use graphql_parser::minify_query;
 use graphql_parser::tokenizer::{Bad, Token, TokenStream};
 use std::alloc::Global;
 
-/// What is told of a minified text.
+/// The report on a minified input.
 fn told_of_minified(alloc: Global, source: &str) -> Told {
     let mut told = Told::new(alloc);
     let Ok(source) = String::from_str(alloc, source) else {
@@ -16,7 +16,7 @@ fn told_of_minified(alloc: Global, source: &str) -> Told {
     told
 }
 
-/// The same, and no other for the minified text itself.
+/// The same. Minifying must be idempotent.
 pub fn told_of_minifying(alloc: Global, source: &str) -> Told {
     let mut told = told_of_minified(alloc, source);
     if !told.is_refusal() {
@@ -26,7 +26,7 @@ pub fn told_of_minifying(alloc: Global, source: &str) -> Told {
     told
 }
 
-/// Tells of the next item its position, its offset, and how many brackets are open before it.
+/// Reports the position and the offset of the next token, and how many brackets are open before it.
 fn tell_place(told: &mut Told, stream: &TokenStream<'_>) {
     told.show(&stream.position());
     told.tell(" ");
@@ -36,7 +36,7 @@ fn tell_place(told: &mut Told, stream: &TokenStream<'_>) {
     told.tell(" ");
 }
 
-/// Tells of the last item, which the stream has just answered, that it is the end, or the bad place.
+/// Reports the last result of the stream: the end or the lexical error.
 fn tell_last_item(told: &mut Told, last: &Result<Option<Token<'_>>, Bad<'_>>) {
     match last {
         Ok(_) => told.tell("end"),
@@ -44,14 +44,14 @@ fn tell_last_item(told: &mut Told, last: &Result<Option<Token<'_>>, Bad<'_>>) {
     }
 }
 
-/// Tells how often the stream was asked when it has answered the last item once more.
+/// Reports how often the stream tokenized, after the last result was requested twice.
 fn tell_cuts(told: &mut Told, stream: &TokenStream<'_>) {
     told.tell(", ");
     told.show(&stream.cuts());
     told.tell(" cuts");
 }
 
-/// Tells a line for each item of a text: its position, its offset, how many brackets are open before it, and the item.
+/// Reports a line for each token and for the end: position, offset, brackets that are open before it, and token.
 pub fn tell_items(told: &mut Told, source: &str) {
     if source.len() > usize::MAX / 16 {
         return;
@@ -73,7 +73,7 @@ pub fn tell_items(told: &mut Told, source: &str) {
     }
 }
 
-/// Tells the value of what stands between a string's quotes.
+/// Reports the value of the string with this body between its quotes.
 pub fn tell_quoted(told: &mut Told, body: &str) {
     let Ok(text) = format!(in told.alloc; "\"{body}\"") else {
         told.cut_short();
@@ -82,7 +82,7 @@ pub fn tell_quoted(told: &mut Told, body: &str) {
     told.tell_answer(&unquote_string(told.alloc, text.as_str()));
 }
 
-/// Tells the value of a block string's content.
+/// Reports the value of the block string with this content.
 pub fn tell_block(told: &mut Told, content: &str) {
     let Ok(text) = format!(in told.alloc; "\"\"\"{content}\"\"\"") else {
         told.cut_short();
@@ -91,7 +91,7 @@ pub fn tell_block(told: &mut Told, content: &str) {
     told.tell_made(&unquote_block_string(told.alloc, text.as_str()));
 }
 
-/// Tells a float literal; its clone is equal.
+/// Reports a float literal. Its clone must be equal.
 fn tell_literal(told: &mut Told, literal: &FloatLiteral) {
     told.tell(literal.as_str());
     match literal.clone() {
@@ -101,7 +101,7 @@ fn tell_literal(told: &mut Told, literal: &FloatLiteral) {
     }
 }
 
-/// Tells the float literal that a text is; a text that is none is handed back.
+/// Reports the float literal with this spelling. Any other string is returned as the error.
 pub fn tell_float(told: &mut Told, text: &str) {
     let Ok(text) = String::from_str(told.alloc, text) else {
         told.cut_short();

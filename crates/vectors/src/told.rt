@@ -1,9 +1,9 @@
-//! What is told of a text.
+//! The report on an input.
 use std::alloc::{AllocError, Global};
 use std::fmt;
 
-/// What is told of a text, whether it is told that the text is refused, whether something about it is wrong that no case
-/// wants, and whether an allocation failed on the way.
+/// The report on an input: a text, and whether the input is rejected. The report is wrong if a check fails that every
+/// case makes. It is cut short if an allocation failed.
 #[derive(Drop)]
 pub struct Told {
     pub alloc: Global,
@@ -14,7 +14,7 @@ pub struct Told {
 }
 
 impl Told {
-    /// Nothing yet.
+    /// An empty report.
     pub fn new(alloc: Global) -> Self {
         Told {
             alloc,
@@ -37,14 +37,14 @@ impl Told {
         self.is_wrong
     }
 
-    /// Tells a text.
+    /// Appends a string.
     pub fn tell(&mut self, text: &str) {
         if self.text.push_str(text).is_err() {
             self.is_cut_short = true;
         }
     }
 
-    /// Tells a text that was made, if there was memory for it.
+    /// Appends a string that was made. If that failed, the report is cut short.
     pub fn tell_made(&mut self, made: &Result<String, AllocError>) {
         match made {
             Ok(text) => self.tell(text.as_str()),
@@ -52,7 +52,7 @@ impl Told {
         }
     }
 
-    /// Tells a text that was asked for, or that the text is refused.
+    /// Appends an output, or reports that the input is rejected.
     pub fn tell_answer<E: fmt::Display>(&mut self, answer: &Result<String, E>) {
         match answer {
             Ok(text) => self.tell(text.as_str()),
@@ -60,39 +60,39 @@ impl Told {
         }
     }
 
-    /// Tells what `Display` shows of a part.
+    /// Appends what `Display` shows of a part.
     pub fn show<D: fmt::Display>(&mut self, part: &D) {
         self.tell_made(&part.to_string(self.alloc));
     }
 
-    /// The same on a line of its own.
+    /// The same, and the end of the line.
     pub fn show_line<D: fmt::Display>(&mut self, part: &D) {
         self.show(part);
         self.tell("\n");
     }
 
-    /// Tells what `Debug` shows of a part.
+    /// Appends what `Debug` shows of a part.
     pub fn show_debug<D: fmt::Debug>(&mut self, part: &D) {
         self.tell_made(&format!(in self.alloc; "{part:?}"));
     }
 
-    /// Tells that the text is refused, with what `Display` shows of the error.
+    /// Reports that the input is rejected, with what `Display` shows of the error.
     pub fn refuse<E: fmt::Display>(&mut self, error: &E) {
         self.is_refusal = true;
         self.show(error);
     }
 
-    /// Tells no more than this, since an allocation failed.
+    /// Marks the report as cut short, since an allocation failed.
     pub fn cut_short(&mut self) {
         self.is_cut_short = true;
     }
 
-    /// Says that something is wrong.
+    /// Marks the report as wrong.
     pub fn find_wrong(&mut self) {
         self.is_wrong = true;
     }
 
-    /// Is wrong or cut short where something else that is asked on the way is so.
+    /// Marks the report as wrong or cut short if another report is.
     pub fn follow(&mut self, other: &Told) {
         self.is_wrong |= other.is_wrong;
         if other.is_cut_short() {
@@ -100,7 +100,7 @@ impl Told {
         }
     }
 
-    /// The same, and wrong where the other is told in another way.
+    /// The same. Also marks the report as wrong if the other report differs.
     pub fn compare(&mut self, other: &Told) {
         self.follow(other);
         if self.text != other.text || self.is_refusal != other.is_refusal {
@@ -108,7 +108,7 @@ impl Told {
         }
     }
 
-    /// Whether an allocation failed on the way, or in the call whose error is told.
+    /// Whether an allocation failed, also in the call whose error is reported.
     pub fn is_cut_short(&self) -> bool {
         self.is_cut_short
             || self.is_refusal

@@ -1,4 +1,4 @@
-//! How often a run asks its devices.
+//! How often a run calls its devices.
 use crate::command::Command;
 use crate::counted::Counted;
 use crate::engine::run;
@@ -33,13 +33,13 @@ fn a_long_input_takes_few_reads(rt: HostRuntime) -> Result<(), Fail> {
     assert!(rt; answer.is_ok());
     assert_eq!(rt; sink.taken.as_slice(), b"{\n  a\n}\n".as_slice());
     assert!(rt; source.left.is_empty());
-    // four reads at most, and the end
+    // at most four reads, and the end
     assert!(rt; source.calls <= 5, "{} reads", source.calls);
     assert_eq!(rt; (sink.calls, sink.flushed), (1, 1));
     Ok(())
 }
 
-/// Each call on a device that is counted is one call on the device, whether it fails or not.
+/// Each call on a counted device is one call on the device itself, whether it fails or not.
 #[test]
 fn a_call_is_handed_on_once(rt: HostRuntime) -> Result<(), Fail> {
     for (flushes, faults) in [(true, 0), (false, 1)] {

@@ -3,7 +3,7 @@ use std::alloc::Global;
 use std::io;
 use std::io::{ErrorKind, Read, Write};
 
-/// Gives its text, at most `step` bytes a call, and fails at the call numbered `failing`.
+/// Returns its bytes, at most `step` in a call, and fails at the call numbered `failing`.
 #[derive(Drop)]
 pub struct Source<'a> {
     pub left: &'a [u8],
@@ -40,8 +40,8 @@ impl<'a> Read for Source<'a> {
     }
 }
 
-/// Takes at most `step` bytes a call, and fails at the call numbered `failing`, or where it is flushed. `flushed` counts
-/// the flushes, failed ones too.
+/// Takes at most `step` bytes in a call. Fails at the call numbered `failing`, and at each flush unless `flushes`.
+/// `flushed` counts the flushes, also failed ones.
 #[derive(Drop)]
 pub struct Sink {
     pub taken: Vec<u8>,

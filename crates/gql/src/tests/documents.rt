@@ -1,9 +1,9 @@
-//! Texts that are laid out or minified, and texts that are refused.
+//! Inputs that are formatted or minified, and inputs that are rejected.
 use crate::tests::devices::{Sink, Source};
 use crate::tests::{assert_ended, run_over};
 use std::test::Fail;
 
-/// Words, a text, what is written, what is told, and the status.
+/// Arguments, input, output, message and status.
 const RUNS: [(&str, &str, &str, &str, u8); 25] = [
     ("query", "{ a } { b }", "{\n  a\n}\n\n{\n  b\n}\n", "", 0),
     (
@@ -127,7 +127,7 @@ const RUNS: [(&str, &str, &str, &str, u8); 25] = [
         0,
     ),
     ("first", "{ a }  # x\n", "{\n  a\n}\n", "", 0),
-    // a comment between two definitions goes with neither
+    // a comment between two definitions is in neither part of the output
     ("first", "{ a } # c\n{ b }", "{\n  a\n}\n{ b }", "", 0),
     ("first", "{ a } ;x", "{\n  a\n}\n;x", "", 0),
     (

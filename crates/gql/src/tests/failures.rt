@@ -1,4 +1,4 @@
-//! Input that is no text, and devices that fail.
+//! Input that is not UTF-8, and devices that fail.
 use crate::error::RunError;
 use crate::tests::devices::{Sink, Source};
 use crate::tests::{assert_ended, run_over};
@@ -46,8 +46,8 @@ fn a_slow_reader_and_a_slow_writer_give_the_whole_output(rt: HostRuntime) -> Res
     assert_ended(&rt, alloc, &ran, OUTPUT.as_bytes(), "", 0)
 }
 
-/// A write that fails leaves a part, one that takes nothing fails, and so does a flush. One that is interrupted is not
-/// tried again.
+/// A failed write leaves a prefix of the output. A write that takes 0 bytes and a flush that fails are also errors.
+/// An interrupted write or flush is not repeated.
 #[test]
 fn a_write_that_fails_ends_the_run(rt: HostRuntime) -> Result<(), Fail> {
     let alloc = rt.alloc();
@@ -58,7 +58,7 @@ fn a_write_that_fails_ends_the_run(rt: HostRuntime) -> Result<(), Fail> {
         ("query", "{ a }", 0, 0, true, broken, ""),
         ("query", "{ a }", 4096, 0, false, broken, OUTPUT),
         ("query", "{ a }", 4096, 0, false, interrupted, OUTPUT),
-        // in the rest
+        // a write of the rest fails
         ("first", "{ a } ;x", 1, 10, true, broken, "{\n  a\n}\n;"),
     ] {
         let mut sink = Sink::new(alloc);

@@ -1,4 +1,4 @@
-//! What `Debug` shows of commands and errors, and the messages of errors.
+//! `Debug` of commands and errors, and the messages of errors.
 use crate::command::Command;
 use crate::error::RunError;
 use graphql_parser::query::parse_query;

@@ -1,4 +1,4 @@
-//! Right and wrong words.
+//! Valid and invalid arguments.
 use crate::command::{Command, USAGE, read_words};
 use crate::error::status;
 use crate::tests::said;

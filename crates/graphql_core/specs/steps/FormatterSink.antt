@@ -1,4 +1,4 @@
--- Two texts written to a formatter one after the other, whatever options it has.
+-- Two strings written to a formatter one after the other, whatever options the formatter has.
 use Rattle.std.specs.Prelude.{◌≡◌, List, [], ◌∷◌, ◌++◌, ℕ, refl}
 use Rattle.std.specs.declared.fmt.Formatter.{Formatter}
 use Rattle.std.specs.Fmt.{HasWrittenStyled, IsFlush, WritesInCalls}

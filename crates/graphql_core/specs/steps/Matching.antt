@@ -1,11 +1,11 @@
--- One token at a time: a match takes exactly one token, or leaves the item where it is.
+-- One token at a time: a match takes exactly one token, or leaves the source as it is.
 use Rattle.std.specs.Prelude.{◌≡◌, Bool, true, false, [], ◌∷◌, Result, Ok, Err}
-use Rattle.graphql_grammar.specs.{Token, Class, matches, peek, sees}
+use Rattle.graphql_core.specs.grammar.{Token, Class, matches, peek, sees}
 use Rattle.graphql_core.specs.declared.helpers.read_error.ReadError.{ReadError}
 use Rattle.graphql_core.specs.declared.helpers.read_error.ReadError.TheVariants.{Memory, Item}
-use Rattle.graphql_core.specs.Source.{Items, kept}
+use Rattle.graphql_core.specs.sources.{Items, kept}
 
--- the next item is a token of the class
+-- the next token is of the class
 abbrev pub sees_class : Class → Items → Bool
 sees_class c i = sees (c ∷ []) (peek i.tokens)
 
@@ -15,8 +15,8 @@ pub record TakesToken (c : Class) (old new : Items) (t : Token) : Type 0 where
   pub tokens : old.tokens ≡ t ∷ new.tokens
   pub kept : kept new ≡ kept old
 
--- A token of the class is taken, of which P holds with what is answered; or the item stays, as an allocation failed, or as it is
--- none of the class.
+-- A token of the class is taken, of which `P` holds with the returned value. Or nothing is taken:
+-- out of memory, or the next token is not of the class.
 abbrev pub TakesOne : {A : Type 0} → Class → Items → Items → (A → Token → Type 0) → Result A ReadError → Type 0
 TakesOne c old new P (Ok v) = (t : Token) × TakesToken c old new t × P v t
 TakesOne c old new P (Err Memory) = new ≡ old

@@ -1,11 +1,13 @@
 -- The punctuators (GraphQL, October 2021, section 2.1.8), and the byte that each begins with.
 use Rattle.std.specs.Prelude.{ℕ, List, [], ◌∷◌, codes}
-use Rattle.graphql_grammar.specs.{Token, Class, Spelled}
+use Rattle.graphql_core.specs.grammar.{Token, Class, Spelled}
 use Rattle.graphql_core.specs.declared.helpers.punctuator.Punctuator.{Punctuator}
-use Rattle.graphql_core.specs.declared.helpers.punctuator.Punctuator.TheVariants.{Bang, Dollar, Ampersand, OpenParen, CloseParen, Spread, Colon, Equals, At}
-use Rattle.graphql_core.specs.declared.helpers.punctuator.Punctuator.TheVariants.{OpenBracket, CloseBracket, OpenBrace, Pipe, CloseBrace}
-use Rattle.graphql_core.specs.Causes.{kind_number}
-use Rattle.graphql_lexer.specs.declared.tokenizer.token.Kind.TheVariants as kinds
+use Rattle.graphql_core.specs.declared.helpers.punctuator.Punctuator.TheVariants.{Bang, Dollar, Ampersand, OpenParen}
+use Rattle.graphql_core.specs.declared.helpers.punctuator.Punctuator.TheVariants.{CloseParen, Spread, Colon, Equals}
+use Rattle.graphql_core.specs.declared.helpers.punctuator.Punctuator.TheVariants.{At, OpenBracket, CloseBracket}
+use Rattle.graphql_core.specs.declared.helpers.punctuator.Punctuator.TheVariants.{OpenBrace, Pipe, CloseBrace}
+use Rattle.graphql_core.specs.sources.{kind_number}
+use Rattle.graphql_core.specs.declared.tokenizer.token.Kind.TheVariants as kinds
 
 abbrev pub spelling_of : Punctuator → List ℕ
 spelling_of Bang = codes "!"
@@ -27,12 +29,12 @@ spelling_of CloseBrace = codes "}"
 abbrev pub class_of : Punctuator → Class
 class_of m = Spelled (kind_number kinds.Punctuator) (spelling_of m)
 
--- the first byte of a spelling, 0 where there is none
+-- the first byte of a spelling, 0 if there is none
 abbrev pub first_byte : List ℕ → ℕ
 first_byte [] = 0
 first_byte (b ∷ bs) = b
 
--- the first byte of the first token, 0 where there is none
+-- the first byte of the first token, 0 if there is none
 abbrev pub front_byte : List Token → ℕ
 front_byte [] = 0
 front_byte (t ∷ ts) = first_byte t.spelling

@@ -1,18 +1,18 @@
--- The fault for which a reader stopped, by the item at which its source stands.
+-- The error for which a reader stopped, at the next item of its source.
 use Rattle.std.specs.Prelude.{◌≡◌}
 use Rattle.graphql_core.specs.declared.helpers.read_error.ReadError.{ReadError}
-use Rattle.graphql_core.specs.declared.helpers.read_error.ReadError.TheVariants.{Memory, Item, Integer, Float, Escape, Location}
-use Rattle.graphql_core.specs.Causes.{CauseText, int_out_of_range, malformed_float, bad_escape, unknown_location}
-use Rattle.graphql_core.specs.Source.{Items, FaultText, place_next}
-use Rattle.graphql_core.specs.Refusal.{Refusal, IsFaultOf, at, no_memory}
+use Rattle.graphql_core.specs.declared.helpers.read_error.ReadError.TheVariants.{Memory, Item, Integer, Float}
+use Rattle.graphql_core.specs.declared.helpers.read_error.ReadError.TheVariants.{Escape, Location}
+use Rattle.graphql_core.specs.sources.{CauseText, int_out_of_range, malformed_float, bad_escape, unknown_location}
+use Rattle.graphql_core.specs.sources.{Items, FaultText, place_next, Refusal, IsNextFault, at, no_memory}
 
--- this cause, where the next item begins
+-- an error with this cause, at the place of the next item
 abbrev pub here : CauseText → Items → FaultText
 here k i = record { cause = k; place = place_next i }
 
 abbrev pub IsFaultFor : ReadError → Items → Refusal → Type 0
 IsFaultFor Memory i r = r ≡ no_memory
-IsFaultFor Item i r = IsFaultOf i r
+IsFaultFor Item i r = IsNextFault i r
 IsFaultFor Integer i r = r ≡ at (here int_out_of_range i)
 IsFaultFor Float i r = r ≡ at (here malformed_float i)
 IsFaultFor Escape i r = r ≡ at (here bad_escape i)

@@ -1,10 +1,10 @@
-//! Why a text is refused.
-use graphql_lexer::tokenizer::Kind;
+//! Causes of parse errors.
+use crate::tokenizer::Kind;
 use std::fmt;
 use thiserror::Error;
 
-/// A character as a message shows it: itself from U+0020 to U+007E, with a backslash before an
-/// apostrophe or a backslash, else its code as `\u{..}` in lower hexadecimal digits.
+/// A character as messages show it. From U+0020 to U+007E it is itself, with a backslash before an apostrophe or a
+/// backslash. Any other character is `\u{..}` with its code in lower-case hexadecimal digits.
 #[derive(Clone, Copy)]
 struct Quoted(char);
 
@@ -23,22 +23,22 @@ impl fmt::Display for Quoted {
     }
 }
 
-/// Why no token stands at a place.
+/// Why a token is invalid.
 #[derive(Debug, PartialEq, Drop, Error)]
 pub enum BadToken {
     /// A character that begins no token.
     #[error("unexpected character '{}'", Quoted(*.0))]
     Character(char),
-    /// A dot without two more after it.
+    /// A dot that is not followed by two more.
     #[error("bare dot '.' is not supported, only \"...\"")]
     BareDot,
-    /// A run that begins with a minus sign or a digit, has no `.`, `e` or `E`, and is no integer.
+    /// A number that is no integer and has no `.`, `e` or `E`: its spelling, which begins with a minus sign or a digit.
     #[error("unsupported integer \"{0}\"")]
     Integer(String),
-    /// A run that begins with a minus sign or a digit, has a `.`, `e` or `E` somewhere, and is no float.
+    /// A number that is no float and has a `.`, `e` or `E`: its spelling, which begins with a minus sign or a digit.
     #[error("unsupported float \"{0}\"")]
     Float(String),
-    /// A string without its closing quote in its line.
+    /// A string without a closing quote in the same line.
     #[error("unterminated string value")]
     UnterminatedString,
     /// A block string without its closing quotes.
@@ -46,13 +46,14 @@ pub enum BadToken {
     UnterminatedBlockString,
 }
 
-/// Why a text is refused.
+/// Why the input is rejected. Unless a variant says otherwise, the error is at the first wrong token, or at the end
+/// of input.
 #[derive(Debug, PartialEq, Drop, Error)]
 pub enum Cause {
-    /// No token stands there.
+    /// An invalid token.
     #[error("Unexpected {0}")]
     BadToken(BadToken),
-    /// An unexpected token: no text of the language goes on with it.
+    /// A token that the grammar does not allow after the tokens before it.
     #[error("Unexpected `{text}[{kind:?}]`")]
     UnexpectedToken {
         /// The token's kind.
@@ -60,37 +61,37 @@ pub enum Cause {
         /// The token's spelling.
         text: String,
     },
-    /// An unexpected end: no text of the language ends there.
+    /// The end of the input, where the grammar requires another token.
     #[error("Unexpected end of input")]
     UnexpectedEnd,
-    /// An opening bracket where `MAX_DEPTH` are already open.
+    /// An opening bracket where `MAX_DEPTH` brackets are already open.
     #[error("Recursion limit exceeded")]
     TooDeep,
-    /// A whole number that does not fit an `i64`.
+    /// An integer that does not fit an `i64`.
     #[error("number too large")]
     IntOutOfRange,
-    /// An exponent without a digit.
+    /// A float whose exponent has no digit.
     #[error("invalid float literal")]
     MalformedFloat,
-    /// A string with an escape that means no character.
+    /// A string with an escape that denotes no character (GraphQL, October 2021, section 2.9.4).
     #[error("Unexpected bad escape in string")]
     BadEscape,
-    /// A name that is no directive location.
+    /// A name that is no directive location (3.13).
     #[error("invalid directive location")]
     UnknownLocation,
-    /// An operation that a schema definition names twice.
+    /// An operation that a schema definition names twice (3.3). The position is that of the keyword `schema`.
     #[error("Unexpected duplicate `{0}` operation")]
     DuplicateOperation(String),
-    /// A name in a schema definition that is no operation.
+    /// A name in a schema definition that is no operation (3.3). The position is that of the keyword `schema`.
     #[error("Unexpected `{0}[Name]`")]
     UnknownOperation(String),
-    /// An extension that adds nothing.
+    /// An extension that adds nothing. The position is that of the keyword after `extend`.
     #[error("Unexpected empty extension")]
     EmptyExtension,
-    /// A text of more than `MAX_LENGTH` bytes.
+    /// An input of more than `MAX_LENGTH` bytes. The position is 1:1.
     #[error("text too long")]
     TextTooLong,
-    /// An allocation failed.
+    /// An allocation failed. There is no position.
     #[error("out of memory")]
     OutOfMemory,
 }

@@ -1,29 +1,33 @@
-//! Why a text is refused, and where.
+//! Parse errors: a cause and a position.
 ghost use Rattle.std.specs.Prelude.{◌≡◌};
-ghost use Rattle.graphql_core.specs.{cause_text, place_of, at, no_memory, too_long};
+ghost use Rattle.graphql_core.specs.sources.Causes.{cause_text};
+ghost use Rattle.graphql_core.specs.sources.Source.{place_of};
+ghost use Rattle.graphql_core.specs.sources.Refusals.{at, no_memory, too_long};
 
 use crate::common::cause::Cause;
-use graphql_lexer::position::Pos;
+use crate::position::Pos;
 use std::alloc::AllocError;
 use std::fmt;
 use std::marker::Model;
 
-/// The most bytes that a text may have: 2 ^ 60 - 1. A longer one is refused before any allocation.
+/// The greatest length of an input in bytes: 2 ^ 60 - 1. A longer input is rejected with `TextTooLong` before any
+/// allocation.
 pub const MAX_LENGTH: usize = usize::MAX / 16;
 
-/// Why a text is refused: a cause, and the position at which it stands; none where an allocation failed.
+/// A parse error: the cause and the position of the first error.
 #[derive(Debug, Drop)]
 pub struct Fault {
-    /// Why the text is refused.
+    /// Why the input is rejected.
     pub cause: Cause,
-    /// Where the cause stands.
+    /// The position of the error, or `None` if an allocation failed.
     pub position: Option<Pos>,
 }
 
 impl Model for Fault {
     ghost use Rattle.std.specs.Prelude.{option_map};
-    ghost use Rattle.graphql_core.specs.{cause_text, place_of};
-    ghost use Rattle.graphql_core.specs.Refusal.{Refusal};
+    ghost use Rattle.graphql_core.specs.sources.Causes.{cause_text};
+    ghost use Rattle.graphql_core.specs.sources.Source.{place_of};
+    ghost use Rattle.graphql_core.specs.sources.Refusals.{Refusal};
 
     ghost Value = { Refusal };
 
@@ -31,7 +35,7 @@ impl Model for Fault {
 }
 
 impl Fault {
-    /// A cause, and where it stands.
+    /// Returns the error with this cause at this position.
     pub fn at(cause: Cause, position: Pos) -> Self
         ensures { result ≡ at (record { cause = cause_text cause; place = place_of position }) }
     {
@@ -41,7 +45,7 @@ impl Fault {
         }
     }
 
-    /// An allocation failed.
+    /// Returns `OutOfMemory`, without a position.
     pub fn out_of_memory() -> Self
         ensures { result ≡ no_memory }
     {
@@ -51,7 +55,7 @@ impl Fault {
         }
     }
 
-    /// The text has more than `usize::MAX / 16` bytes.
+    /// Returns `TextTooLong` at 1:1.
     pub fn text_too_long() -> Self
         ensures { result ≡ too_long }
     {
@@ -67,7 +71,8 @@ impl From<AllocError> for Fault {
     }
 }
 
-/// As the message of a parse error ends: the position in a line of its own, and the cause in the next; where an allocation failed, the cause alone.
+/// The end of a parse error's message: a line with the position and a line with the cause. Without a position it is
+/// the cause alone.
 impl fmt::Display for Fault {
     fn fmt<W: fmt::Write>(&self, f: &mut fmt::Formatter<W>) -> fmt::Result {
         let cause = &self.cause;

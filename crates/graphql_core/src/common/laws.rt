@@ -1,9 +1,9 @@
 //! Laws of the values of strings.
 ghost use Rattle.std.specs.Prelude.{◌≡◌, ℕ, List};
 ghost use Rattle.graphql_core.specs.{HasValue};
-ghost use Rattle.graphql_core.specs.ValueExamples as example;
+ghost use Rattle.graphql_core.specs.strings.StringExamples as example;
 
-/// What stands between a string's quotes has at most one value.
+/// The content of a string in quotes has at most one value.
 pub fn one_value()
     ensures { (body value other : List ℕ) → HasValue body value → HasValue body other → value ≡ other }
 {}

@@ -1,14 +1,15 @@
-//! Numbers, as documents have them.
+//! Values of numbers.
 ghost use Rattle.std.specs.Prelude.{◌≡◌, ◌-◌, ℕ, List, length, get_or, Decides, OkIff, IfErr, Some, nat_eq, string_bytes};
 ghost use Rattle.std.specs.Cmp.{partial_equiv_from_equiv};
-ghost use Rattle.std.specs.Cmp.Lexicographic.{nat_list_eq_equiv};
-ghost use Rattle.graphql_core.specs.{is_ascii_digit, pointwise, IsFloatLiteral};
+ghost use Rattle.std.specs.Cmp.Lexicographic.{nat_list_eq_equiv, pointwise};
+ghost use Rattle.std.specs.Char.{is_ascii_digit};
+ghost use Rattle.graphql_core.specs.strings.Literals.{IsFloatLiteral};
 
-use graphql_lexer::tokenizer::number::is_float;
+use crate::tokenizer::number::is_float;
 use std::alloc::AllocError;
 use std::marker::Model;
 
-/// Whether the last byte is a digit. A float that ends in anything else has an exponent without a digit.
+/// Whether the last byte is a digit. A float that does not end in a digit has an exponent without one.
 fn ends_in_digit(bytes: &[u8]) -> bool
     ensures { result ≡ is_ascii_digit (get_or bytes.now (length bytes.now - 1) 0) }
 {
@@ -24,7 +25,7 @@ fn is_float_literal(bytes: &[u8]) -> bool
     is_float(bytes) && ends_in_digit(bytes)
 }
 
-/// A number with a fraction or an exponent, as it is spelled.
+/// The spelling of a number with a fraction or an exponent (GraphQL, October 2021, section 2.9.2).
 #[derive(Debug, Drop)]
 pub struct FloatLiteral {
     text: String,
@@ -39,10 +40,10 @@ impl Model for FloatLiteral {
 }
 
 impl FloatLiteral {
-    /// The literal with this text, or the text again where it is none.
+    /// Returns the literal with this spelling. If it is no float literal, the error is the string itself.
     pub fn new(text: String) -> Result<FloatLiteral, String>
         ensures accepted { OkIff result (IsFloatLiteral (string_bytes text)) (string_bytes text) }
-        ensures refused { IfErr result (λ t. t ≡ text) }
+        ensures rejected { IfErr result (λ t. t ≡ text) }
     {
         if is_float_literal(text.as_bytes()) {
             Ok(FloatLiteral { text })
@@ -51,7 +52,7 @@ impl FloatLiteral {
         }
     }
 
-    /// The text.
+    /// Returns the spelling.
     pub fn as_str(&self) -> &str
         ensures text { result.now ≡ self.now }
         ensures literal { IsFloatLiteral self.now }
@@ -79,7 +80,7 @@ impl PartialEq for FloatLiteral {
     }
 }
 
-/// A whole number.
+/// An integer (GraphQL, October 2021, section 2.9.1).
 #[derive(Clone, Copy, Debug, PartialEq)]
 pub struct Number(i64);
 
@@ -94,14 +95,14 @@ impl Model for Number {
 }
 
 impl Number {
-    /// The number of this value.
+    /// Returns the number with this value.
     pub fn from_i64(value: i64) -> Number
         ensures { result ≡ value }
     {
         Number(value)
     }
 
-    /// The value, which always fits.
+    /// Returns the value; never `None`.
     pub fn as_i64(&self) -> Option<i64>
         ensures { result ≡ Some self.now }
     {

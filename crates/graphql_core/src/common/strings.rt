@@ -1,4 +1,4 @@
-//! The values of strings, read off their spellings.
+//! The values of string tokens.
 
 mod block;
 mod error;

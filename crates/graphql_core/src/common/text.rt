@@ -1,25 +1,25 @@
-//! What trees keep their names as.
+//! Text types: how trees store their names.
 ghost use Rattle.std.specs.Prelude.{◌≡◌, ℕ, List, IfOk, IsOk, nat_eq, refl, string_bytes};
 ghost use Rattle.std.specs.Cow.{IsBorrowedStr, cow_str_bytes};
 ghost use Rattle.std.specs.Ordering.{nat_cmp};
 ghost use Rattle.std.proofs.Common.{rules};
-ghost use Rattle.graphql_core.specs.{pointwise, slice_cmp};
+ghost use Rattle.std.specs.Cmp.Lexicographic.{pointwise, slice_cmp};
 
 use std::alloc::{AllocError, Global};
 use std::borrow::CowStr;
 use std::fmt::Debug;
 
-/// What a tree keeps each of its names as.
+/// The type in which a tree stores its names.
 ///
-/// Equality, order and clones of names are those of the bytes of their texts.
+/// Names compare by the bytes of their spellings. A clone keeps these bytes.
 pub trait Names: Drop {
     /// A name.
     type Value: Eq + Ord + Debug + Clone + Drop;
 
-    // the bytes of a name's text
+    // the bytes of a name
     ghost bytes: { Self.Value → List ℕ };
 
-    /// The text of a name.
+    /// Returns the name as a string.
     fn view<'v>(value: &'v Self::Value) -> &'v str
         ensures { result.now ≡ bytes value.now };
 
@@ -30,9 +30,9 @@ pub trait Names: Drop {
     ghost clone_keeps: { (x y : Self.Value) → Self.Value.is_clone x y → bytes y ≡ bytes x };
 }
 
-/// A text type: names that are made of a text with the lifetime `'a`.
+/// A text type: how to make names from the spellings in a source with the lifetime `'a`.
 pub trait Text<'a>: Names {
-    /// The name with this text, unless an allocation fails.
+    /// Returns the name with this spelling. An error means that an allocation failed.
     fn make(alloc: Global, text: &'a str) -> Result<<Self as Names>::Value, AllocError>
         ensures { IfOk result (λ v. Self.Names.bytes v ≡ text.now) };
 }
@@ -53,7 +53,7 @@ impl<'a> Names for &'a str {
     }
 }
 
-/// A name borrows its text, so `make` allocates nothing and always succeeds.
+/// A name borrows its spelling, so `make` allocates nothing and always succeeds.
 impl<'a> Text<'a> for &'a str {
     fn make(_alloc: Global, text: &'a str) -> Result<&'a str, AllocError>
         ensures text { IfOk result (λ v. v.now ≡ text.now) }
@@ -79,7 +79,7 @@ impl Names for String {
     }
 }
 
-/// A name owns a copy of its text, so `make` succeeds unless an allocation fails.
+/// A name owns a copy of its spelling. `make` fails only if an allocation fails.
 impl<'a> Text<'a> for String {
     fn make(alloc: Global, text: &'a str) -> Result<String, AllocError> {
         String::from_str(alloc, text)
@@ -102,7 +102,7 @@ impl<'a> Names for CowStr<'a> {
     }
 }
 
-/// A name that is made borrows its text, so `make` allocates nothing and always succeeds.
+/// `make` borrows the spelling, so it allocates nothing and always succeeds.
 impl<'a> Text<'a> for CowStr<'a> {
     fn make(_alloc: Global, text: &'a str) -> Result<CowStr<'a>, AllocError>
         ensures text { IfOk result (λ v. cow_str_bytes v ≡ text.now) }

@@ -1,22 +1,24 @@
-//! A text that grows at its end, in a vector whose first bytes count. What lies after them is initialized ahead, so that
-//! a short text is stored with one test.
+//! An output buffer: a vector whose first `len` bytes are the output. The bytes after them are initialized ahead, so
+//! that appending a short string takes one test.
 ghost use Rattle.std.specs.Prelude.{◌≡◌, ◌≤◌, [], ◌++◌, length, take, vec_len, string_bytes, IfOk, OnOk, OnErr};
-ghost use Rattle.graphql_core.specs.{IsUtf8, space_if, list_nil, list_more};
+ghost use Rattle.std.specs.Str.{IsUtf8};
+ghost use Rattle.graphql_core.specs.sources.Minified.{space_if};
+ghost use Rattle.graphql_core.specs.steps.StringSink.{list_nil, list_more};
 
 use crate::format::place::{LOAD, copy_prefix, copy_space, copy_text};
 use crate::format::sink::Sink;
 use std::alloc::{AllocError, Global};
 use std::marker::Model;
 
-/// The least room of a buffer that has any.
+/// The least length to which the vector grows, except within a smaller capacity.
 const LEAST_ROOM: usize = 512;
 
-/// The most bytes that are initialized ahead at once: so few that they are in the cache still when a text comes to them.
+/// The most bytes that are initialized ahead at once. They are few enough to be in the cache when output reaches them.
 const MOST_AHEAD: usize = 16384;
 
 static ZEROS: [u8; 1024] = [0; 1024];
 
-/// A text that grows at its end.
+/// An output buffer: UTF-8 that grows at its end.
 #[derive(Drop)]
 pub struct Buffer {
     bytes: Vec<u8>,
@@ -25,7 +27,7 @@ pub struct Buffer {
 
 impl Model for Buffer {
     ghost use Rattle.std.specs.Prelude.{ℕ, List, ◌≤◌, length, take};
-    ghost use Rattle.graphql_core.specs.{IsUtf8};
+    ghost use Rattle.std.specs.Str.{IsUtf8};
 
     ghost Value = { List ℕ };
 
@@ -34,8 +36,8 @@ impl Model for Buffer {
     ghost invariant = { λ s. (s.len ≤ length s.bytes.items) × IsUtf8 (take s.len s.bytes.items) };
 }
 
-/// Makes the bytes so many, and some more ahead: no more than there is room for, where the others fit in it, so that they
-/// are not moved before they must be.
+/// Grows the vector to at least `end` bytes, and initializes more bytes ahead. If `end` fits the capacity, the vector
+/// stays within the capacity, so that its bytes are not moved early.
 #[cold]
 #[inline(never)]
 fn make_room(bytes: &mut Vec<u8>, end: usize) -> Result<(), AllocError>
@@ -57,7 +59,7 @@ fn make_room(bytes: &mut Vec<u8>, end: usize) -> Result<(), AllocError>
     Ok(())
 }
 
-/// Puts some bytes after the first ones, and answers how many count then.
+/// Stores bytes after the first `len` ones. Returns the new length of the output.
 #[inline(always)]
 fn append_bytes(bytes: &mut Vec<u8>, len: usize, more: &[u8]) -> Result<usize, AllocError>
     requires { len ≤ vec_len bytes.old }
@@ -72,7 +74,7 @@ fn append_bytes(bytes: &mut Vec<u8>, len: usize, more: &[u8]) -> Result<usize, A
     Ok(copy_text(bytes.as_mut_slice(), len, more))
 }
 
-/// Puts a text after the first bytes, and answers how many count then.
+/// Stores a string after the first `len` bytes. Returns the new length of the output.
 #[inline(always)]
 fn append(bytes: &mut Vec<u8>, len: usize, text: &str) -> Result<usize, AllocError>
     requires { len ≤ vec_len bytes.old }
@@ -85,7 +87,7 @@ fn append(bytes: &mut Vec<u8>, len: usize, text: &str) -> Result<usize, AllocErr
     Ok(end)
 }
 
-/// Puts a space where one is asked for, and then some bytes, after the first ones; answers how many count then.
+/// Stores a space if `is_spaced`, then bytes, after the first `len` ones. Returns the new length of the output.
 #[cold]
 #[inline(never)]
 fn append_slow(
@@ -107,8 +109,8 @@ fn append_slow(
     Ok(copy_text(bytes.as_mut_slice(), start, more))
 }
 
-/// Puts some bytes, with which others begin, after the first ones, and a space before them where one is asked for; answers
-/// how many count then. A few bytes are one load and one store, where there are others and there is room.
+/// Does the same as `append_slow`. `from` must begin with `more`. If both `from` and the vector are long enough, up to
+/// `LOAD` bytes are one load and one store.
 #[inline(always)]
 fn append_spaced_bytes(
     bytes: &mut Vec<u8>,
@@ -130,8 +132,7 @@ fn append_spaced_bytes(
     Ok(copy_prefix(bytes.as_mut_slice(), start, more, from))
 }
 
-/// Puts a text, with which another begins, after the first bytes, and a space before it where one is asked for; answers how
-/// many count then.
+/// Does the same for strings: `from` must begin with `text`.
 #[inline(always)]
 fn append_spaced(
     bytes: &mut Vec<u8>,
@@ -152,7 +153,7 @@ fn append_spaced(
 }
 
 impl Buffer {
-    /// The empty text.
+    /// Returns the empty buffer.
     pub fn new(alloc: Global) -> Buffer
         ensures { result ≡ [] }
     {
@@ -162,16 +163,20 @@ impl Buffer {
         }
     }
 
-    /// The empty text, with room for so many bytes: as it grows to so many it is not moved. The room is not initialized yet.
+    /// Returns the empty buffer with capacity for this many bytes: output of up to that length is never moved.
+    ///
+    /// The capacity is not initialized. An error means that an allocation failed.
     pub fn with_capacity(alloc: Global, capacity: usize) -> Result<Buffer, AllocError>
         ensures { IfOk result (λ b. b ≡ []) }
     {
-        // The last short text is stored as `LOAD` bytes too, maybe after a space.
+        // The last short string is also stored as `LOAD` bytes, possibly after a space.
         let bytes = Vec::with_capacity(alloc, capacity.saturating_add(LOAD + 1))?;
         Ok(Buffer { bytes, len: 0 })
     }
 
-    /// Appends a text, with which another begins, and a space before it where one is asked for.
+    /// Appends a space if `is_spaced`, then `text`. `from` must begin with `text`.
+    ///
+    /// An error means that an allocation failed.
     #[inline(always)]
     pub fn push_spaced(&mut self, is_spaced: bool, text: &str, from: &str) -> Result<(), AllocError>
         requires { take (length text.now) from.now ≡ text.now }
@@ -181,7 +186,7 @@ impl Buffer {
         Ok(())
     }
 
-    /// The text.
+    /// Returns the output.
     pub fn into_string(self) -> String
         ensures { string_bytes result ≡ self }
     {

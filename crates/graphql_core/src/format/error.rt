@@ -1,11 +1,12 @@
-//! Why a document is not written.
+//! Why formatting fails.
 use std::alloc::AllocError;
 use thiserror::Error;
 
-/// Why a document is not written.
+/// Why formatting fails.
 #[derive(Debug, PartialEq, Drop, Error)]
 pub enum FormatError {
-    /// The levels that are open at once take more than `u32::MAX` spaces, whether a line stands in the last of them or not.
+    /// The levels that are open at once take more than `u32::MAX` spaces of indentation, even if no line is at the
+    /// deepest level.
     #[error("format error: indentation too wide")]
     TooWide,
     /// An allocation failed.

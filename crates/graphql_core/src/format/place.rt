@@ -1,4 +1,4 @@
-//! Writing a text at a place in a buffer that has room. A short text is two copies of a fixed size that overlap.
+//! Copying bytes into a buffer that is long enough. A short copy is two overlapping copies of a fixed size.
 ghost use Rattle.std.specs.Prelude.{◌≡◌, ◌+◌, ◌<◌, ◌≤◌, length, take};
 ghost use Rattle.graphql_core.specs.{space_if, Placed};
 
@@ -14,7 +14,7 @@ fn place_slice(buffer: &mut [u8], at: usize, text: &[u8]) -> usize
     end
 }
 
-/// The first `N` bytes are one load and one store.
+/// Copies the first `N` bytes: one load and one store.
 #[inline(always)]
 fn copy_front<const N: usize>(buffer: &mut [u8], at: usize, text: &[u8]) -> usize
     requires { (N ≤ length text.now) × (at + N ≤ length buffer.old) }
@@ -24,7 +24,7 @@ fn copy_front<const N: usize>(buffer: &mut [u8], at: usize, text: &[u8]) -> usiz
     at + N
 }
 
-/// The first and the last `N` bytes.
+/// Copies the first and the last `N` bytes, which together are all.
 #[inline(always)]
 fn copy_ends<const N: usize>(buffer: &mut [u8], at: usize, text: &[u8]) -> usize
     requires fits { at + length text.now ≤ length buffer.old }
@@ -36,7 +36,7 @@ fn copy_ends<const N: usize>(buffer: &mut [u8], at: usize, text: &[u8]) -> usize
     copy_front::<N>(buffer, at + last, &text[last..])
 }
 
-/// At most three bytes.
+/// Copies at most three bytes.
 #[inline(always)]
 fn copy_short(buffer: &mut [u8], at: usize, text: &[u8]) -> usize
     requires fits { at + length text.now ≤ length buffer.old }
@@ -53,7 +53,7 @@ fn copy_short(buffer: &mut [u8], at: usize, text: &[u8]) -> usize
     }
 }
 
-/// Writes a text at a place, and answers where it ends.
+/// Copies bytes to index `at`. Returns the index after the last of them.
 #[inline(always)]
 pub fn copy_text(buffer: &mut [u8], at: usize, text: &[u8]) -> usize
     requires { at + length text.now ≤ length buffer.old }
@@ -73,11 +73,11 @@ pub fn copy_text(buffer: &mut [u8], at: usize, text: &[u8]) -> usize
     }
 }
 
-/// The bytes that are stored at once where a text is followed by more than is wanted of it.
+/// How many bytes `copy_prefix` stores at once.
 pub const LOAD: usize = 16;
 
-/// Writes at a place a short text with which a longer one begins, and answers where it ends: one load from the longer one
-/// and one store, whatever the length.
+/// Copies at most `LOAD` bytes to index `at`: one load from `from`, which must begin with them, and one store. Returns
+/// the index after the last of them.
 #[inline(always)]
 pub fn copy_prefix(buffer: &mut [u8], at: usize, text: &[u8], from: &[u8]) -> usize
     requires fits { at + 16 ≤ length buffer.old }
@@ -89,7 +89,7 @@ pub fn copy_prefix(buffer: &mut [u8], at: usize, text: &[u8], from: &[u8]) -> us
     at + text.len()
 }
 
-/// Writes a space at a place where one is asked for, with no branch on that, and answers where it ends.
+/// Writes a space at index `at` if `is_spaced`, without a branch. Returns the index after it, else `at`.
 #[inline(always)]
 pub fn copy_space(buffer: &mut [u8], at: usize, is_spaced: bool) -> usize
     requires { at + 1 ≤ length buffer.old }

@@ -1,26 +1,27 @@
-//! What text is written to.
+//! What output is written to.
 ghost use Rattle.std.specs.Prelude.{◌≡◌, ℕ, List, [], ◌++◌, OnOk, string_bytes, length, take};
 ghost use Rattle.std.specs.Fmt.{HasWrittenStyled, IsFlush};
-ghost use Rattle.graphql_core.specs.{formatter_nil, formatter_more, string_nil, string_more};
+ghost use Rattle.graphql_core.specs.steps.FormatterSink.{formatter_nil, formatter_more};
+ghost use Rattle.graphql_core.specs.steps.StringSink.{string_nil, string_more};
 
 use std::alloc::AllocError;
 use std::fmt;
 
-/// A place that text is appended to: a `String`, or the formatter of a `Display`.
+/// What output is appended to: a `String`, a `Buffer`, or the formatter of a `Display`.
 pub trait Sink {
-    /// Why text is not appended: `AllocError` for a `String`, `fmt::Error` for a formatter.
+    /// Why appending fails: `AllocError` for a `String` or a `Buffer`, `fmt::Error` for a formatter.
     type Error: Drop;
 
-    /// The second is the first after the text was appended.
+    /// The second sink is the first one after these bytes were appended.
     ghost took: { Self → List ℕ → Self → Type 0 };
 
-    /// Appends a text, byte for byte. It errs where an allocation fails, or where the formatter's own writer errs;
-    /// what was appended by then is not said.
+    /// Appends a string. It returns an error if an allocation fails or the formatter's own writer returns one. What was
+    /// appended before an error is unspecified.
     fn push_str(&mut self, text: &str) -> Result<(), Self::Error>
         ensures { OnOk result (took self.old text.now self.new) };
 
-    /// Appends a text with which another begins, byte for byte. It errs as `push_str` does. The other's bytes past the text
-    /// may be read too, so that a short text is one load and one store.
+    /// Appends `text`, with the errors of `push_str`. `from` must begin with `text`. The rest of `from` can also be
+    /// read, so that a short string is one load and one store.
     fn push_start(&mut self, text: &str, from: &str) -> Result<(), Self::Error>
         requires { take (length text.now) from.now ≡ text.now }
         ensures { OnOk result (took self.old text.now self.new) }
@@ -47,7 +48,7 @@ impl Sink for String {
     }
 }
 
-/// A text is written as it is, whatever options the formatter has.
+/// Strings are written as they are, whatever options the formatter has.
 impl<W: fmt::Write> Sink for fmt::Formatter<W> {
     type Error = fmt::Error;
 

@@ -1,10 +1,10 @@
-//! The style of a text.
+//! The style of the output.
 ghost use Rattle.std.specs.Prelude.{◌≡◌, ℕ, ◌<◌, ◌^◌};
-ghost use Rattle.graphql_core.specs.{with_indent, with_multiline};
+ghost use Rattle.graphql_core.specs.layouts.Style.{with_indent, with_multiline};
 
 use std::marker::Model;
 
-/// How a document is laid out.
+/// How documents are formatted.
 #[derive(Clone, Debug, PartialEq, Drop)]
 pub struct Style {
     indent: u32,
@@ -13,7 +13,7 @@ pub struct Style {
 
 impl Model for Style {
     ghost use Rattle.std.specs.Prelude.{◌<◌, ◌^◌};
-    ghost use Rattle.graphql_core.specs.Style as spec;
+    ghost use Rattle.graphql_core.specs.layouts.Style as spec;
 
     ghost Value = { spec.Layout };
 
@@ -26,11 +26,11 @@ impl Model for Style {
 
 impl Default for Style {
     ghost use Rattle.std.specs.Prelude.{◌≡◌};
-    ghost use Rattle.graphql_core.specs.{default_style};
+    ghost use Rattle.graphql_core.specs.layouts.Style.{default_style};
 
     ghost is_default = { λ s. s ≡ default_style };
 
-    /// Two spaces a level, and arguments in one line.
+    /// Two spaces for each level, and arguments in one line.
     fn default() -> Self {
         Style {
             indent: 2,
@@ -40,7 +40,7 @@ impl Default for Style {
 }
 
 impl Style {
-    /// Sets the spaces by which each level is indented, and answers the same style.
+    /// Sets the number of spaces for each level, and returns the same style.
     pub fn indent(&mut self, indent: u32) -> &mut Self
         ensures same { result.ghost_name ≡ self.entry.ghost_name }
         ensures indent { result.now ≡ with_indent self.old indent }
@@ -49,7 +49,7 @@ impl Style {
         self
     }
 
-    /// Sets whether arguments, lists and objects take a line for each part, and answers the same style.
+    /// Sets whether arguments, lists and objects take a line for each part, and returns the same style.
     pub fn multiline_arguments(&mut self, multiline_arguments: bool) -> &mut Self
         ensures same { result.ghost_name ≡ self.entry.ghost_name }
         ensures multiline { result.now ≡ with_multiline self.old multiline_arguments }
@@ -58,14 +58,14 @@ impl Style {
         self
     }
 
-    /// The spaces by which each level is indented.
+    /// Returns the number of spaces for each level.
     pub fn indentation(&self) -> u32
         ensures { result ≡ self.now.indent }
     {
         self.indent
     }
 
-    /// Whether arguments, lists and objects take a line for each part.
+    /// Returns whether arguments, lists and objects take a line for each part.
     pub fn has_multiline_arguments(&self) -> bool
         ensures { result ≡ self.now.multiline }
     {

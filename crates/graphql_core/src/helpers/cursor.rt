@@ -1,47 +1,56 @@
-//! A token stream as a source.
+//! A `TokenSource` over a `TokenStream`.
 ghost use Rattle.std.specs.Prelude.{◌≡◌, ◌≤◌, ◌/◌, ℕ, List, [], IfOk, length};
-ghost use Rattle.graphql_lexer.specs.{AreItemsOfRest, bad_text};
-ghost use Rattle.graphql_core.specs.{HasItems, Item, Stream, no_token, cause_text, first_byte, front_byte, shown, Pos, IsFaultOf, Items, Wrong, after, held};
-ghost use Rattle.graphql_core.specs.{items_of_stream, items_of_text, then_items, token_of, only_last, place_of};
+ghost use Rattle.graphql_core.specs.lexical.StreamCalls.{AreItemsOfRest};
+ghost use Rattle.graphql_core.specs.lexical.BadTexts.{bad_text};
+ghost use Rattle.graphql_core.specs.lexical.Items.{HasItems, Item, Stream};
+ghost use Rattle.graphql_core.specs.sources.Causes.{no_token, cause_text};
+ghost use Rattle.graphql_core.specs.steps.Punctuators.{first_byte, front_byte};
+ghost use Rattle.graphql_core.specs.steps.Endings.{shown};
+ghost use Rattle.graphql_core.specs.declared.position.Pos.{Pos};
+ghost use Rattle.graphql_core.specs.sources.Refusals.{IsNextFault};
+ghost use Rattle.graphql_core.specs.sources.Source.{Items, LastIsError, after, held, items_of_stream, items_of_text};
+ghost use Rattle.graphql_core.specs.sources.Source.{then_items, token_of, only_last, place_of};
 
 use crate::common::{BadToken, Cause, Fault, Names, Text};
 use crate::helpers::punctuator::Punctuator;
 use crate::helpers::room::is_long;
 use crate::helpers::source::{Lexeme, TokenSource};
-use graphql_lexer::position::Pos;
-use graphql_lexer::tokenizer::{Bad, Kind, Token, TokenStream, is_name_start};
+use crate::position::Pos;
+use crate::tokenizer::{Bad, Kind, Token, TokenStream, is_name_start};
 use std::alloc::{AllocError, Global};
 use std::marker::{Model, PhantomData};
 
-/// Whether the next item is a token, and else what it is.
+/// What is next in the input.
 #[derive(Clone, Copy)]
 pub enum Ending<'a> {
-    /// It is a token.
+    /// A token.
     Open,
-    /// It is the end.
+    /// The end of input.
     End,
-    /// It is a bad place.
+    /// A lexical error.
     Wrong(Bad<'a>),
 }
 
-/// A token stream, and its next item.
+/// A token stream with one token of lookahead.
 #[derive(Drop)]
 pub struct Cursor<'a, T: Text<'a>> {
     stream: TokenStream<'a>,
     position: Pos,
-    // The next token, and an empty one where there is none.
+    // The next token, or a token with an empty spelling if there is none.
     token: Token<'a>,
     ending: Ending<'a>,
-    // The first byte of the next token, 0 where there is none.
+    // The first byte of the next token, or 0 if there is none.
     front: u8,
-    // Whether the text was long from the first of the items on.
+    // Whether the rest of the input was long when the cursor was made.
     is_long: bool,
     names: PhantomData<T>,
 }
 
 impl<'a, T: Text<'a>> Model for Cursor<'a, T> {
     ghost use Rattle.std.specs.Prelude.{All, ◌≡◌, ◌-◌, ◌≤◌, ◌^◌};
-    ghost use Rattle.graphql_core.specs.{front_byte, shown, Items, IsLexeme};
+    ghost use Rattle.graphql_core.specs.steps.Punctuators.{front_byte};
+    ghost use Rattle.graphql_core.specs.steps.Endings.{shown};
+    ghost use Rattle.graphql_core.specs.sources.Source.{Items, IsLexeme};
 
     ghost Value = { Items };
 
@@ -51,7 +60,7 @@ impl<'a, T: Text<'a>> Model for Cursor<'a, T> {
         × (c.front ≡ front_byte (shown c.position c.token c.ending c.stream).tokens) × (c.stream.cuts ≤ 2 ^ 64 - 1) };
 }
 
-/// The first byte of a text, 0 where there is none.
+/// The first byte, or 0 for an empty string.
 #[inline(always)]
 pub fn first_byte(text: &str) -> u8
     ensures { result ≡ first_byte text.now }
@@ -62,7 +71,7 @@ pub fn first_byte(text: &str) -> u8
     }
 }
 
-/// What a cursor keeps of an answer of its stream.
+/// What a cursor keeps of a result of its stream.
 #[inline(always)]
 fn kept_of<'a>(answer: Result<Option<Token<'a>>, Bad<'a>>) -> (Token<'a>, Ending<'a>)
     ensures items { (place : Pos) (left : Stream) → shown place result.0 result.1 left ≡ held place answer.entry left }
@@ -80,7 +89,7 @@ fn kept_of<'a>(answer: Result<Option<Token<'a>>, Bad<'a>>) -> (Token<'a>, Ending
 }
 
 impl<'a, T: Text<'a>> Cursor<'a, T> {
-    /// The items of a text of at most `usize::MAX / 16` bytes.
+    /// The tokens of `source`, which must have at most `usize::MAX / 16` bytes.
     pub fn new(source: &'a str) -> Self
         requires { length source.now ≤ usize.MAX / 16 }
         ensures { (items : List Item) → HasItems source.now items → result ≡ items_of_text items }
@@ -88,7 +97,7 @@ impl<'a, T: Text<'a>> Cursor<'a, T> {
         Cursor::over(TokenStream::new(source))
     }
 
-    /// The items of a stream, from the one at which it stands.
+    /// The tokens that `stream` has yet to return.
     pub fn over(mut stream: TokenStream<'a>) -> Self
         ensures items { result ≡ items_of_stream stream.entry }
         ensures rest { (text : List ℕ) × AreItemsOfRest stream.entry.items text }
@@ -108,7 +117,7 @@ impl<'a, T: Text<'a>> Cursor<'a, T> {
         }
     }
 
-    /// The stream, which was asked for each item that was taken, and for the one after them.
+    /// Returns the stream. The stream has returned each consumed token, and the token of lookahead.
     pub fn into_stream(self) -> TokenStream<'a>
         ensures within { result.cuts ≤ self.entry.spent.cuts }
         ensures all { self.entry.tokens ≡ [] → result ≡ self.entry.spent }
@@ -116,7 +125,7 @@ impl<'a, T: Text<'a>> Cursor<'a, T> {
         self.stream
     }
 
-    /// Goes past a token, whatever comes next. The end and a bad place stay.
+    /// Advances past a token: the slow path. The end of input and a lexical error are never passed.
     #[inline(never)]
     fn advance_far(&mut self)
         ensures { self.new ≡ after self.old }
@@ -133,9 +142,9 @@ impl<'a, T: Text<'a>> Cursor<'a, T> {
     }
 }
 
-/// A token where it may not stand.
+/// The `Fault` for a token that is not allowed at its position, or for `OutOfMemory`.
 pub fn unexpected(alloc: Global, token: Token<'_>, position: Pos) -> Fault
-    ensures { (after : Items) → IsFaultOf (then_items (token_of position token.entry.kind token.entry.value.now) after) result }
+    ensures { (after : Items) → IsNextFault (then_items (token_of position token.entry.kind token.entry.value.now) after) result }
 {
     match String::from_str(alloc, token.value) {
         Ok(text) => Fault::at(
@@ -149,7 +158,7 @@ pub fn unexpected(alloc: Global, token: Token<'_>, position: Pos) -> Fault
     }
 }
 
-/// The cause of a bad place, unless memory runs out.
+/// The cause of a lexical error. Fails only if an allocation fails.
 fn cause_of(alloc: Global, bad: Bad<'_>) -> Result<Cause, AllocError>
     ensures { IfOk result (λ cause. cause_text cause ≡ no_token (bad_text bad.entry)) }
 {
@@ -165,9 +174,9 @@ fn cause_of(alloc: Global, bad: Bad<'_>) -> Result<Cause, AllocError>
     Ok(Cause::BadToken(token))
 }
 
-/// The fault of a bad place.
+/// The `Fault` for a lexical error, or for `OutOfMemory`.
 pub fn bad_place(alloc: Global, bad: Bad<'_>, position: Pos) -> Fault
-    ensures { IsFaultOf (only_last (Wrong (place_of position) (no_token (bad_text bad.entry)))) result }
+    ensures { IsNextFault (only_last (LastIsError (place_of position) (no_token (bad_text bad.entry)))) result }
 {
     match cause_of(alloc, bad) {
         Ok(cause) => Fault::at(cause, position),
@@ -197,8 +206,8 @@ impl<'a, T: Text<'a>> TokenSource for Cursor<'a, T> {
     }
 
     #[inline(always)]
-    fn sees_punctuator(&self, mark: Punctuator) -> bool {
-        self.front == mark.first_byte()
+    fn sees_punctuator(&self, punctuator: Punctuator) -> bool {
+        self.front == punctuator.first_byte()
     }
 
     #[inline(always)]

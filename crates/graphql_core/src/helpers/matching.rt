@@ -1,13 +1,15 @@
-//! One token at a time.
+//! Readers of single tokens. If the next token is another, they return `ReadError::Item` and consume nothing.
 ghost use Rattle.std.specs.Prelude.{◌≡◌};
-ghost use Rattle.graphql_core.specs.{Spelled, AnyOf, matches, kind_number, class_of, place_of, lexeme_token, sees_class, TakesOne, Name};
+ghost use Rattle.graphql_core.specs.{Spelled, AnyOf, matches, kind_number, class_of, place_of, lexeme_token};
+ghost use Rattle.graphql_core.specs.{sees_class, TakesOne};
+ghost use Rattle.graphql_core.specs.declared.tokenizer.token.Kind.TheVariants.{Name};
 
 use crate::common::Names;
 use crate::helpers::punctuator::Punctuator;
 use crate::helpers::read_error::ReadError;
 use crate::helpers::source::{Lexeme, TokenSource};
-use graphql_lexer::position::Pos;
-use graphql_lexer::tokenizer::Kind;
+use crate::position::Pos;
+use crate::tokenizer::Kind;
 use std::alloc::Global;
 
 /// Whether a token is of this kind and has this spelling.
@@ -18,7 +20,7 @@ fn is_spelled<S: TokenSource>(token: &Lexeme<S::Text>, kind: Kind, spelling: &st
     token.kind == kind && S::as_str(&token.text) == spelling
 }
 
-/// Whether the next item is a token of this kind and spelling.
+/// Whether the next token has this kind and spelling.
 #[inline(always)]
 fn sees_spelled<S: TokenSource>(source: &S, kind: Kind, spelling: &str) -> bool
     ensures { result ≡ sees_class (Spelled (kind_number kind) spelling.now) (S.items source.now) }
@@ -29,7 +31,7 @@ fn sees_spelled<S: TokenSource>(source: &S, kind: Kind, spelling: &str) -> bool
     }
 }
 
-/// Whether the next item is the name of this spelling.
+/// Whether the next token is the name with this spelling.
 #[inline(always)]
 pub fn sees_keyword<S: TokenSource>(source: &S, spelling: &str) -> bool
     ensures { result ≡ sees_class (Spelled (kind_number Name) spelling.now) (S.items source.now) }
@@ -37,7 +39,7 @@ pub fn sees_keyword<S: TokenSource>(source: &S, spelling: &str) -> bool
     sees_spelled(source, Kind::Name, spelling)
 }
 
-/// Takes the token of this kind and spelling, and answers its position.
+/// Consumes the token of this kind and spelling, and returns its position.
 #[inline(always)]
 fn spelled<S: TokenSource>(source: &mut S, kind: Kind, spelling: &str) -> Result<Pos, ReadError>
     ensures { TakesOne (Spelled (kind_number kind) spelling.now) (S.items source.old) (S.items source.new)
@@ -52,12 +54,15 @@ fn spelled<S: TokenSource>(source: &mut S, kind: Kind, spelling: &str) -> Result
     }
 }
 
-/// Takes this punctuator, and answers its position.
+/// Consumes this punctuator, and returns its position.
 #[inline(always)]
-pub fn expect_punctuator<S: TokenSource>(source: &mut S, mark: Punctuator) -> Result<Pos, ReadError>
-    ensures { TakesOne (class_of mark) (S.items source.old) (S.items source.new) (λ p t. t.place ≡ place_of p) result }
+pub fn expect_punctuator<S: TokenSource>(
+    source: &mut S,
+    punctuator: Punctuator,
+) -> Result<Pos, ReadError>
+    ensures { TakesOne (class_of punctuator) (S.items source.old) (S.items source.new) (λ p t. t.place ≡ place_of p) result }
 {
-    if !source.sees_punctuator(mark) {
+    if !source.sees_punctuator(punctuator) {
         return Err(ReadError::Item);
     }
     let position = source.position();
@@ -65,7 +70,7 @@ pub fn expect_punctuator<S: TokenSource>(source: &mut S, mark: Punctuator) -> Re
     Ok(position)
 }
 
-/// Takes the name of this spelling, and answers its position.
+/// Consumes the name with this spelling, and returns its position.
 #[inline(always)]
 pub fn expect_keyword<S: TokenSource>(source: &mut S, spelling: &str) -> Result<Pos, ReadError>
     ensures { TakesOne (Spelled (kind_number Name) spelling.now) (S.items source.old) (S.items source.new)
@@ -74,7 +79,7 @@ pub fn expect_keyword<S: TokenSource>(source: &mut S, spelling: &str) -> Result<
     spelled(source, Kind::Name, spelling)
 }
 
-/// Takes a name, and answers what a tree keeps of it.
+/// Consumes a name, and returns it as the tree stores it.
 pub fn expect_name<S: TokenSource>(
     alloc: Global,
     source: &mut S,

@@ -1,6 +1,6 @@
 //! Punctuators.
 ghost use Rattle.std.specs.Prelude.{◌≡◌};
-ghost use Rattle.graphql_core.specs.{first_byte, spelling_of};
+ghost use Rattle.graphql_core.specs.steps.Punctuators.{first_byte, spelling_of};
 
 /// A punctuator (GraphQL, October 2021, section 2.1.8).
 #[derive(Clone, Copy, Debug)]
@@ -36,7 +36,7 @@ pub enum Punctuator {
 }
 
 impl Punctuator {
-    /// Its first byte, which no other token begins with.
+    /// The first byte of the punctuator. No other token begins with this byte.
     #[inline(always)]
     pub fn first_byte(self) -> u8
         ensures { result ≡ first_byte (spelling_of self) }

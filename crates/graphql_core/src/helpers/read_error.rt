@@ -1,26 +1,26 @@
-//! Why a reader stops.
+//! The errors of readers.
 ghost use Rattle.std.specs.Prelude.{◌≡◌};
 ghost use Rattle.graphql_core.specs.declared.helpers.read_error.ReadError.TheVariants.{Memory};
-ghost use Rattle.graphql_core.specs.{IsFaultFor};
+ghost use Rattle.graphql_core.specs.steps.ReadErrors.{IsFaultFor};
 
 use crate::common::{Cause, Fault};
 use crate::helpers::source::TokenSource;
 use std::alloc::{AllocError, AllocFailed, Global};
 
-/// Why a reader stops. Its source stands at the item for which it does.
+/// Why a reader fails. The source is at the token (or end of input) that is wrong.
 #[derive(Clone, Copy, Debug)]
 pub enum ReadError {
     /// An allocation failed.
     Memory,
-    /// The item is not allowed there.
+    /// The token or end of input is not allowed there, or a lexical error is next.
     Item,
-    /// The item is an integer that does not fit an `i64`.
+    /// The token is an integer that does not fit an `i64`.
     Integer,
-    /// The item is a float whose exponent has no digit.
+    /// The token is a float whose exponent has no digit.
     Float,
-    /// The item is a string with a bad escape.
+    /// The token is a string with an invalid escape.
     Escape,
-    /// The item is a name that is no directive location.
+    /// The token is a name that is no directive location.
     Location,
 }
 
@@ -40,7 +40,7 @@ impl<T: Drop> From<AllocFailed<T>> for ReadError {
     }
 }
 
-/// The fault for which a reader stopped that left its source as it is.
+/// The `Fault` for this error of a reader. `source` must be as the reader left it.
 #[cold]
 #[inline(never)]
 pub fn fault_of<S: TokenSource>(alloc: Global, source: &S, error: ReadError) -> Fault

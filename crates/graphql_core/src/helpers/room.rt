@@ -1,19 +1,19 @@
-//! Room that a list has to spare.
+//! Spare capacity of lists.
 ghost use Rattle.std.specs.Prelude.{◌≡◌};
 
 use crate::helpers::source::TokenSource;
 
-// How many bytes a long text has at least: 256 KB. The tree of a shorter one is small, so there the time to move its lists
-// would be spent for little memory.
+// The minimum length of a long input: 256 KiB. The tree of a shorter input is small, so moving its lists would take
+// time and save little memory.
 const LONG_TEXT: usize = 262144;
 
-/// Whether lists that are read from a text give back the room that they have to spare.
+/// Whether lists that are read from this input shrink to fit.
 #[inline(always)]
 pub fn is_long(text: &str) -> bool {
     text.len() >= LONG_TEXT
 }
 
-/// Gives back the room that a list has to spare, where the text is long. It is called once the list is whole.
+/// Shrinks a complete list to fit if the input is long.
 pub fn shrink_list<S: TokenSource, T>(source: &S, items: &mut Vec<T>)
     ensures { items.new.items ≡ items.old.items }
 {

@@ -1,76 +1,82 @@
 //! Where a reader takes its tokens from.
 use crate::common::{Fault, Names};
 use crate::helpers::punctuator::Punctuator;
-use graphql_lexer::position::Pos;
-use graphql_lexer::tokenizer::Kind;
+use crate::position::Pos;
+use crate::tokenizer::Kind;
 use std::alloc::{AllocError, Global};
 
 /// A token of a source.
 #[derive(Clone, Copy, Debug)]
 pub struct Lexeme<T> {
-    /// Its kind.
+    /// The kind.
     pub kind: Kind,
-    /// Its spelling.
+    /// The spelling, which `TokenSource::as_str` returns as a `str`.
     pub text: T,
-    /// Where it begins.
+    /// The position of the first character.
     pub position: Pos,
 }
 
-/// The items of a text, the next of which can be looked at.
+/// The tokens of an input, with one token of lookahead.
 pub trait TokenSource {
     ghost use Rattle.std.specs.Prelude.{ℕ, List, ◌≡◌, IfOk, IfSome, IsTrue, ◌↔◌};
-    ghost use Rattle.graphql_core.specs.{AnyOf, Name, kind_number, class_of, sees_class, Items, place_of, place_next, Peeks, IsLexeme, IsAtEnd, after};
-    ghost use Rattle.graphql_core.specs.{lexeme_token, IsFaultOf};
+    ghost use Rattle.graphql_core.specs.grammar.Tokens.{AnyOf};
+    ghost use Rattle.graphql_core.specs.declared.tokenizer.token.Kind.TheVariants.{Name};
+    ghost use Rattle.graphql_core.specs.sources.Causes.{kind_number};
+    ghost use Rattle.graphql_core.specs.steps.Punctuators.{class_of};
+    ghost use Rattle.graphql_core.specs.steps.Matching.{sees_class};
+    ghost use Rattle.graphql_core.specs.sources.Source.{Items, place_of, place_next, Peeks, IsLexeme, IsAtEnd, after};
+    ghost use Rattle.graphql_core.specs.sources.Source.{lexeme_token};
+    ghost use Rattle.graphql_core.specs.sources.Refusals.{IsNextFault};
 
-    /// A token's spelling.
+    /// The type of a token's spelling.
     type Text: Copy;
 
-    /// What names are kept as.
+    /// How a tree stores names.
     type Names: Names;
 
     // the bytes of a spelling
     ghost bytes: { Self.Text → List ℕ };
 
-    // the items that are still to come
+    // the tokens that are left, and the end or lexical error after them
     ghost items: { Self → Items };
 
-    /// The next item, where it is a token.
+    /// The next token, or `None` at the end of input and at a lexical error.
     fn peek(&self) -> Option<Lexeme<Self::Text>>
         ensures next { Peeks bytes result (items self.now) }
         ensures lexeme { IfSome result (λ t. IsLexeme (lexeme_token bytes t)) };
 
-    /// Whether the next item is this punctuator.
-    fn sees_punctuator(&self, mark: Punctuator) -> bool
-        ensures { result ≡ sees_class (class_of mark) (items self.now) };
+    /// Whether the next token is this punctuator.
+    fn sees_punctuator(&self, punctuator: Punctuator) -> bool
+        ensures { result ≡ sees_class (class_of punctuator) (items self.now) };
 
-    /// Whether the next item is a name.
+    /// Whether the next token is a name.
     fn sees_name(&self) -> bool
         ensures { result ≡ sees_class (AnyOf (kind_number Name)) (items self.now) };
 
-    /// Where the next item begins.
+    /// The position of the next token, of the end of input, or of the lexical error.
     fn position(&self) -> Pos
         ensures { place_of result ≡ place_next (items self.now) };
 
-    /// Whether the next item is the end.
+    /// Whether the end of input is next.
     fn is_at_end(&self) -> bool
         ensures { IsTrue result ↔ IsAtEnd (items self.now) };
 
-    /// Whether lists that are read give back the room that they have to spare, since the text is long.
+    /// Whether the input is long, so that complete lists shrink to fit.
     fn is_long(&self) -> bool;
 
-    /// Goes past a token. The end and a bad place stay.
+    /// Advances past a token. The end of input and a lexical error are never passed.
     fn advance(&mut self)
         ensures { items self.new ≡ after (items self.old) };
 
-    /// The fault of the next item, which may not stand where it does.
+    /// The `Fault` for the next token, end of input or lexical error, or for `OutOfMemory`.
     fn fault(&self, alloc: Global) -> Fault
-        ensures { IsFaultOf (items self.now) result };
+        ensures { IsNextFault (items self.now) result };
 
-    /// The text of a spelling.
+    /// The spelling as a `str`.
     fn as_str<'v>(text: &'v Self::Text) -> &'v str
         ensures { result.now ≡ bytes text.now };
 
-    /// The name that a tree keeps of a spelling. It errs only where an allocation fails.
+    /// Makes the name that a tree stores from a spelling. Fails only if an allocation fails.
     fn make_name(
         alloc: Global,
         text: Self::Text,

@@ -1,33 +1,35 @@
-//! Where a token stands in a text.
+//! Spans of tokens in the input.
 ghost use Rattle.std.specs.Prelude.{◌≡◌};
-ghost use Rattle.graphql_core.specs.{kind_number, kind_at, start_of, kind_of};
+ghost use Rattle.graphql_core.specs.sources.Causes.{kind_number};
+ghost use Rattle.graphql_core.specs.steps.Spans.{kind_at, start_of, kind_of};
 
-use graphql_lexer::tokenizer::Kind;
+use crate::tokenizer::Kind;
 
-/// How wide the numbers are that say where a token stands.
+/// The integer type of the offsets, lines and columns in a `Span`.
 pub trait Width: Copy {
     ghost use Rattle.std.specs.Prelude.{◌≡◌, ◌≤◌, ℕ};
 
-    // what a number of this width is
+    // the value of a number of this width
     ghost number: { Self → ℕ };
 
-    // the largest of them
+    // the largest value
     ghost most: { ℕ };
 
-    /// A number of this width.
+    /// Converts to this width.
     fn narrow(wide: usize) -> Self
         requires { wide ≤ most }
         ensures { number result ≡ wide };
 
-    /// What it is.
+    /// Converts from this width.
     fn wide(self) -> usize
         ensures { result ≡ number self };
 }
 
-/// How many bytes a text has at least whose positions may not fit four bytes: 512 MB. A tab takes eight columns.
+/// The minimum length in bytes of an input whose positions may not fit in four bytes: 512 MiB. A tab takes eight
+/// columns.
 pub const WIDE_TEXT: usize = 536870912;
 
-/// Four bytes, for a text of less than `WIDE_TEXT` bytes.
+/// Four bytes, for an input of less than `WIDE_TEXT` bytes.
 impl Width for u32 {
     ghost use Rattle.std.specs.Prelude.{◌^◌, ◌-◌};
 
@@ -46,7 +48,7 @@ impl Width for u32 {
     }
 }
 
-/// Eight bytes, for any text.
+/// Eight bytes, for any input.
 impl Width for usize {
     ghost use Rattle.std.specs.Prelude.{◌^◌, ◌-◌};
 
@@ -65,16 +67,16 @@ impl Width for usize {
     }
 }
 
-/// Where a token stands in a text, and what it is. One number tells two of these things, so that a token takes 16 bytes.
+/// The offsets, the position and the kind of a token. `first` packs two numbers, so that a `Span<u32>` takes 16 bytes.
 #[derive(Clone, Copy)]
 pub struct Span<W> {
-    /// Eight times where its first byte is, and the number of its kind.
+    /// Eight times the offset of the first byte, plus the number of the kind.
     pub first: W,
-    /// Where the byte after its last is.
+    /// The offset of the byte after the last.
     pub end: W,
-    /// The line of its position.
+    /// The line of the first character.
     pub line: W,
-    /// The column of its position.
+    /// The column of the first character.
     pub column: W,
 }
 
@@ -93,7 +95,7 @@ pub fn number_of(kind: Kind) -> usize
     }
 }
 
-/// The kind of a number.
+/// The kind with this number.
 #[inline(always)]
 fn kind_at(number: usize) -> Kind
     ensures { result ≡ kind_at number }
@@ -114,7 +116,7 @@ fn kind_at(number: usize) -> Kind
 }
 
 impl<W: Width> Span<W> {
-    /// Where its first byte is.
+    /// The offset of the first byte.
     #[inline(always)]
     pub fn start(self) -> usize
         ensures { result ≡ start_of W.number self }
@@ -122,7 +124,7 @@ impl<W: Width> Span<W> {
         self.first.wide() / 8
     }
 
-    /// Its kind.
+    /// The kind of the token.
     #[inline(always)]
     pub fn kind(self) -> Kind
         ensures { result ≡ kind_of W.number self }

@@ -1,7 +1,10 @@
-//! The tokens of a text, cut in pieces, each before it is read.
+//! A `TokenSource` that tokenizes the input in batches.
 ghost use Rattle.std.specs.Prelude.{◌≡◌, ℕ, ◌+◌, ◌≤◌, ◌<◌, ◌*◌, ◌/◌, ◌^◌, ◌⊎◌, List, All, IfOk, length, map, drop, vec_len, vec_capacity};
-ghost use Rattle.graphql_core.specs.{HasItems, Item, NextItem, split, after, first_byte, front_byte, Marks, start_of, kind_of, span_token};
-ghost use Rattle.graphql_core.specs.{IsLeft, IsLast, IsCut};
+ghost use Rattle.graphql_core.specs.lexical.Items.{HasItems, Item};
+ghost use Rattle.graphql_core.specs.lexical.StreamCalls.{NextItem};
+ghost use Rattle.graphql_core.specs.sources.Source.{split, after};
+ghost use Rattle.graphql_core.specs.steps.Punctuators.{first_byte, front_byte};
+ghost use Rattle.graphql_core.specs.steps.Spans.{Marks, start_of, kind_of, span_token, IsLeft, IsLast, IsCut};
 
 use crate::common::{Cause, Fault, Names, Text};
 use crate::helpers::cursor::{bad_place, unexpected};
@@ -9,25 +12,25 @@ use crate::helpers::punctuator::Punctuator;
 use crate::helpers::room::is_long;
 use crate::helpers::source::{Lexeme, TokenSource};
 use crate::helpers::span::{Span, Width, number_of};
-use graphql_lexer::position::Pos;
-use graphql_lexer::tokenizer::{Bad, Token, Tokens, is_name_start};
+use crate::position::Pos;
+use crate::tokenizer::{Bad, Token, Tokens, is_name_start};
 use std::alloc::{AllocError, Global};
 use std::marker::{Model, PhantomData};
 use std::mem;
 
-/// How many tokens are cut at once at most.
+/// The maximum number of tokens in a batch.
 const PIECE: usize = 3072;
 
-/// The tokens of a text that are left. They are cut a piece at a time, so that those that wait to be read take little room.
+/// The tokens of an input that are left. Tokenizing in batches keeps the memory for unread tokens small.
 #[derive(Drop)]
 pub struct SpanSource<'a, T: Text<'a>, W: Width> {
     text: &'a str,
-    // The piece that was cut last, and how many of its tokens are taken.
+    // The last batch, and how many of its tokens are consumed.
     spans: Vec<Span<W>>,
     taken: usize,
-    // The first byte of the next token, 0 where there is none.
+    // The first byte of the next token, or 0 if there is none.
     front: u8,
-    // What follows the piece, and the bad place that was met there, if one was.
+    // The tokens after the batch, and the lexical error if the batch ended at one.
     stream: Tokens<'a>,
     bad: Option<Bad<'a>>,
     names: PhantomData<T>,
@@ -35,7 +38,9 @@ pub struct SpanSource<'a, T: Text<'a>, W: Width> {
 
 impl<'a, T: Text<'a>, W: Width> Model for SpanSource<'a, T, W> {
     ghost use Rattle.std.specs.Prelude.{All, ◌≡◌, ◌≤◌, ◌<◌, map, drop, vec_len, vec_capacity};
-    ghost use Rattle.graphql_core.specs.{Items, front_byte, split, Marks, IsLeft, IsLast, span_token, span_items};
+    ghost use Rattle.graphql_core.specs.sources.Source.{Items, split};
+    ghost use Rattle.graphql_core.specs.steps.Punctuators.{front_byte};
+    ghost use Rattle.graphql_core.specs.steps.Spans.{Marks, IsLeft, IsLast, span_token, span_items};
 
     ghost Value = { Items };
 
@@ -46,7 +51,7 @@ impl<'a, T: Text<'a>, W: Width> Model for SpanSource<'a, T, W> {
         × (s.taken ≤ vec_len s.spans) × (0 < vec_capacity s.spans) × (s.taken ≡ vec_len s.spans → IsLast s.stream s.bad) };
 }
 
-/// The span of a token that begins after `start` bytes of a text, at this position.
+/// The span of a token with this byte offset and position.
 #[inline(always)]
 fn span_of<W: Width>(start: usize, position: Pos, token: Token<'_>) -> Span<W>
     requires small { 8 * (start + length token.value.now) + 5 < 2 ^ 64 }
@@ -68,7 +73,8 @@ fn span_of<W: Width>(start: usize, position: Pos, token: Token<'_>) -> Span<W>
     }
 }
 
-/// The next item, whatever it is. The stream is passed by value, so that a loop need not keep it in memory for this call.
+/// The result of `next_token`: the slow path. A loop need not keep the stream in memory for this call, because the
+/// stream is passed by value.
 #[inline(never)]
 pub fn far_item<'a>(mut stream: Tokens<'a>) -> (Result<Option<Token<'a>>, Bad<'a>>, Tokens<'a>)
     ensures { NextItem stream.entry result.0 result.1 }
@@ -77,8 +83,8 @@ pub fn far_item<'a>(mut stream: Tokens<'a>) -> (Result<Option<Token<'a>>, Bad<'a
     (item, stream)
 }
 
-/// Cuts the tokens that are next, as many as there is room for: their spans take the place of those that were there. It
-/// answers what follows them, and the bad place that it met, if it met one.
+/// Replaces the contents of `spans` with the next tokens, up to its capacity. Returns the stream after the batch, and
+/// the lexical error if the batch ended at one.
 fn cut<'a, W: Width>(
     mut stream: Tokens<'a>,
     spans: &mut Vec<Span<W>>,
@@ -119,7 +125,7 @@ fn first_of<W: Width>(text: &str, span: Span<W>) -> u8
     text.as_bytes()[span.start()]
 }
 
-/// The first byte of the token after this many, 0 where there is none.
+/// The first byte of the token after the first `taken` tokens, or 0 if there is none.
 fn front_of<W: Width>(text: &str, spans: &[Span<W>], taken: usize) -> u8
     requires { All (Marks W.number text.now) spans.now }
     ensures { result ≡ front_byte (map (span_token W.number text.now) (drop taken spans.now)) }
@@ -131,7 +137,8 @@ fn front_of<W: Width>(text: &str, spans: &[Span<W>], taken: usize) -> u8
 }
 
 impl<'a, T: Text<'a>, W: Width> SpanSource<'a, T, W> {
-    /// The items of a text whose positions are of this width.
+    /// The tokens of `text`, which must have at most `usize::MAX / 16` bytes and fewer than an eighth of the largest
+    /// value of `W`.
     pub fn new(alloc: Global, text: &'a str) -> Result<Self, AllocError>
         requires small { length text.now ≤ usize.MAX / 16 }
         requires narrow { 8 * length text.now < W.most }
@@ -151,7 +158,7 @@ impl<'a, T: Text<'a>, W: Width> SpanSource<'a, T, W> {
         })
     }
 
-    /// Goes past a token, whatever is cut. The end and a bad place stay.
+    /// Advances past a token: the slow path. The end of input and a lexical error are never passed.
     #[cold]
     #[inline(never)]
     fn advance_far(&mut self)
@@ -174,7 +181,6 @@ impl<'a, T: Text<'a>, W: Width> SpanSource<'a, T, W> {
     }
 }
 
-/// The spelling of a token.
 #[inline(always)]
 fn spelling<'a, W: Width>(text: &'a str, span: Span<W>) -> &'a str
     requires { Marks W.number text.now span }
@@ -185,7 +191,6 @@ fn spelling<'a, W: Width>(text: &'a str, span: Span<W>) -> &'a str
     text.split_at(start).1.split_at(len).0
 }
 
-/// The position of a token.
 #[inline(always)]
 fn position_of<W: Width>(span: Span<W>) -> Pos
     ensures line { result.line ≡ W.number span.line }
@@ -217,8 +222,8 @@ impl<'a, T: Text<'a>, W: Width> TokenSource for SpanSource<'a, T, W> {
     }
 
     #[inline(always)]
-    fn sees_punctuator(&self, mark: Punctuator) -> bool {
-        self.front == mark.first_byte()
+    fn sees_punctuator(&self, punctuator: Punctuator) -> bool {
+        self.front == punctuator.first_byte()
     }
 
     #[inline(always)]

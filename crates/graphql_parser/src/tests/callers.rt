@@ -2,8 +2,9 @@
 ghost use Rattle.std.specs.Prelude.{IfOk, IfSome, Err, ◌≡◌, ◌<◌, ◌⊎◌, length, nat_eq};
 ghost use Rattle.std.specs.Prelude.{string_bytes, refl};
 ghost use Rattle.std.proofs.Common.{rules};
-ghost use Rattle.graphql_values.specs.{Refusal, no_memory, max_length, too_long};
-ghost use Rattle.graphql_query_tree.specs.{DocumentTree, document_view, erase, IsDocumentOf, IsReadBack, layout, IsTooWide, IsPrintable};
+ghost use Rattle.graphql_core.specs.{Refusal, no_memory, max_length, too_long};
+ghost use Rattle.graphql_query.specs.{DocumentTree, document_view, erase, IsDocumentOf, IsReadBack, layout};
+ghost use Rattle.graphql_query.specs.{IsTooWide, IsPrintable};
 
 use crate::common::{
     FloatLiteral, Names, Number, Text, UnquoteError, unquote_block_string, unquote_string,

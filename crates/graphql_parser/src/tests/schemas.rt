@@ -1,7 +1,7 @@
 //! Schemas: the callers that docs/CALLING.md and docs/MIGRATING.md show, and trees that no text has.
 ghost use Rattle.std.specs.Prelude.{IfOk, Err, ◌≡◌, ◌<◌, ◌⊎◌, length, string_bytes};
-ghost use Rattle.graphql_values.specs.{Refusal, no_memory, max_length};
-ghost use Rattle.graphql_schema_tree.specs.{layout, IsTooWide, IsPrintable, erase, document_view};
+ghost use Rattle.graphql_core.specs.{Refusal, no_memory, max_length};
+ghost use Rattle.graphql_schema.specs.{layout, IsTooWide, IsPrintable, erase, document_view};
 
 use crate::common::Names;
 use crate::schema::{

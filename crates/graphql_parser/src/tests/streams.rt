@@ -1,8 +1,7 @@
 //! What is left of a stream, parsed.
 ghost use Rattle.std.specs.Prelude.{IfOk, ◌≡◌, ◌≤ℤ◌, ◌+◌, ◌-◌, ◌^◌, pos, min, length, string_bytes};
-ghost use Rattle.graphql_lexer.specs.{depth_of};
-ghost use Rattle.graphql_values.specs.{next_place, IsAtEnd, split};
-ghost use Rattle.graphql_query_tree.specs.{document_view, IsDocument};
+ghost use Rattle.graphql_core.specs.{depth_of, next_place, IsAtEnd, split};
+ghost use Rattle.graphql_query.specs.{document_view, IsDocument};
 
 use crate::Pos;
 use crate::query::{self, Definition, OperationDefinition, parse_query_from};

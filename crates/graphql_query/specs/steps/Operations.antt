@@ -1,11 +1,13 @@
--- Operations with a keyword: which it is, and what is seen of the body after it.
+-- Operations with a keyword: the keyword, and the model of the body.
 use Rattle.std.specs.Prelude.{◌≡◌, ℕ, List, Option, Some, None, true, false}
-use Rattle.graphql_values.specs.{Class, Expr, One, Then, Sym, Items, sees_class, keyword}
-use Rattle.graphql_query_tree.specs.{operation_body_symbol, OperationKind, query_kind, mutation_kind, subscription_kind, OperationBodyTree, body_view}
+use Rattle.graphql_core.specs.{Class, Expr, One, Then, Sym, sees_class, keyword, Items}
+use Rattle.graphql_query.specs.Grammar.{operation_body_symbol}
+use Rattle.graphql_query.specs.Tree.{OperationKind, query_kind, mutation_kind, subscription_kind, OperationBodyTree}
+use Rattle.graphql_query.specs.Tree.{body_view}
 use Rattle.graphql_query.specs.declared.read.keyword.Keyword.{Keyword}
 use Rattle.graphql_query.specs.declared.read.keyword.Keyword.TheVariants.{Query, Mutation, Subscription}
 use Rattle.graphql_query.specs.declared.read.operation.OperationBody.{OperationBody}
-use Rattle.graphql_query_tree.specs.Layout as layout
+use Rattle.graphql_query.specs.Layout as layout
 
 abbrev pub kind_of : Keyword → OperationKind
 kind_of Query = query_kind
@@ -15,11 +17,11 @@ kind_of Subscription = subscription_kind
 abbrev pub word_of : OperationKind → Class
 word_of kind = keyword (layout.keyword kind)
 
--- the keyword, and the body
+-- the keyword and the body
 abbrev pub keyword_rule : OperationKind → Expr
 keyword_rule kind = Then (One (word_of kind)) (Sym operation_body_symbol)
 
--- this one comes next, or none of the three does
+-- this keyword is next, or none of the three is
 abbrev pub Tells : Items → Option Keyword → Type 0
 Tells i (Some k) = sees_class (word_of (kind_of k)) i ≡ true
 Tells i None =

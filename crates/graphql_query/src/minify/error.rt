@@ -1,13 +1,13 @@
-//! Why a text is not minified.
+//! The error of minifying.
 ghost use Rattle.std.specs.Prelude.{◌≡◌, option_map};
-ghost use Rattle.graphql_values.specs.{cause_text, place_of};
+ghost use Rattle.graphql_core.specs.{cause_text, place_of};
 
 use graphql_core::common::{Cause, Fault};
 use graphql_core::position::Pos;
 use std::marker::Model;
 use thiserror::Error;
 
-/// Why a text is not minified: a cause, and the position at which it stands.
+/// Why a source is not minified: a cause, and a position if there is one.
 #[derive(Debug, Drop, Error)]
 #[error("query minify error: {}", .fault.cause)]
 pub struct MinifyError {
@@ -15,7 +15,7 @@ pub struct MinifyError {
 }
 
 impl Model for MinifyError {
-    ghost use Rattle.graphql_values.specs.{Refusal};
+    ghost use Rattle.graphql_core.specs.{Refusal};
 
     ghost Value = { Refusal };
 
@@ -23,14 +23,14 @@ impl Model for MinifyError {
 }
 
 impl MinifyError {
-    /// Where the cause stands, and `None` where an allocation failed.
+    /// The position of the invalid token: 1:1 for `TextTooLong`, `None` for `OutOfMemory`.
     pub fn position(&self) -> Option<Pos>
         ensures { option_map place_of result ≡ self.now.place }
     {
         self.fault.position
     }
 
-    /// Why the text is refused.
+    /// `BadToken`, `TooDeep`, `TextTooLong` or `OutOfMemory`.
     pub fn cause(&self) -> &Cause
         ensures { cause_text result.now ≡ self.now.cause }
     {

@@ -1,6 +1,6 @@
 //! The name of a field, and its alias.
 ghost use Rattle.std.specs.Prelude.{◌≡◌, option_map};
-ghost use Rattle.graphql_values.specs.{kept, Shortens};
+ghost use Rattle.graphql_core.specs.{kept, Shortens};
 ghost use Rattle.graphql_query.specs.{Reads, first_names, alias_and_name_of};
 
 use graphql_core::common::Names;
@@ -8,7 +8,7 @@ use graphql_core::helpers::{Punctuator, ReadError, TokenSource, expect_name, exp
 use std::alloc::Global;
 
 /// `Alias? Name`, where `Alias = Name ":"`.
-#[tactic(auto, using(graphql_values::proofs::Reading::reading))]
+#[tactic(auto, using(graphql_core::proofs::readers::Reading::reading))]
 pub fn alias_and_name<S: TokenSource>(
     alloc: Global,
     source: &mut S,

@@ -1,22 +1,23 @@
 //! Definitions.
 ghost use Rattle.std.specs.Prelude.{◌≡◌, map};
-ghost use Rattle.graphql_values.specs.{Sym, some_of, kept, Shortens, each_of};
-ghost use Rattle.graphql_query_tree.specs.{fragment_definition_view, definition_view, definitions_view, fragment_definition_symbol, definition_symbol};
-ghost use Rattle.graphql_query_tree.specs.{fragment_definition_of, definition_of};
-ghost use Rattle.graphql_query.specs.{Reads, sees_definition};
+ghost use Rattle.graphql_core.specs.{Sym, some_of, kept, Shortens, each_of};
+ghost use Rattle.graphql_query.specs.{fragment_definition_view, definition_view, definitions_view};
+ghost use Rattle.graphql_query.specs.{fragment_definition_symbol, definition_symbol, fragment_definition_of};
+ghost use Rattle.graphql_query.specs.{definition_of, Reads, sees_definition};
 
 use crate::read::fragment::type_condition;
 use crate::read::operation::operation_definition;
 use crate::read::selection::selection_set;
+use crate::tree::{Definition, FragmentDefinition, Selection};
+use graphql_core::common::read::directives;
 use graphql_core::helpers::{
     Punctuator, ReadError, TokenSource, expect_keyword, expect_name, sees_keyword,
 };
-use graphql_query_tree::tree::{Definition, FragmentDefinition, Selection};
-use graphql_values::read::directives;
 use std::alloc::Global;
 
-/// `FragmentDefinition = "fragment" Name TypeCondition Directives SelectionSet`; selections are read at the end of `scratch`.
-#[tactic(auto, using(graphql_values::proofs::Reading::reading))]
+/// `FragmentDefinition = "fragment" Name TypeCondition Directives SelectionSet`.
+/// Selections are collected at the end of `scratch`.
+#[tactic(auto, using(graphql_core::proofs::readers::Reading::reading))]
 fn fragment_definition<S: TokenSource>(
     alloc: Global,
     source: &mut S,
@@ -42,8 +43,8 @@ fn fragment_definition<S: TokenSource>(
     })
 }
 
-/// `Definition = OperationDefinition | FragmentDefinition`; selections are read at the end of `scratch`.
-#[tactic(auto, using(graphql_values::proofs::Reading::reading))]
+/// `Definition = OperationDefinition | FragmentDefinition`. Selections are collected at the end of `scratch`.
+#[tactic(auto, using(graphql_core::proofs::readers::Reading::reading))]
 pub fn definition<S: TokenSource>(
     alloc: Global,
     source: &mut S,
@@ -60,7 +61,7 @@ pub fn definition<S: TokenSource>(
     Ok(Definition::Operation(operation_definition(alloc, source, scratch)?))
 }
 
-/// Whether a definition begins with the next item.
+/// Whether the next token can begin a definition.
 fn sees_definition<S: TokenSource>(source: &S) -> bool
     ensures { result ≡ sees_definition (S.items source.now) }
 {
@@ -71,8 +72,8 @@ fn sees_definition<S: TokenSource>(source: &S) -> bool
         || sees_keyword(source, "fragment")
 }
 
-/// `QueryDocument = Definition+`, without the end after it.
-#[tactic(auto, using(graphql_values::proofs::Reading::reading))]
+/// `QueryDocument = Definition+`, without the end of the input after it.
+#[tactic(auto, using(graphql_core::proofs::readers::Reading::reading))]
 pub fn definitions<S: TokenSource>(
     alloc: Global,
     source: &mut S,
@@ -83,7 +84,7 @@ pub fn definitions<S: TokenSource>(
     ensures shorter { Shortens (S.items source.old) (S.items source.new) result }
 {
     let mut definitions = Vec::new(alloc);
-    // The selections of the sets that are open; a set takes its own off the end.
+    // The selections of the open selection sets. A set that closes removes its own from the end.
     let mut scratch = Vec::new(alloc);
     definitions.push(definition(alloc, source, &mut scratch)?)?;
     'more: while sees_definition(source) {

@@ -1,18 +1,18 @@
-//! Names of fragments, and the types that they are on.
+//! Fragment spreads and type conditions.
 ghost use Rattle.std.specs.Prelude.{◌≡◌, ◌≤◌, OnOk, [], ◌∷◌, length, option_map};
-ghost use Rattle.graphql_values.specs.{Sym, optional, kept, place_next, sees_class, Adds, Shortens, optional_of};
-ghost use Rattle.graphql_query_tree.specs.{type_condition_view, selection_view, spread_class, spread_name_symbol, fragment_spread_rest, type_condition_symbol};
-ghost use Rattle.graphql_query_tree.specs.{type_condition_of, spread_name_of, fragment_spread_rest_of};
-ghost use Rattle.graphql_query.specs.{Reads};
+ghost use Rattle.graphql_core.specs.{Sym, optional, kept, place_next, sees_class, Adds, Shortens, optional_of};
+ghost use Rattle.graphql_query.specs.{type_condition_view, selection_view, spread_class, spread_name_symbol};
+ghost use Rattle.graphql_query.specs.{fragment_spread_rest, type_condition_symbol, type_condition_of, spread_name_of};
+ghost use Rattle.graphql_query.specs.{fragment_spread_rest_of, Reads};
 
+use crate::tree::{FragmentSpread, Selection, TypeCondition};
 use graphql_core::common::Names;
+use graphql_core::common::read::directives;
 use graphql_core::helpers::{ReadError, TokenSource, expect_keyword, expect_name, sees_keyword};
-use graphql_query_tree::tree::{FragmentSpread, Selection, TypeCondition};
-use graphql_values::read::directives;
 use std::alloc::Global;
 
 /// `TypeCondition = "on" Name`
-#[tactic(auto, using(graphql_values::proofs::Reading::reading))]
+#[tactic(auto, using(graphql_core::proofs::readers::Reading::reading))]
 pub fn type_condition<S: TokenSource>(
     alloc: Global,
     source: &mut S,
@@ -27,7 +27,7 @@ pub fn type_condition<S: TokenSource>(
 }
 
 /// `TypeCondition?`
-#[tactic(auto, using(graphql_values::proofs::Reading::reading))]
+#[tactic(auto, using(graphql_core::proofs::readers::Reading::reading))]
 pub fn optional_type_condition<S: TokenSource>(
     alloc: Global,
     source: &mut S,
@@ -43,7 +43,7 @@ pub fn optional_type_condition<S: TokenSource>(
     Ok(Some(type_condition(alloc, source)?))
 }
 
-/// Whether the name of a spread comes next.
+/// Whether the next token can be the name of a spread.
 pub fn sees_spread_name<S: TokenSource>(source: &S) -> bool
     ensures { result ≡ sees_class spread_class (S.items source.now) }
 {
@@ -51,7 +51,7 @@ pub fn sees_spread_name<S: TokenSource>(source: &S) -> bool
 }
 
 /// `SpreadName = Name other than "on"`
-#[tactic(auto, using(graphql_values::proofs::Reading::reading))]
+#[tactic(auto, using(graphql_core::proofs::readers::Reading::reading))]
 fn spread_name<S: TokenSource>(
     alloc: Global,
     source: &mut S,
@@ -67,8 +67,8 @@ fn spread_name<S: TokenSource>(
     expect_name(alloc, source)
 }
 
-/// `SpreadName Directives`, what stands after the dots of a spread, after the selections before it.
-#[tactic(auto, using(graphql_values::proofs::Reading::reading))]
+/// `SpreadName Directives`: what follows the `...` of a spread. Appends the spread to `items`.
+#[tactic(auto, using(graphql_core::proofs::readers::Reading::reading))]
 pub fn fragment_spread<S: TokenSource>(
     alloc: Global,
     source: &mut S,

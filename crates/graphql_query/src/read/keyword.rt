@@ -1,23 +1,20 @@
-//! The keywords with which operations begin.
+//! The keywords that begin operations.
 ghost use Rattle.std.specs.Prelude.{◌≡◌};
-ghost use Rattle.graphql_query_tree.specs.{keyword};
-ghost use Rattle.graphql_query.specs.{kind_of, Tells};
+ghost use Rattle.graphql_query.specs.Layout.{keyword};
+ghost use Rattle.graphql_query.specs.steps.Operations.{kind_of, Tells};
 
 use graphql_core::helpers::{TokenSource, sees_keyword};
 
 /// The keyword of an operation.
 #[derive(Clone, Copy)]
 pub enum Keyword {
-    /// `query`.
     Query,
-    /// `mutation`.
     Mutation,
-    /// `subscription`.
     Subscription,
 }
 
 impl Keyword {
-    /// Its spelling.
+    /// The spelling of the keyword.
     pub fn word(self) -> &'static str
         ensures { result.now ≡ keyword (kind_of self) }
     {
@@ -29,7 +26,7 @@ impl Keyword {
     }
 }
 
-/// The keyword that comes next, if one does.
+/// The next token as an operation keyword; `None` if it is another token.
 pub fn peek_keyword<S: TokenSource>(source: &S) -> Option<Keyword>
     ensures { Tells (S.items source.now) result }
 {

@@ -1,42 +1,42 @@
 //! Operations and their variables.
 ghost use Rattle.std.specs.Prelude.{◌≡◌, ◌≤◌, OnOk, [], ◌∷◌, length, option_map};
-ghost use Rattle.graphql_values.specs.{Sym, optional, kept, place_of, Adds, Shortens, spelling_at, optional_of, optional_list_of, enclosed_of};
-ghost use Rattle.graphql_query_tree.specs.{variable_definition_view, operation_view, operation, with_body, VariableDefinitionTree, operation_body_symbol};
-ghost use Rattle.graphql_query_tree.specs.{variable_definitions_symbol, variable_definition_symbol, operation_symbol, reading, operation_body_of, keyword_of};
-ghost use Rattle.graphql_query_tree.specs.{operation_of, variable_definition_of};
-ghost use Rattle.graphql_query.specs.{kind_of, keyword_rule, operation_body_view, Reads, read_variable_definition};
-ghost use Rattle.graphql_values.specs.Grammar as shared;
+ghost use Rattle.graphql_core.specs.{Sym, optional, kept, place_of, Adds, Shortens, spelling_at, optional_of};
+ghost use Rattle.graphql_core.specs.{optional_list_of, enclosed_of};
+ghost use Rattle.graphql_query.specs.Tree.{variable_definition_view, operation_view, operation, with_body};
+ghost use Rattle.graphql_query.specs.Tree.{VariableDefinitionTree};
+ghost use Rattle.graphql_query.specs.Grammar.{operation_body_symbol, variable_definitions_symbol};
+ghost use Rattle.graphql_query.specs.Grammar.{variable_definition_symbol, operation_symbol, reading};
+ghost use Rattle.graphql_query.specs.Meanings.{operation_body_of, keyword_of, operation_of, variable_definition_of};
+ghost use Rattle.graphql_query.specs.steps.Operations.{kind_of, keyword_rule, operation_body_view};
+ghost use Rattle.graphql_query.specs.steps.Readers.{Reads, read_variable_definition};
+ghost use Rattle.graphql_core.specs.values.Grammar as shared;
 
 use crate::read::keyword::{Keyword, peek_keyword};
 use crate::read::selection::selection_set;
+use crate::tree::{
+    Mutation, OperationDefinition, Query, Selection, SelectionSet, Subscription, VariableDefinition,
+};
 use graphql_core::common::Names;
+use graphql_core::common::read::directives::{self, optional_default};
+use graphql_core::common::read::lists::{Elements, optional_list};
+use graphql_core::common::read::types::type_reference;
+use graphql_core::common::tree::Directive;
 use graphql_core::helpers::{
     Punctuator, ReadError, TokenSource, expect_keyword, expect_name, expect_punctuator,
 };
 use graphql_core::position::Pos;
-use graphql_query_tree::tree::{
-    Mutation, OperationDefinition, Query, Selection, SelectionSet, Subscription, VariableDefinition,
-};
-use graphql_values::read::directives::{self, optional_default};
-use graphql_values::read::lists::{Elements, optional_list};
-use graphql_values::read::types::type_reference;
-use graphql_values::tree::Directive;
 use std::alloc::Global;
 
 /// What every operation has after its keyword.
 #[derive(Drop)]
 struct OperationBody<N: Names> {
-    /// The name; `None` where it has none.
     name: Option<N::Value>,
-    /// The variables, in the order of the text.
     variable_definitions: Vec<VariableDefinition<N>>,
-    /// The directives, in the order of the text.
     directives: Vec<Directive<N>>,
-    /// What is selected.
     selection_set: SelectionSet<N>,
 }
 
-// The operation of a kind that stands at a position and has this body.
+// Builds an operation of this kind from its position and its body.
 macro_rules! operation {
     ($kind:ident, $position:expr, $body:expr) => {{
         let position = $position;
@@ -46,7 +46,7 @@ macro_rules! operation {
 }
 
 impl<N: Names> OperationBody<N> {
-    /// The operation that has this body after a keyword, which stands at a position.
+    /// The operation with this body; `position` is that of the keyword.
     fn into_operation(self, keyword: Keyword, position: Pos) -> OperationDefinition<N>
         ensures { operation_view N.bytes result ≡ operation (with_body (kind_of keyword) (place_of position) (operation_body_view N.bytes self)) }
     {
@@ -59,7 +59,7 @@ impl<N: Names> OperationBody<N> {
 }
 
 /// `Name?`
-#[tactic(auto, using(graphql_values::proofs::Reading::reading))]
+#[tactic(auto, using(graphql_core::proofs::readers::Reading::reading))]
 fn optional_name<S: TokenSource>(
     alloc: Global,
     source: &mut S,
@@ -75,10 +75,10 @@ fn optional_name<S: TokenSource>(
     Ok(Some(expect_name(alloc, source)?))
 }
 
-// Variables, one after the other.
+// The variables between the parentheses of an operation.
 struct VariableDefinitionList;
 
-#[tactic(auto, using(graphql_values::proofs::Reading::reading))]
+#[tactic(auto, using(graphql_core::proofs::readers::Reading::reading))]
 impl<S: TokenSource> Elements<S> for VariableDefinitionList {
     type Item = VariableDefinition<S::Names>;
 
@@ -92,7 +92,7 @@ impl<S: TokenSource> Elements<S> for VariableDefinitionList {
 
     ghost view = { variable_definition_view S.Names.bytes };
 
-    #[tactic(auto, unfolding(graphql_query_tree::specs::Grammar::tables, graphql_values::specs::Grammar::tables))]
+    #[tactic(auto, unfolding(crate::specs::Grammar::tables, graphql_core::specs::values::Grammar::tables))]
     fn comes_next(source: &S) -> bool {
         source.sees_punctuator(Punctuator::Dollar)
     }
@@ -138,8 +138,9 @@ fn optional_variable_definitions<S: TokenSource>(
     optional_list::<S, VariableDefinitionList>(alloc, source, open, close, definitions)
 }
 
-/// `OperationBody = Name? VariableDefinitions? Directives SelectionSet`; selections are read at the end of `scratch`.
-#[tactic(auto, using(graphql_values::proofs::Reading::reading))]
+/// `OperationBody = Name? VariableDefinitions? Directives SelectionSet`.
+/// Selections are collected at the end of `scratch`.
+#[tactic(auto, using(graphql_core::proofs::readers::Reading::reading))]
 fn operation_body<S: TokenSource>(
     alloc: Global,
     source: &mut S,
@@ -164,8 +165,8 @@ fn operation_body<S: TokenSource>(
     })
 }
 
-/// `"query" OperationBody`, `"mutation" OperationBody` or `"subscription" OperationBody`, as the keyword says.
-#[tactic(auto, using(graphql_values::proofs::Reading::reading))]
+/// `"query" OperationBody`, `"mutation" OperationBody` or `"subscription" OperationBody`, as `keyword` says.
+#[tactic(auto, using(graphql_core::proofs::readers::Reading::reading))]
 fn keyword_operation<S: TokenSource>(
     alloc: Global,
     source: &mut S,
@@ -183,7 +184,7 @@ fn keyword_operation<S: TokenSource>(
 }
 
 /// `OperationDefinition = SelectionSet | "query" OperationBody | "mutation" OperationBody | "subscription" OperationBody`
-#[tactic(auto, using(graphql_values::proofs::Reading::reading))]
+#[tactic(auto, using(graphql_core::proofs::readers::Reading::reading))]
 pub fn operation_definition<S: TokenSource>(
     alloc: Global,
     source: &mut S,

@@ -1,21 +1,24 @@
 //! Selections.
 ghost use Rattle.std.specs.Prelude.{◌≡◌, ◌≤◌, ◌||◌, OnOk, [], ◌∷◌, length, codes};
-ghost use Rattle.graphql_values.specs.{Then, Sym, Either, optional, Name, kept, place_of, sees_class, punctuator, any, mark, Adds, Shortens};
-ghost use Rattle.graphql_query_tree.specs.{selection_view, selection_set_view, field_symbol, selection_set_symbol, selection_symbol, fragment_spread_rest};
-ghost use Rattle.graphql_query_tree.specs.{inline_fragment_rest, field_of, selected_of, inline_fragment_rest_of, selection_of, selection_set_of};
-ghost use Rattle.graphql_query.specs.{Reads, AddsSet, after_dots_of};
+ghost use Rattle.graphql_core.specs.{Then, Sym, Either, optional, kept, place_of, sees_class, punctuator, any, Adds};
+ghost use Rattle.graphql_core.specs.{Shortens, punctuator_class};
+ghost use Rattle.graphql_core.specs.declared.tokenizer.token.Kind.TheVariants.{Name};
+ghost use Rattle.graphql_query.specs.{selection_view, selection_set_view, field_symbol, selection_set_symbol};
+ghost use Rattle.graphql_query.specs.{selection_symbol, fragment_spread_rest, inline_fragment_rest, field_of};
+ghost use Rattle.graphql_query.specs.{selected_of, inline_fragment_rest_of, selection_of, selection_set_of, Reads};
+ghost use Rattle.graphql_query.specs.{AddsSet, after_dots_of};
 
 use crate::read::alias::alias_and_name;
 use crate::read::fragment::{fragment_spread, optional_type_condition, sees_spread_name};
+use crate::tree::{Field, InlineFragment, Selection, SelectionSet};
+use graphql_core::common::read::directives::{self, optional_arguments};
 use graphql_core::helpers::{Punctuator, ReadError, TokenSource, expect_punctuator};
 use graphql_core::position::Pos;
-use graphql_query_tree::tree::{Field, InlineFragment, Selection, SelectionSet};
-use graphql_values::read::directives::{self, optional_arguments};
 use std::alloc::Global;
 
-/// `Field = Alias? Name Arguments? Directives SelectionSet?`, where `Alias = Name ":"`, after the selections before it.
+/// `Field = Alias? Name Arguments? Directives SelectionSet?`, where `Alias = Name ":"`. Appends the field to `items`.
 #[cycle(reading)]
-#[tactic(auto, using(graphql_values::proofs::Reading::reading))]
+#[tactic(auto, using(graphql_core::proofs::readers::Reading::reading))]
 fn field<S: TokenSource>(
     alloc: Global,
     source: &mut S,
@@ -45,10 +48,10 @@ fn field<S: TokenSource>(
     Ok(())
 }
 
-/// `SelectionSet?` of a field that stands at a position, read at the end of other selections, which stay.
+/// `SelectionSet?` of the field at `position`. Selections are collected at the end of `others` and removed again.
 #[cycle(reading)]
 #[inline(always)]
-#[tactic(auto, using(graphql_values::proofs::Reading::reading))]
+#[tactic(auto, using(graphql_core::proofs::readers::Reading::reading))]
 fn optional_selection_set<S: TokenSource>(
     alloc: Global,
     source: &mut S,
@@ -70,9 +73,10 @@ fn optional_selection_set<S: TokenSource>(
     selection_set(alloc, source, others)
 }
 
-/// `TypeCondition? Directives SelectionSet`, what stands after the dots of an inline fragment, after the selections before it.
+/// `TypeCondition? Directives SelectionSet`: what follows the `...` of an inline fragment.
+/// Appends the fragment to `items`.
 #[cycle(reading)]
-#[tactic(auto, using(graphql_values::proofs::Reading::reading))]
+#[tactic(auto, using(graphql_core::proofs::readers::Reading::reading))]
 fn inline_fragment<S: TokenSource>(
     alloc: Global,
     source: &mut S,
@@ -98,9 +102,10 @@ fn inline_fragment<S: TokenSource>(
     Ok(())
 }
 
-/// `FragmentSpread = "..." SpreadName Directives`, `InlineFragment = "..." TypeCondition? Directives SelectionSet`, after the selections before it.
+/// `FragmentSpread = "..." SpreadName Directives`, `InlineFragment = "..." TypeCondition? Directives SelectionSet`.
+/// Appends the selection to `items`.
 #[cycle(reading)]
-#[tactic(auto, using(graphql_values::proofs::Reading::reading))]
+#[tactic(auto, using(graphql_core::proofs::readers::Reading::reading))]
 fn fragment_selection<S: TokenSource>(
     alloc: Global,
     source: &mut S,
@@ -118,9 +123,9 @@ fn fragment_selection<S: TokenSource>(
     inline_fragment(alloc, source, items)
 }
 
-/// `Selection = Field | FragmentSpread | InlineFragment`, after the selections before it.
+/// `Selection = Field | FragmentSpread | InlineFragment`. Appends the selection to `items`.
 #[cycle(reading)]
-#[tactic(auto, using(graphql_values::proofs::Reading::reading))]
+#[tactic(auto, using(graphql_core::proofs::readers::Reading::reading))]
 fn selection<S: TokenSource>(
     alloc: Global,
     source: &mut S,
@@ -137,16 +142,16 @@ fn selection<S: TokenSource>(
     field(alloc, source, items)
 }
 
-/// Whether a selection comes next.
+/// Whether the next token can begin a selection.
 fn sees_selection<S: TokenSource>(source: &S) -> bool
-    ensures { result ≡ (sees_class (any Name) (S.items source.now) || sees_class (mark (codes "...")) (S.items source.now)) }
+    ensures { result ≡ (sees_class (any Name) (S.items source.now) || sees_class (punctuator_class (codes "...")) (S.items source.now)) }
 {
     source.sees_name() || source.sees_punctuator(Punctuator::Spread)
 }
 
-/// `"{" Selection+ "}"`: the span, and the selections after those before them.
+/// `"{" Selection+ "}"`. Returns the positions of the braces, and appends the selections to `items`.
 #[cycle(reading)]
-#[tactic(auto, using(graphql_values::proofs::Reading::reading))]
+#[tactic(auto, using(graphql_core::proofs::readers::Reading::reading))]
 fn selections<S: TokenSource>(
     alloc: Global,
     source: &mut S,
@@ -166,11 +171,11 @@ fn selections<S: TokenSource>(
     Ok((start, end))
 }
 
-/// `SelectionSet = "{" Selection+ "}"`, read at the end of other selections, which stay, and taken off them:
-/// so the list of a set is allocated once, as long as it is.
+/// `SelectionSet = "{" Selection+ "}"`. Selections are collected at the end of `others` and then split off,
+/// so the list of a set is allocated once, at its exact length.
 #[cycle(reading)]
 #[inline(always)]
-#[tactic(auto, using(graphql_values::proofs::Reading::reading))]
+#[tactic(auto, using(graphql_core::proofs::readers::Reading::reading))]
 pub fn selection_set<S: TokenSource>(
     alloc: Global,
     source: &mut S,

@@ -1,12 +1,12 @@
--- The keywords with which definitions begin that may have a description.
+-- The keywords of definitions that can have a description.
 use Rattle.std.specs.Prelude.{◌≡◌, ℕ, Bool, true, false, ◌||◌, List, [], ◌∷◌, Option, Some, None, codes}
-use Rattle.graphql_grammar.specs.{in_any}
-use Rattle.graphql_values.specs.{Token, Class, matches, peek, sees, Items, sees_class, keyword}
+use Rattle.graphql_core.specs.{in_any, Token, Class, matches, peek, sees, sees_class, keyword, Items}
 use Rattle.graphql_schema.specs.declared.read.keyword.TypeKind.{TypeKind}
-use Rattle.graphql_schema.specs.declared.read.keyword.TypeKind.TheVariants.{Scalar, Object, Interface, Union, Enum, InputObject}
+use Rattle.graphql_schema.specs.declared.read.keyword.TypeKind.TheVariants.{Scalar, Object, Interface, Union, Enum}
+use Rattle.graphql_schema.specs.declared.read.keyword.TypeKind.TheVariants.{InputObject}
 use Rattle.graphql_schema.specs.declared.read.keyword.Keyword.{Keyword}
 use Rattle.graphql_schema.specs.declared.read.keyword.Keyword.TheVariants.{Schema, OfType, Directive}
-use Rattle.graphql_schema.specs.steps.Reads.{sees_description}
+use Rattle.graphql_schema.specs.steps.Readers.{sees_description}
 
 abbrev pub kind_word : TypeKind → List ℕ
 kind_word Scalar = codes "scalar"
@@ -26,22 +26,22 @@ class_of Schema = keyword (codes "schema")
 class_of (OfType k) = keyword (kind_word k)
 class_of Directive = keyword (codes "directive")
 
--- all of them
+-- all of these keywords
 abbrev pub keywords : List Class
 keywords =
     keyword (codes "schema") ∷ keyword (codes "scalar") ∷ keyword (codes "type") ∷ keyword (codes "interface") ∷ keyword (codes "union")
     ∷ keyword (codes "enum") ∷ keyword (codes "input") ∷ keyword (codes "directive") ∷ []
 
--- a token is this one, or none of them
+-- the token is this keyword, or none of them
 abbrev pub TellsToken : Token → Option Keyword → Type 0
 TellsToken t (Some k) = matches (class_of k) t ≡ true
 TellsToken t None = in_any keywords t ≡ false
 
--- this one comes next, or none of them does
+-- this keyword is next, or none of them is
 abbrev pub Tells : Items → Option Keyword → Type 0
 Tells i (Some k) = sees_class (class_of k) i ≡ true
 Tells i None = sees keywords (peek i.tokens) ≡ false
 
--- a definition comes next
+-- the next token can begin a definition
 abbrev pub sees_definition : Items → Bool
 sees_definition i = sees_description i || (sees keywords (peek i.tokens) || sees_class (keyword (codes "extend")) i)

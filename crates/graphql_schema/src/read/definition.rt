@@ -1,8 +1,7 @@
-//! Definitions, and documents of them.
+//! Definitions, and lists of them.
 ghost use Rattle.std.specs.Prelude.{◌≡◌, map};
-ghost use Rattle.graphql_values.specs.{Sym, some_of, kept, Shortens, each_of};
-ghost use Rattle.graphql_schema_tree.specs.{item_symbol, item_of, definition_view};
-ghost use Rattle.graphql_schema.specs.{sees_definition, ReadsNode};
+ghost use Rattle.graphql_core.specs.{Sym, some_of, kept, Shortens, each_of};
+ghost use Rattle.graphql_schema.specs.{item_symbol, item_of, definition_view, sees_definition, ReadsNode};
 
 use crate::read::description::{optional_description, sees_description};
 use crate::read::directive::directive_definition;
@@ -11,14 +10,15 @@ use crate::read::invalid_node::InvalidNode;
 use crate::read::keyword::{Keyword, peek_keyword, sees_definition_keyword};
 use crate::read::schema::schema_definition;
 use crate::read::types::type_body;
+use crate::tree::Definition;
+use graphql_core::common::read::node_error::NodeError;
 use graphql_core::helpers::{ReadError, TokenSource, sees_keyword};
-use graphql_schema_tree::tree::Definition;
-use graphql_values::read::node_error::NodeError;
 use std::alloc::Global;
 
-/// `SchemaItem = Description? Schema | Extension | Described`, where `Described = Description? TypeBody | Description? DirectiveDef`
+/// `SchemaItem = Description? Schema | Extension | Described`,
+/// where `Described = Description? TypeBody | Description? DirectiveDef`
 /// and `TypeBody = Scalar | Object | Interface | Union | Enum | Input`.
-#[tactic(auto, using(graphql_values::proofs::Reading::reading))]
+#[tactic(auto, using(graphql_core::proofs::readers::Reading::reading))]
 fn definition<S: TokenSource>(
     alloc: Global,
     source: &mut S,
@@ -51,15 +51,15 @@ fn definition<S: TokenSource>(
     }
 }
 
-/// Whether a definition begins with the next item.
+/// Whether the next token can begin a definition.
 fn sees_definition<S: TokenSource>(source: &S) -> bool
     ensures { result ≡ sees_definition (S.items source.now) }
 {
     sees_description(source) || sees_definition_keyword(source) || sees_keyword(source, "extend")
 }
 
-/// `SchemaDocument = SchemaItem+`, without the end after it.
-#[tactic(auto, using(graphql_values::proofs::Reading::reading))]
+/// `SchemaDocument = SchemaItem+`, without the end of the input after it.
+#[tactic(auto, using(graphql_core::proofs::readers::Reading::reading))]
 pub fn definitions<S: TokenSource>(
     alloc: Global,
     source: &mut S,

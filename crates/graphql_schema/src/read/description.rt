@@ -1,15 +1,16 @@
 //! Descriptions.
 ghost use Rattle.std.specs.Prelude.{◌≡◌, ◌≤◌, OnOk, length, option_map, string_bytes};
-ghost use Rattle.graphql_values.specs.{Sym, optional, kept, sees_class, BlockString, any, Shortens, optional_of};
-ghost use Rattle.graphql_schema_tree.specs.{description_symbol, description_of};
-ghost use Rattle.graphql_schema.specs.{Reads, sees_description, sees_described_name};
+ghost use Rattle.graphql_core.specs.{Sym, optional, kept, sees_class, any, Shortens, optional_of};
+ghost use Rattle.graphql_core.specs.declared.tokenizer.token.Kind.TheVariants.{BlockString};
+ghost use Rattle.graphql_schema.specs.{description_symbol, description_of, Reads, sees_description};
+ghost use Rattle.graphql_schema.specs.{sees_described_name};
 
+use graphql_core::common::read::leaf::{block_string_value, string_value};
 use graphql_core::helpers::{ReadError, TokenSource};
 use graphql_core::tokenizer::Kind;
-use graphql_values::read::leaf::{block_string_value, string_value};
 use std::alloc::Global;
 
-/// Whether a description comes next.
+/// Whether the next token is a description.
 pub fn sees_description<S: TokenSource>(source: &S) -> bool
     ensures { result ≡ sees_description (S.items source.now) }
 {
@@ -19,7 +20,7 @@ pub fn sees_description<S: TokenSource>(source: &S) -> bool
     }
 }
 
-/// Whether a block string comes next.
+/// Whether the next token is a block string.
 fn sees_block_string<S: TokenSource>(source: &S) -> bool
     ensures { result ≡ sees_class (any BlockString) (S.items source.now) }
 {
@@ -29,7 +30,7 @@ fn sees_block_string<S: TokenSource>(source: &S) -> bool
     }
 }
 
-/// Whether a name comes next, or its description.
+/// Whether the next token is a name or a description.
 pub fn sees_described_name<S: TokenSource>(source: &S) -> bool
     ensures { result ≡ sees_described_name (S.items source.now) }
 {
@@ -38,7 +39,7 @@ pub fn sees_described_name<S: TokenSource>(source: &S) -> bool
 
 /// `Description = String | Block`
 #[inline(never)]
-#[tactic(auto, using(graphql_values::proofs::Reading::reading))]
+#[tactic(auto, using(graphql_core::proofs::readers::Reading::reading))]
 fn description<S: TokenSource>(alloc: Global, source: &mut S) -> Result<String, ReadError>
     ensures reads { Reads (Sym description_symbol) (S.items source.old) (S.items source.new)
         (λ v x. string_bytes v ≡ description_of x) result }
@@ -53,7 +54,7 @@ fn description<S: TokenSource>(alloc: Global, source: &mut S) -> Result<String, 
 
 /// `Description?`
 #[inline(always)]
-#[tactic(auto, using(graphql_values::proofs::Reading::reading))]
+#[tactic(auto, using(graphql_core::proofs::readers::Reading::reading))]
 pub fn optional_description<S: TokenSource>(
     alloc: Global,
     source: &mut S,

@@ -1,24 +1,24 @@
-//! Definitions of directives.
+//! Directive definitions.
 ghost use Rattle.std.specs.Prelude.{◌≡◌, ◌≤◌, OnOk, None, Some, [], ◌∷◌, ◌++◌, length, codes};
-ghost use Rattle.graphql_values.specs.{Then, Sym, optional, kept, punctuator, word, Adds, Shortens, is_there, marked_of};
-ghost use Rattle.graphql_schema_tree.specs.{location_symbol, locations_symbol, directive_definition_symbol, location_at, locations_of, directive_definition_of};
-ghost use Rattle.graphql_schema_tree.specs.{directive_definition_view};
-ghost use Rattle.graphql_schema.specs.{Reads};
+ghost use Rattle.graphql_core.specs.{Then, Sym, optional, kept, punctuator, word, Adds, Shortens, is_there};
+ghost use Rattle.graphql_core.specs.{separated_of};
+ghost use Rattle.graphql_schema.specs.{location_symbol, locations_symbol, directive_definition_symbol, location_at};
+ghost use Rattle.graphql_schema.specs.{locations_of, directive_definition_of, directive_definition_view, Reads};
 
+use crate::DirectiveLocation;
 use crate::read::input::optional_argument_definitions;
 use crate::read::names::optional_punctuator;
+use crate::tree::DirectiveDefinition;
+use graphql_core::common::read::leaf::next_of;
 use graphql_core::helpers::{
     Punctuator, ReadError, TokenSource, expect_keyword, expect_name, expect_punctuator,
     sees_keyword, shrink_list,
 };
 use graphql_core::tokenizer::Kind;
-use graphql_schema_tree::DirectiveLocation;
-use graphql_schema_tree::tree::DirectiveDefinition;
-use graphql_values::read::leaf::next_of;
 use std::alloc::Global;
 
-/// `Location = Name` that names one.
-#[tactic(auto, using(graphql_values::proofs::Reading::reading))]
+/// `Location = Name`, where the name is that of a directive location.
+#[tactic(auto, using(graphql_core::proofs::readers::Reading::reading))]
 fn location<S: TokenSource>(source: &mut S) -> Result<DirectiveLocation, ReadError>
     ensures reads { Reads (Sym location_symbol) (S.items source.old) (S.items source.new)
         (λ v x. Some v ≡ location_at x) result }
@@ -33,14 +33,14 @@ fn location<S: TokenSource>(source: &mut S) -> Result<DirectiveLocation, ReadErr
     Ok(location)
 }
 
-/// `"|" Location`, after the locations before it.
-#[tactic(auto, using(graphql_values::proofs::Reading::reading))]
-fn marked_location<S: TokenSource>(
+/// `"|" Location`. Appends the location to `locations`.
+#[tactic(auto, using(graphql_core::proofs::readers::Reading::reading))]
+fn separated_location<S: TokenSource>(
     source: &mut S,
     locations: &mut Vec<DirectiveLocation>,
 ) -> Result<(), ReadError>
     ensures reads { Reads (Then (punctuator (codes "|")) (Sym location_symbol)) (S.items source.old) (S.items source.new)
-        (λ v x. Adds Some locations.old.items locations.new.items (marked_of location_at None x ∷ [])) result }
+        (λ v x. Adds Some locations.old.items locations.new.items (separated_of location_at None x ∷ [])) result }
     ensures kept { kept (S.items source.new) ≡ kept (S.items source.old) }
     ensures shorter { Shortens (S.items source.old) (S.items source.new) result }
 {
@@ -49,8 +49,8 @@ fn marked_location<S: TokenSource>(
     Ok(())
 }
 
-/// `Locations = "|"? Location ("|" Location)*`, after the locations before them.
-#[tactic(auto, using(graphql_values::proofs::Reading::reading))]
+/// `Locations = "|"? Location ("|" Location)*`. Appends the locations to `locations`.
+#[tactic(auto, using(graphql_core::proofs::readers::Reading::reading))]
 fn locations<S: TokenSource>(
     source: &mut S,
     locations: &mut Vec<DirectiveLocation>,
@@ -63,14 +63,14 @@ fn locations<S: TokenSource>(
     optional_punctuator(source, Punctuator::Pipe)?;
     locations.push(location(source)?)?;
     'more: while source.sees_punctuator(Punctuator::Pipe) {
-        marked_location(source, locations)?;
+        separated_location(source, locations)?;
     }
     shrink_list(source, locations);
     Ok(())
 }
 
 /// `"repeatable"?`
-#[tactic(auto, using(graphql_values::proofs::Reading::reading))]
+#[tactic(auto, using(graphql_core::proofs::readers::Reading::reading))]
 fn repeatable<S: TokenSource>(source: &mut S) -> Result<bool, ReadError>
     ensures reads { Reads (optional (word (codes "repeatable"))) (S.items source.old) (S.items source.new)
         (λ v x. v ≡ is_there x) result }
@@ -85,7 +85,7 @@ fn repeatable<S: TokenSource>(source: &mut S) -> Result<bool, ReadError>
 }
 
 /// `DirectiveDef = "directive" "@" Name ArgumentDefs? "repeatable"? "on" Locations`, without its description.
-#[tactic(auto, using(graphql_values::proofs::Reading::reading))]
+#[tactic(auto, using(graphql_core::proofs::readers::Reading::reading))]
 pub fn directive_definition<S: TokenSource>(
     alloc: Global,
     source: &mut S,

@@ -1,20 +1,24 @@
 //! Values of enums.
 ghost use Rattle.std.specs.Prelude.{◌≡◌, ◌≤◌, OnOk, length};
-ghost use Rattle.graphql_values.specs.{Sym, optional, kept, Adds, reading, enclosed_of, optional_list_of};
-ghost use Rattle.graphql_schema_tree.specs.{enum_value_symbol, enum_values_symbol, enum_value_of, enum_value_view, EnumValueTree, schemas};
-ghost use Rattle.graphql_schema.specs.{Reads, as_written};
+ghost use Rattle.graphql_core.specs.{Sym, optional, kept, Adds, reading, enclosed_of, optional_list_of};
+ghost use Rattle.graphql_schema.specs.Grammar.{enum_value_symbol, enum_values_symbol};
+ghost use Rattle.graphql_schema.specs.Meanings.{enum_value_of};
+ghost use Rattle.graphql_schema.specs.Views.{enum_value_view};
+ghost use Rattle.graphql_schema.specs.Tree.{EnumValueTree};
+ghost use Rattle.graphql_schema.specs.Language.{schemas};
+ghost use Rattle.graphql_schema.specs.steps.Readers.{Reads, as_written};
 
 use crate::read::description::{optional_description, sees_described_name};
+use crate::tree::EnumValue;
+use graphql_core::common::read::directives;
+use graphql_core::common::read::lists::{Elements, optional_list};
 use graphql_core::helpers::{Punctuator, ReadError, TokenSource, expect_name};
-use graphql_schema_tree::tree::EnumValue;
-use graphql_values::read::directives;
-use graphql_values::read::lists::{Elements, optional_list};
 use std::alloc::Global;
 
-// Values of an enum, one after the other.
+// The values between the braces of an enum.
 struct EnumValueList;
 
-#[tactic(auto, using(graphql_values::proofs::Reading::reading))]
+#[tactic(auto, using(graphql_core::proofs::readers::Reading::reading))]
 impl<S: TokenSource> Elements<S> for EnumValueList {
     type Item = EnumValue<S::Names>;
 

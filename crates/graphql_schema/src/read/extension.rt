@@ -1,20 +1,20 @@
 //! Extensions of types and of the schema.
 ghost use Rattle.std.specs.Prelude.{◌≡◌};
-ghost use Rattle.graphql_values.specs.{Sym, kept, Shortens};
-ghost use Rattle.graphql_schema_tree.specs.{extension_symbol, extension_of, adds_to_schema, schema_extension_view, definition_view};
-ghost use Rattle.graphql_schema.specs.{ReadsNode};
+ghost use Rattle.graphql_core.specs.{Sym, kept, Shortens};
+ghost use Rattle.graphql_schema.specs.{extension_symbol, extension_of, adds_to_schema, schema_extension_view};
+ghost use Rattle.graphql_schema.specs.{definition_view, ReadsNode};
 
 use crate::read::invalid_node::InvalidNode;
 use crate::read::keyword::{Keyword, peek_keyword};
 use crate::read::schema::schema_extension;
 use crate::read::types::type_body;
+use crate::tree::{Definition, SchemaExtension};
 use graphql_core::common::Names;
+use graphql_core::common::read::node_error::NodeError;
 use graphql_core::helpers::{ReadError, TokenSource, expect_keyword};
-use graphql_schema_tree::tree::{Definition, SchemaExtension};
-use graphql_values::read::node_error::NodeError;
 use std::alloc::Global;
 
-/// Whether it adds something to the schema: a directive or an operation.
+/// Whether an extension of the schema adds something: a directive or an operation.
 fn adds_to_schema<N: Names>(added: &SchemaExtension<N>) -> bool
     ensures { result ≡ adds_to_schema (schema_extension_view N.bytes added.now) }
 {
@@ -24,8 +24,8 @@ fn adds_to_schema<N: Names>(added: &SchemaExtension<N>) -> bool
         || added.subscription.is_some()
 }
 
-/// `Extension = "extend" TypeBody | "extend" SchemaExt`, of one that adds something.
-#[tactic(auto, using(graphql_values::proofs::Reading::reading))]
+/// `Extension = "extend" TypeBody | "extend" SchemaExt`. An extension that adds nothing is rejected.
+#[tactic(auto, using(graphql_core::proofs::readers::Reading::reading))]
 pub fn extension<S: TokenSource>(
     alloc: Global,
     source: &mut S,

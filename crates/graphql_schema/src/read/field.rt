@@ -1,22 +1,26 @@
-//! Fields of objects and of interfaces.
+//! Fields of object types and of interfaces.
 ghost use Rattle.std.specs.Prelude.{◌≡◌, ◌≤◌, OnOk, length};
-ghost use Rattle.graphql_values.specs.{Sym, optional, kept, Adds, reading, enclosed_of, optional_list_of};
-ghost use Rattle.graphql_schema_tree.specs.{field_symbol, fields_symbol, field_of, field_view, FieldTree, schemas};
-ghost use Rattle.graphql_schema.specs.{Reads, as_written};
+ghost use Rattle.graphql_core.specs.{Sym, optional, kept, Adds, reading, enclosed_of, optional_list_of};
+ghost use Rattle.graphql_schema.specs.Grammar.{field_symbol, fields_symbol};
+ghost use Rattle.graphql_schema.specs.Meanings.{field_of};
+ghost use Rattle.graphql_schema.specs.Views.{field_view};
+ghost use Rattle.graphql_schema.specs.Tree.{FieldTree};
+ghost use Rattle.graphql_schema.specs.Language.{schemas};
+ghost use Rattle.graphql_schema.specs.steps.Readers.{Reads, as_written};
 
 use crate::read::description::{optional_description, sees_described_name};
 use crate::read::input::optional_argument_definitions;
+use crate::tree::Field;
+use graphql_core::common::read::directives;
+use graphql_core::common::read::lists::{Elements, optional_list};
+use graphql_core::common::read::types::type_reference;
 use graphql_core::helpers::{Punctuator, ReadError, TokenSource, expect_name, expect_punctuator};
-use graphql_schema_tree::tree::Field;
-use graphql_values::read::directives;
-use graphql_values::read::lists::{Elements, optional_list};
-use graphql_values::read::types::type_reference;
 use std::alloc::Global;
 
-// Fields, one after the other.
+// The fields between the braces of an object type or of an interface.
 struct FieldList;
 
-#[tactic(auto, using(graphql_values::proofs::Reading::reading))]
+#[tactic(auto, using(graphql_core::proofs::readers::Reading::reading))]
 impl<S: TokenSource> Elements<S> for FieldList {
     type Item = Field<S::Names>;
 

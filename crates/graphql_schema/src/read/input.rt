@@ -1,22 +1,25 @@
 //! Arguments of fields and of directives, and fields of input objects.
 ghost use Rattle.std.specs.Prelude.{◌≡◌, ◌≤◌, OnOk, length};
-ghost use Rattle.graphql_values.specs.{Sym, optional, kept, Adds, reading, enclosed_of, optional_list_of};
-ghost use Rattle.graphql_schema_tree.specs.{input_value_symbol, argument_definitions_symbol, input_fields_symbol, input_value_of, input_value_view};
-ghost use Rattle.graphql_schema_tree.specs.{InputValueTree, schemas};
-ghost use Rattle.graphql_schema.specs.{Reads, as_written};
+ghost use Rattle.graphql_core.specs.{Sym, optional, kept, Adds, reading, enclosed_of, optional_list_of};
+ghost use Rattle.graphql_schema.specs.Grammar.{input_value_symbol, argument_definitions_symbol, input_fields_symbol};
+ghost use Rattle.graphql_schema.specs.Meanings.{input_value_of};
+ghost use Rattle.graphql_schema.specs.Views.{input_value_view};
+ghost use Rattle.graphql_schema.specs.Tree.{InputValueTree};
+ghost use Rattle.graphql_schema.specs.Language.{schemas};
+ghost use Rattle.graphql_schema.specs.steps.Readers.{Reads, as_written};
 
 use crate::read::description::{optional_description, sees_described_name};
+use crate::tree::InputValue;
+use graphql_core::common::read::directives::{self, optional_default};
+use graphql_core::common::read::lists::{Elements, optional_list};
+use graphql_core::common::read::types::type_reference;
 use graphql_core::helpers::{Punctuator, ReadError, TokenSource, expect_name, expect_punctuator};
-use graphql_schema_tree::tree::InputValue;
-use graphql_values::read::directives::{self, optional_default};
-use graphql_values::read::lists::{Elements, optional_list};
-use graphql_values::read::types::type_reference;
 use std::alloc::Global;
 
-// Arguments or fields, one after the other.
+// The arguments between parentheses, or the fields between the braces of an input object.
 struct InputValueList;
 
-#[tactic(auto, using(graphql_values::proofs::Reading::reading))]
+#[tactic(auto, using(graphql_core::proofs::readers::Reading::reading))]
 impl<S: TokenSource> Elements<S> for InputValueList {
     type Item = InputValue<S::Names>;
 

@@ -1,24 +1,24 @@
-//! Nodes that are refused.
+//! Rejected nodes.
 ghost use Rattle.std.specs.Prelude.{◌≡◌};
-ghost use Rattle.graphql_values.specs.{at};
-ghost use Rattle.graphql_schema.specs.{fault_said};
+ghost use Rattle.graphql_core.specs.{at};
+ghost use Rattle.graphql_schema.specs.steps.Refusals.{fault_said};
 
 use graphql_core::common::{Cause, Fault};
 use graphql_core::position::Pos;
 
-/// A node that is refused.
+/// A node that matches its production but is rejected.
 #[derive(Drop)]
 pub enum InvalidNode {
-    /// A schema, for a name that may not stand there: the cause, and where the schema's keyword stands.
+    /// A schema with a wrong operation: the cause, and the position of the keyword `schema`.
     Schema(Cause, Pos),
-    /// An extension of the schema, for the same: the cause, and where the keyword after `extend` stands.
+    /// An extension of the schema with a wrong operation: the cause, and the position of the keyword after `extend`.
     SchemaExtension(Cause, Pos),
-    /// An extension that adds nothing: where the keyword after `extend` stands.
+    /// An extension that adds nothing: the position of the keyword after `extend`.
     Extension(Pos),
 }
 
 impl InvalidNode {
-    /// Why it is refused.
+    /// The error that describes the node.
     pub fn fault(self) -> Fault
         ensures { result ≡ at (fault_said self) }
     {

@@ -1,30 +1,24 @@
-//! The keywords with which definitions begin.
+//! The keywords that begin definitions.
 ghost use Rattle.std.specs.Prelude.{◌≡◌};
-ghost use Rattle.graphql_values.specs.{peek, sees, lexeme_token};
-ghost use Rattle.graphql_schema.specs.{kind_word, has_interfaces, keywords, TellsToken, Tells};
+ghost use Rattle.graphql_core.specs.{peek, sees, lexeme_token};
+ghost use Rattle.graphql_schema.specs.steps.Keywords.{kind_word, has_interfaces, keywords, TellsToken, Tells};
 
 use graphql_core::helpers::{Lexeme, TokenSource};
 use graphql_core::tokenizer::Kind;
 
-/// Which kind of type it is.
+/// The kind of a type.
 #[derive(Clone, Copy)]
 pub enum TypeKind {
-    /// A scalar type.
     Scalar,
-    /// An object type.
     Object,
-    /// An interface.
     Interface,
-    /// A union.
     Union,
-    /// An enum.
     Enum,
-    /// An input object.
     InputObject,
 }
 
 impl TypeKind {
-    /// Its keyword.
+    /// The keyword of the kind.
     pub fn word(self) -> &'static str
         ensures { result.now ≡ kind_word self }
     {
@@ -38,7 +32,7 @@ impl TypeKind {
         }
     }
 
-    /// Whether types of this kind may implement interfaces.
+    /// Whether types of this kind can implement interfaces.
     pub fn has_interfaces(self) -> bool
         ensures { result ≡ has_interfaces self }
     {
@@ -46,18 +40,16 @@ impl TypeKind {
     }
 }
 
-/// What a keyword defines, which may have a description.
+/// A keyword that begins a definition, and that can follow a description.
 #[derive(Clone, Copy)]
 pub enum Keyword {
-    /// `schema`.
     Schema,
-    /// That of a type.
+    /// The keyword of a kind of type.
     OfType(TypeKind),
-    /// `directive`.
     Directive,
 }
 
-/// The keyword that a token is, if it is one.
+/// The token as a definition keyword; `None` if it is another token.
 fn keyword_of<S: TokenSource>(token: &Lexeme<S::Text>) -> Option<Keyword>
     ensures { TellsToken (lexeme_token S.bytes token.now) result }
 {
@@ -77,7 +69,7 @@ fn keyword_of<S: TokenSource>(token: &Lexeme<S::Text>) -> Option<Keyword>
     }
 }
 
-/// The keyword that comes next, if one does.
+/// The next token as a definition keyword; `None` if it is another token.
 pub fn peek_keyword<S: TokenSource>(source: &S) -> Option<Keyword>
     ensures { Tells (S.items source.now) result }
 {
@@ -87,7 +79,7 @@ pub fn peek_keyword<S: TokenSource>(source: &S) -> Option<Keyword>
     }
 }
 
-/// Whether such a keyword comes next.
+/// Whether the next token is a definition keyword.
 pub fn sees_definition_keyword<S: TokenSource>(source: &S) -> bool
     ensures { result ≡ sees keywords (peek (S.items source.now).tokens) }
 {

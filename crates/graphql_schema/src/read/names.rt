@@ -1,9 +1,10 @@
-//! Names with a mark between two of them: interfaces of a type, and members of a union.
+//! Names separated by a punctuator: the interfaces of a type, and the members of a union.
 ghost use Rattle.std.specs.Prelude.{◌≡◌, ◌≤◌, OnOk, [], ◌∷◌, length, codes};
-ghost use Rattle.graphql_values.specs.{Then, Sym, optional, kept, spelling_of, punctuator, spelling_at, Adds, Shortens, joined_of, marked_of, optional_list_of};
-ghost use Rattle.graphql_schema_tree.specs.{joined_by, implements_symbol, members_symbol, interfaces_of, members_of};
+ghost use Rattle.graphql_core.specs.{Then, Sym, optional, kept, spelling_of, punctuator, spelling_at, Adds, Shortens};
+ghost use Rattle.graphql_core.specs.{joined_of, separated_of, optional_list_of};
+ghost use Rattle.graphql_schema.specs.{joined_by, implements_symbol, members_symbol, interfaces_of, members_of};
 ghost use Rattle.graphql_schema.specs.{Reads};
-ghost use Rattle.graphql_values.specs.Grammar as shared;
+ghost use Rattle.graphql_core.specs.values.Grammar as shared;
 
 use graphql_core::common::Names;
 use graphql_core::helpers::{
@@ -12,65 +13,65 @@ use graphql_core::helpers::{
 };
 use std::alloc::Global;
 
-/// A mark, where it comes next.
-#[tactic(auto, using(graphql_values::proofs::Reading::reading))]
+/// Consumes a punctuator if it is the next token.
+#[tactic(auto, using(graphql_core::proofs::readers::Reading::reading))]
 pub fn optional_punctuator<S: TokenSource>(
     source: &mut S,
-    mark: Punctuator,
+    separator: Punctuator,
 ) -> Result<(), ReadError>
-    ensures reads { Reads (optional (punctuator (spelling_of mark))) (S.items source.old) (S.items source.new)
+    ensures reads { Reads (optional (punctuator (spelling_of separator))) (S.items source.old) (S.items source.new)
         (λ v x. Unit {0}) result }
     ensures kept { kept (S.items source.new) ≡ kept (S.items source.old) }
     ensures within { OnOk result (length (S.items source.new).tokens ≤ length (S.items source.old).tokens) }
 {
-    if source.sees_punctuator(mark) {
-        expect_punctuator(source, mark)?;
+    if source.sees_punctuator(separator) {
+        expect_punctuator(source, separator)?;
     }
     Ok(())
 }
 
-/// A mark and a name, after the names before it.
-#[tactic(auto, using(graphql_values::proofs::Reading::reading))]
-fn marked_name<S: TokenSource>(
+/// A punctuator and a name. Appends the name to `names`.
+#[tactic(auto, using(graphql_core::proofs::readers::Reading::reading))]
+fn separated_name<S: TokenSource>(
     alloc: Global,
     source: &mut S,
-    mark: Punctuator,
+    separator: Punctuator,
     names: &mut Vec<<S::Names as Names>::Value>,
 ) -> Result<(), ReadError>
-    ensures reads { Reads (Then (punctuator (spelling_of mark)) shared.name) (S.items source.old) (S.items source.new)
-        (λ v x. Adds S.Names.bytes names.old.items names.new.items (marked_of spelling_at [] x ∷ [])) result }
+    ensures reads { Reads (Then (punctuator (spelling_of separator)) shared.name) (S.items source.old) (S.items source.new)
+        (λ v x. Adds S.Names.bytes names.old.items names.new.items (separated_of spelling_at [] x ∷ [])) result }
     ensures kept { kept (S.items source.new) ≡ kept (S.items source.old) }
     ensures shorter { Shortens (S.items source.old) (S.items source.new) result }
 {
-    expect_punctuator(source, mark)?;
+    expect_punctuator(source, separator)?;
     names.push(expect_name(alloc, source)?)?;
     Ok(())
 }
 
-/// Names with this mark between two of them, and perhaps one before the first, after the names before them.
-#[tactic(auto, using(graphql_values::proofs::Reading::reading))]
+/// Names separated by a punctuator, which can also precede the first. Appends the names to `names`.
+#[tactic(auto, using(graphql_core::proofs::readers::Reading::reading))]
 fn joined_names<S: TokenSource>(
     alloc: Global,
     source: &mut S,
-    mark: Punctuator,
+    separator: Punctuator,
     names: &mut Vec<<S::Names as Names>::Value>,
 ) -> Result<(), ReadError>
-    ensures reads { Reads (joined_by (spelling_of mark) shared.name) (S.items source.old) (S.items source.new)
+    ensures reads { Reads (joined_by (spelling_of separator) shared.name) (S.items source.old) (S.items source.new)
         (λ v x. Adds S.Names.bytes names.old.items names.new.items (joined_of spelling_at [] x)) result }
     ensures kept { kept (S.items source.new) ≡ kept (S.items source.old) }
     ensures shorter { Shortens (S.items source.old) (S.items source.new) result }
 {
-    optional_punctuator(source, mark)?;
+    optional_punctuator(source, separator)?;
     names.push(expect_name(alloc, source)?)?;
-    'more: while source.sees_punctuator(mark) {
-        marked_name(alloc, source, mark, names)?;
+    'more: while source.sees_punctuator(separator) {
+        separated_name(alloc, source, separator, names)?;
     }
     shrink_list(source, names);
     Ok(())
 }
 
 /// `Implements?`, `Implements = "implements" "&"? Name ("&" Name)*`
-#[tactic(auto, using(graphql_values::proofs::Reading::reading))]
+#[tactic(auto, using(graphql_core::proofs::readers::Reading::reading))]
 pub fn optional_implements<S: TokenSource>(
     alloc: Global,
     source: &mut S,
@@ -89,7 +90,7 @@ pub fn optional_implements<S: TokenSource>(
 }
 
 /// `Members?`, `Members = "=" "|"? Name ("|" Name)*`
-#[tactic(auto, using(graphql_values::proofs::Reading::reading))]
+#[tactic(auto, using(graphql_core::proofs::readers::Reading::reading))]
 pub fn optional_members<S: TokenSource>(
     alloc: Global,
     source: &mut S,

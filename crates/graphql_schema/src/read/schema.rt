@@ -1,34 +1,36 @@
-//! Which types the operations have: schemas, and extensions of them.
+//! Schema definitions and extensions of the schema: the root operation types.
 ghost use Rattle.std.specs.Prelude.{◌≡◌, ◌≤◌, IfOk, OnOk, List, [], ◌∷◌, ◌++◌, length};
-ghost use Rattle.graphql_values.specs.{enclosed_of, Sym, Many, optional, kept, Shortens, each_of};
-ghost use Rattle.graphql_schema_tree.specs.{Root, root_at, schema_symbol, root_type_symbol, schema_extension_symbol, roots_symbol, schema_of};
-ghost use Rattle.graphql_schema_tree.specs.{schema_extension_of, roots_of, roots_in, schema_view, schema_extension_view};
-ghost use Rattle.graphql_schema.specs.{Reads, ReadsNode, HasRoots, Fills};
+ghost use Rattle.graphql_core.specs.{enclosed_of, Sym, Many, optional, kept, Shortens, each_of};
+ghost use Rattle.graphql_schema.specs.Roots.{Root, root_at, roots_of, roots_in};
+ghost use Rattle.graphql_schema.specs.Grammar.{schema_symbol, root_type_symbol, schema_extension_symbol};
+ghost use Rattle.graphql_schema.specs.Grammar.{roots_symbol};
+ghost use Rattle.graphql_schema.specs.Meanings.{schema_of, schema_extension_of};
+ghost use Rattle.graphql_schema.specs.Views.{schema_view, schema_extension_view};
+ghost use Rattle.graphql_schema.specs.steps.Readers.{Reads};
+ghost use Rattle.graphql_schema.specs.steps.Refusals.{ReadsNode};
+ghost use Rattle.graphql_schema.specs.steps.RootsRead.{HasRoots, Fills};
 
 use crate::read::invalid_node::InvalidNode;
+use crate::tree::{SchemaDefinition, SchemaExtension};
+use graphql_core::common::read::directives;
+use graphql_core::common::read::node_error::NodeError;
 use graphql_core::common::{Cause, Names};
 use graphql_core::helpers::{
     Punctuator, ReadError, TokenSource, expect_keyword, expect_name, expect_punctuator,
 };
-use graphql_schema_tree::tree::{SchemaDefinition, SchemaExtension};
-use graphql_values::read::directives;
-use graphql_values::read::node_error::NodeError;
 use std::alloc::{AllocError, Global};
 
-/// What the reader of a schema's operations has come past.
+/// The operations of a schema that were read so far.
 #[derive(Drop)]
 struct Roots<N: Names> {
-    /// The type of queries.
     query: Option<N::Value>,
-    /// The type of mutations.
     mutation: Option<N::Value>,
-    /// The type of subscriptions.
     subscription: Option<N::Value>,
-    /// Why the first name may not stand there that may not.
+    /// The error of the first operation that is unknown or a duplicate.
     fault: Option<Cause>,
 }
 
-/// None yet.
+/// No operations yet.
 fn no_roots<N: Names>() -> Roots<N>
     ensures { HasRoots N.bytes result [] }
 {
@@ -40,7 +42,7 @@ fn no_roots<N: Names>() -> Roots<N>
     }
 }
 
-/// Gives an operation its type, or tells that it has one.
+/// Gives an operation its type, or sets `fault` if the operation already has one.
 fn fill<V: Drop>(
     alloc: Global,
     slot: &mut Option<V>,
@@ -58,7 +60,7 @@ fn fill<V: Drop>(
     Ok(())
 }
 
-/// Adds an operation and its type. The first fault stays.
+/// Adds an operation and its type. `fault` keeps the first error.
 fn add_root<N: Names>(
     alloc: Global,
     roots: &mut Roots<N>,
@@ -85,8 +87,8 @@ fn add_root<N: Names>(
     Ok(())
 }
 
-/// `RootType = Name ":" Name`, after those before it.
-#[tactic(auto, using(graphql_values::proofs::Reading::reading))]
+/// `RootType = Name ":" Name`. Adds the operation to `roots`.
+#[tactic(auto, using(graphql_core::proofs::readers::Reading::reading))]
 fn root_type<S: TokenSource>(
     alloc: Global,
     source: &mut S,
@@ -104,8 +106,8 @@ fn root_type<S: TokenSource>(
     Ok(())
 }
 
-/// `RootType*`, after those before it.
-#[tactic(auto, using(graphql_values::proofs::Reading::reading))]
+/// `RootType*`. Adds the operations to `roots`.
+#[tactic(auto, using(graphql_core::proofs::readers::Reading::reading))]
 fn root_types<S: TokenSource>(
     alloc: Global,
     source: &mut S,
@@ -122,8 +124,9 @@ fn root_types<S: TokenSource>(
     Ok(())
 }
 
-/// `Schema = "schema" Directives "{" RootType* "}"`, of which each name may stand there, without its description.
-#[tactic(auto, using(graphql_values::proofs::Reading::reading))]
+/// `Schema = "schema" Directives "{" RootType* "}"`, without its description.
+/// Unknown and duplicate operations are rejected.
+#[tactic(auto, using(graphql_core::proofs::readers::Reading::reading))]
 pub fn schema_definition<S: TokenSource>(
     alloc: Global,
     source: &mut S,
@@ -160,7 +163,7 @@ pub fn schema_definition<S: TokenSource>(
 }
 
 /// `Roots?`, `Roots = "{" RootType+ "}"`
-#[tactic(auto, using(graphql_values::proofs::Reading::reading))]
+#[tactic(auto, using(graphql_core::proofs::readers::Reading::reading))]
 fn optional_roots<S: TokenSource>(
     alloc: Global,
     source: &mut S,
@@ -181,8 +184,8 @@ fn optional_roots<S: TokenSource>(
     Ok(roots)
 }
 
-/// `SchemaExt = "schema" Directives Roots?`, of which each name may stand there.
-#[tactic(auto, using(graphql_values::proofs::Reading::reading))]
+/// `SchemaExt = "schema" Directives Roots?`. Unknown and duplicate operations are rejected.
+#[tactic(auto, using(graphql_core::proofs::readers::Reading::reading))]
 pub fn schema_extension<S: TokenSource>(
     alloc: Global,
     source: &mut S,

@@ -1,48 +1,43 @@
-//! What a type's definition and its extension both have.
+//! The common part of a type definition and a type extension.
 ghost use Rattle.std.specs.Prelude.{◌≡◌, option_map, string_bytes};
-ghost use Rattle.graphql_schema_tree.specs.{type_definition, extension, adds, type_definition_view, type_extension_view};
-ghost use Rattle.graphql_schema.specs.{type_body_view};
+ghost use Rattle.graphql_schema.specs.Tree.{type_definition, extension, adds};
+ghost use Rattle.graphql_schema.specs.Views.{type_definition_view, type_extension_view};
+ghost use Rattle.graphql_schema.specs.steps.TypeBodies.{type_body_view};
 
-use graphql_core::common::Names;
-use graphql_core::position::Pos;
-use graphql_schema_tree::tree::{
+use crate::tree::{
     EnumType, EnumTypeExtension, EnumValue, Field, InputObjectType, InputObjectTypeExtension,
     InputValue, InterfaceType, InterfaceTypeExtension, ObjectType, ObjectTypeExtension, ScalarType,
     ScalarTypeExtension, TypeDefinition, TypeExtension, UnionType, UnionTypeExtension,
 };
-use graphql_values::tree::Directive;
+use graphql_core::common::Names;
+use graphql_core::common::tree::Directive;
+use graphql_core::position::Pos;
 
-/// What a type consists of, by its kind.
+/// The parts of a type, by its kind.
 #[derive(Drop)]
 pub enum TypeParts<N: Names> {
-    /// A scalar type has no parts.
     Scalar,
-    /// The interfaces and the fields of an object type.
+    /// The names of the implemented interfaces, and the fields.
     Object(Vec<N::Value>, Vec<Field<N>>),
-    /// The interfaces and the fields of an interface.
+    /// The names of the implemented interfaces, and the fields.
     Interface(Vec<N::Value>, Vec<Field<N>>),
-    /// The types that a union joins.
+    /// The names of the member types.
     Union(Vec<N::Value>),
-    /// The values of an enum.
     Enum(Vec<EnumValue<N>>),
-    /// The fields of an input object.
     InputObject(Vec<InputValue<N>>),
 }
 
-/// A type without `extend` and without its description.
+/// A type, without `extend` and without description.
 #[derive(Drop)]
 pub struct TypeBody<N: Names> {
     /// The position of the keyword.
     pub position: Pos,
-    /// The name.
     pub name: N::Value,
-    /// The directives in order.
     pub directives: Vec<Directive<N>>,
-    /// The rest, by the kind of the type.
     pub parts: TypeParts<N>,
 }
 
-// A type, or an extension of one, of this position, name and directives, and of these fields.
+// Builds a type definition or a type extension from `(position, name, directives)` and these fields.
 macro_rules! typed {
     ($head:expr => $either:ident::$kind:ident($record:ident { $($field:ident),* })) => {{
         let (position, name, directives) = $head;
@@ -51,7 +46,7 @@ macro_rules! typed {
 }
 
 impl<N: Names> TypeBody<N> {
-    /// The definition that has this body.
+    /// The type definition with this body.
     pub fn into_definition(self, description: Option<String>) -> TypeDefinition<N>
         ensures { type_definition_view N.bytes result ≡ type_definition (option_map string_bytes description) (type_body_view N.bytes self) }
     {
@@ -78,7 +73,7 @@ impl<N: Names> TypeBody<N> {
         }
     }
 
-    /// The extension that has this body.
+    /// The type extension with this body.
     pub fn into_extension(self) -> TypeExtension<N>
         ensures { type_extension_view N.bytes result ≡ extension (type_body_view N.bytes self) }
     {
@@ -103,7 +98,8 @@ impl<N: Names> TypeBody<N> {
         }
     }
 
-    /// Whether it adds something: a directive or a part of its own. For an object interfaces count, for an interface they do not.
+    /// Whether an extension with this body adds something: a directive or a part.
+    /// The interfaces count for an object type, but not for an interface.
     pub fn adds(&self) -> bool
         ensures { result ≡ adds (type_body_view N.bytes self.now) }
     {

@@ -1,8 +1,8 @@
-//! The bodies of types: what stands after `extend`, or after a description.
+//! The bodies of types: what follows `extend` or a description.
 ghost use Rattle.std.specs.Prelude.{◌≡◌, ◌≤◌, OnOk, length, map};
-ghost use Rattle.graphql_values.specs.{Sym, kept, Adds, Shortens, optional_list_of};
-ghost use Rattle.graphql_schema_tree.specs.{interfaces_of};
-ghost use Rattle.graphql_schema.specs.{has_interfaces, Reads, symbol_of, means, interfaces_rule, parts_rule, parts_of, parts_view, type_body_view};
+ghost use Rattle.graphql_core.specs.{Sym, kept, Adds, Shortens, optional_list_of};
+ghost use Rattle.graphql_schema.specs.{interfaces_of, has_interfaces, Reads, symbol_of, means, interfaces_rule};
+ghost use Rattle.graphql_schema.specs.{parts_rule, parts_of, parts_view, type_body_view};
 
 use crate::read::enums::optional_enum_values;
 use crate::read::field::optional_fields;
@@ -11,12 +11,12 @@ use crate::read::keyword::TypeKind;
 use crate::read::names::{optional_implements, optional_members};
 use crate::read::type_body::{TypeBody, TypeParts};
 use graphql_core::common::Names;
+use graphql_core::common::read::directives;
 use graphql_core::helpers::{ReadError, TokenSource, expect_keyword, expect_name};
-use graphql_values::read::directives;
 use std::alloc::Global;
 
-/// `Implements?` of a kind that may have it, after the names before it.
-#[tactic(auto, using(graphql_values::proofs::Reading::reading))]
+/// `Implements?` if the kind can have it. Appends the interfaces to `names`.
+#[tactic(auto, using(graphql_core::proofs::readers::Reading::reading))]
 fn interfaces<S: TokenSource>(
     alloc: Global,
     source: &mut S,
@@ -34,8 +34,8 @@ fn interfaces<S: TokenSource>(
     optional_implements(alloc, source, names)
 }
 
-/// `Fields?`, `Members?`, `EnumValues?` or `InputFields?`, as the kind has it, of a type with these interfaces.
-#[tactic(auto, using(graphql_values::proofs::Reading::reading))]
+/// `Fields?`, `Members?`, `EnumValues?` or `InputFields?`, as `kind` says. The result also holds `interfaces`.
+#[tactic(auto, using(graphql_core::proofs::readers::Reading::reading))]
 fn parts<S: TokenSource>(
     alloc: Global,
     source: &mut S,
@@ -77,9 +77,9 @@ fn parts<S: TokenSource>(
     }
 }
 
-/// `Scalar`, `Object`, `Interface`, `Union`, `Enum` or `Input`, as the kind says:
-/// its keyword, `Name`, perhaps `Implements?`, `Directives`, and its parts.
-#[tactic(auto, using(graphql_values::proofs::Reading::reading))]
+/// `Scalar`, `Object`, `Interface`, `Union`, `Enum` or `Input`, as `kind` says:
+/// the keyword, `Name`, `Implements?` if the kind can have it, `Directives`, and the parts.
+#[tactic(auto, using(graphql_core::proofs::readers::Reading::reading))]
 pub fn type_body<S: TokenSource>(
     alloc: Global,
     source: &mut S,

@@ -2,7 +2,7 @@ use Rattle.std.proofs.Common.{rules, arith, ◌≡◌, ◌∙◌, ◌-◌, ◌�
 use Rattle.std.specs.Prelude.{nat_eq}
 use Rattle.std.proofs.Math.ListN.{drop_of_length-le}
 use Rattle.std.proofs.lemmas.List.{take_all, length-drop}
-use Rattle.graphql_core.specs.{pointwise}
+use Rattle.std.specs.Cmp.Lexicographic.{pointwise}
 use Rattle.gql.specs.{styled_command}
 use Rattle.gql.proofs.{means_one_styled, means_one_minify}
 use Rattle.gql.proofs.command.read_words.Goals as goal

@@ -1,21 +1,20 @@
 use Rattle.std.proofs.Common.{◌∙◌, ◌++◌, ap, subst, sym}
 use Rattle.std.proofs.lemmas.Result.{IfOk-at_ok, IfOk-weaker, IfErr-weaker, MatchResult-from_both}
 use Rattle.graphql_core.specs.contracts.common.text.RefStrNames.TheImpl as names
-use Rattle.graphql_query_tree.specs.{layout, IsTooWide, definitions_view}
-use Rattle.graphql_query.specs.{one_definition, IsFirstDefinition}
+use Rattle.graphql_query.specs.{layout, IsTooWide, definitions_view, one_definition, IsFirstDefinition}
 use Rattle.graphql_parser.proofs.Mapped.{at_passed, mapped, returned}
 use Rattle.gql.specs.{EndsEngine}
 use Rattle.gql.specs.declared.command.Command.TheVariants.{First}
 use Rattle.gql.specs.declared.error.RunError.TheVariants as error
 use Rattle.gql.proofs.{not_laid_out}
-use Rattle.graphql_values.proofs.Outputs.{has_none}
+use Rattle.graphql_core.proofs.{has_none}
 use Rattle.gql.proofs.engine.first_laid_out.Goals as goal
 
 pub returns-in_err-definition : goal.returns-in_err-definition
 returns-in_err-definition c =
     let ends = EndsEngine First c.args.style.now c.args.text.now in
     let consumed = c.consume_definition.ensures in
-    let none = has_none IsFirstDefinition one_definition _ c.args.text.now c.consume_definition.result consumed.refused consumed.complete in
+    let none = has_none IsFirstDefinition one_definition _ c.args.text.now c.consume_definition.result consumed.first_error consumed.complete in
     returned _ _ ends c.in_err-definition.was (mapped _ _ error.Query _ ends c.map_err.ensures.cases none) c.from_residual.ensures.1
 
 pub returns-in_err-document : goal.returns-in_err-document

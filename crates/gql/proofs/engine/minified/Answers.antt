@@ -9,4 +9,4 @@ use Rattle.gql.proofs.engine.minified.Goals as goal
 pub returns : goal.returns
 returns c =
     mapped _ _ error.Minify _ (EndsEngine Minify c.args.style.now (string_bytes c.args.text)) c.map_err.ensures.cases
-    (MatchResult-from_both c.minify_query.result _ _ c.minify_query.ensures.minified c.minify_query.ensures.refused)
+    (MatchResult-from_both c.minify_query.result _ _ c.minify_query.ensures.minified c.minify_query.ensures.first_error)

@@ -2,7 +2,7 @@ use Rattle.std.proofs.Common.{◌≡◌, ◌≤◌, length}
 use Rattle.std.specs.Io.KnownBytes.{Consumes}
 use Rattle.gql.proofs.engine.read_all.Given as goal
 
--- each turn took a byte
+-- each iteration read at least one byte
 abbrev pub invariant-pieces : goal.invariant-pieces
 invariant-pieces g l = record {
   room : length l.piece ≡ 8192;

@@ -10,14 +10,14 @@ use Rattle.gql.specs.declared.error.RunError.TheVariants as error
 use Rattle.gql.proofs.engine.run.Given.{Over}
 use Rattle.gql.proofs.engine.run.Goals as goal
 
--- what was read to its end is all that was left
+-- reading to the end reads all that was left
 reads_all : (old new : Option (List ℕ)) (text : List ℕ) (P : List ℕ → Type 0) → Consumes old new text → IsAtEnd new → P text → ReadsAll old new P
 reads_all None new text P h e p = (e, tt)
 reads_all (Some xs) None text P h e p = absurd h
 reads_all (Some xs) (Some ys) text P h e p =
     (e, subst P (sym (h ∙ ap (λ l. text ++ l) e ∙ append-nil text)) p)
 
--- the output that was made of the text is one of all that was left
+-- the output for the bytes that were read is one for all that was left
 reads_for_output : (command : Command) (style : Layout) (old new : Option (List ℕ)) (text bytes made output : List ℕ) (P : List ℕ → Type 0) → text ≡ bytes
     → output ≡ made → Consumes old new bytes → IsAtEnd new → IsOutputOf command style text made → P output
     → ReadsAll old new (λ input. (x : List ℕ) × IsOutputOf command style input x × P x)
@@ -25,7 +25,7 @@ reads_for_output command style old new text bytes made output P same_text same_o
     let of_bytes = subst (λ t. IsOutputOf command style t output) same_text (subst (IsOutputOf command style text) (sym same_output) is) in
     reads_all old new bytes _ taken end (output, of_bytes, h)
 
--- what ends the engine is said of all that was left
+-- an error of the engine for the bytes that were read is one for all that was left
 ended : (g : Over) (c : goal.After-from_residual-in_err-output g) (e : RunError) → c.from_residual-in_err-output.result ≡ Err e
     → ReadsAll (g.R.Read.remaining c.args.reader.now.device) (g.R.Read.remaining c.read_all.new.reader.device)
     (λ input. EndsEngine c.args.command c.args.style.now input e)

@@ -1,6 +1,6 @@
 use Rattle.gql.specs.declared.command.Command.TheVariants.{Schema}
 use Rattle.gql.proofs.{laid_out}
-use Rattle.graphql_values.proofs.Outputs.{none_parsed}
+use Rattle.graphql_core.proofs.{none_parsed}
 use Rattle.gql.proofs.engine.schema_laid_out.Goals as goal
 
 pub returns-in-Ok : goal.returns-in-Ok

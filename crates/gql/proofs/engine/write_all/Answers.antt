@@ -6,7 +6,7 @@ use Rattle.graphql_parser.proofs.Mapped.{ok_before}
 use Rattle.gql.specs.{one_more, faults_after_write}
 use Rattle.gql.proofs.engine.write_all.Goals as goal
 
--- a write that took some bytes is no fault
+-- a write that took some bytes is no failure
 stays : (old new count len : ℕ) → count ≢ 0 → new ≡ cond (eqb count 0 && not (eqb len 0)) (one_more old) old → new ≡ old
 stays old new count len some h = grind (arith, nat_tests)
 

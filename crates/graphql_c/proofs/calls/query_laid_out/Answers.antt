@@ -1,4 +1,4 @@
-use Rattle.graphql_query_tree.specs.{queries, layout, IsTooWide}
+use Rattle.graphql_query.specs.{queries, layout, IsTooWide}
 use Rattle.graphql_c.proofs.{halts, laid_out}
 use Rattle.graphql_c.proofs.calls.query_laid_out.Goals as goal
 

@@ -1,4 +1,4 @@
-use Rattle.graphql_schema_tree.specs.{schemas, layout, IsTooWide}
+use Rattle.graphql_schema.specs.{schemas, layout, IsTooWide}
 use Rattle.graphql_c.proofs.{halts, laid_out}
 use Rattle.graphql_c.proofs.calls.schema_laid_out.Goals as goal
 

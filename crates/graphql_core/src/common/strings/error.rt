@@ -1,11 +1,11 @@
-//! Why a string has no value.
+//! Why the value of a string is not returned.
 use std::alloc::AllocError;
 use thiserror::Error;
 
-/// Why a string has no value.
+/// Why the value of a string is not returned.
 #[derive(Debug, PartialEq, Drop, Error)]
 pub enum UnquoteError {
-    /// An escape that stands for no character.
+    /// An escape that denotes no character (GraphQL, October 2021, section 2.9.4).
     #[error("bad escape in string")]
     BadEscape,
     /// An allocation failed.

@@ -1,7 +1,10 @@
-//! Strings in quotes.
+//! Values of strings in quotes (GraphQL, October 2021, section 2.9.4).
 ghost use Rattle.std.specs.Prelude.{◌≡◌, ℕ, List, true, length, IfOk, IfSome, IfNone, SomeIff, IsErrOf, string_bytes};
-ghost use Rattle.graphql_core.specs.{is_ascii_hexdigit, list_all, digits_value, HasValue, HasNoValue, IsInQuotes, BeginsEscape, BeginsNoEscape, BeginsName};
-ghost use Rattle.graphql_core.specs.{BeginsNoName};
+ghost use Rattle.std.specs.Char.{is_ascii_hexdigit};
+ghost use Rattle.std.specs.List.{list_all};
+ghost use Rattle.std.specs.Str.Parse.{digits_value};
+ghost use Rattle.graphql_core.specs.{HasValue, HasNoStringValue, IsInQuotes, BeginsEscape, BeginsNoEscape};
+ghost use Rattle.graphql_core.specs.{BeginsName, BeginsNoName};
 ghost use Rattle.graphql_core.specs.declared.common.strings.error.UnquoteError.TheVariants.{BadEscape};
 
 use crate::common::strings::error::UnquoteError;
@@ -13,7 +16,7 @@ fn are_hexadecimal(digits: &str) -> bool
     digits.bytes().all(|digit| digit.is_ascii_hexdigit())
 }
 
-/// The value of four hexadecimal digits.
+/// The value of four hexadecimal digits, or `None` if one is no hexadecimal digit.
 fn hexadecimal(digits: &str) -> Option<u32>
     requires { length digits.now ≡ 4 }
     ensures { SomeIff result (list_all is_ascii_hexdigit digits.now ≡ true) (digits_value 16 digits.now) }
@@ -24,7 +27,7 @@ fn hexadecimal(digits: &str) -> Option<u32>
     u32::from_str_radix(digits, 16).ok()
 }
 
-/// The character that four hexadecimal digits at the front name, and what follows them.
+/// The character whose code is in the four hexadecimal digits at the front, and the rest.
 fn named_character(text: &str) -> Option<(char, &str)>
     ensures names { IfSome result (λ r. BeginsName text.now r.0 r.1.now) }
     ensures none { IfNone result (BeginsNoName text.now) }
@@ -35,7 +38,7 @@ fn named_character(text: &str) -> Option<(char, &str)>
     Some((character, after))
 }
 
-/// The character that the escape at the front stands for, and what follows it. The text begins after its backslash.
+/// The character that an escape denotes, and the rest. `text` begins after the backslash.
 fn escape(text: &str) -> Option<(char, &str)>
     ensures escapes { IfSome result (λ r. BeginsEscape text.now r.0 r.1.now) }
     ensures none { IfNone result (BeginsNoEscape text.now) }
@@ -56,16 +59,19 @@ fn escape(text: &str) -> Option<(char, &str)>
     Some((character, characters.as_str()))
 }
 
-/// The value of a string's spelling.
+/// Returns the value of a string in quotes (GraphQL, October 2021, section 2.9.4).
+///
+/// `text` must be the spelling of the token, with both quotes. It returns `BadEscape` if an escape denotes no
+/// character, and `OutOfMemory` if an allocation fails.
 pub fn unquote_string(alloc: Global, text: &str) -> Result<String, UnquoteError>
     requires { (body : List ℕ) × IsInQuotes text.now body }
     ensures value { (body : List ℕ) → IsInQuotes text.now body → IfOk result (λ s. HasValue body (string_bytes s)) }
-    // A string has one value at most.
+    // A string has at most one value.
     ensures only { (body v : List ℕ) → IsInQuotes text.now body → HasValue body v → IfOk result (λ s. v ≡ string_bytes s) }
-    ensures bad_escape { (body : List ℕ) → IsInQuotes text.now body → IsErrOf result BadEscape → HasNoValue body }
+    ensures bad_escape { (body : List ℕ) → IsInQuotes text.now body → IsErrOf result BadEscape → HasNoStringValue body }
 {
     let mut rest = &text[1..text.len() - 1];
-    // Its value is no longer than what stands between the quotes.
+    // The value is at most as long as the content.
     let mut value = String::with_capacity(alloc, rest.len())?;
     'escapes: while let Some((plain, escaped)) = rest.split_once('\\') {
         let (character, after) = escape(escaped).ok_or(UnquoteError::BadEscape)?;

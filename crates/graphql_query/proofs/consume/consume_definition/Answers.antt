@@ -1,9 +1,9 @@
 use Rattle.std.proofs.Common.{sym, ◌∙◌, subst, arith}
-use Rattle.graphql_core.proofs.{as_error}
-use Rattle.graphql_values.specs.{past_bound, Refusal, Items, AnswersUnlessMemory, IsRefusalOf}
-use Rattle.graphql_values.proofs.{from_stream, exit, refusal, one_each}
+use Rattle.graphql_core.proofs.{as_error, from_stream, exit, refusal, one_each}
+use Rattle.graphql_core.specs.{past_bound, AnswersUnlessMemory, IsRefusalOf, Refusal, Items}
 use Rattle.graphql_query.specs.{one_definition, BeginsWith}
-use Rattle.graphql_query.proofs.{readable_one, none_begins_another, found, one_first, earlier_definition, other_rest, other_tokens, shorter, other_definitions}
+use Rattle.graphql_query.proofs.{readable_one, none_begins_another, found, one_first, earlier_definition, other_rest}
+use Rattle.graphql_query.proofs.{other_tokens, shorter, other_definitions}
 use Rattle.graphql_query.proofs.consume.consume_definition.Goals as goal
 
 -- ---- too long
@@ -11,14 +11,14 @@ use Rattle.graphql_query.proofs.consume.consume_definition.Goals as goal
 pub returns-then-source-gt-MAX_LENGTH-clause-one : goal.returns-then-source-gt-MAX_LENGTH-clause-one
 returns-then-source-gt-MAX_LENGTH-clause-one g c = one_first c.args.source.now
 
-pub returns-then-source-gt-MAX_LENGTH-clause-refused : goal.returns-then-source-gt-MAX_LENGTH-clause-refused
-returns-then-source-gt-MAX_LENGTH-clause-refused g c =
+pub returns-then-source-gt-MAX_LENGTH-clause-first_error : goal.returns-then-source-gt-MAX_LENGTH-clause-first_error
+returns-then-source-gt-MAX_LENGTH-clause-first_error g c =
     subst (λ (r : Refusal). IsRefusalOf one_definition c.args.source.now r) (sym (c.from.ensures ∙ c.text_too_long.ensures)) (past_bound (omega arith))
 
-pub returns-then-source-gt-MAX_LENGTH-clause-one_fault : goal.returns-then-source-gt-MAX_LENGTH-clause-one_fault
-returns-then-source-gt-MAX_LENGTH-clause-one_fault g c = one_each one_definition readable_one c.args.source.now
+pub returns-then-source-gt-MAX_LENGTH-clause-one_error : goal.returns-then-source-gt-MAX_LENGTH-clause-one_error
+returns-then-source-gt-MAX_LENGTH-clause-one_error g c = one_each one_definition readable_one c.args.source.now
 
--- ---- a fault
+-- ---- an error
 
 pub returns-in_err-definition-clause-one : goal.returns-in_err-definition-clause-one
 returns-in_err-definition-clause-one g c = one_first c.args.source.now
@@ -33,14 +33,14 @@ returns-in_err-definition-clause-earlier g c r bound h =
     let (none, is) = earlier_definition c.args.source.now r h in
     (none, returns-in_err-definition-clause-complete g c r bound is)
 
-pub returns-in_err-definition-clause-refused : goal.returns-in_err-definition-clause-refused
-returns-in_err-definition-clause-refused g c =
+pub returns-in_err-definition-clause-first_error : goal.returns-in_err-definition-clause-first_error
+returns-in_err-definition-clause-first_error g c =
     let e = c.in_err-definition.field-0.0 in
     exit _ e _ c.from_residual.ensures.1
-    (refusal one_definition c.args.source.now _ e (omega arith) (from_stream _ _ c.new-cursor.ensures) c.in_err-definition.ensures.refused)
+    (refusal one_definition c.args.source.now _ e (omega arith) (from_stream _ _ c.new-cursor.ensures) c.in_err-definition.ensures.first_error)
 
-pub returns-in_err-definition-clause-one_fault : goal.returns-in_err-definition-clause-one_fault
-returns-in_err-definition-clause-one_fault g c = one_each one_definition readable_one c.args.source.now
+pub returns-in_err-definition-clause-one_error : goal.returns-in_err-definition-clause-one_error
+returns-in_err-definition-clause-one_error g c = one_each one_definition readable_one c.args.source.now
 
 -- ---- the first definition
 
@@ -63,8 +63,8 @@ returns-clause-earlier g c r bound h =
 pub returns-clause-one : goal.returns-clause-one
 returns-clause-one g c = one_first c.args.source.now
 
-pub returns-clause-one_fault : goal.returns-clause-one_fault
-returns-clause-one_fault g c = one_each one_definition readable_one c.args.source.now
+pub returns-clause-one_error : goal.returns-clause-one_error
+returns-clause-one_error g c = one_each one_definition readable_one c.args.source.now
 
 pub returns-then-source-gt-MAX_LENGTH-clause-other_rest : goal.returns-then-source-gt-MAX_LENGTH-clause-other_rest
 returns-then-source-gt-MAX_LENGTH-clause-other_rest g c = other_rest c.args.source.now

@@ -6,8 +6,8 @@ returns-in-Err-clause-complete g c x others h =
     memory_only (g.S.TokenSource.items c.args.source.now) (g.S.TokenSource.items c.definition.new.source)
     c.in-Err.error _ x others c.in-Err.ensures.reads c.fault_of.ensures h
 
-pub returns-in-Err-clause-refused : goal.returns-in-Err-clause-refused
-returns-in-Err-clause-refused g c =
+pub returns-in-Err-clause-first_error : goal.returns-in-Err-clause-first_error
+returns-in-Err-clause-first_error g c =
     least_refusal _ (g.S.TokenSource.items c.definition.new.source) c.in-Err.error _ c.in-Err.ensures.reads c.fault_of.ensures c.in-Err.ensures.kept
 
 pub returns-in-Ok-clause-complete : goal.returns-in-Ok-clause-complete

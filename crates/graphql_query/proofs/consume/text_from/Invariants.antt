@@ -1,9 +1,9 @@
 use Rattle.std.proofs.Common.{◌≡◌, ◌<◌, ℕ, List, length, drop}
 use Rattle.graphql_core.proofs.{Rise, HasItemAt}
-use Rattle.graphql_values.specs.{Item, HasItems, next_place}
+use Rattle.graphql_core.specs.{Item, HasItems, next_place}
 use Rattle.graphql_query.proofs.consume.text_from.Given as goal
 
--- the item that is sought is still to come
+-- the token at the position is still to come
 abbrev pub invariant-items : goal.invariant-items
 invariant-items l = record {
   rise : Rise l.source l.stream.items;

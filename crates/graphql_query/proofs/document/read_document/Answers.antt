@@ -1,6 +1,6 @@
-use Rattle.graphql_values.proofs.{read_whole, read_stopped, read_left}
-use Rattle.graphql_query_tree.specs.{queries}
-use Rattle.graphql_query_tree.proofs.{readable}
+use Rattle.graphql_core.proofs.{read_whole, read_stopped, read_left}
+use Rattle.graphql_query.specs.{queries}
+use Rattle.graphql_query.proofs.{readable}
 use Rattle.graphql_query.proofs.document.read_document.Goals as goal
 
 pub returns-in-Err-clause-reads : goal.returns-in-Err-clause-reads

@@ -1,6 +1,6 @@
 use Rattle.std.proofs.Common.{subst}
-use Rattle.graphql_values.specs.{Items, ReadsDocument}
-use Rattle.graphql_query_tree.specs.{queries, document_view}
+use Rattle.graphql_core.specs.{Items, ReadsDocument}
+use Rattle.graphql_query.specs.{queries, document_view}
 use Rattle.graphql_query.proofs.document.read_spans.Goals as goal
 
 pub returns : goal.returns

@@ -1,7 +1,7 @@
 use Rattle.std.proofs.Common.{refl}
-use Rattle.graphql_values.proofs.{one_least, least_is_first}
-use Rattle.graphql_query_tree.specs.{queries}
-use Rattle.graphql_query_tree.proofs.{readable}
+use Rattle.graphql_core.proofs.{one_least, least_is_first}
+use Rattle.graphql_query.specs.{queries}
+use Rattle.graphql_query.proofs.{readable}
 use Rattle.graphql_query.proofs.laws.least_faults_are_first.Goals as goal
 
 pub returns : goal.returns

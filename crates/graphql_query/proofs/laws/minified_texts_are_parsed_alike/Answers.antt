@@ -1,6 +1,6 @@
-use Rattle.graphql_values.proofs.{parsed_alike, one_cause_alike}
-use Rattle.graphql_query_tree.specs.{queries}
-use Rattle.graphql_query_tree.proofs.{readable, unplaced_alike, refuses_alike}
+use Rattle.graphql_core.proofs.{parsed_alike, one_cause_alike}
+use Rattle.graphql_query.specs.{queries}
+use Rattle.graphql_query.proofs.{readable, unplaced_alike, refuses_alike}
 use Rattle.graphql_query.proofs.laws.minified_texts_are_parsed_alike.Goals as goal
 
 pub returns : goal.returns

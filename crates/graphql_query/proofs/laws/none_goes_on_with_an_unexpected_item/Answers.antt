@@ -1,8 +1,6 @@
-use Rattle.graphql_values.proofs.{none_goes_on, valueless_not}
-use Rattle.graphql_query_tree.specs.{queries}
-use Rattle.graphql_query_tree.proofs.{readable}
-use Rattle.graphql_query.specs.{one_definition}
-use Rattle.graphql_query.proofs.{readable_one}
+use Rattle.graphql_core.proofs.{none_goes_on, valueless_not}
+use Rattle.graphql_query.specs.{queries, one_definition}
+use Rattle.graphql_query.proofs.{readable, readable_one}
 use Rattle.graphql_query.proofs.laws.none_goes_on_with_an_unexpected_item.Goals as goal
 
 pub returns : goal.returns

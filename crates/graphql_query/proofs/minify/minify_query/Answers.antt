@@ -1,32 +1,29 @@
 use Rattle.std.proofs.Common.{◌≡◌, ◌∙◌, List, ℕ, string_bytes, length, sym, ap, subst, arith}
-use Rattle.graphql_core.proofs.{one_minified}
-use Rattle.graphql_values.specs.{IsMinified, Refusal}
-use Rattle.graphql_values.proofs.{minified_document, source_document, exit}
-use Rattle.graphql_query_tree.specs.{queries, IsDocumentOf, IsReadBack}
-use Rattle.graphql_query_tree.proofs.{unplaced_alike}
-use Rattle.graphql_query.specs.{IsMinifyRefusalOf, past_bound}
-use Rattle.graphql_query.proofs.{refusal, tells_refusal}
+use Rattle.graphql_core.proofs.{one_minified, minified_document, source_document, exit}
+use Rattle.graphql_core.specs.{IsMinified, Refusal}
+use Rattle.graphql_query.specs.{queries, IsDocumentOf, IsReadBack, IsMinifyRefusalOf, past_bound}
+use Rattle.graphql_query.proofs.{unplaced_alike, refusal, tells_refusal}
 use Rattle.graphql_query.proofs.minify.minify_query.Goals as goal
 
-pub returns-then-len-gt-MAX_LENGTH-clause-refused : goal.returns-then-len-gt-MAX_LENGTH-clause-refused
-returns-then-len-gt-MAX_LENGTH-clause-refused c =
+pub returns-then-len-gt-MAX_LENGTH-clause-first_error : goal.returns-then-len-gt-MAX_LENGTH-clause-first_error
+returns-then-len-gt-MAX_LENGTH-clause-first_error c =
     let source : List ℕ = string_bytes c.args.source in
     subst (λ (r : Refusal). IsMinifyRefusalOf source r) (sym (c.from.ensures ∙ c.text_too_long.ensures)) (past_bound (omega arith))
 
 pub returns-in_err-text-clause-complete : goal.returns-in_err-text-clause-complete
 returns-in_err-text-clause-complete c text bound is =
     let same : c.deref.result.now ≡ string_bytes c.args.source = c.deref.ensures in
-    tells_refusal c.deref.result.now text c.in_err-text.field-0.0 _ c.from_residual.ensures.1 c.in_err-text.ensures.refused
+    tells_refusal c.deref.result.now text c.in_err-text.field-0.0 _ c.from_residual.ensures.1 c.in_err-text.ensures.first_error
     (subst (λ (t : List ℕ). IsMinified t text) (sym same) is)
 
-pub returns-in_err-text-clause-refused : goal.returns-in_err-text-clause-refused
-returns-in_err-text-clause-refused c =
+pub returns-in_err-text-clause-first_error : goal.returns-in_err-text-clause-first_error
+returns-in_err-text-clause-first_error c =
     let same : c.deref.result.now ≡ string_bytes c.args.source = c.deref.ensures in
     let e = c.in_err-text.field-0.0 in
     let source : List ℕ = string_bytes c.args.source in
     exit _ e (IsMinifyRefusalOf source) c.from_residual.ensures.1
     (subst (λ (t : List ℕ). IsMinifyRefusalOf t e) same
-    (refusal c.deref.result.now e (omega (arith, ap length same)) c.in_err-text.ensures.refused))
+    (refusal c.deref.result.now e (omega (arith, ap length same)) c.in_err-text.ensures.first_error))
 
 pub returns-clause-complete : goal.returns-clause-complete
 returns-clause-complete c text bound is =

@@ -1,9 +1,8 @@
 use Rattle.std.proofs.Common.{◌∙◌, arith}
-use Rattle.graphql_values.specs.{start, items, split}
-use Rattle.graphql_values.proofs.{has_items, unread, parsed, unparsed, cut_first}
-use Rattle.graphql_schema_tree.specs.{schemas}
-use Rattle.graphql_schema_tree.proofs.{readable}
-use Rattle.graphql_schema.proofs.{earlier_document, printable}
+use Rattle.graphql_core.specs.{start, items, split}
+use Rattle.graphql_core.proofs.{has_items, unread, parsed, unparsed, cut_first}
+use Rattle.graphql_schema.specs.{schemas}
+use Rattle.graphql_schema.proofs.{readable, earlier_document, printable}
 use Rattle.graphql_schema.proofs.document.parse_schema.Goals as goal
 
 pub returns-then-source-gt-MAX_LENGTH-clause-parses : goal.returns-then-source-gt-MAX_LENGTH-clause-parses
@@ -32,4 +31,4 @@ returns-clause-earlier g c d bound h =
     (none, (returns-clause-parses g c).complete d bound is)
 
 pub returns-clause-printable : goal.returns-clause-printable
-returns-clause-printable g c = printable c.args.source.now _ (returns-clause-parses g c).derived
+returns-clause-printable g c = printable c.args.source.now _ (returns-clause-parses g c).sound

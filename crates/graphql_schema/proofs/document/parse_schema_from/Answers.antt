@@ -1,10 +1,8 @@
 use Rattle.std.proofs.Common.{ap, ◌∙◌}
-use Rattle.graphql_core.proofs.{nests_open}
-use Rattle.graphql_values.specs.{items_of_stream, split}
-use Rattle.graphql_values.proofs.{stream_parsed, stream_unparsed}
-use Rattle.graphql_schema_tree.specs.{schemas}
-use Rattle.graphql_schema_tree.proofs.{readable}
-use Rattle.graphql_schema.proofs.{items_printable}
+use Rattle.graphql_core.proofs.{nests_open, stream_parsed, stream_unparsed}
+use Rattle.graphql_core.specs.{items_of_stream, split}
+use Rattle.graphql_schema.specs.{schemas}
+use Rattle.graphql_schema.proofs.{readable, items_printable}
 use Rattle.graphql_schema.proofs.document.parse_schema_from.Goals as goal
 
 pub returns-in_err-read-clause-parses : goal.returns-in_err-read-clause-parses
@@ -25,4 +23,4 @@ pub returns-clause-printable : goal.returns-clause-printable
 returns-clause-printable g c =
     let items = c.args.stream.now.items in
     let (text, are) = rw c.replace.ensures.value at c.over-cursor.ensures.rest in
-    items_printable (split items) _ (nests_open items text are c.requires) (returns-clause-parses g c).derived
+    items_printable (split items) _ (nests_open items text are c.requires) (returns-clause-parses g c).sound

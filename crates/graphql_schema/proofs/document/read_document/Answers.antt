@@ -1,7 +1,6 @@
-use Rattle.graphql_values.proofs.{read_whole, read_stopped, read_refused, read_left}
-use Rattle.graphql_schema_tree.specs.{schemas}
-use Rattle.graphql_schema_tree.proofs.{readable}
-use Rattle.graphql_schema.specs.{refusals}
+use Rattle.graphql_core.proofs.{read_whole, read_stopped, read_refused, read_left}
+use Rattle.graphql_schema.specs.{schemas, refusals}
+use Rattle.graphql_schema.proofs.{readable}
 use Rattle.graphql_schema.proofs.document.read_document.Goals as goal
 
 pub returns-in-Err-Stopped-clause-reads : goal.returns-in-Err-Stopped-clause-reads

@@ -1,6 +1,6 @@
 use Rattle.std.proofs.Common.{subst}
-use Rattle.graphql_values.specs.{Items, ReadsDocument}
-use Rattle.graphql_schema_tree.specs.{schemas, document_view}
+use Rattle.graphql_core.specs.{Items, ReadsDocument}
+use Rattle.graphql_schema.specs.{schemas, document_view}
 use Rattle.graphql_schema.proofs.document.read_spans.Goals as goal
 
 pub returns : goal.returns

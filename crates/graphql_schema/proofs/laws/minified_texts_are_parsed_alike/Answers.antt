@@ -1,6 +1,6 @@
-use Rattle.graphql_values.proofs.{minified_document, source_document, parsed_alike, one_cause_alike}
-use Rattle.graphql_schema_tree.specs.{schemas}
-use Rattle.graphql_schema_tree.proofs.{readable, unplaced_alike, refuses_alike}
+use Rattle.graphql_core.proofs.{minified_document, source_document, parsed_alike, one_cause_alike}
+use Rattle.graphql_schema.specs.{schemas}
+use Rattle.graphql_schema.proofs.{readable, unplaced_alike, refuses_alike}
 use Rattle.graphql_schema.proofs.laws.minified_texts_are_parsed_alike.Goals as goal
 
 pub returns : goal.returns

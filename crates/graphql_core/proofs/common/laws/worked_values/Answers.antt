@@ -1,16 +1,18 @@
 use lib.Utf8.{encode}
 use Rattle.std.specs.Char.{IsScalar}
 use Rattle.std.proofs.Common.{◌≡◌, ◌≢◌, ◌∙◌, ℕ, ◌+◌, ◌++◌, List, [], ◌∷◌, length, codes, refl, sym, ap, subst, arith, length-append}
-use Rattle.graphql_core.specs.{digits_value, HasValue, HasNoValue, StandsFor, BeginsNoName, empty, more, slash, backspace, unicode, common_indent}
+use Rattle.std.specs.Str.Parse.{digits_value}
+use Rattle.graphql_core.specs.{HasValue, HasNoStringValue, StandsFor, BeginsNoName, no_units, unit_then}
+use Rattle.graphql_core.specs.{escaped_slash, escaped_backspace, escaped_unicode, common_indent}
 use Rattle.graphql_core.proofs.{digits_at, no_escape_named, no_escape_other, no_value}
 use Rattle.graphql_core.proofs.common.laws.worked_values.Goals as goal
 
 -- a string of one unit
 one_unit : (unit bytes : List ℕ) → StandsFor (92 ∷ unit) bytes → HasValue (92 ∷ unit ++ []) (bytes ++ [])
-one_unit unit bytes s = more (92 ∷ unit) bytes [] [] s empty
+one_unit unit bytes s = unit_then (92 ∷ unit) bytes [] [] s no_units
 
 -- a backslash, and then no escape
-none : (text : List ℕ) → ((unit bytes after : List ℕ) → StandsFor (92 ∷ unit) bytes → text ≢ unit ++ after) → HasNoValue (92 ∷ text)
+none : (text : List ℕ) → ((unit bytes after : List ℕ) → StandsFor (92 ∷ unit) bytes → text ≢ unit ++ after) → HasNoStringValue (92 ∷ text)
 none text other v h = no_value [] text v (λ i small. absurd (omega (arith, small))) other h
 
 too_few : BeginsNoName (codes "12")
@@ -29,10 +31,10 @@ surrogate digits after c n e =
 pub returns : goal.returns
 unfolding common_indent encode
 returns c = record {
-  letters = more (92 ∷ 47 ∷ []) (47 ∷ []) _ _ slash (more (92 ∷ 98 ∷ []) (8 ∷ []) _ _ backspace empty);
+  letters = unit_then (92 ∷ 47 ∷ []) (47 ∷ []) _ _ escaped_slash (unit_then (92 ∷ 98 ∷ []) (8 ∷ []) _ _ escaped_backspace no_units);
   digits = (
-    one_unit (117 ∷ codes "00e9") (195 ∷ 169 ∷ []) (unicode (codes "00e9") 233 (record { four = refl; hexadecimal = refl; value = refl; exists = refl })),
-    one_unit (117 ∷ codes "00E9") (195 ∷ 169 ∷ []) (unicode (codes "00E9") 233 (record { four = refl; hexadecimal = refl; value = refl; exists = refl })),
+    one_unit (117 ∷ codes "00e9") (195 ∷ 169 ∷ []) (escaped_unicode (codes "00e9") 233 (record { four = refl; hexadecimal = refl; value = refl; exists = refl })),
+    one_unit (117 ∷ codes "00E9") (195 ∷ 169 ∷ []) (escaped_unicode (codes "00E9") 233 (record { four = refl; hexadecimal = refl; value = refl; exists = refl })),
   );
   bad_escapes = (
     none (117 ∷ codes "12") (no_escape_named (117 ∷ codes "12") (codes "12") refl too_few),

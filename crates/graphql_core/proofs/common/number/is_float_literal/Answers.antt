@@ -1,6 +1,6 @@
 use Rattle.std.proofs.Common.{sym, ◌∙◌}
-use Rattle.graphql_lexer.proofs.{float_is, float_found}
-use Rattle.graphql_core.proofs.{false≢true, float_is_literal, literal_is_float, literal_ends_in_digit}
+use Rattle.graphql_core.proofs.{float_is, float_found, float_is_literal, literal_is_float, literal_ends_in_digit}
+use Rattle.std.proofs.lemmas.Bool.{false≢true}
 use Rattle.graphql_core.proofs.common.number.is_float_literal.Goals as goal
 
 pub returns-then-is_float : goal.returns-then-is_float

@@ -1,6 +1,7 @@
 use Rattle.std.proofs.Common.{ℕ, zero, suc, ◌<◌, [], ◌∷◌, Bool, true, false, get_or, arith}
 use Rattle.std.proofs.lemmas.Str.{IsUtf8-append, IsUtf8-nil, IsUtf8-from_ascii}
-use Rattle.graphql_core.specs.{IsUtf8, space_if}
+use Rattle.std.specs.Str.{IsUtf8}
+use Rattle.graphql_core.specs.{space_if}
 use Rattle.graphql_core.proofs.format.buffer.append_spaced.Goals as goal
 
 is_ascii : (i : ℕ) → get_or (32 ∷ []) i 0 < 128

@@ -1,13 +1,15 @@
 use Rattle.std.proofs.Common.{◌≡◌, ℕ, Bool, List, [], ◌∷◌, ◌++◌, Option, Some, None, Result, Ok, Err, refl, sym, ap, ◌∙◌, subst, append_assoc, append-nil}
-use Rattle.graphql_lexer.specs.declared.tokenizer.token.Token.{Token as Cut}
-use Rattle.graphql_lexer.specs.{NextLexeme, End}
-use Rattle.graphql_core.specs.{Token, Item, item, Where, HasItems, Pos, Bad, NextItem, IsEnd, IsBadPlaceOf, IsMinified, kind_number, split, token_of}
-use Rattle.graphql_core.specs.{is_spaced, space_if, spaced, spaced_after}
+use Rattle.graphql_core.specs.declared.tokenizer.token.Token.{Token as Cut}
+use Rattle.graphql_core.specs.{NextLexeme, EndOfInput, Item, item_at, Where, HasItems, Token, NextItem, IsEnd, split}
+use Rattle.graphql_core.specs.{token_of, IsBadPlaceOf, IsMinified, is_spaced, space_if, spaced, spaced_after}
+use Rattle.graphql_core.specs.{kind_number}
+use Rattle.graphql_core.specs.declared.position.Pos.{Pos}
+use Rattle.graphql_core.specs.declared.tokenizer.token.Bad.{Bad}
 use Rattle.graphql_core.proofs.{next_of, spaced_alike, ends_alike, spaced_first}
 use Rattle.graphql_core.proofs.helpers.minify.spaced.Goals.{in-Some, in-None+in-Ok-Some}
 use Rattle.graphql_core.proofs.helpers.minify.spaced.Goals as goal
 
--- a token is written after a space, or none
+-- a token is written after a space or without one
 written : (b : Bool) (before : ℕ) (t : Token) (ts : List Token) (text all : List ℕ) → b ≡ is_spaced before t → all ≡ text ++ (space_if b ++ t.spelling)
     → text ++ spaced_after before (t ∷ ts) ≡ all ++ spaced_after t.kind ts
 written b before t ts text all is appended =
@@ -15,7 +17,7 @@ written b before t ts text all is appended =
     ap (λ (c : Bool). text ++ (space_if c ++ (t.spelling ++ more))) (sym is) ∙ ap (λ (l : List ℕ). text ++ l) (sym (append_assoc (space_if b) t.spelling more))
     ∙ sym (append_assoc text (space_if b ++ t.spelling) more) ∙ ap (λ (l : List ℕ). l ++ more) (sym appended)
 
--- this token is the first of the old items, and the new ones are the others, but for their places
+-- this token is the first of the old items; the new items are the others, ignoring positions
 module _ (old new : List Item) (t : Cut) (next : NextLexeme old t new) where
   written_on : (before : ℕ) (b : Bool) (text all : List ℕ) → ((p : Pos) → b ≡ is_spaced before (token_of p t.kind t.value.now))
       → all ≡ text ++ (space_if b ++ t.value.now)
@@ -33,18 +35,18 @@ module _ (old new : List Item) (t : Cut) (next : NextLexeme old t new) where
   ends_after end = let (w, more, first, same) = next in ends_alike more new (sym same) (subst (λ (l : List Item). IsEnd (split l).last) first end)
 
 -- the next item is the end
-at_end : (old was new : List Item) (r : Result (Option Cut) Bad) → was ≡ old → NextItem was r new → r ≡ Ok None → (w : Where) × (old ≡ item End w ∷ [])
+at_end : (old was new : List Item) (r : Result (Option Cut) Bad) → was ≡ old → NextItem was r new → r ≡ Ok None → (w : Where) × (old ≡ item_at EndOfInput w ∷ [])
 at_end old was new r same next is =
     let (w, e, stays) = subst (λ (x : Result (Option Cut) Bad). NextItem was x new) is next in (w, sym same ∙ e)
 
--- the next item is a bad place
+-- the next item is a lexical error
 not_at_end : (old was new : List Item) (r : Result (Option Cut) Bad) (bad : Bad) → was ≡ old → NextItem was r new → r ≡ Err bad → IsEnd (split old).last → ⊥
 not_at_end old was new r bad same next is end =
     let (w, e, stays) = subst (λ (x : Result (Option Cut) Bad). NextItem was x new) is next in
     subst (λ (l : List Item). IsEnd (split l).last) (sym same ∙ e) end
 
--- at the end, all is written
-all_written : (source text all : List ℕ) (items left : List Item) (before : ℕ) (w : Where) → HasItems source items → left ≡ item End w ∷ []
+-- at the end, all tokens are written
+all_written : (source text all : List ℕ) (items left : List Item) (before : ℕ) (w : Where) → HasItems source items → left ≡ item_at EndOfInput w ∷ []
     → spaced (split items).tokens ≡ text ++ spaced_after before (split left).tokens → (IsEnd (split left).last → IsEnd (split items).last)
     → all ≡ text → IsMinified source all
 all_written source text all items left before w has last is ends same = (
@@ -99,6 +101,6 @@ fault_of_tokens-requires c end =
     not_at_end c.tokens.tokens _ _ _ c.in-Err.field-0 (c.in-None.ensures.stays refl) c.far_item-after.ensures c.in-Err.is
     (c.tokens.invariant.ends_left c.new.result c.new.ensures.items end)
 
-pub returns-in-Err-clause-refused : goal.returns-in-Err-clause-refused
-returns-in-Err-clause-refused c items has =
+pub returns-in-Err-clause-first_error : goal.returns-in-Err-clause-first_error
+returns-in-Err-clause-first_error c items has =
     subst (λ (l : List Item). IsBadPlaceOf (split l) c.fault_of_tokens.result) (sym (c.new.ensures.only items has)) c.fault_of_tokens.ensures

@@ -2,7 +2,7 @@ use Rattle.std.proofs.Common.{◌≡◌, ◌++◌, List, length}
 use Rattle.graphql_core.specs.{Item, HasItems, kind_number, split, IsEnd, spaced, spaced_after}
 use Rattle.graphql_core.proofs.helpers.minify.spaced.Given as goal
 
--- after what is written stand the tokens that are left
+-- after what is written come the tokens that are left
 abbrev pub invariant-tokens : goal.invariant-tokens
 invariant-tokens l = record {
   text : (items : List Item) → HasItems l.fn.source items

@@ -1,8 +1,9 @@
 use Rattle.std.proofs.Common.{◌+◌, List, Some, Ok, length, refl, sym, ap, ◌∙◌, inr, arith}
-use Rattle.std.proofs.lemmas.List.Elements.{All-nil, All-push}
-use Rattle.graphql_core.specs.{Pos, NextItem, next_place, split, Marks, span_items}
+use Rattle.std.proofs.lemmas.List.Elements.{All-nil, All-push, All-same}
+use Rattle.graphql_core.specs.declared.position.Pos.{Pos}
+use Rattle.graphql_core.specs.{NextItem, next_place, split, Marks, span_items}
 use Rattle.graphql_core.specs.declared.helpers.span.Span.{Span}
-use Rattle.graphql_core.proofs.{All-same, token_some, next_of, next_left, marks, is_token, one_cut}
+use Rattle.graphql_core.proofs.{token_some, next_of, next_left, marks, is_token, one_cut}
 use Rattle.graphql_core.proofs.helpers.spans.cut.Given.{Over}
 use Rattle.graphql_core.proofs.helpers.spans.cut.Goals.{in-Some, in-None+in-Ok-Some}
 use Rattle.graphql_core.proofs.helpers.spans.cut.Goals as goal
@@ -20,7 +21,7 @@ items-init g c = record {
   capacity = c.clear.ensures.capacity;
 }
 
--- the token that was answered, by whichever call, is the next one
+-- the token that either call returned is the next one
 next : (g : Over) (c : goal.Joined-near_token g) → NextItem c.items.stream (Ok (Some c.match-near_token.token)) c.match-near_token.stream
 next g c = elim c.match-near_token.branch [
   | in-Some w ↦ rw (w.token-is, w.stream-is) w.in-Some.ensures.item

@@ -1,6 +1,6 @@
 use Rattle.std.proofs.Common.{◌≡◌, Option, Result, Ok, Err, IfOk, IfSome, sym, subst}
 use Rattle.std.specs.Result.{result_ok}
-use Rattle.graphql_query_tree.specs.{document_view, IsDocumentOf}
+use Rattle.graphql_query.specs.{document_view, IsDocumentOf}
 use Rattle.graphql_parser.proofs.tests.callers.laid_out.Goals as goal
 
 -- what follows where all is well holds of what `ok` keeps
@@ -12,5 +12,5 @@ pub returns : goal.returns
 returns c =
     let document = document_view _ c.in_ok-document.document in
     let derived = kept c.parse_query.result _ _ (λ d. IsDocumentOf c.args.source.now (document_view _ d))
-    c.in_ok-document.ensures.value (λ d h. h) c.parse_query.ensures.parses.derived in
+    c.in_ok-document.ensures.value (λ d h. h) c.parse_query.ensures.parses.sound in
     kept c.format.result c.ok-2.result _ _ c.ok-2.ensures.value (λ text is. (document, derived, is)) c.format.ensures.text

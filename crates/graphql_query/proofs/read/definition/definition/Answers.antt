@@ -1,6 +1,6 @@
 use Rattle.std.proofs.Common.{sym, ap, ◌∙◌}
-use Rattle.graphql_values.proofs.{leads_in, fails_last}
-use Rattle.graphql_query_tree.specs.{fragment}
+use Rattle.graphql_core.proofs.{leads_in, fails_last}
+use Rattle.graphql_query.specs.{fragment}
 use Rattle.graphql_query.proofs.{operation_side, fragment_definition_side, as_operation, as_fragment}
 use Rattle.graphql_query.proofs.read.definition.definition.Goals as goal
 

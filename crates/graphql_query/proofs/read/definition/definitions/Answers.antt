@@ -1,7 +1,8 @@
 use Rattle.std.proofs.Common.{refl, sym, ◌∙◌}
-use Rattle.graphql_values.specs.{Shape, written, each_of}
-use Rattle.graphql_values.proofs.{adds_one, fills, here, after, fails, fails_last, turn_fails, pushes_none, turn_appends, some_taken}
-use Rattle.graphql_query_tree.specs.{definition_view, reading, changes, definition_of}
+use Rattle.graphql_core.specs.{ParseTree, written, each_of}
+use Rattle.graphql_core.proofs.{adds_one, fills, here, after, fails, fails_last, turn_fails, pushes_none}
+use Rattle.graphql_core.proofs.{turn_appends, some_taken}
+use Rattle.graphql_query.specs.{definition_view, reading, changes, definition_of}
 use Rattle.graphql_query.proofs.{read_definition, begins_definition}
 use Rattle.graphql_query.proofs.read.definition.definitions.Goals as goal
 
@@ -33,7 +34,7 @@ returns-clause-reads g c =
     let view = definition_view g.S.Names.Names.bytes in
     let (x, takes, is) = c.in_ok-definition.ensures.reads in
     let unseen = begins_definition (g.S.TokenSource.items c.more.source) ∙ sym c.sees_definition.ensures ∙ c.more-test.false in
-    let all = λ (y : Shape). each_of definition_of (written changes y) in
+    let all = λ (y : ParseTree). each_of definition_of (written changes y) in
     let (xs, taken, adds) = some_taken read_definition all all _ refl (λ x y. refl) (λ x y. refl)
     (x, takes, adds_one view _ _ _ _ c.in_ok-push.ensures.items is) c.more.invariant.pushes unseen in
     (xs, taken, fills view _ _ _ c.new-definitions.ensures.items adds)

@@ -1,7 +1,7 @@
 use Rattle.std.proofs.Common.{length}
-use Rattle.graphql_values.specs.{Sym}
-use Rattle.graphql_values.proofs.{Pushes}
-use Rattle.graphql_query_tree.specs.{definition_view, reading, definition_symbol}
+use Rattle.graphql_core.specs.{Sym}
+use Rattle.graphql_core.proofs.{Pushes}
+use Rattle.graphql_query.specs.{definition_view, reading, definition_symbol}
 use Rattle.graphql_query.proofs.{read_definition}
 use Rattle.graphql_query.proofs.read.definition.definitions.Given as goal
 

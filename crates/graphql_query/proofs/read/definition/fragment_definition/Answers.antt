@@ -1,7 +1,7 @@
 use Rattle.std.proofs.Common.{refl, ◌∙◌}
-use Rattle.graphql_values.specs.{directive_view}
-use Rattle.graphql_values.proofs.{fills, took, past, after, whole, fails, fails_last, lacks}
-use Rattle.graphql_query_tree.specs.{fragment_definition_symbol}
+use Rattle.graphql_core.specs.{directive_view}
+use Rattle.graphql_core.proofs.{fills, took, past, after, fails, fails_last, lacks, whole}
+use Rattle.graphql_query.specs.{fragment_definition_symbol}
 use Rattle.graphql_query.proofs.{begun, lifted, stops_lifted, same_fragment_definition}
 use Rattle.graphql_query.proofs.read.definition.fragment_definition.Goals as goal
 

@@ -1,7 +1,7 @@
 use Rattle.std.proofs.Common.{refl, ap₂, ◌∙◌}
-use Rattle.graphql_values.specs.{Sym, Both, takes_both, directives_symbol, directive_view}
-use Rattle.graphql_values.proofs.{adds_reserved, fills, here, after, fails_last}
-use Rattle.graphql_query_tree.specs.{spread, selection_view}
+use Rattle.graphql_core.specs.{Sym, Both, takes_both, directives_symbol, directive_view}
+use Rattle.graphql_core.proofs.{adds_reserved, fills, here, after, fails_last}
+use Rattle.graphql_query.specs.{spread, selection_view}
 use Rattle.graphql_query.proofs.{stops_lifted, lifted, fragment_spread_selected}
 use Rattle.graphql_query.proofs.read.fragment.fragment_spread.Goals as goal
 

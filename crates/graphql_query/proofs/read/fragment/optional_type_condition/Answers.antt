@@ -1,5 +1,5 @@
 use Rattle.std.proofs.Common.{Some, refl, sym, ap, ◌∙◌}
-use Rattle.graphql_values.proofs.{there, none_given, whole, fails_last}
+use Rattle.graphql_core.proofs.{there, none_given, fails_last, whole}
 use Rattle.graphql_query.proofs.{type_condition_begins}
 use Rattle.graphql_query.proofs.read.fragment.optional_type_condition.Goals as goal
 

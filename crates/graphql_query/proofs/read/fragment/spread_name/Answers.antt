@@ -1,7 +1,7 @@
 use Rattle.std.proofs.Common.{◌≡◌, refl, sym, ap₂, ◌∙◌}
-use Rattle.graphql_values.specs.{Node, written, fails_one, fails_node, place_next}
-use Rattle.graphql_values.proofs.{placed, gives_led}
-use Rattle.graphql_query_tree.specs.{reading, changes, spread_class, spread_name_symbol, spread_name_of}
+use Rattle.graphql_core.specs.{Node, written, fails_one, fails_node, place_next}
+use Rattle.graphql_core.proofs.{placed, gives_led}
+use Rattle.graphql_query.specs.{reading, changes, spread_class, spread_name_symbol, spread_name_of}
 use Rattle.graphql_query.proofs.{begun, gives_one, narrowed}
 use Rattle.graphql_query.proofs.read.fragment.spread_name.Goals as goal
 

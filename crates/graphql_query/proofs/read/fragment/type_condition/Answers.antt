@@ -1,6 +1,6 @@
 use Rattle.std.proofs.Common.{refl, sym}
-use Rattle.graphql_values.proofs.{took, past, whole, lacks, lacks_last}
-use Rattle.graphql_query_tree.specs.{type_condition_symbol}
+use Rattle.graphql_core.proofs.{took, past, lacks, lacks_last, whole}
+use Rattle.graphql_query.specs.{type_condition_symbol}
 use Rattle.graphql_query.proofs.{begun}
 use Rattle.graphql_query.proofs.read.fragment.type_condition.Goals as goal
 

@@ -1,8 +1,7 @@
 use Rattle.std.proofs.Common.{ℕ, List, refl, sym, ap₂, subst, ◌∙◌}
-use Rattle.graphql_values.specs.{keyword}
-use Rattle.graphql_values.proofs.{TakesNone, here, took, past, whole, fails_last, lacks}
-use Rattle.graphql_query_tree.specs.{operation, with_body}
-use Rattle.graphql_query.specs.{kind_of}
+use Rattle.graphql_core.specs.{keyword}
+use Rattle.graphql_core.proofs.{TakesNone, here, took, past, fails_last, lacks, whole}
+use Rattle.graphql_query.specs.{operation, with_body, kind_of}
 use Rattle.graphql_query.proofs.read.operation.keyword_operation.Goals as goal
 
 pub returns-in_err-position-clause-reads : goal.returns-in_err-position-clause-reads

@@ -1,7 +1,7 @@
 use Rattle.std.proofs.Common.{refl, ◌∙◌, arith}
-use Rattle.graphql_values.specs.{directive_view}
-use Rattle.graphql_values.proofs.{fills, past, after, whole, fails, fails_last}
-use Rattle.graphql_query_tree.specs.{variable_definition_view, operation_body_symbol}
+use Rattle.graphql_core.specs.{directive_view}
+use Rattle.graphql_core.proofs.{fills, past, after, fails, fails_last, whole}
+use Rattle.graphql_query.specs.{variable_definition_view, operation_body_symbol}
 use Rattle.graphql_query.proofs.{begun, lifted, stops_lifted, same_operation_body}
 use Rattle.graphql_query.proofs.read.operation.operation_body.Goals as goal
 

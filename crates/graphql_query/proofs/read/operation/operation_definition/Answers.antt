@@ -1,7 +1,6 @@
 use Rattle.std.proofs.Common.{ap, ◌∙◌}
-use Rattle.graphql_values.proofs.{gives_led, leads_in, fails_last}
-use Rattle.graphql_query_tree.specs.{short}
-use Rattle.graphql_query.specs.{kind_of}
+use Rattle.graphql_core.proofs.{gives_led, leads_in, fails_last}
+use Rattle.graphql_query.specs.{short, kind_of}
 use Rattle.graphql_query.proofs.{kind_side, kind_means, as_short, short_side}
 use Rattle.graphql_query.proofs.read.operation.operation_definition.Goals as goal
 

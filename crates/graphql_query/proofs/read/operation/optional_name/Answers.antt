@@ -1,8 +1,8 @@
 use Rattle.std.proofs.Common.{refl, sym, ap, ◌∙◌, Some}
-use Rattle.graphql_values.specs.{Leaf, First, Second, Nothing}
-use Rattle.graphql_values.proofs.{takes_one, takes_some, takes_none}
-use Rattle.graphql_query_tree.specs.{reading}
-use Rattle.graphql_values.specs.Grammar as shared
+use Rattle.graphql_core.specs.{Leaf, First, Second, Nothing}
+use Rattle.graphql_core.proofs.{takes_one, takes_some, takes_none}
+use Rattle.graphql_query.specs.{reading}
+use Rattle.graphql_core.specs.values.Grammar as shared
 use Rattle.graphql_query.proofs.read.operation.optional_name.Goals as goal
 
 pub returns-then-not-sees_name-clause-reads : goal.returns-then-not-sees_name-clause-reads

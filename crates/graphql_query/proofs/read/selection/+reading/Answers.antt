@@ -1,17 +1,18 @@
 use Rattle.std.proofs.Common.{◌≡◌, ◌<◌, [], ◌∷◌, ◌++◌, length, map, refl, sym, ap, ◌∙◌, arith}
-use Rattle.graphql_values.specs.{Sym, Leaf, Both, First, Second, Nothing, Node, optional, peek, takes_both, written, place_of, argument_view, directive_view}
-use Rattle.graphql_values.specs.{arguments_symbol, directives_symbol}
-use Rattle.graphql_values.proofs.{Stops-before, Stops-after, Stops-turn, Turns-start, Turns-more, Turns-stop, takes_one, stops_one, answered_error, one_of}
-use Rattle.graphql_values.proofs.{adds_none, adds_reserved, adds_more, fills, here, took, past, after, whole, fails, fails_last, lacks, begins_at, leads_in}
-use Rattle.graphql_values.proofs.{into, gives_led, lacks_last, some_given, none_given, pushes_none, turn_appends, turn_fails}
-use Rattle.graphql_query_tree.specs.{more, reading, changes, selection_set_symbol, selection_symbol, inline_fragment_rest, selections_of, trees_of}
-use Rattle.graphql_query_tree.specs.{selection_view, set, queries}
-use Rattle.graphql_query_tree.proofs.{readable}
-use Rattle.graphql_query.specs.{first_names}
-use Rattle.graphql_query.proofs.{begun, lifted, stops_lifted, selection_set_begins, field_side, dots_side, fragment_spread_side, inline_fragment_side}
-use Rattle.graphql_query.proofs.{names_taken, stops_in_names, begins_selection, field_means, inline_fragment_means, dots_mean, selection_at, selections_mean}
-use Rattle.graphql_query.proofs.{no_fewer, stays, field_made, inline_fragment_made, selection_set_made, selection_set_taken, field_selected}
-use Rattle.graphql_query.proofs.{inline_fragment_selected}
+use Rattle.graphql_core.specs.{Sym, Leaf, Both, First, Second, Nothing, Node, optional, peek, takes_both, written}
+use Rattle.graphql_core.specs.{place_of, argument_view, directive_view, arguments_symbol, directives_symbol}
+use Rattle.graphql_core.proofs.{Stops-before, Stops-after, Stops-turn, Turns-start, Turns-more, Turns-stop}
+use Rattle.graphql_core.proofs.{takes_one, stops_one, answered_error, one_of, adds_none, adds_reserved, adds_more}
+use Rattle.graphql_core.proofs.{fills, here, took, past, after, fails, fails_last, lacks, begins_at, leads_in, into}
+use Rattle.graphql_core.proofs.{gives_led, lacks_last, some_given, none_given, pushes_none, turn_appends, turn_fails}
+use Rattle.graphql_core.proofs.{whole}
+use Rattle.graphql_query.specs.{more, trees_of, selection_view, set, reading, changes, selection_set_symbol}
+use Rattle.graphql_query.specs.{selection_symbol, inline_fragment_rest, selections_of, queries, first_names}
+use Rattle.graphql_query.proofs.{readable, begun, lifted, stops_lifted, selection_set_begins, field_side, dots_side}
+use Rattle.graphql_query.proofs.{fragment_spread_side, inline_fragment_side, names_taken, stops_in_names}
+use Rattle.graphql_query.proofs.{begins_selection, field_means, inline_fragment_means, dots_mean, selection_at}
+use Rattle.graphql_query.proofs.{selections_mean, no_fewer, stays, field_made, inline_fragment_made}
+use Rattle.graphql_query.proofs.{selection_set_made, selection_set_taken, field_selected, inline_fragment_selected}
 use Rattle.graphql_query.proofs.read.selection.+reading.Goals as goal
 
 -- ---- field

@@ -1,11 +1,11 @@
 use Rattle.std.proofs.Common.{◌+◌, ◌*◌, ◌≤◌, ◌≡◌, length}
-use Rattle.graphql_values.specs.{Sym, kept}
-use Rattle.graphql_values.proofs.{Pushes}
-use Rattle.graphql_query_tree.specs.{reading, selection_symbol, selection_view}
+use Rattle.graphql_core.specs.{Sym, kept}
+use Rattle.graphql_core.proofs.{Pushes}
+use Rattle.graphql_query.specs.{reading, selection_symbol, selection_view}
 use Rattle.graphql_query.proofs.{selection_at}
 use Rattle.graphql_query.proofs.read.selection.+reading.Given as goal
 
--- one that takes a token before it calls another has less to do than one that calls it at once
+-- the measure grows by 1 if a reader calls another before it consumes a token
 abbrev pub decreases-field : goal.decreases-field
 decreases-field g l = 3 * length (g.S.TokenSource.items l.source.now).tokens
 

@@ -1,9 +1,8 @@
 use Rattle.std.proofs.Common.{refl, sym, ap, ap₂, ◌∙◌}
-use Rattle.graphql_values.proofs.{Stops-before, reads_led, halts_led, stops_led, whole}
-use Rattle.graphql_schema_tree.specs.{schemas, schema, type_definition, directive}
-use Rattle.graphql_schema.specs.{refusals}
-use Rattle.graphql_schema.proofs.{an_extension, no_extension, a_description, a_schema, a_directive, a_type, no_keyword, with_description, directive_means}
-use Rattle.graphql_schema.proofs.{body_means}
+use Rattle.graphql_core.proofs.{Stops-before, reads_led, halts_led, stops_led, whole}
+use Rattle.graphql_schema.specs.{schemas, schema, type_definition, directive, refusals}
+use Rattle.graphql_schema.proofs.{an_extension, no_extension, a_description, a_schema, a_directive, a_type}
+use Rattle.graphql_schema.proofs.{no_keyword, with_description, directive_means, body_means}
 use Rattle.graphql_schema.proofs.read.definition.definition.Goals as goal
 
 pub returns-then-sees_keyword-clause-reads : goal.returns-then-sees_keyword-clause-reads

@@ -1,8 +1,8 @@
 use Rattle.std.proofs.Common.{sym, ◌∙◌, refl, Err}
-use Rattle.graphql_values.specs.{Stop, fits_stop, each_of}
-use Rattle.graphql_values.proofs.{adds_one, fills, halts_before, halts_led, turn_done, turn_halts, here, past, pushes_none, some_taken}
-use Rattle.graphql_schema_tree.specs.{schemas, item_of, definition_view}
-use Rattle.graphql_schema.specs.{refusals, as_written}
+use Rattle.graphql_core.specs.{Stop, fits_stop, each_of}
+use Rattle.graphql_core.proofs.{adds_one, fills, halts_before, halts_led, turn_done, turn_halts, here, past}
+use Rattle.graphql_core.proofs.{pushes_none, some_taken}
+use Rattle.graphql_schema.specs.{schemas, item_of, definition_view, refusals, as_written}
 use Rattle.graphql_schema.proofs.{reading, item_begins}
 use Rattle.graphql_schema.proofs.read.definition.definitions.Goals as goal
 

@@ -1,8 +1,7 @@
 use Rattle.std.proofs.Common.{length}
-use Rattle.graphql_values.specs.{Sym}
-use Rattle.graphql_values.proofs.{Pushes}
-use Rattle.graphql_schema_tree.specs.{item_symbol, item_of, definition_view}
-use Rattle.graphql_schema.specs.{as_written}
+use Rattle.graphql_core.specs.{Sym}
+use Rattle.graphql_core.proofs.{Pushes}
+use Rattle.graphql_schema.specs.{item_symbol, item_of, definition_view, as_written}
 use Rattle.graphql_schema.proofs.{reading}
 use Rattle.graphql_schema.proofs.read.definition.definitions.Given as goal
 

@@ -1,9 +1,9 @@
 use Rattle.std.proofs.Common.{sym, refl, ◌∙◌}
-use Rattle.graphql_values.specs.{One, StringValue, BlockString, any}
-use Rattle.graphql_values.proofs.{unseen_one, side_left, side_second, begun, into, gives_led, gives_lifted}
-use Rattle.graphql_schema_tree.specs.{schemas, description_symbol}
-use Rattle.graphql_schema_tree.proofs.{readable, read_alike}
-use Rattle.graphql_schema.proofs.{reading}
+use Rattle.graphql_core.specs.{One, any}
+use Rattle.graphql_core.specs.declared.tokenizer.token.Kind.TheVariants.{StringValue, BlockString}
+use Rattle.graphql_core.proofs.{unseen_one, side_left, side_second, begun, into, gives_led, gives_lifted}
+use Rattle.graphql_schema.specs.{schemas, description_symbol}
+use Rattle.graphql_schema.proofs.{readable, read_alike, reading}
 use Rattle.graphql_schema.proofs.read.description.description.Goals as goal
 
 pub returns-then-sees_block_string-clause-reads : goal.returns-then-sees_block_string-clause-reads

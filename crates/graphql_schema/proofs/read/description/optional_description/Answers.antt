@@ -1,5 +1,5 @@
 use Rattle.std.proofs.Common.{refl, sym, ap, ◌∙◌, Some}
-use Rattle.graphql_values.proofs.{there, none_given, whole, fails_last}
+use Rattle.graphql_core.proofs.{there, none_given, fails_last, whole}
 use Rattle.graphql_schema.proofs.{description_begins, begins_description}
 use Rattle.graphql_schema.proofs.read.description.optional_description.Goals as goal
 

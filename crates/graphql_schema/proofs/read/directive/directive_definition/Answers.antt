@@ -1,6 +1,6 @@
 use Rattle.std.proofs.Common.{refl}
-use Rattle.graphql_values.proofs.{fills, begun, took, past, after, whole, fails, fails_last, lacks}
-use Rattle.graphql_schema_tree.specs.{directive_definition_symbol, input_value_view}
+use Rattle.graphql_core.proofs.{fills, begun, took, past, after, fails, fails_last, lacks, whole}
+use Rattle.graphql_schema.specs.{directive_definition_symbol, input_value_view}
 use Rattle.graphql_schema.proofs.{after_none, same_definition}
 use Rattle.graphql_schema.proofs.read.directive.directive_definition.Goals as goal
 

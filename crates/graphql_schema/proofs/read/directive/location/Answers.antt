@@ -1,6 +1,6 @@
 use Rattle.std.proofs.Common.{is_some, sym, ap, ◌∙◌}
-use Rattle.graphql_values.specs.{Leaf, Node}
-use Rattle.graphql_schema_tree.specs.{location_of, location_symbol}
+use Rattle.graphql_core.specs.{Leaf, Node}
+use Rattle.graphql_schema.specs.{location_of, location_symbol}
 use Rattle.graphql_schema.proofs.{named, unnamed, location_missing, location_refused, location_taken}
 use Rattle.graphql_schema.proofs.read.directive.location.Goals as goal
 

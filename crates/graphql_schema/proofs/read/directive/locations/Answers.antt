@@ -1,8 +1,8 @@
 use Rattle.std.proofs.Common.{refl, sym, ◌∙◌, codes, Some, None, arith}
-use Rattle.graphql_values.specs.{Then, Sym, written, punctuator, marked_of, joined_of}
-use Rattle.graphql_values.proofs.{adds_one, begun, after, whole, fails, fails_last, pushes_none, turn_fails, turn_appends}
-use Rattle.graphql_schema_tree.specs.{changes, location_symbol, locations_symbol, location_at}
-use Rattle.graphql_schema.specs.{as_written}
+use Rattle.graphql_core.specs.{Then, Sym, written, punctuator, separated_of, joined_of}
+use Rattle.graphql_core.proofs.{adds_one, begun, after, fails, fails_last, pushes_none, turn_fails, turn_appends}
+use Rattle.graphql_core.proofs.{whole}
+use Rattle.graphql_schema.specs.{changes, location_symbol, locations_symbol, location_at, as_written}
 use Rattle.graphql_schema.proofs.{reading, adds_present, joined_taken}
 use Rattle.graphql_schema.proofs.read.directive.locations.Goals as goal
 
@@ -13,7 +13,7 @@ returns-in_err-location-clause-reads g c =
 
 pub more-init : goal.more-init
 more-init g c = record {
-  comes = pushes_none reading (Then (punctuator (codes "|")) (Sym location_symbol)) (as_written (marked_of location_at None)) Some _ _;
+  comes = pushes_none reading (Then (punctuator (codes "|")) (Sym location_symbol)) (as_written (separated_of location_at None)) Some _ _;
   kept = refl;
   within = omega arith;
 }
@@ -21,21 +21,21 @@ more-init g c = record {
 pub more-preserved : goal.more-preserved
 more-preserved g c =
     let now = g.S.TokenSource.items c.more.source in record {
-      comes = turn_appends reading _ (as_written (marked_of location_at None)) Some _ now _ _ _ _ c.more.invariant.comes
-          (sym c.sees_punctuator.ensures ∙ c.more-test.true) c.in_ok-marked_location.ensures.reads c.in_ok-marked_location.ensures.kept;
-      kept = c.in_ok-marked_location.ensures.kept ∙ c.more.invariant.kept;
-      within = omega (arith, c.more.invariant.within, c.in_ok-marked_location.ensures.shorter);
+      comes = turn_appends reading _ (as_written (separated_of location_at None)) Some _ now _ _ _ _ c.more.invariant.comes
+          (sym c.sees_punctuator.ensures ∙ c.more-test.true) c.in_ok-separated_location.ensures.reads c.in_ok-separated_location.ensures.kept;
+      kept = c.in_ok-separated_location.ensures.kept ∙ c.more.invariant.kept;
+      within = omega (arith, c.more.invariant.within, c.in_ok-separated_location.ensures.shorter);
     }
 
-pub returns-in_err-marked_location-clause-reads : goal.returns-in_err-marked_location-clause-reads
-returns-in_err-marked_location-clause-reads g c =
+pub returns-in_err-separated_location-clause-reads : goal.returns-in_err-separated_location-clause-reads
+returns-in_err-separated_location-clause-reads g c =
     let first = after (after (begun locations_symbol (λ x. refl)) c.in_ok-optional_punctuator.ensures.reads) c.in_ok-location.ensures.reads in
-    let turn = turn_fails _ _ c.more.invariant.comes (sym c.sees_punctuator.ensures ∙ c.more-test.true) c.in_err-marked_location.ensures.reads in
-    fails_last _ _ _ _ first turn c.from_residual-in_err-marked_location.ensures.1
+    let turn = turn_fails _ _ c.more.invariant.comes (sym c.sees_punctuator.ensures ∙ c.more-test.true) c.in_err-separated_location.ensures.reads in
+    fails_last _ _ _ _ first turn c.from_residual-in_err-separated_location.ensures.1
 
-pub returns-in_err-marked_location-clause-kept : goal.returns-in_err-marked_location-clause-kept
-returns-in_err-marked_location-clause-kept g c =
-    c.in_err-marked_location.ensures.kept ∙ c.more.invariant.kept ∙ c.in_ok-location.ensures.kept ∙ c.in_ok-optional_punctuator.ensures.kept
+pub returns-in_err-separated_location-clause-kept : goal.returns-in_err-separated_location-clause-kept
+returns-in_err-separated_location-clause-kept g c =
+    c.in_err-separated_location.ensures.kept ∙ c.more.invariant.kept ∙ c.in_ok-location.ensures.kept ∙ c.in_ok-optional_punctuator.ensures.kept
 
 pub returns-clause-reads : goal.returns-clause-reads
 returns-clause-reads g c =

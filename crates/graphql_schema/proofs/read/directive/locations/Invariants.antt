@@ -1,14 +1,13 @@
 use Rattle.std.proofs.Common.{◌≡◌, ◌≤◌, length, codes, Some, None}
-use Rattle.graphql_values.specs.{Then, Sym, kept, punctuator, marked_of}
-use Rattle.graphql_values.proofs.{Pushes}
-use Rattle.graphql_schema_tree.specs.{location_symbol, location_at}
-use Rattle.graphql_schema.specs.{as_written}
+use Rattle.graphql_core.specs.{Then, Sym, kept, punctuator, separated_of}
+use Rattle.graphql_core.proofs.{Pushes}
+use Rattle.graphql_schema.specs.{location_symbol, location_at, as_written}
 use Rattle.graphql_schema.proofs.{reading}
 use Rattle.graphql_schema.proofs.read.directive.locations.Given as goal
 
 abbrev pub invariant-more : goal.invariant-more
 invariant-more g l = record {
-  comes : Pushes reading (Then (punctuator (codes "|")) (Sym location_symbol)) (as_written (marked_of location_at None)) Some
+  comes : Pushes reading (Then (punctuator (codes "|")) (Sym location_symbol)) (as_written (separated_of location_at None)) Some
       (g.S.TokenSource.items l.initial.source) (g.S.TokenSource.items l.source) l.initial.locations.items l.locations.items;
   kept : kept (g.S.TokenSource.items l.source) ≡ kept (g.S.TokenSource.items l.initial.source);
   within : length (g.S.TokenSource.items l.source).tokens ≤ length (g.S.TokenSource.items l.initial.source).tokens;

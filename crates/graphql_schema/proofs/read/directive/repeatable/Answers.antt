@@ -1,6 +1,6 @@
 use Rattle.std.proofs.Common.{refl, sym, ◌∙◌, codes}
-use Rattle.graphql_values.specs.{Leaf, First, Second, Nothing, word}
-use Rattle.graphql_values.proofs.{takes_one, takes_some, takes_none}
+use Rattle.graphql_core.specs.{Leaf, First, Second, Nothing, word}
+use Rattle.graphql_core.proofs.{takes_one, takes_some, takes_none}
 use Rattle.graphql_schema.proofs.{reading}
 use Rattle.graphql_schema.proofs.read.directive.repeatable.Goals as goal
 

@@ -1,10 +1,10 @@
 use Rattle.std.proofs.Common.{◌∙◌, Some, ap, refl, sym}
-use Rattle.graphql_values.specs.{Place, empty_extension}
-use Rattle.graphql_values.proofs.{node_stops, node_lacks, node_passes, node_refused, here, before, past, took}
-use Rattle.graphql_schema_tree.specs.{extension_symbol, schemas, SchemaTree, BodyTree, schema_extension, extension, adds, adds_to_schema}
-use Rattle.graphql_schema_tree.proofs.{readable}
-use Rattle.graphql_schema.specs.{refusals}
-use Rattle.graphql_schema.proofs.{of_schema, of_body, node_halts, none_extended, directive_extended, not_extended, body_means}
+use Rattle.graphql_core.specs.{Place, empty_extension}
+use Rattle.graphql_core.proofs.{node_stops, node_lacks, node_passes, node_refused, here, before, past, took}
+use Rattle.graphql_schema.specs.{extension_symbol, schemas, SchemaTree, BodyTree, schema_extension, extension, adds}
+use Rattle.graphql_schema.specs.{adds_to_schema, refusals}
+use Rattle.graphql_schema.proofs.{readable, of_schema, of_body, node_halts, none_extended, directive_extended}
+use Rattle.graphql_schema.proofs.{not_extended, body_means}
 use Rattle.graphql_schema.proofs.read.extension.extension.Goals as goal
 
 pub returns-in_err-expect_keyword-clause-reads : goal.returns-in_err-expect_keyword-clause-reads
@@ -60,7 +60,7 @@ returns-else-not-adds-clause-reads g c =
     node_passes schemas refusals _ _ _ _ _ _ (lead.takes _ x takes)
     (ap adds (sym same) ∙ sym c.adds.ensures ∙ c.if-not-adds.false) (c.into_extension.ensures ∙ ap extension same)
 
--- ---- of nothing
+-- ---- of neither
 
 pub returns-in-Some-Directive-clause-reads : goal.returns-in-Some-Directive-clause-reads
 returns-in-Some-Directive-clause-reads g c =

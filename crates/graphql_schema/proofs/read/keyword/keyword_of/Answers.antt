@@ -1,9 +1,9 @@
 use Rattle.std.proofs.Common.{sym, ◌∙◌}
-use Rattle.graphql_values.specs.{lexeme_token}
+use Rattle.graphql_core.specs.{lexeme_token}
 use Rattle.graphql_schema.proofs.{no_word}
 use Rattle.graphql_schema.proofs.read.keyword.keyword_of.Goals as goal
 
--- no keyword is spelled so
+-- no keyword has this spelling
 pub returns-in_default : goal.returns-in_default
 returns-in_default g c =
     let n = c.in_default in

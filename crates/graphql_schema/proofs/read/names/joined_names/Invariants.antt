@@ -1,13 +1,13 @@
 use Rattle.std.proofs.Common.{◌≡◌, ◌≤◌, [], length}
-use Rattle.graphql_values.specs.{kept, spelling_of, spelling_at, marked_of}
-use Rattle.graphql_values.proofs.{Pushes}
+use Rattle.graphql_core.specs.{kept, spelling_of, spelling_at, separated_of}
+use Rattle.graphql_core.proofs.{Pushes}
 use Rattle.graphql_schema.specs.{as_written}
-use Rattle.graphql_schema.proofs.{marked, reading}
+use Rattle.graphql_schema.proofs.{separated, reading}
 use Rattle.graphql_schema.proofs.read.names.joined_names.Given as goal
 
 abbrev pub invariant-more : goal.invariant-more
 invariant-more g l = record {
-  comes : Pushes reading (marked (spelling_of l.mark)) (as_written (marked_of spelling_at [])) g.S.Names.Names.bytes
+  comes : Pushes reading (separated (spelling_of l.separator)) (as_written (separated_of spelling_at [])) g.S.Names.Names.bytes
       (g.S.TokenSource.items l.initial.source) (g.S.TokenSource.items l.source) l.initial.names.items l.names.items;
   kept : kept (g.S.TokenSource.items l.source) ≡ kept (g.S.TokenSource.items l.initial.source);
   within : length (g.S.TokenSource.items l.source).tokens ≤ length (g.S.TokenSource.items l.initial.source).tokens;

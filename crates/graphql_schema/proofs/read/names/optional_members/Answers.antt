@@ -1,6 +1,6 @@
 use Rattle.std.proofs.Common.{refl, sym, ◌∙◌}
-use Rattle.graphql_values.proofs.{adds_none, side_node, took, past, into, there, none_given, gives_led, lacks}
-use Rattle.graphql_schema_tree.specs.{members_symbol}
+use Rattle.graphql_core.proofs.{adds_none, side_node, took, past, into, there, none_given, gives_led, lacks}
+use Rattle.graphql_schema.specs.{members_symbol}
 use Rattle.graphql_schema.proofs.{reading, members_begins}
 use Rattle.graphql_schema.proofs.read.names.optional_members.Goals as goal
 

@@ -1,6 +1,6 @@
 use Rattle.std.proofs.Common.{[], ◌∷◌, refl, sym, ◌∙◌}
-use Rattle.graphql_values.specs.{takes_both}
-use Rattle.graphql_values.proofs.{Stops-before, Stops-after, none_given, took, past, whole, fails, lacks, lacks_last}
+use Rattle.graphql_core.specs.{takes_both}
+use Rattle.graphql_core.proofs.{Stops-before, Stops-after, none_given, took, past, fails, lacks, lacks_last, whole}
 use Rattle.graphql_schema.proofs.{turn_of, roots_begin, roots_there}
 use Rattle.graphql_schema.proofs.read.schema.optional_roots.Goals as goal
 

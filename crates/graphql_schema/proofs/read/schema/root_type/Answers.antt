@@ -1,7 +1,6 @@
 use Rattle.std.proofs.Common.{◌∙◌, [], ◌∷◌, ◌++◌, subst, refl, sym}
-use Rattle.graphql_values.proofs.{begun, took, past, whole, lacks, lacks_last}
-use Rattle.graphql_schema_tree.specs.{Root, root_type_symbol}
-use Rattle.graphql_schema.specs.{HasRoots}
+use Rattle.graphql_core.proofs.{begun, took, past, lacks, lacks_last, whole}
+use Rattle.graphql_schema.specs.{Root, root_type_symbol, HasRoots}
 use Rattle.graphql_schema.proofs.read.schema.root_type.Goals as goal
 
 pub returns-in_err-operation-clause-reads : goal.returns-in_err-operation-clause-reads

@@ -1,8 +1,7 @@
 use Rattle.std.proofs.Common.{◌≡◌, ◌≤◌, ◌++◌, List, length}
-use Rattle.graphql_values.specs.{Sym, Turns, kept}
-use Rattle.graphql_values.proofs.{one_of}
-use Rattle.graphql_schema_tree.specs.{Root, root_type_symbol}
-use Rattle.graphql_schema.specs.{HasRoots}
+use Rattle.graphql_core.specs.{Sym, Turns, kept}
+use Rattle.graphql_core.proofs.{one_of}
+use Rattle.graphql_schema.specs.{Root, root_type_symbol, HasRoots}
 use Rattle.graphql_schema.proofs.{reading, turn_of}
 use Rattle.graphql_schema.proofs.read.schema.root_types.Given as goal
 

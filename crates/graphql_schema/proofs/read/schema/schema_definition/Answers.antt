@@ -1,10 +1,9 @@
 use Rattle.std.proofs.Common.{[], ◌∙◌, Some, option_map, ap, refl, sym}
-use Rattle.graphql_values.specs.{Place, written, cause_text, directive_view}
-use Rattle.graphql_values.proofs.{fills, node_stops, node_lacks, node_passes, node_refused, here, before, took, past, after}
-use Rattle.graphql_schema_tree.specs.{changes, schemas, root_fault, roots_of}
-use Rattle.graphql_schema_tree.proofs.{readable}
-use Rattle.graphql_schema.specs.{refusals}
-use Rattle.graphql_schema.proofs.{lifted, stops_lifted, told_at, fault_told, none_told}
+use Rattle.graphql_core.specs.{Place, written, cause_text, directive_view}
+use Rattle.graphql_core.proofs.{fills, node_stops, node_lacks, node_passes, node_refused, here, before, took, past}
+use Rattle.graphql_core.proofs.{after}
+use Rattle.graphql_schema.specs.{changes, schemas, root_fault, roots_of, refusals}
+use Rattle.graphql_schema.proofs.{readable, lifted, stops_lifted, told_at, fault_told, none_told}
 use Rattle.graphql_schema.proofs.read.schema.schema_definition.Goals as goal
 
 pub returns-in_err-position-clause-reads : goal.returns-in_err-position-clause-reads

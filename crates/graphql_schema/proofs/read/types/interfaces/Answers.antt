@@ -1,6 +1,6 @@
 use Rattle.std.proofs.Common.{sym, ◌∙◌}
-use Rattle.graphql_values.specs.{Nothing, takes_nothing}
-use Rattle.graphql_values.proofs.{adds_none}
+use Rattle.graphql_core.specs.{Nothing, takes_nothing}
+use Rattle.graphql_core.proofs.{adds_none}
 use Rattle.graphql_schema.proofs.read.types.interfaces.Goals as goal
 
 pub returns-then-not-has_interfaces-clause-reads : goal.returns-then-not-has_interfaces-clause-reads

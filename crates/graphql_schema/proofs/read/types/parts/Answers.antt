@@ -1,5 +1,5 @@
 use Rattle.std.proofs.Common.{refl}
-use Rattle.graphql_values.specs.{Nothing, takes_nothing}
+use Rattle.graphql_core.specs.{Nothing, takes_nothing}
 use Rattle.graphql_schema.proofs.read.types.parts.Goals as goal
 
 pub returns-in-Scalar-clause-reads : goal.returns-in-Scalar-clause-reads

@@ -1,8 +1,7 @@
 use Rattle.std.proofs.Common.{ℕ, List, refl, ap, subst, ◌∙◌}
-use Rattle.graphql_values.specs.{written, keyword, directive_view}
-use Rattle.graphql_values.proofs.{TakesNone, fills, here, took, past, after, whole, fails, fails_last, lacks}
-use Rattle.graphql_schema_tree.specs.{changes}
-use Rattle.graphql_schema.specs.{parts_of}
+use Rattle.graphql_core.specs.{written, keyword, directive_view}
+use Rattle.graphql_core.proofs.{TakesNone, fills, here, took, past, after, fails, fails_last, lacks, whole}
+use Rattle.graphql_schema.specs.{changes, parts_of}
 use Rattle.graphql_schema.proofs.{lifted, stops_lifted, of_kind, kind_taken, same_body}
 use Rattle.graphql_schema.proofs.read.types.type_body.Goals as goal
 

@@ -1,12 +1,18 @@
 use Rattle.std.proofs.Common.{◌≡◌, ℕ, min, ◌==◌, if◌then◌else◌, List, [], ◌∷◌, ◌++◌, length, take, drop, string_bytes, sym, ap, ◌∙◌, arith}
 use Rattle.std.proofs.lemmas.Iterator.{YieldsList-from_take}
 use Rattle.std.proofs.lemmas.Iterator.Adapters.{YieldsList-from_skip}
-use Rattle.std.proofs.lemmas.Iterator.Consumers.{YieldsList-from_enumerate, YieldsList-turn, YieldsList-end}
-use Rattle.std.proofs.lemmas.List.{length_push}
-use Rattle.graphql_core.specs.{join_by, prefix_len, lines, indent, is_blank, common_indent, unescaped}
-use Rattle.graphql_core.proofs.{nat_tests, YieldsList-at, YieldsList-from_lines, take_all, encode_ascii, piece, kept, kept_at, first_written, later_written}
-use Rattle.graphql_core.proofs.{pieces_kept}
-use Rattle.graphql_core.proofs.common.strings.block.content_value.Goals.{then-index-first+in_ok-push, else-index-first, then-index-eq0, else-index-eq0}
+use Rattle.std.proofs.lemmas.Iterator.Consumers.{YieldsList-from_enumerate, YieldsList-turn, YieldsList-end, YieldsList-at}
+use Rattle.std.proofs.lemmas.List.{length_push, take_all}
+use Rattle.std.specs.List.{join_by, prefix_len}
+use Rattle.std.specs.Str.Lines.{lines}
+use Rattle.graphql_core.specs.{indent, is_blank_line, common_indent, unescaped}
+use Rattle.std.proofs.lemmas.Bool.Decides.{nat_tests}
+use Rattle.std.proofs.lemmas.Iterator.Splits.{YieldsList-from_lines}
+use Rattle.std.proofs.lemmas.Str.{encode_ascii}
+use Rattle.graphql_core.proofs.{piece, kept, kept_at, first_written, later_written, pieces_kept}
+use Rattle.graphql_core.proofs.common.strings.block.content_value.Goals.{then-index-first+in_ok-push}
+use Rattle.graphql_core.proofs.common.strings.block.content_value.Goals.{else-index-first, then-index-eq0}
+use Rattle.graphql_core.proofs.common.strings.block.content_value.Goals.{else-index-eq0}
 use Rattle.graphql_core.proofs.common.strings.block.content_value.Goals as goal
 
 pub lines-preserved : goal.lines-preserved
@@ -67,5 +73,5 @@ returns c =
     ∙ ap (join_by (piece width) (10 ∷ [])) (take_all (length c.lines.yielded) zs (omega arith))
     ∙ ap (λ n. join_by (piece n) (10 ∷ []) zs) c.common_indent-width.ensures
     ∙ ap (λ n. join_by (piece (common_indent ls)) (10 ∷ []) (kept n through ls)) c.blank_lines_before-first.ensures
-    ∙ ap (λ n. join_by (piece (common_indent ls)) (10 ∷ []) (kept (prefix_len is_blank ls) n ls)) c.lines_through_last-through.ensures
+    ∙ ap (λ n. join_by (piece (common_indent ls)) (10 ∷ []) (kept (prefix_len is_blank_line ls) n ls)) c.lines_through_last-through.ensures
     ∙ pieces_kept ls

@@ -1,5 +1,6 @@
 use Rattle.std.proofs.Common.{◌≡◌, ◌≤◌, [], ◌∷◌, length, take, string_bytes}
-use Rattle.graphql_core.specs.{join_by, lines}
+use Rattle.std.specs.List.{join_by}
+use Rattle.std.specs.Str.Lines.{lines}
 use Rattle.graphql_core.proofs.{piece, kept}
 use Rattle.graphql_core.proofs.common.strings.block.content_value.Given as goal
 

@@ -1,5 +1,5 @@
 use Rattle.std.proofs.Common.{◌≡◌, length, get_or, ap, arith}
-use Rattle.graphql_core.proofs.{IsCharBoundary-after_ascii}
+use Rattle.std.proofs.lemmas.Str.{IsCharBoundary-after_ascii}
 use Rattle.graphql_core.proofs.common.strings.block.unquote_block_string.Goals as goal
 
 pub range-requires-clause-start_boundary : goal.range-requires-clause-start_boundary

@@ -1,6 +1,7 @@
-use Rattle.std.specs.Char.{IsScalar}
+use Rattle.std.specs.Char.{IsScalar, is_ascii_hexdigit}
 use Rattle.std.proofs.Common.{sym, ap, ◌∙◌, subst}
-use Rattle.graphql_core.specs.{is_ascii_hexdigit, list_all, digits_value}
+use Rattle.std.specs.List.{list_all}
+use Rattle.std.specs.Str.Parse.{digits_value}
 use Rattle.graphql_core.proofs.{boundary_after_name, digits_at}
 use Rattle.graphql_core.proofs.common.strings.quoted.named_character.Goals as goal
 

@@ -1,8 +1,10 @@
-use Rattle.std.specs.Option.{IfNone}
+use Rattle.std.specs.Option.{IfNone, IfSome}
 use Rattle.std.proofs.Common.{◌≡◌, ◌++◌, List, ℕ, length, get_or, Some, None, string_bytes, sym, ap, subst, arith, rules, append_assoc}
 use Rattle.std.proofs.lemmas.Str.Pattern.{split_parts}
-use Rattle.graphql_core.specs.{encode_utf8, IfSome, HasValue, BeginsEscape, BeginsNoEscape}
-use Rattle.graphql_core.proofs.{IsCharBoundary-after_ascii, between, one_value, plain_value, add_escape, past_escape, no_value}
+use Rattle.std.specs.Char.{encode_utf8}
+use Rattle.graphql_core.specs.{HasValue, BeginsEscape, BeginsNoEscape}
+use Rattle.std.proofs.lemmas.Str.{IsCharBoundary-after_ascii}
+use Rattle.graphql_core.proofs.{between, one_value, plain_value, add_escape, past_escape, no_value}
 use Rattle.graphql_core.proofs.common.strings.quoted.unquote_string.Goals as goal
 
 pub range-rest-requires-clause-start_boundary : goal.range-rest-requires-clause-start_boundary

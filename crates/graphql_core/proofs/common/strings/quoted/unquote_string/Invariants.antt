@@ -5,7 +5,7 @@ use Rattle.std.proofs.Common.{◌++◌, ◌-◌, List, ℕ, length, string_bytes
 use Rattle.graphql_core.specs.{HasValue}
 use Rattle.graphql_core.proofs.common.strings.quoted.unquote_string.Given as goal
 
--- a value of the rest, after what is written, is one of the whole, and the rest has one where the whole has
+-- a value of the rest, after what is written, is a value of the whole; the rest has a value if the whole has one
 abbrev pub invariant-escapes : goal.invariant-escapes
 invariant-escapes l = record {
   text : shadow (Utf8 l.rest);

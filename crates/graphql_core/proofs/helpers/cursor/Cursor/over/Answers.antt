@@ -1,6 +1,7 @@
 use Rattle.std.proofs.Common.{sym, ap, ◌∙◌, arith}
 use Rattle.graphql_core.specs.{Items, IsLexeme, front_byte}
-use Rattle.graphql_core.proofs.{All-same, held_stream, rest_lexemes}
+use Rattle.std.proofs.lemmas.List.Elements.{All-same}
+use Rattle.graphql_core.proofs.{held_stream, rest_lexemes}
 use Rattle.graphql_core.proofs.helpers.cursor.Cursor.over.Goals as goal
 
 pub invariant_of-result : goal.invariant_of-result

@@ -1,5 +1,5 @@
 use Rattle.graphql_core.specs.{IsLexeme}
-use Rattle.graphql_core.proofs.{All-head}
+use Rattle.std.proofs.lemmas.List.Elements.{All-head}
 use Rattle.graphql_core.proofs.helpers.cursor.CursorTokenSource.peek.Goals as goal
 
 pub returns-in-Open-clause-lexeme : goal.returns-in-Open-clause-lexeme

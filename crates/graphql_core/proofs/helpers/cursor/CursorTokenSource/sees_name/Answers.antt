@@ -1,6 +1,7 @@
 use Rattle.std.proofs.Common.{ap, ◌∙◌}
-use Rattle.graphql_core.specs.{AnyOf, Name, kind_number, is_name_start, sees_class}
-use Rattle.graphql_core.proofs.Fronts as fronts
+use Rattle.graphql_core.specs.{AnyOf, kind_number, is_name_start, sees_class}
+use Rattle.graphql_core.specs.declared.tokenizer.token.Kind.TheVariants.{Name}
+use Rattle.graphql_core.proofs.lexical.FirstBytes as fronts
 use Rattle.graphql_core.proofs.helpers.cursor.CursorTokenSource.sees_name.Goals as goal
 
 pub returns : goal.returns

@@ -1,6 +1,7 @@
 use Rattle.std.proofs.Common.{◌+◌, ◌<◌, ◌≤◌, length, vec_len, vec_capacity, sym, ap, ◌∙◌, arith}
 use Rattle.graphql_core.specs.{Marks, split}
-use Rattle.graphql_core.proofs.{All-same, one_taken, last_taken, none_cut}
+use Rattle.std.proofs.lemmas.List.Elements.{All-same}
+use Rattle.graphql_core.proofs.{one_taken, last_taken, none_cut}
 use Rattle.graphql_core.proofs.helpers.spans.SpanSource.advance_far.Goals as goal
 
 pub returns-then-next-len : goal.returns-then-next-len

@@ -1,6 +1,7 @@
 use Rattle.std.proofs.Common.{◌<◌, vec_capacity, sym, ap, ◌∙◌, arith}
 use Rattle.graphql_core.specs.{Marks, split}
-use Rattle.graphql_core.proofs.{All-same, all_left, none_cut}
+use Rattle.std.proofs.lemmas.List.Elements.{All-same}
+use Rattle.graphql_core.proofs.{all_left, none_cut}
 use Rattle.graphql_core.proofs.helpers.spans.SpanSource.new.Goals as goal
 
 pub front_of-front-requires : goal.front_of-front-requires

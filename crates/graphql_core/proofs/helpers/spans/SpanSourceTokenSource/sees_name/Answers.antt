@@ -1,7 +1,8 @@
 use Rattle.std.proofs.Common.{[], ◌∷◌, ap, ◌∙◌}
-use Rattle.graphql_core.specs.{AnyOf, Name, is_name_start, kind_number, sees, sees_class}
+use Rattle.graphql_core.specs.{AnyOf, is_name_start, kind_number, sees, sees_class}
+use Rattle.graphql_core.specs.declared.tokenizer.token.Kind.TheVariants.{Name}
 use Rattle.graphql_core.proofs.{lexemes_left, next_seen}
-use Rattle.graphql_core.proofs.Fronts as fronts
+use Rattle.graphql_core.proofs.lexical.FirstBytes as fronts
 use Rattle.graphql_core.proofs.helpers.spans.SpanSourceTokenSource.sees_name.Goals as goal
 
 pub returns : goal.returns

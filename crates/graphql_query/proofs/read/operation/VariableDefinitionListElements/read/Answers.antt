@@ -1,7 +1,7 @@
 use Rattle.std.proofs.Common.{refl}
-use Rattle.graphql_values.specs.{directive_view}
-use Rattle.graphql_values.proofs.{adds_reserved, fills, took, past, after, whole, fails, fails_last, lacks}
-use Rattle.graphql_query_tree.specs.{variable_definition_symbol, variable_definition_view}
+use Rattle.graphql_core.specs.{directive_view}
+use Rattle.graphql_core.proofs.{adds_reserved, fills, took, past, after, fails, fails_last, lacks, whole}
+use Rattle.graphql_query.specs.{variable_definition_symbol, variable_definition_view}
 use Rattle.graphql_query.proofs.{same_variable_definition, begun, lifted, stops_lifted}
 use Rattle.graphql_query.proofs.read.operation.VariableDefinitionListElements.read.Goals as goal
 

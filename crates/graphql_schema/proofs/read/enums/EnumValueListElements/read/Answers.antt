@@ -1,7 +1,7 @@
 use Rattle.std.proofs.Common.{refl, sym, ◌∙◌}
-use Rattle.graphql_values.specs.{directive_view}
-use Rattle.graphql_values.proofs.{adds_reserved, fills, begun, took, past, after, whole, fails_last, lacks}
-use Rattle.graphql_schema_tree.specs.{enum_value_symbol, enum_value_view}
+use Rattle.graphql_core.specs.{directive_view}
+use Rattle.graphql_core.proofs.{adds_reserved, fills, begun, took, past, after, fails_last, lacks, whole}
+use Rattle.graphql_schema.specs.{enum_value_symbol, enum_value_view}
 use Rattle.graphql_schema.proofs.{lifted, stops_lifted, described_at, same_enum_value}
 use Rattle.graphql_schema.proofs.read.enums.EnumValueListElements.read.Goals as goal
 

@@ -1,7 +1,7 @@
 use Rattle.std.proofs.Common.{refl, sym, ◌∙◌}
-use Rattle.graphql_values.specs.{directive_view}
-use Rattle.graphql_values.proofs.{adds_reserved, fills, begun, took, past, after, whole, fails, fails_last, lacks}
-use Rattle.graphql_schema_tree.specs.{field_symbol, input_value_view, field_view}
+use Rattle.graphql_core.specs.{directive_view}
+use Rattle.graphql_core.proofs.{adds_reserved, fills, begun, took, past, after, fails, fails_last, lacks, whole}
+use Rattle.graphql_schema.specs.{field_symbol, input_value_view, field_view}
 use Rattle.graphql_schema.proofs.{lifted, stops_lifted, described_at, same_field}
 use Rattle.graphql_schema.proofs.read.field.FieldListElements.read.Goals as goal
 

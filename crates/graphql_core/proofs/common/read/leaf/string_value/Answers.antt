@@ -1,0 +1,37 @@
+use Rattle.std.proofs.Common.{refl, ◌∙◌}
+use Rattle.graphql_core.specs.{Leaf, without_ends}
+use Rattle.graphql_core.specs.declared.tokenizer.token.Kind.TheVariants.{StringValue}
+use Rattle.graphql_core.proofs.{some_unquoted, none_unquoted, string_means, not_shown, next_spelled, next_taken}
+use Rattle.graphql_core.proofs.{next_refused}
+use Rattle.graphql_core.proofs.common.read.leaf.string_value.Goals as goal
+
+pub returns-in_err-token-clause-reads : goal.returns-in_err-token-clause-reads
+returns-in_err-token-clause-reads g c = not_shown g.S.TokenSource.bytes StringValue _ _ _ c.in_err-token.field-0.0 c.in_err-token.ensures
+    c.from_residual.ensures.1
+
+pub unquote_string-requires : goal.unquote_string-requires
+unquote_string-requires g c =
+    let t = c.in_ok-token.token in
+    let n = c.in_ok-token.ensures in
+    let spelled = next_spelled g.S.TokenSource.bytes StringValue (g.S.TokenSource.items c.args.source.now) t n in
+    (without_ends 1 (g.S.TokenSource.bytes t.text), c.as_str.ensures ∙ spelled)
+
+pub returns-in-Ok-clause-reads : goal.returns-in-Ok-clause-reads
+returns-in-Ok-clause-reads g c =
+    let t = c.in_ok-token.token in
+    let n = c.in_ok-token.ensures in
+    let spelled = next_spelled g.S.TokenSource.bytes StringValue (g.S.TokenSource.items c.args.source.now) t n in
+    let value = c.in-Ok.ensures.value (without_ends 1 (g.S.TokenSource.bytes t.text)) (c.as_str.ensures ∙ spelled) in (
+      Leaf _,
+      next_taken g.S.TokenSource.bytes StringValue _ t n _ (some_unquoted _ _ value) c.advance.ensures,
+      string_means (g.S.TokenSource.bytes t.text) _ value,
+    )
+
+pub returns-in-Err-BadEscape-clause-reads : goal.returns-in-Err-BadEscape-clause-reads
+returns-in-Err-BadEscape-clause-reads g c =
+    let t = c.in_ok-token.token in
+    let n = c.in_ok-token.ensures in
+    let spelled = next_spelled g.S.TokenSource.bytes StringValue (g.S.TokenSource.items c.args.source.now) t n in
+    let none = rw c.in-Err-BadEscape.field-0-is at c.in-Err-BadEscape.ensures.bad_escape in
+    next_refused g.S.TokenSource.bytes StringValue (g.S.TokenSource.items c.args.source.now) t n
+    (none_unquoted _ (none (without_ends 1 (g.S.TokenSource.bytes t.text)) (c.as_str.ensures ∙ spelled) refl))

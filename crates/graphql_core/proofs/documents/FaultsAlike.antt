@@ -1,0 +1,221 @@
+-- Inputs with the same tokens, ignoring positions, have errors with the same index, reason and cause.
+use Rattle.std.specs.Int.RustNames.{FitsSigned}
+use Rattle.std.proofs.Common.{◌≡◌, ℕ, zero, suc, Bool, true, false, ◌&&◌, List, [], ◌∷◌, ◌++◌, length, map, drop, refl, sym, ap, ◌∙◌, subst, w64}
+use Rattle.std.proofs.lemmas.List.{map-append, length-map, drop-map}
+use Rattle.graphql_core.specs.{Begins, Ends, Grammar, Expr, Then, Many, Sym, ParseTree, Node, leaves, peek, accepts}
+use Rattle.graphql_core.specs.{leads_here, leads_after, leads_turn, leads_later, leads_before, leads_second}
+use Rattle.graphql_core.specs.{leads_first, Leads, leads_node, Text, IsRefused, IsFault, bad_place, unexpected_item}
+use Rattle.graphql_core.specs.{leaf_refused, node_refused, IsLeast, unexpected_token, CauseText, IsInQuotes}
+use Rattle.graphql_core.specs.{LastIsError, Items, Last, LastIsEnd, IsEnd, split, fault_by, FaultText, Token, Class}
+use Rattle.graphql_core.specs.{matches, Reason, Unexpected, Improper, Refused, lax, Item, unplaced, IsMinified}
+use Rattle.graphql_core.specs.{IsFloatLiteral, int_of, numbered, from_item, HasNoValue, out_of_range, malformed}
+use Rattle.graphql_core.specs.{escaped_badly, Says, IsLeastFault, IsLeastFaultOf, Language}
+use Rattle.graphql_core.proofs.lexical.{items_unique}
+use Rattle.graphql_core.proofs.sources.{minified_tokens}
+use Rattle.graphql_core.proofs.values.{bare, Alike, alike_split, refilled, IgnoresPlaces}
+use Rattle.graphql_core.proofs.documents.Readable.{IsReadable}
+use Rattle.graphql_core.proofs.documents.Faults.{ends, one_least}
+use Rattle.graphql_core.specs.strings.Strings as strings
+
+-- ---- tokens that are equal ignoring positions
+
+alike_both : (us ts vs ws : List Token) → Alike us ts → Alike vs ws → Alike (us ++ vs) (ts ++ ws)
+alike_both us ts vs ws a b = map-append unplaced us vs ∙ (λ i. a i ++ b i) ∙ sym (map-append unplaced ts ws)
+
+alike_length : (us ts : List Token) → Alike us ts → length us ≡ length ts
+alike_length us ts h = sym (length-map us unplaced) ∙ ap length h ∙ length-map ts unplaced
+
+alike_from : (n : ℕ) (us ts : List Token) → Alike us ts → Alike (from_item n us) (from_item n ts)
+alike_from zero us ts h = h
+alike_from (suc n) us ts h = sym (drop-map unplaced n us) ∙ ap (drop n) h ∙ drop-map unplaced n ts
+
+none_alike : (ts us : List Token) → Alike us ts → us ≡ [] → ts ≡ []
+none_alike [] us h none = refl
+none_alike (t ∷ ts) [] h none = absurd cc
+none_alike (t ∷ ts) (u ∷ us) h none = absurd cc
+
+-- the first of such tokens
+abbrev BeginsAlike : Token → List Token → List Token → Type 0
+BeginsAlike t ts us = (v : Token) × (vs : List Token) × (us ≡ v ∷ vs) × (unplaced v ≡ unplaced t) × Alike vs ts
+
+begins_with : (t : Token) (ts us : List Token) → Alike us (t ∷ ts) → BeginsAlike t ts us
+begins_with t ts [] h = absurd cc
+begins_with t ts (u ∷ us) h =
+    let one : unplaced u ≡ unplaced t = cc in
+    let same : Alike us ts = cc in
+    (u, us, refl, one, same)
+
+-- what begins with one of two equal items, with the other in its place
+same_item : (rest others more : List Token) → Alike others rest → peek more ≡ peek others → (same : List Token) × Alike same more × (peek same ≡ peek rest)
+same_item [] [] [] h k = ([], refl, refl)
+same_item [] [] (v ∷ vs) h k = absurd cc
+same_item [] (u ∷ us) more h k = absurd cc
+same_item (t ∷ ts) [] more h k = absurd cc
+same_item (t ∷ ts) (u ∷ us) [] h k = absurd cc
+same_item (t ∷ ts) (u ∷ us) (v ∷ vs) h k =
+    let one : unplaced t ≡ unplaced u = cc in
+    let same : u ≡ v = cc in
+    (t ∷ vs, (λ i. (one ∙ ap unplaced same) i ∷ map unplaced vs), refl)
+
+-- ---- what the plain grammar derives
+
+module _ (g : Grammar) where
+  begins_alike : (e : Expr) (ts us : List Token) → Alike us ts → Begins (lax g) e ts → Begins (lax g) e us
+  begins_alike e ts us h (x, more, (fits, is)) =
+      let (y, fy, ly, ey) = refilled (lax g) (λ c t. refl) (λ k z. refl) fits (us ++ more) (alike_both us ts more more h refl ∙ ap (map unplaced) is) in
+      (y, more, (fy, ly))
+
+  ends_alike : (e : Expr) (ts us rest others : List Token) → Alike us ts → Alike others rest → Ends (lax g) e ts (peek rest) → Ends (lax g) e us (peek others)
+  ends_alike e ts us rest others h k none x more (fits, is) next =
+      let (same, alike, here) = same_item rest others more k next in
+      let (y, fy, ly, ey) = refilled (lax g) (λ c t. refl) (λ k z. refl) fits (ts ++ same)
+      (alike_both ts us same more (sym h) alike ∙ ap (map unplaced) is) in
+      none y same (fy, ly) here
+
+  leads_alike : {e d : Expr} {ts : List Token} → Leads (lax g) e ts d → (us : List Token) → Alike us ts → Leads (lax g) e us d
+  leads_alike leads_here [] h = leads_here
+  leads_alike leads_here (u ∷ us) h = absurd cc
+  leads_alike (leads_before p f) us h = leads_before (leads_alike p us h) f
+  leads_alike (leads_after {a = a} {b = b} {d = d} {ts = ts} {x = x} f p) us h =
+      let (vs, ws, parts, one, two) = alike_split (leaves x) ts us h in
+      let (v, fv, lv, ev) = refilled (lax g) (λ c t. refl) (λ k z. refl) f vs one in
+      subst (λ (l : List Token). Leads (lax g) (Then a b) l d) (sym (parts ∙ ap (λ (l : List Token). l ++ ws) lv)) (leads_after fv (leads_alike p ws two))
+  leads_alike (leads_first p) us h = leads_first (leads_alike p us h)
+  leads_alike (leads_second p) us h = leads_second (leads_alike p us h)
+  leads_alike (leads_turn p) us h = leads_turn (leads_alike p us h)
+  leads_alike (leads_later {a = a} {d = d} {ts = ts} {x = x} f p) us h =
+      let (vs, ws, parts, one, two) = alike_split (leaves x) ts us h in
+      let (v, fv, lv, ev) = refilled (lax g) (λ c t. refl) (λ k z. refl) f vs one in
+      subst (λ (l : List Token). Leads (lax g) (Many a) l d) (sym (parts ∙ ap (λ (l : List Token). l ++ ws) lv)) (leads_later fv (leads_alike p ws two))
+  leads_alike (leads_node p) us h = leads_node (leads_alike p us h)
+
+-- ---- errors
+
+last_part : (a b c d : Bool) → a ≡ true → c ≡ true → (a && b) ≡ (c && d) → b ≡ d
+last_part true b true d h k e = e
+last_part false b c d h k e = absurd cc
+last_part true b false d h k e = absurd cc
+
+module _ (g : Grammar) (good : (c : Class) (t : Token) → accepts g c (unplaced t) ≡ accepts g c t)
+    (checks : (k : ℕ) (x : ParseTree) → g.check k (bare x) ≡ g.check k x) (e : Expr) where
+  good_alike : (c : Class) (t u : Token) → unplaced u ≡ unplaced t → matches c t ≡ true → g.good c u ≡ g.good c t
+  good_alike c t u one m =
+      last_part (matches c u) (g.good c u) (matches c t) (g.good c t) (ap (matches c) one ∙ m) m (sym (good c u) ∙ ap (accepts g c) one ∙ good c t)
+
+  -- a node that is rejected between the tokens, and the same node of the other tokens
+  abbrev RefusedAlike : List Token → ℕ → ParseTree → ℕ → Type 0
+  RefusedAlike ts k x n =
+      (before us : List Token) × (y : ParseTree) × IsRefused g e ts k y before us × (length (before ++ leaves y) ≡ n) × (bare y ≡ bare x)
+
+  pub refused_alike : (ts others : List Token) → Alike others ts → (k : ℕ) (x : ParseTree) (before us : List Token) → IsRefused g e ts k x before us
+      → RefusedAlike others k x (length (before ++ leaves x))
+  refused_alike ts others h k x before us (parts, some, leads, fits, bad, stops) =
+      let (front, rest, p, a, b) = alike_split before (leaves x ++ us) others (h ∙ ap (map unplaced) parts) in
+      let (xs, after, q, c, d) = alike_split (leaves x) us rest b in
+      let (y, fy, ly, ey) = refilled g good checks fits xs c in
+      let inside : Alike (leaves y) (leaves x) = ap (map unplaced) (sym ly) ∙ c in (
+        front,
+        after,
+        y,
+        (
+          p ∙ ap (λ (l : List Token). front ++ l) (q ∙ ap (λ (l : List Token). l ++ after) ly),
+          (λ none. some (none_alike (leaves x) (leaves y) inside none)),
+          leads_alike g leads front a,
+          fy,
+          sym (checks k y) ∙ ap (g.check k) ey ∙ checks k x ∙ bad,
+          (λ u more at begins.
+              let (t, ts, here, one, same) = begins_with u more us (sym d ∙ ap (map unplaced) at) in
+              stops t ts here (begins_alike g (Sym k) (leaves y ++ u ∷ []) (leaves x ++ t ∷ [])
+              (alike_both (leaves x) (leaves y) (t ∷ []) (u ∷ []) (sym inside) (λ i. one i ∷ [])) begins)),
+        ),
+        alike_length (front ++ leaves y) (before ++ leaves x) (alike_both front before (leaves y) (leaves x) a inside),
+        ey,
+      )
+
+  pub fault_alike : (t u : Text) → Alike u.tokens t.tokens → u.ending ≡ t.ending → {why : Reason} {n : ℕ} → IsFault g e t why n → IsFault g e u why n
+  fault_alike t u h end (bad_place bad) =
+      subst (λ (n : ℕ). IsFault g e u Unexpected n) (ap suc (alike_length u.tokens t.tokens h)) (bad_place (end ∙ bad))
+  fault_alike t u h end (unexpected_item front us parts at begins none) =
+      let (before, rest, p, a, b) = alike_split front us u.tokens (h ∙ ap (map unplaced) parts) in
+      subst (λ (n : ℕ). IsFault g e u Unexpected n) (ap suc (alike_length before front a))
+      (unexpected_item before rest p (λ last. end ∙ at (none_alike us rest b last)) (begins_alike g e front before a begins)
+      (ends_alike g e front before us rest a b none))
+  fault_alike t u h end (leaf_refused front us v c parts leads m bad) =
+      let (before, rest, p, a, b) = alike_split front (v ∷ us) u.tokens (h ∙ ap (map unplaced) parts) in
+      let (w, ws, here, one, same) = begins_with v us rest b in
+      subst (λ (n : ℕ). IsFault g e u (Improper c) n) (ap suc (alike_length before front a))
+      (leaf_refused before ws w c (p ∙ ap (λ (l : List Token). before ++ l) here) (leads_alike g leads before a) (ap (matches c) one ∙ m)
+      (good_alike c v w one m ∙ bad))
+  fault_alike t u h end (node_refused before us k x refused) =
+      let (front, after, y, same, at, same_tree) = refused_alike t.tokens u.tokens h k x before us refused in
+      subst (λ (n : ℕ). IsFault g e u (Refused k) n) at (node_refused front after k y same)
+
+  least_alike : (t u : Text) → Alike u.tokens t.tokens → u.ending ≡ t.ending → {why : Reason} {n : ℕ} → IsLeast g e t why n → IsLeast g e u why n
+  least_alike t u h end (fault, least) = (fault_alike t u h end fault, λ other m x. least other m (fault_alike u t (sym h) (sym end) x))
+
+-- ---- what errors state
+
+-- the cause of an unexpected token or end of input
+cause_alike : (us ts : List Token) (x y : Last) → Alike us ts → IsEnd x → IsEnd y → (fault_by us x).cause ≡ (fault_by ts y).cause
+cause_alike [] [] (LastIsEnd p) (LastIsEnd q) h a b = refl
+cause_alike [] [] (LastIsError p c) y h a b = absurd a
+cause_alike [] [] (LastIsEnd p) (LastIsError q c) h a b = absurd b
+cause_alike [] (t ∷ ts) x y h a b = absurd cc
+cause_alike (u ∷ us) [] x y h a b = absurd cc
+cause_alike (u ∷ us) (t ∷ ts) x y h a b =
+    let one : unplaced u ≡ unplaced t = cc in
+    ap (λ (v : Token). unexpected_token v.kind v.spelling) one
+
+-- A token without a value has none at any position.
+pub valueless_alike : (t u : Token) (k : CauseText) → unplaced u ≡ unplaced t → HasNoValue t k → HasNoValue u k
+valueless_alike t u k one (out_of_range kind fits) =
+    let same : u.spelling ≡ t.spelling = ap (λ (v : Token). v.spelling) one in
+    out_of_range (ap (λ (v : Token). v.kind) one ∙ kind) (subst (λ (s : List ℕ). FitsSigned w64 (int_of s) → ⊥) (sym same) fits)
+valueless_alike t u k one (malformed kind literal) =
+    let same : u.spelling ≡ t.spelling = ap (λ (v : Token). v.spelling) one in
+    malformed (ap (λ (v : Token). v.kind) one ∙ kind) (subst (λ (s : List ℕ). IsFloatLiteral s → ⊥) (sym same) literal)
+valueless_alike t u k one (escaped_badly kind value) =
+    let same : u.spelling ≡ t.spelling = ap (λ (v : Token). v.spelling) one in
+    escaped_badly (ap (λ (v : Token). v.kind) one ∙ kind)
+    (subst (λ (s : List ℕ). (body : List ℕ) → IsInQuotes s body → strings.HasNoStringValue body) (sym same) value)
+
+-- Why a leaf or a node is rejected does not depend on positions. Only the position in the error does.
+pub record RefusesAlike {D : Type 0} (l : Language D) : Type 0 where
+  pub lacks : (c : Class) (t u : Token) (k : CauseText) → unplaced u ≡ unplaced t → l.lacks c t k → l.lacks c u k
+  pub refuses : (k : ℕ) (x y : ParseTree) (f : FaultText) → bare y ≡ bare x → l.refuses (Node k x) f
+      → (g : FaultText) × l.refuses (Node k y) g × (g.cause ≡ f.cause)
+
+module _ {D : Type 0} (l : Language D) (p : IgnoresPlaces l) (q : RefusesAlike l) where
+  says_alike : (why : Reason) (a b : Items) → Alike b.tokens a.tokens → IsEnd a.last → IsEnd b.last → (n : ℕ) (f : FaultText) → Says l why a n f
+      → (g : FaultText) × Says l why b n g × (g.cause ≡ f.cause)
+  says_alike Unexpected a b h end last n f is = (
+    fault_by (from_item n b.tokens) b.last,
+    refl,
+    cause_alike (from_item n b.tokens) (from_item n a.tokens) b.last a.last (alike_from n b.tokens a.tokens h) last end
+        ∙ ap (λ (k : FaultText). k.cause) (sym is),
+  )
+  says_alike (Improper c) a b h end last n f (t, rest, at, lacks, place) =
+      let (u, us, here, one, same) = begins_with t rest (from_item n b.tokens) (alike_from n b.tokens a.tokens h ∙ ap (map unplaced) at) in
+      (record { cause = f.cause; place = u.place }, (u, us, here, q.lacks c t u f.cause one lacks, refl), refl)
+  says_alike (Refused k) a b h end last n f (before, us, x, refused, at, said) =
+      let (front, after, y, same, here, same_tree) = refused_alike l.grammar p.accepts p.checks (Sym l.document) a.tokens b.tokens h k x before us refused in
+      let (g, told, cause) = q.refuses k x y f same_tree said in
+      (g, (front, after, y, same, at ∙ sym here, told), cause)
+
+  pub least_fault_alike : (a b : Items) → Alike b.tokens a.tokens → IsEnd a.last → IsEnd b.last → (f : FaultText) → IsLeastFault l a f
+      → (g : FaultText) × IsLeastFault l b g × (g.cause ≡ f.cause)
+  least_fault_alike a b h end last f (n, why, least, said) =
+      let (g, told, cause) = says_alike why a b h end last n f said in (
+        g,
+        (n, why, least_alike l.grammar p.accepts p.checks (Sym l.document) (numbered a) (numbered b) h (ends b.last last ∙ sym (ends a.last end)) least, told),
+        cause,
+      )
+
+  -- a minified output and its source are rejected for one cause
+  pub one_cause_alike : IsReadable l → (source text : List ℕ) (f g : FaultText) → IsMinified source text → IsLeastFaultOf l source f → IsLeastFaultOf l text g
+      → f.cause ≡ g.cause
+  one_cause_alike r source text f g (items, has, last, is) (mine, k, fault) other =
+      let (others, h, alike, end) = minified_tokens source text (items, has, last, is) items has in
+      let (found, least, cause) = least_fault_alike (split items) (split others) alike last end f
+      (subst (λ (is : List Item). IsLeastFault l (split is) f) (items_unique source mine items k has) fault) in
+      sym cause ∙ ap (λ (x : FaultText). x.cause) (one_least l r text found g (others, h, least) other)

@@ -1,0 +1,153 @@
+-- What functions that read a whole document return, from the results of their readers.
+use Rattle.std.proofs.Common.{◌≡◌, ◌<◌, ◌≤◌, ◌↔◌, ℕ, Bool, true, false, List, [], ◌∷◌, length, Result, Ok, Err, IfOk, IsErrAnd, refl, sym, ap, subst, ◌∙◌}
+use Rattle.std.proofs.Common.{arith, IsTrue}
+use Rattle.std.proofs.lemmas.Result.{IfOk-weaker, IfErr-weaker}
+use Rattle.graphql_core.specs.{EndOfInput, Content, LexicalError, Stream, TokenContent, item_at, Where, Item}
+use Rattle.graphql_core.specs.{last_alone, asked_once, only_last, Items, Last, IsEnd, IsAtEnd, split}
+use Rattle.graphql_core.specs.{items_of_stream, kept, IsNextFault, Refusal, at, max_length, too_long, past_bound}
+use Rattle.graphql_core.specs.{IsRefusalFor, IsRefusalOf, ParseTree, Node, written, TakesSome, Stops, IsFaultFor}
+use Rattle.graphql_core.specs.{reason_of, reading, document_rule, Language, IsDocument, ReadsDocument}
+use Rattle.graphql_core.specs.{ParsesDocument, ParsesStream, Refusals, Reads}
+use Rattle.std.proofs.lemmas.Bool.{false≢true}
+use Rattle.graphql_core.proofs.documents.Refusals.{as_error}
+use Rattle.graphql_core.specs.declared.helpers.read_error.ReadError.{ReadError}
+use Rattle.graphql_core.specs.declared.common.read.node_error.NodeError.TheVariants.{Refused}
+use Rattle.graphql_core.proofs.documents.Faults.{one_at, one_each, no_fault_in, no_error}
+use Rattle.graphql_core.proofs.documents.Readable.{IsReadable}
+use Rattle.graphql_core.proofs.documents.Whole.{AreItems, one_document, unambiguous_for, unambiguous, text_document}
+use Rattle.graphql_core.proofs.documents.Whole.{items_document, refusal_for, refusal, found, memory_only, least_stop}
+use Rattle.graphql_core.proofs.documents.Whole.{none_refused, least_refused, none_rest, least_left}
+
+module _ {D V : Type 0} (l : Language D) (r : IsReadable l) (view : V → D) (text : List ℕ) where
+  -- an input of more than `MAX_LENGTH` bytes
+  pub unread : (x : Refusal) → max_length < length text → x ≡ too_long → ParsesDocument l view text (Err x)
+  unread x long is = record {
+    sound = tt;
+    complete = λ d bound h. absurd (omega (arith, long, bound));
+    unambiguous = unambiguous l r text;
+    first_error = subst (λ (y : Refusal). IsRefusalOf l text y) (sym is) (past_bound long);
+    too_long = λ h. ap Err is;
+    one_error = one_each l r text;
+    no_error = no_error l r text;
+  }
+
+  module _ (i : Items) (are : AreItems text i) (bound : length text ≤ max_length) where
+    pub parsed : (x : Result V Refusal) → ReadsDocument l view i x → ParsesDocument l view text x
+    parsed x h = record {
+      sound = IfOk-weaker x _ _ (λ v. text_document l text i (view v) are) h.sound;
+      complete = λ d b k. h.complete d (items_document l text i d are k);
+      unambiguous = unambiguous l r text;
+      first_error = IfErr-weaker x _ _ (λ e. refusal l text i e bound are) h.first_error;
+      too_long = λ long. absurd (omega (arith, long, bound));
+      one_error = one_each l r text;
+      no_error = no_error l r text;
+    }
+
+    -- for the error that `?` propagates
+    pub unparsed : (e : Refusal) (x : Result V Refusal) → ReadsDocument l view i (Err e) → IsErrAnd x (λ y. y ≡ e) → ParsesDocument l view text x
+    unparsed e x h up = subst (ParsesDocument l view text) (as_error x e up) (parsed (Err e) h)
+
+-- ---- the rest of a stream
+
+-- there are no tokens, only the last item
+abbrev HasOnlyLast : List Item → Type 0
+HasOnlyLast is = split (last_alone is) ≡ only_last (split is).last
+
+alone_by : (c : Content) (w : Where) (is : List Item) → HasOnlyLast is → HasOnlyLast (item_at c w ∷ is)
+alone_by (TokenContent k bytes) w is h = h
+alone_by EndOfInput w is h = refl
+alone_by (LexicalError b) w is h = refl
+
+alone : (items : List Item) → HasOnlyLast items
+alone [] = refl
+alone (i ∷ is) = alone_by i.content i.place is (alone is)
+
+-- The stream is `old` before and `new` after. Its source has i before, and j left after.
+module _
+    {D V : Type 0}
+    (l : Language D)
+    (r : IsReadable l)
+    (view : V → D)
+    (old new : Stream)
+    (i j : Items)
+    (from : i ≡ items_of_stream old)
+    (last : kept j ≡ kept i)
+    (within : new.cuts ≤ j.spent.cuts)
+    (all : j.tokens ≡ [] → new ≡ j.spent)
+  where
+    kept_of : kept j ≡ kept (items_of_stream old)
+    kept_of = last ∙ ap kept from
+
+    spent : j.spent ≡ asked_once old
+    spent = ap (λ (k : Last × Stream). k.1) kept_of
+
+    cut_within : new.cuts ≤ (asked_once old).cuts
+    cut_within = subst (λ (s : Stream). new.cuts ≤ s.cuts) spent within
+
+    -- if all tokens are taken
+    module _ (none : j.tokens ≡ []) where
+      same : new ≡ asked_once old
+      same = all none ∙ spent
+
+      left : split new.items ≡ only_last (split old.items).last
+      left = ap (λ (s : Stream). split s.items) same ∙ alone old.items
+
+    at_its_end : IsAtEnd j → IsAtEnd (split new.items)
+    at_its_end (none, end) = subst IsAtEnd (sym (left none)) (refl, subst IsEnd (ap (λ (k : Last × Stream). k.0) kept_of) end)
+
+    pub stream_parsed : (x : Result V Refusal) → ReadsDocument l view i x → IfOk x (λ v. IsAtEnd j) → ParsesStream l view old new x
+    stream_parsed x h end =
+        let known : ReadsDocument l view (items_of_stream old) x = subst (λ (k : Items). ReadsDocument l view k x) from h in
+        record {
+          sound = known.sound;
+          complete = known.complete;
+          unambiguous = unambiguous_for l r (split old.items);
+          first_error = IfErr-weaker x _ _ (refusal_for l (asked_once old) (split old.items)) known.first_error;
+          one_error = one_at l r (split old.items);
+          no_error = λ d k f n. no_fault_in l r (split old.items) d f n k;
+          cut_once = cut_within;
+          cut_all = IfOk-weaker x _ _ (λ v e. same e.0) end;
+          ended = IfOk-weaker x _ _ (λ v. at_its_end) end;
+        }
+
+    -- for the error that `?` propagates
+    pub stream_unparsed : (e : Refusal) (x : Result V Refusal) → ReadsDocument l view i (Err e) → IsErrAnd x (λ y. y ≡ e)
+        → ParsesStream l view old new x
+    stream_unparsed e x h up = subst (ParsesStream l view old new) (as_error x e up) (stream_parsed (Err e) h tt)
+
+-- ---- a source that a reader left at j
+
+module _ {D V : Type 0} (l : Language D) (r : IsReadable l) (view : V → D) (i j : Items) (last : kept j ≡ kept i) where
+  -- what a reader took denotes this document
+  abbrev pub TakesAll : D → Type 0
+  TakesAll d = TakesSome (reading l) (document_rule l) i.tokens j.tokens (λ x. d ≡ l.means (written l.changes (Node l.document x)))
+
+  pub read_whole : (v : V) (b : Bool) → TakesAll (view v) → IsTrue b ↔ IsAtEnd j → b ≡ true → ReadsDocument l view i (Ok v)
+  read_whole v b (x, takes, is) at_end ended =
+      let derived : IsDocument l i (view v) = found l r i j (view v) x takes last (at_end.0 ended) is in
+      record { sound = derived; complete = λ d k. one_document l r i (view v) d derived k; first_error = tt }
+
+  pub read_left : (d : D) (e : Refusal) (b : Bool) → TakesAll d → IsTrue b ↔ IsAtEnd j → b ≡ false → IsNextFault j e → ReadsDocument l view i (Err e)
+  read_left d e b (x, takes, means) at_end before is =
+      let other : IsAtEnd j → ⊥ = λ end. false≢true (sym before ∙ at_end.1 end) in
+      record {
+        sound = tt;
+        complete = λ d k. absurd (none_rest l r i j d x takes last other k);
+        first_error = least_left l r i j e x takes last other is;
+      }
+
+  pub read_stopped : (s : ReadError) (e : Refusal) → Stops (reading l) (document_rule l) i.tokens j.tokens (reason_of s) → IsFaultFor s j e
+      → ReadsDocument l view i (Err e)
+  read_stopped s e stops is =
+      record { sound = tt; complete = λ d k. memory_only l r i j s e d stops is k; first_error = least_stop l r i j s e stops is last }
+
+  -- or rejected a node
+  pub read_refused : {A R : Type 0} (w : Refusals R) (P : A → ParseTree → Type 0) (n : R) (e : Refusal)
+      → Reads l w (document_rule l) i j P (Err (Refused n)) → e ≡ at (w.fault n) → ReadsDocument l view i (Err e)
+  read_refused w P n e h is = record {
+    sound = tt;
+    complete = λ d k. absurd (none_refused l r i j (w.symbol n) d h.gives k);
+    first_error =
+        let (before, x, refused, said) = h.says in
+        subst (IsRefusalFor l i) (sym is) (least_refused l r i j (w.symbol n) (w.fault n) before x h.gives refused said);
+  }

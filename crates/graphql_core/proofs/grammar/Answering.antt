@@ -1,0 +1,93 @@
+-- The reader's outcome, one step at a time, and by computing.
+use Rattle.std.proofs.Common.{◌≡◌, ℕ, zero, suc, Bool, true, false, ◌&&◌, ◌||◌, List, [], ◌∷◌, Option, Some, None, refl, ap, ap₂}
+use Rattle.graphql_core.specs.{Choice, Neither, Outcome, Done, Fault, ReadsTo, fails_first, fails_second}
+use Rattle.graphql_core.specs.{fails_neither, fails_turn, fails_later, sees, choose, Left, Right, Takes}
+use Rattle.graphql_core.specs.{takes_nothing, takes_leaf, takes_both, takes_first, takes_second, takes_stop}
+use Rattle.graphql_core.specs.{takes_more, takes_node, Unexpected, Improper, Refused, fails_one, fails_value}
+use Rattle.graphql_core.specs.{fails_before, fails_after, fails_node, fails_check, Grammar, Expr, Empty, One, Then}
+use Rattle.graphql_core.specs.{Either, Many, Sym, ParseTree, Nothing, Leaf, Both, First, Second, Stop, More, Node, row}
+use Rattle.graphql_core.specs.{peek, Token, Class, matches, first}
+
+-- an outcome, with the proof that it is the reader's
+abbrev pub ReaderAnswer : Grammar → Expr → List Token → Type 0
+ReaderAnswer g e ts = (o : Outcome) × ReadsTo g e ts o
+
+-- the same, if one was found
+abbrev pub Found : Grammar → Expr → List Token → Type 0
+Found g e ts = Option (ReaderAnswer g e ts)
+
+-- an outcome for an expression from the one found for a part
+abbrev from_found : {g : Grammar} {a e : Expr} {ts us : List Token} → (ReaderAnswer g a us → ReaderAnswer g e ts) → Found g a us → Found g e ts
+from_found f None = None
+from_found f (Some r) = Some (f r)
+
+module _ (g : Grammar) where
+  abbrev leaf : (c : Class) (t : Token) (ts : List Token) (m v : Bool) → matches c t ≡ m → g.good c t ≡ v → ReaderAnswer g (One c) (t ∷ ts)
+  leaf c t ts true true h k = (Done (Leaf t) ts, takes_leaf (ap₂ (λ a b. a && b) h k))
+  leaf c t ts true false h k = (Fault (Improper c) (t ∷ ts), fails_value h k)
+  leaf c t ts false v h k = (Fault Unexpected (t ∷ ts), fails_one (ap (λ a. a || false) h))
+
+  abbrev pub leaf_answer : (c : Class) (ts : List Token) → ReaderAnswer g (One c) ts
+  leaf_answer c [] = (Fault Unexpected [], fails_one refl)
+  leaf_answer c (t ∷ ts) = leaf c t ts (matches c t) (g.good c t) refl refl
+
+  abbrev pub then_taken : {a b : Expr} {ts us : List Token} {x : ParseTree} → Takes g a ts x us → ReaderAnswer g b us → ReaderAnswer g (Then a b) ts
+  then_taken h (Done y vs, k) = (Done (Both _ y) vs, takes_both h k)
+  then_taken h (Fault why vs, k) = (Fault why vs, fails_after h k)
+
+  abbrev both : {a b : Expr} {ts : List Token} → ((us : List Token) → Found g b us) → Found g a ts → Found g (Then a b) ts
+  both next None = None
+  both next (Some (Done x us, h)) = from_found (then_taken h) (next us)
+  both next (Some (Fault why us, h)) = Some (Fault why us, fails_before h)
+
+  abbrev pub first_answer : {a b : Expr} {ts : List Token} → choose g.rows a b (peek ts) ≡ Left → ReaderAnswer g a ts → ReaderAnswer g (Either a b) ts
+  first_answer c (Done x us, h) = (Done (First x) us, takes_first c h)
+  first_answer c (Fault why us, h) = (Fault why us, fails_first c h)
+
+  abbrev pub second_answer : {a b : Expr} {ts : List Token} → choose g.rows a b (peek ts) ≡ Right → ReaderAnswer g b ts → ReaderAnswer g (Either a b) ts
+  second_answer c (Done y us, h) = (Done (Second y) us, takes_second c h)
+  second_answer c (Fault why us, h) = (Fault why us, fails_second c h)
+
+  abbrev either : {a b : Expr} {ts : List Token} (c : Choice) → choose g.rows a b (peek ts) ≡ c → Found g a ts → Found g b ts → Found g (Either a b) ts
+  either Left e p q = from_found (first_answer e) p
+  either Right e p q = from_found (second_answer e) q
+  either Neither e p q = Some (Fault Unexpected _, fails_neither e)
+
+  abbrev pub turn_taken : {a : Expr} {ts us : List Token} {x : ParseTree} → sees (first g.rows a) (peek ts) ≡ true → Takes g a ts x us → ReaderAnswer g (Many a) us
+      → ReaderAnswer g (Many a) ts
+  turn_taken s h (Done y vs, k) = (Done (More _ y) vs, takes_more s h k)
+  turn_taken s h (Fault why vs, k) = (Fault why vs, fails_later s h k)
+
+  abbrev many : {a : Expr} {ts : List Token} (b : Bool) → sees (first g.rows a) (peek ts) ≡ b → ((us : List Token) → Found g (Many a) us) → Found g a ts
+      → Found g (Many a) ts
+  many false s next p = Some (Done Stop _, takes_stop s)
+  many true s next None = None
+  many true s next (Some (Done x us, h)) = from_found (turn_taken s h) (next us)
+  many true s next (Some (Fault why us, h)) = Some (Fault why us, fails_turn s h)
+
+  abbrev checked : {k : ℕ} {ts us : List Token} {x : ParseTree} → Takes g (row g k).rule ts x us → (b : Bool) → g.check k x ≡ b → ReaderAnswer g (Sym k) ts
+  checked h true c = (Done (Node _ _) _, takes_node h c)
+  checked h false c = (Fault (Refused _) _, fails_check h c)
+
+  abbrev pub node_answer : {k : ℕ} {ts : List Token} → ReaderAnswer g (row g k).rule ts → ReaderAnswer g (Sym k) ts
+  node_answer {k} (Done x us, h) = checked h (g.check k x) refl
+  node_answer (Fault why us, h) = (Fault why us, fails_node h)
+
+  -- in at most n nested steps
+  abbrev pub find : ℕ → (e : Expr) (ts : List Token) → Found g e ts
+  find zero e ts = None
+  find (suc n) Empty ts = Some (Done Nothing ts, takes_nothing)
+  find (suc n) (One c) ts = Some (leaf_answer c ts)
+  find (suc n) (Then a b) ts = both (find n b) (find n a ts)
+  find (suc n) (Either a b) ts = either (choose g.rows a b (peek ts)) refl (find n a ts) (find n b ts)
+  find (suc n) (Many a) ts = many (sees (first g.rows a) (peek ts)) refl (find n (Many a)) (find n a ts)
+  find (suc n) (Sym k) ts = from_found node_answer (find n (row g k).rule ts)
+
+-- an outcome was found
+abbrev pub IsGiven : {g : Grammar} {e : Expr} {ts : List Token} → Found g e ts → Type 0
+IsGiven None = ⊥
+IsGiven (Some r) = Unit {0}
+
+abbrev pub given : {g : Grammar} {e : Expr} {ts : List Token} (a : Found g e ts) → IsGiven a → ReaderAnswer g e ts
+given None h = absurd h
+given (Some r) h = r

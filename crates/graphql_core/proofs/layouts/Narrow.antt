@@ -1,0 +1,43 @@
+-- What `Display` writes after the check of the width: it fits, and it is the output in the default style.
+use Rattle.std.specs.declared.fmt.Error.{Error}
+use Rattle.std.specs.declared.fmt.Formatter.{Formatter}
+use Rattle.std.specs.Fmt.{HasWrittenStyled, IsDefaultSpec, IsFlush, WritesOnOk, WritesStyledOnOk}
+use Rattle.std.proofs.Common.{List, ◌≡◌, ◌+◌, ◌-◌, ◌*◌, ◌^◌, ◌<◌, ◌↔◌, ℕ, Result, Ok, Err, OnOk, false, true, min, subst, sym, arith}
+use Rattle.std.proofs.lemmas.Bool.{false≢true}
+use Rattle.graphql_core.specs.{Layout, default_style, IsTooWide, IsNarrow}
+use Rattle.graphql_core.proofs.layouts.Appending.{on_ok}
+
+-- what a check states that accepts this number of levels
+abbrev pub LetThrough : Layout → ℕ → Type 0
+LetThrough style levels = (n : ℕ) → levels ≡ min n (2 ^ 64 - 1) → (false ≡ true) ↔ IsTooWide style n
+
+-- the levels take no more than `u32::MAX` spaces
+pub fits : (style : Layout) (levels n : ℕ) → levels ≡ min n (2 ^ 64 - 1) → LetThrough style levels → n * style.indent < 2 ^ 32
+fits style levels n counted through =
+    let narrow : IsTooWide style n → ⊥ = λ wide. absurd (false≢true ((through n counted).1 wide)) in
+    omega (arith, narrow)
+
+-- the same with no margin
+pub fits_outside : (style : Layout) (levels n : ℕ) → levels ≡ min n (2 ^ 64 - 1) → LetThrough style levels → 0 + n * style.indent < 2 ^ 32
+fits_outside style levels n counted through = omega (arith, fits style levels n counted through)
+
+-- the output is not too wide in the default style
+pub narrow : {A E : Type 0} (r : Result A E) (levels n : ℕ) → levels ≡ min n (2 ^ 64 - 1) → LetThrough default_style levels → OnOk r (IsNarrow n)
+narrow r levels n counted through = on_ok r (λ wide. absurd (false≢true ((through n counted).1 wide)))
+
+module _ {W : Type 0} (took : W → List ℕ → W → Type 0) (f g : Formatter W) where
+  -- what was written on success was written under any options
+  pub written : (r : Result (Unit {0}) Error) (text : List ℕ) → OnOk r (IsFlush f → HasWrittenStyled took f text g) → WritesStyledOnOk took f r text g
+  written (Ok x) text wrote flush ok = wrote flush
+  written (Err e) text wrote flush ok = absurd (false≢true ok)
+
+  -- in a style equal to the default style, the output was written in the default style
+  pub in_default_style : (r : Result (Unit {0}) Error) (style : Layout) (text : Layout → List ℕ) → style ≡ default_style
+      → OnOk r (IsFlush f → HasWrittenStyled took f (text style) g) → OnOk r (IsFlush f → HasWrittenStyled took f (text default_style) g)
+  in_default_style r style text same = subst (λ s. OnOk r (IsFlush f → HasWrittenStyled took f (text s) g)) same
+
+  -- so it was without options
+  pub written_plain : (r : Result (Unit {0}) Error) (text : List ℕ) → OnOk r (IsFlush f → HasWrittenStyled took f text g) → WritesOnOk took f r text g
+  written_plain r text wrote plain ok =
+      let wrote = written r text wrote plain.flush ok in
+      record { wrote = wrote.wrote; plain = record { bare = subst IsDefaultSpec (sym wrote.spec) plain.bare; flush = wrote.flush } }

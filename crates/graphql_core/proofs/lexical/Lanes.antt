@@ -1,0 +1,130 @@
+-- From the mask of one load to the bytes that pass a test, and from one load to a run.
+use lib.Lanes.{zip2, mask_l, top}
+use native.Mathlib.Numerals.{unary_clauses}
+use Rattle.std.specs.List.{prefix_len}
+use Rattle.std.proofs.Common.{◌≡◌, ℕ, zero, suc, ◌+◌, ◌-◌, ◌*◌, ◌/◌, ◌%◌, ◌^◌, ◌<◌, ◌≤◌, ◌≢◌, Bool, true, false, not, List, [], ◌∷◌, map, ◌++◌, take, drop}
+use Rattle.std.proofs.Common.{length, min, get_or, replicate, Fits, w8, refl, sym, ap, ap₂, ◌∙◌, arith, inl, inr, length-drop}
+use Rattle.std.proofs.lemmas.Bool.{cases_Bool, agree_below, agree_below_at, cases_eq, eq-eqb, ne_eqb, cond-true, cond-false}
+use Rattle.std.proofs.lemmas.Simd.{map-map, mask_l-mod, length-chunk, leading_from_mask_l, trailing_mask_l}
+use Rattle.std.proofs.lemmas.List.{length-map, length-take, drop-map, drop-take, get_or-drop}
+use Rattle.std.proofs.lemmas.List.Sums.{prefix_len-le-length}
+use Rattle.std.proofs.Math.Nat.{div-div-eq-div-mul, zero-div}
+use Rattle.graphql_core.specs.{first_set}
+
+zip2-map : (h : ℕ → ℕ → ℕ) (f g : ℕ → ℕ) (xs : List ℕ) → zip2 h (map f xs) (map g xs) ≡ map (λ x. h (f x) (g x)) xs
+zip2-map h f g [] = refl
+zip2-map h f g (x ∷ xs) = ap (λ r. h (f x) (g x) ∷ r) (zip2-map h f g xs)
+
+-- an operation on two vectors that were computed lane by lane from v
+pub joined : (h : ℕ → ℕ → ℕ) (f g : ℕ → ℕ) (v : List ℕ) {a b : List ℕ} → a ≡ map f v → b ≡ map g v → zip2 h a b ≡ map (λ x. h (f x) (g x)) v
+joined h f g v p q = ap₂ (zip2 h) p q ∙ zip2-map h f g v
+
+pub splat_is : (v : List ℕ) (n y : ℕ) → length v ≡ n → replicate n y ≡ map (λ _. y) v
+splat_is [] n y e = ap (λ k. replicate k y) (sym e)
+splat_is (x ∷ xs) n y e = ap (λ k. replicate k y) (sym e) ∙ ap (λ r. y ∷ r) (splat_is xs (length xs) y refl)
+
+run_is : (p : ℕ → Bool) (v : List ℕ) (n : ℕ) → length v ≡ n → n ≤ 64 → first_set (mask_l (map p v)) n ≡ prefix_len (λ x. not (p x)) v
+run_is p v n long few =
+    elim (cases_eq (mask_l (map p v)) 0) [
+      | inl none ↦ cond-true _ _ _ (eq-eqb _ _ none) ∙ sym (leading_from_mask_l p v none ∙ long)
+      | inr some ↦ cond-false _ _ _ (ne_eqb _ _ some) ∙ trailing_mask_l p 64 v (omega arith) (omega arith)
+    ]
+
+same_prefix : (p q : ℕ → Bool) → ((b : ℕ) → b < 256 → p b ≡ not (q b)) → (n : ℕ) (d : List ℕ) → ((k : ℕ) → get_or d k 0 < 256)
+    → prefix_len (λ x. not (p x)) (take n d) ≡ prefix_len q (take n d)
+same_prefix p q agree zero d fits = refl
+same_prefix p q agree (suc n) [] fits = refl
+same_prefix p q agree (suc n) (x ∷ xs) fits =
+    let more = same_prefix p q agree n xs (λ k. fits (suc k)) in
+    let here = agree x (fits 0) in
+    elim (cases_Bool (q x)) [
+      | inl pass ↦ let e : p x ≡ false = here ∙ ap not pass in rw (e, pass) (omega (arith, more))
+      | inr stop ↦ let e : p x ≡ true = here ∙ ap not stop in rw (e, stop) refl
+    ]
+
+-- a lane stops exactly if q fails
+pub lanes_run : (q : ℕ → Bool) (d : List ℕ) (n r : ℕ) (z : List ℕ) → n ≤ length d → n ≤ 64 → ((k : ℕ) → Fits w8 (get_or d k 0))
+    → r ≡ first_set (mask_l (map (top 7) z) % 2 ^ 64) n → (f : ℕ → ℕ) → (length (take n d) ≡ n → z ≡ map f (take n d))
+    → agree_below (λ x. top 7 (f x)) (λ x. not (q x)) 256 ≡ true → r ≡ prefix_len q (take n d)
+lanes_run q d n r z room few fits found f lanes all =
+    let v = take n d in
+    let long : length v ≡ n = length-chunk 0 n d (omega arith) in
+    let stops : ℕ → Bool = λ x. top 7 (f x) in
+    let mask = ap (λ l. mask_l l % 2 ^ 64) (ap (map (top 7)) (lanes long) ∙ map-map (top 7) f v)
+    ∙ mask_l-mod (map stops v) 64 (omega (arith, length-map v stops, long)) in
+    found ∙ ap (λ m. first_set m n) mask ∙ run_is stops v n long few
+    ∙ same_prefix stops q (λ b lt. agree_below_at stops (λ x. not (q x)) 256 b all lt) n d (λ k. (fits k).fits)
+
+-- the lowest bits of a mask are those of the first lanes
+mask_drop : (ms : List Bool) (k : ℕ) → mask_l ms / 2 ^ k ≡ mask_l (drop k ms)
+mask_drop ms zero = omega arith
+mask_drop [] (suc k) = zero-div (2 ^ suc k)
+mask_drop (b ∷ ms) (suc k) =
+    let half : mask_l (b ∷ ms) / 2 ≡ mask_l ms = elim (cases_Bool b) [
+      | inl set ↦ rw set (omega arith)
+      | inr unset ↦ rw unset (omega arith)
+    ] in
+    let turned : 2 ^ k * 2 ≡ 2 * 2 ^ k = omega arith in
+    simp unary_clauses (ap (λ n. mask_l (b ∷ ms) / n) turned ∙ sym (div-div-eq-div-mul (mask_l (b ∷ ms)) 2 (2 ^ k)) ∙ ap (λ n. n / 2 ^ k) half ∙ mask_drop ms k)
+
+-- from lane `start` on, a lane stops exactly if q fails
+pub lanes_run_from : (q : ℕ → Bool) (d : List ℕ) (n start r : ℕ) (z : List ℕ) → start ≤ n → n ≤ length d → n ≤ 64 → ((k : ℕ) → Fits w8 (get_or d k 0))
+    → r ≡ first_set (mask_l (map (top 7) z) % 2 ^ 64 / 2 ^ start) (n - start) → (f : ℕ → ℕ) → (length (take n d) ≡ n → z ≡ map f (take n d))
+    → agree_below (λ x. top 7 (f x)) (λ x. not (q x)) 256 ≡ true → r ≡ prefix_len q (take (n - start) (drop start d))
+lanes_run_from q d n start r z le room few fits found f lanes all =
+    let v = take n d in
+    let long : length v ≡ n = length-chunk 0 n d (omega arith) in
+    let stops : ℕ → Bool = λ x. top 7 (f x) in
+    let mask = ap (λ l. mask_l l % 2 ^ 64) (ap (map (top 7)) (lanes long) ∙ map-map (top 7) f v)
+    ∙ mask_l-mod (map stops v) 64 (omega (arith, length-map v stops, long)) in
+    let total : start + (n - start) ≡ n = omega arith in
+    let left : drop start v ≡ take (n - start) (drop start d) = ap (λ k. drop start (take k d)) (sym total) ∙ drop-take start (n - start) d in
+    let some : length (take (n - start) (drop start d)) ≡ n - start = ap length (sym left) ∙ length-drop start v ∙ ap (λ k. k - start) long in
+    let from = mask_drop (map stops v) start ∙ ap mask_l (drop-map stops start v ∙ ap (map stops) left) in
+    found ∙ ap (λ m. first_set (m / 2 ^ start) (n - start)) mask ∙ ap (λ m. first_set m (n - start)) from
+    ∙ run_is stops (take (n - start) (drop start d)) (n - start) some (omega arith)
+    ∙ same_prefix stops q (λ b lt. agree_below_at stops (λ x. not (q x)) 256 b all lt) (n - start) (drop start d)
+    (λ k. rw (get_or-drop start d k 0) (fits (start + k)).fits)
+
+-- a run of the first n bytes that is not all of them
+pub ends_short : (p : ℕ → Bool) (n r : ℕ) (d : List ℕ) → r ≡ prefix_len p (take n d) → r ≢ n → r < n
+ends_short p n r d e other = omega (arith, e, other, prefix_len-le-length p (take n d), length-take n d)
+
+-- a run that ends within the first n bytes
+pub ends_within : (p : ℕ → Bool) (n : ℕ) (d : List ℕ) → n ≤ length d → prefix_len p (take n d) < n → prefix_len p d ≡ prefix_len p (take n d)
+ends_within p zero d room short = absurd (omega arith)
+ends_within p (suc n) [] room short = absurd (omega arith)
+ends_within p (suc n) (x ∷ xs) room short =
+    elim (cases_Bool (p x)) [
+      | inl pass ↦ rw pass (omega (arith, ends_within p n xs (omega arith) (omega (arith, rw pass at short))))
+      | inr stop ↦ rw stop refl
+    ]
+
+-- a run that includes the first n bytes
+pub goes_past : (p : ℕ → Bool) (n : ℕ) (d : List ℕ) → n ≤ prefix_len p d → prefix_len p d ≡ n + prefix_len p (drop n d)
+goes_past p zero d e = omega arith
+goes_past p (suc n) [] e = absurd (omega arith)
+goes_past p (suc n) (x ∷ xs) e =
+    elim (cases_Bool (p x)) [
+      | inl pass ↦ rw pass (omega (arith, goes_past p n xs (omega (arith, rw pass at e))))
+      | inr stop ↦ absurd (omega (arith, rw stop at e))
+    ]
+
+-- the run of the first n bytes is no longer than that of all
+pub front_run : (p : ℕ → Bool) (n : ℕ) (d : List ℕ) → prefix_len p (take n d) ≤ prefix_len p d
+front_run p zero d = omega arith
+front_run p (suc n) [] = omega arith
+front_run p (suc n) (x ∷ xs) =
+    elim (cases_Bool (p x)) [
+      | inl pass ↦ rw pass (omega (arith, front_run p n xs))
+      | inr stop ↦ rw stop (omega arith)
+    ]
+
+-- the run of some bytes, if others come after them
+pub padded_run : (p : ℕ → Bool) (xs ys : List ℕ) → min (prefix_len p (xs ++ ys)) (length xs) ≡ prefix_len p xs
+padded_run p [] ys = omega arith
+padded_run p (x ∷ xs) ys =
+    elim (cases_Bool (p x)) [
+      | inl pass ↦ rw pass (omega (arith, padded_run p xs ys))
+      | inr stop ↦ rw stop (omega arith)
+    ]

@@ -1,0 +1,205 @@
+-- Items as the spans of their tokens.
+use Rattle.std.proofs.Common.{◌≡◌, ℕ, zero, suc, ◌+◌, ◌-◌, ◌<◌, ◌≤◌, get_or, List, [], ◌∷◌, ◌++◌, length, take, drop, map, Option, Some, None, Result, Ok}
+use Rattle.std.proofs.Common.{◌*◌, ◌⊎◌, inl, inr, All, refl, sym, ap, ap₂, ◌∙◌, subst, arith, append_assoc, add-zero, length-append, length-drop}
+use Rattle.std.proofs.lemmas.List.{take_at, drop_at, map-append, length-map, length-take, get_or-drop}
+use Rattle.std.proofs.lemmas.List.Elements.{All-head, All-same, All-drop, All-get_or, All-map, All-weaker}
+use Rattle.std.proofs.Math.Seq.{drop-cons}
+use Rattle.std.proofs.Math.Numerals.{suc-eq-add-one}
+use Rattle.graphql_core.specs.declared.tokenizer.token.Token.{Token as Cut}
+use Rattle.graphql_core.specs.declared.tokenizer.token.Bad.{Bad}
+use Rattle.std.specs.Str.{IsCharBoundary, IsUtf8}
+use Rattle.graphql_core.specs.declared.position.Pos.{Pos}
+use Rattle.graphql_core.specs.declared.tokenizer.token.Kind.{Kind}
+use Rattle.graphql_core.specs.{Where, Item, item_at, TokenContent, HasItems, NextItem, next_place, Token}
+use Rattle.graphql_core.specs.{kind_number, Items, IsLexeme, split, then_items, token_of, after, IsNextFault}
+use Rattle.graphql_core.specs.{max_length, Refusal, first_byte, Marks, start_of, kind_of, span_token, span_items}
+use Rattle.graphql_core.specs.{IsLeft, IsLast, Word, peek}
+use Rattle.graphql_core.specs.declared.tokenizer.token.Kind.TheVariants.{Punctuator, Name, IntValue, FloatValue}
+use Rattle.graphql_core.specs.declared.tokenizer.token.Kind.TheVariants.{StringValue, BlockString}
+use Rattle.graphql_core.specs.declared.helpers.span.Span.{Span}
+use Rattle.graphql_core.proofs.sources.TokenPlaces.{IsToken, StandsIn, part, tokens_stand}
+
+-- ---- a start and a kind in one number
+
+pub few_kinds : (k : Kind) → kind_number k ≤ 5
+few_kinds Punctuator = omega arith
+few_kinds Name = omega arith
+few_kinds IntValue = omega arith
+few_kinds FloatValue = omega arith
+few_kinds StringValue = omega arith
+few_kinds BlockString = omega arith
+
+-- a token has some bytes
+some_bytes : (t : Token) → IsLexeme t → 0 < length t.spelling
+some_bytes t (k, s, rest, kind, stands) = (part (Word k s) t.spelling rest stands).0
+
+pub token_some : {text : List ℕ} {w : Where} {k : Kind} {bytes : List ℕ} → IsToken text w k bytes → 0 < length bytes
+token_some {text} {w} {k} {bytes} t = some_bytes (token_of w.position k bytes) t.lexeme
+
+first_taken : (n : ℕ) (bytes : List ℕ) → 0 < length (take n bytes) → get_or bytes 0 0 ≡ first_byte (take n bytes)
+first_taken zero bytes some = absurd (omega arith)
+first_taken (suc n) [] some = absurd (omega arith)
+first_taken (suc n) (b ∷ bs) some = refl
+
+-- the items that are left are tokens in the input, and a last item
+left_stand : {most : ℕ} (text : List ℕ) (items : List Item) → IsLeft most text items → All (StandsIn text) items
+left_stand text items left =
+    subst (All (StandsIn text)) (drop_at left.past items (length left.past) refl)
+    (All-drop (StandsIn text) (length left.past) (left.past ++ items) (tokens_stand text (left.past ++ items) left.utf8 left.all))
+
+-- the next item is a token in the input, and those after it are left
+pub next_left : {most : ℕ} (text : List ℕ) (old new : List Item) (t : Cut) → NextItem old (Ok (Some t)) new → IsLeft most text old
+    → (old ≡ item_at (TokenContent t.kind t.value.now) (next_place old) ∷ new) × IsToken text (next_place old) t.kind t.value.now × IsLeft most text new
+next_left {most} text old new t (w, e) left =
+    let i : Item = item_at (TokenContent t.kind t.value.now) w in
+    let all = All-same (StandsIn text) (i ∷ new) old (sym e) (left_stand text old left) in
+    let on : IsLeft most text new = record {
+      past = left.past ++ i ∷ [];
+      all = subst (HasItems text) (ap (λ (l : List Item). left.past ++ l) e ∙ sym (append_assoc left.past (i ∷ []) new)) left.all;
+      utf8 = left.utf8;
+      small = left.small;
+      narrow = left.narrow;
+    } in
+    let here : next_place old ≡ w = ap next_place e in
+    rw here (e, All-head (StandsIn text) i new all, on)
+
+-- a token that a call returned from the items that were there is the next one
+pub next_of : (old was new : List Item) (r : Result (Option Cut) Bad) (t : Cut) → was ≡ old → NextItem was r new → r ≡ Ok (Some t)
+    → NextItem old (Ok (Some t)) new
+next_of old was new r t same next is =
+    subst (λ (l : List Item). NextItem l (Ok (Some t)) new) same (subst (λ (x : Result (Option Cut) Bad). NextItem was x new) is next)
+
+-- if no token is left, going past one changes nothing
+unchanged : (i : Items) → i.tokens ≡ [] → i ≡ after i
+unchanged i none = let same = none ∙ sym (ap (drop 1) none) in λ j. record { tokens = same j; last = i.last; spent = i.spent }
+
+-- if there is capacity and no token was pushed, the last item is next
+pub none_cut : (items : List Item) (bad : Option Bad) {room len : ℕ} → 0 < room → (room ≤ len) ⊎ IsLast items bad → 0 ≡ len → IsLast items bad
+none_cut items bad some (inl full) none = absurd (omega (arith, some, full, none))
+none_cut items bad some (inr last) none = last
+
+module _ {W : Type 0} (number : W → ℕ) (text : List ℕ) where
+  -- a span of a token in the input
+  module _ (s : Span W) (w : Where) (k : Kind) (bytes : List ℕ) (t : IsToken text w k bytes) (start : start_of number s ≡ w.offset)
+      (end : number s.end ≡ w.offset + length bytes) (line : number s.line ≡ w.position.line) (column : number s.column ≡ w.position.column)
+      (kind : kind_of number s ≡ k) where
+    long : number s.end - start_of number s ≡ length bytes
+    long = omega (arith, start, end)
+
+    follows : drop (start_of number s) text ≡ bytes ++ t.rest
+    follows = ap (λ (n : ℕ). drop n text) start ∙ t.is
+
+    spelled : take (number s.end - start_of number s) (drop (start_of number s) text) ≡ bytes
+    spelled = (λ i. take (long i) (follows i)) ∙ take_at bytes t.rest (length bytes) refl
+
+    pub is_token : span_token number text s ≡ token_of w.position k bytes
+    is_token = λ i. record { kind = kind_number (kind i); spelling = spelled i; place = record { line = line i; column = column i } }
+
+    pub marks : Marks number text s
+    marks = record {
+      ordered = omega (arith, start, end);
+      starts = subst (IsCharBoundary text) (sym start) t.starts;
+      ends = rw (follows, long) t.ends;
+      lexeme = subst IsLexeme (sym is_token) t.lexeme;
+    }
+
+  -- the first byte of a token is where the span says
+  pub first_within : (s : Span W) → Marks number text s → start_of number s < length text
+  first_within s m =
+      let some = some_bytes (span_token number text s) m.lexeme in
+      omega (arith, some, length-take (number s.end - start_of number s) (drop (start_of number s) text), length-drop (start_of number s) text)
+
+  pub first_is : (s : Span W) → Marks number text s → get_or text (start_of number s) 0 ≡ first_byte (span_token number text s).spelling
+  first_is s m =
+      ap (λ n. get_or text n 0) (sym (add-zero (start_of number s))) ∙ sym (get_or-drop (start_of number s) text 0 0)
+      ∙ first_taken _ (drop (start_of number s) text) (some_bytes (span_token number text s) m.lexeme)
+
+  -- one token on
+  pub one_cut : (spans : List (Span W)) (s : Span W) (old new : List Item) (k : Kind) (bytes : List ℕ) (w : Where) (all : Items)
+      → all ≡ span_items number text spans (split old) → old ≡ item_at (TokenContent k bytes) w ∷ new → span_token number text s ≡ token_of w.position k bytes
+      → all ≡ span_items number text (spans ++ s ∷ []) (split new)
+  one_cut spans s old new k bytes w all is next token =
+      let f = span_token number text in
+      is ∙ ap (λ (l : List Item). span_items number text spans (split l)) next
+      ∙ ap (λ (x : Token). span_items number text spans (then_items x (split new))) (sym token)
+      ∙ ap (λ (ts : List Token). let i : Items = record { tokens = ts; last = (split new).last; spent = (split new).spent } in i)
+      (sym (append_assoc (map f spans) (f s ∷ []) (split new).tokens) ∙ ap (λ (ts : List Token). ts ++ (split new).tokens) (sym (map-append f spans (s ∷ []))))
+
+  -- ---- the items that are left
+
+  -- all items of an input are left of it
+  pub all_left : {most : ℕ} (items : List Item) → HasItems text items → IsUtf8 text → length text ≤ max_length → 8 * length text < most → IsLeft most text items
+  all_left items has utf8 small narrow = record { past = []; all = has; utf8 = utf8; small = small; narrow = narrow }
+
+  pub marked : (spans : List (Span W)) (n : ℕ) (s : Span W) → n < length spans → s ≡ get_or spans n s → All (Marks number text) spans → Marks number text s
+  marked spans n s some is all = subst (Marks number text) (sym is) (All-get_or (Marks number text) spans n s some all)
+
+  pub next_span : (spans : List (Span W)) (n : ℕ) (s : Span W) → n < length spans → s ≡ get_or spans n s → drop n spans ≡ s ∷ drop (n + 1) spans
+  next_span spans n s some is =
+      drop-cons spans n s some ∙ ap₂ (λ (x : Span W) (l : List (Span W)). x ∷ l) (sym is) (ap (λ (k : ℕ). drop k spans) (suc-eq-add-one n))
+
+  pub lexemes_left : (spans : List (Span W)) (taken : ℕ) → All (Marks number text) spans → All IsLexeme (map (span_token number text) (drop taken spans))
+  lexemes_left spans taken all =
+      let left = All-drop (Marks number text) taken spans all in
+      All-map IsLexeme (span_token number text) (drop taken spans)
+      (All-weaker (Marks number text) (λ s. IsLexeme (span_token number text s)) (λ s m. m.lexeme) (drop taken spans) left)
+
+  -- one more token is taken
+  on : (spans : List (Span W)) (taken : ℕ) (i : Items) → taken < length spans
+      → span_items number text (drop (suc taken) spans) i ≡ after (span_items number text (drop taken spans) i)
+  on [] taken i some = absurd (omega (arith, some))
+  on (s ∷ spans) zero i some = refl
+  on (s ∷ spans) (suc taken) i some = on spans taken i (omega (arith, some))
+
+  pub one_taken : (spans : List (Span W)) (taken : ℕ) (i : Items) → taken < length spans
+      → span_items number text (drop (taken + 1) spans) i ≡ after (span_items number text (drop taken spans) i)
+  one_taken spans taken i some = ap (λ n. span_items number text (drop n spans) i) (sym (suc-eq-add-one taken)) ∙ on spans taken i some
+
+  none_after : (items : List Item) (bad : Option Bad) → IsLast items bad → (split items).tokens ≡ []
+  none_after items None last = ap (λ (l : List Item). (split l).tokens) last.1
+  none_after items (Some b) last = ap (λ (l : List Item). (split l).tokens) last.1
+
+  seen : (left : List (Span W)) (items : List Item) → (left ≡ [] → (split items).tokens ≡ [])
+      → peek (map (span_token number text) left) ≡ peek (span_items number text left (split items)).tokens
+  seen [] items none = ap peek (sym (none refl))
+  seen (s ∷ left) items none = refl
+
+  -- no token comes after the last of the spans
+  pub next_seen : (spans : List (Span W)) (taken len : ℕ) (items : List Item) (bad : Option Bad) → len ≡ length spans → taken ≤ len
+      → (taken ≡ len → IsLast items bad)
+      → peek (map (span_token number text) (drop taken spans)) ≡ peek (span_items number text (drop taken spans) (split items)).tokens
+  next_seen spans taken len items bad is within last =
+      seen (drop taken spans) items (λ none. none_after items bad (last (omega (arith, is, within, ap length none, length-drop taken spans))))
+
+  -- if no token is left, all spans are taken
+  pub all_taken : (spans : List (Span W)) (taken len : ℕ) (more : List Token) → len ≡ length spans → taken ≤ len
+      → map (span_token number text) (drop taken spans) ++ more ≡ [] → taken ≡ len
+  all_taken spans taken len more is within none =
+      let left = map (span_token number text) (drop taken spans) in
+      let long = ap length none in
+      omega (arith, is, within, long, length-append left more, length-map (drop taken spans) (span_token number text), length-drop taken spans)
+
+  -- after the last of the spans come the items after them
+  past_last : (spans : List (Span W)) (taken : ℕ) (i : Items) → length spans ≤ taken + 1 → (length spans ≤ taken → i.tokens ≡ [])
+      → i ≡ after (span_items number text (drop taken spans) i)
+  past_last [] zero i few none = unchanged i (none (omega arith))
+  past_last [] (suc taken) i few none = unchanged i (none (omega arith))
+  past_last (s ∷ []) zero i few none = refl
+  past_last (s ∷ t ∷ spans) zero i few none = absurd (omega (arith, few))
+  past_last (s ∷ spans) (suc taken) i few none = past_last spans taken i (omega (arith, few)) (λ h. none (omega (arith, h)))
+
+  pub last_taken : (spans : List (Span W)) (taken len : ℕ) (items : List Item) (bad : Option Bad) → len ≡ length spans → taken ≤ len → len ≤ taken + 1
+      → (taken ≡ len → IsLast items bad) → split items ≡ after (span_items number text (drop taken spans) (split items))
+  last_taken spans taken len items bad is within few last =
+      past_last spans taken (split items) (omega (arith, is, few)) (λ h. none_after items bad (last (omega (arith, is, within, h))))
+
+  -- the error of the next token
+  pub fault_here : (s : Span W) (spans more : List (Span W)) (rest : Items) (p : Pos) (value : List ℕ) (f : Refusal)
+      → spans ≡ s ∷ more → p.line ≡ number s.line → p.column ≡ number s.column → value ≡ (span_token number text s).spelling
+      → ((following : Items) → IsNextFault (then_items (token_of p (kind_of number s) value) following) f) → IsNextFault (span_items number text spans rest) f
+  fault_here s spans more rest p value f next line column spelled h =
+      let following = span_items number text more rest in
+      let same : token_of p (kind_of number s) value ≡ span_token number text s =
+      λ i. record { kind = kind_number (kind_of number s); spelling = spelled i; place = record { line = line i; column = column i } } in
+      subst (λ (l : List (Span W)). IsNextFault (span_items number text l rest) f) (sym next)
+      (subst (λ (t : Token). IsNextFault (then_items t following) f) same (h following))

@@ -1,0 +1,17 @@
+use Rattle.std.proofs.Common.{refl, sym, ◌∙◌, arith, zero-add}
+use Rattle.graphql_core.specs.{start}
+use Rattle.graphql_core.proofs.{has_items, items_only}
+use Rattle.graphql_core.proofs.tokenizer.tokens.Tokens.new.Goals as goal
+
+pub invariant_of-result : goal.invariant_of-result
+invariant_of-result c = (omega arith, omega arith, omega arith, omega arith, omega arith, c.skip_ignored.ensures.first, omega arith)
+
+pub returns-clause-items : goal.returns-clause-items
+returns-clause-items c =
+    let e = rw zero-add at (c.skip_ignored.ensures.skips.0 start refl) in
+    rw e (has_items c.args.source.now)
+
+pub returns-clause-only : goal.returns-clause-only
+returns-clause-only c others h =
+    let e = rw zero-add at (c.skip_ignored.ensures.skips.0 start refl) in
+    items_only c.args.source.now others h ∙ sym e

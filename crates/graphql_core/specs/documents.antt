@@ -1,0 +1,12 @@
+pub mod Languages
+pub mod Document
+pub mod Faults
+pub mod Refusing
+pub mod Parsing
+pub mod Outputs
+unfoldable pub use Languages.*
+unfoldable pub use Document.*
+unfoldable pub use Faults.*
+unfoldable pub use Refusing.*
+unfoldable pub use Parsing.*
+unfoldable pub use Outputs.*

@@ -1,0 +1,116 @@
+-- The items of an input as tokens of the grammar, and what comes after the last token.
+use Rattle.std.specs.Prelude.{◌≡◌, ℕ, List, [], ◌∷◌, drop, Option, Some, None, Result, Ok, Err}
+use Rattle.graphql_core.specs.grammar.{Token, Place}
+use Rattle.graphql_core.specs.declared.position.Pos.{Pos}
+use Rattle.graphql_core.specs.declared.tokenizer.token.Kind.{Kind}
+use Rattle.graphql_core.specs.declared.tokenizer.token.Bad.{Bad}
+use Rattle.graphql_core.specs.declared.tokenizer.token.Token.{Token as Cut}
+use Rattle.graphql_core.specs.declared.tokenizer.piece.Nesting.{Nesting}
+use Rattle.graphql_core.specs.lexical.{Stands, Word, Item, Content, Stream, asked_once, bad_text}
+use Rattle.graphql_core.specs.declared.helpers.source.Lexeme.{Lexeme}
+use Rattle.graphql_core.specs.sources.Causes.{CauseText, no_token, kind_number}
+use Rattle.graphql_core.specs.lexical.Items as items
+use Rattle.graphql_core.specs.sources.Causes as causes
+
+-- after the last token: the end of the input or a lexical error
+pub data Last : Type 0 where
+  LastIsEnd : Place → Last
+  LastIsError : Place → CauseText → Last
+
+pub record Items : Type 0 where
+  pub tokens : List Token
+  pub last : Last
+  -- the stream that the items come from, after all of them are taken; an empty stream if there is none
+  pub spent : Stream
+
+abbrev pub place_of : Pos → Place
+place_of p = record { line = p.line; column = p.column }
+
+abbrev pub token_of : Pos → Kind → List ℕ → Token
+token_of p k bytes = record { kind = kind_number k; spelling = bytes; place = place_of p }
+
+abbrev pub then_items : Token → Items → Items
+then_items t i = record { tokens = t ∷ i.tokens; last = i.last; spent = i.spent }
+
+-- these tokens and this last item, which come from no stream
+abbrev pub tokens_then : List Token → Last → Items
+tokens_then ts l = record { tokens = ts; last = l; spent = record { items = []; cuts = 0 } }
+
+abbrev pub only_last : Last → Items
+only_last l = tokens_then [] l
+
+abbrev pub split_by : Content → Pos → Items → Items
+split_by (items.TokenContent k bytes) p more = then_items (token_of p k bytes) more
+split_by items.EndOfInput p more = only_last (LastIsEnd (place_of p))
+split_by (items.LexicalError b) p more = only_last (LastIsError (place_of p) (no_token b))
+
+-- the tokens of a list of items, and its first item that is not a token
+abbrev pub split : List Item → Items
+split [] = only_last (LastIsEnd (record { line = 0; column = 0 }))
+split (i ∷ is) = split_by i.content i.place.position (split is)
+
+-- the same items, from a stream that is `s` after all of them are taken
+abbrev pub spending : Stream → Items → Items
+spending s i = record { tokens = i.tokens; last = i.last; spent = s }
+
+-- the items of a stream, read with one item of lookahead
+abbrev pub items_of_stream : Stream → Items
+items_of_stream s = spending (asked_once s) (split s.items)
+
+-- the items of an input, read from a new stream
+abbrev pub items_of_text : List Item → Items
+items_of_text items = items_of_stream (record { items = items; cuts = 0 })
+
+-- the parts that a reader never changes
+abbrev pub kept : Items → Last × Stream
+kept i = (i.last, i.spent)
+
+-- The items after the next one. The end and a lexical error stay.
+abbrev pub after : Items → Items
+after i = record { tokens = drop 1 i.tokens; last = i.last; spent = i.spent }
+
+-- a token of a source as a token of the grammar
+abbrev pub lexeme_token : {T : Type 0} → (T → List ℕ) → Lexeme T → Token
+lexeme_token bytes t = token_of t.position t.kind (bytes t.text)
+
+-- what a reader sees of the next item: a token, or `None` if it is not a token
+abbrev pub Peeks : {T : Type 0} → (T → List ℕ) → Option (Lexeme T) → Items → Type 0
+Peeks bytes (Some t) i = i.tokens ≡ lexeme_token bytes t ∷ drop 1 i.tokens
+Peeks bytes None i = i.tokens ≡ []
+
+-- the token is one of the lexical grammar
+abbrev pub IsLexeme : Token → Type 0
+IsLexeme t = (k : Kind) × (s : Nesting) × (rest : List ℕ) × (t.kind ≡ kind_number k) × Stands t.spelling (Word k s) rest
+
+abbrev pub IsEnd : Last → Type 0
+IsEnd (LastIsEnd p) = Unit {0}
+IsEnd (LastIsError p b) = ⊥
+
+abbrev pub IsAtEnd : Items → Type 0
+IsAtEnd i = (i.tokens ≡ []) × IsEnd i.last
+
+-- the items of a source, after a call of its stream returned this result and left the stream `s`
+abbrev pub held : Pos → Result (Option Cut) Bad → Stream → Items
+held p (Ok (Some t)) s = then_items (token_of p t.kind t.value.now) (items_of_stream s)
+held p (Ok None) s = spending s (only_last (LastIsEnd (place_of p)))
+held p (Err b) s = spending s (only_last (LastIsError (place_of p) (no_token (bad_text b))))
+
+-- ---- errors
+
+-- an error that has a place
+pub record FaultText : Type 0 where
+  pub cause : CauseText
+  pub place : Place
+
+abbrev pub fault_by : List Token → Last → FaultText
+fault_by (t ∷ ts) last = record { cause = causes.unexpected_token t.kind t.spelling; place = t.place }
+fault_by [] (LastIsEnd p) = record { cause = causes.unexpected_end; place = p }
+fault_by [] (LastIsError p b) = record { cause = b; place = p }
+
+-- the error if the next item is not allowed there
+abbrev pub fault_at : Items → FaultText
+fault_at i = fault_by i.tokens i.last
+
+-- where the next item begins
+abbrev pub place_next : Items → Place
+place_next i = (fault_at i).place

@@ -1,0 +1,99 @@
+-- What the fast paths of the tokenizer test for.
+use Rattle.std.specs.Prelude.{◌≡◌, ℕ, ◌+◌, ◌-◌, ◌*◌, ◌^◌, ◌<◌, ◌≤◌, Bool, not, ◌==◌, ◌&&◌, ◌||◌, if◌then◌else◌, List, ◌∷◌, length, map, slice_index, Option}
+use Rattle.std.specs.Prelude.{Some, None}
+use Rattle.std.specs.Int.{w64, trailing_zeros}
+use Rattle.graphql_core.specs.steps.Front.{Cuts, is_flat}
+use Rattle.graphql_core.specs.lexical.{steps_over, Where, Item, Content, item_at, TokenContent, further}
+use Rattle.graphql_core.specs.steps.Cut.{items}
+use Rattle.graphql_core.specs.declared.position.Pos.{Pos}
+use Rattle.graphql_core.specs.declared.tokenizer.piece.Move.{Move}
+use Rattle.graphql_core.specs.declared.tokenizer.piece.Nesting.{Nesting}
+use Rattle.graphql_core.specs.declared.tokenizer.piece.Piece.{Piece}
+use Rattle.graphql_core.specs.declared.tokenizer.piece.Taken.{Taken}
+use Rattle.graphql_core.specs.declared.tokenizer.token.Kind.{Kind}
+use Rattle.graphql_core.specs.declared.tokenizer.token.Token.{Token}
+use Rattle.graphql_core.specs.declared.tokenizer.piece.Piece.TheVariants.{AtEnd, Skips, Takes, Stops}
+
+abbrev pub is_space : ℕ → Bool
+is_space b = b == 32
+
+-- ASCII that continues a string without an escape: no LF, no quote and no backslash
+abbrev pub is_plain_in_string : ℕ → Bool
+is_plain_in_string b = is_flat b && not (b == 34 || b == 92)
+
+-- neither a quote nor a backslash
+abbrev pub is_plain_in_block : ℕ → Bool
+is_plain_in_block b = not (b == 34 || b == 92)
+
+abbrev pub is_blank : ℕ → Bool
+is_blank b = b == 32 || b == 44
+
+-- U+FEFF
+abbrev pub is_byte_order_mark : ℕ → List ℕ → Bool
+is_byte_order_mark b bs = b == 239 && (slice_index bs 0 == 187 && slice_index bs 1 == 191)
+
+-- the index of the lowest set bit, or `n` if no bit is set
+abbrev pub first_set : ℕ → ℕ → ℕ
+first_set mask n = if mask == 0 then n else trailing_zeros w64 mask
+
+-- the length and the move of ignored text at the front, if there is any
+abbrev pub ignored_front : Piece → Option (ℕ × Move)
+ignored_front AtEnd = None
+ignored_front Stops = None
+ignored_front (Skips n m) = Some (n, m)
+ignored_front (Takes n k t) = None
+
+-- ignored text is one or more whole characters, and moves over at most 8 columns
+abbrev pub FitsIgnored : List ℕ → Option (ℕ × Move) → Type 0
+FitsIgnored bytes None = Unit {0}
+FitsIgnored bytes (Some (n, m)) = Cuts bytes n × (steps_over m ≤ 8)
+
+-- the length, kind and nesting of a token at the front, if there is one
+abbrev pub taken : Piece → Option (ℕ × Kind × Nesting)
+taken AtEnd = None
+taken Stops = None
+taken (Skips n m) = None
+taken (Takes n k t) = Some (n, k, t)
+
+-- a token without the flag `is_flat`
+abbrev pub without_flat : Option Taken → Option (ℕ × Kind × Nesting)
+without_flat None = None
+without_flat (Some t) = Some (t.len, t.kind, t.nesting)
+
+-- a token is one or more whole characters
+abbrev pub FitsTaken : List ℕ → Option (ℕ × Kind × Nesting) → Type 0
+FitsTaken bytes None = Unit {0}
+FitsTaken bytes (Some (n, k, t)) = Cuts bytes n
+
+abbrev pub is_line_feed : ℕ → Bool
+is_line_feed b = b == 10
+
+-- a byte that can begin ignored text; 239 is the first byte of a byte order mark
+abbrev pub is_ignored : ℕ → Bool
+is_ignored b = is_blank b || is_line_feed b || b == 9 || b == 13 || b == 35 || b == 239
+
+-- a space, a comma or a line feed
+abbrev pub is_gap : ℕ → Bool
+is_gap b = is_blank b || is_line_feed b
+
+-- the input at a position is so short that no line, column or offset overflows
+abbrev pub HasRoom : List ℕ → Pos → Type 0
+HasRoom text at = (length text < 2 ^ 62) × (at.line + length text < 2 ^ 62) × (at.column + 8 * length text < 2 ^ 63)
+
+-- Between `text` at `at` and `rest` at `place` there is only ignored text.
+-- Each byte of the ignored text moves the position by at most one line or eight columns.
+abbrev pub SkipsTo : List ℕ → Pos → List ℕ → Pos → Type 0
+SkipsTo text at rest place = ((w : Where) → w.position ≡ at → items (further place (length text - length rest) w) rest ≡ items w text)
+    × (length rest ≤ length text) × (place.line + length rest ≤ at.line + length text) × (place.column + 8 * length rest ≤ at.column + 8 * length text)
+
+-- the contents of items, without their places
+abbrev pub contents : List Item → List Content
+contents is = map (λ i. i.content) is
+
+-- `t` is the next token, and `new` has the contents of the items after the token
+abbrev pub NextLexeme : List Item → Token → List Item → Type 0
+NextLexeme old t new = (w : Where) × (more : List Item) × (old ≡ item_at (TokenContent t.kind t.value.now) w ∷ more) × (contents new ≡ contents more)
+
+-- both inputs have the same items, ignoring places, whatever brackets are open before them
+abbrev pub HasContentsOf : List ℕ → List ℕ → Type 0
+HasContentsOf rest text = (w : Where) → contents (items w rest) ≡ contents (items w text)

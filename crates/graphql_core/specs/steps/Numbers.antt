@@ -1,0 +1,45 @@
+-- A left-to-right test for floats, and the number at the front of an input. `IsFloat` specifies floats.
+use Rattle.std.specs.Prelude.{ℕ, Bool, true, false, not, ◌&&◌, ◌||◌, ◌==◌, if◌then◌else◌, List, [], ◌∷◌, take, drop}
+use Rattle.std.specs.List.{prefix_len}
+use Rattle.std.specs.Char.{is_ascii_digit}
+use Rattle.graphql_core.specs.declared.tokenizer.token.Kind.TheVariants.{IntValue, FloatValue}
+use Rattle.graphql_core.specs.declared.tokenizer.piece.Nesting.TheVariants.{Level}
+use Rattle.graphql_core.specs.declared.tokenizer.piece.Piece.{Piece}
+use Rattle.graphql_core.specs.declared.tokenizer.piece.Piece.TheVariants.{Takes, Stops}
+use Rattle.graphql_core.specs.lexical.{is_natural, is_integer, is_exponent, is_in_run, run_at}
+
+-- a number begins with a digit or a sign
+abbrev pub starts_number : ℕ → Bool
+starts_number b = b == 45 || is_ascii_digit b
+
+abbrev pub digits_len : List ℕ → ℕ
+digits_len bytes = prefix_len is_ascii_digit bytes
+
+-- what follows a fraction
+abbrev pub is_exponent_or_none : List ℕ → Bool
+is_exponent_or_none [] = true
+is_exponent_or_none (b ∷ bs) = is_exponent (b ∷ bs)
+
+-- what follows the dot of a fraction
+unfoldable pub is_after_dot : List ℕ → Bool
+is_after_dot bytes = not (digits_len bytes == 0) && is_exponent_or_none (drop (digits_len bytes) bytes)
+
+-- what follows the integer part of a float
+unfoldable pub is_after_integer : List ℕ → Bool
+is_after_integer [] = false
+is_after_integer (b ∷ bs) = if b == 46 then is_after_dot bs else is_exponent (b ∷ bs)
+
+-- a float without a sign
+unfoldable pub is_unsigned : List ℕ → Bool
+is_unsigned bytes = is_natural (take (digits_len bytes) bytes) && is_after_integer (drop (digits_len bytes) bytes)
+
+unfoldable pub is_float : List ℕ → Bool
+is_float [] = false
+is_float (b ∷ bs) = if b == 45 then is_unsigned bs else is_unsigned (b ∷ bs)
+
+-- a run of `n` bytes
+abbrev pub number_of : ℕ → List ℕ → Piece
+number_of n run = if is_integer run then Takes n IntValue Level else if is_float run then Takes n FloatValue Level else Stops
+
+unfoldable pub number : List ℕ → Piece
+number bytes = number_of (prefix_len is_in_run bytes) (run_at bytes)

@@ -1,0 +1,38 @@
+-- Where a string ends, byte by byte, and the string at the front of an input.
+-- `IsStringBody` and `ClosesBlock` specify strings.
+use Rattle.std.specs.Prelude.{ℕ, zero, suc, ◌+◌, Bool, false, not, ◌&&◌, ◌==◌, if◌then◌else◌, List, [], ◌∷◌, drop, Option, Some, None}
+use Rattle.graphql_core.specs.declared.tokenizer.token.Kind.{Kind}
+use Rattle.graphql_core.specs.declared.tokenizer.token.Kind.TheVariants.{StringValue, BlockString}
+use Rattle.graphql_core.specs.declared.tokenizer.piece.Nesting.TheVariants.{Level}
+use Rattle.graphql_core.specs.declared.tokenizer.piece.Piece.{Piece}
+use Rattle.graphql_core.specs.declared.tokenizer.piece.Piece.TheVariants.{Takes, Stops}
+use Rattle.graphql_core.specs.lexical.{begins_quotes, begins_escape}
+
+-- the bytes up to the closing quote, including it, after `n` bytes
+-- `escaped`: the last of the `n` bytes is an escaping backslash
+unfoldable pub string_end : ℕ → Bool → List ℕ → Option ℕ
+string_end n escaped [] = None
+string_end n escaped (b ∷ bs) =
+    if b == 10 then None
+    else if not escaped && b == 34 then Some (n + 1)
+    else string_end (n + 1) (not escaped && b == 92) bs
+
+-- the bytes up to the closing quotes, including them, after `n` bytes
+-- `left`: how many of the next bytes belong to the same unit
+unfoldable pub block_end : ℕ → ℕ → List ℕ → Option ℕ
+block_end n left [] = None
+block_end n zero (b ∷ bs) =
+    if begins_quotes (b ∷ bs) then Some (n + 3)
+    else if begins_escape (b ∷ bs) then block_end (n + 1) 3 bs
+    else block_end (n + 1) 0 bs
+block_end n (suc left) (b ∷ bs) = block_end (n + 1) left bs
+
+-- a string of this kind, after this many opening quotes
+abbrev pub closed : Kind → ℕ → Option ℕ → Piece
+closed k quotes None = Stops
+closed k quotes (Some n) = Takes (n + quotes) k Level
+
+unfoldable pub quoted_front : List ℕ → Piece
+quoted_front bytes =
+    if begins_quotes bytes then closed BlockString 3 (block_end 0 0 (drop 3 bytes))
+    else closed StringValue 1 (string_end 0 false (drop 1 bytes))

@@ -1,0 +1,9 @@
+//! Readers of the productions that queries and schemas share, one for each symbol. Each reader quotes its production.
+pub mod directives;
+pub mod laws;
+pub mod leaf;
+pub mod leaf_laws;
+pub mod lists;
+pub mod node_error;
+pub mod types;
+pub mod values;

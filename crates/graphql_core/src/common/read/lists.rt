@@ -1,0 +1,112 @@
+//! Lists of consecutive elements.
+ghost use Rattle.std.specs.Prelude.{◌≡◌, ◌≤◌, ℕ, List, OnOk, length};
+ghost use Rattle.graphql_core.specs.steps.Punctuators.{class_of};
+ghost use Rattle.graphql_core.specs.grammar.Trees.{ParseTree, Many, Sym, optional};
+ghost use Rattle.graphql_core.specs.sources.Source.{kept};
+ghost use Rattle.graphql_core.specs.steps.Answers.{Gives, Adds, Shortens};
+ghost use Rattle.graphql_core.specs.steps.Lists.{each, IsList, IsOption};
+
+use crate::helpers::{Punctuator, ReadError, TokenSource, expect_punctuator, shrink_list};
+use std::alloc::Global;
+
+/// How to read the elements of a list.
+pub trait Elements<S: TokenSource> {
+    ghost use Rattle.std.specs.Prelude.{◌≡◌, [], ◌∷◌};
+    ghost use Rattle.graphql_core.specs.grammar.Trees.{Grammar};
+    ghost use Rattle.graphql_core.specs.grammar.Trees.{Expr, ParseTree, peek};
+    ghost use Rattle.graphql_core.specs.grammar.Tables.{first};
+    ghost use Rattle.graphql_core.specs.grammar.Reading.{sees};
+    ghost use Rattle.graphql_core.specs.sources.Source.{kept};
+    ghost use Rattle.graphql_core.specs.steps.Answers.{Gives, Adds, Shortens};
+
+    /// What a list stores of one element.
+    type Item: Drop;
+
+    // the grammar by which an element is read, and its production
+    ghost grammar: { Grammar };
+
+    ghost production: { Expr };
+
+    // what the parse tree of an element denotes, and the abstract value of an `Item`
+    ghost Tree: { Type 0 };
+
+    ghost means: { ParseTree → Tree };
+
+    ghost view: { Self.Item → Tree };
+
+    /// Whether an element comes next.
+    fn comes_next(source: &S) -> bool
+        ensures { result ≡ sees (first grammar.rows production) (peek (S.items source.now).tokens) };
+
+    /// Reads an element, and appends it to `items`.
+    fn read(alloc: Global, source: &mut S, items: &mut Vec<Self::Item>) -> Result<(), ReadError>
+        ensures reads { Gives grammar production (S.items source.old) (S.items source.new)
+            (λ v x. Adds view items.old.items items.new.items (means x ∷ [])) result }
+        ensures kept { kept (S.items source.new) ≡ kept (S.items source.old) }
+        ensures shorter { Shortens (S.items source.old) (S.items source.new) result };
+}
+
+/// Reads elements as long as one comes next, and appends them to `items`.
+#[inline(always)]
+#[tactic(auto, using(crate::proofs::readers::Reading::reading))]
+pub fn read_many<S: TokenSource, E: Elements<S>>(
+    alloc: Global,
+    source: &mut S,
+    items: &mut Vec<E::Item>,
+) -> Result<(), ReadError>
+    ensures reads { Gives E.grammar (Many E.production) (S.items source.old) (S.items source.new)
+        (λ v x. Adds E.view items.old.items items.new.items (each E.means x)) result }
+    ensures kept { kept (S.items source.new) ≡ kept (S.items source.old) }
+    ensures within { OnOk result (length (S.items source.new).tokens ≤ length (S.items source.old).tokens) }
+{
+    'more: while E::comes_next(source) {
+        E::read(alloc, source, items)?;
+    }
+    Ok(())
+}
+
+/// Reads at least one element between `opener` and `closer`, and appends them to `items`.
+#[inline(never)]
+#[tactic(auto, using(crate::proofs::readers::Reading::reading))]
+pub fn read_enclosed<S: TokenSource, E: Elements<S>>(
+    alloc: Global,
+    source: &mut S,
+    opener: Punctuator,
+    closer: Punctuator,
+    items: &mut Vec<E::Item>,
+) -> Result<(), ReadError>
+    ensures reads { (k : ℕ) (m : ParseTree → List E.Tree) → IsList E.grammar (class_of opener) (class_of closer) E.production E.means k m
+        → Gives E.grammar (Sym k) (S.items source.old) (S.items source.new) (λ v x. Adds E.view items.old.items items.new.items (m x)) result }
+    ensures kept { kept (S.items source.new) ≡ kept (S.items source.old) }
+    ensures shorter { Shortens (S.items source.old) (S.items source.new) result }
+{
+    expect_punctuator(source, opener)?;
+    E::read(alloc, source, items)?;
+    read_many::<S, E>(alloc, source, items)?;
+    expect_punctuator(source, closer)?;
+    Ok(())
+}
+
+/// Reads what `read_enclosed` reads, or nothing if `opener` does not come next. For a long source it gives back the
+/// unused capacity of `items`.
+#[inline(always)]
+#[tactic(auto, using(crate::proofs::readers::Reading::reading))]
+pub fn optional_list<S: TokenSource, E: Elements<S>>(
+    alloc: Global,
+    source: &mut S,
+    opener: Punctuator,
+    closer: Punctuator,
+    items: &mut Vec<E::Item>,
+) -> Result<(), ReadError>
+    ensures reads { (k : ℕ) (m n : ParseTree → List E.Tree) → IsList E.grammar (class_of opener) (class_of closer) E.production E.means k m → IsOption m n
+        → Gives E.grammar (optional (Sym k)) (S.items source.old) (S.items source.new) (λ v x. Adds E.view items.old.items items.new.items (n x)) result }
+    ensures kept { kept (S.items source.new) ≡ kept (S.items source.old) }
+    ensures within { OnOk result (length (S.items source.new).tokens ≤ length (S.items source.old).tokens) }
+{
+    if !source.sees_punctuator(opener) {
+        return Ok(());
+    }
+    read_enclosed::<S, E>(alloc, source, opener, closer, items)?;
+    shrink_list(source, items);
+    Ok(())
+}

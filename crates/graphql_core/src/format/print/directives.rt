@@ -1,0 +1,74 @@
+//! Arguments and directives.
+ghost use Rattle.std.specs.Prelude.{◌+◌, ◌*◌, ◌^◌, ◌<◌, OnOk};
+ghost use Rattle.graphql_core.specs.{text_of, AreLawfulArguments, AreLawfulDirectives, arguments_view};
+ghost use Rattle.graphql_core.specs.{directive_view, directives_view, arguments_layout, arguments_levels};
+ghost use Rattle.graphql_core.specs.{directive_layout, directives_layout, directives_levels};
+
+use crate::common::Names;
+use crate::common::tree::{Directive, Value};
+use crate::format::print::enclosed::{inside, write_before_part, write_closer, write_label};
+use crate::format::print::values::write_value;
+use crate::format::{Sink, Style};
+
+/// Appends arguments in parentheses, or nothing if there are none.
+#[inline(always)]
+pub fn write_arguments<S: Sink, N: Names>(
+    out: &mut S,
+    arguments: &[(N::Value, Value<N>)],
+    style: &Style,
+    margin: usize,
+) -> Result<(), S::Error>
+    requires { margin + arguments_levels style.now (arguments_view N.bytes arguments.now) * style.now.indent < 2 ^ 32 }
+    ensures text { OnOk result (S.took out.old (text_of (arguments_layout style.now margin (arguments_view N.bytes arguments.now))) out.new) }
+    ensures lawful { OnOk result (AreLawfulArguments (arguments_view N.bytes arguments.now)) }
+{
+    if arguments.is_empty() {
+        return Ok(());
+    }
+    out.push_str("(")?;
+    let indented = inside(style, margin);
+    let mut is_later = false;
+    'arguments: for argument in arguments {
+        write_before_part(out, style, indented, is_later)?;
+        write_label(out, N::view(&argument.0))?;
+        write_value(out, &argument.1, style, indented)?;
+        is_later = true;
+    }
+    write_closer(out, style, margin, ")")
+}
+
+/// Appends a directive.
+#[inline(never)]
+pub fn write_directive<S: Sink, N: Names>(
+    out: &mut S,
+    directive: &Directive<N>,
+    style: &Style,
+    margin: usize,
+) -> Result<(), S::Error>
+    requires { margin + arguments_levels style.now (directive_view N.bytes directive.now).arguments * style.now.indent < 2 ^ 32 }
+    ensures text { OnOk result (S.took out.old (text_of (directive_layout style.now margin (directive_view N.bytes directive.now))) out.new) }
+    ensures lawful { OnOk result (AreLawfulArguments (directive_view N.bytes directive.now).arguments) }
+{
+    out.push_str("@")?;
+    out.push_str(N::view(&directive.name))?;
+    write_arguments(out, &directive.arguments, style, margin)
+}
+
+/// Appends directives, each with a space before it.
+#[inline(always)]
+pub fn write_directives<S: Sink, N: Names>(
+    out: &mut S,
+    directives: &[Directive<N>],
+    style: &Style,
+    margin: usize,
+) -> Result<(), S::Error>
+    requires { margin + directives_levels style.now (directives_view N.bytes directives.now) * style.now.indent < 2 ^ 32 }
+    ensures text { OnOk result (S.took out.old (text_of (directives_layout style.now margin (directives_view N.bytes directives.now))) out.new) }
+    ensures lawful { OnOk result (AreLawfulDirectives (directives_view N.bytes directives.now)) }
+{
+    'directives: for directive in directives {
+        out.push_str(" ")?;
+        write_directive(out, directive, style, margin)?;
+    }
+    Ok(())
+}

@@ -1,0 +1,23 @@
+//! The tokenizer: splits the input into tokens.
+
+mod bad;
+mod brackets;
+mod class;
+mod ignored;
+pub mod lanes;
+mod laws;
+pub mod number;
+mod piece;
+mod place;
+mod quoted;
+pub mod run;
+mod stream;
+mod token;
+mod tokens;
+
+pub use brackets::MAX_DEPTH;
+pub use class::is_name_start;
+pub use laws::{one_list_of_items, worked_examples};
+pub use stream::TokenStream;
+pub use token::{Bad, Kind, Token};
+pub use tokens::Tokens;

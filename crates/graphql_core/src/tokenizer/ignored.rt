@@ -1,0 +1,114 @@
+//! Skips ignored text (October 2021, section 2.1.7) at the start of the input.
+ghost use Rattle.std.specs.Prelude.{◌≡◌, ◌≤◌, IfSome, length, slice_index, true};
+ghost use Rattle.graphql_core.specs.{front, IsItem, HasRoom, SkipsTo, HasContentsOf};
+
+use crate::position::Pos;
+use crate::tokenizer::class::{is_blank, is_ignored, is_line_feed};
+use crate::tokenizer::piece::{byte_at, ignored_of, spaces_in_one_load, spaces_of};
+use crate::tokenizer::place::{position_after_line, position_after_move, position_after_spaces};
+
+/// Skips any ignored text: the slow path of `skip_ignored`.
+#[cold]
+#[inline(never)]
+fn skip_rare(text: &str, at: Pos) -> (&str, Pos)
+    requires { HasRoom text.now at }
+    ensures skips { SkipsTo text.now at result.0.now result.1 }
+    ensures first { IsItem (front result.0.now) }
+{
+    let mut rest = text;
+    let mut place = at;
+    'skips: while let Some((len, by)) = ignored_of(rest) {
+        let after = rest.split_at(len).1;
+        let spaces = spaces_of(after);
+        place = position_after_spaces(spaces, position_after_move(by, place));
+        rest = after.split_at(spaces).1;
+    }
+    (rest, place)
+}
+
+/// The first byte, or 0 for empty input.
+#[inline(always)]
+fn front_byte(text: &str) -> u8
+    ensures { result ≡ slice_index text.now 0 }
+{
+    byte_at(text.as_bytes(), 0)
+}
+
+/// Skips spaces, commas and line feeds. The flag is true only if all ignored text was skipped. The flag is false before
+/// other ignored text, and where one load does not show the end of the spaces after a line feed.
+#[inline(always)]
+pub fn skip_plain(text: &str, at: Pos) -> (&str, Pos, bool)
+    requires { HasRoom text.now at }
+    ensures skips { SkipsTo text.now at result.0.now result.1 }
+    ensures first { result.2 ≡ true → IsItem (front result.0.now) }
+{
+    let mut rest = text;
+    let mut place = at;
+    'plain: loop {
+        let byte = front_byte(rest);
+        if !is_ignored(byte) {
+            return (rest, place, true);
+        }
+        if is_blank(byte) {
+            place = position_after_spaces(1, place);
+            rest = rest.split_at(1).1;
+        } else if is_line_feed(byte) {
+            place = position_after_line(place);
+            let after = rest.split_at(1).1;
+            let Some(spaces) = spaces_in_one_load(after) else {
+                return (after, place, false);
+            };
+            place = position_after_spaces(spaces, place);
+            rest = after.split_at(spaces).1;
+        } else {
+            return (rest, place, false);
+        }
+    }
+}
+
+/// Skips spaces, commas and line feeds, without a position. Returns `None` where the flag of `skip_plain` is false.
+#[inline(always)]
+pub fn past_plain(text: &str) -> Option<&str>
+    ensures skips { IfSome result (λ rest. HasContentsOf rest.now text.now × (length rest.now ≤ length text.now)) }
+    ensures first { IfSome result (λ rest. IsItem (front rest.now)) }
+{
+    let mut rest = text;
+    'plain: loop {
+        let byte = front_byte(rest);
+        if !is_ignored(byte) {
+            return Some(rest);
+        }
+        if is_blank(byte) {
+            rest = rest.split_at(1).1;
+        } else if is_line_feed(byte) {
+            let after = rest.split_at(1).1;
+            let spaces = spaces_in_one_load(after)?;
+            rest = after.split_at(spaces).1;
+        } else {
+            return None;
+        }
+    }
+}
+
+/// Whether the input is nonempty and its first byte cannot begin ignored text.
+#[inline(always)]
+pub fn shows_item(text: &str) -> bool
+    ensures { result ≡ true → IsItem (front text.now) }
+{
+    !text.is_empty() && !is_ignored(front_byte(text))
+}
+
+/// Skips all ignored text.
+#[inline(always)]
+pub fn skip_ignored(text: &str, at: Pos) -> (&str, Pos)
+    requires { HasRoom text.now at }
+    ensures skips { SkipsTo text.now at result.0.now result.1 }
+    ensures first { IsItem (front result.0.now) }
+{
+    let (rest, place, is_item) = skip_plain(text, at);
+    if is_item {
+        (rest, place)
+    } else {
+        skip_rare(rest, place)
+    }
+}

@@ -1,0 +1,377 @@
+//! The lexical element (a token or ignored text) at the start of the input.
+ghost use Rattle.std.specs.Prelude.{◌≡◌, ◌+◌, ◌<◌, ◌≤◌, ◌^◌, ◌∷◌, true, length, take, drop, slice_index, IfSome, Some};
+ghost use Rattle.std.specs.List.{prefix_len, list_all};
+ghost use Rattle.std.specs.Str.{IsCharBoundary};
+ghost use Rattle.graphql_core.specs.declared.tokenizer.piece.Nesting.TheVariants.{Level};
+ghost use Rattle.graphql_core.specs.declared.tokenizer.piece.Piece.TheVariants.{Takes};
+ghost use Rattle.graphql_core.specs.declared.tokenizer.token.Kind.TheVariants.{Name};
+ghost use Rattle.graphql_core.specs.steps.Ahead.{is_gap, is_space, is_byte_order_mark, ignored_front, FitsIgnored};
+ghost use Rattle.graphql_core.specs.steps.Ahead.{taken, without_flat, FitsTaken};
+ghost use Rattle.graphql_core.specs.lexical.Lexical.{is_name_start};
+ghost use Rattle.graphql_core.specs.steps.Front as spec;
+ghost use Rattle.graphql_core.specs.lexical.Lexical as lexical;
+
+use crate::tokenizer::class::{is_blank, is_name_start, is_punctuator_byte, nesting_of};
+use crate::tokenizer::lanes::{LANES, gap_lanes_from, name_lanes};
+use crate::tokenizer::number::{number, plain_number, starts_number};
+use crate::tokenizer::quoted::{plain_string_len, quoted};
+use crate::tokenizer::run::{
+    Flat, InComment, NameContinue, Space, class_prefix_len, len_in_one_load,
+};
+use crate::tokenizer::token::Kind;
+
+/// How ignored text moves the position.
+#[derive(Clone, Copy)]
+pub enum Move {
+    /// Not at all.
+    Stay,
+    /// By some columns.
+    Over(usize),
+    /// To the first column of the next line.
+    Down,
+}
+
+/// How a token changes the number of open brackets.
+#[derive(Clone, Copy)]
+pub enum Nesting {
+    /// The token is no bracket.
+    Level,
+    /// The token opens a bracket.
+    Opens,
+    /// The token closes a bracket.
+    Closes,
+}
+
+/// The lexical element at the start of the input. Lengths are in bytes.
+#[derive(Clone, Copy)]
+pub enum Piece {
+    /// The input is empty.
+    AtEnd,
+    /// Ignored text.
+    Skips {
+        len: usize,
+        by: Move,
+    },
+    /// A token.
+    Takes {
+        len: usize,
+        kind: Kind,
+        nesting: Nesting,
+    },
+    /// No lexical element.
+    Stops,
+}
+
+/// The token at the start of the input.
+#[derive(Clone, Copy)]
+pub struct Taken {
+    /// The length in bytes.
+    pub len: usize,
+    pub kind: Kind,
+    pub nesting: Nesting,
+    /// True only if the token is ASCII without a line feed.
+    pub is_flat: bool,
+}
+
+/// The length in bytes of a comment up to its line end.
+#[inline]
+fn line_len(bytes: &[u8]) -> usize
+    ensures len { result ≡ prefix_len lexical.is_in_line bytes.now }
+    ensures within { result ≤ length bytes.now }
+{
+    class_prefix_len::<InComment>(bytes)
+}
+
+/// The byte at `index`, or 0 past the end.
+#[inline(always)]
+pub fn byte_at(bytes: &[u8], index: usize) -> u8
+    ensures { result ≡ slice_index bytes.now index }
+{
+    bytes.get(index).copied().unwrap_or(0)
+}
+
+/// The length in bytes of a comment with its `#` and line end, and how the comment moves the position. `bytes` begin
+/// after the `#`.
+#[inline(never)]
+#[tactic(auto, unfolding(crate::specs::steps::Front::comment))]
+fn comment(bytes: &[u8]) -> (usize, Move)
+    requires { length bytes.now < 2 ^ 62 }
+    ensures { Some result ≡ ignored_front (spec.comment bytes.now) }
+{
+    let len = line_len(bytes);
+    match bytes[len..].split_first() {
+        None => (len + 1, Move::Stay),
+        Some((byte, rest)) => {
+            if *byte == b'\r' && byte_at(rest, 0) == b'\n' {
+                (len + 3, Move::Down)
+            } else {
+                (len + 2, Move::Down)
+            }
+        }
+    }
+}
+
+/// The lexical element that begins with a dot: `...` or none.
+#[inline]
+fn dots(bytes: &[u8]) -> Piece
+    ensures { result ≡ spec.dots bytes.now }
+{
+    if byte_at(bytes, 1) == b'.' && byte_at(bytes, 2) == b'.' {
+        Piece::Takes {
+            len: 3,
+            kind: Kind::Punctuator,
+            nesting: Nesting::Level,
+        }
+    } else {
+        Piece::Stops
+    }
+}
+
+/// The token that begins with `byte`, the first of `bytes`, which must not begin a name.
+#[tactic(auto, unfolding(crate::specs::steps::Front::other_token))]
+#[inline(always)]
+fn token_of(byte: u8, bytes: &[u8]) -> Piece
+    requires some { 0 < length bytes.now }
+    requires small { length bytes.now < 2 ^ 62 }
+    ensures { result ≡ spec.other_token byte bytes.now }
+{
+    if is_punctuator_byte(byte) {
+        Piece::Takes {
+            len: 1,
+            kind: Kind::Punctuator,
+            nesting: nesting_of(byte),
+        }
+    } else if byte == b'"' {
+        quoted(bytes)
+    } else if byte == b'.' {
+        dots(bytes)
+    } else if starts_number(byte) {
+        number(bytes)
+    } else {
+        Piece::Stops
+    }
+}
+
+/// The token at the start of `bytes`, of any kind: the slow path.
+#[inline(never)]
+#[tactic(auto, unfolding(crate::specs::steps::Front::front))]
+fn other_token_bytes(bytes: &[u8]) -> Option<(usize, Kind, Nesting)>
+    requires { length bytes.now < 2 ^ 62 }
+    ensures { result ≡ taken (spec.front bytes.now) }
+{
+    match bytes.split_first() {
+        None => None,
+        Some((byte, rest)) => {
+            if is_name_start(*byte) {
+                let len = class_prefix_len::<NameContinue>(rest) + 1;
+                return Some((len, Kind::Name, Nesting::Level));
+            }
+            match token_of(*byte, bytes) {
+                Piece::Takes { len, kind, nesting } => Some((len, kind, nesting)),
+                _ => None,
+            }
+        }
+    }
+}
+
+/// The length and kind of a string or number at the start of `bytes`, if the fast path recognizes it. This code is
+/// apart from `token_bytes_in_one_load`, because tokenizing is slower by a fifteenth with its parts there.
+#[inline(always)]
+fn value_in_one_load(byte: u8, rest: &[u8], bytes: &[u8]) -> Option<(usize, Kind)>
+    requires whole { bytes.now ≡ byte ∷ rest.now }
+    requires small { length bytes.now < 2 ^ 62 }
+    ensures is { IfSome result (λ t. spec.front bytes.now ≡ Takes t.0 t.1 Level) }
+    ensures flat { IfSome result (λ t. list_all spec.is_flat (take t.0 bytes.now) ≡ true) }
+{
+    if byte == b'"' {
+        let len = plain_string_len(rest)?;
+        return Some((len + 1, Kind::StringValue));
+    }
+    if starts_number(byte) {
+        return plain_number(bytes);
+    }
+    None
+}
+
+/// The token at the start of `bytes`, if the fast path recognizes it: a short name, a punctuator of one character, a
+/// nonempty ASCII string without escapes, or a number without an exponent. Each is ASCII without a line feed.
+#[inline(always)]
+fn token_bytes_in_one_load(bytes: &[u8]) -> Option<(usize, Kind, Nesting)>
+    requires { length bytes.now < 2 ^ 62 }
+    ensures is { IfSome result (λ t. Some t ≡ taken (spec.front bytes.now)) }
+    ensures flat { IfSome result (λ t. list_all spec.is_flat (take t.0 bytes.now) ≡ true) }
+{
+    let (byte, rest) = bytes.split_first()?;
+    if is_name_start(*byte) {
+        let len = len_in_one_load::<NameContinue>(rest)?;
+        return Some((len + 1, Kind::Name, Nesting::Level));
+    }
+    if is_punctuator_byte(*byte) {
+        return Some((1, Kind::Punctuator, nesting_of(*byte)));
+    }
+    let (len, kind) = value_in_one_load(*byte, rest, bytes)?;
+    Some((len, kind, Nesting::Level))
+}
+
+/// Whether a token of this kind can contain line feeds or non-ASCII characters.
+#[inline(always)]
+fn is_quoted(kind: Kind) -> bool
+    ensures { result ≡ spec.is_quoted kind }
+{
+    matches!(kind, Kind::StringValue | Kind::BlockString)
+}
+
+/// The token at the start of `bytes`.
+#[inline(always)]
+fn token_bytes(bytes: &[u8]) -> Option<Taken>
+    requires { length bytes.now < 2 ^ 62 }
+    ensures is { without_flat result ≡ taken (spec.front bytes.now) }
+    ensures flat { IfSome result (λ t. t.is_flat ≡ true → list_all spec.is_flat (take t.len bytes.now) ≡ true) }
+{
+    if let Some((len, kind, nesting)) = token_bytes_in_one_load(bytes) {
+        return Some(Taken {
+            len,
+            kind,
+            nesting,
+            is_flat: true,
+        });
+    }
+    let (len, kind, nesting) = other_token_bytes(bytes)?;
+    Some(Taken {
+        len,
+        kind,
+        nesting,
+        is_flat: !is_quoted(kind),
+    })
+}
+
+/// The token at the start of the input, if the fast path recognizes it: its length in bytes, its kind and its nesting.
+#[inline(always)]
+#[tactic(auto, using(crate::proofs::lexical::Tokens::near_fits))]
+pub fn token_in_one_load(text: &str) -> Option<(usize, Kind, Nesting)>
+    requires { length text.now < 2 ^ 62 }
+    ensures is { IfSome result (λ t. Some t ≡ taken (spec.front text.now)) }
+    ensures fits { FitsTaken text.now result }
+    ensures flat { IfSome result (λ t. list_all spec.is_flat (take t.0 text.now) ≡ true) }
+{
+    token_bytes_in_one_load(text.as_bytes())
+}
+
+/// The token at the start of the input.
+#[inline(always)]
+#[tactic(auto, using(crate::proofs::lexical::Tokens::taken_fits))]
+pub fn token_at(text: &str) -> Option<Taken>
+    requires { length text.now < 2 ^ 62 }
+    ensures is { without_flat result ≡ taken (spec.front text.now) }
+    ensures fits { FitsTaken text.now (without_flat result) }
+    ensures flat { IfSome result (λ t. t.is_flat ≡ true → list_all spec.is_flat (take t.len text.now) ≡ true) }
+{
+    token_bytes(text.as_bytes())
+}
+
+#[inline(always)]
+fn is_byte_order_mark(byte: u8, rest: &[u8]) -> bool
+    ensures { result ≡ is_byte_order_mark byte rest.now }
+{
+    byte == 0xEF && (byte_at(rest, 0) == 0xBB && byte_at(rest, 1) == 0xBF)
+}
+
+/// The first lexical element if it is ignored text: its length in bytes, and how it moves the position.
+#[inline(always)]
+#[tactic(auto, unfolding(crate::specs::steps::Front::front))]
+fn ignored_bytes(bytes: &[u8]) -> Option<(usize, Move)>
+    requires { length bytes.now < 2 ^ 62 }
+    ensures { result ≡ ignored_front (spec.front bytes.now) }
+{
+    match bytes.split_first() {
+        None => None,
+        Some((byte, rest)) => {
+            if *byte == b'\t' {
+                Some((1, Move::Over(8)))
+            } else if *byte == b'\n' {
+                Some((1, Move::Down))
+            } else if *byte == b'\r' {
+                Some((1, Move::Stay))
+            } else if is_blank(*byte) {
+                Some((1, Move::Over(1)))
+            } else if *byte == b'#' {
+                Some(comment(rest))
+            } else if is_byte_order_mark(*byte, rest) {
+                Some((3, Move::Stay))
+            } else {
+                None
+            }
+        }
+    }
+}
+
+/// The first lexical element if it is ignored text: its length in bytes, and how it moves the position.
+#[inline(always)]
+#[tactic(auto, using(crate::proofs::lexical::Spaces::ignored_fits))]
+pub fn ignored_of(text: &str) -> Option<(usize, Move)>
+    requires { length text.now < 2 ^ 62 }
+    ensures is { result ≡ ignored_front (spec.front text.now) }
+    ensures fits { FitsIgnored text.now result }
+{
+    ignored_bytes(text.as_bytes())
+}
+
+/// The number of spaces at the start of the input, if one load shows their end.
+#[inline(always)]
+#[tactic(auto, using(crate::proofs::lexical::Spaces::near_boundary))]
+pub fn spaces_in_one_load(text: &str) -> Option<usize>
+    ensures len { IfSome result (λ n. n ≡ prefix_len is_space text.now) }
+    ensures within { IfSome result (λ n. n ≤ length text.now) }
+    ensures cuts { IfSome result (λ n. IsCharBoundary text.now n) }
+{
+    len_in_one_load::<Space>(text.as_bytes())
+}
+
+/// The number of spaces at the start of the input.
+#[inline(always)]
+#[tactic(auto, using(crate::proofs::lexical::Spaces::spaces_boundary))]
+pub fn spaces_of(text: &str) -> usize
+    ensures len { result ≡ prefix_len is_space text.now }
+    ensures within { result ≤ length text.now }
+    ensures cuts { IsCharBoundary text.now result }
+{
+    class_prefix_len::<Space>(text.as_bytes())
+}
+
+/// The number of bytes before the first line feed or non-ASCII character.
+#[inline(always)]
+#[tactic(auto, using(crate::proofs::lexical::Spaces::flat_boundary))]
+pub fn flat_of(text: &str) -> usize
+    ensures len { result ≡ prefix_len spec.is_flat text.now }
+    ensures within { result ≤ length text.now }
+    ensures cuts { IsCharBoundary text.now result }
+{
+    class_prefix_len::<Flat>(text.as_bytes())
+}
+
+/// Whether the input begins with a name.
+#[inline(always)]
+pub fn begins_with_name(text: &str) -> bool
+    ensures { result ≡ is_name_start (slice_index text.now 0) }
+{
+    is_name_start(byte_at(text.as_bytes(), 0))
+}
+
+/// The length of the name at the start of the input, and of the spaces, commas and line feeds after it, as far as one
+/// load shows them. `None` if the load does not show the end of the name.
+#[inline(always)]
+pub fn name_in_one_load(text: &str) -> Option<(usize, usize)>
+    requires begins { is_name_start (slice_index text.now 0) ≡ true }
+    requires long { 17 ≤ length text.now }
+    requires small { length text.now < 2 ^ 62 }
+    ensures is { IfSome result (λ n. Some (n.0, Name, Level) ≡ taken (spec.front text.now)) }
+    ensures gap { IfSome result (λ n. n.1 ≤ prefix_len is_gap (drop n.0 text.now)) }
+    ensures cuts { IfSome result (λ n. IsCharBoundary text.now n.0) }
+{
+    let (_, rest) = text.as_bytes().split_first()?;
+    let len = name_lanes(rest);
+    if len == LANES {
+        return None;
+    }
+    Some((len + 1, gap_lanes_from(rest, len)))
+}

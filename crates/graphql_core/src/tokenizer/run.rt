@@ -1,0 +1,179 @@
+//! Lengths of runs of bytes of a class, 16 bytes at a time.
+ghost use Rattle.std.specs.Prelude.{◌≡◌, ◌<◌, ◌≤◌, length, IfSome};
+ghost use Rattle.std.specs.List.{prefix_len};
+
+use crate::tokenizer::lanes::{
+    LANES, block_lanes, digit_lanes, flat_lanes, line_lanes, name_lanes, space_lanes, string_lanes,
+};
+
+/// A class of bytes.
+pub trait Class {
+    ghost use Rattle.std.specs.Prelude.{◌≡◌, ◌≤◌, ℕ, Bool, length, take};
+    ghost use Rattle.std.specs.List.{prefix_len};
+
+    ghost has: { ℕ → Bool };
+
+    /// How many of the first 16 bytes, from the first on, are in the class.
+    fn lanes(bytes: &[u8]) -> usize
+        requires { 16 ≤ length bytes.now }
+        ensures { result ≡ prefix_len has (take 16 bytes.now) };
+}
+
+/// The bytes that can continue a name.
+pub struct NameContinue;
+
+impl Class for NameContinue {
+    ghost use Rattle.graphql_core.specs.lexical.Lexical.{is_name_continue};
+
+    ghost has = { is_name_continue };
+
+    #[inline(always)]
+    fn lanes(bytes: &[u8]) -> usize {
+        name_lanes(bytes)
+    }
+}
+
+/// The space.
+pub struct Space;
+
+impl Class for Space {
+    ghost use Rattle.graphql_core.specs.steps.Ahead.{is_space};
+
+    ghost has = { is_space };
+
+    #[inline(always)]
+    fn lanes(bytes: &[u8]) -> usize {
+        space_lanes(bytes)
+    }
+}
+
+/// ASCII except quote, backslash and line feed.
+pub struct PlainInString;
+
+impl Class for PlainInString {
+    ghost use Rattle.graphql_core.specs.steps.Ahead.{is_plain_in_string};
+
+    ghost has = { is_plain_in_string };
+
+    #[inline(always)]
+    fn lanes(bytes: &[u8]) -> usize {
+        string_lanes(bytes)
+    }
+}
+
+/// All bytes except quote and backslash.
+pub struct PlainInBlock;
+
+impl Class for PlainInBlock {
+    ghost use Rattle.graphql_core.specs.steps.Ahead.{is_plain_in_block};
+
+    ghost has = { is_plain_in_block };
+
+    #[inline(always)]
+    fn lanes(bytes: &[u8]) -> usize {
+        block_lanes(bytes)
+    }
+}
+
+/// ASCII except line feed: each such byte takes one column.
+pub struct Flat;
+
+impl Class for Flat {
+    ghost use Rattle.graphql_core.specs.steps.Front.{is_flat};
+
+    ghost has = { is_flat };
+
+    #[inline(always)]
+    fn lanes(bytes: &[u8]) -> usize {
+        flat_lanes(bytes)
+    }
+}
+
+/// A digit.
+pub struct Digit;
+
+impl Class for Digit {
+    ghost use Rattle.std.specs.Char.{is_ascii_digit};
+
+    ghost has = { is_ascii_digit };
+
+    #[inline(always)]
+    fn lanes(bytes: &[u8]) -> usize {
+        digit_lanes(bytes)
+    }
+}
+
+/// The bytes that can continue a comment: all except line feed and carriage return.
+pub struct InComment;
+
+impl Class for InComment {
+    ghost use Rattle.graphql_core.specs.lexical.Lexical.{is_in_line};
+
+    ghost has = { is_in_line };
+
+    #[inline(always)]
+    fn lanes(bytes: &[u8]) -> usize {
+        line_lanes(bytes)
+    }
+}
+
+/// The length of the run at the start of `bytes`, which are fewer than one load. Zeros fill the load.
+fn len_in_short_slice<C: Class>(bytes: &[u8]) -> usize
+    requires { length bytes.now < 16 }
+    ensures len { result ≡ prefix_len C.has bytes.now }
+    ensures within { result ≤ length bytes.now }
+{
+    let mut block = [0; LANES];
+    block[..bytes.len()].copy_from_slice(bytes);
+    C::lanes(&block).min(bytes.len())
+}
+
+/// The length of the run at the start of `bytes`: the slow path. The last load takes the last 16 bytes, which can
+/// include bytes of the load before it.
+#[inline(never)]
+fn len_by_loads<C: Class>(bytes: &[u8]) -> usize
+    ensures len { result ≡ prefix_len C.has bytes.now }
+    ensures within { result ≤ length bytes.now }
+{
+    if bytes.len() < LANES {
+        return len_in_short_slice::<C>(bytes);
+    }
+    let last = bytes.len() - LANES;
+    let mut start = 0;
+    'loads: while start < last {
+        let run = C::lanes(&bytes[start..]);
+        if run < LANES {
+            return start + run;
+        }
+        start += LANES;
+    }
+    last + C::lanes(&bytes[last..])
+}
+
+/// The length of the run at the start of `bytes`, if one load shows its end.
+#[inline(always)]
+pub fn len_in_one_load<C: Class>(bytes: &[u8]) -> Option<usize>
+    ensures len { IfSome result (λ n. n ≡ prefix_len C.has bytes.now) }
+    ensures within { IfSome result (λ n. n ≤ length bytes.now) }
+{
+    if bytes.len() < LANES {
+        return None;
+    }
+    let run = C::lanes(bytes);
+    if run == LANES {
+        return None;
+    }
+    Some(run)
+}
+
+/// The length of the run at the start of `bytes`.
+#[inline(always)]
+pub fn class_prefix_len<C: Class>(bytes: &[u8]) -> usize
+    ensures len { result ≡ prefix_len C.has bytes.now }
+    ensures within { result ≤ length bytes.now }
+{
+    match len_in_one_load::<C>(bytes) {
+        Some(len) => len,
+        None => len_by_loads::<C>(bytes),
+    }
+}

@@ -1,5 +1,0 @@
-use Rattle.graphql_lexer.proofs.{run_boundary}
-use Rattle.graphql_lexer.proofs.tokenizer.bad.bad_at.Goals as goal
-
-pub split_at-requires : goal.split_at-requires
-split_at-requires c = rw (c.run_len.ensures.len, c.as_bytes-bytes.ensures.value) (run_boundary c.args.text.now)

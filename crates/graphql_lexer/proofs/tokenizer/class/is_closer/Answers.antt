@@ -1,9 +1,0 @@
-use Rattle.std.proofs.Common.{nat_eq, refl, arith}
-use Rattle.graphql_lexer.specs.declared.tokenizer.class.TheConstants.{CLASSES}
-use Rattle.graphql_lexer.specs.{is_closer}
-use Rattle.graphql_lexer.proofs.{agree_below, by_class}
-use Rattle.graphql_lexer.proofs.tokenizer.class.is_closer.Goals as goal
-
-pub returns : goal.returns
-unfolding agree_below
-returns c = by_class CLASSES (λ n. nat_eq n 41) is_closer c.args.byte (omega arith) refl

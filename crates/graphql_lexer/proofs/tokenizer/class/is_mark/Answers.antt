@@ -1,9 +1,0 @@
-use Rattle.std.proofs.Common.{nat_le, refl, arith}
-use Rattle.graphql_lexer.specs.declared.tokenizer.class.TheConstants.{CLASSES}
-use Rattle.graphql_lexer.specs.{is_mark}
-use Rattle.graphql_lexer.proofs.{agree_below, by_class}
-use Rattle.graphql_lexer.proofs.tokenizer.class.is_mark.Goals as goal
-
-pub returns : goal.returns
-unfolding agree_below
-returns c = by_class CLASSES (λ n. nat_le n 41) is_mark c.args.byte (omega arith) refl

@@ -1,5 +1,0 @@
-//! A text cut into its tokens, each at its place.
-#![tactic(auto)]
-
-pub mod position;
-pub mod tokenizer;

@@ -1,0 +1,98 @@
+-- The first definition of a list of tokens is what the reader of definitions consumes.
+use Rattle.std.proofs.Common.{◌≡◌, false, List, [], ◌∷◌, ◌++◌, Option, Some, None, refl, sym, ap, subst, ◌∙◌}
+use Rattle.graphql_core.specs.{cont, fails_check, Token, Sym, ParseTree, leaves, peek, row, written, sees, Takes, Reason}
+use Rattle.graphql_core.specs.{Fails, fails_node, Stops, no_memory, kept, IsFaultFor, IsRefusalFor, reason_of}
+use Rattle.graphql_core.specs.{Refusal, Items}
+use Rattle.graphql_core.specs.declared.helpers.read_error.ReadError.{ReadError}
+use Rattle.graphql_core.specs.declared.helpers.read_error.ReadError.TheVariants.{Memory, Integer, Float, Escape}
+use Rattle.graphql_core.specs.declared.helpers.read_error.ReadError.TheVariants.{Location, Item}
+use Rattle.graphql_core.proofs.{take-or_fail, IsReadable, exact_lax, least_stop, exact}
+use Rattle.graphql_query.specs.{tables, second_rows, reading, changes, definition_symbol, one_definition, BeginsWith}
+use Rattle.graphql_query.specs.{NoneBeginsAnother}
+use Rattle.graphql_query.proofs.readers.{readable}
+
+pub readable_one : IsReadable one_definition
+unfolding tables
+readable_one = record {
+  ll1 = readable.ll1;
+  tight = readable.tight;
+  productive = readable.productive;
+  productive_lax = readable.productive_lax;
+  decides = refl;
+  samples = refl;
+  samples_lax = refl;
+  each = readable.each;
+  each_unchecked = readable.each_unchecked;
+  each_lax = readable.each_lax;
+  goes_on = readable.goes_on;
+  alone = readable.alone;
+  good = readable.good;
+  lacks = readable.lacks;
+  location = readable.location;
+  one_cause = readable.one_cause;
+  refuses_tokens = readable.refuses_tokens;
+  passes = λ x. refl;
+  one_said = λ node f g h w. absurd h;
+}
+
+-- ---- where it stops
+
+-- no definition is rejected as a node
+rule_fails : {ts us : List Token} {why : Reason} → Fails reading (Sym definition_symbol) ts why us
+    → Fails reading (row reading definition_symbol).rule ts why us
+rule_fails (fails_node h) = h
+rule_fails (fails_check h refused) = absurd cc
+
+rule_stops : (ts us : List Token) (why : Option Reason) → Stops reading (Sym definition_symbol) ts us why
+    → Stops reading (row reading definition_symbol).rule ts us why
+rule_stops ts us None h = tt
+rule_stops ts us (Some why) h = rule_fails h
+
+pub least_refusal : (i j : Items) (s : ReadError) (e : Refusal) → Stops reading (Sym definition_symbol) i.tokens j.tokens (reason_of s) → IsFaultFor s j e
+    → kept j ≡ kept i → IsRefusalFor one_definition i e
+least_refusal i j s e h f last = least_stop one_definition readable_one i j s e (rule_stops i.tokens j.tokens (reason_of s) h) f last
+
+-- ---- what begins with a definition
+
+-- no token can continue a whole definition
+ends_there : (rest : List Token) → sees (cont second_rows (Sym definition_symbol)) (peek rest) ≡ false
+unfolding tables
+ends_there [] = refl
+ends_there (t ∷ ts) = refl
+
+pub taken : (ts others : List Token) (x : ParseTree) → BeginsWith ts x others
+    → (y : ParseTree) × Takes reading (Sym definition_symbol) ts y others × (written changes y ≡ x)
+taken ts others x (fits, parts) =
+    let (y, takes, is) = (exact one_definition readable_one).complete (leaves x) others x (fits, refl) (ends_there others) in
+    (y, subst (λ (l : List Token). Takes reading (Sym definition_symbol) l y others) (sym parts) takes, is)
+
+pub begins : (ts others : List Token) (y : ParseTree) → Takes reading (Sym definition_symbol) ts y others → BeginsWith ts (written changes y) others
+begins ts others y takes =
+    let ((fits, same), parts) = (exact one_definition readable_one).sound ts others y takes in
+    (fits, parts ∙ ap (λ (l : List Token). l ++ others) same)
+
+-- the first definition is unique
+pub one_beginning : (ts us vs : List Token) (x y : ParseTree) → BeginsWith ts x us → BeginsWith ts y vs → (x ≡ y) × (us ≡ vs)
+one_beginning ts us vs x y (fits, parts) (other_fits, other_parts) =
+    let (same, front, rest) = (exact one_definition readable_one).one_split (leaves x) (leaves y) us vs x y (fits, refl) (other_fits, refl)
+    (sym parts ∙ other_parts) (ends_there us) (ends_there vs) in
+    (same, rest)
+
+-- even if literals have no value
+pub none_begins_another : NoneBeginsAnother
+none_begins_another x y us vs fits other_fits parts =
+    let (same, front, rest) = (exact_lax one_definition readable_one).one_split (leaves x) (leaves y) us vs x y (fits, refl) (other_fits, refl)
+    parts (ends_there us) (ends_there vs) in
+    (same, rest)
+
+none_fails : (ts us vs : List Token) (x : ParseTree) (why : Reason) → BeginsWith ts x vs → Fails reading (Sym definition_symbol) ts why us → ⊥
+none_fails ts us vs x why h fails = let (y, takes, is) = taken ts vs x h in take-or_fail reading takes fails
+
+pub memory_only : (i j : Items) (s : ReadError) (e : Refusal) (x : ParseTree) (others : List Token)
+    → Stops reading (Sym definition_symbol) i.tokens j.tokens (reason_of s) → IsFaultFor s j e → BeginsWith i.tokens x others → e ≡ no_memory
+memory_only i j Memory e x others h f k = f
+memory_only i j Item e x others h f k = absurd (none_fails i.tokens j.tokens others x _ k h)
+memory_only i j Integer e x others h f k = absurd (none_fails i.tokens j.tokens others x _ k h)
+memory_only i j Float e x others h f k = absurd (none_fails i.tokens j.tokens others x _ k h)
+memory_only i j Escape e x others h f k = absurd (none_fails i.tokens j.tokens others x _ k h)
+memory_only i j Location e x others h f k = absurd (none_fails i.tokens j.tokens others x _ k h)

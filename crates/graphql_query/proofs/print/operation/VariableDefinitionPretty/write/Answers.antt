@@ -1,0 +1,31 @@
+use Rattle.std.proofs.Common.{◌^◌, option_map, arith}
+use Rattle.graphql_core.specs.{value_view, type_view, directives_view, type_layout, directives_layout}
+use Rattle.graphql_core.specs.{default_layout}
+use Rattle.graphql_core.proofs.{and_last, narrower}
+use Rattle.graphql_query.proofs.{variable_definition_text}
+use Rattle.graphql_query.proofs.print.operation.VariableDefinitionPretty.write.Goals as goal
+
+pub write_default-requires : goal.write_default-requires
+write_default-requires g c =
+    let typed = (narrower _ _ _ c.args.style.now.indent (2 ^ 32) c.requires).1 in
+    let default = (narrower _ _ _ c.args.style.now.indent (2 ^ 32) typed).0 in
+    omega (arith, default)
+
+pub write_directives-requires : goal.write_directives-requires
+write_directives-requires g c =
+    let typed = (narrower _ _ _ c.args.style.now.indent (2 ^ 32) c.requires).1 in
+    let directives = (narrower _ _ _ c.args.style.now.indent (2 ^ 32) typed).1 in
+    rw c.deref.ensures.value (omega (arith, directives))
+
+pub returns-clause-text : goal.returns-clause-text
+returns-clause-text g c =
+    let bytes = g.N.Names.bytes in
+    let more = g.met.S.Sink.took_more in
+    let v = c.args.self.now in
+    let named = more _ _ _ _ _ (more _ _ _ _ _ c.in_ok-push_str.ensures c.in_ok-push_str-2.ensures) c.in_ok-push_str-3.ensures in
+    let written = more _ _ _ _ _ named c.in_ok-write_type.ensures in
+    let directives = rw c.deref.ensures.value at c.write_directives.ensures.text in
+    and_last g.S.Sink.took more _ _ _ _ _ _ _ (more _ _ _ _ _ written c.in_ok-write_default.ensures.text) directives
+    (rw c.view.ensures (variable_definition_text (bytes v.name) (type_layout (type_view bytes v.var_type))
+    (default_layout c.args.style.now 0 (option_map (value_view bytes) v.default_value))
+    (directives_layout c.args.style.now 0 (directives_view bytes v.directives.items))))

@@ -1,0 +1,159 @@
+-- What the grammar derives from an input is printable.
+use Rattle.std.proofs.Common.{◌≡◌, ◌≤◌, ◌-◌, ℕ, true, List, ◌∷◌, codes, refl, sym, subst, arith}
+use Rattle.graphql_core.proofs.{Nests, Anything, nests, HasRoom, room_nothing, room_leaf, room_both, room_first}
+use Rattle.graphql_core.proofs.{room_second, room_stop, room_more, room_node, has_room, room_back, all_turns}
+use Rattle.graphql_core.proofs.{nests_tree, leaf_name, leaf_except, all_within, optional_arguments_printable}
+use Rattle.graphql_core.proofs.{directives_printable, type_printable, some_printable, enclosed_printable}
+use Rattle.graphql_core.proofs.{each_of_both, optional_default_printable, part_printable, Within}
+use Rattle.std.specs.List.{AllByRecursion}
+use Rattle.std.specs.Option.{IfSome, option_map_or}
+use Rattle.graphql_core.specs.{Token, Place, Expr, Many, Sym, ParseTree, Both, leaves, optional, is_below, IsName, split}
+use Rattle.graphql_core.specs.{shared, default_symbol, shared_symbols, first_place, optional_default_of}
+use Rattle.graphql_core.specs.{IsPrintableDefault, value_brackets, optional_of, optional_list_of, enclosed_of}
+use Rattle.graphql_core.specs.{each_of, spelling_at, Items, name}
+use Rattle.graphql_query.specs.{more, SelectionTree, SelectionSetTree, OperationKind, query_kind, mutation_kind}
+use Rattle.graphql_query.specs.{subscription_kind, DefinitionTree, operation, DocumentTree, set, none, query}
+use Rattle.graphql_query.specs.{document_symbol, definition_symbol, operation_symbol, operation_body_symbol}
+use Rattle.graphql_query.specs.{variable_definitions_symbol, variable_definition_symbol, selection_set_symbol}
+use Rattle.graphql_query.specs.{selection_symbol, field_symbol, alias_symbol, fragment_spread_symbol}
+use Rattle.graphql_query.specs.{inline_fragment_symbol, type_condition_symbol, alias_of, type_condition_of}
+use Rattle.graphql_query.specs.{fragment_spread_of, field_of, selected_of, inline_fragment_of, selection_of}
+use Rattle.graphql_query.specs.{selection_set_of, selections_of, variable_definition_of, keyword_of, operation_of}
+use Rattle.graphql_query.specs.{definition_of, document_of, IsDocument, IsDocumentOf, queries, IsPrintable}
+use Rattle.graphql_query.specs.{IsPrintableSelection, IsPrintableSet, ArePrintableSelections, IsPrintableVariable}
+use Rattle.graphql_query.specs.{IsPrintableDefinition, Selects, SelectsInside, SelectInside, AllSelectInside}
+use Rattle.graphql_query.specs.{DefinitionSelects, selection_brackets, selected_brackets, selection_set_brackets}
+use Rattle.graphql_query.specs.{selections_brackets, variable_definition_brackets, variable_definitions_brackets}
+use Rattle.graphql_query.specs.{definition_brackets}
+use Rattle.graphql_query.proofs.readers.Readable.{tested_alike, written_goes_on}
+use Rattle.graphql_core.proofs.values.Printable as values
+
+-- ---- shared symbols
+
+room_shared : {n : ℕ} {e : Expr} {x : ParseTree} → HasRoom query n e x → is_below shared_symbols e ≡ true → HasRoom shared n e x
+room_shared {e = e} f b = room_back shared_symbols shared query written_goes_on f b (tested_alike e)
+
+-- ---- selections
+
+alias_printable : {n : ℕ} {x : ParseTree} → HasRoom query n (optional (Sym alias_symbol)) x → IfSome (alias_of x) IsName
+alias_printable (room_first (room_node (room_both n e) c)) = leaf_name refl n
+alias_printable (room_second room_nothing) = tt
+
+type_condition_printable : {n : ℕ} {x : ParseTree} → HasRoom query n (Sym type_condition_symbol) x → IsName (type_condition_of x)
+type_condition_printable (room_node (room_both o n) c) = leaf_name refl n
+
+abbrev IsSelection : ℕ → SelectionTree → Type 0
+IsSelection n s = IsPrintableSelection s × SelectsInside s × (selection_brackets s ≤ n)
+
+abbrev IsSet : ℕ → SelectionSetTree → Type 0
+IsSet n s = IsPrintableSet s × Selects s × SelectInside s × (selection_set_brackets s ≤ n)
+
+-- a field opens at most as many brackets as a selection set in braces
+selected_within : (s : SelectionSetTree) (n : ℕ) → selection_set_brackets s ≤ n → selected_brackets s ≤ n
+selected_within (set o c none) n h = omega arith
+selected_within (set o c (more f fs)) n h = h
+
+fragment_spread_printable : {n : ℕ} {x : ParseTree} → HasRoom query n (Sym fragment_spread_symbol) x → IsSelection n (fragment_spread_of x)
+fragment_spread_printable (room_node (room_both dots (room_both (room_node n e) ds)) c) =
+    let (are, b) = directives_printable (room_shared ds refl) in
+    (((leaf_name refl n, (leaf_except (codes "on") refl n, tt)), are), tt, b)
+
+mutual
+  field_printable : {n : ℕ} {x : ParseTree} → HasRoom query n (Sym field_symbol) x → IsSelection n (field_of x)
+  field_printable (room_node (room_both {x = a} alias (room_both {x = m} called (room_both arguments (room_both ds s)))) c) =
+      let (values, d) = optional_arguments_printable (room_shared arguments refl) in
+      let (are, b) = directives_printable (room_shared ds refl) in
+      let (is, inside, e) = selected_printable (first_place (leaves (Both a m))) s in
+      ((alias_printable alias, leaf_name refl called, values, are, is), inside, omega arith)
+
+  selected_printable : {n : ℕ} {x : ParseTree} (p : Place) → HasRoom query n (optional (Sym selection_set_symbol)) x → IsPrintableSet (selected_of p x)
+      × SelectInside (selected_of p x) × (selected_brackets (selected_of p x) ≤ n)
+  selected_printable {n} p (room_first {x = s} f) =
+      let (is, selects, inside, b) = selection_set_printable f in
+      (is, inside, selected_within (selection_set_of s) n b)
+  selected_printable p (room_second room_nothing) = (tt, tt, omega arith)
+
+  inline_fragment_printable : {n : ℕ} {x : ParseTree} → HasRoom query n (Sym inline_fragment_symbol) x → IsSelection n (inline_fragment_of x)
+  inline_fragment_printable (room_node (room_both dots (room_both condition (room_both ds s))) c) =
+      let (are, b) = directives_printable (room_shared ds refl) in
+      let (is, selects, inside, e) = selection_set_printable s in
+      ((part_printable type_condition_of IsName (λ y. type_condition_printable) condition, are, is), (selects, inside), omega arith)
+
+  selection_printable : {n : ℕ} {x : ParseTree} → HasRoom query n (Sym selection_symbol) x → IsSelection n (selection_of x)
+  selection_printable (room_node (room_first f) c) = field_printable f
+  selection_printable (room_node (room_second (room_first f)) c) = fragment_spread_printable f
+  selection_printable (room_node (room_second (room_second f)) c) = inline_fragment_printable f
+
+  selection_set_printable : {n : ℕ} {x : ParseTree} → HasRoom query n (Sym selection_set_symbol) x → IsSet n (selection_set_of x)
+  selection_set_printable (room_node (room_both (room_leaf a l d) (room_both (room_both f fs) e)) c) =
+      let (is, inside, b) = selection_printable f in
+      let (are, all_inside, g) = selections_printable fs in
+      ((is, are), tt, (inside, all_inside), omega arith)
+
+  selections_printable : {n : ℕ} {x : ParseTree} → HasRoom query n (Many (Sym selection_symbol)) x
+      → ArePrintableSelections (selections_of x) × AllSelectInside (selections_of x) × (selections_brackets (selections_of x) ≤ n)
+  selections_printable room_stop = (tt, tt, omega arith)
+  selections_printable (room_more f fs) =
+      let (is, inside, b) = selection_printable f in
+      let (are, all_inside, g) = selections_printable fs in
+      ((is, are), (inside, all_inside), omega arith)
+
+-- ---- variables
+
+variable_definition_printable : (n : ℕ) (x : ParseTree) → HasRoom query n (Sym variable_definition_symbol) x
+    → Within IsPrintableVariable variable_definition_brackets n (variable_definition_of x)
+variable_definition_printable n _ (room_node (room_both sign (room_both called (room_both colon (room_both t (room_both v ds))))) c) =
+    let (is, b) = type_printable (room_shared t refl) in
+    let (default, d) = optional_default_printable (room_shared v refl) in
+    let (are, e) = directives_printable (room_shared ds refl) in
+    ((leaf_name refl called, is, default, are), omega arith)
+
+variable_definitions_printable : {n : ℕ} {x : ParseTree} → HasRoom query n (optional (Sym variable_definitions_symbol)) x
+    → Within (AllByRecursion IsPrintableVariable) variable_definitions_brackets n (optional_list_of (enclosed_of variable_definition_of) x)
+variable_definitions_printable = enclosed_printable variable_definition_symbol variable_definition_of IsPrintableVariable variable_definition_brackets
+    variable_definition_printable refl refl (λ m. refl)
+
+-- ---- definitions
+
+abbrev IsDefinition : ℕ → DefinitionTree → Type 0
+IsDefinition n d = IsPrintableDefinition d × DefinitionSelects d × (definition_brackets d ≤ n)
+
+keyword_printable : {n : ℕ} {x : ParseTree} (kind : OperationKind) (w : ParseTree) → HasRoom query n (Sym operation_body_symbol) x
+    → IsDefinition n (operation (keyword_of kind (Both w x)))
+keyword_printable kind w (room_node (room_both called (room_both vs (room_both ds s))) c) =
+    let (variables, d) = variable_definitions_printable vs in
+    let (are, b) = directives_printable (room_shared ds refl) in
+    let (is, selects, inside, e) = selection_set_printable s in
+    ((part_printable spelling_at IsName (λ y. leaf_name refl) called, variables, are, is), (selects, inside), omega arith)
+
+operation_printable : {n : ℕ} {x : ParseTree} → HasRoom query n (Sym operation_symbol) x → IsDefinition n (operation_of x)
+operation_printable (room_node (room_first s) c) = let (is, selects, inside, b) = selection_set_printable s in (is, (selects, inside), b)
+operation_printable (room_node (room_second (room_first (room_both {x = w} k f))) c) = keyword_printable query_kind w f
+operation_printable (room_node (room_second (room_second (room_first (room_both {x = w} k f)))) c) = keyword_printable mutation_kind w f
+operation_printable (room_node (room_second (room_second (room_second (room_both {x = w} k f)))) c) = keyword_printable subscription_kind w f
+
+definition_printable : {n : ℕ} {x : ParseTree} → HasRoom query n (Sym definition_symbol) x → IsDefinition n (definition_of x)
+definition_printable (room_node (room_first f) c) = operation_printable f
+definition_printable (room_node (room_second (room_node (room_both w (room_both called (room_both condition (room_both ds s)))) e)) c) =
+    let (are, b) = directives_printable (room_shared ds refl) in
+    let (is, selects, inside, d) = selection_set_printable s in
+    ((leaf_name refl called, type_condition_printable condition, are, is), (selects, inside), omega arith)
+
+definition_within : (n : ℕ) (x : ParseTree) → HasRoom query n (Sym definition_symbol) x
+    → Within (λ d. IsPrintableDefinition d × DefinitionSelects d) definition_brackets n (definition_of x)
+definition_within n x f = let (is, selects, b) = definition_printable f in ((is, selects), b)
+
+-- ---- documents
+
+document_printable : (x : ParseTree) → HasRoom query 50 (Sym document_symbol) x → IsPrintable (document_of x)
+document_printable _ (room_node (room_both {x = x} {y = xs} f fs) c) =
+    let (are, b) = some_printable definition_symbol definition_of (λ d. IsPrintableDefinition d × DefinitionSelects d) definition_brackets definition_within
+    (room_both f fs) in
+    let (names, select) = each_of_both IsPrintableDefinition DefinitionSelects (definition_of x ∷ each_of definition_of xs) are in
+    record { definition = tt; names = names; selections = select; depth = b }
+
+pub items_printable : (i : Items) (d : DocumentTree) → Nests i.tokens 50 Anything → IsDocument i d → IsPrintable d
+items_printable = values.tokens_printable queries refl IsPrintable document_printable
+
+pub printable : (text : List ℕ) (d : DocumentTree) → IsDocumentOf text d → IsPrintable d
+printable = values.text_printable queries refl IsPrintable document_printable

@@ -1,0 +1,5 @@
+use Rattle.graphql_query.proofs.{layout_alike}
+use Rattle.graphql_query.proofs.text_laws.text_has_no_positions.Goals as goal
+
+pub returns : goal.returns
+returns c = layout_alike

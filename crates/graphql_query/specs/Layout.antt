@@ -1,0 +1,140 @@
+-- The layout of a document in a style. A line begins with a margin, a number of spaces.
+use Rattle.std.specs.Prelude.{ℕ, ◌+◌, List, [], ◌++◌, Option, Some, None, codes}
+use Rattle.graphql_core.specs.{name_part, punctuator_part, text_of, Layout, spaces, Part, gap, ValueTree}
+use Rattle.graphql_core.specs.{DirectiveTree, type_layout, arguments_layout, directives_layout, in_levels, in_braces}
+use Rattle.graphql_core.specs.{most, default_layout, in_parentheses, separated}
+use Rattle.graphql_query.specs.Tree.{spread, more, SelectionTree, field, inline, SelectionSetTree, set}
+use Rattle.graphql_query.specs.Tree.{SelectionTrees, none, OperationKind, query_kind, mutation_kind}
+use Rattle.graphql_query.specs.Tree.{subscription_kind, VariableDefinitionTree, OperationTree}
+use Rattle.graphql_query.specs.Tree.{FragmentDefinitionTree, DefinitionTree, short, operation, fragment}
+use Rattle.graphql_query.specs.Tree.{DocumentTree}
+use Rattle.graphql_query.specs.TreeDepth.{selection_depth, selected_depth, selection_set_depth, selections_depth}
+use Rattle.graphql_query.specs.TreeDepth.{variable_definition_depth, variable_definitions_depth, operation_depth_of}
+use Rattle.graphql_query.specs.TreeDepth.{operation_depth, fragment_definition_depth, definition_depth}
+use Rattle.graphql_core.specs.layouts.ValueLayout as values
+
+-- ---- selections
+
+-- an alias with its colon, before a name
+abbrev pub alias_layout : Option (List ℕ) → List Part
+alias_layout None = []
+alias_layout (Some a) = name_part a ++ (punctuator_part (codes ":") ++ gap (codes " "))
+
+-- a type condition
+abbrev pub type_condition_layout : List ℕ → List Part
+type_condition_layout c = name_part (codes "on") ++ (gap (codes " ") ++ name_part c)
+
+-- the optional type condition of an inline fragment
+abbrev pub on_layout : Option (List ℕ) → List Part
+on_layout None = []
+on_layout (Some c) = gap (codes " ") ++ type_condition_layout c
+
+abbrev mutual
+  -- each selection is on separate lines
+  pub selection_layout : Layout → ℕ → SelectionTree → List Part
+  selection_layout style margin (field p alias n arguments ds s) =
+      gap (spaces margin) ++
+      (alias_layout alias ++ (name_part n ++ (arguments_layout style margin arguments ++ (directives_layout style margin ds ++ selected_layout style margin s))))
+  selection_layout style margin (spread p n ds) =
+      gap (spaces margin) ++ (punctuator_part (codes "...") ++ (name_part n ++ (directives_layout style margin ds ++ gap (codes "\n"))))
+  selection_layout style margin (inline p condition ds s) =
+      gap (spaces margin) ++
+      (punctuator_part (codes "...") ++ (on_layout condition ++ (directives_layout style margin ds ++ (gap (codes " ") ++ selection_set_layout style margin s))))
+
+  -- the selection set of a field; without selections it has no braces
+  pub selected_layout : Layout → ℕ → SelectionSetTree → List Part
+  selected_layout style margin (set o c none) = gap (codes "\n")
+  selected_layout style margin (set o c (more s ss)) = gap (codes " ") ++ in_braces margin (selections_layout style (margin + style.indent) (more s ss))
+
+  -- a selection set in braces, its selections one level deeper
+  pub selection_set_layout : Layout → ℕ → SelectionSetTree → List Part
+  selection_set_layout style margin (set o c ss) = in_braces margin (selections_layout style (margin + style.indent) ss)
+
+  pub selections_layout : Layout → ℕ → SelectionTrees → List Part
+  selections_layout style margin none = []
+  selections_layout style margin (more s ss) = selection_layout style margin s ++ selections_layout style margin ss
+
+-- ---- definitions, which have no margin
+
+abbrev pub keyword : OperationKind → List ℕ
+keyword query_kind = codes "query"
+keyword mutation_kind = codes "mutation"
+keyword subscription_kind = codes "subscription"
+
+abbrev pub operation_name_layout : Option (List ℕ) → List Part
+operation_name_layout None = []
+operation_name_layout (Some n) = gap (codes " ") ++ name_part n
+
+abbrev pub variable_definition_layout : Layout → VariableDefinitionTree → List Part
+variable_definition_layout style v = punctuator_part (codes "$")
+    ++ (name_part v.name ++ (punctuator_part (codes ":") ++ (gap (codes " ")
+    ++ (type_layout v.var_type ++ (default_layout style 0 v.default_value ++ directives_layout style 0 v.directives)))))
+
+abbrev pub variable_definitions_layout : Layout → List VariableDefinitionTree → List Part
+variable_definitions_layout style = in_parentheses (variable_definition_layout style)
+
+-- an operation, from its keyword and its parts
+abbrev pub operation_layout_of : Layout → List ℕ → Option (List ℕ) → List VariableDefinitionTree → List DirectiveTree → SelectionSetTree → List Part
+operation_layout_of style word n vs ds s = name_part word
+    ++ (operation_name_layout n
+    ++ (variable_definitions_layout style vs ++ (directives_layout style 0 ds ++ (gap (codes " ") ++ selection_set_layout style 0 s))))
+
+abbrev pub operation_layout : Layout → OperationTree → List Part
+operation_layout style o = operation_layout_of style (keyword o.kind) o.name o.variables o.directives o.selected
+
+abbrev pub fragment_definition_layout : Layout → FragmentDefinitionTree → List Part
+fragment_definition_layout style f =
+    name_part (codes "fragment") ++ (gap (codes " ") ++ (name_part f.name ++ (gap (codes " ") ++ (type_condition_layout f.condition
+    ++ (directives_layout style 0 f.directives ++ (gap (codes " ") ++ selection_set_layout style 0 f.selected))))))
+
+abbrev pub definition_layout : Layout → DefinitionTree → List Part
+definition_layout style (short s) = selection_set_layout style 0 s
+definition_layout style (operation o) = operation_layout style o
+definition_layout style (fragment f) = fragment_definition_layout style f
+
+-- the definitions, with an empty line between two
+abbrev pub document_layout : Layout → DocumentTree → List Part
+document_layout style = separated (definition_layout style)
+
+-- the formatted document
+abbrev pub layout : Layout → DocumentTree → List ℕ
+layout style d = text_of (document_layout style d)
+
+-- ---- levels that are open at once
+
+abbrev pub selection_set_levels : Layout → SelectionSetTree → ℕ
+selection_set_levels style = selection_set_depth (in_levels style)
+
+abbrev pub variable_definition_levels : Layout → VariableDefinitionTree → ℕ
+variable_definition_levels style = variable_definition_depth (in_levels style)
+
+abbrev pub selection_levels : Layout → SelectionTree → ℕ
+selection_levels style = selection_depth (in_levels style)
+
+abbrev pub selected_levels : Layout → SelectionSetTree → ℕ
+selected_levels style = selected_depth (in_levels style)
+
+abbrev pub selections_levels : Layout → SelectionTrees → ℕ
+selections_levels style = selections_depth (in_levels style)
+
+abbrev pub variable_definitions_levels : Layout → List VariableDefinitionTree → ℕ
+variable_definitions_levels style = variable_definitions_depth (in_levels style)
+
+abbrev pub operation_levels_of : Layout → List VariableDefinitionTree → List DirectiveTree → SelectionSetTree → ℕ
+operation_levels_of style = operation_depth_of (in_levels style)
+
+abbrev pub operation_levels : Layout → OperationTree → ℕ
+operation_levels style = operation_depth (in_levels style)
+
+abbrev pub fragment_definition_levels : Layout → FragmentDefinitionTree → ℕ
+fragment_definition_levels style = fragment_definition_depth (in_levels style)
+
+abbrev pub definition_levels : Layout → DefinitionTree → ℕ
+definition_levels style = definition_depth (in_levels style)
+
+abbrev pub levels : Layout → DocumentTree → ℕ
+levels style = most (definition_levels style)
+
+-- the levels open at once take more than `u32::MAX` spaces, even if no line is in the deepest of them
+abbrev pub IsTooWide : Layout → DocumentTree → Type 0
+IsTooWide style d = values.IsTooWide style (levels style d)

@@ -1,0 +1,50 @@
+-- How deep selections and definitions nest, counted with weights.
+use Rattle.std.specs.Prelude.{ℕ, ◌+◌, max, List}
+use Rattle.graphql_core.specs.{DirectiveTree, Weights, most, most_around, default_depth, arguments_depth}
+use Rattle.graphql_core.specs.{directives_depth}
+use Rattle.graphql_query.specs.Tree.{spread, more, SelectionTree, field, inline, SelectionSetTree, set}
+use Rattle.graphql_query.specs.Tree.{SelectionTrees, none, VariableDefinitionTree, OperationTree}
+use Rattle.graphql_query.specs.Tree.{FragmentDefinitionTree, DefinitionTree, short, operation, fragment}
+
+-- ---- selections
+
+abbrev mutual
+  pub selection_depth : Weights → SelectionTree → ℕ
+  selection_depth w (field p alias n arguments ds s) = max (arguments_depth w arguments) (max (directives_depth w ds) (selected_depth w s))
+  selection_depth w (spread p n ds) = directives_depth w ds
+  selection_depth w (inline p condition ds s) = max (directives_depth w ds) (selection_set_depth w s)
+
+  -- a field without selections has no braces
+  pub selected_depth : Weights → SelectionSetTree → ℕ
+  selected_depth w (set o c none) = 0
+  selected_depth w (set o c (more s ss)) = selections_depth w (more s ss) + 1
+
+  -- braces add one level
+  pub selection_set_depth : Weights → SelectionSetTree → ℕ
+  selection_set_depth w (set o c ss) = selections_depth w ss + 1
+
+  pub selections_depth : Weights → SelectionTrees → ℕ
+  selections_depth w none = 0
+  selections_depth w (more s ss) = max (selection_depth w s) (selections_depth w ss)
+
+-- ---- definitions
+
+abbrev pub variable_definition_depth : Weights → VariableDefinitionTree → ℕ
+variable_definition_depth w v = max (w.of_type v.var_type) (max (default_depth w v.default_value) (directives_depth w v.directives))
+
+abbrev pub variable_definitions_depth : Weights → List VariableDefinitionTree → ℕ
+variable_definitions_depth w = most_around w.around_definitions (variable_definition_depth w)
+
+abbrev pub operation_depth_of : Weights → List VariableDefinitionTree → List DirectiveTree → SelectionSetTree → ℕ
+operation_depth_of w vs ds s = max (variable_definitions_depth w vs) (max (directives_depth w ds) (selection_set_depth w s))
+
+abbrev pub operation_depth : Weights → OperationTree → ℕ
+operation_depth w o = operation_depth_of w o.variables o.directives o.selected
+
+abbrev pub fragment_definition_depth : Weights → FragmentDefinitionTree → ℕ
+fragment_definition_depth w f = max (directives_depth w f.directives) (selection_set_depth w f.selected)
+
+abbrev pub definition_depth : Weights → DefinitionTree → ℕ
+definition_depth w (short s) = selection_set_depth w s
+definition_depth w (operation o) = operation_depth w o
+definition_depth w (fragment f) = fragment_definition_depth w f

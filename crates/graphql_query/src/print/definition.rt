@@ -1,0 +1,103 @@
+//! Formatting fragments, definitions and documents.
+ghost use Rattle.graphql_query.specs.{IsLawfulFragment, IsLawfulDefinition, IsLawfulDocument};
+ghost use Rattle.graphql_query.specs.{fragment_definition_layout, definition_layout, document_layout};
+ghost use Rattle.graphql_query.specs.{fragment_definition_levels, definition_levels, levels};
+ghost use Rattle.graphql_query.specs.{fragment_definition_view, operation_view, definition_view, document_view};
+
+use crate::print::selection::{write_selection_set, write_type_condition};
+use crate::tree::{Definition, Document, FragmentDefinition, OperationDefinition};
+use graphql_core::common::Names;
+use graphql_core::format::print::{
+    Pretty, levels_in_directives, levels_in_each, write_directives, write_joined,
+};
+use graphql_core::format::{Sink, Style};
+
+/// An operation, in short form or with a keyword.
+impl<N: Names> Pretty for OperationDefinition<N> {
+    ghost lines = { λ style _ o. definition_layout style (operation_view N.bytes o) };
+
+    ghost opens = { λ style o. definition_levels style (operation_view N.bytes o) };
+
+    ghost lawful = { λ o. IsLawfulDefinition (operation_view N.bytes o) };
+
+    fn levels(&self, style: &Style) -> usize {
+        match self {
+            OperationDefinition::SelectionSet(set) => set.levels(style),
+            OperationDefinition::Query(query) => query.levels(style),
+            OperationDefinition::Mutation(mutation) => mutation.levels(style),
+            OperationDefinition::Subscription(subscription) => subscription.levels(style),
+        }
+    }
+
+    fn write<S: Sink>(&self, out: &mut S, style: &Style, margin: usize) -> Result<(), S::Error> {
+        match self {
+            OperationDefinition::SelectionSet(set) => write_selection_set(out, set, style, 0),
+            OperationDefinition::Query(query) => query.write(out, style, margin),
+            OperationDefinition::Mutation(mutation) => mutation.write(out, style, margin),
+            OperationDefinition::Subscription(subscription) => {
+                subscription.write(out, style, margin)
+            }
+        }
+    }
+}
+
+impl<N: Names> Pretty for FragmentDefinition<N> {
+    ghost lines = { λ style _ f. fragment_definition_layout style (fragment_definition_view N.bytes f) };
+
+    ghost opens = { λ style f. fragment_definition_levels style (fragment_definition_view N.bytes f) };
+
+    ghost lawful = { λ f. IsLawfulFragment (fragment_definition_view N.bytes f) };
+
+    fn levels(&self, style: &Style) -> usize {
+        levels_in_directives(&self.directives, style).max(self.selection_set.levels(style))
+    }
+
+    fn write<S: Sink>(&self, out: &mut S, style: &Style, _margin: usize) -> Result<(), S::Error> {
+        out.push_str("fragment ")?;
+        out.push_str(N::view(&self.name))?;
+        out.push_str(" ")?;
+        write_type_condition(out, &self.type_condition)?;
+        write_directives(out, &self.directives, style, 0)?;
+        out.push_str(" ")?;
+        write_selection_set(out, &self.selection_set, style, 0)
+    }
+}
+
+impl<N: Names> Pretty for Definition<N> {
+    ghost lines = { λ style _ d. definition_layout style (definition_view N.bytes d) };
+
+    ghost opens = { λ style d. definition_levels style (definition_view N.bytes d) };
+
+    ghost lawful = { λ d. IsLawfulDefinition (definition_view N.bytes d) };
+
+    fn levels(&self, style: &Style) -> usize {
+        match self {
+            Definition::Operation(operation) => operation.levels(style),
+            Definition::Fragment(fragment) => fragment.levels(style),
+        }
+    }
+
+    fn write<S: Sink>(&self, out: &mut S, style: &Style, margin: usize) -> Result<(), S::Error> {
+        match self {
+            Definition::Operation(operation) => operation.write(out, style, margin),
+            Definition::Fragment(fragment) => fragment.write(out, style, margin),
+        }
+    }
+}
+
+/// A document: its definitions, with an empty line between two.
+impl<N: Names> Pretty for Document<N> {
+    ghost lines = { λ style _ d. document_layout style (document_view N.bytes d) };
+
+    ghost opens = { λ style d. levels style (document_view N.bytes d) };
+
+    ghost lawful = { λ d. IsLawfulDocument (document_view N.bytes d) };
+
+    fn levels(&self, style: &Style) -> usize {
+        levels_in_each(&self.definitions, style)
+    }
+
+    fn write<S: Sink>(&self, out: &mut S, style: &Style, _margin: usize) -> Result<(), S::Error> {
+        write_joined(out, "\n", &self.definitions, style, 0)
+    }
+}

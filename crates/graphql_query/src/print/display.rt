@@ -1,0 +1,218 @@
+//! `Display` of the trees: formatted in the default style, and an error if that is too wide.
+ghost use Rattle.std.specs.Prelude.{Some, OnOk};
+ghost use Rattle.graphql_core.specs.{text_of, default_style, IsNarrow};
+ghost use Rattle.std.specs.Fmt.{DisplaysOnOk, DisplaysStyledOnOk};
+ghost use Rattle.graphql_query.specs.{fragment_spread_view, field_view, inline_fragment_view, selection_set_view};
+ghost use Rattle.graphql_query.specs.{type_condition_view, variable_definition_view, query_view, mutation_view};
+ghost use Rattle.graphql_query.specs.{subscription_view, fragment_definition_view, operation_view, definition_view};
+ghost use Rattle.graphql_query.specs.{document_view, selection_layout, selection_set_layout, type_condition_layout};
+ghost use Rattle.graphql_query.specs.{variable_definition_layout, operation_layout, fragment_definition_layout};
+ghost use Rattle.graphql_query.specs.{definition_layout, layout, selection_levels, selection_set_levels};
+ghost use Rattle.graphql_query.specs.{variable_definition_levels, operation_levels, fragment_definition_levels};
+ghost use Rattle.graphql_query.specs.{definition_levels, levels};
+
+use crate::print::selection::write_type_condition;
+use crate::tree::{
+    Definition, Document, Field, FragmentDefinition, FragmentSpread, InlineFragment, Mutation,
+    OperationDefinition, Query, SelectionSet, Subscription, TypeCondition, VariableDefinition,
+};
+use graphql_core::common::Names;
+use graphql_core::format::print::fmt_in_default_style;
+use std::fmt;
+
+impl<N: Names> fmt::Display for Document<N> {
+    ghost output = { λ t. Some (layout default_style (document_view N.bytes t)) };
+
+    ghost styled_output = { λ t spec. Some (layout default_style (document_view N.bytes t)) };
+
+    fn fmt<W: fmt::Write>(&self, f: &mut fmt::Formatter<W>) -> fmt::Result
+        ensures writes { DisplaysOnOk W.write_str_gives f.old result (Some (layout default_style (document_view N.bytes self.now))) f.new }
+        ensures styled { DisplaysStyledOnOk W.write_str_gives f.old result (Some (layout default_style (document_view N.bytes self.now))) f.new }
+        ensures narrow { OnOk result (IsNarrow (levels default_style (document_view N.bytes self.now))) }
+    {
+        fmt_in_default_style(self, f)
+    }
+}
+
+impl<N: Names> fmt::Display for Definition<N> {
+    ghost output = { λ t. Some (text_of (definition_layout default_style (definition_view N.bytes t))) };
+
+    ghost styled_output = { λ t spec. Some (text_of (definition_layout default_style (definition_view N.bytes t))) };
+
+    fn fmt<W: fmt::Write>(&self, f: &mut fmt::Formatter<W>) -> fmt::Result
+        ensures writes { DisplaysOnOk W.write_str_gives f.old result (Some (text_of (definition_layout default_style (definition_view N.bytes self.now))))
+            f.new }
+        ensures styled { DisplaysStyledOnOk W.write_str_gives f.old result
+            (Some (text_of (definition_layout default_style (definition_view N.bytes self.now)))) f.new }
+        ensures narrow { OnOk result (IsNarrow (definition_levels default_style (definition_view N.bytes self.now))) }
+    {
+        fmt_in_default_style(self, f)
+    }
+}
+
+impl<N: Names> fmt::Display for OperationDefinition<N> {
+    ghost output = { λ t. Some (text_of (definition_layout default_style (operation_view N.bytes t))) };
+
+    ghost styled_output = { λ t spec. Some (text_of (definition_layout default_style (operation_view N.bytes t))) };
+
+    fn fmt<W: fmt::Write>(&self, f: &mut fmt::Formatter<W>) -> fmt::Result
+        ensures writes { DisplaysOnOk W.write_str_gives f.old result (Some (text_of (definition_layout default_style (operation_view N.bytes self.now))))
+            f.new }
+        ensures styled { DisplaysStyledOnOk W.write_str_gives f.old result
+            (Some (text_of (definition_layout default_style (operation_view N.bytes self.now)))) f.new }
+        ensures narrow { OnOk result (IsNarrow (definition_levels default_style (operation_view N.bytes self.now))) }
+    {
+        fmt_in_default_style(self, f)
+    }
+}
+
+impl<N: Names> fmt::Display for FragmentDefinition<N> {
+    ghost output = { λ t. Some (text_of (fragment_definition_layout default_style (fragment_definition_view N.bytes t))) };
+
+    ghost styled_output = { λ t spec. Some (text_of (fragment_definition_layout default_style (fragment_definition_view N.bytes t))) };
+
+    fn fmt<W: fmt::Write>(&self, f: &mut fmt::Formatter<W>) -> fmt::Result
+        ensures writes { DisplaysOnOk W.write_str_gives f.old result
+            (Some (text_of (fragment_definition_layout default_style (fragment_definition_view N.bytes self.now)))) f.new }
+        ensures styled { DisplaysStyledOnOk W.write_str_gives f.old result
+            (Some (text_of (fragment_definition_layout default_style (fragment_definition_view N.bytes self.now)))) f.new }
+        ensures narrow { OnOk result (IsNarrow (fragment_definition_levels default_style (fragment_definition_view N.bytes self.now))) }
+    {
+        fmt_in_default_style(self, f)
+    }
+}
+
+impl<N: Names> fmt::Display for Query<N> {
+    ghost output = { λ t. Some (text_of (operation_layout default_style (query_view N.bytes t))) };
+
+    ghost styled_output = { λ t spec. Some (text_of (operation_layout default_style (query_view N.bytes t))) };
+
+    fn fmt<W: fmt::Write>(&self, f: &mut fmt::Formatter<W>) -> fmt::Result
+        ensures writes { DisplaysOnOk W.write_str_gives f.old result (Some (text_of (operation_layout default_style (query_view N.bytes self.now)))) f.new }
+        ensures styled { DisplaysStyledOnOk W.write_str_gives f.old result
+            (Some (text_of (operation_layout default_style (query_view N.bytes self.now)))) f.new }
+        ensures narrow { OnOk result (IsNarrow (operation_levels default_style (query_view N.bytes self.now))) }
+    {
+        fmt_in_default_style(self, f)
+    }
+}
+
+impl<N: Names> fmt::Display for Mutation<N> {
+    ghost output = { λ t. Some (text_of (operation_layout default_style (mutation_view N.bytes t))) };
+
+    ghost styled_output = { λ t spec. Some (text_of (operation_layout default_style (mutation_view N.bytes t))) };
+
+    fn fmt<W: fmt::Write>(&self, f: &mut fmt::Formatter<W>) -> fmt::Result
+        ensures writes { DisplaysOnOk W.write_str_gives f.old result (Some (text_of (operation_layout default_style (mutation_view N.bytes self.now)))) f.new }
+        ensures styled { DisplaysStyledOnOk W.write_str_gives f.old result
+            (Some (text_of (operation_layout default_style (mutation_view N.bytes self.now)))) f.new }
+        ensures narrow { OnOk result (IsNarrow (operation_levels default_style (mutation_view N.bytes self.now))) }
+    {
+        fmt_in_default_style(self, f)
+    }
+}
+
+impl<N: Names> fmt::Display for Subscription<N> {
+    ghost output = { λ t. Some (text_of (operation_layout default_style (subscription_view N.bytes t))) };
+
+    ghost styled_output = { λ t spec. Some (text_of (operation_layout default_style (subscription_view N.bytes t))) };
+
+    fn fmt<W: fmt::Write>(&self, f: &mut fmt::Formatter<W>) -> fmt::Result
+        ensures writes { DisplaysOnOk W.write_str_gives f.old result (Some (text_of (operation_layout default_style (subscription_view N.bytes self.now))))
+            f.new }
+        ensures styled { DisplaysStyledOnOk W.write_str_gives f.old result
+            (Some (text_of (operation_layout default_style (subscription_view N.bytes self.now)))) f.new }
+        ensures narrow { OnOk result (IsNarrow (operation_levels default_style (subscription_view N.bytes self.now))) }
+    {
+        fmt_in_default_style(self, f)
+    }
+}
+
+impl<N: Names> fmt::Display for VariableDefinition<N> {
+    ghost output = { λ t. Some (text_of (variable_definition_layout default_style (variable_definition_view N.bytes t))) };
+
+    ghost styled_output = { λ t spec. Some (text_of (variable_definition_layout default_style (variable_definition_view N.bytes t))) };
+
+    fn fmt<W: fmt::Write>(&self, f: &mut fmt::Formatter<W>) -> fmt::Result
+        ensures writes { DisplaysOnOk W.write_str_gives f.old result
+            (Some (text_of (variable_definition_layout default_style (variable_definition_view N.bytes self.now)))) f.new }
+        ensures styled { DisplaysStyledOnOk W.write_str_gives f.old result
+            (Some (text_of (variable_definition_layout default_style (variable_definition_view N.bytes self.now)))) f.new }
+        ensures narrow { OnOk result (IsNarrow (variable_definition_levels default_style (variable_definition_view N.bytes self.now))) }
+    {
+        fmt_in_default_style(self, f)
+    }
+}
+
+impl<N: Names> fmt::Display for SelectionSet<N> {
+    ghost output = { λ t. Some (text_of (selection_set_layout default_style 0 (selection_set_view N.bytes t))) };
+
+    ghost styled_output = { λ t spec. Some (text_of (selection_set_layout default_style 0 (selection_set_view N.bytes t))) };
+
+    fn fmt<W: fmt::Write>(&self, f: &mut fmt::Formatter<W>) -> fmt::Result
+        ensures writes { DisplaysOnOk W.write_str_gives f.old result
+            (Some (text_of (selection_set_layout default_style 0 (selection_set_view N.bytes self.now)))) f.new }
+        ensures styled { DisplaysStyledOnOk W.write_str_gives f.old result
+            (Some (text_of (selection_set_layout default_style 0 (selection_set_view N.bytes self.now)))) f.new }
+        ensures narrow { OnOk result (IsNarrow (selection_set_levels default_style (selection_set_view N.bytes self.now))) }
+    {
+        fmt_in_default_style(self, f)
+    }
+}
+
+impl<N: Names> fmt::Display for Field<N> {
+    ghost output = { λ t. Some (text_of (selection_layout default_style 0 (field_view N.bytes t))) };
+
+    ghost styled_output = { λ t spec. Some (text_of (selection_layout default_style 0 (field_view N.bytes t))) };
+
+    fn fmt<W: fmt::Write>(&self, f: &mut fmt::Formatter<W>) -> fmt::Result
+        ensures writes { DisplaysOnOk W.write_str_gives f.old result (Some (text_of (selection_layout default_style 0 (field_view N.bytes self.now)))) f.new }
+        ensures styled { DisplaysStyledOnOk W.write_str_gives f.old result
+            (Some (text_of (selection_layout default_style 0 (field_view N.bytes self.now)))) f.new }
+        ensures narrow { OnOk result (IsNarrow (selection_levels default_style (field_view N.bytes self.now))) }
+    {
+        fmt_in_default_style(self, f)
+    }
+}
+
+impl<N: Names> fmt::Display for FragmentSpread<N> {
+    ghost output = { λ t. Some (text_of (selection_layout default_style 0 (fragment_spread_view N.bytes t))) };
+
+    ghost styled_output = { λ t spec. Some (text_of (selection_layout default_style 0 (fragment_spread_view N.bytes t))) };
+
+    fn fmt<W: fmt::Write>(&self, f: &mut fmt::Formatter<W>) -> fmt::Result
+        ensures writes { DisplaysOnOk W.write_str_gives f.old result
+            (Some (text_of (selection_layout default_style 0 (fragment_spread_view N.bytes self.now)))) f.new }
+        ensures styled { DisplaysStyledOnOk W.write_str_gives f.old result
+            (Some (text_of (selection_layout default_style 0 (fragment_spread_view N.bytes self.now)))) f.new }
+        ensures narrow { OnOk result (IsNarrow (selection_levels default_style (fragment_spread_view N.bytes self.now))) }
+    {
+        fmt_in_default_style(self, f)
+    }
+}
+
+impl<N: Names> fmt::Display for InlineFragment<N> {
+    ghost output = { λ t. Some (text_of (selection_layout default_style 0 (inline_fragment_view N.bytes t))) };
+
+    ghost styled_output = { λ t spec. Some (text_of (selection_layout default_style 0 (inline_fragment_view N.bytes t))) };
+
+    fn fmt<W: fmt::Write>(&self, f: &mut fmt::Formatter<W>) -> fmt::Result
+        ensures writes { DisplaysOnOk W.write_str_gives f.old result
+            (Some (text_of (selection_layout default_style 0 (inline_fragment_view N.bytes self.now)))) f.new }
+        ensures styled { DisplaysStyledOnOk W.write_str_gives f.old result
+            (Some (text_of (selection_layout default_style 0 (inline_fragment_view N.bytes self.now)))) f.new }
+        ensures narrow { OnOk result (IsNarrow (selection_levels default_style (inline_fragment_view N.bytes self.now))) }
+    {
+        fmt_in_default_style(self, f)
+    }
+}
+
+impl<N: Names> fmt::Display for TypeCondition<N> {
+    ghost output = { λ t. Some (text_of (type_condition_layout (type_condition_view N.bytes t))) };
+
+    ghost styled_output = { λ t spec. Some (text_of (type_condition_layout (type_condition_view N.bytes t))) };
+
+    fn fmt<W: fmt::Write>(&self, f: &mut fmt::Formatter<W>) -> fmt::Result {
+        write_type_condition(f, self)
+    }
+}

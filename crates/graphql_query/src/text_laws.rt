@@ -1,0 +1,34 @@
+//! Theorems about the specification of formatting.
+ghost use Rattle.std.specs.Prelude.{◌≡◌};
+ghost use Rattle.graphql_core.specs.{deepest, Layout, most, AreReadBack};
+ghost use Rattle.graphql_query.specs.{DocumentTree, erase, queries, IsLawfulDocument, document_layout, layout};
+ghost use Rattle.graphql_query.specs.{IsPrintable, definition_brackets};
+ghost use Rattle.graphql_query.specs.Examples as example;
+
+/// The documents of some small inputs, and how these documents are formatted.
+pub fn worked_examples()
+    ensures nested { example.Nested }
+    ensures two_definitions { example.TwoDefinitions }
+    ensures comment_return_feed { example.CommentReturnFeed }
+    ensures comment_return { example.CommentReturn }
+    ensures byte_order_mark { example.ByteOrderMark }
+    ensures named { example.Named }
+    ensures nested_layout { example.NestedLayout }
+    ensures two_definitions_layout { example.TwoDefinitionsLayout }
+    ensures named_layout { example.NamedLayout }
+{}
+
+/// The bracket depth counted on a document is the bracket depth of its layout, in every style.
+pub fn brackets_are_those_of_the_layout()
+    ensures { (style : Layout) (d : DocumentTree) → deepest (document_layout style d) ≡ most definition_brackets d }
+{}
+
+/// The layout of a document does not depend on its positions.
+pub fn text_has_no_positions()
+    ensures { (style : Layout) (d : DocumentTree) → layout style (erase d) ≡ layout style d }
+{}
+
+/// The layout of a printable document parses back to the document, ignoring positions.
+pub fn printed_documents_are_read_back()
+    ensures { AreReadBack queries layout (λ d. IsPrintable d × IsLawfulDocument d) }
+{}

@@ -1,6 +1,0 @@
-use Rattle.graphql_values.proofs.{deepest_is}
-use Rattle.graphql_query_tree.proofs.{document_rises}
-use Rattle.graphql_query_tree.proofs.laws.brackets_are_those_of_the_layout.Goals as goal
-
-pub returns : goal.returns
-returns c style d = deepest_is (document_rises style d)

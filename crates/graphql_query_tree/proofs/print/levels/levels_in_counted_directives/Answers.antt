@@ -1,7 +1,0 @@
-use Rattle.std.proofs.Common.{arith}
-use Rattle.graphql_values.specs.{directives_view}
-use Rattle.graphql_query_tree.proofs.{no_directives}
-use Rattle.graphql_query_tree.proofs.print.levels.levels_in_counted_directives.Goals as goal
-
-pub returns-then-not-this : goal.returns-then-not-this
-returns-then-not-this g c = rw c.if-not-this.true (omega (arith, no_directives (directives_view g.N.Names.bytes c.args.directives.now)))

@@ -1,0 +1,10 @@
+use Rattle.std.proofs.Common.{◌∙◌, sym, refl}
+use Rattle.graphql_core.proofs.{and_last, some_items}
+use Rattle.graphql_schema.proofs.{some_members}
+use Rattle.graphql_schema.proofs.print.names.write_members.Goals as goal
+
+pub returns : goal.returns
+returns g c =
+    let some = some_items _ c.args.types.now refl (sym c.is_empty.ensures ∙ c.if-is_empty.false) in
+    and_last g.S.Sink.took g.met.S.Sink.took_more _ _ _ _ _ _ _ c.in_ok-write_between.ensures c.write_joined_names.ensures
+    (some_members g.N.Names.bytes c.args.types.now some)

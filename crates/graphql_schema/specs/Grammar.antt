@@ -1,0 +1,337 @@
+-- The grammar of schema documents, as written, and the equivalent rules that the parser follows.
+use Rattle.std.specs.Prelude.{ℕ, zero, suc, ◌+◌, Bool, true, not, ◌&&◌, ◌==◌, if◌then◌else◌, codes, List, [], ◌∷◌, ◌++◌, drop, replicate, is_some}
+use Rattle.graphql_core.specs.{is_row, out_of_head, out_of_sides, Token, Class, Except, matches, Expr, One, Then}
+use Rattle.graphql_core.specs.{Either, Many, Sym, ParseTree, Nothing, Leaf, Both, First, Second, Stop, More, Node, Row}
+use Rattle.graphql_core.specs.{optional, some_of, solve, with_tables, Change, unchanged, type_symbol}
+use Rattle.graphql_core.specs.{directives_symbol, directive_symbol, default_symbol, shared_symbols, punctuator, word}
+use Rattle.graphql_core.specs.{any, location_class, sample, Grammar, name}
+use Rattle.graphql_core.specs.declared.tokenizer.token.Kind.TheVariants.{Punctuator, Name, StringValue, BlockString}
+use Rattle.graphql_schema.specs.Locations.{is_location}
+use Rattle.graphql_schema.specs.Tree.{extends}
+use Rattle.graphql_schema.specs.Meanings.{extension_of}
+use Rattle.graphql_schema.specs.Roots.{root_fault_of, extension_fault_of}
+use Rattle.graphql_core.specs.values.Leaves as leaves
+use Rattle.graphql_core.specs.values.Grammar as shared
+
+-- ---- the symbols, after those of values, types and directives
+
+abbrev pub document_symbol : ℕ
+document_symbol = shared_symbols
+
+abbrev pub item_symbol : ℕ
+item_symbol = 12
+
+abbrev pub schema_symbol : ℕ
+schema_symbol = 13
+
+abbrev pub root_type_symbol : ℕ
+root_type_symbol = 14
+
+abbrev pub extension_symbol : ℕ
+extension_symbol = 15
+
+abbrev pub described_symbol : ℕ
+described_symbol = 16
+
+abbrev pub description_symbol : ℕ
+description_symbol = 17
+
+abbrev pub type_body_symbol : ℕ
+type_body_symbol = 18
+
+abbrev pub scalar_symbol : ℕ
+scalar_symbol = 19
+
+abbrev pub object_symbol : ℕ
+object_symbol = 20
+
+abbrev pub interface_symbol : ℕ
+interface_symbol = 21
+
+abbrev pub implements_symbol : ℕ
+implements_symbol = 22
+
+abbrev pub fields_symbol : ℕ
+fields_symbol = 23
+
+abbrev pub field_symbol : ℕ
+field_symbol = 24
+
+abbrev pub argument_definitions_symbol : ℕ
+argument_definitions_symbol = 25
+
+abbrev pub input_value_symbol : ℕ
+input_value_symbol = 26
+
+abbrev pub union_symbol : ℕ
+union_symbol = 27
+
+abbrev pub members_symbol : ℕ
+members_symbol = 28
+
+abbrev pub enum_symbol : ℕ
+enum_symbol = 29
+
+abbrev pub enum_values_symbol : ℕ
+enum_values_symbol = 30
+
+abbrev pub enum_value_symbol : ℕ
+enum_value_symbol = 31
+
+abbrev pub input_symbol : ℕ
+input_symbol = 32
+
+abbrev pub input_fields_symbol : ℕ
+input_fields_symbol = 33
+
+abbrev pub directive_definition_symbol : ℕ
+directive_definition_symbol = 34
+
+abbrev pub locations_symbol : ℕ
+locations_symbol = 35
+
+abbrev pub location_symbol : ℕ
+location_symbol = 36
+
+abbrev pub schema_extension_symbol : ℕ
+schema_extension_symbol = 37
+
+abbrev pub roots_symbol : ℕ
+roots_symbol = 38
+
+-- ---- single tokens
+
+-- a token has a value as a leaf of this class; a location has one if its name is a directive location
+abbrev pub is_good : Class → Token → Bool
+is_good (Except k []) t = is_location t.spelling
+is_good c t = leaves.is_good c t
+
+-- ---- the productions
+
+-- SchemaDocument = SchemaItem+
+abbrev pub document_rule : Expr
+document_rule = some_of (Sym item_symbol)
+
+-- SchemaItem = Description? Schema | Extension | Described
+abbrev pub item_rule : Expr
+item_rule = Either (Then (optional (Sym description_symbol)) (Sym schema_symbol)) (Either (Sym extension_symbol) (Sym described_symbol))
+
+-- Schema = "schema" Directives "{" RootType* "}"
+abbrev pub schema_rule : Expr
+schema_rule =
+    Then (word (codes "schema")) (Then (Sym directives_symbol) (Then (punctuator (codes "{")) (Then (Many (Sym root_type_symbol)) (punctuator (codes "}")))))
+
+-- RootType = Name ":" Name
+abbrev pub root_type_rule : Expr
+root_type_rule = Then name (Then (punctuator (codes ":")) name)
+
+-- Extension = "extend" TypeBody | "extend" SchemaExt
+abbrev pub extension_rule : Expr
+extension_rule = Either (Then (word (codes "extend")) (Sym type_body_symbol)) (Then (word (codes "extend")) (Sym schema_extension_symbol))
+
+-- SchemaExt = "schema" Directives Roots?
+abbrev pub schema_extension_rule : Expr
+schema_extension_rule = Then (word (codes "schema")) (Then (Sym directives_symbol) (optional (Sym roots_symbol)))
+
+-- Roots = "{" RootType+ "}"
+abbrev pub roots_rule : Expr
+roots_rule = Then (punctuator (codes "{")) (Then (some_of (Sym root_type_symbol)) (punctuator (codes "}")))
+
+-- Described = Description? TypeBody | Description? DirectiveDef
+abbrev pub described_rule : Expr
+described_rule =
+    Either (Then (optional (Sym description_symbol)) (Sym type_body_symbol))
+    (Then (optional (Sym description_symbol)) (Sym directive_definition_symbol))
+
+-- Description = String | Block
+abbrev pub description_rule : Expr
+description_rule = Either (One (any StringValue)) (One (any BlockString))
+
+-- TypeBody = Scalar | Object | Interface | Union | Enum | Input
+abbrev pub type_body_rule : Expr
+type_body_rule =
+    Either (Sym scalar_symbol) (Either (Sym object_symbol) (Either (Sym interface_symbol)
+    (Either (Sym union_symbol) (Either (Sym enum_symbol) (Sym input_symbol)))))
+
+-- Scalar = "scalar" Name Directives
+abbrev pub scalar_rule : Expr
+scalar_rule = Then (word (codes "scalar")) (Then name (Sym directives_symbol))
+
+-- Object = "type" Name Implements? Directives Fields?
+abbrev pub object_rule : Expr
+object_rule = Then (word (codes "type")) (Then name (Then (optional (Sym implements_symbol)) (Then (Sym directives_symbol) (optional (Sym fields_symbol)))))
+
+-- Interface = "interface" Name Implements? Directives Fields?
+abbrev pub interface_rule : Expr
+interface_rule =
+    Then (word (codes "interface")) (Then name (Then (optional (Sym implements_symbol)) (Then (Sym directives_symbol) (optional (Sym fields_symbol)))))
+
+-- an expression, once or more, separated by a punctuator, which can also precede the first
+abbrev pub joined_by : List ℕ → Expr → Expr
+joined_by s e = Then (optional (punctuator s)) (Then e (Many (Then (punctuator s) e)))
+
+-- Implements = "implements" "&"? Name ("&" Name)*
+abbrev pub implements_rule : Expr
+implements_rule = Then (word (codes "implements")) (joined_by (codes "&") name)
+
+-- Fields = "{" FieldDef+ "}"
+abbrev pub fields_rule : Expr
+fields_rule = Then (punctuator (codes "{")) (Then (some_of (Sym field_symbol)) (punctuator (codes "}")))
+
+-- FieldDef = Description? Name ArgumentDefs? ":" Type Directives
+abbrev pub field_rule : Expr
+field_rule =
+    Then (optional (Sym description_symbol)) (Then name (Then (optional (Sym argument_definitions_symbol))
+    (Then (punctuator (codes ":")) (Then (Sym type_symbol) (Sym directives_symbol)))))
+
+-- ArgumentDefs = "(" InputValue+ ")"
+abbrev pub argument_definitions_rule : Expr
+argument_definitions_rule = Then (punctuator (codes "(")) (Then (some_of (Sym input_value_symbol)) (punctuator (codes ")")))
+
+-- InputValue = Description? Name ":" Type Default? Directives
+abbrev pub input_value_rule : Expr
+input_value_rule =
+    Then (optional (Sym description_symbol)) (Then name (Then (punctuator (codes ":")) (Then (Sym type_symbol)
+    (Then (optional (Sym default_symbol)) (Sym directives_symbol)))))
+
+-- Union = "union" Name Directives Members?
+abbrev pub union_rule : Expr
+union_rule = Then (word (codes "union")) (Then name (Then (Sym directives_symbol) (optional (Sym members_symbol))))
+
+-- Members = "=" "|"? Name ("|" Name)*
+abbrev pub members_rule : Expr
+members_rule = Then (punctuator (codes "=")) (joined_by (codes "|") name)
+
+-- Enum = "enum" Name Directives EnumValues?
+abbrev pub enum_rule : Expr
+enum_rule = Then (word (codes "enum")) (Then name (Then (Sym directives_symbol) (optional (Sym enum_values_symbol))))
+
+-- EnumValues = "{" EnumValue+ "}"
+abbrev pub enum_values_rule : Expr
+enum_values_rule = Then (punctuator (codes "{")) (Then (some_of (Sym enum_value_symbol)) (punctuator (codes "}")))
+
+-- EnumValue = Description? Name Directives
+abbrev pub enum_value_rule : Expr
+enum_value_rule = Then (optional (Sym description_symbol)) (Then name (Sym directives_symbol))
+
+-- Input = "input" Name Directives InputFields?
+abbrev pub input_rule : Expr
+input_rule = Then (word (codes "input")) (Then name (Then (Sym directives_symbol) (optional (Sym input_fields_symbol))))
+
+-- InputFields = "{" InputValue+ "}"
+abbrev pub input_fields_rule : Expr
+input_fields_rule = Then (punctuator (codes "{")) (Then (some_of (Sym input_value_symbol)) (punctuator (codes "}")))
+
+-- DirectiveDef = "directive" "@" Name ArgumentDefs? "repeatable"? "on" Locations
+abbrev pub directive_definition_rule : Expr
+directive_definition_rule =
+    Then (word (codes "directive")) (Then (punctuator (codes "@")) (Then name (Then (optional (Sym argument_definitions_symbol))
+    (Then (optional (word (codes "repeatable"))) (Then (word (codes "on")) (Sym locations_symbol))))))
+
+-- Locations = "|"? Location ("|" Location)*
+abbrev pub locations_rule : Expr
+locations_rule = joined_by (codes "|") (Sym location_symbol)
+
+-- Location = Name
+abbrev pub location_rule : Expr
+location_rule = One location_class
+
+abbrev pub rules : List Expr
+rules =
+    document_rule ∷ item_rule ∷ schema_rule ∷ root_type_rule ∷ extension_rule ∷ described_rule ∷ description_rule ∷ type_body_rule
+    ∷ scalar_rule ∷ object_rule ∷ interface_rule ∷ implements_rule ∷ fields_rule ∷ field_rule ∷ argument_definitions_rule ∷ input_value_rule
+    ∷ union_rule ∷ members_rule ∷ enum_rule ∷ enum_values_rule ∷ enum_value_rule ∷ input_rule ∷ input_fields_rule
+    ∷ directive_definition_rule ∷ locations_rule ∷ location_rule ∷ schema_extension_rule ∷ roots_rule ∷ []
+
+-- ---- checks of nodes
+
+-- which nodes of a symbol are accepted
+abbrev pub passes : ℕ → ParseTree → Bool
+passes k x =
+    if k == schema_symbol then not (is_some (root_fault_of x))
+    else if k == extension_symbol then extends (extension_of (Node k x))
+    else if k == schema_extension_symbol then not (is_some (extension_fault_of x))
+    else true
+
+-- ---- the grammar
+
+abbrev pub samples : List Token
+samples =
+    shared.samples
+    ++ sample Name (codes "schema") ∷ sample Name (codes "extend") ∷ sample Name (codes "scalar") ∷ sample Name (codes "type")
+    ∷ sample Name (codes "interface") ∷ sample Name (codes "implements") ∷ sample Name (codes "union") ∷ sample Name (codes "enum")
+    ∷ sample Name (codes "input") ∷ sample Name (codes "directive") ∷ sample Name (codes "repeatable") ∷ sample Name (codes "on")
+    ∷ sample Name (codes "FIELD") ∷ sample Punctuator (codes "&") ∷ sample Punctuator (codes "|") ∷ []
+
+-- the written grammar
+abbrev pub schema_grammar : Grammar
+schema_grammar = record { rows = shared.rows ++ with_tables rules []; good = is_good; check = passes; samples = samples }
+
+-- ---- second rules, for a parser with one token of lookahead
+
+-- an optional description and then a schema, a type or a directive definition; or an extension
+abbrev pub item_second : Expr
+item_second =
+    Either (Then (optional (Sym description_symbol)) (Either (Sym schema_symbol) (Either (Sym type_body_symbol) (Sym directive_definition_symbol))))
+    (Sym extension_symbol)
+
+-- `extend`, and then a type or an extension of the schema
+abbrev pub extension_second : Expr
+extension_second = Then (word (codes "extend")) (Either (Sym type_body_symbol) (Sym schema_extension_symbol))
+
+-- an optional description, and then a type or a directive definition
+abbrev pub described_second : Expr
+described_second = Then (optional (Sym description_symbol)) (Either (Sym type_body_symbol) (Sym directive_definition_symbol))
+
+abbrev pub second_rules : List Expr
+second_rules =
+    document_rule ∷ item_second ∷ schema_rule ∷ root_type_rule ∷ extension_second ∷ described_second ∷ description_rule ∷ type_body_rule
+    ∷ scalar_rule ∷ object_rule ∷ interface_rule ∷ implements_rule ∷ fields_rule ∷ field_rule ∷ argument_definitions_rule ∷ input_value_rule
+    ∷ union_rule ∷ members_rule ∷ enum_rule ∷ enum_values_rule ∷ enum_value_rule ∷ input_rule ∷ input_fields_rule
+    ∷ directive_definition_rule ∷ locations_rule ∷ location_rule ∷ schema_extension_rule ∷ roots_rule ∷ []
+
+-- `extend scalar a @a`: the parse tree of an accepted extension
+abbrev pub least_extension : ParseTree
+least_extension =
+    Both (Leaf (sample Name (codes "extend")))
+    (First (Node type_body_symbol (First (Node scalar_symbol (Both (Leaf (sample Name (codes "scalar"))) (Both (Leaf (sample Name (codes "a")))
+    (Node directives_symbol (More (Node directive_symbol (Both (Leaf (sample Punctuator (codes "@")))
+    (Both (Leaf (sample Name (codes "a"))) (Second Nothing)))) Stop))))))))
+
+-- `schema`: the parse tree of what follows `extend`, without operations
+abbrev pub least_schema_extension : ParseTree
+least_schema_extension = Both (Leaf (sample Name (codes "schema"))) (Both (Node directives_symbol Stop) (Second Nothing))
+
+-- the rows, with another least tree for the n-th symbol
+abbrev pub with_least : ℕ → ParseTree → List Row → List Row
+with_least n x [] = []
+with_least zero x (r ∷ rs) = record { rule = r.rule; nullable = r.nullable; first = r.first; cont = r.cont; rank = r.rank; least = x } ∷ rs
+with_least (suc n) x (r ∷ rs) = r ∷ with_least n x rs
+
+-- the test of leaves with which the tables are computed
+abbrev pub takes : Class → Token → Bool
+takes c t = matches c t && is_good c t
+
+unfoldable pub tables : List Row
+tables =
+    with_least 4 least_extension (with_least 26 least_schema_extension (drop shared_symbols (solve takes samples 12 (shared.rules ++ second_rules))))
+
+abbrev pub second_rows : List Row
+second_rows = shared.rows ++ with_tables second_rules tables
+
+-- how parse trees of the second rules become parse trees of the written ones
+abbrev pub changes : List Change
+changes =
+    replicate shared_symbols unchanged
+    ++ unchanged ∷ out_of_sides described_symbol ∷ unchanged ∷ unchanged ∷ out_of_head ∷ out_of_head ∷ replicate 22 unchanged
+
+-- ---- why there are second rules
+
+-- the written rules, with computed tables
+abbrev pub written_rows : List Row
+written_rows = solve takes samples 12 (shared.rules ++ rules)
+
+-- the symbols from the n-th on whose rules cannot be parsed with one token of lookahead
+abbrev pub unread : List Row → ℕ → List Row → List ℕ
+unread all n [] = []
+unread all n (r ∷ rs) = if is_row all r then unread all (n + 1) rs else n ∷ unread all (n + 1) rs

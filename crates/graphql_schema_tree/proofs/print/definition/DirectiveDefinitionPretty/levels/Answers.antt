@@ -1,9 +1,0 @@
-use Rattle.std.proofs.Common.{rules}
-use Rattle.graphql_values.proofs.{most_seen}
-use Rattle.graphql_schema_tree.specs.{input_value_levels, input_value_view}
-use Rattle.graphql_schema_tree.proofs.print.definition.DirectiveDefinitionPretty.levels.Goals as goal
-
-pub returns : goal.returns
-returns g c =
-    let seen = most_seen (input_value_view g.N.Names.bytes) (input_value_levels c.args.style.now) c.args.self.now.arguments.items in
-    rw (← seen, ← c.deref.ensures.value) (search rules)

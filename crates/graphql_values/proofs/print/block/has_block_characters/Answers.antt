@@ -1,6 +1,0 @@
-use Rattle.std.proofs.Common.{◌∙◌}
-use Rattle.graphql_values.proofs.{block_bytes}
-use Rattle.graphql_values.proofs.print.block.has_block_characters.Goals as goal
-
-pub returns : goal.returns
-returns c = c.has_block_bytes.ensures ∙ block_bytes c.args.text.now c.utf8.text

@@ -1,2 +1,0 @@
-mod Readable
-pub use Readable.{readable}
