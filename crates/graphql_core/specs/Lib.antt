@@ -45,7 +45,7 @@ pub use lexical.{past_ignored, past_token, piece_then, start, token_then, too_de
 unfoldable pub use lexical.{items_of}
 unfoldable pub use strings.{common_indent}
 pub use sources.{CauseText, FaultText, HasTokens, IsAtEnd, IsBadPlaceOf, IsEnd, IsMinified, Items, Last, LastIsError}
-pub use sources.{Refusal, after, at, bad_escape, cause_text, duplicate_operation, empty_extension, int_out_of_range}
+pub use sources.{Refusal, Spent, after, at, bad_escape, cause_text, duplicate_operation, empty_extension, int_out_of_range}
 pub use sources.{is_unexpected, items_of_stream, kept, kind_number, lexeme_token, malformed_float, max_length}
 pub use sources.{no_memory, no_token, out_of_memory, place_next, place_of, split, text_too_long, token_of}
 pub use sources.{tokens_then, too_long, unexpected_end, unexpected_token, unknown_location, unknown_operation}

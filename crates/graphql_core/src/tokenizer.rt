@@ -19,5 +19,6 @@ pub use brackets::MAX_DEPTH;
 pub use class::is_name_start;
 pub use laws::{one_list_of_items, worked_examples};
 pub use stream::TokenStream;
+pub(crate) use stream::one_more;
 pub use token::{Bad, Kind, Token};
 pub use tokens::Tokens;

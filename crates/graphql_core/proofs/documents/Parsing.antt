@@ -3,7 +3,7 @@ use Rattle.std.proofs.Common.{◌≡◌, ◌<◌, ◌≤◌, ◌↔◌, ℕ, Boo
 use Rattle.std.proofs.Common.{arith, IsTrue}
 use Rattle.std.proofs.lemmas.Result.{IfOk-weaker, IfErr-weaker}
 use Rattle.graphql_core.specs.{EndOfInput, Content, LexicalError, Stream, TokenContent, item_at, Where, Item}
-use Rattle.graphql_core.specs.{last_alone, asked_once, only_last, Items, Last, IsEnd, IsAtEnd, split}
+use Rattle.graphql_core.specs.{last_alone, asked_once, only_last, Items, Last, Spent, IsEnd, IsAtEnd, split}
 use Rattle.graphql_core.specs.{items_of_stream, kept, IsNextFault, Refusal, at, max_length, too_long, past_bound}
 use Rattle.graphql_core.specs.{IsRefusalFor, IsRefusalOf, ParseTree, Node, written, TakesSome, Stops, IsFaultFor}
 use Rattle.graphql_core.specs.{reason_of, reading, document_rule, Language, IsDocument, ReadsDocument}
@@ -72,28 +72,32 @@ module _
     (i j : Items)
     (from : i ≡ items_of_stream old)
     (last : kept j ≡ kept i)
-    (within : new.cuts ≤ j.spent.cuts)
-    (all : j.tokens ≡ [] → new ≡ j.spent)
+    (more : j.spent.first_cuts ≤ new.cuts)
+    (within : new.cuts ≤ j.spent.stream.cuts)
+    (all : j.tokens ≡ [] → new ≡ j.spent.stream)
   where
     kept_of : kept j ≡ kept (items_of_stream old)
     kept_of = last ∙ ap kept from
 
-    spent : j.spent ≡ asked_once old
-    spent = ap (λ (k : Last × Stream). k.1) kept_of
+    spent : j.spent ≡ record { first_cuts = old.cuts; stream = asked_once old }
+    spent = ap (λ (k : Last × Spent). k.1) kept_of
+
+    cut_more : old.cuts ≤ new.cuts
+    cut_more = subst (λ (s : Spent). s.first_cuts ≤ new.cuts) spent more
 
     cut_within : new.cuts ≤ (asked_once old).cuts
-    cut_within = subst (λ (s : Stream). new.cuts ≤ s.cuts) spent within
+    cut_within = subst (λ (s : Spent). new.cuts ≤ s.stream.cuts) spent within
 
     -- if all tokens are taken
     module _ (none : j.tokens ≡ []) where
       same : new ≡ asked_once old
-      same = all none ∙ spent
+      same = all none ∙ ap (λ (s : Spent). s.stream) spent
 
       left : split new.items ≡ only_last (split old.items).last
       left = ap (λ (s : Stream). split s.items) same ∙ alone old.items
 
     at_its_end : IsAtEnd j → IsAtEnd (split new.items)
-    at_its_end (none, end) = subst IsAtEnd (sym (left none)) (refl, subst IsEnd (ap (λ (k : Last × Stream). k.0) kept_of) end)
+    at_its_end (none, end) = subst IsAtEnd (sym (left none)) (refl, subst IsEnd (ap (λ (k : Last × Spent). k.0) kept_of) end)
 
     pub stream_parsed : (x : Result V Refusal) → ReadsDocument l view i x → IfOk x (λ v. IsAtEnd j) → ParsesStream l view old new x
     stream_parsed x h end =
@@ -102,9 +106,10 @@ module _
           sound = known.sound;
           complete = known.complete;
           unambiguous = unambiguous_for l r (split old.items);
-          first_error = IfErr-weaker x _ _ (refusal_for l (asked_once old) (split old.items)) known.first_error;
+          first_error = IfErr-weaker x _ _ (refusal_for l (record { first_cuts = old.cuts; stream = asked_once old }) (split old.items)) known.first_error;
           one_error = one_at l r (split old.items);
           no_error = λ d k f n. no_fault_in l r (split old.items) d f n k;
+          cut_more = cut_more;
           cut_once = cut_within;
           cut_all = IfOk-weaker x _ _ (λ v e. same e.0) end;
           ended = IfOk-weaker x _ _ (λ v. at_its_end) end;

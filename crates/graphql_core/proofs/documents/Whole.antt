@@ -8,7 +8,7 @@ use Rattle.graphql_core.specs.{place_next, split, here, IsFaultFor, IsNextFault,
 use Rattle.graphql_core.specs.{Token, Class, AnyOf, Sym, ParseTree, Node, leaves, written, change_at, Stops, CauseText}
 use Rattle.graphql_core.specs.{HasItems, start, items, reason_of, reading, document_rule, Language, IsDocument}
 use Rattle.graphql_core.specs.{IsDocumentOf, IsUnambiguous, AreUnambiguous, ending_of, numbered, Says, IsLeastFault}
-use Rattle.graphql_core.specs.{IsRefusalFor, IsRefusalOf, ran_out, faulty}
+use Rattle.graphql_core.specs.{IsRefusalFor, IsRefusalOf, ran_out, faulty, Spent}
 use Rattle.graphql_core.proofs.first_errors.{node_refused_for}
 use Rattle.graphql_core.specs.declared.helpers.read_error.ReadError.TheVariants.{Item, Memory, Integer, Float}
 use Rattle.graphql_core.specs.declared.helpers.read_error.ReadError.TheVariants.{Escape, Location}
@@ -37,11 +37,11 @@ exit (Err y) e P h p = subst P (sym h) p
 
 -- these are the items of the input, whatever stream they are read from
 abbrev pub AreItems : List ℕ → Items → Type 0
-AreItems text i = (items : List items_of.Item) → HasItems text items → (s : items_of.Stream) × (i ≡ spending s (split items))
+AreItems text i = (items : List items_of.Item) → HasItems text items → (s : Spent) × (i ≡ spending s (split items))
 
 -- those that are read from a stream of it
 pub from_stream : (text : List ℕ) (i : Items) → ((items : List items_of.Item) → HasItems text items → i ≡ items_of_text items) → AreItems text i
-from_stream text i are found has = (asked_once (record { items = found; cuts = 0 }), are found has)
+from_stream text i are found has = (record { first_cuts = 0; stream = asked_once (record { items = found; cuts = 0 }) }, are found has)
 
 -- those that are tokenized before they are read
 pub cut_first : (text : List ℕ) → AreItems text (split (items start text))
@@ -49,7 +49,7 @@ cut_first text found has = ((split found).spent, ap split (items_unique text _ _
 
 -- what `kept` keeps includes the last item
 last_kept : (i j : Items) → kept j ≡ kept i → j.last ≡ i.last
-last_kept i j h = ap (λ (k : Last × items_of.Stream). k.0) h
+last_kept i j h = ap (λ (k : Last × Spent). k.0) h
 
 module _ {D : Type 0} (l : Language D) (r : IsReadable l) where
   -- the result for i is an error at its item where j is left
@@ -212,15 +212,15 @@ module _ {D : Type 0} (l : Language D) (r : IsReadable l) where
 
 module _ {D : Type 0} (l : Language D) where
   -- the stream that items are read from is ignored
-  said_spent : (why : Reason) (s : items_of.Stream) (i : Items) (n : ℕ) (f : FaultText) → Says l why (spending s i) n f → Says l why i n f
+  said_spent : (why : Reason) (s : Spent) (i : Items) (n : ℕ) (f : FaultText) → Says l why (spending s i) n f → Says l why i n f
   said_spent Unexpected s i n f h = h
   said_spent (Improper c) s i n f h = h
   said_spent (Refused k) s i n f h = h
 
-  least_spent : (s : items_of.Stream) (i : Items) (f : FaultText) → IsLeastFault l (spending s i) f → IsLeastFault l i f
+  least_spent : (s : Spent) (i : Items) (f : FaultText) → IsLeastFault l (spending s i) f → IsLeastFault l i f
   least_spent s i f (n, why, least_one, said) = (n, why, least_one, said_spent why s i n f said)
 
-  pub refusal_for : (s : items_of.Stream) (i : Items) (e : Refusal) → IsRefusalFor l (spending s i) e → IsRefusalFor l i e
+  pub refusal_for : (s : Spent) (i : Items) (e : Refusal) → IsRefusalFor l (spending s i) e → IsRefusalFor l i e
   refusal_for s i = tells_weaker (IsLeastFault l (spending s i)) (IsLeastFault l i) (least_spent s i)
 
   pub text_document : (text : List ℕ) (i : Items) (d : D) → AreItems text i → IsDocument l i d → IsDocumentOf l text d

@@ -63,9 +63,9 @@ fits_parts bytes (Takes n k t) h = h
 pub taken_fits : (bytes : List ℕ) (x : Option (ℕ × Kind × Nesting)) → x ≡ taken (front bytes) → IsUtf8 bytes → FitsTaken bytes x
 taken_fits bytes x e utf8 = rw e (fits_parts bytes (front bytes) (front_fits bytes (front bytes) refl utf8))
 
-pub near_fits : (bytes : List ℕ) (x : Option (ℕ × Kind × Nesting)) → IfSome x (λ t. Some t ≡ taken (front bytes)) → IsUtf8 bytes → FitsTaken bytes x
-near_fits bytes None e utf8 = tt
-near_fits bytes (Some t) e utf8 = taken_fits bytes (Some t) e utf8
+pub some_fits : (bytes : List ℕ) (x : Option (ℕ × Kind × Nesting)) → IfSome x (λ t. Some t ≡ taken (front bytes)) → IsUtf8 bytes → FitsTaken bytes x
+some_fits bytes None e utf8 = tt
+some_fits bytes (Some t) e utf8 = taken_fits bytes (Some t) e utf8
 
 back : Option (ℕ × Kind × Nesting) → Piece
 back None = Stops

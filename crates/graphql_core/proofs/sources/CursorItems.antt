@@ -5,7 +5,7 @@ use Rattle.std.proofs.lemmas.List.Elements.{All-cons, All-head, All-tail, All-sa
 use Rattle.graphql_core.specs.declared.tokenizer.token.Token.{Token}
 use Rattle.graphql_core.specs.{bad_text, EndOfInput, LexicalError, is_token, Where, Item, item_at, TokenContent}
 use Rattle.graphql_core.specs.{Stream, one_more, last_alone, asked_once, NextItem, next_place, Token as Word}
-use Rattle.graphql_core.specs.{no_token, Items, split, held, items_of_stream, then_items, only_last, IsLexeme}
+use Rattle.graphql_core.specs.{no_token, Items, split, held, items_since, then_items, only_last, IsLexeme}
 use Rattle.graphql_core.specs.{token_of, place_of, shown}
 use Rattle.graphql_core.specs.declared.tokenizer.token.Bad.{Bad}
 use Rattle.graphql_core.specs.declared.position.Pos.{Pos}
@@ -33,20 +33,20 @@ spent_last old new i last e stays cut =
     λ k. record { items = items k; cuts = cuts k }
 
 -- the next item, and the items after it
-pub held_stream : (old new : Stream) (r : Result (Option Token) Bad) (p : Pos) → NextItem old.items r new.items → new.cuts ≡ one_more old.cuts
-    → p ≡ (next_place old.items).position → held p r new ≡ items_of_stream old
-held_stream old new (Ok (Some t)) p (w, e) cut q =
+pub held_stream : (n : ℕ) (old new : Stream) (r : Result (Option Token) Bad) (p : Pos) → NextItem old.items r new.items → new.cuts ≡ one_more old.cuts
+    → p ≡ (next_place old.items).position → held n p r new ≡ items_since n old
+held_stream n old new (Ok (Some t)) p (w, e) cut q =
     let spent = spent_same old new t.kind t.value.now w e cut in
     let same : then_items (token_of p t.kind t.value.now) (split new.items) ≡ split old.items = rw (q, e) refl in
-    λ i. record { tokens = (same i).tokens; last = (same i).last; spent = spent i }
-held_stream old new (Ok None) p (w, e, stays) cut q =
+    λ i. record { tokens = (same i).tokens; last = (same i).last; spent = record { first_cuts = n; stream = spent i } }
+held_stream n old new (Ok None) p (w, e, stays) cut q =
     let spent = spent_last old new (item_at EndOfInput w) refl e stays cut in
     let same : only_last (source.LastIsEnd (place_of p)) ≡ split old.items = rw (q, e) refl in
-    λ i. record { tokens = (same i).tokens; last = (same i).last; spent = spent i }
-held_stream old new (Err b) p (w, e, stays) cut q =
+    λ i. record { tokens = (same i).tokens; last = (same i).last; spent = record { first_cuts = n; stream = spent i } }
+held_stream n old new (Err b) p (w, e, stays) cut q =
     let spent = spent_last old new (item_at (LexicalError (bad_text b)) w) refl e stays cut in
     let same : only_last (source.LastIsError (place_of p) (no_token (bad_text b))) ≡ split old.items = rw (q, e) refl in
-    λ i. record { tokens = (same i).tokens; last = (same i).last; spent = spent i }
+    λ i. record { tokens = (same i).tokens; last = (same i).last; spent = record { first_cuts = n; stream = spent i } }
 
 -- the stream of an input at its start
 pub fresh : (s : Stream) (items : List Item) → items ≡ s.items → s.cuts ≡ 0 → s ≡ record { items = items; cuts = 0 }
@@ -55,27 +55,33 @@ fresh s items same none = λ i. record { items = sym same i; cuts = none i }
 -- ---- how often the stream was asked
 
 -- a cursor asked its stream for each item at most once
-pub cut_within : (p : Pos) (t : Token) (e : Ending) (s : Stream) → s.cuts ≤ 2 ^ 64 - 1 → s.cuts ≤ (shown p t e s).spent.cuts
-cut_within p t Open s bound = omega arith
-cut_within p t ending.End s bound = le_refl s.cuts
-cut_within p t (ending.Wrong b) s bound = le_refl s.cuts
+pub cut_within : (n : ℕ) (p : Pos) (t : Token) (e : Ending) (s : Stream) → s.cuts ≤ 2 ^ 64 - 1 → s.cuts ≤ (shown n p t e s).spent.stream.cuts
+cut_within n p t Open s bound = omega arith
+cut_within n p t ending.End s bound = le_refl s.cuts
+cut_within n p t (ending.Wrong b) s bound = le_refl s.cuts
+
+-- the count at first
+pub cut_since : (n : ℕ) (p : Pos) (t : Token) (e : Ending) (s : Stream) → (shown n p t e s).spent.first_cuts ≡ n
+cut_since n p t Open s = refl
+cut_since n p t ending.End s = refl
+cut_since n p t (ending.Wrong b) s = refl
 
 -- if no token is left, it asked for all items
-pub cut_all : (p : Pos) (t : Token) (e : Ending) (s : Stream) → (shown p t e s).tokens ≡ [] → s ≡ (shown p t e s).spent
-cut_all p t Open s none = absurd cc
-cut_all p t ending.End s none = refl
-cut_all p t (ending.Wrong b) s none = refl
+pub cut_all : (n : ℕ) (p : Pos) (t : Token) (e : Ending) (s : Stream) → (shown n p t e s).tokens ≡ [] → s ≡ (shown n p t e s).spent.stream
+cut_all n p t Open s none = absurd cc
+cut_all n p t ending.End s none = refl
+cut_all n p t (ending.Wrong b) s none = refl
 
 -- ---- tokens of the lexical grammar
 
 -- the tokens after such a token are also such tokens
-pub later_lexemes : (old new : Stream) (p q : Pos) (t : Token) (e : Ending) (r : Result (Option Token) Bad)
-    → All IsLexeme (shown p t e old).tokens → e ≡ Open → NextItem old.items r new.items → new.cuts ≡ one_more old.cuts
-    → q ≡ (next_place old.items).position → All IsLexeme (held q r new).tokens
-later_lexemes old new p q t e r all some item cut place =
+pub later_lexemes : (n : ℕ) (old new : Stream) (p q : Pos) (t : Token) (e : Ending) (r : Result (Option Token) Bad)
+    → All IsLexeme (shown n p t e old).tokens → e ≡ Open → NextItem old.items r new.items → new.cuts ≡ one_more old.cuts
+    → q ≡ (next_place old.items).position → All IsLexeme (held n q r new).tokens
+later_lexemes n old new p q t e r all some item cut place =
     let after : All IsLexeme (split old.items).tokens = All-tail IsLexeme (token_of p t.kind t.value.now) (split old.items).tokens
-    (subst (λ x. All IsLexeme (shown p t x old).tokens) some all) in
-    All-same IsLexeme _ _ (ap (λ (i : Items). i.tokens) (held_stream old new r q item cut place)) after
+    (subst (λ x. All IsLexeme (shown n p t x old).tokens) some all) in
+    All-same IsLexeme _ _ (ap (λ (i : Items). i.tokens) (held_stream n old new r q item cut place)) after
 
 -- whether a token is a token of the lexical grammar does not depend on its position
 pub moved_lexemes : (p q : Pos) (t : Token) (ts : List Word) → All IsLexeme (token_of p t.kind t.value.now ∷ ts)

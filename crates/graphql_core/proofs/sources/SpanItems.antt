@@ -1,7 +1,7 @@
 -- Items as the spans of their tokens.
 use Rattle.std.proofs.Common.{◌≡◌, ℕ, zero, suc, ◌+◌, ◌-◌, ◌<◌, ◌≤◌, get_or, List, [], ◌∷◌, ◌++◌, length, take, drop, map, Option, Some, None, Result, Ok}
 use Rattle.std.proofs.Common.{◌*◌, ◌⊎◌, inl, inr, All, refl, sym, ap, ap₂, ◌∙◌, subst, arith, append_assoc, add-zero, length-append, length-drop}
-use Rattle.std.proofs.lemmas.List.{take_at, drop_at, map-append, length-map, length-take, get_or-drop}
+use Rattle.std.proofs.lemmas.List.{take_at, drop_at, drop_all, map-append, length-map, length-take, get_or-drop}
 use Rattle.std.proofs.lemmas.List.Elements.{All-head, All-same, All-drop, All-get_or, All-map, All-weaker}
 use Rattle.std.proofs.Math.Seq.{drop-cons}
 use Rattle.std.proofs.Math.Numerals.{suc-eq-add-one}
@@ -10,24 +10,12 @@ use Rattle.graphql_core.specs.declared.tokenizer.token.Bad.{Bad}
 use Rattle.std.specs.Str.{IsCharBoundary, IsUtf8}
 use Rattle.graphql_core.specs.declared.position.Pos.{Pos}
 use Rattle.graphql_core.specs.declared.tokenizer.token.Kind.{Kind}
-use Rattle.graphql_core.specs.{Where, Item, item_at, TokenContent, HasItems, NextItem, next_place, Token}
-use Rattle.graphql_core.specs.{kind_number, Items, IsLexeme, split, then_items, token_of, after, IsNextFault}
-use Rattle.graphql_core.specs.{max_length, Refusal, first_byte, Marks, start_of, kind_of, span_token, span_items}
-use Rattle.graphql_core.specs.{IsLeft, IsLast, Word, peek}
-use Rattle.graphql_core.specs.declared.tokenizer.token.Kind.TheVariants.{Punctuator, Name, IntValue, FloatValue}
-use Rattle.graphql_core.specs.declared.tokenizer.token.Kind.TheVariants.{StringValue, BlockString}
+use Rattle.graphql_core.specs.{Where, Item, item_at, TokenContent, EndOfInput, LexicalError, bad_text, HasItems, NextItem, next_place}
+use Rattle.graphql_core.specs.{Token, kind_number, Items, Last, IsLexeme, split, only_last, then_items, token_of, after, IsNextFault}
+use Rattle.graphql_core.specs.{max_length, Refusal, first_byte, Marks, span_token, then_left, span_items, last_at}
+use Rattle.graphql_core.specs.{IsLeft, Word, peek}
 use Rattle.graphql_core.specs.declared.helpers.span.Span.{Span}
 use Rattle.graphql_core.proofs.sources.TokenPlaces.{IsToken, StandsIn, part, tokens_stand}
-
--- ---- a start and a kind in one number
-
-pub few_kinds : (k : Kind) → kind_number k ≤ 5
-few_kinds Punctuator = omega arith
-few_kinds Name = omega arith
-few_kinds IntValue = omega arith
-few_kinds FloatValue = omega arith
-few_kinds StringValue = omega arith
-few_kinds BlockString = omega arith
 
 -- a token has some bytes
 some_bytes : (t : Token) → IsLexeme t → 0 < length t.spelling
@@ -73,23 +61,28 @@ next_of old was new r t same next is =
 unchanged : (i : Items) → i.tokens ≡ [] → i ≡ after i
 unchanged i none = let same = none ∙ sym (ap (drop 1) none) in λ j. record { tokens = same j; last = i.last; spent = i.spent }
 
--- if there is capacity and no token was pushed, the last item is next
-pub none_cut : (items : List Item) (bad : Option Bad) {room len : ℕ} → 0 < room → (room ≤ len) ⊎ IsLast items bad → 0 ≡ len → IsLast items bad
-none_cut items bad some (inl full) none = absurd (omega (arith, some, full, none))
-none_cut items bad some (inr last) none = last
+-- the end of the input is next
+pub end_next : (items : List Item) (w : Where) (p : Pos) → items ≡ item_at EndOfInput w ∷ [] → p ≡ (next_place items).position
+    → split items ≡ only_last (last_at p None)
+end_next items w p is at = rw (at, is) refl
+
+-- this lexical error is next
+pub bad_next : (items : List Item) (w : Where) (p : Pos) (bad : Bad) → items ≡ item_at (LexicalError (bad_text bad)) w ∷ []
+    → p ≡ (next_place items).position → split items ≡ only_last (last_at p (Some bad))
+bad_next items w p bad is at = rw (at, is) refl
 
 module _ {W : Type 0} (number : W → ℕ) (text : List ℕ) where
   -- a span of a token in the input
-  module _ (s : Span W) (w : Where) (k : Kind) (bytes : List ℕ) (t : IsToken text w k bytes) (start : start_of number s ≡ w.offset)
+  module _ (s : Span W) (w : Where) (k : Kind) (bytes : List ℕ) (t : IsToken text w k bytes) (start : number s.start ≡ w.offset)
       (end : number s.end ≡ w.offset + length bytes) (line : number s.line ≡ w.position.line) (column : number s.column ≡ w.position.column)
-      (kind : kind_of number s ≡ k) where
-    long : number s.end - start_of number s ≡ length bytes
+      (kind : s.kind ≡ k) where
+    long : number s.end - number s.start ≡ length bytes
     long = omega (arith, start, end)
 
-    follows : drop (start_of number s) text ≡ bytes ++ t.rest
+    follows : drop (number s.start) text ≡ bytes ++ t.rest
     follows = ap (λ (n : ℕ). drop n text) start ∙ t.is
 
-    spelled : take (number s.end - start_of number s) (drop (start_of number s) text) ≡ bytes
+    spelled : take (number s.end - number s.start) (drop (number s.start) text) ≡ bytes
     spelled = (λ i. take (long i) (follows i)) ∙ take_at bytes t.rest (length bytes) refl
 
     pub is_token : span_token number text s ≡ token_of w.position k bytes
@@ -104,26 +97,31 @@ module _ {W : Type 0} (number : W → ℕ) (text : List ℕ) where
     }
 
   -- the first byte of a token is where the span says
-  pub first_within : (s : Span W) → Marks number text s → start_of number s < length text
+  pub first_within : (s : Span W) → Marks number text s → number s.start < length text
   first_within s m =
       let some = some_bytes (span_token number text s) m.lexeme in
-      omega (arith, some, length-take (number s.end - start_of number s) (drop (start_of number s) text), length-drop (start_of number s) text)
+      omega (arith, some, length-take (number s.end - number s.start) (drop (number s.start) text), length-drop (number s.start) text)
 
-  pub first_is : (s : Span W) → Marks number text s → get_or text (start_of number s) 0 ≡ first_byte (span_token number text s).spelling
+  pub first_is : (s : Span W) → Marks number text s → get_or text (number s.start) 0 ≡ first_byte (span_token number text s).spelling
   first_is s m =
-      ap (λ n. get_or text n 0) (sym (add-zero (start_of number s))) ∙ sym (get_or-drop (start_of number s) text 0 0)
-      ∙ first_taken _ (drop (start_of number s) text) (some_bytes (span_token number text s) m.lexeme)
+      ap (λ n. get_or text n 0) (sym (add-zero (number s.start))) ∙ sym (get_or-drop (number s.start) text 0 0)
+      ∙ first_taken _ (drop (number s.start) text) (some_bytes (span_token number text s) m.lexeme)
 
   -- one token on
   pub one_cut : (spans : List (Span W)) (s : Span W) (old new : List Item) (k : Kind) (bytes : List ℕ) (w : Where) (all : Items)
-      → all ≡ span_items number text spans (split old) → old ≡ item_at (TokenContent k bytes) w ∷ new → span_token number text s ≡ token_of w.position k bytes
-      → all ≡ span_items number text (spans ++ s ∷ []) (split new)
+      → all ≡ then_left number text spans (split old) → old ≡ item_at (TokenContent k bytes) w ∷ new → span_token number text s ≡ token_of w.position k bytes
+      → all ≡ then_left number text (spans ++ s ∷ []) (split new)
   one_cut spans s old new k bytes w all is next token =
       let f = span_token number text in
-      is ∙ ap (λ (l : List Item). span_items number text spans (split l)) next
-      ∙ ap (λ (x : Token). span_items number text spans (then_items x (split new))) (sym token)
+      is ∙ ap (λ (l : List Item). then_left number text spans (split l)) next
+      ∙ ap (λ (x : Token). then_left number text spans (then_items x (split new))) (sym token)
       ∙ ap (λ (ts : List Token). let i : Items = record { tokens = ts; last = (split new).last; spent = (split new).spent } in i)
       (sym (append_assoc (map f spans) (f s ∷ []) (split new).tokens) ∙ ap (λ (ts : List Token). ts ++ (split new).tokens) (sym (map-append f spans (s ∷ []))))
+
+  -- all tokens are cut, and the last item is next
+  pub all_cut : (spans : List (Span W)) (left : List Item) (last : Last) (all : Items) → all ≡ then_left number text spans (split left)
+      → split left ≡ only_last last → all ≡ span_items number text spans last
+  all_cut spans left last all is next = is ∙ ap (λ (i : Items). then_left number text spans i) next
 
   -- ---- the items that are left
 
@@ -145,31 +143,25 @@ module _ {W : Type 0} (number : W → ℕ) (text : List ℕ) where
       (All-weaker (Marks number text) (λ s. IsLexeme (span_token number text s)) (λ s m. m.lexeme) (drop taken spans) left)
 
   -- one more token is taken
-  on : (spans : List (Span W)) (taken : ℕ) (i : Items) → taken < length spans
-      → span_items number text (drop (suc taken) spans) i ≡ after (span_items number text (drop taken spans) i)
-  on [] taken i some = absurd (omega (arith, some))
-  on (s ∷ spans) zero i some = refl
-  on (s ∷ spans) (suc taken) i some = on spans taken i (omega (arith, some))
+  on : (spans : List (Span W)) (taken : ℕ) (last : Last) → taken < length spans
+      → span_items number text (drop (suc taken) spans) last ≡ after (span_items number text (drop taken spans) last)
+  on [] taken last some = absurd (omega (arith, some))
+  on (s ∷ spans) zero last some = refl
+  on (s ∷ spans) (suc taken) last some = on spans taken last (omega (arith, some))
 
-  pub one_taken : (spans : List (Span W)) (taken : ℕ) (i : Items) → taken < length spans
-      → span_items number text (drop (taken + 1) spans) i ≡ after (span_items number text (drop taken spans) i)
-  one_taken spans taken i some = ap (λ n. span_items number text (drop n spans) i) (sym (suc-eq-add-one taken)) ∙ on spans taken i some
+  pub one_taken : (spans : List (Span W)) (taken : ℕ) (last : Last) → taken < length spans
+      → span_items number text (drop (taken + 1) spans) last ≡ after (span_items number text (drop taken spans) last)
+  one_taken spans taken last some =
+      ap (λ n. span_items number text (drop n spans) last) (sym (suc-eq-add-one taken)) ∙ on spans taken last some
 
-  none_after : (items : List Item) (bad : Option Bad) → IsLast items bad → (split items).tokens ≡ []
-  none_after items None last = ap (λ (l : List Item). (split l).tokens) last.1
-  none_after items (Some b) last = ap (λ (l : List Item). (split l).tokens) last.1
-
-  seen : (left : List (Span W)) (items : List Item) → (left ≡ [] → (split items).tokens ≡ [])
-      → peek (map (span_token number text) left) ≡ peek (span_items number text left (split items)).tokens
-  seen [] items none = ap peek (sym (none refl))
-  seen (s ∷ left) items none = refl
+  seen : (left : List (Span W)) (last : Last) → peek (map (span_token number text) left) ≡ peek (span_items number text left last).tokens
+  seen [] last = refl
+  seen (s ∷ left) last = refl
 
   -- no token comes after the last of the spans
-  pub next_seen : (spans : List (Span W)) (taken len : ℕ) (items : List Item) (bad : Option Bad) → len ≡ length spans → taken ≤ len
-      → (taken ≡ len → IsLast items bad)
-      → peek (map (span_token number text) (drop taken spans)) ≡ peek (span_items number text (drop taken spans) (split items)).tokens
-  next_seen spans taken len items bad is within last =
-      seen (drop taken spans) items (λ none. none_after items bad (last (omega (arith, is, within, ap length none, length-drop taken spans))))
+  pub next_seen : (spans : List (Span W)) (taken : ℕ) (last : Last)
+      → peek (map (span_token number text) (drop taken spans)) ≡ peek (span_items number text (drop taken spans) last).tokens
+  next_seen spans taken last = seen (drop taken spans) last
 
   -- if no token is left, all spans are taken
   pub all_taken : (spans : List (Span W)) (taken len : ℕ) (more : List Token) → len ≡ length spans → taken ≤ len
@@ -179,27 +171,27 @@ module _ {W : Type 0} (number : W → ℕ) (text : List ℕ) where
       let long = ap length none in
       omega (arith, is, within, long, length-append left more, length-map (drop taken spans) (span_token number text), length-drop taken spans)
 
-  -- after the last of the spans come the items after them
-  past_last : (spans : List (Span W)) (taken : ℕ) (i : Items) → length spans ≤ taken + 1 → (length spans ≤ taken → i.tokens ≡ [])
-      → i ≡ after (span_items number text (drop taken spans) i)
-  past_last [] zero i few none = unchanged i (none (omega arith))
-  past_last [] (suc taken) i few none = unchanged i (none (omega arith))
-  past_last (s ∷ []) zero i few none = refl
-  past_last (s ∷ t ∷ spans) zero i few none = absurd (omega (arith, few))
-  past_last (s ∷ spans) (suc taken) i few none = past_last spans taken i (omega (arith, few)) (λ h. none (omega (arith, h)))
+  -- after the last token nothing is left but the last item
+  past_last : (spans : List (Span W)) (taken : ℕ) (last : Last) → length spans ≤ taken + 1
+      → only_last last ≡ after (span_items number text (drop taken spans) last)
+  past_last [] zero last few = refl
+  past_last [] (suc taken) last few = refl
+  past_last (s ∷ []) zero last few = refl
+  past_last (s ∷ t ∷ spans) zero last few = absurd (omega (arith, few))
+  past_last (s ∷ spans) (suc taken) last few = past_last spans taken last (omega (arith, few))
 
-  pub last_taken : (spans : List (Span W)) (taken len : ℕ) (items : List Item) (bad : Option Bad) → len ≡ length spans → taken ≤ len → len ≤ taken + 1
-      → (taken ≡ len → IsLast items bad) → split items ≡ after (span_items number text (drop taken spans) (split items))
-  last_taken spans taken len items bad is within few last =
-      past_last spans taken (split items) (omega (arith, is, few)) (λ h. none_after items bad (last (omega (arith, is, within, h))))
+  pub last_taken : (spans : List (Span W)) (taken len : ℕ) (last : Last) → len ≡ length spans → len ≤ taken + 1
+      → span_items number text (drop len spans) last ≡ after (span_items number text (drop taken spans) last)
+  last_taken spans taken len last is few =
+      ap (λ (l : List (Span W)). span_items number text l last) (drop_all len spans (omega (arith, is))) ∙ past_last spans taken last (omega (arith, is, few))
 
   -- the error of the next token
-  pub fault_here : (s : Span W) (spans more : List (Span W)) (rest : Items) (p : Pos) (value : List ℕ) (f : Refusal)
+  pub fault_here : (s : Span W) (spans more : List (Span W)) (last : Last) (p : Pos) (value : List ℕ) (f : Refusal)
       → spans ≡ s ∷ more → p.line ≡ number s.line → p.column ≡ number s.column → value ≡ (span_token number text s).spelling
-      → ((following : Items) → IsNextFault (then_items (token_of p (kind_of number s) value) following) f) → IsNextFault (span_items number text spans rest) f
-  fault_here s spans more rest p value f next line column spelled h =
-      let following = span_items number text more rest in
-      let same : token_of p (kind_of number s) value ≡ span_token number text s =
-      λ i. record { kind = kind_number (kind_of number s); spelling = spelled i; place = record { line = line i; column = column i } } in
-      subst (λ (l : List (Span W)). IsNextFault (span_items number text l rest) f) (sym next)
+      → ((following : Items) → IsNextFault (then_items (token_of p (s.kind) value) following) f) → IsNextFault (span_items number text spans last) f
+  fault_here s spans more last p value f next line column spelled h =
+      let following = span_items number text more last in
+      let same : token_of p (s.kind) value ≡ span_token number text s =
+      λ i. record { kind = kind_number (s.kind); spelling = spelled i; place = record { line = line i; column = column i } } in
+      subst (λ (l : List (Span W)). IsNextFault (span_items number text l last) f) (sym next)
       (subst (λ (t : Token). IsNextFault (then_items t following) f) same (h following))

@@ -48,7 +48,9 @@ pub record ParsesStream {D V : Type 0} (l : Language D) (view : V → D) (old ne
   pub one_error : HasOneFaultAt l (split old.items)
   -- Items that parse to a document have no error.
   pub no_error : (d : D) → IsDocument l (split old.items) d → (f : FaultText) (n : ℕ) → IsFaultAt l (split old.items) f n → ⊥
-  -- `cuts`, the number of items requested, grew by at most the number of remaining items, including the last.
+  -- `cuts`, the number of items requested, is never less than before.
+  pub cut_more : old.cuts ≤ new.cuts
+  -- It grew by at most the number of remaining items, including the last.
   pub cut_once : new.cuts ≤ (asked_once old).cuts
   -- If a document is returned, each remaining item was requested exactly once.
   pub cut_all : IfOk r (λ v. new ≡ asked_once old)

@@ -17,11 +17,16 @@ pub data Last : Type 0 where
   LastIsEnd : Place → Last
   LastIsError : Place → CauseText → Last
 
+-- the stream that items come from: its `cuts` at first, and the stream after all of the items are taken
+pub record Spent : Type 0 where
+  pub first_cuts : ℕ
+  pub stream : Stream
+
 pub record Items : Type 0 where
   pub tokens : List Token
   pub last : Last
-  -- the stream that the items come from, after all of them are taken; an empty stream if there is none
-  pub spent : Stream
+  -- an empty stream if the items come from no stream
+  pub spent : Spent
 
 abbrev pub place_of : Pos → Place
 place_of p = record { line = p.line; column = p.column }
@@ -34,7 +39,7 @@ then_items t i = record { tokens = t ∷ i.tokens; last = i.last; spent = i.spen
 
 -- these tokens and this last item, which come from no stream
 abbrev pub tokens_then : List Token → Last → Items
-tokens_then ts l = record { tokens = ts; last = l; spent = record { items = []; cuts = 0 } }
+tokens_then ts l = record { tokens = ts; last = l; spent = record { first_cuts = 0; stream = record { items = []; cuts = 0 } } }
 
 abbrev pub only_last : Last → Items
 only_last l = tokens_then [] l
@@ -49,20 +54,24 @@ abbrev pub split : List Item → Items
 split [] = only_last (LastIsEnd (record { line = 0; column = 0 }))
 split (i ∷ is) = split_by i.content i.place.position (split is)
 
--- the same items, from a stream that is `s` after all of them are taken
-abbrev pub spending : Stream → Items → Items
+-- the same items, from this stream
+abbrev pub spending : Spent → Items → Items
 spending s i = record { tokens = i.tokens; last = i.last; spent = s }
 
--- the items of a stream, read with one item of lookahead
+-- the items that are left of a stream whose `cuts` was `n` at first, read with one item of lookahead
+abbrev pub items_since : ℕ → Stream → Items
+items_since n s = spending (record { first_cuts = n; stream = asked_once s }) (split s.items)
+
+-- the items of a stream
 abbrev pub items_of_stream : Stream → Items
-items_of_stream s = spending (asked_once s) (split s.items)
+items_of_stream s = items_since s.cuts s
 
 -- the items of an input, read from a new stream
 abbrev pub items_of_text : List Item → Items
 items_of_text items = items_of_stream (record { items = items; cuts = 0 })
 
 -- the parts that a reader never changes
-abbrev pub kept : Items → Last × Stream
+abbrev pub kept : Items → Last × Spent
 kept i = (i.last, i.spent)
 
 -- The items after the next one. The end and a lexical error stay.
@@ -89,11 +98,11 @@ IsEnd (LastIsError p b) = ⊥
 abbrev pub IsAtEnd : Items → Type 0
 IsAtEnd i = (i.tokens ≡ []) × IsEnd i.last
 
--- the items of a source, after a call of its stream returned this result and left the stream `s`
-abbrev pub held : Pos → Result (Option Cut) Bad → Stream → Items
-held p (Ok (Some t)) s = then_items (token_of p t.kind t.value.now) (items_of_stream s)
-held p (Ok None) s = spending s (only_last (LastIsEnd (place_of p)))
-held p (Err b) s = spending s (only_last (LastIsError (place_of p) (no_token (bad_text b))))
+-- the items of a source, after a call of its stream returned this result and left the stream `s`; its `cuts` was `n` at first
+abbrev pub held : ℕ → Pos → Result (Option Cut) Bad → Stream → Items
+held n p (Ok (Some t)) s = then_items (token_of p t.kind t.value.now) (items_since n s)
+held n p (Ok None) s = spending (record { first_cuts = n; stream = s }) (only_last (LastIsEnd (place_of p)))
+held n p (Err b) s = spending (record { first_cuts = n; stream = s }) (only_last (LastIsError (place_of p) (no_token (bad_text b))))
 
 -- ---- errors
 

@@ -16,7 +16,7 @@ use crate::helpers::punctuator::Punctuator;
 use crate::helpers::room::is_long;
 use crate::helpers::source::{Lexeme, TokenSource};
 use crate::position::Pos;
-use crate::tokenizer::{Bad, Kind, Token, TokenStream, is_name_start};
+use crate::tokenizer::{Bad, Kind, Token, TokenStream, Tokens, is_name_start, one_more};
 use std::alloc::{AllocError, Global};
 use std::marker::{Model, PhantomData};
 
@@ -34,7 +34,11 @@ pub enum Ending<'a> {
 /// A token stream with one token of lookahead.
 #[derive(Drop)]
 pub struct Cursor<'a, T: Text<'a>> {
-    stream: TokenStream<'a>,
+    // The tokens after the next one.
+    tokens: Tokens<'a>,
+    // The `cuts` of the stream: when the cursor was made, and now.
+    first_cuts: usize,
+    cuts: usize,
     position: Pos,
     // The next token, or a token with an empty spelling if there is none.
     token: Token<'a>,
@@ -54,10 +58,11 @@ impl<'a, T: Text<'a>> Model for Cursor<'a, T> {
 
     ghost Value = { Items };
 
-    ghost view = { λ c. shown c.position c.token c.ending c.stream };
+    ghost view = { λ c. shown c.first_cuts c.position c.token c.ending (record { items = c.tokens; cuts = c.cuts }) };
 
-    ghost invariant = { λ c. All IsLexeme (shown c.position c.token c.ending c.stream).tokens
-        × (c.front ≡ front_byte (shown c.position c.token c.ending c.stream).tokens) × (c.stream.cuts ≤ 2 ^ 64 - 1) };
+    ghost invariant = { λ c. All IsLexeme (shown c.first_cuts c.position c.token c.ending (record { items = c.tokens; cuts = c.cuts })).tokens
+        × (c.front ≡ front_byte (shown c.first_cuts c.position c.token c.ending (record { items = c.tokens; cuts = c.cuts })).tokens)
+        × (c.first_cuts ≤ c.cuts) × (c.cuts ≤ 2 ^ 64 - 1) };
 }
 
 /// The first byte, or 0 for an empty string.
@@ -74,8 +79,8 @@ pub fn first_byte(text: &str) -> u8
 /// What a cursor keeps of a result of its stream.
 #[inline(always)]
 fn kept_of<'a>(answer: Result<Option<Token<'a>>, Bad<'a>>) -> (Token<'a>, Ending<'a>)
-    ensures items { (place : Pos) (left : Stream) → shown place result.0 result.1 left ≡ held place answer.entry left }
-    ensures front { (place : Pos) (left : Stream) → first_byte result.0.value.now ≡ front_byte (held place answer.entry left).tokens }
+    ensures items { (n : ℕ) (place : Pos) (left : Stream) → shown n place result.0 result.1 left ≡ held n place answer.entry left }
+    ensures front { (n : ℕ) (place : Pos) (left : Stream) → first_byte result.0.value.now ≡ front_byte (held n place answer.entry left).tokens }
 {
     let none = Token {
         kind: Kind::Punctuator,
@@ -98,16 +103,18 @@ impl<'a, T: Text<'a>> Cursor<'a, T> {
     }
 
     /// The tokens that `stream` has yet to return.
-    pub fn over(mut stream: TokenStream<'a>) -> Self
+    pub fn over(stream: TokenStream<'a>) -> Self
         ensures items { result ≡ items_of_stream stream.entry }
         ensures rest { (text : List ℕ) × AreItemsOfRest stream.entry.items text }
     {
-        let is_long = is_long(stream.rest());
-        let position = stream.position();
-        let next = stream.next_token();
-        let (token, ending) = kept_of(next);
+        let (mut tokens, cuts) = stream.into_parts();
+        let is_long = is_long(tokens.rest());
+        let position = tokens.position();
+        let (token, ending) = kept_of(tokens.next_token());
         Cursor {
-            stream,
+            tokens,
+            first_cuts: cuts,
+            cuts: one_more(cuts),
             position,
             token,
             ending,
@@ -119,21 +126,22 @@ impl<'a, T: Text<'a>> Cursor<'a, T> {
 
     /// Returns the stream. The stream has returned each consumed token, and the token of lookahead.
     pub fn into_stream(self) -> TokenStream<'a>
-        ensures within { result.cuts ≤ self.entry.spent.cuts }
-        ensures all { self.entry.tokens ≡ [] → result ≡ self.entry.spent }
+        ensures more { self.entry.spent.first_cuts ≤ result.cuts }
+        ensures within { result.cuts ≤ self.entry.spent.stream.cuts }
+        ensures all { self.entry.tokens ≡ [] → result ≡ self.entry.spent.stream }
     {
-        self.stream
+        TokenStream::from_parts(self.tokens, self.cuts)
     }
 
     /// Advances past a token: the slow path. The end of input and a lexical error are never passed.
     #[inline(never)]
-    fn advance_far(&mut self)
+    fn advance_slow(&mut self)
         ensures { self.new ≡ after self.old }
     {
         if let Ending::Open = self.ending {
-            let position = self.stream.position();
-            let next = self.stream.next_token();
-            let (token, ending) = kept_of(next);
+            let position = self.tokens.position();
+            let (token, ending) = kept_of(self.tokens.next_token());
+            self.cuts = one_more(self.cuts);
             self.position = position;
             self.token = token;
             self.ending = ending;
@@ -233,13 +241,14 @@ impl<'a, T: Text<'a>> TokenSource for Cursor<'a, T> {
     #[inline(never)]
     fn advance(&mut self) {
         if let Ending::Open = self.ending {
-            self.position = self.stream.position();
-            match self.stream.near_token() {
+            self.position = self.tokens.position();
+            match self.tokens.fast_token() {
                 Some(token) => {
+                    self.cuts = one_more(self.cuts);
                     self.token = token;
                     self.front = first_byte(token.value);
                 }
-                None => self.advance_far(),
+                None => self.advance_slow(),
             }
         }
     }

@@ -7,7 +7,6 @@ ghost use Rattle.graphql_core.specs.declared.position.Pos.{Pos};
 use crate::common::Fault;
 use crate::format::{Buffer, Sink};
 use crate::helpers::cursor::bad_place;
-use crate::helpers::spans::far_item;
 use crate::tokenizer::{Kind, Tokens};
 use std::alloc::Global;
 
@@ -43,10 +42,10 @@ fn spaced(alloc: Global, source: &str) -> Result<String, Fault>
     let mut before = Kind::Punctuator;
     'tokens: loop {
         let from = tokens.rest();
-        let token = match tokens.near_lexeme() {
+        let token = match tokens.fast_lexeme() {
             Some(token) => token,
             None => {
-                let (item, after) = far_item(tokens);
+                let (item, after) = tokens.slow_token();
                 tokens = after;
                 match item {
                     Ok(Some(token)) => token,

@@ -37,14 +37,14 @@ fn front_byte(text: &str) -> u8
 /// Skips spaces, commas and line feeds. The flag is true only if all ignored text was skipped. The flag is false before
 /// other ignored text, and where one load does not show the end of the spaces after a line feed.
 #[inline(always)]
-pub fn skip_plain(text: &str, at: Pos) -> (&str, Pos, bool)
+pub fn skip_common(text: &str, at: Pos) -> (&str, Pos, bool)
     requires { HasRoom text.now at }
     ensures skips { SkipsTo text.now at result.0.now result.1 }
     ensures first { result.2 ≡ true → IsItem (front result.0.now) }
 {
     let mut rest = text;
     let mut place = at;
-    'plain: loop {
+    'common: loop {
         let byte = front_byte(rest);
         if !is_ignored(byte) {
             return (rest, place, true);
@@ -66,14 +66,14 @@ pub fn skip_plain(text: &str, at: Pos) -> (&str, Pos, bool)
     }
 }
 
-/// Skips spaces, commas and line feeds, without a position. Returns `None` where the flag of `skip_plain` is false.
+/// Skips spaces, commas and line feeds, without a position. Returns `None` where the flag of `skip_common` is false.
 #[inline(always)]
-pub fn past_plain(text: &str) -> Option<&str>
+pub fn after_common(text: &str) -> Option<&str>
     ensures skips { IfSome result (λ rest. HasContentsOf rest.now text.now × (length rest.now ≤ length text.now)) }
     ensures first { IfSome result (λ rest. IsItem (front rest.now)) }
 {
     let mut rest = text;
-    'plain: loop {
+    'common: loop {
         let byte = front_byte(rest);
         if !is_ignored(byte) {
             return Some(rest);
@@ -105,7 +105,7 @@ pub fn skip_ignored(text: &str, at: Pos) -> (&str, Pos)
     ensures skips { SkipsTo text.now at result.0.now result.1 }
     ensures first { IsItem (front result.0.now) }
 {
-    let (rest, place, is_item) = skip_plain(text, at);
+    let (rest, place, is_item) = skip_common(text, at);
     if is_item {
         (rest, place)
     } else {

@@ -247,7 +247,7 @@ fn token_bytes(bytes: &[u8]) -> Option<Taken>
 
 /// The token at the start of the input, if the fast path recognizes it: its length in bytes, its kind and its nesting.
 #[inline(always)]
-#[tactic(auto, using(crate::proofs::lexical::Tokens::near_fits))]
+#[tactic(auto, using(crate::proofs::lexical::Tokens::some_fits))]
 pub fn token_in_one_load(text: &str) -> Option<(usize, Kind, Nesting)>
     requires { length text.now < 2 ^ 62 }
     ensures is { IfSome result (λ t. Some t ≡ taken (spec.front text.now)) }
@@ -318,7 +318,7 @@ pub fn ignored_of(text: &str) -> Option<(usize, Move)>
 
 /// The number of spaces at the start of the input, if one load shows their end.
 #[inline(always)]
-#[tactic(auto, using(crate::proofs::lexical::Spaces::near_boundary))]
+#[tactic(auto, using(crate::proofs::lexical::Spaces::some_boundary))]
 pub fn spaces_in_one_load(text: &str) -> Option<usize>
     ensures len { IfSome result (λ n. n ≡ prefix_len is_space text.now) }
     ensures within { IfSome result (λ n. n ≤ length text.now) }

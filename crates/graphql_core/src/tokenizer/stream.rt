@@ -1,7 +1,7 @@
 //! A stream of tokens that counts its calls.
-ghost use Rattle.std.specs.Prelude.{◌≡◌, List, ◌/◌, ◌≤◌, length, IfSome, Ok, Some, None};
+ghost use Rattle.std.specs.Prelude.{◌≡◌, List, ◌/◌, ◌≤◌, length};
 ghost use Rattle.graphql_core.specs.lexical.Items.{Item, HasItems, depth_of};
-ghost use Rattle.graphql_core.specs.lexical.StreamCalls.{NextItem, BeginsWithNext, AreItemsOfRest, next_place};
+ghost use Rattle.graphql_core.specs.lexical.StreamCalls.{NextItem, next_place};
 ghost use Rattle.graphql_core.specs.lexical.StreamCalls.{one_more};
 
 use crate::position::Pos;
@@ -11,7 +11,7 @@ use std::marker::Model;
 
 /// The count plus one, or `usize::MAX` if the count has reached it.
 #[inline(always)]
-fn one_more(cuts: usize) -> usize
+pub(crate) fn one_more(cuts: usize) -> usize
     ensures { result ≡ one_more cuts }
 {
     cuts.saturating_add(1)
@@ -59,24 +59,6 @@ impl<'a> TokenStream<'a> {
         self.tokens.next_token()
     }
 
-    /// Returns the next token, if the fast path recognizes the token and the ignored text after it.
-    ///
-    /// The token is a short name, a punctuator of one character, a nonempty ASCII string without escapes, or a number
-    /// without an exponent. No tab, CR, comment or long run of spaces follows, and more than 16 bytes of input are
-    /// left.
-    ///
-    /// `None` says nothing about the next token, and the stream does not change: call `next_token`.
-    #[inline(always)]
-    pub fn near_token(&mut self) -> Option<Token<'a>>
-        ensures item { IfSome result (λ t. NextItem self.old.items (Ok (Some t)) self.new.items) }
-        ensures cuts { IfSome result (λ t. self.new.cuts ≡ one_more self.old.cuts) }
-        ensures stays { result ≡ None → self.new ≡ self.old }
-    {
-        let token = self.tokens.near_token()?;
-        self.cuts = one_more(self.cuts);
-        Some(token)
-    }
-
     /// The position of the next token, of the end of input, or of the lexical error. Ignored text before it is skipped.
     #[inline(always)]
     pub fn position(&self) -> Pos
@@ -92,15 +74,6 @@ impl<'a> TokenStream<'a> {
         self.tokens.offset()
     }
 
-    /// The rest of the input from the next token, end of input or lexical error on.
-    #[inline(always)]
-    pub fn rest(&self) -> &'a str
-        ensures begins { BeginsWithNext self.now.items result.now }
-        ensures items { AreItemsOfRest self.now.items result.now }
-    {
-        self.tokens.rest()
-    }
-
     /// The number of opening brackets less closing brackets before the next token, possibly negative.
     pub fn depth(&self) -> isize
         ensures { result ≡ depth_of (next_place self.now.items) }
@@ -108,10 +81,25 @@ impl<'a> TokenStream<'a> {
         self.tokens.depth()
     }
 
-    /// The number of calls of `next_token`, plus those of `near_token` that returned a token. At most `usize::MAX`.
+    /// The number of calls of `next_token`, at most `usize::MAX`.
     pub fn cuts(&self) -> usize
         ensures { result ≡ self.now.cuts }
     {
         self.cuts
+    }
+
+    /// The tokens that are left, and `cuts`.
+    pub(crate) fn into_parts(self) -> (Tokens<'a>, usize)
+        ensures items { result.0 ≡ self.entry.items }
+        ensures cuts { result.1 ≡ self.entry.cuts }
+    {
+        (self.tokens, self.cuts)
+    }
+
+    /// The stream with these tokens left, and with this `cuts`.
+    pub(crate) fn from_parts(tokens: Tokens<'a>, cuts: usize) -> Self
+        ensures { result ≡ record { items = tokens.entry; cuts = cuts } }
+    {
+        TokenStream { tokens, cuts }
     }
 }

@@ -7,7 +7,7 @@ ghost use Rattle.graphql_core.specs.steps.Ahead.{NextLexeme};
 use crate::position::Pos;
 use crate::tokenizer::bad::bad_at;
 use crate::tokenizer::brackets::Brackets;
-use crate::tokenizer::ignored::{past_plain, shows_item, skip_ignored, skip_plain};
+use crate::tokenizer::ignored::{after_common, shows_item, skip_ignored, skip_common};
 use crate::tokenizer::lanes::LANES;
 use crate::tokenizer::piece::{begins_with_name, name_in_one_load, token_at, token_in_one_load};
 use crate::tokenizer::place::{position_after_flat, position_after_token};
@@ -94,6 +94,16 @@ impl<'a> Tokens<'a> {
         }))
     }
 
+    /// The result of `next_token`, and the tokens after it: the slow path. A loop need not keep the tokens in memory for
+    /// this call, because they are passed by value.
+    #[inline(never)]
+    pub fn slow_token(mut self) -> (Result<Option<Token<'a>>, Bad<'a>>, Self)
+        ensures { NextItem self.entry result.0 result.1 }
+    {
+        let item = self.next_token();
+        (item, self)
+    }
+
     /// Returns the next token, if the fast path recognizes the token and the ignored text after it.
     ///
     /// The token is a short name, a punctuator of one character, a nonempty ASCII string without escapes, or a number
@@ -102,7 +112,7 @@ impl<'a> Tokens<'a> {
     ///
     /// `None` says nothing about the next token, and nothing changes: call `next_token`.
     #[inline(always)]
-    pub fn near_token(&mut self) -> Option<Token<'a>>
+    pub fn fast_token(&mut self) -> Option<Token<'a>>
         ensures item { IfSome result (λ t. NextItem self.old (Ok (Some t)) self.new) }
         ensures stays { result ≡ None → self.new ≡ self.old }
     {
@@ -117,7 +127,7 @@ impl<'a> Tokens<'a> {
         }
         let (value, after) = self.rest.split_at(len);
         let end = position_after_flat(value, self.position);
-        let (rest, position, is_item) = skip_plain(after, end);
+        let (rest, position, is_item) = skip_common(after, end);
         if !is_item {
             return None;
         }
@@ -127,12 +137,12 @@ impl<'a> Tokens<'a> {
         Some(Token { kind, value })
     }
 
-    /// Returns the next token, if the fast path recognizes it. This call is faster than `near_token`, because
+    /// Returns the next token, if the fast path recognizes it. This call is faster than `fast_token`, because
     /// `position` is not maintained: later positions are unspecified.
     ///
     /// `None` says nothing about the next token, and nothing changes: call `next_token`.
     #[inline(always)]
-    pub fn near_lexeme(&mut self) -> Option<Token<'a>>
+    pub fn fast_lexeme(&mut self) -> Option<Token<'a>>
         ensures item { IfSome result (λ t. NextLexeme self.old t self.new) }
         ensures stays { result ≡ None → self.new ≡ self.old }
     {
@@ -151,7 +161,7 @@ impl<'a> Tokens<'a> {
                 self.rest = rest;
                 return Some(name);
             }
-            self.rest = past_plain(rest)?;
+            self.rest = after_common(rest)?;
             return Some(name);
         }
         let (len, kind, nesting) = token_in_one_load(self.rest)?;
@@ -159,7 +169,7 @@ impl<'a> Tokens<'a> {
             return None;
         }
         let (value, after) = self.rest.split_at(len);
-        self.rest = past_plain(after)?;
+        self.rest = after_common(after)?;
         self.brackets = self.brackets.after(nesting);
         Some(Token { kind, value })
     }

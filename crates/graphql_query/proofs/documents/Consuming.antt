@@ -1,6 +1,6 @@
 -- The first definition of a source, from what a reader consumes.
 use Rattle.std.proofs.Common.{◌≡◌, ℕ, ◌<◌, List, length, drop, sym, ap, subst, ◌∙◌, arith, length-append}
-use Rattle.graphql_core.specs.{Stream, tokens_then, Sym, ParseTree, leaves, Takes, written, Item, HasItems, start}
+use Rattle.graphql_core.specs.{Spent, tokens_then, Sym, ParseTree, leaves, Takes, written, Item, HasItems, start}
 use Rattle.graphql_core.specs.{next_place, items, Last, split, place_of, place_next, Items}
 use Rattle.graphql_core.specs.declared.position.Pos.{Pos}
 use Rattle.graphql_core.proofs.{items_unique, has_items, AreItems, more_items, place_after, one_position}
@@ -27,7 +27,7 @@ module _ (text : List ℕ) (i j : Items) (d : DefinitionTree) (p : Pos) (are : A
 
   position : (next_place (drop (length (leaves parse_tree)) cut)).position ≡ p
   position =
-      let last : j.last ≡ (split cut).last = ap (λ (k : Last × Stream). k.0) h.3 ∙ ap (λ (k : Items). k.last) (are cut (has_items text)).1 in
+      let last : j.last ≡ (split cut).last = ap (λ (k : Last × Spent). k.0) h.3 ∙ ap (λ (k : Items). k.last) (are cut (has_items text)).1 in
       sym (one_position p _ (at ∙ ap (λ (l : Last). place_next (tokens_then j.tokens l)) last
       ∙ place_after cut (leaves parse_tree) j.tokens begins_here.1 within))
 

@@ -69,13 +69,13 @@ tokens-init c =
 
 pub tokens-preserved : goal.tokens-preserved
 tokens-preserved c =
-    let new = c.match-near_lexeme.tokens in
-    let cut = c.match-near_lexeme.token in
-    let following : NextLexeme c.tokens.tokens cut new = elim c.match-near_lexeme.branch [
+    let new = c.match-fast_lexeme.tokens in
+    let cut = c.match-fast_lexeme.token in
+    let following : NextLexeme c.tokens.tokens cut new = elim c.match-fast_lexeme.branch [
       | in-Some w ↦ rw (w.token-is, w.tokens-is) w.in-Some.ensures.item
       | in-None+in-Ok-Some w ↦
           let next : NextItem c.tokens.tokens (Ok (Some cut)) new = rw (w.token-is, w.tokens-is) (next_of _ _ _ _ w.in-Ok-Some.token
-          (w.in-None.ensures.stays refl) w.far_item-after.ensures (w.in-Ok-Some.is ∙ ap Ok (rw w.in-Ok-Some.is at w.in-Ok-Some.field-0-is))) in
+          (w.in-None.ensures.stays refl) w.slow_token-after.ensures (w.in-Ok-Some.is ∙ ap Ok (rw w.in-Ok-Some.is at w.in-Ok-Some.field-0-is))) in
           (next.0, new, next.1, refl)
     ] in
     record {
@@ -91,14 +91,14 @@ pub returns-in-Ok-None-clause-minified : goal.returns-in-Ok-None-clause-minified
 returns-in-Ok-None-clause-minified c =
     let all = c.new-tokens.result in
     let has = c.new-tokens.ensures.items in
-    let (w, last) = at_end c.tokens.tokens _ _ _ (c.in-None.ensures.stays refl) c.far_item-after.ensures
+    let (w, last) = at_end c.tokens.tokens _ _ _ (c.in-None.ensures.stays refl) c.slow_token-after.ensures
     (c.in-Ok-None.is ∙ ap Ok (rw c.in-Ok-None.is at c.in-Ok-None.field-0-is)) in
     all_written c.args.source.now c.tokens.text _ all c.tokens.tokens (kind_number c.tokens.before) w has last (c.tokens.invariant.text all has)
     (c.tokens.invariant.ends all has) c.into_string.ensures
 
 pub fault_of_tokens-requires : goal.fault_of_tokens-requires
 fault_of_tokens-requires c end =
-    not_at_end c.tokens.tokens _ _ _ c.in-Err.field-0 (c.in-None.ensures.stays refl) c.far_item-after.ensures c.in-Err.is
+    not_at_end c.tokens.tokens _ _ _ c.in-Err.field-0 (c.in-None.ensures.stays refl) c.slow_token-after.ensures c.in-Err.is
     (c.tokens.invariant.ends_left c.new.result c.new.ensures.items end)
 
 pub returns-in-Err-clause-first_error : goal.returns-in-Err-clause-first_error

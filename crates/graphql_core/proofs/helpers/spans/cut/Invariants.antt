@@ -1,14 +1,14 @@
-use Rattle.std.proofs.Common.{◌≡◌, ℕ, List, length, vec_capacity}
-use Rattle.graphql_core.specs.{IsLeft, IsCut}
+use Rattle.std.proofs.Common.{◌≡◌, ℕ, List, All, length}
+use Rattle.graphql_core.specs.{Item, HasItems, IsLeft, Marks, split, then_left}
 use Rattle.graphql_core.proofs.helpers.spans.cut.Given as goal
 
 -- the items are the tokens of the spans, and then those that are left
-abbrev pub invariant-items : goal.invariant-items
-invariant-items g l = record {
-  cut : (text : List ℕ) → IsLeft g.W.Width.most text l.fn.stream
-      → IsCut g.W.Width.number g.W.Width.most text l.fn.stream l.spans.items l.stream;
-  capacity : vec_capacity l.spans ≡ vec_capacity l.fn.spans;
+abbrev pub invariant-tokens : goal.invariant-tokens
+invariant-tokens g l = record {
+  marks : All (Marks g.W.Width.number l.fn.text) l.spans.items;
+  left : IsLeft g.W.Width.most l.fn.text l.tokens;
+  items : (all : List Item) → HasItems l.fn.text all → split all ≡ then_left g.W.Width.number l.fn.text l.spans.items (split l.tokens);
 }
 
-abbrev pub decreases-items : goal.decreases-items
-decreases-items g l = length l.stream
+abbrev pub decreases-tokens : goal.decreases-tokens
+decreases-tokens g l = length l.tokens

@@ -10,6 +10,6 @@ returns-else-self-len g c =
       λ full. absurd (c.if-self-len.false (eqb-true _ _ full)),
       λ ended.
           let none = ap (λ (i : Items). i.tokens) c.self.view_is ∙ ended.0 in
-          let all = all_taken g.W.Width.number s.text.now s.spans.items s.taken _ _ s.spans.ok.0 c.self.invariant.3 none in
+          let all = all_taken g.W.Width.number s.text.now s.spans.tokens.items s.taken _ _ s.spans.tokens.ok.0 c.self.invariant.2 none in
           absurd (c.if-self-len.false (all ∙ sym c.len.ensures)),
     )

@@ -1,5 +1,5 @@
 use Rattle.std.proofs.Common.{[], ◌∷◌, ap, ◌∙◌}
-use Rattle.graphql_core.specs.{AnyOf, is_name_start, kind_number, sees, sees_class}
+use Rattle.graphql_core.specs.{AnyOf, is_name_start, kind_number, last_at, sees, sees_class}
 use Rattle.graphql_core.specs.declared.tokenizer.token.Kind.TheVariants.{Name}
 use Rattle.graphql_core.proofs.{lexemes_left, next_seen}
 use Rattle.graphql_core.proofs.lexical.FirstBytes as fronts
@@ -10,7 +10,7 @@ returns g c =
     let s = c.self.inside in
     let number = g.W.Width.number in
     let class = AnyOf (kind_number Name) in
-    c.is_name_start.ensures ∙ ap is_name_start c.self.invariant.2
-    ∙ fronts.sees_name _ (lexemes_left number s.text.now s.spans.items s.taken c.self.invariant.0)
-    ∙ ap (sees (class ∷ [])) (next_seen number s.text.now s.spans.items s.taken _ s.stream s.bad s.spans.ok.0 c.self.invariant.3 c.self.invariant.5)
+    c.is_name_start.ensures ∙ ap is_name_start c.self.invariant.1
+    ∙ fronts.sees_name _ (lexemes_left number s.text.now s.spans.tokens.items s.taken c.self.invariant.0)
+    ∙ ap (sees (class ∷ [])) (next_seen number s.text.now s.spans.tokens.items s.taken (last_at s.spans.end s.spans.bad))
     ∙ ap (sees_class class) c.self.view_is

@@ -3,39 +3,39 @@ use Rattle.graphql_core.specs.declared.tokenizer.piece.Move.TheVariants.{Over, D
 use Rattle.graphql_core.specs.{is_blank, is_line_feed, is_ignored, contents, items}
 use Rattle.graphql_core.proofs.{skip_contents, gap_contents, spaces_gap, blank_front, feed_front, ignored_boundary}
 use Rattle.graphql_core.proofs.{first_told, item_front}
-use Rattle.graphql_core.proofs.tokenizer.ignored.past_plain.Goals as goal
+use Rattle.graphql_core.proofs.tokenizer.ignored.after_common.Goals as goal
 
 pub returns-then-not-is_ignored-clause-first : goal.returns-then-not-is_ignored-clause-first
 returns-then-not-is_ignored-clause-first c =
-    let rest = c.plain.rest.now in
+    let rest = c.common.rest.now in
     let other = first_told is_ignored rest c.front_byte-byte.ensures c.is_ignored.ensures c.if-not-is_ignored.true in
     item_front rest other
 
 pub split_at-requires : goal.split_at-requires
 split_at-requires c =
-    let rest = c.plain.rest.now in
+    let rest = c.common.rest.now in
     let blank = first_told is_blank rest c.front_byte-byte.ensures c.is_blank.ensures c.if-is_blank.true in
-    ignored_boundary rest (Over 1) c.plain.invariant.text (blank_front rest blank)
+    ignored_boundary rest (Over 1) c.common.invariant.text (blank_front rest blank)
 
-pub plain-preserved-then-is_blank : goal.plain-preserved-then-is_blank
-plain-preserved-then-is_blank c =
-    let rest = c.plain.rest.now in
+pub common-preserved-then-is_blank : goal.common-preserved-then-is_blank
+common-preserved-then-is_blank c =
+    let rest = c.common.rest.now in
     let blank = first_told is_blank rest c.front_byte-byte.ensures c.is_blank.ensures c.if-is_blank.true in
     record {
       text = search rules;
-      left = λ w. rw c.split_at.ensures.back (skip_contents rest 1 (Over 1) (blank_front rest blank) w) ∙ c.plain.invariant.left w;
+      left = λ w. rw c.split_at.ensures.back (skip_contents rest 1 (Over 1) (blank_front rest blank) w) ∙ c.common.invariant.left w;
       within = omega arith;
     }
 
 pub split_at-requires-then-is_line_feed : goal.split_at-requires-then-is_line_feed
 split_at-requires-then-is_line_feed c =
-    let rest = c.plain.rest.now in
+    let rest = c.common.rest.now in
     let feed = first_told is_line_feed rest c.front_byte-byte.ensures c.is_line_feed.ensures c.if-is_line_feed.true in
-    ignored_boundary rest Down c.plain.invariant.text (feed_front rest feed)
+    ignored_boundary rest Down c.common.invariant.text (feed_front rest feed)
 
-pub plain-preserved : goal.plain-preserved
-plain-preserved c =
-    let rest = c.plain.rest.now in
+pub common-preserved : goal.common-preserved
+common-preserved c =
+    let rest = c.common.rest.now in
     let feed = first_told is_line_feed rest c.front_byte-byte.ensures c.is_line_feed.ensures c.if-is_line_feed.true in
     record {
       text = search rules;
@@ -46,6 +46,6 @@ plain-preserved c =
           (gap_contents k after (omega (arith, c.in_ok-spaces.ensures.len, spaces_gap after)) w) in
           let down : contents (items w after) ≡ contents (items w rest) = rw c.split_at-then-is_line_feed.ensures.back
           (skip_contents rest 1 Down (feed_front rest feed) w) in
-          past ∙ down ∙ c.plain.invariant.left w;
+          past ∙ down ∙ c.common.invariant.left w;
       within = omega arith;
     }

@@ -3,23 +3,23 @@ use Rattle.graphql_core.specs.declared.tokenizer.piece.Move.TheVariants.{Over, D
 use Rattle.graphql_core.specs.{is_blank, is_line_feed, is_ignored}
 use Rattle.graphql_core.proofs.{further_skip, further_spaces, blank_front, feed_front, ignored_boundary, first_told}
 use Rattle.graphql_core.proofs.{item_front}
-use Rattle.graphql_core.proofs.tokenizer.ignored.skip_plain.Goals as goal
+use Rattle.graphql_core.proofs.tokenizer.ignored.skip_common.Goals as goal
 
 pub returns-then-not-is_ignored-clause-first : goal.returns-then-not-is_ignored-clause-first
 returns-then-not-is_ignored-clause-first c told =
-    let rest = c.plain.rest.now in
+    let rest = c.common.rest.now in
     let other = first_told is_ignored rest c.front_byte-byte.ensures c.is_ignored.ensures c.if-not-is_ignored.true in
     item_front rest other
 
 pub split_at-requires : goal.split_at-requires
 split_at-requires c =
-    let rest = c.plain.rest.now in
+    let rest = c.common.rest.now in
     let blank = first_told is_blank rest c.front_byte-byte.ensures c.is_blank.ensures c.if-is_blank.true in
-    ignored_boundary rest (Over 1) c.plain.invariant.text (blank_front rest blank)
+    ignored_boundary rest (Over 1) c.common.invariant.text (blank_front rest blank)
 
-pub plain-preserved-then-is_blank : goal.plain-preserved-then-is_blank
-plain-preserved-then-is_blank c =
-    let rest = c.plain.rest.now in
+pub common-preserved-then-is_blank : goal.common-preserved-then-is_blank
+common-preserved-then-is_blank c =
+    let rest = c.common.rest.now in
     let blank = first_told is_blank rest c.front_byte-byte.ensures c.is_blank.ensures c.if-is_blank.true in
     record {
       text = search rules;
@@ -28,7 +28,7 @@ plain-preserved-then-is_blank c =
             let passed = length c.args.text.now - length rest in
             let all : length c.args.text.now - length c.split_at.result.1.now ≡ passed + 1 = omega arith in
             rw (all, c.split_at.ensures.back, c.position_after_spaces-place.ensures)
-            (further_skip w c.plain.place passed rest 1 (Over 1) (blank_front rest blank) ∙ c.plain.invariant.skipped.0 w at),
+            (further_skip w c.common.place passed rest 1 (Over 1) (blank_front rest blank) ∙ c.common.invariant.skipped.0 w at),
         omega arith,
         search rules,
         search rules,
@@ -37,26 +37,26 @@ plain-preserved-then-is_blank c =
 
 pub split_at-requires-then-is_line_feed : goal.split_at-requires-then-is_line_feed
 split_at-requires-then-is_line_feed c =
-    let rest = c.plain.rest.now in
+    let rest = c.common.rest.now in
     let feed = first_told is_line_feed rest c.front_byte-byte.ensures c.is_line_feed.ensures c.if-is_line_feed.true in
-    ignored_boundary rest Down c.plain.invariant.text (feed_front rest feed)
+    ignored_boundary rest Down c.common.invariant.text (feed_front rest feed)
 
 pub returns-in_default-clause-skips : goal.returns-in_default-clause-skips
 returns-in_default-clause-skips c =
-    let rest = c.plain.rest.now in
+    let rest = c.common.rest.now in
     let feed = first_told is_line_feed rest c.front_byte-byte.ensures c.is_line_feed.ensures c.if-is_line_feed.true in
     let passed = length c.args.text.now - length rest in
     let all : length c.args.text.now - length c.split_at-then-is_line_feed.result.1.now ≡ passed + 1 = omega arith in (
       (λ w at. rw (all, c.split_at-then-is_line_feed.ensures.back, c.position_after_line-place.ensures)
-          (further_skip w c.plain.place passed rest 1 Down (feed_front rest feed) ∙ c.plain.invariant.skipped.0 w at)),
+          (further_skip w c.common.place passed rest 1 Down (feed_front rest feed) ∙ c.common.invariant.skipped.0 w at)),
       omega arith,
       search rules,
       search rules,
     )
 
-pub plain-preserved : goal.plain-preserved
-plain-preserved c =
-    let rest = c.plain.rest.now in
+pub common-preserved : goal.common-preserved
+common-preserved c =
+    let rest = c.common.rest.now in
     let feed = first_told is_line_feed rest c.front_byte-byte.ensures c.is_line_feed.ensures c.if-is_line_feed.true in
     record {
       text = search rules;
@@ -69,7 +69,7 @@ plain-preserved c =
             let spaces = further_spaces w c.position_after_line-place.result (passed + 1) after k (omega (arith, c.in-Some.ensures.len)) in
             rw (all, c.position_after_spaces-place-then-is_line_feed.ensures, c.split_at-then-is_line_feed-2.ensures.back)
             (spaces ∙ rw (c.split_at-then-is_line_feed.ensures.back, c.position_after_line-place.ensures)
-            (further_skip w c.plain.place passed rest 1 Down (feed_front rest feed)) ∙ c.plain.invariant.skipped.0 w at),
+            (further_skip w c.common.place passed rest 1 Down (feed_front rest feed)) ∙ c.common.invariant.skipped.0 w at),
         omega arith,
         search rules,
         search rules,

@@ -3,7 +3,7 @@ use Rattle.graphql_core.specs.{Where, is_too_deep}
 use Rattle.graphql_core.specs.declared.tokenizer.token.Kind.TheVariants.{Name}
 use Rattle.graphql_core.specs.declared.tokenizer.piece.Nesting.TheVariants.{Level}
 use Rattle.graphql_core.proofs.{one_bracket, few_open, gap_boundary, past_gap, lexeme_then_rest}
-use Rattle.graphql_core.proofs.tokenizer.tokens.Tokens.near_lexeme.Goals as goal
+use Rattle.graphql_core.proofs.tokenizer.tokens.Tokens.fast_lexeme.Goals as goal
 
 pub split_at-requires-then-begins_with_name : goal.split_at-requires-then-begins_with_name
 split_at-requires-then-begins_with_name c =
