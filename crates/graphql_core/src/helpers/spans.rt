@@ -80,7 +80,7 @@ fn cut<W: Width>(alloc: Global, text: &str) -> Result<Spans<'_, W>, AllocError>
     requires narrow { 8 * length text.now < W.most }
     ensures { (items : List Item) → HasItems text.now items → IfOk result (λ s. IsCut W.number text.now (split items) s.tokens.items s.end s.bad) }
 {
-    let mut spans = Vec::with_capacity(alloc, text.len() / 8 + 1)?;
+    let mut spans = Vec::with_capacity(alloc, text.len() / 4 + 1)?;
     let mut tokens = Tokens::new(text);
     'tokens: loop {
         let start = tokens.offset();
@@ -92,8 +92,16 @@ fn cut<W: Width>(alloc: Global, text: &str) -> Result<Spans<'_, W>, AllocError>
                 tokens = after;
                 match item {
                     Ok(Some(token)) => token,
-                    Ok(None) => return Ok(Spans { tokens: spans, end: position, bad: None }),
-                    Err(bad) => return Ok(Spans { tokens: spans, end: position, bad: Some(bad) }),
+                    Ok(None) => return Ok(Spans {
+                        tokens: spans,
+                        end: position,
+                        bad: None,
+                    }),
+                    Err(bad) => return Ok(Spans {
+                        tokens: spans,
+                        end: position,
+                        bad: Some(bad),
+                    }),
                 }
             }
         };

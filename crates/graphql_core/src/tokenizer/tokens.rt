@@ -7,7 +7,7 @@ ghost use Rattle.graphql_core.specs.steps.Ahead.{NextLexeme};
 use crate::position::Pos;
 use crate::tokenizer::bad::bad_at;
 use crate::tokenizer::brackets::Brackets;
-use crate::tokenizer::ignored::{after_common, shows_item, skip_ignored, skip_common};
+use crate::tokenizer::ignored::{after_common, shows_item, skip_common, skip_ignored};
 use crate::tokenizer::lanes::LANES;
 use crate::tokenizer::piece::{begins_with_name, name_in_one_load, token_at, token_in_one_load};
 use crate::tokenizer::place::{position_after_flat, position_after_token};
