@@ -22,7 +22,7 @@ module _ {D : Type 0} (l : Language D) (r : IsReadable l) (e : Expr) (d : decide
     stops_before : (x : ParseTree) → Takes (reading l) e old.tokens x new.tokens → StopsBefore (lax l.grammar) e (leaves x) new.tokens
     stops_before x h u rest is (y, more, derived) =
         let longer : Derives (lax l.grammar) e (leaves x ++ u ∷ more) y =
-            subst (λ (ts : List Token). Derives (lax l.grammar) e ts y) (append_assoc (leaves x) (u ∷ []) more) derived in
+        subst (λ (ts : List Token). Derives (lax l.grammar) e ts y) (append_assoc (leaves x) (u ∷ []) more) derived in
         let none : u ∷ more ≡ [] = (exact_at.longest old.tokens new.tokens x h y (u ∷ more) longer (ap peek (sym is))).1 in
         absurd cc
 
@@ -33,7 +33,7 @@ module _ {D : Type 0} (l : Language D) (r : IsReadable l) (e : Expr) (d : decide
     stops_at_first why h =
         let first : IsFirstFaultFor l.grammar e old.tokens why new.tokens = exact_at.earliest old.tokens new.tokens why h in
         let count : length old.tokens - length new.tokens ≡ length first.front =
-            omega (arith, ap length first.parts, length-append first.front new.tokens) in
+        omega (arith, ap length first.parts, length-append first.front new.tokens) in
         let least = least_at.wrong (numbered old) why (length old.tokens - length new.tokens) (Fault why new.tokens, h, refl) in
         (first.front, (first.parts, subst (λ (n : ℕ). IsLeast l.grammar e (numbered old) why (index_of why n)) count least))
 
