@@ -47,6 +47,7 @@ pub mod schema {
 /// Theorems about what the calls promise. A theorem is a function whose contract states it, and most have no code.
 pub mod laws {
     pub use graphql_core::common::one_value;
+    pub use graphql_core::common::read::laws::readers_return_what_is_derived;
     pub use graphql_core::position::{are_same_position, compare_positions, default_position};
     pub use graphql_core::tokenizer::one_list_of_items;
     pub use graphql_schema::{are_same_location, locations_are_named};

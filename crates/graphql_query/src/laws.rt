@@ -37,5 +37,5 @@ pub fn minified_texts_are_parsed_alike()
 /// symbol derives begins with these tokens and the next. Or the error is the first error for the symbol.
 pub fn readers_return_what_is_derived<V, M>()
     ensures { (k : ℕ) (old new : Items) (view : V → M) (means : ParseTree → M) (r : Result V ReadError) → k < length second_rows
-        → Reads (Sym k) old new (λ v x. view v ≡ means x) r → ReturnsDerived queries (Sym k) old new reason_of (λ v x. view v ≡ means x) r }
+        → Reads (Sym k) old new (λ v x. view v ≡ means x) r → ReturnsDerived queries.grammar (Sym k) old new reason_of (λ v x. view v ≡ means x) r }
 {}

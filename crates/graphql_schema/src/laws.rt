@@ -47,9 +47,9 @@ pub fn rejected_nodes_are_in_the_input()
 /// symbol derives begins with these tokens and the next. Or the error is the first error for the symbol.
 pub fn readers_return_what_is_derived<V, M>()
     ensures plain { (k : ℕ) (old new : Items) (view : V → M) (means : ParseTree → M) (r : Result V ReadError) → k < length second_rows
-        → Reads (Sym k) old new (λ v x. view v ≡ means x) r → ReturnsDerived schemas (Sym k) old new reason_of (λ v x. view v ≡ means x) r }
+        → Reads (Sym k) old new (λ v x. view v ≡ means x) r → ReturnsDerived schemas.grammar (Sym k) old new reason_of (λ v x. view v ≡ means x) r }
     // of readers that can reject a node
     ensures nodes { (k : ℕ) (old new : Items) (view : V → M) (means : ParseTree → M) (r : Result V (NodeError InvalidNode)) → k < length second_rows
         → ReadsNode (Sym k) old new (λ v x. view v ≡ means x) r
-        → ReturnsDerived schemas (Sym k) old new (halt_reason refusals) (λ v x. view v ≡ means x) r }
+        → ReturnsDerived schemas.grammar (Sym k) old new (halt_reason refusals) (λ v x. view v ≡ means x) r }
 {}

@@ -1,6 +1,6 @@
 use Rattle.std.proofs.Common.{◌≡◌, true, length, refl}
 use Rattle.graphql_core.specs.{reason_of, tables as shared_tables, unquoted, reading}
-use Rattle.graphql_core.proofs.ByGrammar.{sampled_below, symbol_derived}
+use Rattle.graphql_core.proofs.ByGrammar.{sampled_below, symbol_derived_for}
 use Rattle.graphql_query.specs.{queries, second_rows, tables}
 use Rattle.graphql_query.proofs.{readable}
 use Rattle.graphql_query.proofs.laws.readers_return_what_is_derived.Goals as goal
@@ -12,4 +12,4 @@ sampled = refl
 
 pub returns : goal.returns
 returns g c k old new view means r below reads =
-    symbol_derived queries readable (length second_rows) sampled k below old new reason_of (λ v x. view v ≡ means x) r reads
+    symbol_derived_for queries readable (length second_rows) sampled k below old new reason_of (λ v x. view v ≡ means x) r reads
