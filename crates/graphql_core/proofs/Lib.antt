@@ -9,6 +9,7 @@ pub mod values
 pub mod layouts
 pub mod round_trip
 pub mod documents
+pub mod ByGrammar
 pub use Rattle.std.proofs.lemmas.Bool.{and_from, and_parts, cases_Bool, false_from_ne_true, false≢true, not-true, or_parts}
 pub use Rattle.std.proofs.lemmas.Bool.Decides.{nat_tests}
 pub use Rattle.std.proofs.lemmas.Iterator.Consumers.{YieldsList-at}
@@ -29,6 +30,7 @@ unfoldable pub use values.*
 unfoldable pub use layouts.*
 unfoldable pub use round_trip.*
 unfoldable pub use documents.*
+unfoldable pub use ByGrammar.*
 pub use grammar.{same_spelling-true, sees-apart, sees-parts, sees-within, take-or_fail}
 pub use rules.{IsSecond-head, IsSecond-prefix, IsSecond-second, IsSecond-sides, IsSecond-symbols, alone_before}
 pub use rules.{each_is_second, tests_alike, unchanged_then, with_more}

@@ -44,5 +44,32 @@ pub mod schema {
     };
 }
 
+/// Theorems about what the calls promise. A theorem is a function whose contract states it, and most have no code.
+pub mod laws {
+    pub use graphql_core::common::one_value;
+    pub use graphql_core::common::read::laws::readers_return_what_is_derived;
+    pub use graphql_core::position::{are_same_position, compare_positions, default_position};
+    pub use graphql_core::tokenizer::one_list_of_items;
+    pub use graphql_schema::{are_same_location, locations_are_named};
+
+    /// Theorems about query documents.
+    pub mod query {
+        pub use graphql_query::{
+            brackets_are_those_of_the_layout, least_faults_are_first,
+            minified_texts_are_parsed_alike, none_goes_on_with_an_unexpected_item,
+            printed_documents_are_read_back, readers_return_what_is_derived, text_has_no_positions,
+        };
+    }
+
+    /// Theorems about schema documents.
+    pub mod schema {
+        pub use graphql_schema::{
+            brackets_are_those_of_the_layout, minified_texts_are_parsed_alike,
+            none_goes_on_with_an_unexpected_item, printed_documents_are_read_back,
+            readers_return_what_is_derived, rejected_nodes_are_in_the_input, text_has_no_positions,
+        };
+    }
+}
+
 #[cfg(test)]
 mod tests;

@@ -1,9 +1,11 @@
-//! Theorems about the specification of errors and of minifying.
-ghost use Rattle.std.specs.Prelude.{◌≡◌, ℕ, true, List, Result};
+//! Theorems about the specification of errors, of minifying and of readers.
+ghost use Rattle.std.specs.Prelude.{◌≡◌, ◌<◌, ℕ, true, List, length, Result};
 ghost use Rattle.graphql_core.specs.{Item, is_unexpected, IsMinified, FaultText, split, IsLeastFault, NoneGoesOn};
-ghost use Rattle.graphql_core.specs.{Refusal};
+ghost use Rattle.graphql_core.specs.{Refusal, Sym, ParseTree, Items, reason_of};
+ghost use Rattle.graphql_core.specs.documents.ByGrammar.{ReturnsDerived};
+ghost use Rattle.graphql_core.specs.declared.helpers.read_error.ReadError.{ReadError};
 ghost use Rattle.graphql_query.specs.{DocumentTree, queries, IsParsed, AreAlike, IsFirstFaultOf, IsLeastFaultOf};
-ghost use Rattle.graphql_query.specs.{one_definition};
+ghost use Rattle.graphql_query.specs.{one_definition, Reads, second_rows};
 
 /// An input has at most one first error (the one at the lowest token index). The tokens before it are a prefix of some
 /// document. With the offending token, or the end of the input, they are not.
@@ -28,4 +30,12 @@ pub fn minified_texts_are_parsed_alike()
     // The two errors have the same cause.
     ensures one_cause { (source text : List ℕ) (f g : FaultText) → IsMinified source text → IsLeastFaultOf source f → IsLeastFaultOf text g
         → f.cause ≡ g.cause }
+{}
+
+/// What a reader of a symbol promises by the factored rules implies what is said by the written grammar alone. A returned
+/// value is what a parse tree denotes, and the symbol derives exactly the tokens taken by that tree. No list that the
+/// symbol derives begins with these tokens and the next. Or the error is the first error for the symbol.
+pub fn readers_return_what_is_derived<V, M>()
+    ensures { (k : ℕ) (old new : Items) (view : V → M) (means : ParseTree → M) (r : Result V ReadError) → k < length second_rows
+        → Reads (Sym k) old new (λ v x. view v ≡ means x) r → ReturnsDerived queries.grammar (Sym k) old new reason_of (λ v x. view v ≡ means x) r }
 {}

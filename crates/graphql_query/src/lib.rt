@@ -17,6 +17,7 @@ pub use error::ParseError;
 pub use graphql_core::common::{Names, Text};
 pub use laws::{
     least_faults_are_first, minified_texts_are_parsed_alike, none_goes_on_with_an_unexpected_item,
+    readers_return_what_is_derived,
 };
 pub use minify::{MinifyError, minify_query};
 pub use text_laws::{

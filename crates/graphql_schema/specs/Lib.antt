@@ -7,6 +7,7 @@ pub mod Layout
 pub mod Locations
 pub mod Meanings
 pub mod Printable
+pub mod RejectedNodes
 pub mod Roots
 pub mod Tree
 pub mod TreeDepth
@@ -21,6 +22,7 @@ unfoldable pub use Layout.*
 unfoldable pub use Locations.*
 unfoldable pub use Meanings.*
 unfoldable pub use Printable.*
+unfoldable pub use RejectedNodes.*
 unfoldable pub use Roots.*
 unfoldable pub use Tree.*
 unfoldable pub use TreeDepth.*

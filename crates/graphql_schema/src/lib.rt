@@ -86,4 +86,7 @@ pub type DirectiveDefinition<'a, T> = tree::DirectiveDefinition<T>;
 
 pub use document::{parse_schema, parse_schema_from};
 pub use error::ParseError;
-pub use laws::{minified_texts_are_parsed_alike, none_goes_on_with_an_unexpected_item};
+pub use laws::{
+    minified_texts_are_parsed_alike, none_goes_on_with_an_unexpected_item,
+    readers_return_what_is_derived, rejected_nodes_are_in_the_input,
+};
