@@ -84,7 +84,8 @@ begins-past g e front us more u n h l b = n b.0 ((u ∷ l) ++ b.1) (b.2.0, sym (
 
 -- a node that is taken is as long as possible: no list of its symbol extends it with the next item
 module _ (g : Grammar) (ok : is_ll1 g.rows ≡ true) where
-  in_node : (k : ℕ) (ts : List Token) (y : ParseTree) → Fits (lax g) (Sym k) y → ts ≡ leaves y → (z : ParseTree) × Fits (lax g) (row g k).rule z × (ts ≡ leaves z)
+  in_node : (k : ℕ) (ts : List Token) (y : ParseTree) → Fits (lax g) (Sym k) y → ts ≡ leaves y
+      → (z : ParseTree) × Fits (lax g) (row g k).rule z × (ts ≡ leaves z)
   in_node k ts _ (fits_node {x = z} w c) i = (z, w, i)
 
   pub stopped : (k : ℕ) (x : ParseTree) (ts us : List Token) → Takes g (row g k).rule ts x us → StopsBefore (lax g) (Sym k) (leaves x) us
@@ -340,7 +341,8 @@ module _ (g : Grammar) (ok : is_ll1 g.rows ≡ true) (full : is_productive g ≡
         meets = λ other m x. before-index Unexpected t.tokens us (leaves z) p other m (meets-taken t other us m z h x);
       }
     where
-      ends : (vs : List Token) → Takes g e t.tokens z vs → (vs ≡ [] → t.ending ≡ InvalidToken) → (vs ≡ [] → t.ending ≡ InputEnds) → Ends (lax g) e (leaves z) (peek vs)
+      ends : (vs : List Token) → Takes g e t.tokens z vs → (vs ≡ [] → t.ending ≡ InvalidToken) → (vs ≡ [] → t.ending ≡ InputEnds)
+          → Ends (lax g) e (leaves z) (peek vs)
       ends [] w i j y more b q = absurd (ends_once (sym (j refl) ∙ i refl))
         where
           ends_once : InputEnds ≡ InvalidToken → ⊥

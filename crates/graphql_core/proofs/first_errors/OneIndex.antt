@@ -126,7 +126,8 @@ module _ (g : Grammar) (ok : is_ll1 g.rows ≡ true) where
   compare (leads_node {k = j} l) (leads_node m) dc ts rest rest2 h k s r = compare l m (IsRow-each g.rows ok j).decides ts rest rest2 h k s r
 
 -- what is derived there can be extended to a whole list
-leads-begins : (g : Grammar) {e d : Expr} {front : List Token} {z : ParseTree} → Leads (lax g) e front d → Fits (lax g) d z → Begins (lax g) e (front ++ leaves z)
+leads-begins : (g : Grammar) {e d : Expr} {front : List Token} {z : ParseTree} → Leads (lax g) e front d → Fits (lax g) d z
+    → Begins (lax g) e (front ++ leaves z)
 leads-begins g {z = z} leads_here f = (z, [], (f, append-nil (leaves z)))
 leads-begins g {z = z} (leads_before {a} {b} {ts = ts} {y = y} l w) f =
     begins-around (lax g) a (Then a b) (ts ++ leaves z) (λ x. Both x y) (leaves y) (λ x v. fits_both v w) (λ x. refl) (leads-begins g l f)

@@ -53,7 +53,8 @@ module _ (g : Grammar) where
   either Right e p q = from_found (second_answer e) q
   either Neither e p q = Some (Fault Unexpected _, fails_neither e)
 
-  abbrev pub turn_taken : {a : Expr} {ts us : List Token} {x : ParseTree} → sees (first g.rows a) (peek ts) ≡ true → Takes g a ts x us → ReaderAnswer g (Many a) us
+  abbrev pub turn_taken : {a : Expr} {ts us : List Token} {x : ParseTree} → sees (first g.rows a) (peek ts) ≡ true → Takes g a ts x us
+      → ReaderAnswer g (Many a) us
       → ReaderAnswer g (Many a) ts
   turn_taken s h (Done y vs, k) = (Done (More _ y) vs, takes_more s h k)
   turn_taken s h (Fault why vs, k) = (Fault why vs, fails_later s h k)

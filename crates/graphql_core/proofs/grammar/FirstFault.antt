@@ -117,7 +117,8 @@ pub record Stuck (g : Grammar) (e : Expr) (ts : List Token) (why : Reason) (us :
   pub refused : (k : ℕ) → why ≡ Refused k → IsRefusedBefore g front k
   pub again : (vs : List Token) → peek vs ≡ peek us → Fails g e (front ++ vs) why vs
 
-pub begins-around : (h : Grammar) (a e : Expr) (ts : List Token) (wrap : ParseTree → ParseTree) (end : List Token) → ((x : ParseTree) → Fits h a x → Fits h e (wrap x))
+pub begins-around : (h : Grammar) (a e : Expr) (ts : List Token) (wrap : ParseTree → ParseTree) (end : List Token)
+    → ((x : ParseTree) → Fits h a x → Fits h e (wrap x))
     → ((x : ParseTree) → leaves (wrap x) ≡ leaves x ++ end) → Begins h a ts → Begins h e ts
 begins-around h a e ts wrap end fit same b =
     (wrap b.0, b.1 ++ end, (fit b.0 b.2.0, sym (append_assoc ts b.1 end) ∙ ap (λ (l : List Token). l ++ end) b.2.1 ∙ sym (same b.0)))
@@ -193,7 +194,8 @@ around g a e ts us why s wrap end fit lax_fit same again = record {
 }
 
 -- the same after a tree that was read
-after : (g : Grammar) (a b e : Expr) (ts us vs : List Token) (x : ParseTree) (why : Reason) → Takes g a ts x us → (s : Stuck g b us why vs) → (wrap : ParseTree → ParseTree)
+after : (g : Grammar) (a b e : Expr) (ts us vs : List Token) (x : ParseTree) (why : Reason) → Takes g a ts x us → (s : Stuck g b us why vs)
+    → (wrap : ParseTree → ParseTree)
     → ((y : ParseTree) → Fits (unchecked g) b y → Fits (unchecked g) e (wrap y)) → ((y : ParseTree) → Fits (lax g) b y → Fits (lax g) e (wrap y))
     → ((y : ParseTree) → leaves (wrap y) ≡ leaves x ++ leaves y)
     → ((ws : List Token) → peek ts ≡ peek (leaves x ++ (s.front ++ ws)) → Takes g a (leaves x ++ (s.front ++ ws)) x (s.front ++ ws)

@@ -133,7 +133,8 @@ next-of : (g : Grammar) {e : Expr} {ts us : List Token} {x : ParseTree} → Take
     → peek ts ≡ Some t
 next-of g {us = us} p t ks r h = ap peek (takes-leaves g p ∙ ap (λ (l : List Token). l ++ us) h)
 
-pub classes_alike : (g : Grammar) {e : Expr} {ts : List Token} {x : ParseTree} {us : List Token} {ts' : List Token} {y : ParseTree} {us' : List Token} → Takes g e ts x us
+pub classes_alike : (g : Grammar) {e : Expr} {ts : List Token} {x : ParseTree} {us : List Token} {ts' : List Token} {y : ParseTree} {us' : List Token}
+    → Takes g e ts x us
     → Takes g e ts' y us'
     → (ks r s : List Token) → leaves x ≡ ks ++ r → leaves y ≡ ks ++ s → Alike (classes g e x) (classes g e y) ks
 classes_alike g {e = e} {x = x} {y = y} p q [] r s h k = none_alike (classes g e x) (classes g e y)

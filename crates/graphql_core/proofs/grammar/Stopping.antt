@@ -15,7 +15,8 @@ use Rattle.graphql_core.proofs.grammar.Tight.{real}
 
 module _ (g : Grammar) (ok : is_ll1 g.rows ≡ true) (full : is_productive g ≡ true) (tight : is_tight g.rows ≡ true) where
   -- what is read before another part that is empty or shows that the first part is complete
-  join : (a b : Expr) (x y : ParseTree) (us : List Token) → decides g.rows a ≡ true → all_apart (cont g.rows a) (first g.rows b) ≡ true → Fits g a x → Fits g b y
+  join : (a b : Expr) (x y : ParseTree) (us : List Token) → decides g.rows a ≡ true → all_apart (cont g.rows a) (first g.rows b) ≡ true → Fits g a x
+      → Fits g b y
       → (leaves y ≡ [] → Takes g a (leaves x ++ us) x us) → Takes g a (leaves x ++ (leaves y ++ us)) x (leaves y ++ us)
   join a b x y us d w p q alone = go (leaves y) refl
     where
@@ -92,7 +93,8 @@ module _ (g : Grammar) (ok : is_ll1 g.rows ≡ true) (full : is_productive g ≡
   short : (x y u : List Token) → y ≡ [] → x ++ u ≡ (x ++ y) ++ u
   short x y u i = ap (λ (l : List Token). l ++ u) (sym (ap (λ (l : List Token). x ++ l) i ∙ append-nil x))
 
-  pub stops : {e : Expr} {x : ParseTree} → Fits g e x → decides g.rows e ≡ true → has_samples g e ≡ true → (us : List Token) → StopsBefore (lax g) e (leaves x) us
+  pub stops : {e : Expr} {x : ParseTree} → Fits g e x → decides g.rows e ≡ true → has_samples g e ≡ true → (us : List Token)
+      → StopsBefore (lax g) e (leaves x) us
       → Takes g e (leaves x ++ us) x us
   stops fits_nothing d f us n = takes_nothing
   stops (fits_leaf h) d f us n = takes_leaf h

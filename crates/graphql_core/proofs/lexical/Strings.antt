@@ -273,7 +273,8 @@ unfolding quoted_front
 string_front {body} valid rest h =
     rw (string_quotes valid rest h, string_closes valid 0 rest) (ap (λ n. Takes n StringValue Level) (omega arith))
 
-pub block_front : {body : List ℕ} → ClosesBlock body → (rest : List ℕ) → quoted_front (34 ∷ 34 ∷ 34 ∷ (body ++ rest)) ≡ Takes (length body + 3) BlockString Level
+pub block_front : {body : List ℕ} → ClosesBlock body → (rest : List ℕ)
+    → quoted_front (34 ∷ 34 ∷ 34 ∷ (body ++ rest)) ≡ Takes (length body + 3) BlockString Level
 unfolding quoted_front
 block_front {body} closes rest = rw (block_closed closes 0 rest) (ap (λ n. Takes n BlockString Level) (omega arith))
 

@@ -18,7 +18,8 @@ pub record IsSide (g : Grammar) (e f : Expr) (inside : ParseTree → ParseTree) 
   -- what f leads to, e leads to
   pub leads : (us : List Token) (d : Expr) → Leads (lax g) f us d → Leads (lax g) e us d
 
-pub through : (g : Grammar) (e f h : Expr) (i j : ParseTree → ParseTree) (ts : List Token) → IsSide g e f i ts → IsSide g f h j ts → IsSide g e h (λ x. i (j x)) ts
+pub through : (g : Grammar) (e f h : Expr) (i j : ParseTree → ParseTree) (ts : List Token) → IsSide g e f i ts → IsSide g f h j ts
+    → IsSide g e h (λ x. i (j x)) ts
 through g e f h i j ts outer inner = record {
   takes = λ us x t. outer.takes us (j x) (inner.takes us x t);
   stops = λ us o s. outer.stops us o (inner.stops us o s);

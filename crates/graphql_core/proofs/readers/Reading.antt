@@ -91,7 +91,8 @@ stops_cases g a e ts ss us why f where_seen elsewhere h =
     ]
 
 -- the second alternative is not seen: the first is taken, or fails
-pub takes_left : (g : Grammar) (a b : Expr) (ts us : List Token) (x : ParseTree) → FailsUnseen g a ts → Takes g a ts x us → choose g.rows a b (trees.peek ts) ≡ Left
+pub takes_left : (g : Grammar) (a b : Expr) (ts us : List Token) (x : ParseTree) → FailsUnseen g a ts → Takes g a ts x us
+    → choose g.rows a b (trees.peek ts) ≡ Left
 takes_left g a b ts us x f h = picks-first g.rows a b (trees.peek ts) (takes_seen g a ts us x f h)
 
 pub stops_left : (g : Grammar) (a b : Expr) (ts us : List Token) (o : Option Reason) → nullable g.rows a ≡ false → nullable g.rows b ≡ false
@@ -153,7 +154,8 @@ many_means g a f m of stop more (takes_stop h) = stop
 many_means g a f m of stop more (takes_more {x = x} {y = y} h p q) = more x y (turn_values (one_of f) y) (many_means g a f m of stop more q)
 
 -- the same, if turns denote the elements of a list
-pub each_means : {A : Type 0} {g : Grammar} {a : Expr} (f : ParseTree → A) (m : ParseTree → List A) → m trees.Stop ≡ [] → ((x y : ParseTree) → m (More x y) ≡ f x ∷ m y)
+pub each_means : {A : Type 0} {g : Grammar} {a : Expr} (f : ParseTree → A) (m : ParseTree → List A) → m trees.Stop ≡ []
+    → ((x y : ParseTree) → m (More x y) ≡ f x ∷ m y)
     → {ts : List Token} {x : ParseTree} {us : List Token} → Takes g (Many a) ts x us → m x ≡ each f x
 each_means {g = g} {a = a} f m stop more h = many_means g a f m (λ l. l) stop (λ x y vs e. more x y ∙ ap (λ l. f x ∷ l) e) h
 

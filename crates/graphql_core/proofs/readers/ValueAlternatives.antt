@@ -58,7 +58,8 @@ unseen_plain : (ts : List Token) → FailsUnseen shared (Sym plain_symbol) ts
 unfolding tables
 unseen_plain ts = unseen_symbol shared plain_symbol ts refl (unseen_either shared _ _ ts refl refl)
 
-pub plain_side : (s : Constness) (i : Items) → begins_variable s i ≡ false → sees (bracket ∷ []) (peek i.tokens) ≡ false → sees (brace ∷ []) (peek i.tokens) ≡ false
+pub plain_side : (s : Constness) (i : Items) → begins_variable s i ≡ false → sees (bracket ∷ []) (peek i.tokens) ≡ false
+    → sees (brace ∷ []) (peek i.tokens) ≡ false
     → IsSide shared (Sym (symbol_of s)) (Sym plain_symbol) (as_plain s) i.tokens
 unfolding tables
 plain_side Value i h k l =
@@ -94,7 +95,8 @@ unfolding tables
 unseen_value Value ts = unseen_symbol shared value_symbol ts refl (unseen_either shared _ _ ts refl refl)
 unseen_value Constant ts = unseen_symbol shared const_symbol ts refl (unseen_either shared _ _ ts refl refl)
 
-pub ends_list : (s : Constness) (item : Option Token) → sees (punctuator_class (codes "]") ∷ []) item ≡ true → sees (first rows (Sym (symbol_of s))) item ≡ false
+pub ends_list : (s : Constness) (item : Option Token)
+    → sees (punctuator_class (codes "]") ∷ []) item ≡ true → sees (first rows (Sym (symbol_of s))) item ≡ false
 unfolding tables
 ends_list Value next h = sees-apart (first rows (Sym value_symbol)) (punctuator_class (codes "]") ∷ []) next refl h
 ends_list Constant next h = sees-apart (first rows (Sym const_symbol)) (punctuator_class (codes "]") ∷ []) next refl h

@@ -29,10 +29,12 @@ Any x = Unit {0}
 
 -- ---- states
 
-pub as_word_back : {g : Grammar} {e : Expr} {p : Bool} {d f : ℕ} {ps : List Part} {R : ParseTree → Type 0} → Back g e p d ps false f R → Back g e p d ps true f R
+pub as_word_back : {g : Grammar} {e : Expr} {p : Bool} {d f : ℕ} {ps : List Part} {R : ParseTree → Type 0} → Back g e p d ps false f R
+    → Back g e p d ps true f R
 as_word_back b = record { laid = as_word b.laid; reads = b.reads }
 
-pub anywhere_back : {g : Grammar} {e : Expr} {q : Bool} {d f : ℕ} {ps : List Part} {R : ParseTree → Type 0} → Back g e true d ps q f R → Back g e false d ps q f R
+pub anywhere_back : {g : Grammar} {e : Expr} {q : Bool} {d f : ℕ} {ps : List Part} {R : ParseTree → Type 0} → Back g e true d ps q f R
+    → Back g e false d ps q f R
 anywhere_back b = record { laid = anywhere b.laid; reads = b.reads }
 
 -- the same parts, given by an equal list
@@ -171,7 +173,8 @@ three_back {P = P} {Q = Q} {R = R} {S = S} k l m all =
 
 pub four_back : {g : Grammar} {a b c n : Expr} {p q r s u : Bool} {d e f h i : ℕ} {ps qs rs ss : List Part} {P Q R S T : ParseTree → Type 0}
     → Back g a p d ps q e P → Back g b q e qs r f Q → Back g c r f rs s h R → Back g n s h ss u i S
-    → ((x y z w : ParseTree) → P x → Q y → R z → S w → T (Both x (Both y (Both z w)))) → Back g (Then a (Then b (Then c n))) p d (ps ++ (qs ++ (rs ++ ss))) u i T
+    → ((x y z w : ParseTree) → P x → Q y → R z → S w → T (Both x (Both y (Both z w))))
+    → Back g (Then a (Then b (Then c n))) p d (ps ++ (qs ++ (rs ++ ss))) u i T
 four_back {Q = Q} {R = R} {S = S} {T = T} k l m o all =
     both_back k (three_back {S = λ (v : ParseTree). (y : ParseTree) × (z : ParseTree) × (w : ParseTree) × (v ≡ Both y (Both z w)) × Q y × R z × S w} l m o
     (λ y z w hy hz hw. (y, z, w, refl, hy, hz, hw)))
@@ -227,7 +230,8 @@ lift_back {n} {g} {h} {e} on below alike b = record {
 abbrev pub IsReadBack : Grammar → Expr → List ℕ → (ParseTree → Type 0) → Type 0
 IsReadBack g e text R = (items : List Item) × HasItems text items × (x : ParseTree) × Derives g e (split items).tokens x × IsEnd (split items).last × R x
 
-pub read_back : {g : Grammar} {e : Expr} {q : Bool} {f : ℕ} {ps : List Part} {R : ParseTree → Type 0} → Back g e false 0 ps q f R → IsReadBack g e (text_of ps) R
+pub read_back : {g : Grammar} {e : Expr} {q : Bool} {f : ℕ} {ps : List Part} {R : ParseTree → Type 0} → Back g e false 0 ps q f R
+    → IsReadBack g e (text_of ps) R
 read_back {ps = ps} b =
     let (items, has, spells, end) = has_tokens ps b.laid in
     let (x, fits, is, r) = b.reads (split items).tokens spells in

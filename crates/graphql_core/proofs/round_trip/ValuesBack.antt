@@ -75,7 +75,8 @@ list_in : (s : Constness) (v : ValueTree) {p q : Bool} {d f : ℕ} {ps : List Pa
 list_in Value v h = node_back (λ x. refl) (second_back (second_back (first_back h)))
 list_in Constant v h = node_back (λ x. refl) (second_back (first_back h))
 
-object_in : (s : Constness) (v : ValueTree) {p q : Bool} {d f : ℕ} {ps : List Part} → Back shared (object_rule s) p d ps q f (λ x. tree_of s (as_object s x) ≡ v)
+object_in : (s : Constness) (v : ValueTree) {p q : Bool} {d f : ℕ} {ps : List Part}
+    → Back shared (object_rule s) p d ps q f (λ x. tree_of s (as_object s x) ≡ v)
     → Back shared (Sym (symbol_of s)) p d ps q f (λ x. tree_of s x ≡ v)
 object_in Value v h = node_back (λ x. refl) (second_back (second_back (second_back h)))
 object_in Constant v h = node_back (λ x. refl) (second_back (second_back h))

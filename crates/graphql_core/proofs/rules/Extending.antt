@@ -104,7 +104,8 @@ module _ (n : ℕ) (g h : Grammar) (x : Extends n g h) where
   }
 
 -- a tree of these symbols is its own written tree
-pub left_alone : (n : ℕ) (g : Grammar) (cs : List Change) → LeavesAlone n g cs → {e : Expr} {x : ParseTree} → Fits g e x → is_below n e ≡ true → written cs x ≡ x
+pub left_alone : (n : ℕ) (g : Grammar) (cs : List Change) → LeavesAlone n g cs → {e : Expr} {x : ParseTree} → Fits g e x → is_below n e ≡ true
+    → written cs x ≡ x
 left_alone n g cs a fits_nothing b = refl
 left_alone n g cs a (fits_leaf h) b = refl
 left_alone n g cs a (fits_both {a = p} {b = q} f k) b = let s = and_parts (is_below n p) (is_below n q) b in ap₂ Both (left_alone n g cs a f s.0)

@@ -272,7 +272,8 @@ IsSecond-symbols g rs cs j k d p q wj sj wk sk uj uk passj passk =
         → (a : ParseTree) × (b : ParseTree) × (z ≡ Node i (Both a b)) × Fits (with_rows g rs cs) d a × Fits (with_rows g rs cs) r b
     in_node i r s _ (fits_node {x = x} h pass') = go x (subst (λ (e : Expr). Fits (with_rows g rs cs) e x) s h)
       where
-        go : (y : ParseTree) → Fits (with_rows g rs cs) (Then d r) y → (a : ParseTree) × (b : ParseTree) × (Node i y ≡ Node i (Both a b)) × Fits (with_rows g rs cs) d a
+        go : (y : ParseTree) → Fits (with_rows g rs cs) (Then d r) y
+            → (a : ParseTree) × (b : ParseTree) × (Node i y ≡ Node i (Both a b)) × Fits (with_rows g rs cs) d a
             × Fits (with_rows g rs cs) r b
         go _ (fits_both {x = a} {y = b} f f') = (a, b, refl, f, f')
 
@@ -340,7 +341,8 @@ pub IsSecond-prefix : (g : Grammar) (rs : List Row) (cs : List Change) (k : ℕ)
 IsSecond-prefix g rs cs k n c r w s u pass =
     record { fits = fit; leaves = same; classes = alike; leads = leading; leads_back = leading_back; fits_back = fit_back; back = again }
   where
-    fit : (x : ParseTree) → Fits g (Then n (Then (Either (Then c n) Empty) r)) x → Fits g (Then (Either (Sym k) Empty) (Then n r)) ((out_of_prefix k).to_written x)
+    fit : (x : ParseTree) → Fits g (Then n (Then (Either (Then c n) Empty) r)) x
+        → Fits g (Then (Either (Sym k) Empty) (Then n r)) ((out_of_prefix k).to_written x)
     fit _ (fits_both {x = a} p (fits_both (fits_first (fits_both {x = b} q m)) t)) =
         fits_both (fits_first (fits_node (subst (λ (e : Expr). Fits g e (Both a b)) (sym w) (fits_both p q)) (pass (Both a b)))) (fits_both m t)
     fit _ (fits_both p (fits_both (fits_second z) t)) = fits_both (fits_second z) (fits_both p t)
@@ -421,7 +423,8 @@ IsSecond-prefix g rs cs k n c r w s u pass =
         × Fits (with_rows g rs cs) c b
     in_node _ (fits_node {x = x} h pass') = go x (subst (λ (e : Expr). Fits (with_rows g rs cs) e x) s h)
       where
-        go : (y : ParseTree) → Fits (with_rows g rs cs) (Then n c) y → (a : ParseTree) × (b : ParseTree) × (Node k y ≡ Node k (Both a b)) × Fits (with_rows g rs cs) n a
+        go : (y : ParseTree) → Fits (with_rows g rs cs) (Then n c) y
+            → (a : ParseTree) × (b : ParseTree) × (Node k y ≡ Node k (Both a b)) × Fits (with_rows g rs cs) n a
             × Fits (with_rows g rs cs) c b
         go _ (fits_both {x = a} {y = b} p q) = (a, b, refl, p, q)
 

@@ -16,7 +16,8 @@ use Rattle.graphql_core.specs.declared.helpers.cursor.Ending.TheVariants as endi
 use Rattle.graphql_core.specs.sources.Source as source
 
 -- a stream that was asked for a token is asked for one item less
-spent_same : (old new : Stream) (k : Kind) (bytes : List ℕ) (w : Where) → old.items ≡ item_at (TokenContent k bytes) w ∷ new.items → new.cuts ≡ one_more old.cuts
+spent_same : (old new : Stream) (k : Kind) (bytes : List ℕ) (w : Where) → old.items ≡ item_at (TokenContent k bytes) w ∷ new.items
+    → new.cuts ≡ one_more old.cuts
     → asked_once new ≡ asked_once old
 spent_same old new k bytes w e cut =
     let items : last_alone new.items ≡ last_alone old.items = ap last_alone (sym e) in

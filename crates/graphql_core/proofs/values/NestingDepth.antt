@@ -288,7 +288,8 @@ in_any-class c ds t h m =
     apart_then w = elim (or_cases (within_any c ds) (apart_from c ds) h) [ inl i ↦ absurd (both_ways _ w i) | inr i ↦ i ]
 
 -- past a token of a class
-pub past_class : (c : Class) (t : Token) (n : ℕ) (P : ℕ → Type 0) → has_nesting c ≡ true → matches c t ≡ true → Past (nesting_of t) n P → Past (class_nesting c) n P
+pub past_class : (c : Class) (t : Token) (n : ℕ) (P : ℕ → Type 0) → has_nesting c ≡ true → matches c t ≡ true → Past (nesting_of t) n P
+    → Past (class_nesting c) n P
 past_class c t n P h m p =
     let (o, k) = and_parts (within_any c openings || apart_from c openings) _ h in
     subst (λ s. Past s n P) (ap₂ (λ (a b : Bool). cond a Opens (cond b Closes Level)) (in_any-class c openings t o m) (in_any-class c closings t k m)) p

@@ -64,7 +64,8 @@ module _ {A : Type 0} {g : Grammar} (k : ℕ) (f : ParseTree → A) (P : A → T
 
 -- ---- optional parts
 
-pub part_printable : {A : Type 0} {g : Grammar} {n : ℕ} {e : Expr} {x : ParseTree} (f : ParseTree → A) (P : A → Type 0) → ((y : ParseTree) → HasRoom g n e y → P (f y))
+pub part_printable : {A : Type 0} {g : Grammar} {n : ℕ} {e : Expr} {x : ParseTree} (f : ParseTree → A) (P : A → Type 0)
+    → ((y : ParseTree) → HasRoom g n e y → P (f y))
     → HasRoom g n (optional e) x → IfSome (optional_of f x) P
 part_printable f P one (room_first {x = x} r) = one x r
 part_printable f P one (room_second room_nothing) = tt
@@ -153,7 +154,8 @@ mutual
       let (are, b) = object_printable (n - 1) (pairs_of ps) (pairs_printable f) in
       (are, omega arith)
 
-  items_printable : {n : ℕ} {x : ParseTree} → HasRoom shared n (Many (Sym value_symbol)) x → ArePrintableItems (values_of x) × (items_brackets (values_of x) ≤ n)
+  items_printable : {n : ℕ} {x : ParseTree} → HasRoom shared n (Many (Sym value_symbol)) x
+      → ArePrintableItems (values_of x) × (items_brackets (values_of x) ≤ n)
   items_printable room_stop = (tt, omega arith)
   items_printable (room_more f fs) =
       let (is, b) = value_printable f in

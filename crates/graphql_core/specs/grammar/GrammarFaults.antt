@@ -22,7 +22,8 @@ pub data IsFault (g : Grammar) (e : Expr) (t : Text) : Reason → ℕ → Type 0
   -- the invalid token after the other tokens; a reader that stops there returns `Unexpected`
   bad_place : t.ending ≡ InvalidToken → IsFault g e t Unexpected (suc (length t.tokens))
   -- the first token or end of input that the plain grammar does not allow
-  unexpected_item : (front us : List Token) → t.tokens ≡ front ++ us → (us ≡ [] → t.ending ≡ InputEnds) → Begins (lax g) e front → Ends (lax g) e front (peek us)
+  unexpected_item : (front us : List Token) → t.tokens ≡ front ++ us → (us ≡ [] → t.ending ≡ InputEnds) → Begins (lax g) e front
+      → Ends (lax g) e front (peek us)
       → IsFault g e t Unexpected (suc (length front))
   -- a token that the plain grammar allows, but that is rejected as a leaf of its class
   leaf_refused : (front us : List Token) (u : Token) (c : Class) → t.tokens ≡ front ++ u ∷ us → Leads (lax g) e front (One c)

@@ -22,8 +22,10 @@ pub data Takes (g : Grammar) : Expr → List Token → ParseTree → List Token 
   takes_nothing : {ts : List Token} → Takes g Empty ts Nothing ts
   takes_leaf : {c : Class} {t : Token} {ts : List Token} → accepts g c t ≡ true → Takes g (One c) (t ∷ ts) (Leaf t) ts
   takes_both : {a b : Expr} {ts us vs : List Token} {x y : ParseTree} → Takes g a ts x us → Takes g b us y vs → Takes g (Then a b) ts (Both x y) vs
-  takes_first : {a b : Expr} {ts us : List Token} {x : ParseTree} → choose g.rows a b (peek ts) ≡ Left → Takes g a ts x us → Takes g (Either a b) ts (First x) us
-  takes_second : {a b : Expr} {ts us : List Token} {y : ParseTree} → choose g.rows a b (peek ts) ≡ Right → Takes g b ts y us → Takes g (Either a b) ts (Second y) us
+  takes_first : {a b : Expr} {ts us : List Token} {x : ParseTree} → choose g.rows a b (peek ts) ≡ Left → Takes g a ts x us
+      → Takes g (Either a b) ts (First x) us
+  takes_second : {a b : Expr} {ts us : List Token} {y : ParseTree} → choose g.rows a b (peek ts) ≡ Right → Takes g b ts y us
+      → Takes g (Either a b) ts (Second y) us
   takes_stop : {a : Expr} {ts : List Token} → sees (first g.rows a) (peek ts) ≡ false → Takes g (Many a) ts Stop ts
   takes_more : {a : Expr} {ts us vs : List Token} {x y : ParseTree} → sees (first g.rows a) (peek ts) ≡ true → Takes g a ts x us → Takes g (Many a) us y vs
       → Takes g (Many a) ts (More x y) vs

@@ -59,5 +59,6 @@ pub record IsWhole (g : Grammar) (e : Expr) : Type 0 where
 -- the same for a written grammar `g` that is read by its factored rules
 pub record IsWholeFor (g : Grammar) (rs : List Row) (cs : List Change) (e : Expr) : Type 0 where
   pub sound : (t : Text) (x : ParseTree) → Answers (with_rows g rs cs) e t (Tree x) → Derives g e t.tokens (written cs x) × (t.ending ≡ InputEnds)
-  pub complete : (t : Text) (y : ParseTree) → Derives g e t.tokens y → t.ending ≡ InputEnds → (x : ParseTree) × Answers (with_rows g rs cs) e t (Tree x) × (written cs x ≡ y)
+  pub complete : (t : Text) (y : ParseTree) → Derives g e t.tokens y → t.ending ≡ InputEnds
+      → (x : ParseTree) × Answers (with_rows g rs cs) e t (Tree x) × (written cs x ≡ y)
   pub wrong : (t : Text) (why : Reason) (place : ℕ) → Answers (with_rows g rs cs) e t (Rejected why place) → IsGrammarFaultAt g e t why place

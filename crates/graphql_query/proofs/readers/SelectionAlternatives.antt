@@ -116,7 +116,8 @@ abbrev pub field_parse_tree : ParseTree → ParseTree → ParseTree
 field_parse_tree (Both n a) rest = Node field_symbol (Both n (Both a rest))
 field_parse_tree x rest = x
 
-pub names_taken : {ts us : List Token} {x : ParseTree} → Takes reading first_names ts x us → Leads reading (Sym field_symbol) field_rest (field_parse_tree x) ts us
+pub names_taken : {ts us : List Token} {x : ParseTree} → Takes reading first_names ts x us
+    → Leads reading (Sym field_symbol) field_rest (field_parse_tree x) ts us
 names_taken (takes_both h k) = past (past (begun field_symbol) h) k
 
 pub stops_in_names : (ts us : List Token) (o : Option Reason) → Stops reading first_names ts us o → Stops reading (Sym field_symbol) ts us o

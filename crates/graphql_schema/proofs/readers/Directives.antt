@@ -40,7 +40,8 @@ no_location_taken i s = none_within {A = Unit {0}} (any Name) location_class i i
 
 module _ {T : Type 0} (bytes : T → List ℕ) (i : Items) where
   -- the next token is no name
-  pub location_missing : {A : Type 0} (P : A → ParseTree → Type 0) (r : Result A ReadError) (e : ReadError) → Shows bytes Name i (Err e) → IsErrAnd r (λ d. d ≡ e)
+  pub location_missing : {A : Type 0} (P : A → ParseTree → Type 0) (r : Result A ReadError) (e : ReadError) → Shows bytes Name i (Err e)
+      → IsErrAnd r (λ d. d ≡ e)
       → Gives reading (Sym location_symbol) i i P r
   location_missing P r e s up = lacks_last i i P r e (begun location_symbol (λ x. refl)) (no_location_taken i e s) up
 

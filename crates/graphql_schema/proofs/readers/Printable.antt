@@ -42,7 +42,8 @@ names_printable : {n : ℕ} {x : ParseTree} (s : List ℕ) → HasRoom schema_gr
 names_printable s (room_both m (room_both called more)) =
     (leaf_name refl called, all_turns IsName (separated_of spelling_at []) (each_of (separated_of spelling_at [])) refl (λ x y. refl) (after_punctuator s) more)
 
-interfaces_printable : {n : ℕ} {x : ParseTree} → HasRoom schema_grammar n (optional (Sym implements_symbol)) x → AllByRecursion IsName (optional_list_of interfaces_of x)
+interfaces_printable : {n : ℕ} {x : ParseTree} → HasRoom schema_grammar n (optional (Sym implements_symbol)) x
+    → AllByRecursion IsName (optional_list_of interfaces_of x)
 interfaces_printable (room_first (room_node (room_both w ns) c)) = names_printable _ ns
 interfaces_printable (room_second room_nothing) = tt
 

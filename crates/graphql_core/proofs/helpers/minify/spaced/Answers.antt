@@ -35,7 +35,8 @@ module _ (old new : List Item) (t : Cut) (next : NextLexeme old t new) where
   ends_after end = let (w, more, first, same) = next in ends_alike more new (sym same) (subst (λ (l : List Item). IsEnd (split l).last) first end)
 
 -- the next item is the end
-at_end : (old was new : List Item) (r : Result (Option Cut) Bad) → was ≡ old → NextItem was r new → r ≡ Ok None → (w : Where) × (old ≡ item_at EndOfInput w ∷ [])
+at_end : (old was new : List Item) (r : Result (Option Cut) Bad) → was ≡ old → NextItem was r new → r ≡ Ok None
+    → (w : Where) × (old ≡ item_at EndOfInput w ∷ [])
 at_end old was new r same next is =
     let (w, e, stays) = subst (λ (x : Result (Option Cut) Bad). NextItem was x new) is next in (w, sym same ∙ e)
 

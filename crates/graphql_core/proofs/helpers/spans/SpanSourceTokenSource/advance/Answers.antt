@@ -11,4 +11,6 @@ returns-in-Some g c =
 pub returns-in-None : goal.returns-in-None
 returns-in-None g c =
     let s = c.self.inside in
-    rw (← c.self.view_is) (last_taken g.W.Width.number s.text.now s.spans.tokens.items s.taken _ _ (omega (arith, c.len-self-inside.ensures, s.spans.tokens.ok.0)) (omega (arith, c.len-self-inside.ensures, s.spans.tokens.ok.0, rw c.deref.ensures.value at c.in-None.ensures)))
+    let none = rw c.deref.ensures.value at c.in-None.ensures in
+    rw (← c.self.view_is) (last_taken g.W.Width.number s.text.now s.spans.tokens.items s.taken _ _
+    (omega (arith, c.len-self-inside.ensures, s.spans.tokens.ok.0)) (omega (arith, c.len-self-inside.ensures, s.spans.tokens.ok.0, none)))
