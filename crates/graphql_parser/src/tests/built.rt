@@ -152,8 +152,9 @@ fn documents_that_no_input_has(rt: HostRuntime) -> Result<(), Fail> {
         definitions: vec![in alloc; Definition::Operation(short)]?,
     };
     page.show(&narrow.format(alloc, &style)?);
+    page.show(&narrow);
     let text = "{\n  a b\n  ...on\n}\n\nquery($v: A!!) {\n}\n";
-    let wanted = format!(in alloc; "{text}\n{text}\n\n{{\n}}\n\n")?;
+    let wanted = format!(in alloc; "{text}\n{text}\n\n{{\n}}\n\n{{\n}}\n\n")?;
     assert_eq!(rt; page.text(), wanted.as_str());
     Ok(())
 }

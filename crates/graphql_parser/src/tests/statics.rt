@@ -64,3 +64,15 @@ fn names_that_may_be_owned_are_borrowed(rt: HostRuntime) -> Result<(), Fail> {
         _ => Err(Fail::new("no query")),
     }
 }
+
+#[test]
+fn names_of_fragments_are_borrowed(rt: HostRuntime) -> Result<(), Fail> {
+    let document: Document<'_, CowStr<'_>> = parse_query(rt.alloc(), "fragment F on T { a }")?;
+    match document.definitions.first() {
+        Some(Definition::Fragment(fragment)) => {
+            assert!(rt; matches!(fragment.name, CowStr::Borrowed("F")));
+            Ok(())
+        }
+        _ => Err(Fail::new("no fragment")),
+    }
+}

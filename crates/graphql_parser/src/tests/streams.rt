@@ -53,5 +53,7 @@ fn a_document_after_three_tokens(rt: HostRuntime) -> Result<(), Fail> {
     assert_eq!(rt; (document.definitions.len(), stream.cuts()), (1, 7));
     let mut other = past("{ a } { b }", 3).ok_or("no three tokens")?;
     assert!(rt; rest_of(rt.alloc(), &mut other) == Some(document));
+    let mut below = past("} { a }", 1).ok_or("no token")?;
+    assert!(rt; rest_of(rt.alloc(), &mut below).is_none());
     Ok(())
 }
