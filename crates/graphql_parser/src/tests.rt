@@ -1,14 +1,12 @@
-//! What no clause says and no text shows, and every public call once with ample memory.
+//! What no clause says and no input shows, and every public call once with ample memory.
 
-mod beginnings;
 mod built;
+mod built_schemas;
 mod callers;
-mod first;
 mod messages;
-mod parts_alone;
+mod page;
 mod schemas;
 mod sources;
 mod statics;
 mod streams;
-mod tokens;
 mod values;

@@ -9,13 +9,25 @@ pub enum Asked {
     Document(Language, Telling),
     /// Parse each of its lines as a document of a language. No two of the documents are equal.
     Unlike(Language),
+    /// Parse each of its prefixes as a document of a language.
+    Prefixes(Language),
+    /// Take its first definition.
+    First,
+    /// Take so many tokens, and parse what is left as a document of a language.
+    Rest(Language, u32),
     Minify,
+    /// Find the error of parsing it as a document of a language.
+    Error(Language),
+    /// Find the error of minifying it.
+    MinifyError,
     /// Tokenize it.
     Tokens,
     /// Find the value of the string with the input between its quotes.
     Quoted,
     /// Find the value of the block string with the input between its quotes.
     Block,
+    /// Make a string value of it.
+    StringValue,
     /// Make a float literal of it.
     Float,
     /// Make as many boxes as its number says, one after another.
@@ -117,15 +129,24 @@ fn read_telling(word: &str, indent: u32) -> Option<(Language, Telling)> {
     }
 }
 
-/// What a word without an indentation asks for.
-fn read_word(word: &str) -> Option<Asked> {
+/// What a word without an indentation asks for. Under two words so many tokens are taken first.
+fn read_word(word: &str, tokens: u32) -> Option<Asked> {
     match word {
         "unlike" => Some(Asked::Unlike(Language::Query)),
         "schemas-unlike" => Some(Asked::Unlike(Language::Schema)),
+        "prefixes" => Some(Asked::Prefixes(Language::Query)),
+        "schema-prefixes" => Some(Asked::Prefixes(Language::Schema)),
+        "first" => Some(Asked::First),
+        "rest" => Some(Asked::Rest(Language::Query, tokens)),
+        "schema-rest" => Some(Asked::Rest(Language::Schema, tokens)),
         "minify" => Some(Asked::Minify),
+        "error" => Some(Asked::Error(Language::Query)),
+        "schema-error" => Some(Asked::Error(Language::Schema)),
+        "minify-error" => Some(Asked::MinifyError),
         "tokens" => Some(Asked::Tokens),
         "quoted" => Some(Asked::Quoted),
         "block" => Some(Asked::Block),
+        "string" => Some(Asked::StringValue),
         "float" => Some(Asked::Float),
         "boxes" => Some(Asked::Boxes),
         _ => None,
@@ -135,13 +156,13 @@ fn read_word(word: &str) -> Option<Asked> {
 /// What a line asks for, and the length that it names.
 fn read_asked(line: &str) -> Option<(Asked, &str)> {
     let (word, numbers) = line.split_once(' ')?;
-    let (length, indent) = match numbers.split_once(' ') {
-        Some((length, indent)) => (length, indent.parse().ok()?),
-        None => (numbers, 2),
+    let (length, number) = match numbers.split_once(' ') {
+        Some((length, number)) => (length, Some(number.parse::<u32>().ok()?)),
+        None => (numbers, None),
     };
-    let asked = match read_telling(word, indent) {
+    let asked = match read_telling(word, number.unwrap_or(2)) {
         Some((language, telling)) => Asked::Document(language, telling),
-        None => read_word(word)?,
+        None => read_word(word, number.unwrap_or(0))?,
     };
     Some((asked, length))
 }

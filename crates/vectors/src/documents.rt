@@ -1,15 +1,19 @@
 //! Inputs that are documents of a language: their layouts, trees and parts, and which are equal.
 use crate::cases::Telling;
-use crate::languages::{Language, are_equal, told_with};
+use crate::languages::{Language, are_equal, told_static, told_with};
+use crate::owned::Owned;
 use crate::told::Told;
 use std::alloc::Global;
 use std::borrow::CowStr;
 
-/// The report on the document of an input, which must be the same with names of each text type.
+/// The report on the document of an input, which must be the same with names of each text type, and of the document
+/// made static.
 pub fn told_of(alloc: Global, language: Language, source: &str, telling: Telling) -> Told {
     let mut told = told_with::<&str>(alloc, language, source, telling);
     told.compare(&told_with::<String>(alloc, language, source, telling));
     told.compare(&told_with::<CowStr>(alloc, language, source, telling));
+    told.compare(&told_with::<Owned>(alloc, language, source, telling));
+    told.compare(&told_static(alloc, language, source, telling));
     told
 }
 
@@ -73,8 +77,12 @@ fn are_equal_in_each(alloc: Global, language: Language, one: &str, other: &str) 
     let are_equal_borrowed = are_equal::<&str>(alloc, language, one, other)?;
     let are_equal_owned = are_equal::<String>(alloc, language, one, other)?;
     let are_equal_mixed = are_equal::<CowStr>(alloc, language, one, other)?;
-    if are_equal_borrowed == are_equal_owned && are_equal_owned == are_equal_mixed {
-        Some(are_equal_mixed)
+    let are_equal_custom = are_equal::<Owned>(alloc, language, one, other)?;
+    if are_equal_borrowed == are_equal_owned
+        && are_equal_owned == are_equal_mixed
+        && are_equal_mixed == are_equal_custom
+    {
+        Some(are_equal_custom)
     } else {
         None
     }
@@ -87,6 +95,25 @@ pub fn told_of_lines(alloc: Global, language: Language, lines: &str) -> Told {
         for (k, other) in lines.split('\n').enumerate() {
             if are_equal_in_each(alloc, language, line, other) != Some(i == k) {
                 told.find_wrong();
+            }
+        }
+    }
+    told
+}
+
+/// Reports a line for each prefix that is a document: its length. The documents must parse back, as above.
+pub fn told_of_prefixes(alloc: Global, language: Language, source: &str) -> Told {
+    let mut told = Told::new(alloc);
+    let layout = Telling::Layout {
+        indent: 2,
+        multiline: false,
+    };
+    for length in 0..=source.len() {
+        if let Some((prefix, _)) = source.split_at_checked(length) {
+            let report = told_of_layouts(alloc, language, prefix, layout);
+            told.follow(&report);
+            if !report.is_refusal() {
+                told.show_line(&length);
             }
         }
     }

@@ -3,8 +3,9 @@ use crate::cases::Telling;
 use crate::told::Told;
 use crate::{parts, schema_parts};
 use graphql_parser::common::Text;
-use graphql_parser::{FormatError, Style, query, schema};
-use std::alloc::Global;
+use graphql_parser::tokenizer::TokenStream;
+use graphql_parser::{Cause, FormatError, Pos, Style, query, schema};
+use std::alloc::{AllocError, Global};
 use std::fmt::{Debug, Display};
 
 #[derive(Clone, Copy)]
@@ -26,6 +27,29 @@ pub fn told_with<'a, T: Text<'a>>(
     }
 }
 
+/// The report on the document of an input, with owned names and made static.
+pub fn told_static(alloc: Global, language: Language, source: &str, telling: Telling) -> Told {
+    match language {
+        Language::Query => told_static_as::<query::Document<'_, String>>(alloc, source, telling),
+        Language::Schema => told_static_as::<schema::Document<'_, String>>(alloc, source, telling),
+    }
+}
+
+/// Reports the error of parsing an input as a document.
+fn tell_error_as<'a, D: Document<'a>>(told: &mut Told, source: &'a str) {
+    if let Err(error) = D::parse(told.alloc, source) {
+        told.refuse_as(&error);
+    }
+}
+
+/// The same, as a document of a language.
+pub fn tell_error(told: &mut Told, language: Language, source: &str) {
+    match language {
+        Language::Query => tell_error_as::<query::Document<'_, &str>>(told, source),
+        Language::Schema => tell_error_as::<schema::Document<'_, &str>>(told, source),
+    }
+}
+
 /// Whether two inputs have equal documents, with names of a text type; `None` if one has none.
 pub fn are_equal<'a, T: Text<'a>>(
     alloc: Global,
@@ -39,19 +63,67 @@ pub fn are_equal<'a, T: Text<'a>>(
     }
 }
 
+/// Why an input is rejected.
+pub trait Refusal: Debug + Display + Drop {
+    /// The position of the error.
+    fn position(&self) -> Option<Pos>;
+
+    /// What is wrong there.
+    fn cause(&self) -> &Cause;
+}
+
+impl Refusal for query::ParseError {
+    fn position(&self) -> Option<Pos> {
+        query::ParseError::position(self)
+    }
+
+    fn cause(&self) -> &Cause {
+        query::ParseError::cause(self)
+    }
+}
+
+impl Refusal for schema::ParseError {
+    fn position(&self) -> Option<Pos> {
+        schema::ParseError::position(self)
+    }
+
+    fn cause(&self) -> &Cause {
+        schema::ParseError::cause(self)
+    }
+}
+
+impl Refusal for query::MinifyError {
+    fn position(&self) -> Option<Pos> {
+        query::MinifyError::position(self)
+    }
+
+    fn cause(&self) -> &Cause {
+        query::MinifyError::cause(self)
+    }
+}
+
 /// A document of a language, with names of a text type.
-trait Document<'a>: Clone + PartialEq + Debug + Drop {
+pub trait Document<'a>: Clone + PartialEq + Debug + Drop {
     /// Why an input is not a document.
-    type Error: Display + Drop;
+    type Error: Refusal;
 
     /// Parses an input.
     fn parse(alloc: Global, source: &'a str) -> Result<Self, Self::Error>;
+
+    /// Parses the rest of a stream; `None` if the depth of the stream is negative.
+    fn parse_rest(alloc: Global, stream: &mut TokenStream<'a>) -> Option<Result<Self, Self::Error>>;
 
     /// The document formatted in a style.
     fn laid_out(&self, alloc: Global, style: &Style) -> Result<String, FormatError>;
 
     /// Reports the document and its parts.
     fn tell_parts(&self, told: &mut Told);
+}
+
+/// A document with owned names.
+trait Owning<'a>: Document<'a> {
+    /// The same document as one that does not borrow its input.
+    fn made_static(self, alloc: Global) -> Result<Self, AllocError>;
 }
 
 /// The report on the document of an input. The clone of the document must be equal.
@@ -62,9 +134,32 @@ fn told_as<'a, D: Document<'a>>(alloc: Global, source: &'a str, telling: Telling
             compare_with_copy(&mut told, &document);
             tell(&mut told, &document, telling);
         }
-        Err(error) => told.refuse(&error),
+        Err(error) => told.refuse_at(&error),
     }
     told
+}
+
+/// The report on the document of an input, made static. A clone that was made before must be equal.
+fn told_static_as<'a, D: Owning<'a>>(alloc: Global, source: &'a str, telling: Telling) -> Told {
+    let mut told = Told::new(alloc);
+    match D::parse(alloc, source) {
+        Ok(document) => tell_static(&mut told, document, telling),
+        Err(error) => told.refuse_at(&error),
+    }
+    told
+}
+
+/// Reports on a document made static what is asked for.
+fn tell_static<'a, D: Owning<'a>>(told: &mut Told, document: D, telling: Telling) {
+    let copy: Result<D, AllocError> = document.clone();
+    let (Ok(copy), Ok(made)) = (copy, document.made_static(told.alloc)) else {
+        told.cut_short();
+        return;
+    };
+    if copy != made {
+        told.find_wrong();
+    }
+    tell(told, &made, telling);
 }
 
 /// Marks the report as wrong if the clone of a document is not equal.
@@ -108,6 +203,16 @@ impl<'a, T: Text<'a>> Document<'a> for query::Document<'a, T> {
         query::parse_query(alloc, source)
     }
 
+    fn parse_rest(
+        alloc: Global,
+        stream: &mut TokenStream<'a>,
+    ) -> Option<Result<Self, query::ParseError>> {
+        if stream.depth() < 0 {
+            return None;
+        }
+        Some(query::parse_query_from(alloc, stream))
+    }
+
     fn laid_out(&self, alloc: Global, style: &Style) -> Result<String, FormatError> {
         self.format(alloc, style)
     }
@@ -124,11 +229,33 @@ impl<'a, T: Text<'a>> Document<'a> for schema::Document<'a, T> {
         schema::parse_schema(alloc, source)
     }
 
+    fn parse_rest(
+        alloc: Global,
+        stream: &mut TokenStream<'a>,
+    ) -> Option<Result<Self, schema::ParseError>> {
+        if stream.depth() < 0 {
+            return None;
+        }
+        Some(schema::parse_schema_from(alloc, stream))
+    }
+
     fn laid_out(&self, alloc: Global, style: &Style) -> Result<String, FormatError> {
         self.format(alloc, style)
     }
 
     fn tell_parts(&self, told: &mut Told) {
         schema_parts::tell_parts(told, self);
+    }
+}
+
+impl<'a> Owning<'a> for query::Document<'a, String> {
+    fn made_static(self, alloc: Global) -> Result<Self, AllocError> {
+        self.into_static(alloc)
+    }
+}
+
+impl<'a> Owning<'a> for schema::Document<'a, String> {
+    fn made_static(self, alloc: Global) -> Result<Self, AllocError> {
+        self.into_static(alloc)
     }
 }

@@ -10,29 +10,47 @@
 //! - `tree`: wanted is what `Debug` shows of the query document, in which line ends can replace spaces;
 //! - `parts`: wanted is what `Display` shows of the query document, and then of its parts down to the first selections,
 //!   each with LF after it;
+//! - `rest`: first as many tokens are taken as a number after the length says. Wanted is what `Debug` shows of the
+//!   query document that is left, and LF; or the message; or a negative depth, and LF. The count of cuts follows;
+//! - `prefixes`: each prefix of the input is parsed as a query document. Wanted is a line for each that is accepted:
+//!   its length;
 //! - `unlike`: each line of the input is a query document, and no two of them are equal;
-//! - `schema`, `schema-lines`, `schema-tree`, `schema-parts` and `schemas-unlike`: the same for schema documents;
+//! - `schema`, `schema-lines`, `schema-tree`, `schema-parts`, `schema-rest`, `schema-prefixes` and `schemas-unlike`:
+//!   the same for schema documents;
+//! - `first`: wanted is the first definition, formatted as a document, and then what is left of the input;
 //! - `minify`: wanted is the minified input;
+//! - `error`, `schema-error` and `minify-error`: the input is rejected. Wanted is the position of the error and what
+//!   `Debug` shows of it, with a space between them, and after LF the message;
 //! - `tokens`: wanted is a line for each token and for the end, the last without LF: its position, its offset, the
 //!   brackets that are open before it, and the token and its kind. The last line has `end` or the lexical error, and
 //!   the count of cuts after it was requested twice;
 //! - `quoted` and `block`: wanted is the value of a string or a block string with the input between its quotes;
+//! - `string`: wanted is what `Display` shows of a string value with the input as its value;
 //! - `float`: wanted is the input itself, or that it is returned as the error;
 //! - `boxes`: the input is a number; that many boxes are made and dropped, which is accepted. If one allocation of the
 //!   run is made to fail from outside, at a fixed count, the number decides which allocation of the next cases that is.
 #![tactic(auto)]
 
 mod cases;
+mod definitions;
 mod documents;
 mod languages;
+mod owned;
 mod parts;
 mod schema_parts;
+mod streams;
 mod tokens;
 mod told;
 
 use crate::cases::{Asked, Case, Telling, next_case};
-use crate::documents::{told_of, told_of_layouts, told_of_lines};
-use crate::tokens::{tell_block, tell_float, tell_items, tell_quoted, told_of_minifying};
+use crate::definitions::told_of_first;
+use crate::documents::{told_of, told_of_layouts, told_of_lines, told_of_prefixes};
+use crate::languages::tell_error;
+use crate::streams::told_of_rest;
+use crate::tokens::{
+    tell_block, tell_float, tell_items, tell_minify_error, tell_quoted, tell_string,
+    told_of_minifying,
+};
 use crate::told::Told;
 use std::alloc::Global;
 use std::io;
@@ -50,12 +68,15 @@ fn tell_boxes(told: &mut Told, number: &str) {
     }
 }
 
-/// The report on the tokens of an input, or on the value of one.
+/// The report on the tokens of an input, on the value of one, or on an error.
 fn told_of_tokens(alloc: Global, source: &str, asked: Asked) -> Told {
     let mut told = Told::new(alloc);
     match asked {
         Asked::Quoted => tell_quoted(&mut told, source),
         Asked::Block => tell_block(&mut told, source),
+        Asked::StringValue => tell_string(&mut told, source),
+        Asked::Error(language) => tell_error(&mut told, language, source),
+        Asked::MinifyError => tell_minify_error(&mut told, source),
         Asked::Float => tell_float(&mut told, source),
         Asked::Boxes => tell_boxes(&mut told, source),
         _ => tell_items(&mut told, source),
@@ -74,6 +95,9 @@ fn told_of_case(alloc: Global, case: &Case<'_>) -> Told {
         ),
         Asked::Document(language, telling) => told_of(alloc, language, case.source, telling),
         Asked::Unlike(language) => told_of_lines(alloc, language, case.source),
+        Asked::Prefixes(language) => told_of_prefixes(alloc, language, case.source),
+        Asked::First => told_of_first(alloc, case.source),
+        Asked::Rest(language, tokens) => told_of_rest(alloc, language, case.source, tokens),
         Asked::Minify => told_of_minifying(alloc, case.source),
         _ => told_of_tokens(alloc, case.source, case.asked),
     }

@@ -1,8 +1,11 @@
 //! The tokens of inputs, and the values of tokens.
 use crate::told::Told;
 use graphql_parser::common::{FloatLiteral, unquote_block_string, unquote_string};
-use graphql_parser::minify_query;
+use graphql_parser::query::{
+    Definition, Document, OperationDefinition, Selection, Value, parse_query,
+};
 use graphql_parser::tokenizer::{Bad, Token, TokenStream};
+use graphql_parser::{Cause, minify_query};
 use std::alloc::Global;
 
 /// The report on a minified input.
@@ -24,6 +27,17 @@ pub fn told_of_minifying(alloc: Global, source: &str) -> Told {
         told.compare(&again);
     }
     told
+}
+
+/// Reports the error of minifying an input.
+pub fn tell_minify_error(told: &mut Told, source: &str) {
+    let Ok(source) = String::from_str(told.alloc, source) else {
+        told.cut_short();
+        return;
+    };
+    if let Err(error) = minify_query(told.alloc, source) {
+        told.refuse_as(&error);
+    }
 }
 
 /// Reports the position and the offset of the next token, and how many brackets are open before it.
@@ -89,6 +103,45 @@ pub fn tell_block(told: &mut Told, content: &str) {
         return;
     };
     told.tell_made(&unquote_block_string(told.alloc, text.as_str()));
+}
+
+/// The value of the first argument of the first field.
+fn first_value<'d>(document: &'d Document<'_, String>) -> Option<&'d Value<'d, String>> {
+    let Definition::Operation(OperationDefinition::SelectionSet(set)) = document
+        .definitions
+        .first()?
+    else {
+        return None;
+    };
+    let Selection::Field(field) = set.items.first()? else {
+        return None;
+    };
+    let (_, value) = field.arguments.first()?;
+    Some(value)
+}
+
+/// Marks the report as wrong if its text is no argument with this value.
+fn read_value_back(told: &mut Told, value: &Value<'_, String>) {
+    let Ok(source) = format!(in told.alloc; "{{a(b:{})}}", told.text()) else {
+        told.cut_short();
+        return;
+    };
+    match parse_query::<String>(told.alloc, source.as_str()) {
+        Ok(document) if first_value(&document) == Some(value) => {}
+        Err(error) if matches!(error.cause(), Cause::OutOfMemory) => told.cut_short(),
+        _ => told.find_wrong(),
+    }
+}
+
+/// Reports what `Display` shows of a string with this value. As an argument it must parse back.
+pub fn tell_string(told: &mut Told, text: &str) {
+    let Ok(text) = String::from_str(told.alloc, text) else {
+        told.cut_short();
+        return;
+    };
+    let value: Value<'_, String> = Value::String(text);
+    told.show(&value);
+    read_value_back(told, &value);
 }
 
 /// Reports a float literal. Its clone must be equal.

@@ -1,4 +1,6 @@
 //! The report on an input.
+use crate::languages::Refusal;
+use graphql_parser::Cause;
 use std::alloc::{AllocError, Global};
 use std::fmt;
 
@@ -80,6 +82,33 @@ impl Told {
     pub fn refuse<E: fmt::Display>(&mut self, error: &E) {
         self.is_refusal = true;
         self.show(error);
+    }
+
+    /// Reports that the input is not a document. The message must end with the position and the cause of the error.
+    pub fn refuse_at<E: Refusal>(&mut self, error: &E) {
+        self.refuse(error);
+        let (place, cause) = (error.position(), error.cause());
+        let Some(position) = place else {
+            self.is_cut_short = true;
+            self.is_wrong |= !matches!(cause, Cause::OutOfMemory);
+            return;
+        };
+        match format!(in self.alloc; " parse error: Parse error at {position}\n{cause}\n") {
+            Ok(end) => self.is_wrong |= !self.text().ends_with(end.as_str()),
+            Err(_) => self.is_cut_short = true,
+        }
+    }
+
+    /// Reports that the input is rejected, with the position of the error and what `Debug` and `Display` show of it.
+    pub fn refuse_as<E: Refusal>(&mut self, error: &E) {
+        self.is_cut_short |= matches!(error.cause(), Cause::OutOfMemory);
+        if let Some(position) = error.position() {
+            self.show(&position);
+        }
+        self.tell(" ");
+        self.show_debug(error);
+        self.tell("\n");
+        self.refuse(error);
     }
 
     /// Marks the report as cut short, since an allocation failed.

@@ -1,86 +1,55 @@
-//! Trees that are built by hand, which no text has, and what is shown of them.
-use crate::common::{FloatLiteral, Number, Text};
+//! Query trees that are built by hand, which no input has, and what is shown of them.
+use crate::common::{Number, Text};
 use crate::query::{
     Definition, Directive, Document, Field, FragmentSpread, OperationDefinition, Query, Selection,
-    SelectionSet, Type, Value, VariableDefinition,
+    SelectionSet, Type, Value, VariableDefinition, parse_query,
 };
 use crate::tests::callers::Owned;
-use crate::tests::parts_alone::assert_shown;
+use crate::tests::page::Page;
+use crate::tests::statics::first_argument;
 use crate::{Pos, Style};
 use std::alloc::{AllocError, Global};
 use std::borrow::CowStr;
 use std::collections::BTreeMap;
 use std::fmt;
 use std::fmt::Write;
-use std::process::Abort;
 use std::test::Fail;
 
-/// A list, of the enum value `true` and a string.
-fn list<'a, T: Text<'a>>(alloc: Global) -> Result<Value<'a, T>, AllocError> {
-    let mut items = Vec::new(alloc);
-    items.push(Value::Enum(T::make(alloc, "true")?))?;
-    items.push(Value::String(String::from_str(alloc, "a \"b\"")?))?;
-    Ok(Value::List(items))
-}
-
-/// An object, whose field `b` is inserted twice.
-fn object<'a, T: Text<'a>>(alloc: Global) -> Result<Value<'a, T>, AllocError> {
-    let mut fields = BTreeMap::new(alloc);
-    drop(fields.insert(T::make(alloc, "b")?, Value::Null)?);
-    drop(fields.insert(T::make(alloc, "a")?, Value::Int(Number::from(-3)))?);
-    drop(fields.insert(T::make(alloc, "b")?, Value::Boolean(true))?);
-    Ok(Value::Object(fields))
-}
-
-/// A float, or a whole number where the text is none.
-fn float<'a, T: Text<'a>>(alloc: Global, text: &str) -> Result<Value<'a, T>, AllocError> {
-    let spelled = String::from_str(alloc, text)?;
-    match FloatLiteral::new(spelled) {
-        Ok(literal) => Ok(Value::Float(literal)),
-        Err(_) => Ok(Value::Int(Number::from(0))),
-    }
-}
-
-/// A value of each variant.
-fn values<'a, T: Text<'a>>(alloc: Global) -> Result<Vec<Value<'a, T>>, AllocError> {
-    let mut values = Vec::new(alloc);
-    values.push(Value::Variable(T::make(alloc, "name")?))?;
-    values.push(Value::Int(Number::from(0)))?;
-    values.push(float(alloc, "-1.50e+3")?)?;
-    values.push(Value::String(String::new(alloc)))?;
-    values.push(Value::Boolean(true))?;
-    values.push(Value::Null)?;
-    values.push(Value::Enum(T::make(alloc, "true")?))?;
-    values.push(list(alloc)?)?;
-    values.push(object(alloc)?)?;
-    Ok(values)
-}
-
-/// A value's place in the list is where its equals are, and a clone of it is equal; the list is shown as one text.
-fn assert_values<'a, T: Text<'a>>(rt: &impl Abort, alloc: Global) -> Result<(), Fail> {
-    let values = values::<T>(alloc)?;
-    for (i, value) in values.iter().enumerate() {
-        let copy = value.clone()?;
-        for (k, other) in values.iter().enumerate() {
-            assert_eq!(rt; copy == *other, i == k, "at {i} and {k}");
-        }
-    }
-    let list: Value<'a, T> = Value::List(values);
-    let text =
-        "[$name, 0, -1.50e+3, \"\", true, null, true, [true, \"a \\\"b\\\"\"], {a: -3, b: true}]";
-    assert_shown(rt, alloc, &list, text)
+/// Whether the enum value `true` equals its clone, but not the boolean, which is shown as the same.
+fn is_enum<'a, T: Text<'a>>(alloc: Global) -> Result<bool, AllocError> {
+    let value: Value<'a, T> = Value::Enum(T::make(alloc, "true")?);
+    let boolean: Value<'a, T> = Value::Boolean(true);
+    let copy = value.clone()?;
+    let mut page = Page::new(alloc);
+    page.show(&copy);
+    page.show(&boolean);
+    Ok(copy == value && copy != boolean && page.text() == "true\ntrue\n")
 }
 
 #[test]
-fn values_are_cloned_compared_and_shown(rt: HostRuntime) -> Result<(), Fail> {
-    assert_values::<&str>(&rt, rt.alloc())?;
-    assert_values::<String>(&rt, rt.alloc())?;
-    assert_values::<CowStr>(&rt, rt.alloc())?;
-    assert_values::<Owned>(&rt, rt.alloc())
+fn enum_values_are_no_booleans(rt: HostRuntime) -> Result<(), Fail> {
+    let alloc = rt.alloc();
+    let are_enums = (
+        is_enum::<&str>(alloc)?,
+        is_enum::<String>(alloc)?,
+        is_enum::<CowStr>(alloc)?,
+        is_enum::<Owned>(alloc)?,
+    );
+    assert_eq!(rt; are_enums, (true, true, true, true));
+    Ok(())
+}
+
+/// An object, whose field `b` is inserted twice.
+fn object<'a>(alloc: Global) -> Result<Value<'a, &'a str>, AllocError> {
+    let mut fields = BTreeMap::new(alloc);
+    drop(fields.insert("b", Value::Null)?);
+    drop(fields.insert("a", Value::Int(Number::from(-3)))?);
+    drop(fields.insert("b", Value::Boolean(true))?);
+    Ok(Value::Object(fields))
 }
 
 /// A set of these selections.
-pub fn set<'a>(items: Vec<Selection<'a, &'a str>>) -> SelectionSet<'a, &'a str> {
+fn set<'a>(items: Vec<Selection<'a, &'a str>>) -> SelectionSet<'a, &'a str> {
     SelectionSet {
         span: (Pos::default(), Pos::default()),
         items,
@@ -88,7 +57,7 @@ pub fn set<'a>(items: Vec<Selection<'a, &'a str>>) -> SelectionSet<'a, &'a str> 
 }
 
 /// The field `a b` with nothing else.
-pub fn field<'a>(alloc: Global) -> Field<'a, &'a str> {
+fn field<'a>(alloc: Global) -> Field<'a, &'a str> {
     Field {
         position: Pos::default(),
         alias: None,
@@ -100,7 +69,7 @@ pub fn field<'a>(alloc: Global) -> Field<'a, &'a str> {
 }
 
 /// The spread `...on`.
-pub fn spread<'a>(alloc: Global) -> FragmentSpread<'a, &'a str> {
+fn spread<'a>(alloc: Global) -> FragmentSpread<'a, &'a str> {
     FragmentSpread {
         position: Pos::default(),
         fragment_name: "on",
@@ -108,73 +77,86 @@ pub fn spread<'a>(alloc: Global) -> FragmentSpread<'a, &'a str> {
     }
 }
 
-/// The variable `$v: A!!`.
-fn variable<'a>(alloc: Global) -> Result<VariableDefinition<'a, &'a str>, AllocError> {
+/// The type `A!!`.
+fn twice_required<'a>(alloc: Global) -> Result<Type<'a, &'a str>, AllocError> {
     let once = Type::NonNullType(Box::new(alloc, Type::NamedType("A"))?);
-    Ok(VariableDefinition {
-        position: Pos::default(),
-        name: "v",
-        var_type: Type::NonNullType(Box::new(alloc, once)?),
-        default_value: None,
-        directives: Vec::new(alloc),
-    })
+    Ok(Type::NonNullType(Box::new(alloc, once)?))
 }
 
-/// A query with a variable and no selections.
+/// A query with the variable `$v: A!!` and no selections.
 fn query<'a>(alloc: Global) -> Result<Query<'a, &'a str>, AllocError> {
+    let variable = VariableDefinition {
+        position: Pos::default(),
+        name: "v",
+        var_type: twice_required(alloc)?,
+        default_value: None,
+        directives: Vec::new(alloc),
+    };
     Ok(Query {
         position: Pos::default(),
         name: None,
-        variable_definitions: vec![in alloc; variable(alloc)?]?,
+        variable_definitions: vec![in alloc; variable]?,
         directives: Vec::new(alloc),
         selection_set: set(Vec::new(alloc)),
     })
 }
 
-/// The document of these operations has this layout, and `Display` shows it.
-fn assert_laid_out(
-    rt: &impl Abort,
-    alloc: Global,
-    definitions: Vec<Definition<'_, &str>>,
-    style: &Style,
-    text: &str,
-) -> Result<(), Fail> {
-    let document = Document { definitions };
-    assert_eq!(rt; document.format(alloc, style)?.as_str(), text);
-    assert_shown(rt, alloc, &document, text)
+/// A document of a field `a b` and a spread `...on`, and then a query with no selections.
+fn document<'a>(alloc: Global) -> Result<Document<'a, &'a str>, AllocError> {
+    let items = vec![in alloc;
+        Selection::Field(field(alloc)),
+        Selection::FragmentSpread(spread(alloc)),
+    ]?;
+    let short = OperationDefinition::SelectionSet(set(items));
+    let long = OperationDefinition::Query(query(alloc)?);
+    let definitions = vec![in alloc; Definition::Operation(short), Definition::Operation(long)]?;
+    Ok(Document { definitions })
 }
 
-fn short<'a>(items: Vec<Selection<'a, &'a str>>) -> Definition<'a, &'a str> {
-    Definition::Operation(OperationDefinition::SelectionSet(set(items)))
+#[test]
+fn parts_that_no_input_has(rt: HostRuntime) -> Result<(), Fail> {
+    let alloc = rt.alloc();
+    let empty: Document<'_, &str> = Document {
+        definitions: Vec::new(alloc),
+    };
+    let mut page = Page::new(alloc);
+    page.show(&object(alloc)?);
+    page.show(&twice_required(alloc)?);
+    page.show(&set(Vec::new(alloc)));
+    page.show(&spread(alloc));
+    page.show(&field(alloc));
+    page.show(&empty);
+    assert_eq!(rt;
+        page.text(),
+        "{a: -3, b: true}\nA!!\n{\n}\n\n...on\n\na b\n\n\n"
+    );
+    Ok(())
 }
 
 /// One level is never too wide.
 #[test]
-fn documents_that_no_text_has(rt: HostRuntime) -> Result<(), Fail> {
+fn documents_that_no_input_has(rt: HostRuntime) -> Result<(), Fail> {
     let alloc = rt.alloc();
     let mut style = Style::default();
-    assert_laid_out(&rt, alloc, Vec::new(alloc), &style, "")?;
-    let selections = vec![in alloc;
-        Selection::Field(field(alloc)),
-        Selection::FragmentSpread(spread(alloc)),
-    ]?;
-    let query = Definition::Operation(OperationDefinition::Query(query(alloc)?));
-    let text = "{\n  a b\n  ...on\n}\n\nquery($v: A!!) {\n}\n";
-    assert_laid_out(
-        &rt,
-        alloc,
-        vec![in alloc; short(selections), query]?,
-        &style,
-        text,
-    )?;
+    let document = document(alloc)?;
+    let empty: Document<'_, &str> = Document {
+        definitions: Vec::new(alloc),
+    };
+    let mut page = Page::new(alloc);
+    page.show(&document);
+    page.show(&document.format(alloc, &style)?);
+    page.show(&empty.format(alloc, &style)?);
     style.indent(u32::MAX);
-    assert_laid_out(
-        &rt,
-        alloc,
-        vec![in alloc; short(Vec::new(alloc))]?,
-        &style,
-        "{\n}\n",
-    )
+    let short = OperationDefinition::SelectionSet(set(Vec::new(alloc)));
+    let narrow = Document {
+        definitions: vec![in alloc; Definition::Operation(short)]?,
+    };
+    page.show(&narrow.format(alloc, &style)?);
+    page.show(&narrow);
+    let text = "{\n  a b\n  ...on\n}\n\nquery($v: A!!) {\n}\n";
+    let wanted = format!(in alloc; "{text}\n{text}\n\n{{\n}}\n\n{{\n}}\n\n")?;
+    assert_eq!(rt; page.text(), wanted.as_str());
+    Ok(())
 }
 
 /// A writer with room for so many texts.
@@ -196,13 +178,16 @@ impl fmt::Write for Narrow {
 /// Wherever the writer fails, so does `Display`.
 #[test]
 fn failures_are_handed_on(rt: HostRuntime) -> Result<(), Fail> {
-    let value: Value<'_, &str> = Value::List(values(rt.alloc())?);
+    let source =
+        "{ a(b: [$name 0 -1.50e+3 \"\" true null NAME [true \"a \\\"b\\\"\"] {a: -3 b: true}]) }";
+    let document: Document<'_, &str> = parse_query(rt.alloc(), source)?;
+    let value = first_argument(&document).ok_or("no argument")?;
     let mut enough = Narrow { room: 100 };
-    assert!(rt; enough.write(&value).is_ok());
+    assert!(rt; enough.write(value).is_ok());
     let texts = 100_usize.abs_diff(enough.room);
     for room in 0..texts {
         let mut narrow = Narrow { room };
-        assert!(rt; narrow.write(&value).is_err(), "with room for {room}");
+        assert!(rt; narrow.write(value).is_err(), "with room for {room}");
     }
     Ok(())
 }
@@ -211,17 +196,20 @@ fn failures_are_handed_on(rt: HostRuntime) -> Result<(), Fail> {
 fn options_change_nothing(rt: HostRuntime) -> Result<(), Fail> {
     let alloc = rt.alloc();
     let value: Value<'_, &str> = Value::Int(Number::from(-3));
-    let told = format!(in alloc; "[{value:>9}] [{value:<9}] [{value:+}] [{value:#}]")?;
-    assert_eq!(rt; told.as_str(), "[-3] [-3] [-3] [-3]");
     let text: Value<'_, &str> = Value::String(String::from_str(alloc, "a\u{1}b")?);
-    let told = format!(in alloc; "[{text:>20}] [{text:.2}]")?;
-    assert_eq!(rt; told.as_str(), "[\"a\\u0001b\"] [\"a\\u0001b\"]");
     let directive: Directive<'_, &str> = Directive {
         position: Pos::default(),
         name: "a",
         arguments: vec![in alloc; ("b", Value::Int(Number::from(1)))]?,
     };
-    let told = format!(in alloc; "[{directive:>20}]")?;
-    assert_eq!(rt; told.as_str(), "[@a(b: 1)]");
+    let numbers = format!(in alloc; "[{value:>9}] [{value:<9}] [{value:+}] [{value:#}]")?;
+    let others = format!(in alloc; "[{text:>20}] [{text:.2}] [{directive:>20}]")?;
+    assert_eq!(rt;
+        (numbers.as_str(), others.as_str()),
+        (
+            "[-3] [-3] [-3] [-3]",
+            "[\"a\\u0001b\"] [\"a\\u0001b\"] [@a(b: 1)]"
+        )
+    );
     Ok(())
 }

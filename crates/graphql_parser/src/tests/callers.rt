@@ -13,7 +13,7 @@ use crate::query::{
     Definition, Document, Field, MinifyError, OperationDefinition, ParseError, Selection,
     SelectionSet, Value, consume_definition, minify_query, parse_query,
 };
-use crate::tests::parts_alone::assert_shown;
+use crate::tests::page::Page;
 use crate::tests::statics::first_field;
 use crate::tokenizer::{Kind, TokenStream};
 use crate::{Cause, FormatError, Pos, Style};
@@ -321,33 +321,13 @@ fn texts_are_laid_out(rt: HostRuntime) -> Result<(), Fail> {
 fn documents_come_back(rt: HostRuntime) -> Result<(), Fail> {
     let alloc = rt.alloc();
     let document: Document<'_, &str> = parse_query(alloc, "query Q($a: Int = 1) { b(c: $a) }")?;
-    let again = formatted_and_parsed(alloc, &document, &wide()).or(Err("lost"))?;
-    assert_shown(
-        &rt,
-        alloc,
-        &again,
-        "query Q($a: Int = 1) {\n  b(c: $a)\n}\n",
-    )?;
+    let mut page = Page::new(alloc);
+    page.show(&formatted_and_parsed(alloc, &document, &wide()).or(Err("lost"))?);
     let source = String::from_str(alloc, "query Q ( $a : Int = 1 ) { b ( c : $a ) } # d")?;
-    let again = minified_and_parsed(alloc, source).or(Err("lost"))?;
-    assert_shown(
-        &rt,
-        alloc,
-        &again,
-        "query Q($a: Int = 1) {\n  b(c: $a)\n}\n",
-    )
-}
-
-#[test]
-fn refusals_have_a_position_and_a_cause(rt: HostRuntime) -> Result<(), Fail> {
-    let answer: Result<Document<'_, &str>, _> = parse_query(rt.alloc(), "{ a(x: 1e+) }");
-    match answer {
-        Ok(_) => Err(Fail::new("accepted")),
-        Err(error) => {
-            assert_eq!(rt; refusal(&error), (Some(Pos { line: 1, column: 8 }), true));
-            Ok(())
-        }
-    }
+    page.show(&minified_and_parsed(alloc, source).or(Err("lost"))?);
+    let text = "query Q($a: Int = 1) {\n  b(c: $a)\n}\n\nquery Q($a: Int = 1) {\n  b(c: $a)\n}\n\n";
+    assert_eq!(rt; page.text(), text);
+    Ok(())
 }
 
 #[test]
@@ -372,7 +352,11 @@ fn owned_names_outlive_the_text(rt: HostRuntime) -> Result<(), Fail> {
     let document = with_owned_names(alloc, &text)?;
     drop(text);
     assert_eq!(rt; first_name::<Owned>(&document), Some("hero"));
-    assert_shown(&rt, alloc, &document, "{\n  hero\n}\n\n{\n  b\n}\n")
+    assert_eq!(rt;
+        document.to_string(alloc)?.as_str(),
+        "{\n  hero\n}\n\n{\n  b\n}\n"
+    );
+    Ok(())
 }
 
 #[test]
@@ -409,8 +393,12 @@ fn refusals_are_marked(rt: HostRuntime) -> Result<(), Fail> {
     let answer: Result<Document<'_, &str>, _> = parse_query(alloc, "{ a");
     let error = answer.err().ok_or("accepted")?;
     let (position, message) = mark(alloc, &error)?.ok_or("no position")?;
+    assert_eq!(rt; refusal(&error), (Some(position), false));
     assert_eq!(rt; position, Pos { line: 1, column: 4 });
     assert_eq!(rt; message.as_str(), "Unexpected end of input");
+    let answer: Result<Document<'_, &str>, _> = parse_query(alloc, "{ a(x: 1e+) }");
+    let error = answer.err().ok_or("accepted")?;
+    assert_eq!(rt; refusal(&error), (Some(Pos { line: 1, column: 8 }), true));
     Ok(())
 }
 
@@ -432,32 +420,17 @@ fn tokens_and_values(rt: HostRuntime) -> Result<(), Fail> {
 #[test]
 fn names_are_made_and_viewed(rt: HostRuntime) -> Result<(), Fail> {
     let alloc = rt.alloc();
-    assert_eq!(rt;
-        <&str as Names>::view(&<&str as Text>::make(alloc, "name")?),
-        "name"
-    );
-    assert_eq!(rt;
-        <String as Names>::view(&<String as Text>::make(alloc, "name")?),
-        "name"
-    );
-    assert_eq!(rt;
-        <Owned as Names>::view(&<Owned as Text>::make(alloc, "name")?),
-        "name"
-    );
-    let borrowed = <CowStr as Text>::make(alloc, "name")?;
-    assert_eq!(rt; <CowStr as Names>::view(&borrowed), "name");
-    assert!(rt; matches!(borrowed, CowStr::Borrowed("name")));
+    let slice = <&str as Text>::make(alloc, "a")?;
+    let string = <String as Text>::make(alloc, "b")?;
+    let label = <Owned as Text>::make(alloc, "c")?;
+    let borrowed = <CowStr as Text>::make(alloc, "d")?;
+    let views = [
+        <&str as Names>::view(&slice),
+        <String as Names>::view(&string),
+        <Owned as Names>::view(&label),
+        <CowStr as Names>::view(&borrowed),
+    ];
+    assert_eq!(rt; views, ["a", "b", "c", "d"]);
+    assert!(rt; matches!(borrowed, CowStr::Borrowed("d")));
     Ok(())
-}
-
-#[test]
-fn names_that_may_be_owned_are_borrowed(rt: HostRuntime) -> Result<(), Fail> {
-    let document: Document<'_, CowStr<'_>> = parse_query(rt.alloc(), "fragment F on T { a }")?;
-    match document.definitions.first() {
-        Some(Definition::Fragment(fragment)) => {
-            assert!(rt; matches!(fragment.name, CowStr::Borrowed("F")));
-            Ok(())
-        }
-        _ => Err(Fail::new("no fragment")),
-    }
 }

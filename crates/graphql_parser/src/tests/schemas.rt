@@ -1,16 +1,11 @@
-//! Schemas: the callers that docs/CALLING.md and docs/MIGRATING.md show, and trees that no text has.
+//! Schemas: the callers that docs/CALLING.md and docs/MIGRATING.md show.
 ghost use Rattle.std.specs.Prelude.{IfOk, Err, ◌≡◌, ◌<◌, ◌⊎◌, length, string_bytes};
 ghost use Rattle.graphql_core.specs.{Refusal, no_memory, max_length};
 ghost use Rattle.graphql_schema.specs.{layout, IsTooWide, IsPrintable, erase, document_view};
 
 use crate::common::Names;
-use crate::schema::{
-    Definition, DirectiveDefinition, Document, EnumType, EnumTypeExtension, EnumValue,
-    InputObjectType, InputObjectTypeExtension, InterfaceType, InterfaceTypeExtension, ObjectType,
-    ObjectTypeExtension, ParseError, ScalarType, ScalarTypeExtension, SchemaDefinition,
-    SchemaExtension, UnionType, UnionTypeExtension, parse_schema,
-};
-use crate::tests::parts_alone::assert_shown;
+use crate::schema::{Definition, Document, ObjectType, ParseError, parse_schema};
+use crate::tests::page::Page;
 use crate::{FormatError, Style};
 use std::alloc::{AllocError, Global};
 use std::test::Fail;
@@ -60,101 +55,6 @@ fn formatted_and_parsed<N: Names>(
 }
 
 #[test]
-fn types_of_a_name_alone(rt: HostRuntime) -> Result<(), Fail> {
-    let alloc = rt.alloc();
-    assert_shown(
-        &rt,
-        alloc,
-        &ScalarType::<&str>::new(alloc, "A"),
-        "scalar A\n",
-    )?;
-    assert_shown(&rt, alloc, &ObjectType::<&str>::new(alloc, "A"), "type A\n")?;
-    assert_shown(
-        &rt,
-        alloc,
-        &InterfaceType::<&str>::new(alloc, "A"),
-        "interface A\n",
-    )?;
-    assert_shown(&rt, alloc, &UnionType::<&str>::new(alloc, "A"), "union A\n")?;
-    assert_shown(&rt, alloc, &EnumType::<&str>::new(alloc, "A"), "enum A\n")?;
-    assert_shown(
-        &rt,
-        alloc,
-        &InputObjectType::<&str>::new(alloc, "A"),
-        "input A\n",
-    )?;
-    assert_shown(
-        &rt,
-        alloc,
-        &DirectiveDefinition::<&str>::new(alloc, "a"),
-        "directive @a\n",
-    )?;
-    assert_shown(&rt, alloc, &implementer(alloc)?, "type A implements B\n")
-}
-
-#[test]
-fn extensions_of_a_name_alone(rt: HostRuntime) -> Result<(), Fail> {
-    let alloc = rt.alloc();
-    let scalar = ScalarTypeExtension::<&str>::new(alloc, "A");
-    assert_shown(&rt, alloc, &scalar, "extend scalar A\n")?;
-    let object = ObjectTypeExtension::<&str>::new(alloc, "A");
-    assert_shown(&rt, alloc, &object, "extend type A\n")?;
-    let interface = InterfaceTypeExtension::<&str>::new(alloc, "A");
-    assert_shown(&rt, alloc, &interface, "extend interface A\n")?;
-    let union = UnionTypeExtension::<&str>::new(alloc, "A");
-    assert_shown(&rt, alloc, &union, "extend union A\n")?;
-    let values = EnumTypeExtension::<&str>::new(alloc, "A");
-    assert_shown(&rt, alloc, &values, "extend enum A\n")?;
-    let input = InputObjectTypeExtension::<&str>::new(alloc, "A");
-    assert_shown(&rt, alloc, &input, "extend input A\n")
-}
-
-/// One level is never too wide.
-#[test]
-fn documents_that_no_text_has(rt: HostRuntime) -> Result<(), Fail> {
-    let alloc = rt.alloc();
-    let mut style = Style::default();
-    let mut document: Document<'_, &str> = Document::empty(alloc);
-    assert_eq!(rt; document.format(alloc, &style)?.as_str(), "");
-    let mut kind: EnumType<'_, &str> = EnumType::new(alloc, "a b");
-    kind.values.push(EnumValue::new(alloc, ""))?;
-    document.definitions.push(Definition::SchemaDefinition(SchemaDefinition::empty(alloc)))?;
-    assert_shown(&rt, alloc, &document, "schema {\n}\n")?;
-    style.indent(u32::MAX);
-    assert_eq!(rt; document.format(alloc, &style)?.as_str(), "schema {\n}\n");
-    assert_shown(&rt, alloc, &kind, "enum a b {\n  \n}\n")
-}
-
-/// A schema that is described, and an extension of the schema, which has nothing or an operation.
-#[test]
-fn schemas_that_are_described_or_extended(rt: HostRuntime) -> Result<(), Fail> {
-    let alloc = rt.alloc();
-    let mut schema: SchemaDefinition<'_, &str> = SchemaDefinition::empty(alloc);
-    schema.description = Some(String::from_str(alloc, "d")?);
-    schema.query = Some("Q");
-    assert_shown(&rt, alloc, &schema, "\"d\"\nschema {\n  query: Q\n}\n")?;
-    let mut extension: SchemaExtension<'_, &str> = SchemaExtension::empty(alloc);
-    assert_shown(&rt, alloc, &extension, "extend schema\n")?;
-    assert!(rt; parse_schema::<&str>(alloc, "extend schema\n").is_err());
-    extension.mutation = Some("M");
-    assert_shown(
-        &rt,
-        alloc,
-        &extension,
-        "extend schema {\n  mutation: M\n}\n",
-    )?;
-    let mut document: Document<'_, &str> = Document::empty(alloc);
-    document
-        .definitions
-        .push(Definition::SchemaDefinition(schema))?;
-    document
-        .definitions
-        .push(Definition::SchemaExtension(extension))?;
-    let text = "\"d\"\nschema {\n  query: Q\n}\n\nextend schema {\n  mutation: M\n}\n";
-    assert_shown(&rt, alloc, &document, text)
-}
-
-#[test]
 fn schemas_come_back(rt: HostRuntime) -> Result<(), Fail> {
     let alloc = rt.alloc();
     let source = "type A implements B { \"c\" d(e: F = 1): [G!] } scalar H";
@@ -162,8 +62,12 @@ fn schemas_come_back(rt: HostRuntime) -> Result<(), Fail> {
     let mut style = Style::default();
     style.indent(4);
     let again = formatted_and_parsed(alloc, &document, &style).or(Err("lost"))?;
-    let text = "type A implements B {\n  \"c\"\n  d(e: F = 1): [G!]\n}\n\nscalar H\n";
-    assert_shown(&rt, alloc, &again, text)?;
-    assert_eq!(rt; count_types(alloc, source)?, 2);
+    let mut page = Page::new(alloc);
+    page.show(&again);
+    page.show(&count_types(alloc, source)?);
+    page.show(&implementer(alloc)?);
+    let text =
+        "type A implements B {\n  \"c\"\n  d(e: F = 1): [G!]\n}\n\nscalar H\n\n2\ntype A implements B\n\n";
+    assert_eq!(rt; page.text(), text);
     Ok(())
 }

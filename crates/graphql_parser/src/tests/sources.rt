@@ -7,9 +7,9 @@ use std::alloc::Global;
 use std::process::Abort;
 use std::test::Fail;
 
-const QUERY: &str = "query Q($a: [Int!]! = [1, 2]) @d(x: $a) { b: c ... on T @e { f } ...G }";
+pub const QUERY: &str = "query Q($a: [Int!]! = [1, 2]) @d(x: $a) { b: c ... on T @e { f } ...G }";
 
-pub const SCHEMA: &str = "    schema {
+const SCHEMA: &str = "    schema {
         query: Query
     }
     type Query {

@@ -1,29 +1,13 @@
-//! Documents and values that are made static.
+//! Values that are made static, and names that are borrowed.
 use crate::common::Text;
-use crate::query::{Definition, Document, Field, OperationDefinition, Selection, parse_query};
+use crate::query::{
+    Definition, Document, Field, OperationDefinition, Selection, Value, parse_query,
+};
 use crate::tests::callers::first_value;
-use crate::tests::parts_alone::assert_shown;
-use crate::tests::sources::SCHEMA;
-use crate::{Pos, Style, parse_schema};
+use crate::tests::page::Page;
+use crate::tests::sources::QUERY;
+use std::borrow::CowStr;
 use std::test::Fail;
-
-const SCHEMA_LAYOUT: &str = "schema {
-  query: Query
-}
-
-type Query {
-  users: [User!]!
-}
-
-\"\"\"
-  Example user object
-
-  This is just a demo comment.
-\"\"\"
-type User {
-  name: String!
-}
-";
 
 /// The first field of a document that begins with a set of selections.
 pub fn first_field<'a, 'd, T: Text<'a>>(document: &'d Document<'a, T>) -> Option<&'d Field<'a, T>> {
@@ -36,50 +20,59 @@ pub fn first_field<'a, 'd, T: Text<'a>>(document: &'d Document<'a, T>) -> Option
     }
 }
 
-#[test]
-fn positions_stay(rt: HostRuntime) -> Result<(), Fail> {
-    let alloc = rt.alloc();
-    let document = parse_query::<String>(alloc, "# c\r\n{ a }")?;
-    let copy = document.clone()?;
-    let document = document.into_static(alloc)?;
-    assert!(rt; document == copy);
-    match document.definitions.first() {
-        Some(Definition::Operation(OperationDefinition::SelectionSet(set))) => {
-            let (opening, closing) = set.span;
-            assert_eq!(rt; opening, Pos { line: 2, column: 1 });
-            assert_eq!(rt; closing, Pos { line: 2, column: 5 });
-        }
-        _ => assert!(rt; false),
-    }
-    Ok(())
-}
-
-#[test]
-fn texts_stay(rt: HostRuntime) -> Result<(), Fail> {
-    let alloc = rt.alloc();
-    let document = parse_schema::<String>(alloc, SCHEMA)?.into_static(alloc)?;
-    let text = document.format(alloc, &Style::default())?;
-    assert_eq!(rt; text.as_str(), SCHEMA_LAYOUT);
-    Ok(())
+/// The value of the first argument of that field.
+pub fn first_argument<'a, 'd, T: Text<'a>>(
+    document: &'d Document<'a, T>,
+) -> Option<&'d Value<'a, T>> {
+    let (_, value) = first_field(document)?.arguments.first()?;
+    Some(value)
 }
 
 #[test]
 fn values_outlive_the_text(rt: HostRuntime) -> Result<(), Fail> {
     let alloc = rt.alloc();
-    let text = String::from_str(alloc, "{ f(o: {a: 1, b: 3, a: 2}) }")?;
+    let text = String::from_str(alloc, "{ a(o: {b: 1, a: 2, b: 3}) }")?;
     let document: Document<'_, &str> = parse_query(alloc, &text)?;
     let copy = document.clone()?;
     let field = first_field(&document).ok_or("no field")?;
     let value = first_value(alloc, field).ok_or("no value")?;
+    let mut page = Page::new(alloc);
+    page.show(&document);
     assert!(rt; document == copy);
-    assert_shown(&rt, alloc, &document, "{\n  f(o: {a: 2, b: 3})\n}\n")?;
     drop(document);
     drop(copy);
     drop(text);
-    assert_shown(&rt, alloc, &value, "{a: 2, b: 3}")?;
+    page.show(&value);
+    assert_eq!(rt; page.text(), "{\n  a(o: {a: 2, b: 3})\n}\n\n{a: 2, b: 3}\n");
     let owned = parse_query::<String>(alloc, "{ f(o: {b: 3, a: 2}) }")?;
-    let field = first_field(&owned).ok_or("no field")?;
-    let (_, read) = field.arguments.first().ok_or("no argument")?;
-    assert!(rt; value == *read);
+    assert!(rt; first_argument(&owned) == Some(&value));
     Ok(())
+}
+
+#[test]
+fn names_that_may_be_owned_are_borrowed(rt: HostRuntime) -> Result<(), Fail> {
+    let document: Document<'_, CowStr<'_>> = parse_query(rt.alloc(), QUERY)?;
+    match document.definitions.first() {
+        Some(Definition::Operation(OperationDefinition::Query(query))) => {
+            assert!(rt; matches!(query.name, Some(CowStr::Borrowed("Q"))));
+            let variable = query.variable_definitions.first().ok_or("no variable")?;
+            assert!(rt; matches!(variable.name, CowStr::Borrowed("a")));
+            let directive = query.directives.first().ok_or("no directive")?;
+            assert!(rt; matches!(directive.name, CowStr::Borrowed("d")));
+            Ok(())
+        }
+        _ => Err(Fail::new("no query")),
+    }
+}
+
+#[test]
+fn names_of_fragments_are_borrowed(rt: HostRuntime) -> Result<(), Fail> {
+    let document: Document<'_, CowStr<'_>> = parse_query(rt.alloc(), "fragment F on T { a }")?;
+    match document.definitions.first() {
+        Some(Definition::Fragment(fragment)) => {
+            assert!(rt; matches!(fragment.name, CowStr::Borrowed("F")));
+            Ok(())
+        }
+        _ => Err(Fail::new("no fragment")),
+    }
 }
