@@ -1,6 +1,6 @@
 -- Items as the spans of their tokens.
 use Rattle.std.proofs.Common.{◌≡◌, ℕ, zero, suc, ◌+◌, ◌-◌, ◌<◌, ◌≤◌, get_or, List, [], ◌∷◌, ◌++◌, length, take, drop, map, Option, Some, None, Result, Ok}
-use Rattle.std.proofs.Common.{◌*◌, ◌⊎◌, inl, inr, All, refl, sym, ap, ap₂, ◌∙◌, subst, arith, append_assoc, add-zero, length-append, length-drop}
+use Rattle.std.proofs.Common.{◌*◌, All, refl, sym, ap, ap₂, ◌∙◌, subst, arith, append_assoc, add-zero, length-append, length-drop}
 use Rattle.std.proofs.lemmas.List.{take_at, drop_at, drop_all, map-append, length-map, length-take, get_or-drop}
 use Rattle.std.proofs.lemmas.List.Elements.{All-head, All-same, All-drop, All-get_or, All-map, All-weaker}
 use Rattle.std.proofs.Math.Seq.{drop-cons}
@@ -13,7 +13,7 @@ use Rattle.graphql_core.specs.declared.tokenizer.token.Kind.{Kind}
 use Rattle.graphql_core.specs.{Where, Item, item_at, TokenContent, EndOfInput, LexicalError, bad_text, HasItems, NextItem, next_place}
 use Rattle.graphql_core.specs.{Token, kind_number, Items, Last, IsLexeme, split, only_last, then_items, token_of, after, IsNextFault}
 use Rattle.graphql_core.specs.{max_length, Refusal, first_byte, Marks, span_token, then_left, span_items, last_at}
-use Rattle.graphql_core.specs.{IsLeft, Word, peek}
+use Rattle.graphql_core.specs.{IsLeft, IsLast, Word, peek}
 use Rattle.graphql_core.specs.declared.helpers.span.Span.{Span}
 use Rattle.graphql_core.proofs.sources.TokenPlaces.{IsToken, StandsIn, part, tokens_stand}
 
@@ -61,15 +61,25 @@ next_of old was new r t same next is =
 unchanged : (i : Items) → i.tokens ≡ [] → i ≡ after i
 unchanged i none = let same = none ∙ sym (ap (drop 1) none) in λ j. record { tokens = same j; last = i.last; spent = i.spent }
 
+-- one item was taken, and one span was appended
+pub taken : {X : Type 0} (old new : List Item) (t : Cut) (spans more : List X) (s : X) (n : ℕ) → NextItem old (Ok (Some t)) new → more ≡ spans ++ s ∷ []
+    → length spans + length old ≡ n → length more + length new ≡ n
+taken old new t spans more s n (w, e) pushed count = omega (arith, ap length e, ap length pushed, length-append spans (s ∷ []), count)
+
 -- the end of the input is next
-pub end_next : (items : List Item) (w : Where) (p : Pos) → items ≡ item_at EndOfInput w ∷ [] → p ≡ (next_place items).position
+end_next : (items : List Item) (w : Where) (p : Pos) → items ≡ item_at EndOfInput w ∷ [] → p ≡ (next_place items).position
     → split items ≡ only_last (last_at p None)
 end_next items w p is at = rw (at, is) refl
 
 -- this lexical error is next
-pub bad_next : (items : List Item) (w : Where) (p : Pos) (bad : Bad) → items ≡ item_at (LexicalError (bad_text bad)) w ∷ []
+bad_next : (items : List Item) (w : Where) (p : Pos) (bad : Bad) → items ≡ item_at (LexicalError (bad_text bad)) w ∷ []
     → p ≡ (next_place items).position → split items ≡ only_last (last_at p (Some bad))
 bad_next items w p bad is at = rw (at, is) refl
+
+-- the last item is next
+pub last_next : (items : List Item) (p : Pos) (bad : Option Bad) → IsLast items bad → p ≡ (next_place items).position → split items ≡ only_last (last_at p bad)
+last_next items p None (w, is) at = end_next items w p is at
+last_next items p (Some bad) (w, is) at = bad_next items w p bad is at
 
 module _ {W : Type 0} (number : W → ℕ) (text : List ℕ) where
   -- a span of a token in the input

@@ -1,13 +1,14 @@
 -- The tokens of an input, as spans of the input.
-use Rattle.std.specs.Prelude.{◌≡◌, ℕ, ◌-◌, ◌*◌, ◌<◌, ◌≤◌, List, ◌++◌, All, length, take, drop, map, Option, Some, None}
+use Rattle.std.specs.Prelude.{◌≡◌, ℕ, ◌-◌, ◌*◌, ◌<◌, ◌≤◌, List, [], ◌∷◌, ◌++◌, All, length, take, drop, map, Option, Some, None}
 use Rattle.std.specs.Str.{IsCharBoundary, IsUtf8}
 use Rattle.graphql_core.specs.grammar.{Token}
 use Rattle.graphql_core.specs.declared.position.Pos.{Pos}
 use Rattle.graphql_core.specs.declared.tokenizer.token.Bad.{Bad}
-use Rattle.graphql_core.specs.lexical.{Item, HasItems, bad_text}
+use Rattle.graphql_core.specs.lexical.{Where, Item, item_at, HasItems, bad_text}
+use Rattle.graphql_core.specs.lexical.Items as lexer
 use Rattle.graphql_core.specs.declared.helpers.span.Span.{Span}
 use Rattle.graphql_core.specs.sources.{kind_number, Items, IsLexeme, Last, LastIsEnd, LastIsError, max_length}
-use Rattle.graphql_core.specs.sources.{no_token, only_last, place_of}
+use Rattle.graphql_core.specs.sources.{no_token, only_last, place_of, split}
 
 -- the token that a span describes; `number` returns the value of a number of type `W`
 abbrev pub span_token : {W : Type 0} → (W → ℕ) → List ℕ → Span W → Token
@@ -44,6 +45,18 @@ pub record IsLeft (most : ℕ) (text : List ℕ) (items : List Item) : Type 0 wh
   pub utf8 : IsUtf8 text
   pub small : length text ≤ max_length
   pub narrow : 8 * length text < most
+
+-- only the last item is left: the end of the input or this lexical error
+abbrev pub IsLast : List Item → Option Bad → Type 0
+IsLast items None = (w : Where) × (items ≡ item_at lexer.EndOfInput w ∷ [])
+IsLast items (Some bad) = (w : Where) × (items ≡ item_at (lexer.LexicalError (bad_text bad)) w ∷ [])
+
+-- From the items `old` some tokens were appended to the spans, and the items `new` are left.
+pub record AreAppended {W : Type 0} (number : W → ℕ) (most : ℕ) (text : List ℕ) (old : List Item) (spans more : List (Span W)) (new : List Item)
+    : Type 0 where
+  pub marks : All (Marks number text) spans → All (Marks number text) more
+  pub left : IsLeft most text new
+  pub items : then_left number text spans (split old) ≡ then_left number text more (split new)
 
 -- the items `all` are the tokens of the spans, then the end or this lexical error at the position `end`
 pub record IsCut {W : Type 0} (number : W → ℕ) (text : List ℕ) (all : Items) (spans : List (Span W)) (end : Pos) (bad : Option Bad) : Type 0 where

@@ -1,9 +1,9 @@
 //! A `TokenSource` that tokenizes the whole input before the first token is read.
-ghost use Rattle.std.specs.Prelude.{◌≡◌, ℕ, ◌+◌, ◌≤◌, ◌<◌, ◌*◌, ◌/◌, ◌^◌, List, All, IfOk, length, map, drop};
+ghost use Rattle.std.specs.Prelude.{◌≡◌, ℕ, ◌+◌, ◌≤◌, ◌<◌, ◌*◌, ◌/◌, ◌^◌, List, All, IfOk, length, map, drop, vec_len, vec_capacity};
 ghost use Rattle.graphql_core.specs.lexical.Items.{HasItems, Item};
 ghost use Rattle.graphql_core.specs.sources.Source.{split, after};
 ghost use Rattle.graphql_core.specs.steps.Punctuators.{first_byte, front_byte};
-ghost use Rattle.graphql_core.specs.steps.Spans.{Marks, span_token, IsCut};
+ghost use Rattle.graphql_core.specs.steps.Spans.{Marks, span_token, IsLeft, IsLast, AreAppended, IsCut};
 
 use crate::common::{Cause, Fault, Names, Text};
 use crate::helpers::cursor::{bad_place, unexpected};
@@ -74,15 +74,20 @@ fn span_of<W: Width>(start: usize, position: Pos, token: Token<'_>) -> Span<W>
     }
 }
 
-/// Tokenizes the whole of `text`.
-fn cut<W: Width>(alloc: Global, text: &str) -> Result<Spans<'_, W>, AllocError>
-    requires small { length text.now ≤ usize.MAX / 16 }
-    requires narrow { 8 * length text.now < W.most }
-    ensures { (items : List Item) → HasItems text.now items → IfOk result (λ s. IsCut W.number text.now (split items) s.tokens.items s.end s.bad) }
+/// Appends the spans of the next tokens to `spans`, up to its capacity. Returns the tokens after them, and the lexical
+/// error if it stopped at one.
+fn append<'a, W: Width>(
+    mut tokens: Tokens<'a>,
+    spans: &mut Vec<Span<W>>,
+) -> (Tokens<'a>, Option<Bad<'a>>)
+    requires left { (text : List ℕ) × IsLeft W.most text tokens }
+    ensures appends { (text : List ℕ) → IsLeft W.most text tokens.entry
+        → AreAppended W.number W.most text tokens.entry spans.old.items spans.new.items result.0 }
+    ensures count { length spans.new.items + length result.0 ≡ length spans.old.items + length tokens.entry }
+    ensures last { vec_len spans.new < vec_capacity spans.new → IsLast result.0 result.1 }
+    ensures capacity { vec_capacity spans.new ≡ vec_capacity spans.old }
 {
-    let mut spans = Vec::with_capacity(alloc, text.len() / 4 + 1)?;
-    let mut tokens = Tokens::new(text);
-    'tokens: loop {
+    'tokens: while spans.len() < spans.capacity() {
         let start = tokens.offset();
         let position = tokens.position();
         let token = match tokens.fast_token() {
@@ -92,21 +97,37 @@ fn cut<W: Width>(alloc: Global, text: &str) -> Result<Spans<'_, W>, AllocError>
                 tokens = after;
                 match item {
                     Ok(Some(token)) => token,
-                    Ok(None) => return Ok(Spans {
-                        tokens: spans,
-                        end: position,
-                        bad: None,
-                    }),
-                    Err(bad) => return Ok(Spans {
-                        tokens: spans,
-                        end: position,
-                        bad: Some(bad),
-                    }),
+                    Ok(None) => return (tokens, None),
+                    Err(bad) => return (tokens, Some(bad)),
                 }
             }
         };
         let span = span_of(start, position, token);
-        spans.push(span)?;
+        spans.push_reserved(span);
+    }
+    (tokens, None)
+}
+
+/// Tokenizes the whole of `text`.
+fn cut<W: Width>(alloc: Global, text: &str) -> Result<Spans<'_, W>, AllocError>
+    requires small { length text.now ≤ usize.MAX / 16 }
+    requires narrow { 8 * length text.now < W.most }
+    ensures { (items : List Item) → HasItems text.now items → IfOk result (λ s. IsCut W.number text.now (split items) s.tokens.items s.end s.bad) }
+{
+    let mut spans = Vec::with_capacity(alloc, text.len() / 4 + 1)?;
+    let mut tokens = Tokens::new(text);
+    'batches: loop {
+        let (after, bad) = append(tokens, &mut spans);
+        if spans.len() < spans.capacity() {
+            let end = after.position();
+            return Ok(Spans {
+                tokens: spans,
+                end,
+                bad,
+            });
+        }
+        tokens = after;
+        spans.reserve(spans.len())?;
     }
 }
 

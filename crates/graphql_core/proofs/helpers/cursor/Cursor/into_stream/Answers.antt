@@ -1,5 +1,4 @@
-use Rattle.std.proofs.Common.{◌≤◌, ℕ, sym, ap, subst, ◌∙◌, arith}
-use Rattle.graphql_core.specs.{Stream}
+use Rattle.std.proofs.Common.{◌≤◌, ℕ, sym, subst}
 use Rattle.graphql_core.proofs.{cut_within, cut_since, cut_all}
 use Rattle.graphql_core.proofs.helpers.cursor.Cursor.into_stream.Goals as goal
 

@@ -1,4 +1,4 @@
-use Rattle.graphql_core.specs.{Stream, items_since}
+use Rattle.graphql_core.specs.{items_since}
 use Rattle.graphql_core.proofs.helpers.cursor.CursorTokenSource.fault.Goals as goal
 
 pub returns-in-Open : goal.returns-in-Open
