@@ -47,6 +47,15 @@ batches-preserved g c =
           c.batches.invariant.items all has ∙ step.items
           ∙ sym (ap (λ (l : List (Span g.row.W.Denot)). then_left number text l (split c.append-after.result.0)) grown);
       some =
-          omega (arith, c.batches.invariant.some, c.append-after.ensures.capacity, c.len.ensures, c.capacity.ensures, c.if-len-capacity.false,
-          c.reserve.ensures.len, c.in_ok-reserve.ensures.ok, c.len-in-batches.ensures);
+          omega (
+            arith,
+            c.batches.invariant.some,
+            c.append-after.ensures.capacity,
+            c.len.ensures,
+            c.capacity.ensures,
+            c.if-len-capacity.false,
+            c.reserve.ensures.len,
+            c.in_ok-reserve.ensures.ok,
+            c.len-in-batches.ensures,
+          );
     }
