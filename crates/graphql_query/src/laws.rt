@@ -32,9 +32,9 @@ pub fn minified_texts_are_parsed_alike()
         → f.cause ≡ g.cause }
 {}
 
-/// What a reader of a symbol promises by the factored rules implies what is said by the written grammar alone. A returned
-/// value is what a parse tree denotes, and the symbol derives exactly the tokens taken by that tree. No list that the
-/// symbol derives begins with these tokens and the next. Or the error is the first error for the symbol.
+/// What a reader of a symbol promises by the factored rules implies what is said by the written grammar alone. A
+/// returned value is what a parse tree denotes, and the symbol derives exactly the tokens taken by that tree. No list
+/// that the symbol derives begins with these tokens and the next. Or the error is the first error for the symbol.
 pub fn readers_return_what_is_derived<V, M>()
     ensures { (k : ℕ) (old new : Items) (view : V → M) (means : ParseTree → M) (r : Result V ReadError) → k < length second_rows
         → Reads (Sym k) old new (λ v x. view v ≡ means x) r → ReturnsDerived queries.grammar (Sym k) old new reason_of (λ v x. view v ≡ means x) r }

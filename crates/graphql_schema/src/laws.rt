@@ -32,8 +32,8 @@ pub fn minified_texts_are_parsed_alike()
 {}
 
 /// What the error of a rejected node says is in the input, at the error's position. For an unknown or a repeated
-/// operation, the name `schema` is there, and a name with the operation's spelling comes after it. For an extension that
-/// adds nothing, a name is there, and the token before it is `extend`.
+/// operation, the name `schema` is there, and a name with the operation's spelling comes after it. For an extension
+/// that adds nothing, a name is there, and the token before it is `extend`.
 pub fn rejected_nodes_are_in_the_input()
     // of each error, with its index
     ensures each { (items : List Item) (f : FaultText) (n : ℕ) → IsFaultAt schemas (split items) f n → RefersTo (split items).tokens n f }
@@ -42,9 +42,9 @@ pub fn rejected_nodes_are_in_the_input()
         → Tells (λ f. (n : ℕ) × RefersTo (split items).tokens n f) r }
 {}
 
-/// What a reader of a symbol promises by the factored rules implies what is said by the written grammar alone. A returned
-/// value is what a parse tree denotes, and the symbol derives exactly the tokens taken by that tree. No list that the
-/// symbol derives begins with these tokens and the next. Or the error is the first error for the symbol.
+/// What a reader of a symbol promises by the factored rules implies what is said by the written grammar alone. A
+/// returned value is what a parse tree denotes, and the symbol derives exactly the tokens taken by that tree. No list
+/// that the symbol derives begins with these tokens and the next. Or the error is the first error for the symbol.
 pub fn readers_return_what_is_derived<V, M>()
     ensures plain { (k : ℕ) (old new : Items) (view : V → M) (means : ParseTree → M) (r : Result V ReadError) → k < length second_rows
         → Reads (Sym k) old new (λ v x. view v ≡ means x) r → ReturnsDerived schemas.grammar (Sym k) old new reason_of (λ v x. view v ≡ means x) r }
