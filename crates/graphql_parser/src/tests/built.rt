@@ -133,29 +133,57 @@ fn parts_that_no_input_has(rt: HostRuntime) -> Result<(), Fail> {
     Ok(())
 }
 
-/// One level is never too wide.
 #[test]
 fn documents_that_no_input_has(rt: HostRuntime) -> Result<(), Fail> {
-    let alloc = rt.alloc();
-    let mut style = Style::default();
-    let document = document(alloc)?;
-    let empty: Document<'_, &str> = Document {
-        definitions: Vec::new(alloc),
-    };
-    let mut page = Page::new(alloc);
+    let document = document(rt.alloc())?;
+    let mut page = Page::new(rt.alloc());
     page.show(&document);
-    page.show(&document.format(alloc, &style)?);
-    page.show(&empty.format(alloc, &style)?);
-    style.indent(u32::MAX);
+    page.add(document.format(rt.alloc(), &Style::default()));
+    assert_eq!(rt;
+        page.text(),
+        "{
+  a b
+  ...on
+}
+
+query($v: A!!) {
+}
+
+{
+  a b
+  ...on
+}
+
+query($v: A!!) {
+}
+
+"
+    );
+    Ok(())
+}
+
+/// A document of a selection set with no selections.
+fn short<'a>(alloc: Global) -> Result<Document<'a, &'a str>, AllocError> {
     let short = OperationDefinition::SelectionSet(set(Vec::new(alloc)));
-    let narrow = Document {
+    Ok(Document {
         definitions: vec![in alloc; Definition::Operation(short)]?,
+    })
+}
+
+/// No level is too wide, and one never is.
+#[test]
+fn documents_without_selections(rt: HostRuntime) -> Result<(), Fail> {
+    let mut page = Page::new(rt.alloc());
+    let empty: Document<'_, &str> = Document {
+        definitions: Vec::new(rt.alloc()),
     };
-    page.show(&narrow.format(alloc, &style)?);
-    page.show(&narrow);
-    let text = "{\n  a b\n  ...on\n}\n\nquery($v: A!!) {\n}\n";
-    let wanted = format!(in alloc; "{text}\n{text}\n\n{{\n}}\n\n{{\n}}\n\n")?;
-    assert_eq!(rt; page.text(), wanted.as_str());
+    let mut style = Style::default();
+    page.add(empty.format(rt.alloc(), &style));
+    style.indent(u32::MAX);
+    let short = short(rt.alloc())?;
+    page.show(&short);
+    page.add(short.format(rt.alloc(), &style));
+    assert_eq!(rt; page.text(), "\n{\n}\n\n{\n}\n\n");
     Ok(())
 }
 
@@ -192,24 +220,33 @@ fn failures_are_handed_on(rt: HostRuntime) -> Result<(), Fail> {
     Ok(())
 }
 
+/// A string with a control character, written with options.
+fn string_with_options(alloc: Global) -> Result<String, AllocError> {
+    let text: Value<'_, &str> = Value::String(String::from_str(alloc, "a\u{1}b")?);
+    format!(in alloc; "[{text:>20}] [{text:.2}]")
+}
+
+/// The directive `@a(b: 1)`.
+fn directive<'a>(alloc: Global) -> Result<Directive<'a, &'a str>, AllocError> {
+    Ok(Directive {
+        position: Pos::default(),
+        name: "a",
+        arguments: vec![in alloc; ("b", Value::Int(Number::from(1)))]?,
+    })
+}
+
 #[test]
 fn options_change_nothing(rt: HostRuntime) -> Result<(), Fail> {
     let alloc = rt.alloc();
     let value: Value<'_, &str> = Value::Int(Number::from(-3));
-    let text: Value<'_, &str> = Value::String(String::from_str(alloc, "a\u{1}b")?);
-    let directive: Directive<'_, &str> = Directive {
-        position: Pos::default(),
-        name: "a",
-        arguments: vec![in alloc; ("b", Value::Int(Number::from(1)))]?,
-    };
-    let numbers = format!(in alloc; "[{value:>9}] [{value:<9}] [{value:+}] [{value:#}]")?;
-    let others = format!(in alloc; "[{text:>20}] [{text:.2}] [{directive:>20}]")?;
+    let directive = directive(alloc)?;
+    let mut page = Page::new(alloc);
+    page.add(format!(in alloc; "[{value:>9}] [{value:<9}] [{value:+}] [{value:#}]"));
+    page.add(string_with_options(alloc));
+    page.add(format!(in alloc; "[{directive:>20}]"));
     assert_eq!(rt;
-        (numbers.as_str(), others.as_str()),
-        (
-            "[-3] [-3] [-3] [-3]",
-            "[\"a\\u0001b\"] [\"a\\u0001b\"] [@a(b: 1)]"
-        )
+        page.text(),
+        "[-3] [-3] [-3] [-3]\n[\"a\\u0001b\"] [\"a\\u0001b\"]\n[@a(b: 1)]\n"
     );
     Ok(())
 }

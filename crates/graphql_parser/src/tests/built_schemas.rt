@@ -4,9 +4,10 @@ use crate::schema::{
     Definition, DirectiveDefinition, Document, EnumType, EnumTypeExtension, EnumValue,
     InputObjectType, InputObjectTypeExtension, InterfaceType, InterfaceTypeExtension, ObjectType,
     ObjectTypeExtension, ScalarType, ScalarTypeExtension, SchemaDefinition, SchemaExtension,
-    UnionType, UnionTypeExtension, parse_schema,
+    UnionType, UnionTypeExtension,
 };
 use crate::tests::page::Page;
+use std::alloc::{AllocError, Global};
 use std::test::Fail;
 
 #[test]
@@ -68,66 +69,85 @@ extend input A
     );
 }
 
+/// The enumeration `a b`, whose one value has no name.
+fn nameless<'a>(alloc: Global) -> Result<EnumType<'a, &'a str>, AllocError> {
+    let mut kind = EnumType::new(alloc, "a b");
+    kind.values.push(EnumValue::new(alloc, ""))?;
+    Ok(kind)
+}
+
+/// A document of one definition.
+fn document_of<'a>(
+    alloc: Global,
+    definition: Definition<'a, &'a str>,
+) -> Result<Document<'a, &'a str>, AllocError> {
+    Ok(Document {
+        definitions: vec![in alloc; definition]?,
+    })
+}
+
+#[test]
+fn parts_that_no_input_has(rt: HostRuntime) -> Result<(), Fail> {
+    let empty: Document<'_, &str> = Document::empty(rt.alloc());
+    let kind = nameless(rt.alloc())?;
+    let mut page = Page::new(rt.alloc());
+    page.show(&empty);
+    page.add(empty.format(rt.alloc(), &Style::default()));
+    page.show(&kind);
+    assert_eq!(rt; page.text(), "\n\nenum a b {\n  \n}\n\n");
+    Ok(())
+}
+
 /// One level is never too wide.
 #[test]
-fn documents_that_no_input_has(rt: HostRuntime) -> Result<(), Fail> {
-    let alloc = rt.alloc();
+fn a_schema_without_operations(rt: HostRuntime) -> Result<(), Fail> {
+    let schema = Definition::SchemaDefinition(SchemaDefinition::empty(rt.alloc()));
+    let document = document_of(rt.alloc(), schema)?;
     let mut style = Style::default();
-    let mut page = Page::new(alloc);
-    let mut document: Document<'_, &str> = Document::empty(alloc);
-    page.show(&document);
-    page.show(&document.format(alloc, &style)?);
-    let mut kind: EnumType<'_, &str> = EnumType::new(alloc, "a b");
-    kind.values.push(EnumValue::new(alloc, ""))?;
-    page.show(&kind);
-    document.definitions.push(Definition::SchemaDefinition(SchemaDefinition::empty(alloc)))?;
-    page.show(&document);
     style.indent(u32::MAX);
-    page.show(&document.format(alloc, &style)?);
+    let mut page = Page::new(rt.alloc());
+    page.show(&document);
+    page.add(document.format(rt.alloc(), &style));
+    assert_eq!(rt; page.text(), "schema {\n}\n\nschema {\n}\n\n");
+    Ok(())
+}
+
+/// A described schema with the query operation `Q`.
+fn described<'a>(alloc: Global) -> Result<SchemaDefinition<'a, &'a str>, AllocError> {
+    let mut schema = SchemaDefinition::empty(alloc);
+    schema.description = Some(String::from_str(alloc, "d")?);
+    schema.query = Some("Q");
+    Ok(schema)
+}
+
+#[test]
+fn described_schemas(rt: HostRuntime) -> Result<(), Fail> {
+    let schema = described(rt.alloc())?;
+    let mut page = Page::new(rt.alloc());
+    page.show(&schema);
+    page.show(&document_of(rt.alloc(), Definition::SchemaDefinition(schema))?);
     assert_eq!(rt;
         page.text(),
-        "\n\nenum a b {\n  \n}\n\nschema {\n}\n\nschema {\n}\n\n"
+        "\"d\"\nschema {\n  query: Q\n}\n\n\"d\"\nschema {\n  query: Q\n}\n\n"
     );
     Ok(())
 }
 
-/// A schema that is described, and an extension of the schema, which has nothing or an operation.
+/// An extension of the schema, which has nothing or an operation.
 #[test]
-fn schemas_that_are_described_or_extended(rt: HostRuntime) -> Result<(), Fail> {
-    let alloc = rt.alloc();
-    let mut page = Page::new(alloc);
-    let mut schema: SchemaDefinition<'_, &str> = SchemaDefinition::empty(alloc);
-    schema.description = Some(String::from_str(alloc, "d")?);
-    schema.query = Some("Q");
-    page.show(&schema);
-    let mut extension: SchemaExtension<'_, &str> = SchemaExtension::empty(alloc);
+fn extensions_of_the_schema(rt: HostRuntime) -> Result<(), Fail> {
+    let mut extension: SchemaExtension<'_, &str> = SchemaExtension::empty(rt.alloc());
+    let mut page = Page::new(rt.alloc());
     page.show(&extension);
-    assert!(rt; parse_schema::<&str>(alloc, "extend schema\n").is_err());
     extension.mutation = Some("M");
     page.show(&extension);
-    let document = Document {
-        definitions: vec![in alloc;
-            Definition::SchemaDefinition(schema),
-            Definition::SchemaExtension(extension),
-        ]?,
-    };
-    page.show(&document);
+    page.show(&document_of(rt.alloc(), Definition::SchemaExtension(extension))?);
     assert_eq!(rt;
         page.text(),
-        "\"d\"
-schema {
-  query: Q
-}
-
-extend schema
+        "extend schema
 
 extend schema {
   mutation: M
-}
-
-\"d\"
-schema {
-  query: Q
 }
 
 extend schema {

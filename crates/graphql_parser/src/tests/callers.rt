@@ -309,24 +309,33 @@ fn rounded<'a, T: Text<'a>>(value: &Value<'a, T>) -> Option<f64> {
 }
 
 #[test]
-fn texts_are_laid_out(rt: HostRuntime) -> Result<(), Fail> {
+fn texts_are_laid_out(rt: HostRuntime) {
     let alloc = rt.alloc();
-    let text = laid_out(alloc, "{ a(b: 1) }", &wide()).ok_or("refused")?;
-    assert_eq!(rt; text.as_str(), "{\n    a(\n        b: 1\n    )\n}\n");
-    assert!(rt; laid_out(alloc, "{ a( }", &wide()).is_none());
-    Ok(())
+    let mut page = Page::new(alloc);
+    page.add(laid_out(alloc, "{ a(b: 1) }", &wide()).ok_or("refused"));
+    page.add(laid_out(alloc, "{ a( }", &wide()).ok_or("refused"));
+    assert_eq!(rt; page.text(), "{\n    a(\n        b: 1\n    )\n}\n\n");
 }
 
 #[test]
 fn documents_come_back(rt: HostRuntime) -> Result<(), Fail> {
     let alloc = rt.alloc();
     let document: Document<'_, &str> = parse_query(alloc, "query Q($a: Int = 1) { b(c: $a) }")?;
+    let again = formatted_and_parsed(alloc, &document, &wide()).or(Err("lost"))?;
     let mut page = Page::new(alloc);
-    page.show(&formatted_and_parsed(alloc, &document, &wide()).or(Err("lost"))?);
+    page.show(&again);
+    assert_eq!(rt; page.text(), "query Q($a: Int = 1) {\n  b(c: $a)\n}\n\n");
+    Ok(())
+}
+
+#[test]
+fn minified_documents_come_back(rt: HostRuntime) -> Result<(), Fail> {
+    let alloc = rt.alloc();
     let source = String::from_str(alloc, "query Q ( $a : Int = 1 ) { b ( c : $a ) } # d")?;
-    page.show(&minified_and_parsed(alloc, source).or(Err("lost"))?);
-    let text = "query Q($a: Int = 1) {\n  b(c: $a)\n}\n\nquery Q($a: Int = 1) {\n  b(c: $a)\n}\n\n";
-    assert_eq!(rt; page.text(), text);
+    let again = minified_and_parsed(alloc, source).or(Err("lost"))?;
+    let mut page = Page::new(alloc);
+    page.show(&again);
+    assert_eq!(rt; page.text(), "query Q($a: Int = 1) {\n  b(c: $a)\n}\n\n");
     Ok(())
 }
 
@@ -359,16 +368,28 @@ fn owned_names_outlive_the_text(rt: HostRuntime) -> Result<(), Fail> {
     Ok(())
 }
 
+/// The same of the first field of a document.
+fn number_of<'a, 'd>(document: &'d Document<'a, &'a str>) -> Option<(&'d str, i64)> {
+    first_number(first_field(document)?)
+}
+
 #[test]
 fn trees_are_looked_into(rt: HostRuntime) -> Result<(), Fail> {
     let alloc = rt.alloc();
     let source = "{ hero(id: 7) } fragment F on T { a } fragment G on T { a }";
     let document: Document<'_, &str> = parse_query(alloc, source)?;
-    assert_eq!(rt; count_fragments(&document), 2);
-    let field = first_field(&document).ok_or("no field")?;
-    assert_eq!(rt; first_number(field), Some(("id", 7)));
-    let text = "{\n  hero(id: 7)\n}\n\nfragment F on T {\n  a\n}\n\nfragment G on T {\n  a\n}\n";
-    assert_eq!(rt; shown(alloc, &document)?.as_str(), text);
+    let found = (count_fragments(&document), number_of(&document));
+    assert_eq!(rt; found, (2, Some(("id", 7))));
+    let mut page = Page::new(alloc);
+    page.add(shown(alloc, &document));
+    let text = "{\n  hero(id: 7)\n}\n\nfragment F on T {\n  a\n}\n\nfragment G on T {\n  a\n}\n\n";
+    assert_eq!(rt; page.text(), text);
+    Ok(())
+}
+
+#[test]
+fn copies_are_equal(rt: HostRuntime) -> Result<(), Fail> {
+    let document: Document<'_, &str> = parse_query(rt.alloc(), "{ hero(id: 7) }")?;
     assert!(rt; copied(&document)? == document);
     Ok(())
 }
@@ -387,33 +408,47 @@ fn trees_are_walked(rt: HostRuntime) -> Result<(), Fail> {
     Ok(())
 }
 
+/// Why an input is rejected.
+fn error_of(alloc: Global, source: &str) -> Result<ParseError, Fail> {
+    let error = parse_query::<&str>(alloc, source).err().ok_or("accepted")?;
+    Ok(error)
+}
+
 #[test]
-fn refusals_are_marked(rt: HostRuntime) -> Result<(), Fail> {
-    let alloc = rt.alloc();
-    let answer: Result<Document<'_, &str>, _> = parse_query(alloc, "{ a");
-    let error = answer.err().ok_or("accepted")?;
-    let (position, message) = mark(alloc, &error)?.ok_or("no position")?;
-    assert_eq!(rt; refusal(&error), (Some(position), false));
-    assert_eq!(rt; position, Pos { line: 1, column: 4 });
-    assert_eq!(rt; message.as_str(), "Unexpected end of input");
-    let answer: Result<Document<'_, &str>, _> = parse_query(alloc, "{ a(x: 1e+) }");
-    let error = answer.err().ok_or("accepted")?;
+fn refusals_have_a_position_and_a_cause(rt: HostRuntime) -> Result<(), Fail> {
+    let error = error_of(rt.alloc(), "{ a(x: 1e+) }")?;
     assert_eq!(rt; refusal(&error), (Some(Pos { line: 1, column: 8 }), true));
     Ok(())
 }
 
 #[test]
-fn tokens_and_values(rt: HostRuntime) -> Result<(), Fail> {
+fn refusals_are_marked(rt: HostRuntime) -> Result<(), Fail> {
+    let error = error_of(rt.alloc(), "{ a")?;
+    let (position, message) = mark(rt.alloc(), &error)?.ok_or("no position")?;
+    let place = Pos { line: 1, column: 4 };
+    assert_eq!(rt;
+        (position, message.as_str()),
+        (place, "Unexpected end of input")
+    );
+    Ok(())
+}
+
+#[test]
+fn tokens_and_minified_texts(rt: HostRuntime) {
     let alloc = rt.alloc();
+    let mut page = Page::new(alloc);
+    page.add(minified(alloc, "{ a ( b : 1 ) }").ok_or("refused"));
+    page.add(minified(alloc, "{ a; }").ok_or("refused"));
+    assert_eq!(rt; page.text(), "{a(b:1)}\n");
     assert_eq!(rt; count_names("{ a(b: 1) } ; c"), Some(2));
-    let text = minified(alloc, "{ a ( b : 1 ) }").ok_or("refused")?;
-    assert_eq!(rt; text.as_str(), "{a(b:1)}");
-    assert!(rt; minified(alloc, "{ a; }").is_none());
-    let float: Value<'_, &str> = float_or(String::from_str(alloc, "1.5")?, 0);
+}
+
+#[test]
+fn floats(rt: HostRuntime) -> Result<(), Fail> {
+    let float: Value<'_, &str> = float_or(String::from_str(rt.alloc(), "1.5")?, 0);
     assert!(rt; rounded(&float) == Some(1.5));
-    let number: Value<'_, &str> = float_or(String::from_str(alloc, "1e9")?, 3);
-    assert!(rt; number == Value::Int(Number::from(3)));
-    assert!(rt; rounded(&number).is_none());
+    let number: Value<'_, &str> = float_or(String::from_str(rt.alloc(), "1e9")?, 3);
+    assert!(rt; number == Value::Int(Number::from(3)) && rounded(&number).is_none());
     Ok(())
 }
 

@@ -1,5 +1,5 @@
 //! What `Display` and `Debug` show of several values.
-use std::alloc::{AllocError, Global};
+use std::alloc::Global;
 use std::fmt::{Debug, Display};
 
 /// What is shown of several values, each with LF after it. A value is left out if an allocation fails.
@@ -22,8 +22,9 @@ impl Page {
         self.text.as_str()
     }
 
-    fn push(&mut self, shown: Result<String, AllocError>) {
-        if let Ok(text) = shown {
+    /// Appends a string that was made, if it was.
+    pub fn add<E: Drop>(&mut self, made: Result<String, E>) {
+        if let Ok(text) = made {
             let _ = self.text.push_str(text.as_str());
             let _ = self.text.push_str("\n");
         }
@@ -31,12 +32,12 @@ impl Page {
 
     /// Appends what `Display` shows of a value.
     pub fn show<D: Display>(&mut self, value: &D) {
-        self.push(value.to_string(self.alloc));
+        self.add(value.to_string(self.alloc));
     }
 
     /// Appends what `Debug` shows of a value.
     pub fn debug<D: Debug>(&mut self, value: &D) {
-        self.push(format!(in self.alloc; "{value:?}"));
+        self.add(format!(in self.alloc; "{value:?}"));
     }
 
     /// Appends the message of an error, and what `Debug` shows of it.

@@ -1,9 +1,11 @@
 //! Both sources of tokens have the same items.
 ghost use Rattle.std.specs.Prelude.{◌≤◌, ◌<◌, ◌*◌, ◌/◌, length};
 
+use crate::tests::page::Page;
 use crate::tokenizer::Token;
 use graphql_core::helpers::{Cursor, Lexeme, SpanSource, TokenSource, WIDE_TEXT, Width};
-use std::alloc::Global;
+use std::alloc::{AllocError, Global};
+use std::fmt::Debug;
 use std::process::Abort;
 use std::test::Fail;
 
@@ -40,6 +42,11 @@ fn token_of(lexeme: Lexeme<&str>) -> Token<'_> {
     }
 }
 
+/// Whether `Debug` shows two values as the same.
+fn are_shown_alike<D: Debug>(alloc: Global, one: &D, other: &D) -> Result<bool, AllocError> {
+    Ok(format!(in alloc; "{one:?}")? == format!(in alloc; "{other:?}")?)
+}
+
 /// Whether the items of a text, and its end, are the same from a cursor and from spans of this width.
 fn have_same_items<W: Width>(alloc: Global, source: &str) -> Result<bool, Fail>
     requires small { length source.now ≤ usize.MAX / 16 }
@@ -54,8 +61,7 @@ fn have_same_items<W: Width>(alloc: Global, source: &str) -> Result<bool, Fail>
         {
             return Ok(false);
         }
-        let fault = format!(in alloc; "{:?}", cursor.fault(alloc))?;
-        if fault != format!(in alloc; "{:?}", spans.fault(alloc))? {
+        if !are_shown_alike(alloc, &cursor.fault(alloc), &spans.fault(alloc))? {
             return Ok(false);
         }
         cursor.advance();
@@ -77,14 +83,10 @@ fn assert_faults<W: Width>(
     let mut cursor: Cursor<'_, String> = Cursor::new(source);
     let mut spans: SpanSource<'_, String, W> = SpanSource::new(alloc, source)?;
     for fault in faults {
-        assert_eq!(rt;
-            format!(in alloc; "{:?}", cursor.fault(alloc))?.as_str(),
-            *fault
-        );
-        assert_eq!(rt;
-            format!(in alloc; "{:?}", spans.fault(alloc))?.as_str(),
-            *fault
-        );
+        let mut page = Page::new(alloc);
+        page.debug(&cursor.fault(alloc));
+        page.debug(&spans.fault(alloc));
+        assert!(rt; page.text().split('\n').eq([*fault, *fault, ""]), "{fault}");
         cursor.advance();
         spans.advance();
     }

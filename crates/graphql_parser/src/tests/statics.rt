@@ -6,6 +6,7 @@ use crate::query::{
 use crate::tests::callers::first_value;
 use crate::tests::page::Page;
 use crate::tests::sources::QUERY;
+use std::alloc::Global;
 use std::borrow::CowStr;
 use std::test::Fail;
 
@@ -28,24 +29,35 @@ pub fn first_argument<'a, 'd, T: Text<'a>>(
     Some(value)
 }
 
-#[test]
-fn values_outlive_the_text(rt: HostRuntime) -> Result<(), Fail> {
-    let alloc = rt.alloc();
-    let text = String::from_str(alloc, "{ a(o: {b: 1, a: 2, b: 3}) }")?;
+/// The value of the first argument of an input's first field. It outlives the input, whose copy is dropped here.
+fn value_of(alloc: Global, source: &str) -> Result<Value<'static, String>, Fail> {
+    let text = String::from_str(alloc, source)?;
     let document: Document<'_, &str> = parse_query(alloc, &text)?;
-    let copy = document.clone()?;
     let field = first_field(&document).ok_or("no field")?;
     let value = first_value(alloc, field).ok_or("no value")?;
-    let mut page = Page::new(alloc);
-    page.show(&document);
-    assert!(rt; document == copy);
-    drop(document);
-    drop(copy);
-    drop(text);
+    Ok(value)
+}
+
+#[test]
+fn values_outlive_the_text(rt: HostRuntime) -> Result<(), Fail> {
+    let value = value_of(rt.alloc(), "{ a(o: {b: 1, a: 2, b: 3}) }")?;
+    let mut page = Page::new(rt.alloc());
     page.show(&value);
-    assert_eq!(rt; page.text(), "{\n  a(o: {a: 2, b: 3})\n}\n\n{a: 2, b: 3}\n");
-    let owned = parse_query::<String>(alloc, "{ f(o: {b: 3, a: 2}) }")?;
+    assert_eq!(rt; page.text(), "{a: 2, b: 3}\n");
+    let owned = parse_query::<String>(rt.alloc(), "{ f(o: {b: 3, a: 2}) }")?;
     assert!(rt; first_argument(&owned) == Some(&value));
+    Ok(())
+}
+
+#[test]
+fn values_made_static_stay_as_they_were(rt: HostRuntime) -> Result<(), Fail> {
+    let document: Document<'_, &str> = parse_query(rt.alloc(), "{ a(o: {b: 1, a: 2, b: 3}) }")?;
+    let copy = document.clone()?;
+    let field = first_field(&document).ok_or("no field")?;
+    assert!(rt; first_value(rt.alloc(), field).is_some() && document == copy);
+    let mut page = Page::new(rt.alloc());
+    page.show(&document);
+    assert_eq!(rt; page.text(), "{\n  a(o: {a: 2, b: 3})\n}\n\n");
     Ok(())
 }
 

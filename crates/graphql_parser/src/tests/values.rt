@@ -4,6 +4,7 @@ use crate::tests::callers::{unindented, unquoted};
 use crate::tests::page::Page;
 use crate::tokenizer::{Bad, Kind, Token};
 use crate::{BadToken, Cause, FormatError, Pos, Style};
+use std::alloc::Global;
 use std::cmp::Ordering;
 use std::hash::{BuildHasher, BuildHasherDefault, FoldHasher};
 use std::test::Fail;
@@ -105,31 +106,44 @@ Integer(\"01\")
 }
 
 #[test]
-fn causes_and_literals_are_shown_and_compared(rt: HostRuntime) -> Result<(), Fail> {
-    let alloc = rt.alloc();
+fn causes_are_shown_and_compared(rt: HostRuntime) -> Result<(), Fail> {
     let character = Cause::BadToken(BadToken::Character(';'));
-    let run = Cause::BadToken(BadToken::Integer(String::from_str(alloc, "01")?));
-    let literal = FloatLiteral::new(String::from_str(alloc, "1.5")?)?;
-    let longer = FloatLiteral::new(String::from_str(alloc, "1.50")?)?;
-    let copy = literal.clone()?;
-    let mut page = Page::new(alloc);
+    let run = Cause::BadToken(BadToken::Integer(String::from_str(rt.alloc(), "01")?));
+    let mut page = Page::new(rt.alloc());
     page.debug(&character);
     page.debug(&run);
-    page.debug(&literal);
-    page.debug(&longer);
     assert_eq!(rt;
         page.text(),
-        "BadToken(Character(';'))
-BadToken(Integer(\"01\"))
-FloatLiteral { text: \"1.5\" }
-FloatLiteral { text: \"1.50\" }
-"
+        "BadToken(Character(';'))\nBadToken(Integer(\"01\"))\n"
     );
     assert!(rt; character != run && character == Cause::BadToken(BadToken::Character(';')));
-    assert!(rt; literal != longer && literal == copy);
+    Ok(())
+}
+
+#[test]
+fn errors_are_compared(rt: HostRuntime) {
     assert!(rt;
         FormatError::TooWide != FormatError::OutOfMemory
             && UnquoteError::BadEscape != UnquoteError::OutOfMemory
     );
+}
+
+/// A float literal of this spelling.
+fn literal(alloc: Global, text: &str) -> Result<FloatLiteral, Fail> {
+    let literal = FloatLiteral::new(String::from_str(alloc, text)?)?;
+    Ok(literal)
+}
+
+#[test]
+fn literals_are_shown_and_compared(rt: HostRuntime) -> Result<(), Fail> {
+    let (short, long) = (literal(rt.alloc(), "1.5")?, literal(rt.alloc(), "1.50")?);
+    let mut page = Page::new(rt.alloc());
+    page.debug(&short);
+    page.debug(&long);
+    assert_eq!(rt;
+        page.text(),
+        "FloatLiteral { text: \"1.5\" }\nFloatLiteral { text: \"1.50\" }\n"
+    );
+    assert!(rt; short != long && short == short.clone()?);
     Ok(())
 }
