@@ -388,13 +388,6 @@ fn trees_are_looked_into(rt: HostRuntime) -> Result<(), Fail> {
 }
 
 #[test]
-fn copies_are_equal(rt: HostRuntime) -> Result<(), Fail> {
-    let document: Document<'_, &str> = parse_query(rt.alloc(), "{ hero(id: 7) }")?;
-    assert!(rt; copied(&document)? == document);
-    Ok(())
-}
-
-#[test]
 fn trees_are_walked(rt: HostRuntime) -> Result<(), Fail> {
     let alloc = rt.alloc();
     let source =
@@ -467,5 +460,28 @@ fn names_are_made_and_viewed(rt: HostRuntime) -> Result<(), Fail> {
     ];
     assert_eq!(rt; views, ["a", "b", "c", "d"]);
     assert!(rt; matches!(borrowed, CowStr::Borrowed("d")));
+    Ok(())
+}
+
+#[test]
+fn strings(rt: HostRuntime) -> Result<(), Fail> {
+    let alloc = rt.alloc();
+    let mut page = Page::new(alloc);
+    page.show(&unquoted(alloc, r"\u00e9\n")?);
+    page.show(&unindented(alloc, "\n  x\n y")?);
+    assert_eq!(rt; page.text(), "é\n\n x\ny\n");
+    assert_eq!(rt; unquoted(alloc, r"\q").err(), Some(UnquoteError::BadEscape));
+    Ok(())
+}
+
+#[test]
+fn values_made_static_stay_as_they_were(rt: HostRuntime) -> Result<(), Fail> {
+    let document: Document<'_, &str> = parse_query(rt.alloc(), "{ a(o: {b: 1, a: 2, b: 3}) }")?;
+    let copy = copied(&document)?;
+    let field = first_field(&document).ok_or("no field")?;
+    assert!(rt; first_value(rt.alloc(), field).is_some() && document == copy);
+    let mut page = Page::new(rt.alloc());
+    page.show(&document);
+    assert_eq!(rt; page.text(), "{\n  a(o: {a: 2, b: 3})\n}\n\n");
     Ok(())
 }

@@ -39,10 +39,4 @@ impl Page {
     pub fn debug<D: Debug>(&mut self, value: &D) {
         self.add(format!(in self.alloc; "{value:?}"));
     }
-
-    /// Appends the message of an error, and what `Debug` shows of it.
-    pub fn both<E: Debug + Display>(&mut self, error: &E) {
-        self.show(error);
-        self.debug(error);
-    }
 }

@@ -86,7 +86,10 @@ fn assert_faults<W: Width>(
         let mut page = Page::new(alloc);
         page.debug(&cursor.fault(alloc));
         page.debug(&spans.fault(alloc));
-        assert!(rt; page.text().split('\n').eq([*fault, *fault, ""]), "{fault}");
+        assert_eq!(rt;
+            page.text(),
+            format!(in alloc; "{fault}\n{fault}\n")?.as_str()
+        );
         cursor.advance();
         spans.advance();
     }

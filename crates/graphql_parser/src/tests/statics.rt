@@ -50,18 +50,6 @@ fn values_outlive_the_text(rt: HostRuntime) -> Result<(), Fail> {
 }
 
 #[test]
-fn values_made_static_stay_as_they_were(rt: HostRuntime) -> Result<(), Fail> {
-    let document: Document<'_, &str> = parse_query(rt.alloc(), "{ a(o: {b: 1, a: 2, b: 3}) }")?;
-    let copy = document.clone()?;
-    let field = first_field(&document).ok_or("no field")?;
-    assert!(rt; first_value(rt.alloc(), field).is_some() && document == copy);
-    let mut page = Page::new(rt.alloc());
-    page.show(&document);
-    assert_eq!(rt; page.text(), "{\n  a(o: {a: 2, b: 3})\n}\n\n");
-    Ok(())
-}
-
-#[test]
 fn names_that_may_be_owned_are_borrowed(rt: HostRuntime) -> Result<(), Fail> {
     let document: Document<'_, CowStr<'_>> = parse_query(rt.alloc(), QUERY)?;
     match document.definitions.first() {

@@ -1,8 +1,8 @@
 //! Errors that no input leads to: their messages, and what `Debug` shows of them.
-use crate::common::UnquoteError;
-use crate::schema::DirectiveLocation;
 use crate::tests::page::Page;
-use crate::{Cause, FormatError};
+use graphql_parser::common::UnquoteError;
+use graphql_parser::schema::DirectiveLocation;
+use graphql_parser::{Cause, FormatError};
 use std::str::FromStr;
 use std::test::Fail;
 

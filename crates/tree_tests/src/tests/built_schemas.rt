@@ -1,12 +1,12 @@
 //! Schema trees that are built by hand, which no input has, and what is shown of them.
-use crate::Style;
-use crate::schema::{
+use crate::tests::page::Page;
+use graphql_parser::Style;
+use graphql_parser::schema::{
     Definition, DirectiveDefinition, Document, EnumType, EnumTypeExtension, EnumValue,
     InputObjectType, InputObjectTypeExtension, InterfaceType, InterfaceTypeExtension, ObjectType,
     ObjectTypeExtension, ScalarType, ScalarTypeExtension, SchemaDefinition, SchemaExtension,
     UnionType, UnionTypeExtension,
 };
-use crate::tests::page::Page;
 use std::alloc::{AllocError, Global};
 use std::test::Fail;
 
@@ -70,8 +70,8 @@ extend input A
 }
 
 /// The enumeration `a b`, whose one value has no name.
-fn nameless<'a>(alloc: Global) -> Result<EnumType<'a, &'a str>, AllocError> {
-    let mut kind = EnumType::new(alloc, "a b");
+fn nameless(alloc: Global) -> Result<EnumType<'static, &'static str>, AllocError> {
+    let mut kind: EnumType<'static, &'static str> = EnumType::new(alloc, "a b");
     kind.values.push(EnumValue::new(alloc, ""))?;
     Ok(kind)
 }

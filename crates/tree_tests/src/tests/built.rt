@@ -1,43 +1,14 @@
 //! Query trees that are built by hand, which no input has, and what is shown of them.
-use crate::common::{Number, Text};
-use crate::query::{
-    Definition, Directive, Document, Field, FragmentSpread, OperationDefinition, Query, Selection,
-    SelectionSet, Type, Value, VariableDefinition, parse_query,
-};
-use crate::tests::callers::Owned;
 use crate::tests::page::Page;
-use crate::tests::statics::first_argument;
-use crate::{Pos, Style};
+use graphql_parser::common::Number;
+use graphql_parser::query::{
+    Definition, Directive, Document, Field, FragmentSpread, OperationDefinition, Query, Selection,
+    SelectionSet, Type, Value, VariableDefinition,
+};
+use graphql_parser::{Pos, Style};
 use std::alloc::{AllocError, Global};
-use std::borrow::CowStr;
 use std::collections::BTreeMap;
-use std::fmt;
-use std::fmt::Write;
 use std::test::Fail;
-
-/// Whether the enum value `true` equals its clone, but not the boolean, which is shown as the same.
-fn is_enum<'a, T: Text<'a>>(alloc: Global) -> Result<bool, AllocError> {
-    let value: Value<'a, T> = Value::Enum(T::make(alloc, "true")?);
-    let boolean: Value<'a, T> = Value::Boolean(true);
-    let copy = value.clone()?;
-    let mut page = Page::new(alloc);
-    page.show(&copy);
-    page.show(&boolean);
-    Ok(copy == value && copy != boolean && page.text() == "true\ntrue\n")
-}
-
-#[test]
-fn enum_values_are_no_booleans(rt: HostRuntime) -> Result<(), Fail> {
-    let alloc = rt.alloc();
-    let are_enums = (
-        is_enum::<&str>(alloc)?,
-        is_enum::<String>(alloc)?,
-        is_enum::<CowStr>(alloc)?,
-        is_enum::<Owned>(alloc)?,
-    );
-    assert_eq!(rt; are_enums, (true, true, true, true));
-    Ok(())
-}
 
 /// An object, whose field `b` is inserted twice.
 fn object<'a>(alloc: Global) -> Result<Value<'a, &'a str>, AllocError> {
@@ -184,39 +155,6 @@ fn documents_without_selections(rt: HostRuntime) -> Result<(), Fail> {
     page.show(&short);
     page.add(short.format(rt.alloc(), &style));
     assert_eq!(rt; page.text(), "\n{\n}\n\n{\n}\n\n");
-    Ok(())
-}
-
-/// A writer with room for so many texts.
-#[derive(Drop)]
-struct Narrow {
-    room: usize,
-}
-
-impl fmt::Write for Narrow {
-    fn write_str(&mut self, _text: &str) -> fmt::Result {
-        if self.room == 0 {
-            return Err(fmt::Error);
-        }
-        self.room -= 1;
-        Ok(())
-    }
-}
-
-/// Wherever the writer fails, so does `Display`.
-#[test]
-fn failures_are_handed_on(rt: HostRuntime) -> Result<(), Fail> {
-    let source =
-        "{ a(b: [$name 0 -1.50e+3 \"\" true null NAME [true \"a \\\"b\\\"\"] {a: -3 b: true}]) }";
-    let document: Document<'_, &str> = parse_query(rt.alloc(), source)?;
-    let value = first_argument(&document).ok_or("no argument")?;
-    let mut enough = Narrow { room: 100 };
-    assert!(rt; enough.write(value).is_ok());
-    let texts = 100_usize.abs_diff(enough.room);
-    for room in 0..texts {
-        let mut narrow = Narrow { room };
-        assert!(rt; narrow.write(value).is_err(), "with room for {room}");
-    }
     Ok(())
 }
 
