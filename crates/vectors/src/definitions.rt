@@ -8,10 +8,11 @@ use std::borrow::CowStr;
 
 /// Reports a definition, formatted as a document.
 fn tell_definition<'a, T: Text<'a>>(told: &mut Told, definition: Definition<'a, T>) {
-    let Ok(definitions) = vec![in told.alloc; definition] else {
+    let mut definitions = Vec::new(told.alloc);
+    if definitions.push(definition).is_err() {
         told.cut_short();
         return;
-    };
+    }
     let document = Document { definitions };
     told.tell_answer(&document.format(told.alloc, &Style::default()));
 }
