@@ -19,15 +19,16 @@ use crate::tokenizer::{Kind, TokenStream};
 use crate::{Cause, FormatError, Pos, Style};
 use std::alloc::{AllocError, Global};
 use std::borrow::CowStr;
+use std::hash::{DefaultHasher, Hasher};
 use std::test::Fail;
 
-/// A name that owns its text.
+/// A name that owns its spelling.
 #[derive(Clone, Debug, Drop, Eq, Ord, PartialEq, PartialOrd)]
 pub struct Label {
     text: String,
 }
 
-/// A text type whose names are owned and which is no text itself.
+/// A text type with such names.
 #[derive(Drop)]
 pub struct Owned;
 
@@ -54,7 +55,7 @@ impl<'a> Text<'a> for Owned {
     }
 }
 
-/// Borrowed names, with the lifetime of the text.
+/// A document with borrowed names, with the lifetime of the source.
 fn with_borrowed_names<'a>(
     alloc: Global,
     source: &'a str,
@@ -62,13 +63,18 @@ fn with_borrowed_names<'a>(
     parse_query::<&'a str>(alloc, source)
 }
 
-/// Borrowed names, with the lifetime left out.
+/// How many definitions a document has, with borrowed names.
 fn count(alloc: Global, source: &str) -> Result<usize, ParseError> {
     let document: Document<'_, &str> = parse_query(alloc, source)?;
     Ok(document.definitions.len())
 }
 
-/// Names of the tests' own type, which outlive the text.
+/// A document with copied names, which outlives its source.
+fn with_copied_names(alloc: Global, source: &str) -> Result<Document<'static, String>, ParseError> {
+    parse_query::<String>(alloc, source)
+}
+
+/// A document with names of a custom text type, which outlives its source.
 fn with_owned_names(alloc: Global, source: &str) -> Result<Document<'static, Owned>, ParseError> {
     parse_query::<Owned>(alloc, source)
 }
@@ -87,18 +93,35 @@ fn first_name<'a, 'd, T: Text<'a>>(document: &'d Document<'a, T>) -> Option<&'d 
     }
 }
 
-/// How many fragments a document defines.
-fn count_fragments<'a, T: Text<'a>>(document: &Document<'a, T>) -> usize {
-    let mut count = 0usize;
-    for definition in document.definitions.iter() {
-        if let Definition::Fragment(_) = definition {
-            count = count.saturating_add(1);
+/// The name of an operation, if it has one.
+fn operation_name<'d, N: Names>(operation: &'d OperationDefinition<'_, N>) -> Option<&'d str> {
+    match operation {
+        OperationDefinition::SelectionSet(_) => None,
+        OperationDefinition::Query(query) => Some(N::view(query.name.as_ref()?)),
+        OperationDefinition::Mutation(mutation) => Some(N::view(mutation.name.as_ref()?)),
+        OperationDefinition::Subscription(subscription) => {
+            Some(N::view(subscription.name.as_ref()?))
         }
     }
-    count
 }
 
-/// The name of a field's first argument and its value, where that is a whole number.
+/// The names of a document's operations, in order.
+fn operation_names<'d, N: Names>(
+    alloc: Global,
+    document: &'d Document<'_, N>,
+) -> Result<Vec<&'d str>, AllocError> {
+    let mut names = Vec::new(alloc);
+    'definitions: for definition in document.definitions.iter() {
+        if let Definition::Operation(operation) = definition {
+            if let Some(name) = operation_name(operation) {
+                names.push(name)?;
+            }
+        }
+    }
+    Ok(names)
+}
+
+/// The name of a field's first argument and its value, if that is an integer.
 fn first_number<'a, 'd, T: Text<'a>>(field: &'d Field<'a, T>) -> Option<(&'d str, i64)> {
     let (name, value) = field.arguments.first()?;
     match value {
@@ -107,7 +130,7 @@ fn first_number<'a, 'd, T: Text<'a>>(field: &'d Field<'a, T>) -> Option<(&'d str
     }
 }
 
-/// Appends the names of all fields that a set asks for, those of the sets within it too.
+/// Appends the names of all fields in a selection set, and in the sets inside it.
 #[cycle(walk)]
 fn push_fields<'d, N: Names>(
     set: &'d SelectionSet<'_, N>,
@@ -119,7 +142,7 @@ fn push_fields<'d, N: Names>(
     Ok(())
 }
 
-/// Appends those that one selection asks for.
+/// Appends the names of all fields in one selection.
 #[cycle(walk)]
 fn push_selected<'d, N: Names>(
     selection: &'d Selection<'_, N>,
@@ -135,7 +158,7 @@ fn push_selected<'d, N: Names>(
     }
 }
 
-/// What an operation selects, whichever it is.
+/// The selection set of an operation of any kind.
 fn selected<'d, N: Names>(operation: &'d OperationDefinition<'_, N>) -> &'d SelectionSet<'d, N> {
     match operation {
         OperationDefinition::SelectionSet(set) => set,
@@ -145,7 +168,7 @@ fn selected<'d, N: Names>(operation: &'d OperationDefinition<'_, N>) -> &'d Sele
     }
 }
 
-/// The names of all fields that a document's operations and fragments ask for, in order.
+/// The names of all fields in a document's operations and fragments, in order.
 fn fields<'a, 'd, T: Text<'a>>(
     alloc: Global,
     document: &'d Document<'a, T>,
@@ -160,7 +183,19 @@ fn fields<'a, 'd, T: Text<'a>>(
     Ok(names)
 }
 
-/// The value of a field's first argument, which outlives the text, if there is one and no allocation fails.
+/// Whether two documents are equal, ignoring positions; `None` if one is too wide or an allocation fails.
+fn are_equal<N: Names>(
+    alloc: Global,
+    one: &Document<'_, N>,
+    other: &Document<'_, N>,
+) -> Option<bool> {
+    let style = Style::default();
+    let one = one.format(alloc, &style).ok()?;
+    let other = other.format(alloc, &style).ok()?;
+    Some(one == other)
+}
+
+/// The value of a field's first argument, which outlives the source; `None` without one, or if an allocation fails.
 pub fn first_value<'a, T: Text<'a>>(
     alloc: Global,
     field: &Field<'a, T>,
@@ -169,7 +204,7 @@ pub fn first_value<'a, T: Text<'a>>(
     value.into_static(alloc).ok()
 }
 
-/// A text laid out in a style, if it is a document and no allocation fails.
+/// The formatted source; `None` if it is rejected or too wide, or if an allocation fails.
 fn laid_out(alloc: Global, source: &str, style: &Style) -> Option<String>
     ensures { IfSome result (λ text. (d : DocumentTree) × IsDocumentOf source.now d × (string_bytes text ≡ layout style.now d)) }
 {
@@ -187,7 +222,7 @@ fn copied<'a>(document: &Document<'a, &'a str>) -> Result<Document<'a, &'a str>,
     document.clone()
 }
 
-/// How many definitions a text begins with, one after another.
+/// How many definitions a source begins with, one after another.
 fn count_leading_definitions(alloc: Global, source: &str) -> usize {
     let mut count = 0usize;
     let mut rest = source;
@@ -198,13 +233,21 @@ fn count_leading_definitions(alloc: Global, source: &str) -> usize {
     count
 }
 
-/// A text minified, if it can be and no allocation fails.
+/// The minified source; `None` if it has a lexical error or is too long, or if an allocation fails.
 fn minified(alloc: Global, source: &str) -> Option<String> {
     let source = String::from_str(alloc, source).ok()?;
     minify_query(alloc, source).ok()
 }
 
-/// Why a document is not read again.
+/// A hash of the minified source; `None` if it cannot be minified.
+fn hash_of(alloc: Global, source: &str) -> Option<u64> {
+    let text = minified(alloc, source)?;
+    let mut hasher = DefaultHasher::new();
+    hasher.write(text.as_bytes());
+    Some(hasher.finish())
+}
+
+/// Why a document does not parse back.
 #[derive(Debug, Drop)]
 enum Lost {
     Format(FormatError),
@@ -212,7 +255,8 @@ enum Lost {
     Parse(ParseError),
 }
 
-/// A document formatted and parsed: the same but for positions, unless an allocation fails, or it is too wide or its text too long.
+/// A document formatted and parsed: the same, ignoring positions. It fails only if the document is too wide, the output is
+/// too long, or an allocation fails.
 fn formatted_and_parsed<N: Names>(
     alloc: Global,
     document: &Document<'_, N>,
@@ -230,7 +274,8 @@ fn formatted_and_parsed<N: Names>(
     parse_query::<String>(alloc, &text).map_err(Lost::Parse)
 }
 
-/// A text minified and parsed: what the text itself is parsed to but for positions, unless an allocation fails, or a text is too long.
+/// A source minified and parsed: its own document, ignoring positions. For a valid source it fails only if the source or the
+/// output is too long, or an allocation fails.
 fn minified_and_parsed(alloc: Global, source: String) -> Result<Document<'static, String>, Lost>
     ensures same { (d : DocumentTree) → IsDocumentOf (string_bytes source) d
         → IfOk result (λ e. erase (document_view string_bytes e) ≡ erase d) }
@@ -242,13 +287,13 @@ fn minified_and_parsed(alloc: Global, source: String) -> Result<Document<'static
     parse_query::<String>(alloc, &text).map_err(Lost::Parse)
 }
 
-/// Where a text is refused, and whether a number is the cause.
+/// The position of an error, and whether a number is its cause.
 fn refusal(error: &ParseError) -> (Option<Pos>, bool) {
     let is_number = matches!(error.cause(), Cause::IntOutOfRange | Cause::MalformedFloat);
     (error.position(), is_number)
 }
 
-/// Where an editor marks a refusal, and what it says there; nothing where an allocation failed.
+/// The position and the message for an editor; `None` if parsing was out of memory.
 fn mark(alloc: Global, error: &ParseError) -> Result<Option<(Pos, String)>, AllocError> {
     match error.position() {
         Some(position) => Ok(Some((position, error.cause().to_string(alloc)?))),
@@ -256,14 +301,14 @@ fn mark(alloc: Global, error: &ParseError) -> Result<Option<(Pos, String)>, Allo
     }
 }
 
-/// Four spaces a level, and a line for each part of arguments.
+/// Four spaces for each level, and a line for each argument, list item and object field.
 fn wide() -> Style {
     let mut style = Style::default();
     style.indent(4).multiline_arguments(true);
     style
 }
 
-/// How many names stand before the end of a text or its first bad place; nothing for a text too long to be cut.
+/// How many names come before the end of a source or its first lexical error; `None` if the source is too long.
 fn count_names(source: &str) -> Option<usize> {
     if source.len() > usize::MAX / 16 {
         return None;
@@ -280,19 +325,19 @@ fn count_names(source: &str) -> Option<usize> {
     None
 }
 
-/// The value of what stands between a string's quotes.
+/// The value of a string with this between its quotes.
 pub fn unquoted(alloc: Global, body: &str) -> Result<String, UnquoteError> {
     let text = format!(in alloc; "\"{body}\"")?;
     unquote_string(alloc, text.as_str())
 }
 
-/// The value of a block string's content.
+/// The value of a block string with this between its quotes.
 pub fn unindented(alloc: Global, content: &str) -> Result<String, AllocError> {
     let text = format!(in alloc; "\"\"\"{content}\"\"\"")?;
     unquote_block_string(alloc, text.as_str())
 }
 
-/// A float with this literal, and a whole number where the text is none.
+/// A float with this spelling, or an integer if the string is no float literal.
 fn float_or<'a, T: Text<'a>>(text: String, number: i32) -> Value<'a, T> {
     match FloatLiteral::new(text) {
         Ok(literal) => Value::Float(literal),
@@ -348,6 +393,53 @@ fn borrowed_names(rt: HostRuntime) -> Result<(), Fail> {
 }
 
 #[test]
+fn copied_names_outlive_the_source(rt: HostRuntime) -> Result<(), Fail> {
+    let alloc = rt.alloc();
+    let source = String::from_str(alloc, "{ hero } { b }")?;
+    let document = with_copied_names(alloc, &source)?;
+    drop(source);
+    assert_eq!(rt; first_name::<String>(&document), Some("hero"));
+    Ok(())
+}
+
+#[test]
+fn operations_are_named(rt: HostRuntime) -> Result<(), Fail> {
+    let alloc = rt.alloc();
+    let source =
+        "query A { a } query { b } { c } mutation B { d } fragment F on T { e } subscription C { f }";
+    let document = with_copied_names(alloc, source)?;
+    let names = operation_names(alloc, &document)?;
+    assert_eq!(rt; names.as_slice(), ["A", "B", "C"].as_slice());
+    Ok(())
+}
+
+/// Whether two sources have equal documents, ignoring positions.
+fn have_equal_documents(alloc: Global, one: &str, other: &str) -> Option<bool> {
+    let one: Document<'_, &str> = parse_query(alloc, one).ok()?;
+    let other: Document<'_, &str> = parse_query(alloc, other).ok()?;
+    are_equal(alloc, &one, &other)
+}
+
+#[test]
+fn documents_are_compared(rt: HostRuntime) {
+    for (one, other, wanted) in [
+        ("{ a(b: 1, c: 2) }", "\n{a(b:1 c:2)} # d", true),
+        ("{ a(o: {b: 1, c: 2}) }", "{ a(o: {c: 2, b: 1}) }", true),
+        (r#"{ a(b: "A") }"#, r#"{ a(b: "\u0041") }"#, true),
+        ("{ a(b: 1, c: 2) }", "{ a(c: 2, b: 1) }", false),
+        ("{ a b }", "{ b a }", false),
+        ("{ a }", "query { a }", false),
+        ("{ a(b: 1.0) }", "{ a(b: 1.00) }", false),
+    ] {
+        assert_eq!(rt;
+            have_equal_documents(rt.alloc(), one, other),
+            Some(wanted),
+            "{one}"
+        );
+    }
+}
+
+#[test]
 fn definitions_are_taken_one_at_a_time(rt: HostRuntime) {
     for (source, count) in [("", 0), ("{ a } # b", 1), ("{ a } query { b } ; { c }", 2)] {
         assert_eq!(rt; count_leading_definitions(rt.alloc(), source), count);
@@ -378,8 +470,7 @@ fn trees_are_looked_into(rt: HostRuntime) -> Result<(), Fail> {
     let alloc = rt.alloc();
     let source = "{ hero(id: 7) } fragment F on T { a } fragment G on T { a }";
     let document: Document<'_, &str> = parse_query(alloc, source)?;
-    let found = (count_fragments(&document), number_of(&document));
-    assert_eq!(rt; found, (2, Some(("id", 7))));
+    assert_eq!(rt; number_of(&document), Some(("id", 7)));
     let mut page = Page::new(alloc);
     page.add(shown(alloc, &document));
     let text = "{\n  hero(id: 7)\n}\n\nfragment F on T {\n  a\n}\n\nfragment G on T {\n  a\n}\n\n";
@@ -434,6 +525,18 @@ fn tokens_and_minified_texts(rt: HostRuntime) {
     page.add(minified(alloc, "{ a; }").ok_or("refused"));
     assert_eq!(rt; page.text(), "{a(b:1)}\n");
     assert_eq!(rt; count_names("{ a(b: 1) } ; c"), Some(2));
+}
+
+#[test]
+fn hashes_are_those_of_tokens(rt: HostRuntime) {
+    // SipHash-1-3 with the key 0, computed elsewhere, of `{a}` and of `{a b}`.
+    for (source, hash) in [
+        ("{ a } # b", Some(0x2815_ff8f_f0d4_f224)),
+        ("{ a, b }", Some(0x4ecc_7418_e0d4_18f5)),
+        ("{ a; }", None),
+    ] {
+        assert_eq!(rt; hash_of(rt.alloc(), source), hash, "{source}");
+    }
 }
 
 #[test]
