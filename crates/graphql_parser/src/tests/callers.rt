@@ -79,7 +79,7 @@ fn with_owned_names(alloc: Global, source: &str) -> Result<Document<'static, Own
     parse_query::<Owned>(alloc, source)
 }
 
-/// The name of the first field of a document that begins with a selection set, at any text type.
+/// The name of the first selection, if it is a field, of a document that begins with `{`.
 fn first_name<'a, 'd, T: Text<'a>>(document: &'d Document<'a, T>) -> Option<&'d str> {
     let Definition::Operation(OperationDefinition::SelectionSet(set)) = document
         .definitions
@@ -183,7 +183,7 @@ fn fields<'a, 'd, T: Text<'a>>(
     Ok(names)
 }
 
-/// Whether two documents are equal, ignoring positions; `None` if one is too wide or an allocation fails.
+/// Whether two printable documents are equal, ignoring positions; `None` if one cannot be formatted.
 fn are_equal<N: Names>(
     alloc: Global,
     one: &Document<'_, N>,
@@ -195,7 +195,7 @@ fn are_equal<N: Names>(
     Some(one == other)
 }
 
-/// The value of a field's first argument, which outlives the source; `None` without one, or if an allocation fails.
+/// A copy of a field's first argument value, with owned names; `None` if there is none, or if an allocation fails.
 pub fn first_value<'a, T: Text<'a>>(
     alloc: Global,
     field: &Field<'a, T>,
@@ -204,7 +204,7 @@ pub fn first_value<'a, T: Text<'a>>(
     value.into_static(alloc).ok()
 }
 
-/// The formatted source; `None` if it is rejected or too wide, or if an allocation fails.
+/// The formatted source; `None` if it cannot be parsed or formatted.
 fn laid_out(alloc: Global, source: &str, style: &Style) -> Option<String>
     ensures { IfSome result (λ text. (d : DocumentTree) × IsDocumentOf source.now d × (string_bytes text ≡ layout style.now d)) }
 {
@@ -325,13 +325,13 @@ fn count_names(source: &str) -> Option<usize> {
     None
 }
 
-/// The value of a string with this between its quotes.
+/// The value of a string literal with `body` between its quotes.
 pub fn unquoted(alloc: Global, body: &str) -> Result<String, UnquoteError> {
     let text = format!(in alloc; "\"{body}\"")?;
     unquote_string(alloc, text.as_str())
 }
 
-/// The value of a block string with this between its quotes.
+/// The value of a block string with `content` between its quotes.
 pub fn unindented(alloc: Global, content: &str) -> Result<String, AllocError> {
     let text = format!(in alloc; "\"\"\"{content}\"\"\"")?;
     unquote_block_string(alloc, text.as_str())

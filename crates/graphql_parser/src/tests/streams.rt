@@ -8,8 +8,8 @@ use crate::tokenizer::TokenStream;
 use std::alloc::Global;
 use std::test::Fail;
 
-/// What is left of a stream as a document. There is none where more brackets were closed before than opened, where no
-/// document is left, or where an allocation fails.
+/// The rest of a stream as a document; `None` if it closed more brackets than it opened, if the rest is no document,
+/// or if an allocation fails.
 fn rest_of<'a>(alloc: Global, stream: &mut TokenStream<'a>) -> Option<query::Document<'a, String>> {
     if stream.depth() < 0 {
         return None;
