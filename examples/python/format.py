@@ -1,10 +1,10 @@
-"""A filter: reads a query document from standard input, and writes it laid out to standard output."""
+"""A filter: reads a query document from standard input, and writes it formatted to standard output."""
 import sys
 
-from graphql_proved import GraphQLError, format_query
+from graphql_proved import DocumentError, format_query
 
 try:
-    sys.stdout.write(format_query(sys.stdin.buffer.read()))
-except GraphQLError as error:
-    sys.stderr.write(str(error))
-    sys.exit(1)
+    output = format_query(sys.stdin.buffer.read())
+except DocumentError as error:
+    sys.exit(str(error))
+sys.stdout.buffer.write(output)

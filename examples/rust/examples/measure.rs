@@ -11,18 +11,29 @@ const USAGE: &str = "usage: measure query|schema FILE ROUNDS [check|format|minif
 /// A call for a text, whose output is dropped.
 type Call = fn(&str) -> Result<(), Error>;
 
-/// The calls for a language, by their names.
-fn calls(language: &str) -> Option<[(&'static str, Call); 3]> {
+/// A call with its name.
+type Named = (&'static str, Call);
+
+/// The calls for a language.
+fn calls(language: &str) -> Option<[Named; 3]> {
     let of_both: Call = |text| minify(text).map(drop);
     match language {
-        "query" => Some([("check", check_query), ("format", |text| format_query(text, Style::default()).map(drop)), ("minify", of_both)]),
-        "schema" => Some([("check", check_schema), ("format", |text| format_schema(text, Style::default()).map(drop)), ("minify", of_both)]),
+        "query" => Some([
+            ("check", check_query),
+            ("format", |text| format_query(text, Style::default()).map(drop)),
+            ("minify", of_both),
+        ]),
+        "schema" => Some([
+            ("check", check_schema),
+            ("format", |text| format_schema(text, Style::default()).map(drop)),
+            ("minify", of_both),
+        ]),
         _ => None,
     }
 }
 
 /// The least time of each of the calls.
-fn least_times(calls: &[(&str, Call)], text: &str, rounds: u32) -> Result<Vec<Duration>, Error> {
+fn least_times(calls: &[Named], text: &str, rounds: u32) -> Result<Vec<Duration>, Error> {
     let mut least = vec![Duration::MAX; calls.len()];
     for _ in 0..rounds {
         for (least, (_, call)) in least.iter_mut().zip(calls) {
@@ -35,13 +46,14 @@ fn least_times(calls: &[(&str, Call)], text: &str, rounds: u32) -> Result<Vec<Du
 }
 
 /// What the words ask for, where they are right: the calls, a file and the rounds.
-fn order(words: &[String]) -> Option<(Vec<(&'static str, Call)>, &str, u32)> {
+fn order(words: &[String]) -> Option<(Vec<Named>, &str, u32)> {
     let (language, file, rounds, only) = match words {
         [language, file, rounds] => (language, file, rounds, None),
         [language, file, rounds, only] => (language, file, rounds, Some(only)),
         _ => return None,
     };
-    let calls: Vec<_> = calls(language)?.into_iter().filter(|(name, _)| only.map_or(true, |only| only == name)).collect();
+    let calls: Vec<_> =
+        calls(language)?.into_iter().filter(|(name, _)| only.map_or(true, |only| only == name)).collect();
     let rounds = rounds.parse().ok().filter(|&rounds| rounds > 0)?;
     (!calls.is_empty()).then_some((calls, file, rounds))
 }

@@ -1,106 +1,129 @@
-//! GraphQL documents laid out, minified and checked by proved code, which is linked as a static library.
+//! Formats, minifies and checks GraphQL documents, with code that is proved correct.
 //!
-//! Nothing here is `unsafe` to call: `raw` keeps what the library asks of a caller.
+//! This crate links a static library. No function here is `unsafe`, and threads can call at once.
+//!
+//! ```
+//! use graphql_proved::{format_query, Style};
+//!
+//! let formatted = format_query("{ hero(id: 1) { name } }", Style::default())?;
+//! assert_eq!(formatted, "{\n  hero(id: 1) {\n    name\n  }\n}\n");
+//! # Ok::<(), graphql_proved::Error>(())
+//! ```
 
-use std::fmt;
-
+mod error;
 mod raw;
 
-/// How a document is laid out.
-#[derive(Clone, Copy, Debug, PartialEq, Eq)]
+pub use error::{Cause, Error, Position};
+
+/// How a document is formatted.
+#[derive(Clone, Copy, Debug, PartialEq, Eq, Hash)]
 pub struct Style {
-    /// The spaces of each level.
+    /// The spaces for each level. A large number makes a large output.
     pub indent: u32,
-    /// Whether each argument, list item and object field has a line.
+    /// Whether each argument, list item and object field is on its own line.
     pub multiline: bool,
 }
 
 impl Default for Style {
-    /// Two spaces a level, and arguments in one line.
+    /// Two spaces for each level, and arguments on one line.
     fn default() -> Self {
         Style { indent: 2, multiline: false }
     }
 }
 
-/// Why a call made nothing of its text. The numbers are those of `graphql.h`.
-#[derive(Clone, Copy, Debug, PartialEq, Eq)]
-#[non_exhaustive]
-pub enum Cause {
-    BadToken,
-    UnexpectedToken,
-    UnexpectedEnd,
-    TooDeep,
-    IntOutOfRange,
-    MalformedFloat,
-    BadEscape,
-    UnknownLocation,
-    DuplicateOperation,
-    UnknownOperation,
-    EmptyExtension,
-    TextTooLong,
-    OutOfMemory,
-    TooWide,
-    NotUtf8,
-    /// A status that this version does not know.
-    Other(u32),
+/// Formats a query document. The output has no comments.
+///
+/// # Errors
+///
+/// If the source is not a valid query document, the output would be too wide, or an allocation fails.
+pub fn format_query(source: &str, style: Style) -> Result<String, Error> {
+    raw::format_query(source.as_bytes(), style)
 }
 
-/// Where a text is refused: a line and a column, both from 1.
-#[derive(Clone, Copy, Debug, PartialEq, Eq)]
-pub struct Position {
-    pub line: usize,
-    pub column: usize,
+/// Formats a schema document. The output has no comments.
+///
+/// # Errors
+///
+/// If the source is not a valid schema document, the output would be too wide, or an allocation fails.
+///
+/// ```
+/// use graphql_proved::{format_schema, Style};
+///
+/// let style = Style { indent: 4, ..Style::default() };
+/// assert_eq!(format_schema("enum E { A B }", style)?, "enum E {\n    A\n    B\n}\n");
+/// # Ok::<(), graphql_proved::Error>(())
+/// ```
+pub fn format_schema(source: &str, style: Style) -> Result<String, Error> {
+    raw::format_schema(source.as_bytes(), style)
 }
 
-/// Why a call made nothing of its text, and where.
-#[derive(Clone, Debug, PartialEq, Eq)]
-pub struct Error {
-    pub cause: Cause,
-    /// None where the layout is too wide, and where an allocation failed.
-    pub position: Option<Position>,
-    /// The message, which is empty where there was no memory for it.
-    pub message: String,
+/// Writes the tokens of a source with a space only where two would otherwise run together.
+///
+/// # Errors
+///
+/// If the source has an invalid token, nests too deep or is too long, or an allocation fails. The grammar is not
+/// checked.
+///
+/// ```
+/// assert_eq!(graphql_proved::minify("query { a , b }")?, "query{a b}");
+/// # Ok::<(), graphql_proved::Error>(())
+/// ```
+pub fn minify(source: &str) -> Result<String, Error> {
+    raw::minify(source.as_bytes())
 }
 
-impl fmt::Display for Error {
-    fn fmt(&self, f: &mut fmt::Formatter<'_>) -> fmt::Result {
-        f.write_str(&self.message)
+/// Splits a source after the first definition of a query document and the spaces, commas and comments behind it.
+///
+/// # Errors
+///
+/// If the source does not begin with a definition, or an allocation fails. The rest is not checked.
+///
+/// ```
+/// assert_eq!(graphql_proved::first_definition("{ a } where a > 1")?, ("{ a } ", "where a > 1"));
+/// # Ok::<(), graphql_proved::Error>(())
+/// ```
+pub fn first_definition(source: &str) -> Result<(&str, &str), Error> {
+    raw::first_definition(source.as_bytes()).map(|offset| source.split_at(offset))
+}
+
+/// Checks that a source is a query document. It is not validated against a schema.
+///
+/// # Errors
+///
+/// If the source is not a valid query document, or an allocation fails.
+pub fn check_query(source: &str) -> Result<(), Error> {
+    raw::check_query(source.as_bytes())
+}
+
+/// Checks that a source is a schema document. Its types are not validated.
+///
+/// # Errors
+///
+/// If the source is not a valid schema document, or an allocation fails.
+pub fn check_schema(source: &str) -> Result<(), Error> {
+    raw::check_schema(source.as_bytes())
+}
+
+/// The same functions for bytes. They also return an error if the source is not UTF-8.
+///
+/// ```
+/// use graphql_proved::{bytes, Cause};
+///
+/// assert_eq!(bytes::minify(b"{ a, b }")?, "{a b}");
+/// assert_eq!(bytes::check_query(b"{ a \xff }").unwrap_err().cause, Cause::NotUtf8);
+/// # Ok::<(), graphql_proved::Error>(())
+/// ```
+pub mod bytes {
+    use crate::{raw, Error};
+
+    pub use raw::{check_query, check_schema, format_query, format_schema, minify};
+
+    /// As [`crate::first_definition`]. The rest can be any bytes.
+    ///
+    /// # Errors
+    ///
+    /// If the source does not begin with a definition, or an allocation fails.
+    pub fn first_definition(source: &[u8]) -> Result<(&[u8], &[u8]), Error> {
+        raw::first_definition(source).map(|offset| source.split_at(offset))
     }
-}
-
-impl std::error::Error for Error {}
-
-/// Lays a query document out.
-pub fn format_query(text: &str, style: Style) -> Result<String, Error> {
-    raw::format_query(text.as_bytes(), style)
-}
-
-/// Lays a schema document out.
-pub fn format_schema(text: &str, style: Style) -> Result<String, Error> {
-    raw::format_schema(text.as_bytes(), style)
-}
-
-/// The tokens of a text, with only the spaces that keep them apart.
-pub fn minify(text: &str) -> Result<String, Error> {
-    raw::minify(text.as_bytes())
-}
-
-/// The first definition of a query document with the ignored text after it, and the rest, which may be any text.
-pub fn first_definition(text: &str) -> Result<(&str, &str), Error> {
-    raw::first_definition(text.as_bytes()).map(|end| text.split_at(end))
-}
-
-/// Parses a text alone: fine where it is a query document.
-pub fn check_query(text: &str) -> Result<(), Error> {
-    raw::check_query(text.as_bytes())
-}
-
-/// Parses a text alone: fine where it is a schema document.
-pub fn check_schema(text: &str) -> Result<(), Error> {
-    raw::check_schema(text.as_bytes())
-}
-
-/// As `format_query`, of bytes that may be no UTF-8.
-pub fn format_query_bytes(text: &[u8], style: Style) -> Result<String, Error> {
-    raw::format_query(text, style)
 }

@@ -1,6 +1,7 @@
-//! The calls of the library. The declarations are those of `graphql.h`.
+//! The functions of the library, as `graphql.h` declares them, without `unsafe`.
 
-use crate::{Cause, Error, Position, Style};
+use crate::error::{Error, Position};
+use crate::Style;
 
 /// `graphql_answer` of `graphql.h`.
 #[repr(C)]
@@ -13,99 +14,109 @@ struct Answer {
 
 const OK: u32 = 0;
 
-extern "C" {
-    fn graphql_format_query(text: *const u8, length: usize, indent: u32, multiline: bool, out: *mut u8, capacity: usize) -> Answer;
-    fn graphql_format_schema(text: *const u8, length: usize, indent: u32, multiline: bool, out: *mut u8, capacity: usize) -> Answer;
-    fn graphql_minify(text: *const u8, length: usize, out: *mut u8, capacity: usize) -> Answer;
-    fn graphql_first_definition(text: *const u8, length: usize, out: *mut u8, capacity: usize) -> Answer;
-    fn graphql_check_query(text: *const u8, length: usize, out: *mut u8, capacity: usize) -> Answer;
-    fn graphql_check_schema(text: *const u8, length: usize, out: *mut u8, capacity: usize) -> Answer;
+/// The capacity of a buffer for which most messages are short enough.
+const MESSAGE: usize = 256;
+
+/// Declares functions of the library, whose names in C begin with this prefix.
+macro_rules! library {
+    ($prefix:literal; $(fn $name:ident($($argument:ident: $type:ty),*);)*) => {
+        mod c {
+            use super::Answer;
+
+            extern "C" {
+                $(#[link_name = concat!($prefix, stringify!($name))]
+                pub fn $name($($argument: $type),*) -> Answer;)*
+            }
+        }
+    };
 }
 
-/// A text and a buffer: pointers of two live slices, one of them exclusive, with their lengths. Neither is null.
+library! {
+    "graphql_";
+    fn format_query(text: *const u8, length: usize, indent: u32, multiline: bool, out: *mut u8, capacity: usize);
+    fn format_schema(text: *const u8, length: usize, indent: u32, multiline: bool, out: *mut u8, capacity: usize);
+    fn minify(text: *const u8, length: usize, out: *mut u8, capacity: usize);
+    fn first_definition(text: *const u8, length: usize, out: *mut u8, capacity: usize);
+    fn check_query(text: *const u8, length: usize, out: *mut u8, capacity: usize);
+    fn check_schema(text: *const u8, length: usize, out: *mut u8, capacity: usize);
+}
+
+/// A function of the library, called with pointers and lengths of these slices.
 type Call<'a> = &'a dyn Fn(&[u8], &mut [u8]) -> Answer;
 
-/// What a call answers, and what it wrote, with a buffer that is made longer where the output or the message does not fit.
-fn called(text: &[u8], capacity: usize, call: Call<'_>) -> Result<(usize, Vec<u8>), Error> {
+/// The length in the answer of a call, and the buffer. A buffer that is too short for the output or the message is made
+/// longer, and the function called again.
+fn answer(source: &[u8], capacity: usize, call: Call<'_>) -> Result<(usize, Vec<u8>), Error> {
     let mut out = vec![0; capacity];
     loop {
-        let answer = call(text, &mut out);
-        if answer.status == OK {
-            return Ok((answer.length, out));
+        let Answer { status, length, line, column } = call(source, &mut out);
+        if status == OK {
+            return Ok((length, out));
         }
-        if answer.length <= out.len() {
-            return Err(error(&answer, String::from_utf8_lossy(&out[..answer.length]).into_owned()));
+        if length <= out.len() {
+            let position = (line > 0).then_some(Position { line, column });
+            let message = String::from_utf8_lossy(&out[..length]).into_owned();
+            return Err(Error { cause: status.into(), position, message });
         }
-        out.resize(answer.length, 0);
+        out.resize(length, 0);
     }
 }
 
 /// The output of a call.
-fn output(text: &[u8], capacity: usize, call: Call<'_>) -> Result<String, Error> {
-    let (length, mut out) = called(text, capacity, call)?;
+fn output(source: &[u8], capacity: usize, call: Call<'_>) -> Result<String, Error> {
+    let (length, mut out) = answer(source, capacity, call)?;
     out.truncate(length);
+    // An output is UTF-8, so no byte is replaced.
     Ok(String::from_utf8(out).unwrap_or_else(|error| String::from_utf8_lossy(error.as_bytes()).into_owned()))
 }
 
-fn error(answer: &Answer, message: String) -> Error {
-    let position = (answer.line > 0).then_some(Position { line: answer.line, column: answer.column });
-    Error { cause: cause(answer.status), position, message }
+/// The capacity of a buffer for which most formatted documents are short enough.
+fn formatted(source: &[u8]) -> usize {
+    2 * source.len() + MESSAGE
 }
 
-fn cause(status: u32) -> Cause {
-    match status {
-        1 => Cause::BadToken,
-        2 => Cause::UnexpectedToken,
-        3 => Cause::UnexpectedEnd,
-        4 => Cause::TooDeep,
-        5 => Cause::IntOutOfRange,
-        6 => Cause::MalformedFloat,
-        7 => Cause::BadEscape,
-        8 => Cause::UnknownLocation,
-        9 => Cause::DuplicateOperation,
-        10 => Cause::UnknownOperation,
-        11 => Cause::EmptyExtension,
-        12 => Cause::TextTooLong,
-        13 => Cause::OutOfMemory,
-        14 => Cause::TooWide,
-        15 => Cause::NotUtf8,
-        _ => Cause::Other(status),
-    }
-}
+// SAFETY, of each call below: the declaration is that of `graphql.h`. The pointers and the lengths are those of slices,
+// which are not null, do not overlap, and live through the call. The bytes of `out` are initialised.
 
-// SAFETY, of each call below: the declaration is that of `graphql.h`; the pointers and the lengths are those of slices, which are not null, do not
-// overlap and live through the call; the bytes of `out` have values.
-
-pub fn format_query(text: &[u8], style: Style) -> Result<String, Error> {
-    output(text, roomy(text), &|text, out| unsafe {
-        graphql_format_query(text.as_ptr(), text.len(), style.indent, style.multiline, out.as_mut_ptr(), out.len())
+/// Formats a query document, as [`crate::format_query`].
+pub fn format_query(source: &[u8], style: Style) -> Result<String, Error> {
+    let Style { indent, multiline } = style;
+    output(source, formatted(source), &|text, out| unsafe {
+        c::format_query(text.as_ptr(), text.len(), indent, multiline, out.as_mut_ptr(), out.len())
     })
 }
 
-pub fn format_schema(text: &[u8], style: Style) -> Result<String, Error> {
-    output(text, roomy(text), &|text, out| unsafe {
-        graphql_format_schema(text.as_ptr(), text.len(), style.indent, style.multiline, out.as_mut_ptr(), out.len())
+/// Formats a schema document, as [`crate::format_schema`].
+pub fn format_schema(source: &[u8], style: Style) -> Result<String, Error> {
+    let Style { indent, multiline } = style;
+    output(source, formatted(source), &|text, out| unsafe {
+        c::format_schema(text.as_ptr(), text.len(), indent, multiline, out.as_mut_ptr(), out.len())
     })
 }
 
-pub fn minify(text: &[u8]) -> Result<String, Error> {
-    output(text, text.len() + 256, &|text, out| unsafe { graphql_minify(text.as_ptr(), text.len(), out.as_mut_ptr(), out.len()) })
+/// Writes the tokens of a source, as [`crate::minify`].
+pub fn minify(source: &[u8]) -> Result<String, Error> {
+    output(source, source.len() + MESSAGE, &|text, out| unsafe {
+        c::minify(text.as_ptr(), text.len(), out.as_mut_ptr(), out.len())
+    })
 }
 
-pub fn first_definition(text: &[u8]) -> Result<usize, Error> {
-    let call: Call<'_> = &|text, out| unsafe { graphql_first_definition(text.as_ptr(), text.len(), out.as_mut_ptr(), out.len()) };
-    Ok(called(text, 256, call)?.0)
+/// The offset of the rest, which begins after the first definition.
+pub fn first_definition(source: &[u8]) -> Result<usize, Error> {
+    let call: Call<'_> =
+        &|text, out| unsafe { c::first_definition(text.as_ptr(), text.len(), out.as_mut_ptr(), out.len()) };
+    answer(source, MESSAGE, call).map(|(offset, _)| offset)
 }
 
-pub fn check_query(text: &[u8]) -> Result<(), Error> {
-    output(text, 256, &|text, out| unsafe { graphql_check_query(text.as_ptr(), text.len(), out.as_mut_ptr(), out.len()) }).map(|_| ())
+/// Checks that a source is a query document, as [`crate::check_query`].
+pub fn check_query(source: &[u8]) -> Result<(), Error> {
+    let call: Call<'_> = &|text, out| unsafe { c::check_query(text.as_ptr(), text.len(), out.as_mut_ptr(), out.len()) };
+    answer(source, MESSAGE, call).map(drop)
 }
 
-pub fn check_schema(text: &[u8]) -> Result<(), Error> {
-    output(text, 256, &|text, out| unsafe { graphql_check_schema(text.as_ptr(), text.len(), out.as_mut_ptr(), out.len()) }).map(|_| ())
-}
-
-/// How long the layout of most texts is at most.
-fn roomy(text: &[u8]) -> usize {
-    2 * text.len() + 256
+/// Checks that a source is a schema document, as [`crate::check_schema`].
+pub fn check_schema(source: &[u8]) -> Result<(), Error> {
+    let call: Call<'_> =
+        &|text, out| unsafe { c::check_schema(text.as_ptr(), text.len(), out.as_mut_ptr(), out.len()) };
+    answer(source, MESSAGE, call).map(drop)
 }

@@ -1,6 +1,7 @@
-//! The recorded cases of this repository, through the library's C face, and those of a folder that GRAPHQL_VECTORS names.
+//! The recorded cases of this repository, through the library for C, and those of a folder that GRAPHQL_VECTORS names.
 
-use graphql_proved::{check_query, check_schema, first_definition, format_query, format_query_bytes, format_schema, minify, Cause, Position, Style};
+use graphql_proved::{bytes, check_query, check_schema, first_definition, format_query, format_schema, minify};
+use graphql_proved::{Cause, Error, Position, Style};
 use std::path::{Path, PathBuf};
 use std::{env, fs};
 
@@ -61,7 +62,9 @@ fn replayed(word: &str, indent: u32, text: &str, wanted: &Wanted) -> bool {
     }
     // A check answers as the layout does, but for one that is too wide.
     match (&answer, checked) {
-        (Err(error), Some(checked)) if error.cause != Cause::TooWide => assert_eq!(checked.as_ref().err(), Some(error), "of {word}: {text}"),
+        (Err(error), Some(checked)) if error.cause != Cause::TooWide => {
+            assert_eq!(checked.as_ref().err(), Some(error), "of {word}: {text}")
+        }
         (_, Some(checked)) => assert_eq!(checked, Ok(()), "of {word}: {text}"),
         (_, None) => {}
     }
@@ -111,7 +114,8 @@ fn cases_of_a_folder_agree() {
 
 #[test]
 fn hero_is_laid_out() {
-    let text = "query Hero($id: ID! = \"1\") @cached { h: hero(id: $id) { name ... on Droid { parts(first: 2) } ...More } }\n";
+    let text =
+        "query Hero($id: ID! = \"1\") @cached { h: hero(id: $id) { name ... on Droid { parts(first: 2) } ...More } }\n";
     let lines = concat!(
         "query Hero($id: ID! = \"1\") @cached {\n  h: hero(id: $id) {\n    name\n",
         "    ... on Droid {\n      parts(first: 2)\n    }\n    ...More\n  }\n}\n",
@@ -125,11 +129,14 @@ fn hero_is_laid_out() {
 fn refusals_have_places() {
     let error = format_query("{ hero(id: 99999999999999999999) }", Style::default()).expect_err("too large");
     assert_eq!((error.cause, error.position), (Cause::IntOutOfRange, Some(Position { line: 1, column: 12 })));
-    assert_eq!(error.to_string(), "query parse error: Parse error at 1:12\nnumber too large\n");
+    assert_eq!(error.message, "query parse error: Parse error at 1:12\nnumber too large\n");
+    assert_eq!(error.to_string(), "query parse error: Parse error at 1:12\nnumber too large");
     let error = check_schema("\nschema { query: A query: B }").expect_err("twice");
     assert_eq!((error.cause, error.position), (Cause::DuplicateOperation, Some(Position { line: 2, column: 1 })));
     let error = minify("{ a ; }").expect_err("no token");
     assert_eq!((error.cause, error.position), (Cause::BadToken, Some(Position { line: 1, column: 5 })));
+    // This message has no place of its own.
+    assert_eq!(error.to_string(), "query minify error: Unexpected unexpected character ';' at 1:5");
     let error = check_query("").expect_err("empty");
     assert_eq!(error.cause, Cause::UnexpectedEnd);
 }
@@ -139,8 +146,35 @@ fn failures_have_no_place() {
     let error = format_query("{ a { b } }", Style { indent: u32::MAX, multiline: false }).expect_err("too wide");
     assert_eq!((error.cause, error.position), (Cause::TooWide, None));
     assert_eq!(error.message, "format error: indentation too wide");
-    let error = format_query_bytes(b"{ a \xff }", Style::default()).expect_err("not UTF-8");
+    let error = bytes::format_query(b"{ a \xff }", Style::default()).expect_err("not UTF-8");
     assert_eq!((error.cause, error.position), (Cause::NotUtf8, None));
+}
+
+#[test]
+fn bytes_are_taken_as_strings_are() {
+    let style = Style { indent: 3, multiline: true };
+    for text in ["{ a(b: 1) }", "enum E { A }", "{ \"é\" }", "{ a ; }", ""] {
+        let source = text.as_bytes();
+        assert_eq!(bytes::format_query(source, style), format_query(text, style));
+        assert_eq!(bytes::format_schema(source, style), format_schema(text, style));
+        assert_eq!(bytes::minify(source), minify(text));
+        assert_eq!(bytes::check_query(source), check_query(text));
+        assert_eq!(bytes::check_schema(source), check_schema(text));
+        let parts =
+            |(definition, rest): (&str, &str)| (definition.to_owned().into_bytes(), rest.to_owned().into_bytes());
+        let split = bytes::first_definition(source).map(|(definition, rest)| (definition.to_vec(), rest.to_vec()));
+        assert_eq!(split, first_definition(text).map(parts));
+    }
+    assert_eq!(bytes::first_definition(b"{ a } b\xff"), Ok((&b"{ a } "[..], &b"b\xff"[..])));
+}
+
+#[test]
+fn a_status_of_a_later_version_is_kept() {
+    assert_eq!(Cause::from(15), Cause::NotUtf8);
+    assert_eq!(Cause::from(99), Cause::Other(99));
+    let error = Error { cause: Cause::Other(99), position: None, message: "new\n".to_owned() };
+    assert_eq!(error.to_string(), "new");
+    assert_eq!(Position { line: 3, column: 14 }.to_string(), "3:14");
 }
 
 #[test]
