@@ -62,7 +62,7 @@ def made(version):
         archive = make_archive(room)
         shared = make_shared(room, archive, version)
         programs = {}
-        for name in names.programs():
+        for name in names.PROGRAMS:
             run("strip", "-o", room / name, built.program(name))
             programs[name] = room / name
         of_all = max(map(glibc_of, [shared, *programs.values()]))

@@ -45,7 +45,7 @@ def program(name):
 
 
 def files():
-    return [*map(program, names.programs()), *ARCHIVES]
+    return [*map(program, names.PROGRAMS), *ARCHIVES]
 
 
 def sum_of(data):

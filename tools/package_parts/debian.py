@@ -23,7 +23,7 @@ def control(version, source, glibc, size):
         "Section: utils",
         "Priority: optional",
         "Description: parser, formatter and minifier of GraphQL that is proved correct",
-        f" {' and '.join(names.programs())} for the command line, a library for C with its header,",
+        f" {' and '.join(names.PROGRAMS)} for the command line, a library for C with its header,",
         " and a crate for Rust that links the library.",
         "",
     ])

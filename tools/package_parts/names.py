@@ -9,7 +9,6 @@ PROJECT = "graphql_parser"
 LIBRARY = "graphql_proved"
 DEBIAN = PROJECT.replace("_", "-")
 SUMMARY = "Formats, minifies and checks GraphQL documents, with code that is proved correct"
-# The programs, of which those that crates.txt lists are packaged.
 PROGRAMS = ("gql",)
 CRATE = TOP / "crates/graphql_c"
 [HEADER] = CRATE.glob("include/*.h")
@@ -23,12 +22,6 @@ def version_of_header():
 def functions(header):
     """The functions that a header declares, which are all that the library exports."""
     return sorted(re.findall(r"(?m)^\w[\w *]*\b(\w+)\((?!\()", header.read_text(encoding="utf-8")))
-
-
-def programs():
-    """The programs that the repository has."""
-    crates = re.findall(r"(?m)^(\w+)", (TOP / "crates.txt").read_text(encoding="utf-8"))
-    return [name for name in PROGRAMS if name in crates]
 
 
 def shared_object(version):

@@ -83,7 +83,7 @@ def format_schema(source: AnyStr, *, indent: int = 2, multiline: bool = False) -
 
 
 def minify(source: AnyStr) -> AnyStr:
-    """Write the tokens of a source with a space only where two would otherwise run together.
+    """Write the tokens of a source. Two that are not punctuators, and a number and `...`, have a space between them.
 
     Args:
         source: a query or a schema. Only its tokens are checked, and not its grammar.

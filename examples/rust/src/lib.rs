@@ -57,7 +57,7 @@ pub fn format_schema(source: &str, style: Style) -> Result<String, Error> {
     raw::format_schema(source.as_bytes(), style)
 }
 
-/// Writes the tokens of a source with a space only where two would otherwise run together.
+/// Writes the tokens of a source. Only two that are not punctuators, and a number and `...`, have a space between them.
 ///
 /// # Errors
 ///
