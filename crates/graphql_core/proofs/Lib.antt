@@ -35,6 +35,7 @@ pub use grammar.{same_spelling-true, sees-apart, sees-parts, sees-within, take-o
 pub use rules.{IsSecond-head, IsSecond-prefix, IsSecond-second, IsSecond-sides, IsSecond-symbols, alone_before}
 pub use rules.{each_is_second, tests_alike, unchanged_then, with_more}
 pub use lexical.{Sees, cut_of, front_sees, has_items, items_unique, no_front, stands_front}
+pub use sources.{stands_before, token_follows}
 pub use sources.{EndsInMark, HasItemAt, Rise, TokensKept, boundary, ends_after, holds_first, holds_on, items_rise}
 pub use sources.{more_items, one_minified, one_position, other_position, place_after, prefix, rise_on, same_position}
 pub use sources.{stands_before_same, token_next, tokens_kept}
@@ -47,15 +48,19 @@ pub use readers.{side_first, side_in, side_left, side_node, side_nth, side_right
 pub use readers.{some_taken, spelling_differs, stops_one, takes_none, takes_one, takes_some, takes_token, there}
 pub use readers.{through, took, turn_appends, turn_fails, unseen_either, unseen_one, unseen_symbol, unseen_then}
 pub use readers.{whole}
-pub use values.{Anything, HasRoom, Ignores, IgnoresPlaces, Left, Nests, OfItsOwn, Within, all_turns, all_within}
-pub use values.{bare, directives_bare, directives_printable, document_alike, each_bare, each_of_both, each_same}
-pub use values.{enclosed_bare, enclosed_printable, enclosed_same, has_room, joined_bare, leaf_except, leaf_name}
-pub use values.{minified_document, nests, nests_before, nests_open, nests_tree, optional_arguments_bare}
-pub use values.{optional_arguments_printable, optional_bare, optional_default_bare, optional_default_printable}
-pub use values.{optional_list_bare, own_text, parsed_alike, part_printable, past_tree, room_back, room_both}
-pub use values.{room_first, room_leaf, room_more, room_node, room_nothing, room_second, room_stop, some_printable}
-pub use values.{source_document, spelling_bare, there_bare, type_bare, type_printable}
+pub use values.{Anything, ByValues, DependsOnValues, HasRoom, IsSame, Left, Nests, OfItsOwn, SameLeaf, SameTrees}
+pub use values.{Within, accepted_same, all_turns, all_within, directives_printable, directives_same, document_alike}
+pub use values.{each_alike, each_of_both, each_same, enclosed_alike, enclosed_printable, enclosed_same, has_room}
+pub use values.{joined_same, leaf_except, leaf_name, left_tree, minified_document, nests, nests_before, nests_open}
+pub use values.{nests_tree, optional_arguments_printable, optional_arguments_same, optional_default_printable}
+pub use values.{optional_default_same, optional_list_same, optional_same, own_text, parsed_alike, part_printable}
+pub use values.{past_tree, right_tree, room_back, room_both, room_first, room_leaf, room_more, room_node}
+pub use values.{room_nothing, room_second, room_stop, same_block, same_both, same_first, same_more, same_node}
+pub use values.{same_second, same_values_document, same_values_parsed, some_printable, source_document, spelling_same}
+pub use values.{there_same, type_printable, type_same}
 pub use layouts.{Rises, all_counted, all_hold, all_seen, and_alone, and_last, and_part, arguments_bounded}
+pub use layouts.{block_lines_mean}
+pub use strings.{spelled_as, in_triple_quotes}
 pub use layouts.{arguments_rise, block_means, block_word, both_fit, both_rise, braces_rise, braces_text, deepest_is}
 pub use layouts.{default_bounded, default_rises, directives_alike, directives_bounded, directives_rise, flat_rise}
 pub use layouts.{gap_rises, in_parentheses_alike, in_parentheses_rise, in_parentheses_seen, item_here, level_rises}

@@ -7,6 +7,7 @@ pub mod FrontIsPiece
 pub mod FirstBytes
 pub mod Spaces
 pub mod OneCut
+pub mod Elements
 pub mod CharacterClasses
 pub mod Lanes
 pub mod Positions
@@ -22,6 +23,7 @@ unfoldable pub use FrontIsPiece.*
 unfoldable pub use FirstBytes.*
 unfoldable pub use Spaces.*
 unfoldable pub use OneCut.*
+unfoldable pub use Elements.*
 unfoldable pub use CharacterClasses.*
 unfoldable pub use Lanes.*
 unfoldable pub use Positions.*

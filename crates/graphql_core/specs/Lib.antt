@@ -39,7 +39,7 @@ pub use grammar.{is_row, lax, leads_node, leaves, matches, nowhere, optional, ou
 pub use grammar.{out_of_sides, out_of_symbols, peek, row, row_at, same_spelling, sees, solve, some_of, takes_both}
 pub use grammar.{takes_first, takes_leaf, takes_node, takes_nothing, takes_second, takes_stop, turn_values}
 pub use grammar.{unchanged, with_rows, with_tables, written}
-pub use lexical.{BeginsNone, HasItems, Ignored, IsCutInto, IsName, Item, LexicalError, Meaning, Piece, Stands}
+pub use lexical.{BeginsNone, BeginsWithElement, HasItems, Ignored, IsCutInto, IsName, Item, LexicalError, Meaning, Piece, Stands}
 pub use lexical.{Stream, TokenContent, Where, Word, depth_of, is_in_line, is_too_deep, item_at, next_place}
 pub use lexical.{past_ignored, past_token, piece_then, start, token_then, too_deep}
 unfoldable pub use lexical.{items_of}
@@ -58,13 +58,14 @@ pub use values.{directives_of, directives_symbol, directives_view, each_of, encl
 pub use values.{first_place, has_any, in_brackets, is_there, joined_of, keyword, location_class, most, most_around}
 pub use values.{most_enclosed, name, named, no_place, optional_arguments_of, optional_default_of, optional_list_of}
 pub use values.{optional_of, place_at, punctuator, punctuator_class, sample, separated_of, shared, shared_symbols}
-pub use values.{spelling_at, type_of, type_symbol, type_view, value_brackets, value_view, variable, word}
+pub use values.{spelling_at, token_value, type_of, type_symbol, type_view, value_brackets, value_view, valued}
+pub use values.{variable, word}
 unfoldable pub use values.{block_string_of, is_good, string_of, tables, unquoted}
 pub use layouts.{IsNarrow, Layout, Part, arguments_layout, bracket_of, deepest, default_layout, default_style}
-pub use layouts.{description_levels, directives_layout, gap, has_block_form, in_block_form, in_braces, in_levels}
+pub use layouts.{description_levels, directives_layout, gap, has_block_form, has_block_lines, in_block_form, in_braces, in_levels}
 pub use layouts.{in_parentheses, name_part, punctuator_part, quoted, separated, spaces, string_layout, text_of}
 pub use layouts.{token, type_layout, with_indent, with_multiline}
-pub use steps.{Adds, Answered, Gives, IsFaultFor, IsList, IsNext, Shortens, Shows, TakesOne, TakesToken}
+pub use steps.{Adds, Answered, Gives, IsFaultFor, IsList, IsNext, MayFollow, Shortens, Shows, TakesOne, TakesToken}
 pub use steps.{ignored_front, line_end, reason_of, sees_class, spelling_of}
 unfoldable pub use steps.{block_end, comment, front, items, items_in, number, other_token, quoted_front, string_end}
 pub use documents.{AnswersUnlessMemory, AreAlike, AreReadBack, HasNoValue, HasNone, HasOneFaultEach, IsDocument}

@@ -4,6 +4,7 @@ pub mod BlockBytes
 pub mod Constness
 pub mod Cut
 pub mod Endings
+pub mod Following
 pub mod FormatterSink
 pub mod Front
 pub mod Joined
@@ -24,6 +25,7 @@ unfoldable pub use BlockBytes.*
 unfoldable pub use Constness.*
 unfoldable pub use Cut.*
 unfoldable pub use Endings.*
+unfoldable pub use Following.*
 unfoldable pub use FormatterSink.*
 unfoldable pub use Front.*
 unfoldable pub use Joined.*

@@ -12,7 +12,7 @@ mod spans;
 
 pub use cursor::Cursor;
 pub use matching::{expect_keyword, expect_name, expect_punctuator, sees_keyword};
-pub use minify::{minified, spaced_tokens_are_cut};
+pub use minify::{is_spaced, minified, spaced_tokens_are_cut};
 pub use punctuator::Punctuator;
 pub use read_error::{ReadError, fault_of};
 pub use room::shrink_list;

@@ -3,6 +3,7 @@
 mod bad;
 mod brackets;
 mod class;
+mod element;
 mod ignored;
 pub mod lanes;
 mod laws;
@@ -17,6 +18,7 @@ mod tokens;
 
 pub use brackets::MAX_DEPTH;
 pub use class::is_name_start;
+pub use element::{Element, ElementKind, first_element};
 pub use laws::{one_list_of_items, worked_examples};
 pub use stream::TokenStream;
 pub(crate) use stream::one_more;

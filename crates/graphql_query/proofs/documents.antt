@@ -1,4 +1,4 @@
-pub mod Unplaced
+pub mod MeaningsAlike
 pub mod EarlierTrees
 pub mod Earlier
 pub mod FirstDefinition
@@ -6,7 +6,7 @@ pub mod Consuming
 pub mod OtherRest
 pub mod OtherDefinitions
 pub mod Minified
-unfoldable pub use Unplaced.*
+unfoldable pub use MeaningsAlike.*
 unfoldable pub use EarlierTrees.*
 unfoldable pub use Earlier.*
 unfoldable pub use FirstDefinition.*

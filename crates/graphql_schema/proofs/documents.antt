@@ -1,8 +1,8 @@
-pub mod Unplaced
+pub mod MeaningsAlike
 pub mod EarlierTrees
 pub mod Earlier
 pub mod RejectedNodes
-unfoldable pub use Unplaced.*
+unfoldable pub use MeaningsAlike.*
 unfoldable pub use EarlierTrees.*
 unfoldable pub use Earlier.*
 unfoldable pub use RejectedNodes.*

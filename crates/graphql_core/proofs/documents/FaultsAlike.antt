@@ -2,7 +2,7 @@
 use Rattle.std.specs.Int.RustNames.{FitsSigned}
 use Rattle.std.proofs.Common.{◌≡◌, ℕ, zero, suc, Bool, true, false, ◌&&◌, List, [], ◌∷◌, ◌++◌, length, map, drop, refl, sym, ap, ◌∙◌, subst, w64}
 use Rattle.std.proofs.lemmas.List.{map-append, length-map, drop-map}
-use Rattle.graphql_core.specs.{Begins, Ends, Grammar, Expr, Then, Many, Sym, ParseTree, Node, leaves, peek, accepts}
+use Rattle.graphql_core.specs.{Begins, Ends, Grammar, Fits, Expr, Then, Many, Sym, ParseTree, Node, leaves, peek, accepts}
 use Rattle.graphql_core.specs.{leads_here, leads_after, leads_turn, leads_later, leads_before, leads_second}
 use Rattle.graphql_core.specs.{leads_first, Leads, leads_node, Text, IsRefused, IsFault, bad_place, unexpected_item}
 use Rattle.graphql_core.specs.{leaf_refused, node_refused, IsLeast, unexpected_token, CauseText, IsInQuotes}
@@ -12,7 +12,8 @@ use Rattle.graphql_core.specs.{IsFloatLiteral, int_of, numbered, from_item, HasN
 use Rattle.graphql_core.specs.{escaped_badly, Says, IsLeastFault, IsLeastFaultOf, Language}
 use Rattle.graphql_core.proofs.lexical.{items_unique}
 use Rattle.graphql_core.proofs.sources.{minified_tokens}
-use Rattle.graphql_core.proofs.values.{bare, Alike, alike_split, refilled, IgnoresPlaces}
+use Rattle.graphql_core.proofs.values.{SameTrees, left_tree, right_tree, SameLeaf, unplaced_leaf, matches_same, Alike}
+use Rattle.graphql_core.proofs.values.{alike_split, Refilled, refilled_alike, DependsOnValues}
 use Rattle.graphql_core.proofs.documents.Readable.{IsReadable}
 use Rattle.graphql_core.proofs.documents.Faults.{ends, one_least}
 use Rattle.graphql_core.specs.strings.Strings as strings
@@ -60,17 +61,19 @@ same_item (t ∷ ts) (u ∷ us) (v ∷ vs) h k =
 -- ---- what the plain grammar derives
 
 module _ (g : Grammar) where
+  lax_refilled : {e : Expr} {x : ParseTree} → Fits (lax g) e x → (us : List Token) → Alike us (leaves x) → Refilled (lax g) e x us
+  lax_refilled fits us h = refilled_alike (lax g) (λ c t u e. ap (λ (b : Bool). b && true) (matches_same c t u e)) (λ k s. refl) fits us h
+
   begins_alike : (e : Expr) (ts us : List Token) → Alike us ts → Begins (lax g) e ts → Begins (lax g) e us
   begins_alike e ts us h (x, more, (fits, is)) =
-      let (y, fy, ly, ey) = refilled (lax g) (λ c t. refl) (λ k z. refl) fits (us ++ more) (alike_both us ts more more h refl ∙ ap (map unplaced) is) in
-      (y, more, (fy, ly))
+      let (s, left, fy, ly) = lax_refilled fits (us ++ more) (alike_both us ts more more h refl ∙ ap (map unplaced) is) in
+      (right_tree s, more, (fy, ly))
 
   ends_alike : (e : Expr) (ts us rest others : List Token) → Alike us ts → Alike others rest → Ends (lax g) e ts (peek rest) → Ends (lax g) e us (peek others)
   ends_alike e ts us rest others h k none x more (fits, is) next =
       let (same, alike, here) = same_item rest others more k next in
-      let (y, fy, ly, ey) = refilled (lax g) (λ c t. refl) (λ k z. refl) fits (ts ++ same)
-      (alike_both ts us same more (sym h) alike ∙ ap (map unplaced) is) in
-      none y same (fy, ly) here
+      let (s, left, fy, ly) = lax_refilled fits (ts ++ same) (alike_both ts us same more (sym h) alike ∙ ap (map unplaced) is) in
+      none (right_tree s) same (fy, ly) here
 
   leads_alike : {e d : Expr} {ts : List Token} → Leads (lax g) e ts d → (us : List Token) → Alike us ts → Leads (lax g) e us d
   leads_alike leads_here [] h = leads_here
@@ -78,14 +81,14 @@ module _ (g : Grammar) where
   leads_alike (leads_before p f) us h = leads_before (leads_alike p us h) f
   leads_alike (leads_after {a = a} {b = b} {d = d} {ts = ts} {x = x} f p) us h =
       let (vs, ws, parts, one, two) = alike_split (leaves x) ts us h in
-      let (v, fv, lv, ev) = refilled (lax g) (λ c t. refl) (λ k z. refl) f vs one in
+      let (s, left, fv, lv) = lax_refilled f vs one in
       subst (λ (l : List Token). Leads (lax g) (Then a b) l d) (sym (parts ∙ ap (λ (l : List Token). l ++ ws) lv)) (leads_after fv (leads_alike p ws two))
   leads_alike (leads_first p) us h = leads_first (leads_alike p us h)
   leads_alike (leads_second p) us h = leads_second (leads_alike p us h)
   leads_alike (leads_turn p) us h = leads_turn (leads_alike p us h)
   leads_alike (leads_later {a = a} {d = d} {ts = ts} {x = x} f p) us h =
       let (vs, ws, parts, one, two) = alike_split (leaves x) ts us h in
-      let (v, fv, lv, ev) = refilled (lax g) (λ c t. refl) (λ k z. refl) f vs one in
+      let (s, left, fv, lv) = lax_refilled f vs one in
       subst (λ (l : List Token). Leads (lax g) (Many a) l d) (sym (parts ∙ ap (λ (l : List Token). l ++ ws) lv)) (leads_later fv (leads_alike p ws two))
   leads_alike (leads_node p) us h = leads_node (leads_alike p us h)
 
@@ -96,40 +99,41 @@ last_part true b true d h k e = e
 last_part false b c d h k e = absurd cc
 last_part true b false d h k e = absurd cc
 
-module _ (g : Grammar) (good : (c : Class) (t : Token) → accepts g c (unplaced t) ≡ accepts g c t)
-    (checks : (k : ℕ) (x : ParseTree) → g.check k (bare x) ≡ g.check k x) (e : Expr) where
+module _ (g : Grammar) (good : (c : Class) (t u : Token) → SameLeaf c t u → accepts g c u ≡ accepts g c t)
+    (checks : (k : ℕ) (s : SameTrees) → g.check k (right_tree s) ≡ g.check k (left_tree s)) (e : Expr) where
   good_alike : (c : Class) (t u : Token) → unplaced u ≡ unplaced t → matches c t ≡ true → g.good c u ≡ g.good c t
   good_alike c t u one m =
-      last_part (matches c u) (g.good c u) (matches c t) (g.good c t) (ap (matches c) one ∙ m) m (sym (good c u) ∙ ap (accepts g c) one ∙ good c t)
+      last_part (matches c u) (g.good c u) (matches c t) (g.good c t) (ap (matches c) one ∙ m) m (good c t u (unplaced_leaf c t u one))
 
   -- a node that is rejected between the tokens, and the same node of the other tokens
   abbrev RefusedAlike : List Token → ℕ → ParseTree → ℕ → Type 0
   RefusedAlike ts k x n =
-      (before us : List Token) × (y : ParseTree) × IsRefused g e ts k y before us × (length (before ++ leaves y) ≡ n) × (bare y ≡ bare x)
+      (before us : List Token) × (s : SameTrees) × (left_tree s ≡ x) × IsRefused g e ts k (right_tree s) before us × (length (before ++ leaves (right_tree s)) ≡ n)
 
   pub refused_alike : (ts others : List Token) → Alike others ts → (k : ℕ) (x : ParseTree) (before us : List Token) → IsRefused g e ts k x before us
       → RefusedAlike others k x (length (before ++ leaves x))
   refused_alike ts others h k x before us (parts, some, leads, fits, bad, stops) =
       let (front, rest, p, a, b) = alike_split before (leaves x ++ us) others (h ∙ ap (map unplaced) parts) in
       let (xs, after, q, c, d) = alike_split (leaves x) us rest b in
-      let (y, fy, ly, ey) = refilled g good checks fits xs c in
+      let (s, left, fy, ly) = refilled_alike g good checks fits xs c in
+      let y = right_tree s in
       let inside : Alike (leaves y) (leaves x) = ap (map unplaced) (sym ly) ∙ c in (
         front,
         after,
-        y,
+        s,
+        left,
         (
           p ∙ ap (λ (l : List Token). front ++ l) (q ∙ ap (λ (l : List Token). l ++ after) ly),
           (λ none. some (none_alike (leaves x) (leaves y) inside none)),
           leads_alike g leads front a,
           fy,
-          sym (checks k y) ∙ ap (g.check k) ey ∙ checks k x ∙ bad,
+          checks k s ∙ ap (g.check k) left ∙ bad,
           (λ u more at begins.
               let (t, ts, here, one, same) = begins_with u more us (sym d ∙ ap (map unplaced) at) in
               stops t ts here (begins_alike g (Sym k) (leaves y ++ u ∷ []) (leaves x ++ t ∷ [])
               (alike_both (leaves x) (leaves y) (t ∷ []) (u ∷ []) (sym inside) (λ i. one i ∷ [])) begins)),
         ),
         alike_length (front ++ leaves y) (before ++ leaves x) (alike_both front before (leaves y) (leaves x) a inside),
-        ey,
       )
 
   pub fault_alike : (t u : Text) → Alike u.tokens t.tokens → u.ending ≡ t.ending → {why : Reason} {n : ℕ} → IsFault g e t why n → IsFault g e u why n
@@ -147,8 +151,8 @@ module _ (g : Grammar) (good : (c : Class) (t : Token) → accepts g c (unplaced
       (leaf_refused before ws w c (p ∙ ap (λ (l : List Token). before ++ l) here) (leads_alike g leads before a) (ap (matches c) one ∙ m)
       (good_alike c v w one m ∙ bad))
   fault_alike t u h end (node_refused before us k x refused) =
-      let (front, after, y, same, at, same_tree) = refused_alike t.tokens u.tokens h k x before us refused in
-      subst (λ (n : ℕ). IsFault g e u (Refused k) n) at (node_refused front after k y same)
+      let (front, after, s, left, same, at) = refused_alike t.tokens u.tokens h k x before us refused in
+      subst (λ (n : ℕ). IsFault g e u (Refused k) n) at (node_refused front after k (right_tree s) same)
 
   least_alike : (t u : Text) → Alike u.tokens t.tokens → u.ending ≡ t.ending → {why : Reason} {n : ℕ} → IsLeast g e t why n → IsLeast g e u why n
   least_alike t u h end (fault, least) = (fault_alike t u h end fault, λ other m x. least other m (fault_alike u t (sym h) (sym end) x))
@@ -182,10 +186,10 @@ valueless_alike t u k one (escaped_badly kind value) =
 -- Why a leaf or a node is rejected does not depend on positions. Only the position in the error does.
 pub record RefusesAlike {D : Type 0} (l : Language D) : Type 0 where
   pub lacks : (c : Class) (t u : Token) (k : CauseText) → unplaced u ≡ unplaced t → l.lacks c t k → l.lacks c u k
-  pub refuses : (k : ℕ) (x y : ParseTree) (f : FaultText) → bare y ≡ bare x → l.refuses (Node k x) f
-      → (g : FaultText) × l.refuses (Node k y) g × (g.cause ≡ f.cause)
+  pub refuses : (k : ℕ) (s : SameTrees) (f : FaultText) → l.refuses (Node k (left_tree s)) f
+      → (g : FaultText) × l.refuses (Node k (right_tree s)) g × (g.cause ≡ f.cause)
 
-module _ {D : Type 0} (l : Language D) (p : IgnoresPlaces l) (q : RefusesAlike l) where
+module _ {D : Type 0} (l : Language D) (p : DependsOnValues l) (q : RefusesAlike l) where
   says_alike : (why : Reason) (a b : Items) → Alike b.tokens a.tokens → IsEnd a.last → IsEnd b.last → (n : ℕ) (f : FaultText) → Says l why a n f
       → (g : FaultText) × Says l why b n g × (g.cause ≡ f.cause)
   says_alike Unexpected a b h end last n f is = (
@@ -198,9 +202,9 @@ module _ {D : Type 0} (l : Language D) (p : IgnoresPlaces l) (q : RefusesAlike l
       let (u, us, here, one, same) = begins_with t rest (from_item n b.tokens) (alike_from n b.tokens a.tokens h ∙ ap (map unplaced) at) in
       (record { cause = f.cause; place = u.place }, (u, us, here, q.lacks c t u f.cause one lacks, refl), refl)
   says_alike (Refused k) a b h end last n f (before, us, x, refused, at, said) =
-      let (front, after, y, same, here, same_tree) = refused_alike l.grammar p.accepts p.checks (Sym l.document) a.tokens b.tokens h k x before us refused in
-      let (g, told, cause) = q.refuses k x y f same_tree said in
-      (g, (front, after, y, same, at ∙ sym here, told), cause)
+      let (front, after, s, left, same, here) = refused_alike l.grammar p.accepts p.checks (Sym l.document) a.tokens b.tokens h k x before us refused in
+      let (g, told, cause) = q.refuses k s f (subst (λ (y : ParseTree). l.refuses (Node k y) f) (sym left) said) in
+      (g, (front, after, right_tree s, same, at ∙ sym here, told), cause)
 
   pub least_fault_alike : (a b : Items) → Alike b.tokens a.tokens → IsEnd a.last → IsEnd b.last → (f : FaultText) → IsLeastFault l a f
       → (g : FaultText) × IsLeastFault l b g × (g.cause ≡ f.cause)

@@ -10,7 +10,9 @@ use Rattle.std.proofs.lemmas.List.Splits.{join_with_byte-slice_split}
 use Rattle.graphql_core.specs.{is_white, indent, common_indent, unindented, without_blank_ends, unescaped}
 use Rattle.graphql_core.specs.{join_lines, value_of_lines, block_value, is_blank_line, begins_quotes, spaces}
 use Rattle.graphql_core.specs.{block_string_of, lines_of, first_line, last_line, is_empty, ends_in_return}
-use Rattle.graphql_core.specs.{begins_white, has_block_form, escaped_quotes, block_line, in_block_form}
+use Rattle.std.specs.Str.{chars}
+use Rattle.graphql_core.specs.{begins_white, has_block_form, has_block_lines, is_block_character, escaped_quotes}
+use Rattle.graphql_core.specs.{block_line, in_block_form}
 use Rattle.std.proofs.lemmas.Bool.Decides.{nat_tests}
 use Rattle.graphql_core.proofs.strings.{in_triple_quotes, ends_in_return_is}
 use Rattle.graphql_core.proofs.layouts.BlockForm.{is_triple, triple_front, other_front, no_quotes_escaped}
@@ -398,22 +400,19 @@ lines_value n margin text (l ∷ ls) e (first, last, neat, no_return, sharp) =
     ap (λ k. join_lines (without_blank_ends all (unindented k all))) (indent_is n margin (l ∷ ls) neat sharp)
     ∙ ap join_lines (lines_left n margin l ls first last) ∙ joined_lines l ls ∙ sym (ap (join_with_byte 10) e) ∙ join_with_byte-slice_split 10 text
 
-has_form : (text : List ℕ) → has_block_form text ≡ true → HasForm text (lines_of text)
+has_form : (text : List ℕ) → has_block_lines text ≡ true → HasForm text (lines_of text)
 has_form text h =
     let ls = lines_of text in
-    let (feed, h1) = and_parts (list_any (λ b. b == 10) text) _ h in
-    let (chars, h2) = and_parts _ (not (is_blank_line (first_line ls)) &&
-    (not (is_blank_line (last_line ls)) && (list_all IsNeat ls && (list_all (λ l. not (ends_in_return l)) ls && list_any is_sharp ls)))) h1 in
     let (first, h3) = and_parts (not (is_blank_line (first_line ls)))
-    (not (is_blank_line (last_line ls)) && (list_all IsNeat ls && (list_all (λ l. not (ends_in_return l)) ls && list_any is_sharp ls))) h2 in
+    (not (is_blank_line (last_line ls)) && (list_all IsNeat ls && (list_all (λ l. not (ends_in_return l)) ls && list_any is_sharp ls))) h in
     let (last, h4) = and_parts (not (is_blank_line (last_line ls))) (list_all IsNeat ls && (list_all (λ l. not (ends_in_return l)) ls && list_any is_sharp ls)) h3 in
     let (neat, h5) = and_parts (list_all IsNeat ls) (list_all (λ l. not (ends_in_return l)) ls && list_any is_sharp ls) h4 in
     let (no_return, sharp) = and_parts (list_all (λ l. not (ends_in_return l)) ls) (list_any is_sharp ls) h5 in
     (negated _ first, negated _ last, neat, no_return, sharp)
 
 -- the value of the block form of a string is that string
-pub block_means : (n margin : ℕ) (text : List ℕ) → has_block_form text ≡ true → block_string_of (in_block_form n margin text) ≡ text
-block_means n margin text h =
+pub block_lines_mean : (n margin : ℕ) (text : List ℕ) → has_block_lines text ≡ true → block_string_of (in_block_form n margin text) ≡ text
+block_lines_mean n margin text h =
     let f = has_form text h in
     let flat = flat_map (block_line n) (lines_of text) in
     let content = 10 ∷ (flat ++ spaces margin) in
@@ -421,3 +420,8 @@ block_means n margin text h =
     (sym (append_assoc flat (spaces margin) (34 ∷ 34 ∷ 34 ∷ []))) in
     ap block_value (in_triple_quotes (in_block_form n margin text) content is) ∙ ap value_of_lines (raw_lines n margin text f.3)
     ∙ lines_value n margin text (lines_of text) refl f
+
+pub block_means : (n margin : ℕ) (text : List ℕ) → has_block_form text ≡ true → block_string_of (in_block_form n margin text) ≡ text
+block_means n margin text h =
+    let (feed, more) = and_parts (list_any (λ b. b == 10) text) (list_all is_block_character (chars text) && has_block_lines text) h in
+    block_lines_mean n margin text (and_parts (list_all is_block_character (chars text)) (has_block_lines text) more).1

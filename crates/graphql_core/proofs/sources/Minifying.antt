@@ -1,8 +1,8 @@
 -- Spaced tokens are tokenized into exactly these tokens.
-use Rattle.std.proofs.Common.{◌≡◌, ◌≢◌, ℕ, Bool, true, false, not, ◌&&◌, ◌||◌, List, [], ◌∷◌, ◌++◌, length, get_or, map, refl, sym, ap, ◌∙◌, subst, arith}
+use Rattle.std.proofs.Common.{◌≡◌, ℕ, Bool, true, false, not, ◌&&◌, ◌||◌, List, [], ◌∷◌, ◌++◌, length, map, refl, sym, ap, ◌∙◌, subst, arith}
 use Rattle.std.proofs.lemmas.Bool.Decides.{nat_tests}
 use Rattle.graphql_core.specs.declared.tokenizer.piece.Piece.TheVariants.{AtEnd}
-use Rattle.graphql_core.specs.{is_name_continue, EndsRun, name_token, punctuator_token, BeginsNone, ignored_space}
+use Rattle.graphql_core.specs.{name_token, punctuator_token, BeginsNone, ignored_space}
 use Rattle.graphql_core.specs.{is_punctuator_byte, Meaning, Ignored, Word, Stands, spread_token, integer_token, float_token}
 use Rattle.graphql_core.specs.{string_token, block_string_token, Piece, IsCutInto, LexicalError, openers_after}
 use Rattle.graphql_core.specs.{closers_after, Where, Item, item_at, TokenContent, HasItems, start, past_ignored}
@@ -10,6 +10,7 @@ use Rattle.graphql_core.specs.{past_token, is_too_deep, token_then, piece_then, 
 use Rattle.graphql_core.specs.{kind_number, too_deep, front, split, token_of, IsEnd, is_past, AreLexemes}
 use Rattle.graphql_core.specs.{is_punctuator, is_number, is_spaced, space_if, spaced_after, spaced, unplaced}
 use Rattle.graphql_core.specs.{IsMinified, HasTokens}
+use Rattle.graphql_core.specs.steps.Following.{MayFollow}
 use Rattle.graphql_core.proofs.lexical.{items_unique, ahead_of, stands_front}
 use Rattle.graphql_core.specs.declared.tokenizer.token.Kind.{Kind}
 use Rattle.graphql_core.specs.declared.tokenizer.token.Kind.TheVariants.{Punctuator, Name, IntValue, FloatValue}
@@ -20,16 +21,8 @@ use Rattle.graphql_core.specs.declared.tokenizer.piece.Nesting.TheVariants.{Leve
 
 -- ---- what can follow a token
 
-abbrev pub MayFollow : Kind → List ℕ → Type 0
-MayFollow Punctuator rest = Unit {0}
-MayFollow Name rest = is_name_continue (get_or rest 0 0) ≡ false
-MayFollow IntValue rest = EndsRun rest
-MayFollow FloatValue rest = EndsRun rest
-MayFollow StringValue rest = get_or rest 0 0 ≢ 34
-MayFollow BlockString rest = Unit {0}
-
 -- if a token is found before one input, it is found before any other input that can follow it
-stands_before : {s : List ℕ} {k : Kind} {n : Nesting} {rest : List ℕ} → Stands s (Word k n) rest → (more : List ℕ) → MayFollow k more → Stands s (Word k n) more
+pub stands_before : {s : List ℕ} {k : Kind} {n : Nesting} {rest : List ℕ} → Stands s (Word k n) rest → (more : List ℕ) → MayFollow k more → Stands s (Word k n) more
 stands_before (name_token first continues ends) more f = name_token first continues f
 stands_before (punctuator_token m) more f = punctuator_token m
 stands_before spread_token more f = spread_token
@@ -38,7 +31,7 @@ stands_before (float_token is ends) more f = float_token is f
 stands_before (string_token body is some) more f = string_token body is (λ e. f)
 stands_before (block_string_token closes) more f = block_string_token closes
 
-end_follows : (k : Kind) → MayFollow k []
+pub end_follows : (k : Kind) → MayFollow k []
 end_follows Punctuator = tt
 end_follows Name = refl
 end_follows IntValue = tt
@@ -87,7 +80,7 @@ spread_follows FloatValue more = space_follows FloatValue (46 ∷ more)
 spread_follows StringValue more = λ e. omega arith
 spread_follows BlockString more = tt
 
-token_follows : (k : Kind) {j : Kind} {n : Nesting} {s rest : List ℕ} → Stands s (Word j n) rest → (p : Place) (more : List ℕ)
+pub token_follows : (k : Kind) {j : Kind} {n : Nesting} {s rest : List ℕ} → Stands s (Word j n) rest → (p : Place) (more : List ℕ)
     → MayFollow k (space_if (is_spaced (kind_number k) (record { kind = kind_number j; spelling = s; place = p })) ++ (s ++ more))
 token_follows k (name_token first continues ends) p more = word_follows k _
 token_follows k (punctuator_token {b} m) p more = spaced_follows k _ (b ∷ more) (punctuator_follows k b more m)

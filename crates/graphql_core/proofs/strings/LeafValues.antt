@@ -180,7 +180,7 @@ IsSpelledAs BlockString bytes = IsInTripleQuotes bytes (without_ends 3 bytes)
 IsSpelledAs Punctuator bytes = Unit {0}
 IsSpelledAs Name bytes = Unit {0}
 
-spelled_as : {bytes : List ℕ} {k : Kind} {s : Nesting} {rest : List ℕ} → Stands bytes (Word k s) rest → IsSpelledAs k bytes
+pub spelled_as : {bytes : List ℕ} {k : Kind} {s : Nesting} {rest : List ℕ} → Stands bytes (Word k s) rest → IsSpelledAs k bytes
 spelled_as (name_token first more stop) = tt
 spelled_as (punctuator_token is) = tt
 spelled_as spread_token = tt

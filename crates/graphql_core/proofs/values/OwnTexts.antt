@@ -9,7 +9,7 @@ use Rattle.graphql_core.specs.declared.tokenizer.piece.Nesting.{Nesting}
 use Rattle.graphql_core.proofs.values.NestingDepth.{past_bytes}
 use Rattle.std.proofs.lemmas.Bool.Decides.{nat_tests}
 use Rattle.graphql_core.specs.declared.tokenizer.token.Kind.{Kind}
-use Rattle.graphql_core.proofs.values.Bare.{Alike}
+use Rattle.graphql_core.proofs.values.TreesAlike.{Alike}
 
 -- ---- the same lexical elements at two places
 

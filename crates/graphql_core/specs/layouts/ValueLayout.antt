@@ -73,16 +73,19 @@ abbrev pub begins_white : List ℕ → Bool
 begins_white [] = false
 begins_white (b ∷ bs) = is_white b
 
--- the string is written in block form
-abbrev pub has_block_form : List ℕ → Bool
-has_block_form text =
-    list_any (λ b. b == 10) text
-    && (list_all is_block_character (chars text)
-    && (not (is_blank_line (first_line (lines_of text)))
+-- The first and the last line are not blank, each blank line is empty, no line ends in CR, and some line has no indent.
+-- Such a string is the value of a block string that has these lines, indented, between its quotes.
+abbrev pub has_block_lines : List ℕ → Bool
+has_block_lines text =
+    not (is_blank_line (first_line (lines_of text)))
     && (not (is_blank_line (last_line (lines_of text)))
     && (list_all (λ l. not (is_blank_line l) || is_empty l) (lines_of text)
     && (list_all (λ l. not (ends_in_return l)) (lines_of text)
-    && list_any (λ l. not (is_blank_line l) && not (begins_white l)) (lines_of text))))))
+    && list_any (λ l. not (is_blank_line l) && not (begins_white l)) (lines_of text))))
+
+-- the string is written in block form
+abbrev pub has_block_form : List ℕ → Bool
+has_block_form text = list_any (λ b. b == 10) text && (list_all is_block_character (chars text) && has_block_lines text)
 
 -- the string with a backslash before each three quotes, from the left
 abbrev pub escaped_quotes : List ℕ → List ℕ

@@ -5,10 +5,10 @@ use Rattle.std.specs.Str.Parse.{signed_digits_value, starts_with_minus, without_
 use Rattle.std.specs.List.{list_any, list_all}
 use Rattle.std.specs.Option.{unwrap_or}
 use Rattle.std.specs.Char.{encode_utf8, is_ascii_digit, is_ascii_hexdigit}
-use Rattle.graphql_core.specs.grammar.{Token, Class, AnyOf}
+use Rattle.graphql_core.specs.grammar.{Token, nowhere, Class, AnyOf}
 use Rattle.graphql_core.specs.sources.{kind_number}
 use Rattle.graphql_core.specs.strings.{block_value}
-use Rattle.graphql_core.specs.declared.tokenizer.token.Kind.TheVariants.{IntValue, FloatValue, StringValue}
+use Rattle.graphql_core.specs.declared.tokenizer.token.Kind.TheVariants.{IntValue, FloatValue, StringValue, BlockString}
 
 -- ---- integers
 
@@ -100,3 +100,11 @@ has_value k spelling =
 abbrev pub is_good : Class → Token → Bool
 is_good (AnyOf k) t = has_value k t.spelling
 is_good c t = true
+
+-- the value of a token that is a block string, and the spelling of any other token
+abbrev pub token_value : Token → List ℕ
+token_value t = if t.kind == kind_number BlockString then block_string_of t.spelling else t.spelling
+
+-- a token with this value in place of its spelling, and with no position
+abbrev pub valued : Token → Token
+valued t = record { kind = t.kind; spelling = token_value t; place = nowhere }

@@ -14,7 +14,7 @@ mod strings;
 mod types;
 mod values;
 
-pub use block::{has_block_form, write_block};
+pub use block::{has_block_form, has_block_lines, write_block};
 pub use default::{levels_in_default, write_default};
 pub use directives::{write_arguments, write_directive, write_directives};
 pub use laws::{brackets_are_those_of_layouts, worked_layouts};

@@ -20,7 +20,7 @@ fn is_number(kind: Kind) -> bool
 /// Whether a space comes between a token of kind `before` and the next token. The code has no branch on which of the
 /// two are punctuators, and seldom one on numbers: few numbers come before a token of three bytes.
 #[inline(always)]
-fn is_spaced(before: Kind, kind: Kind, value: &str) -> bool
+pub fn is_spaced(before: Kind, kind: Kind, value: &str) -> bool
     ensures { (at : Pos) → result ≡ is_spaced (kind_number before) (token_of at kind value.now) }
 {
     let are_words = (before != Kind::Punctuator) & (kind != Kind::Punctuator);

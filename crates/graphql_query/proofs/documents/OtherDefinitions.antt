@@ -5,7 +5,7 @@ use Rattle.graphql_core.specs.{Token, Sym, Many, ParseTree, Both, More, Node, le
 use Rattle.graphql_core.specs.{fits_more, fits_node, Item, HasItems, split, IsEnd, each_of}
 use Rattle.graphql_query.specs.{DefinitionTree, queries, IsDocument, IsDocumentOf, query, document_symbol}
 use Rattle.graphql_query.specs.{definition_symbol, definition_of, text_after, IsFirstDefinition, HasDefinitions}
-use Rattle.graphql_query.proofs.documents.Unplaced.{unplaced_alike}
+use Rattle.graphql_query.proofs.documents.MeaningsAlike.{by_values}
 
 -- ---- after the first definition
 
@@ -31,7 +31,7 @@ others_after text is x more has fits others parts end =
     by y (fits_more {x = d} {y = ds} f fs) some own ends =
         let here : IsDocument (split (drop (length (leaves x)) is)) (each_of definition_of (More d ds)) =
         (Node document_symbol (Both d ds), (fits_node (fits_both f fs) refl, some), ends, refl) in
-        let (e, document, same) = document_alike queries unplaced_alike (split (drop (length (leaves x)) is)) (split own.items) own.alike.0 (own.alike.1 ends)
+        let (e, document, same) = document_alike queries by_values (split (drop (length (leaves x)) is)) (split own.items) own.alike.0 (own.alike.1 ends)
         (each_of definition_of (More d ds)) here in
         (e, (own.items, own.has, document), same)
 

@@ -174,17 +174,15 @@ fn has_whole_lines_around(text: &str) -> bool
         && has_line_without_indent(text)
 }
 
-/// Whether the lines are those of a string that parses back from its block form.
-fn has_block_lines(text: &str) -> bool
-    ensures { result ≡ (not (is_blank_line (spec.first_line (spec.lines_of text.now))) && (not (is_blank_line (spec.last_line (spec.lines_of text.now)))
-        && (list_all (λ l. not (is_blank_line l) || spec.is_empty l) (spec.lines_of text.now)
-        && (list_all (λ l. not (spec.ends_in_return l)) (spec.lines_of text.now)
-        && list_any (λ l. not (is_blank_line l) && not (spec.begins_white l)) (spec.lines_of text.now))))) }
+/// Whether a string is the value of its block form: its first and last lines are not blank, each blank line is empty, no
+/// line ends in CR, and some line has no indent.
+pub fn has_block_lines(text: &str) -> bool
+    ensures { result ≡ spec.has_block_lines text.now }
 {
     has_whole_lines_around(text)
 }
 
-/// Whether a string parses back from its block form.
+/// Whether a string is written in block form.
 pub fn has_block_form(text: &str) -> bool
     ensures { result ≡ spec.has_block_form text.now }
 {

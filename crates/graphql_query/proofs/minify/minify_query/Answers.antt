@@ -2,7 +2,7 @@ use Rattle.std.proofs.Common.{◌≡◌, ◌∙◌, List, ℕ, string_bytes, len
 use Rattle.graphql_core.proofs.{one_minified, minified_document, source_document, exit}
 use Rattle.graphql_core.specs.{IsMinified, Refusal}
 use Rattle.graphql_query.specs.{queries, IsDocumentOf, IsReadBack, IsMinifyRefusalOf, past_bound}
-use Rattle.graphql_query.proofs.{unplaced_alike, refusal, tells_refusal}
+use Rattle.graphql_query.proofs.{by_values, refusal, tells_refusal}
 use Rattle.graphql_query.proofs.minify.minify_query.Goals as goal
 
 pub returns-then-len-gt-MAX_LENGTH-clause-first_error : goal.returns-then-len-gt-MAX_LENGTH-clause-first_error
@@ -33,9 +33,9 @@ returns-clause-complete c text bound is =
 pub returns-clause-document : goal.returns-clause-document
 returns-clause-document c d h =
     let same : c.deref.result.now ≡ string_bytes c.args.source = c.deref.ensures in
-    minified_document queries unplaced_alike c.deref.result.now _ c.in_ok-text.ensures.minified d (subst (λ (t : List ℕ). IsDocumentOf t d) (sym same) h)
+    minified_document queries by_values c.deref.result.now _ c.in_ok-text.ensures.minified d (subst (λ (t : List ℕ). IsDocumentOf t d) (sym same) h)
 
 pub returns-clause-no_other : goal.returns-clause-no_other
 returns-clause-no_other c d h =
     let same : c.deref.result.now ≡ string_bytes c.args.source = c.deref.ensures in
-    subst (λ (t : List ℕ). IsReadBack t d) same (source_document queries unplaced_alike c.deref.result.now _ c.in_ok-text.ensures.minified d h)
+    subst (λ (t : List ℕ). IsReadBack t d) same (source_document queries by_values c.deref.result.now _ c.in_ok-text.ensures.minified d h)

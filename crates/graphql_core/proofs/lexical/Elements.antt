@@ -1,0 +1,74 @@
+-- The front of an input as its first lexical element.
+use Rattle.std.proofs.Common.{◌≡◌, ℕ, List, ◌++◌, Some, None, length, take, drop, refl, sym, ap, ◌∙◌, subst}
+use Rattle.std.proofs.lemmas.List.{take_at, drop_at}
+use Rattle.std.proofs.lemmas.Option.{same_Some}
+use Rattle.graphql_core.specs.declared.tokenizer.element.ElementKind.{ElementKind}
+use Rattle.graphql_core.specs.declared.tokenizer.element.ElementKind.TheVariants as element
+use Rattle.graphql_core.specs.declared.tokenizer.piece.Move.{Move}
+use Rattle.graphql_core.specs.declared.tokenizer.piece.Nesting.{Nesting}
+use Rattle.graphql_core.specs.declared.tokenizer.piece.Piece.{Piece as Ahead}
+use Rattle.graphql_core.specs.declared.tokenizer.piece.Piece.TheVariants.{Skips, Takes}
+use Rattle.graphql_core.specs.declared.tokenizer.token.Kind.{Kind}
+use Rattle.graphql_core.specs.{front, ignored_front, taken, Meaning, Ignored, Word, Stands, BeginsNone}
+use Rattle.graphql_core.specs.lexical.Elements.{ignored_kind, element_kind, BeginsWithElement}
+use Rattle.graphql_core.proofs.lexical.FrontIsPiece.{ahead_of, stands_front}
+use Rattle.graphql_core.proofs.lexical.OneCut.{Sees, front_sees}
+
+-- the first `n` bytes are a lexical element of this meaning
+abbrev StandsFirst : List ℕ → ℕ → Meaning → Type 0
+StandsFirst text n m = Stands (take n text) m (drop n text) × (text ≡ take n text ++ drop n text)
+
+at_length : (text bytes rest : List ℕ) (m : Meaning) (n : ℕ) → text ≡ bytes ++ rest → Stands bytes m rest → length bytes ≡ n → StandsFirst text n m
+at_length text bytes rest m n e st l =
+    let first : take n text ≡ bytes = ap (take n) e ∙ take_at bytes rest n l in
+    let last : drop n text ≡ rest = ap (drop n) e ∙ drop_at bytes rest n l in
+    (rw (first, last) st, rw (first, last) e)
+
+same_skip : (n i : ℕ) (m : Move) (k : Meaning) → Skips n m ≡ ahead_of k i → (k ≡ Ignored m) × (i ≡ n)
+same_skip n i m (Ignored o) e = (cc, cc)
+same_skip n i m (Word k t) e = absurd cc
+
+same_take : (n i : ℕ) (k : Kind) (t : Nesting) (m : Meaning) → Takes n k t ≡ ahead_of m i → (m ≡ Word k t) × (i ≡ n)
+same_take n i k t (Ignored o) e = absurd cc
+same_take n i k t (Word j u) e = (cc, cc)
+
+skipped : (text : List ℕ) (n : ℕ) (m : Move) → front text ≡ Skips n m → StandsFirst text n (Ignored m)
+skipped text n m e =
+    let (bytes, k, rest, is, st) = subst (Sees text) e (front_sees text) in
+    let (same, l) = same_skip n (length bytes) m k (sym e ∙ ap front is ∙ stands_front st) in
+    at_length text bytes rest (Ignored m) n is (subst (λ (o : Meaning). Stands bytes o rest) same st) l
+
+took : (text : List ℕ) (n : ℕ) (k : Kind) (t : Nesting) → front text ≡ Takes n k t → StandsFirst text n (Word k t)
+took text n k t e =
+    let (bytes, m, rest, is, st) = subst (Sees text) e (front_sees text) in
+    let (same, l) = same_take n (length bytes) k t m (sym e ∙ ap front is ∙ stands_front st) in
+    at_length text bytes rest (Word k t) n is (subst (λ (o : Meaning). Stands bytes o rest) same st) l
+
+not_ahead : (m : Meaning) (n : ℕ) → ignored_front (ahead_of m n) ≡ None → taken (ahead_of m n) ≡ None → ⊥
+not_ahead (Ignored m) n h k = absurd cc
+not_ahead (Word j t) n h k = absurd cc
+
+-- no lexical element begins an input whose front is neither ignored text nor a token
+pub begins_none : (text : List ℕ) → ignored_front (front text) ≡ None → taken (front text) ≡ None → BeginsNone text
+begins_none text h k bytes m rest st e =
+    let same : front text ≡ ahead_of m (length bytes) = ap front e ∙ stands_front st in
+    not_ahead m (length bytes) (subst (λ (x : Ahead). ignored_front x ≡ None) same h) (subst (λ (x : Ahead). taken x ≡ None) same k)
+
+is_skip : (x : Ahead) (n : ℕ) (m : Move) → ignored_front x ≡ Some (n, m) → x ≡ Skips n m
+is_skip (Skips i o) n m e = ap (λ (p : ℕ × Move). Skips p.0 p.1) (same_Some (i, o) (n, m) e)
+is_skip _ n m e = absurd cc
+
+is_take : (x : Ahead) (n : ℕ) (k : Kind) (t : Nesting) → taken x ≡ Some (n, k, t) → x ≡ Takes n k t
+is_take (Takes i j u) n k t e = ap (λ (p : ℕ × Kind × Nesting). Takes p.0 p.1 p.2) (same_Some (i, j, u) (n, k, t) e)
+is_take _ n k t e = absurd cc
+
+module _ (text first rest : List ℕ) (n : ℕ) (e : first ≡ take n text) (f : rest ≡ drop n text) where
+  as_element : (m : Meaning) (kind : ElementKind) → StandsFirst text n m → element_kind first m ≡ kind → BeginsWithElement text kind first rest
+  as_element m kind (st, is) k = (m, rw (e, f) is, rw (e, f) st, k)
+
+  pub ignored_element : (m : Move) (kind : ElementKind) → ignored_front (front text) ≡ Some (n, m) → kind ≡ ignored_kind first
+      → BeginsWithElement text kind first rest
+  ignored_element m kind h k = as_element (Ignored m) kind (skipped text n m (is_skip (front text) n m h)) (sym k)
+
+  pub token_element : (k : Kind) (t : Nesting) → taken (front text) ≡ Some (n, k, t) → BeginsWithElement text (element.Token k) first rest
+  token_element k t h = as_element (Word k t) (element.Token k) (took text n k t (is_take (front text) n k t h)) refl
