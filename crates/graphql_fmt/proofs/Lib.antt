@@ -1,0 +1,6 @@
+pub mod Trimmed
+pub mod Elements
+pub mod Joining
+pub mod KeptValues
+pub mod Beginning
+pub mod Formatting

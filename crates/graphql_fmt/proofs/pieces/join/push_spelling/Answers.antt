@@ -1,0 +1,22 @@
+use Rattle.std.proofs.Common.{ap, subst, ◌∙◌}
+use Rattle.graphql_core.specs.{has_block_lines}
+use Rattle.graphql_core.specs.values.Leaves.{without_ends}
+use Rattle.graphql_fmt.specs.declared.pieces.piece.PieceKind.{PieceKind}
+use Rattle.graphql_fmt.specs.steps.Pieces.{IsSpelling}
+use Rattle.graphql_fmt.proofs.Elements.{block_quotes}
+use Rattle.graphql_fmt.proofs.Joining.{block_written, appends_for}
+use Rattle.graphql_fmt.proofs.pieces.join.push_spelling.Goals as goal
+
+pub unquote_block_string-requires : goal.unquote_block_string-requires
+unquote_block_string-requires c =
+    let p = c.args.piece.now in
+    let (kind, lines) = c.requires.1 c.if-not-piece.false in
+    (without_ends 3 p.text.now, block_quotes _ (subst (λ (k : PieceKind). IsSpelling k p.text.now) kind c.requires.0))
+
+pub returns : goal.returns
+returns c =
+    let p = c.args.piece.now in
+    let (kind, lines) = c.requires.1 c.if-not-piece.false in
+    let quotes = block_quotes _ (subst (λ (k : PieceKind). IsSpelling k p.text.now) kind c.requires.0) in
+    let value = c.deref.ensures ∙ c.in_ok-value.ensures (without_ends 3 p.text.now) quotes in
+    appends_for _ p _ _ _ (block_written p c.args.margin c.deref.result.now kind value (ap has_block_lines value ∙ lines)) c.write_block.ensures

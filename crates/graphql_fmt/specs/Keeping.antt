@@ -1,0 +1,54 @@
+-- What formatting keeps of an input: its tokens and its comments, in order.
+use Rattle.std.specs.Prelude.{◌≡◌, ℕ, if◌then◌else◌, List, [], ◌∷◌, ◌++◌}
+use Rattle.std.specs.Char.{is_ascii_whitespace}
+use Rattle.graphql_core.specs.declared.tokenizer.token.Kind.{Kind}
+use Rattle.graphql_core.specs.declared.tokenizer.token.Kind.TheVariants.{Punctuator, Name, IntValue, FloatValue}
+use Rattle.graphql_core.specs.declared.tokenizer.token.Kind.TheVariants.{StringValue, BlockString}
+use Rattle.graphql_core.specs.declared.tokenizer.element.ElementKind.{ElementKind}
+use Rattle.graphql_core.specs.declared.tokenizer.element.ElementKind.TheVariants as element
+use Rattle.graphql_core.specs.{IsCutInto, Piece, block_string_of}
+use Rattle.graphql_core.specs.lexical.Elements.{element_kind}
+
+-- a byte before some bytes that have no white space at their end
+abbrev pub trimmed_after : ℕ → List ℕ → List ℕ
+trimmed_after b [] = if is_ascii_whitespace b then [] else b ∷ []
+trimmed_after b (c ∷ cs) = b ∷ c ∷ cs
+
+-- without the white space and line ends at the end
+abbrev pub trimmed : List ℕ → List ℕ
+trimmed [] = []
+trimmed (b ∷ bs) = trimmed_after b (trimmed bs)
+
+-- A block string is kept by its value, and any other token by its kind and its spelling.
+-- A comment is kept from its `#` on, without the white space and the line end at its end.
+pub data Kept : Type 0 where
+  KeptToken : Kind → List ℕ → Kept
+  KeptBlock : List ℕ → Kept
+  KeptComment : List ℕ → Kept
+
+abbrev pub kept_token : Kind → List ℕ → Kept
+kept_token Punctuator bytes = KeptToken Punctuator bytes
+kept_token Name bytes = KeptToken Name bytes
+kept_token IntValue bytes = KeptToken IntValue bytes
+kept_token FloatValue bytes = KeptToken FloatValue bytes
+kept_token StringValue bytes = KeptToken StringValue bytes
+kept_token BlockString bytes = KeptBlock (block_string_of bytes)
+
+-- of ignored text only comments are kept
+abbrev pub kept_element : ElementKind → List ℕ → List Kept
+kept_element (element.Token k) bytes = kept_token k bytes ∷ []
+kept_element element.Comment bytes = KeptComment (trimmed bytes) ∷ []
+kept_element element.Ignored bytes = []
+
+-- the tokens and the comments among lexical elements
+abbrev pub kept : List Piece → List Kept
+kept [] = []
+kept (p ∷ ps) = kept_element (element_kind p.bytes p.meaning) p.bytes ++ kept ps
+
+-- the whole input is lexical elements, and these are its tokens and its comments
+abbrev pub HasKept : List ℕ → List Kept → Type 0
+HasKept text ks = (ps : List Piece) × IsCutInto text ps [] × (kept ps ≡ ks)
+
+-- both have the same tokens and the same comments, in the same order
+abbrev pub KeepsAll : (source text : List ℕ) → Type 0
+KeepsAll source text = (ks : List Kept) × HasKept source ks × HasKept text ks

@@ -1,0 +1,72 @@
+//! What comes after a token.
+
+use crate::layout::columns::{columns, has_lines};
+use crate::layout::context::Context;
+use crate::layout::inline::inline_gap;
+use crate::layout::role::{Enclosure, Role};
+use crate::layout::symbol::{Symbol, symbol_of};
+use crate::pieces::Piece;
+
+/// The role of the first token of these pieces. The end of the document has the role of a closing bracket.
+pub fn next_role(context: Context, pieces: &[Piece<'_>]) -> Role {
+    let mut context = context;
+    'pieces: for piece in pieces {
+        let symbol = symbol_of(piece);
+        if symbol != Symbol::Comment {
+            return context.read(symbol, piece);
+        }
+    }
+    Role::End
+}
+
+/// Whether a line can end before a token of this role, if it comes after a group.
+fn can_begin_line(within: Enclosure, before: Symbol, role: Role) -> bool {
+    match role {
+        Role::Item => within != Enclosure::Type,
+        Role::End => within != Enclosure::Type && !before.is_opener(),
+        Role::Described | Role::Directive | Role::Member => true,
+        _ => false,
+    }
+}
+
+/// Whether the pieces after a token fit in its line, up to where the line can end. The token ends at `column`.
+pub fn fits(
+    context: Context,
+    before: Symbol,
+    column: usize,
+    width: usize,
+    pieces: &[Piece<'_>],
+) -> bool {
+    let mut context = context;
+    let outer = context.within;
+    let mut depth = 0usize;
+    let mut before = before;
+    let mut column = column;
+    'pieces: for piece in pieces {
+        let symbol = symbol_of(piece);
+        let within = context.within;
+        let role = context.read(symbol, piece);
+        if symbol == Symbol::Comment || can_begin_line(within, before, role) {
+            return true;
+        }
+        column = column
+            .saturating_add(inline_gap(before, role, symbol).width())
+            .saturating_add(columns(symbol, piece));
+        if column > width {
+            return false;
+        }
+        if has_lines(symbol, piece) {
+            return true;
+        }
+        if symbol.is_opener() {
+            depth = depth.saturating_add(1);
+        } else if symbol.is_closer() {
+            depth = depth.saturating_sub(1);
+        }
+        if depth == 0 {
+            context.within = outer;
+        }
+        before = symbol;
+    }
+    true
+}

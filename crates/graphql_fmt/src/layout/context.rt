@@ -1,0 +1,288 @@
+//! The role of each token, found from the brackets around it and the tokens before it.
+
+use crate::layout::role::{Enclosure, Role};
+use crate::layout::symbol::Symbol;
+use crate::options::Language;
+use crate::pieces::Piece;
+
+/// What the last token was.
+#[derive(Clone, Copy, Debug, PartialEq, Eq)]
+enum Last {
+    /// There was none.
+    Nothing,
+    /// None of those below.
+    Other,
+    /// The first name of an operation or a fragment.
+    Operation,
+    /// A description.
+    Description,
+    /// The `@` of a directive.
+    At,
+    /// The `@` of a directive that is defined.
+    DefinedAt,
+    /// The name of a directive.
+    Directive,
+    /// `&` or `|`
+    Separator,
+    /// `=`
+    Equals,
+    /// `:`
+    Colon,
+    /// `$`
+    Dollar,
+    /// `...`
+    Spread,
+    /// The `on` after `...`.
+    Condition,
+    /// `}`
+    CloseBrace,
+}
+
+/// What the next name is, outside brackets in a schema document.
+#[derive(Clone, Copy, Debug, PartialEq, Eq)]
+enum NextName {
+    /// The first name of a definition.
+    Definition,
+    /// The name after `extend`.
+    Extended,
+    /// The name of a type.
+    Type,
+    /// The name of a directive that is defined.
+    Directive,
+    /// `implements`, or the first name of a definition.
+    Implements,
+    /// An interface.
+    Interface,
+    /// `repeatable` or `on`.
+    On,
+    /// A location of a directive.
+    Location,
+}
+
+/// What the name after the first name of a definition is.
+fn name_after(first: &Piece<'_>) -> NextName {
+    match first.text {
+        "extend" => NextName::Extended,
+        "schema" => NextName::Definition,
+        "directive" => NextName::Directive,
+        _ => NextName::Type,
+    }
+}
+
+/// The context of a token: the innermost brackets around it, and what the tokens before it are to it.
+#[derive(Clone, Copy)]
+pub struct Context {
+    language: Language,
+    /// What the next token is in.
+    pub within: Enclosure,
+    last: Last,
+    next_name: NextName,
+}
+
+impl Context {
+    /// The context of the first token.
+    pub fn new(language: Language) -> Self {
+        Context {
+            language,
+            within: Enclosure::Document,
+            last: Last::Nothing,
+            next_name: NextName::Definition,
+        }
+    }
+
+    /// Whether a definition of a query document begins with the next token.
+    fn begins_operation(&self) -> bool {
+        self.language == Language::Query
+            && self.within == Enclosure::Document
+            && matches!(self.last, Last::Nothing | Last::CloseBrace)
+    }
+
+    /// Reads a name outside brackets in a schema document.
+    fn read_name_of_schema(&mut self, piece: &Piece<'_>) -> Role {
+        let (next_name, role) = match (self.last, self.next_name) {
+            (Last::Separator, _) => (NextName::Definition, Role::Spaced),
+            (Last::Equals, _) => (NextName::Definition, Role::Member),
+            (Last::Description, _) => (name_after(piece), Role::Described),
+            (_, NextName::Extended) => (name_after(piece), Role::Spaced),
+            (_, NextName::Type) => (NextName::Implements, Role::Spaced),
+            (_, NextName::Implements) if piece.text == "implements" => {
+                (NextName::Interface, Role::Lead)
+            }
+            (_, NextName::On) if piece.text == "on" => (NextName::Location, Role::Lead),
+            (_, NextName::On) => (NextName::On, Role::Spaced),
+            (_, NextName::Interface | NextName::Location) => {
+                (NextName::Definition, Role::Member)
+            }
+            _ => (name_after(piece), Role::Item),
+        };
+        self.next_name = next_name;
+        role
+    }
+
+    /// Reads a name outside brackets: its role, and what it is to the next token.
+    fn read_outer_name(&mut self, piece: &Piece<'_>) -> (Role, Last) {
+        if self.begins_operation() {
+            (Role::Item, Last::Operation)
+        } else if self.language == Language::Query {
+            (Role::Spaced, Last::Other)
+        } else {
+            (self.read_name_of_schema(piece), Last::Other)
+        }
+    }
+
+    /// Reads a name.
+    fn read_name(&mut self, piece: &Piece<'_>) -> Role {
+        let (role, last) = match self.last {
+            Last::At => (Role::Tight, Last::Directive),
+            Last::DefinedAt => {
+                self.next_name = NextName::On;
+                (Role::Tight, Last::Other)
+            }
+            Last::Dollar => (Role::Tight, Last::Other),
+            Last::Spread if piece.text == "on" => (Role::Spaced, Last::Condition),
+            Last::Spread => (Role::Tight, Last::Other),
+            _ if self.within == Enclosure::Document => self.read_outer_name(piece),
+            Last::Colon | Last::Equals | Last::Condition => (Role::Spaced, Last::Other),
+            Last::Description => (Role::Described, Last::Other),
+            _ => (Role::Item, Last::Other),
+        };
+        self.last = last;
+        role
+    }
+
+    /// The role of the first token of a value or of a type.
+    fn value_role(&self) -> Role {
+        match self.last {
+            Last::Colon | Last::Equals => Role::Spaced,
+            _ => Role::Item,
+        }
+    }
+
+    /// Reads the first token of a value, which is this to the next token.
+    fn read_value(&mut self, last: Last) -> Role {
+        let role = self.value_role();
+        self.last = last;
+        role
+    }
+
+    /// Reads a string.
+    fn read_string(&mut self) -> Role {
+        let role = self.value_role();
+        self.last = if role == Role::Item && self.within != Enclosure::List {
+            Last::Description
+        } else {
+            Last::Other
+        };
+        role
+    }
+
+    /// Reads `@`.
+    fn read_at(&mut self) -> Role {
+        if self.within == Enclosure::Document && self.next_name == NextName::Directive {
+            self.last = Last::DefinedAt;
+            Role::Spaced
+        } else {
+            self.last = Last::At;
+            Role::Directive
+        }
+    }
+
+    /// Reads `=`.
+    fn read_equals(&mut self) -> Role {
+        self.last = Last::Equals;
+        if self.within == Enclosure::Document {
+            Role::Lead
+        } else {
+            Role::Spaced
+        }
+    }
+
+    /// Reads `(`.
+    fn read_open_paren(&mut self) -> Role {
+        let role = if self.last == Last::Operation {
+            Role::Variables
+        } else {
+            Role::Arguments
+        };
+        let is_of_field = self.language == Language::Query && self.within == Enclosure::Block;
+        self.within = if is_of_field || self.last == Last::Directive {
+            Enclosure::Arguments
+        } else {
+            Enclosure::Definitions
+        };
+        role
+    }
+
+    /// Reads `[`.
+    fn read_open_bracket(&mut self) -> Role {
+        let is_type = match self.within {
+            Enclosure::Type => true,
+            Enclosure::Block | Enclosure::Definitions => self.last == Last::Colon,
+            _ => false,
+        };
+        let role = self.value_role();
+        self.within = if is_type {
+            Enclosure::Type
+        } else {
+            Enclosure::List
+        };
+        role
+    }
+
+    /// Reads `{`.
+    fn read_open_brace(&mut self) -> Role {
+        let is_block = matches!(self.within, Enclosure::Document | Enclosure::Block)
+            && self.last != Last::Equals;
+        if !is_block {
+            let role = self.value_role();
+            self.within = Enclosure::Object;
+            return role;
+        }
+        let role = if self.begins_operation() {
+            Role::Item
+        } else {
+            Role::Body
+        };
+        self.within = Enclosure::Block;
+        role
+    }
+
+    /// Reads an opening bracket.
+    fn read_opener(&mut self, symbol: Symbol) -> Role {
+        let role = match symbol {
+            Symbol::OpenParen => self.read_open_paren(),
+            Symbol::OpenBracket => self.read_open_bracket(),
+            _ => self.read_open_brace(),
+        };
+        self.last = Last::Other;
+        role
+    }
+
+    /// Reads a token that has this role wherever it is, and is this to the next token.
+    fn read_other(&mut self, role: Role, last: Last) -> Role {
+        self.last = last;
+        role
+    }
+
+    /// Reads the next token: its role. A closing bracket leaves `within` as it is.
+    pub fn read(&mut self, symbol: Symbol, piece: &Piece<'_>) -> Role {
+        match symbol {
+            Symbol::Comment => Role::Spaced,
+            Symbol::Name => self.read_name(piece),
+            Symbol::StringValue | Symbol::BlockString => self.read_string(),
+            Symbol::Number => self.read_value(Last::Other),
+            Symbol::Dollar => self.read_value(Last::Dollar),
+            Symbol::Bang => self.read_other(Role::Tight, Last::Other),
+            Symbol::Colon => self.read_other(Role::Tight, Last::Colon),
+            Symbol::Spread => self.read_other(Role::Item, Last::Spread),
+            Symbol::Ampersand | Symbol::Pipe => self.read_other(Role::Member, Last::Separator),
+            Symbol::Equals => self.read_equals(),
+            Symbol::At => self.read_at(),
+            Symbol::OpenParen | Symbol::OpenBracket | Symbol::OpenBrace => {
+                self.read_opener(symbol)
+            }
+            Symbol::CloseParen | Symbol::CloseBracket => { self.read_other(Role::End, Last::Other) }
+            Symbol::CloseBrace => self.read_other(Role::End, Last::CloseBrace),
+        }
+    }
+}

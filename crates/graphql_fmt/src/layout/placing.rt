@@ -1,0 +1,186 @@
+//! Where pieces are written, one after another.
+
+mod groups;
+
+use crate::layout::ahead::next_role;
+use crate::layout::frames::Frames;
+use crate::layout::inline::inline_gap;
+use crate::layout::line::Line;
+use crate::layout::reader::Reader;
+use crate::layout::role::Role;
+use crate::layout::symbol::{Symbol, symbol_of};
+use crate::options::{FormatOptions, Language};
+use crate::pieces::{Gap, Piece};
+use std::alloc::{AllocError, Global};
+
+/// Where the pieces so far are written.
+#[derive(Drop)]
+pub struct Placer {
+    options: FormatOptions,
+    reader: Reader,
+    frames: Frames,
+    line: Line,
+    /// What comes before each of them.
+    gaps: Vec<Gap>,
+    /// The last piece.
+    before: Symbol,
+    /// The role of the token after the last comments, if a comment needed it.
+    role_after_comments: Option<Role>,
+    /// Whether the last piece is a comment on a separate line before an item.
+    follows_item_comment: bool,
+}
+
+impl Placer {
+    /// Before the first of `count` pieces.
+    pub fn new(
+        alloc: Global,
+        options: &FormatOptions,
+        language: Language,
+        count: usize,
+    ) -> Result<Self, AllocError> {
+        Ok(Placer {
+            options: *options,
+            reader: Reader::new(alloc, language),
+            frames: Frames::new(alloc),
+            line: Line::FIRST,
+            gaps: Vec::with_capacity(alloc, count)?,
+            before: Symbol::Comment,
+            role_after_comments: None,
+            follows_item_comment: false,
+        })
+    }
+
+    /// What comes before each piece.
+    pub fn into_gaps(self) -> Vec<Gap> {
+        self.gaps
+    }
+
+    /// A line end, and the beginning of a line at this level.
+    fn new_line(&mut self, level: usize, is_blank: bool) -> Gap {
+        self.line.level = level;
+        Gap::Line {
+            indent: u32::try_from(level.saturating_mul(self.options.indent)).unwrap_or(u32::MAX),
+            is_blank,
+        }
+    }
+
+    /// Whether an empty line comes before a line that begins with a piece at the place of an item or at the end.
+    fn is_blank_before(&self, piece: &Piece<'_>) -> bool {
+        piece.after_blank && !self.before.is_opener()
+    }
+
+    /// Whether an empty line comes before a line that begins with an item, or with a comment before an item.
+    fn is_blank_before_item(&self, piece: &Piece<'_>) -> bool {
+        let begins_definition = self.frames.is_document() && !self.follows_item_comment;
+        begins_definition || self.is_blank_before(piece)
+    }
+
+    /// Whether a token of this role begins a line.
+    fn begins_line(&self, role: Role) -> bool {
+        let is_broken = match role {
+            Role::Item | Role::Described | Role::Member | Role::End => true,
+            Role::Directive => self.frames.is_item_broken(),
+            _ => false,
+        };
+        is_broken || self.before == Symbol::Comment
+    }
+
+    /// What comes before a token of this role.
+    fn gap(&mut self, symbol: Symbol, role: Role, piece: &Piece<'_>) -> Gap {
+        if self.gaps.is_empty() {
+            return Gap::Nothing;
+        }
+        if !self.begins_line(role) {
+            return inline_gap(self.before, role, symbol);
+        }
+        let is_blank = role == Role::Item && self.is_blank_before_item(piece);
+        let level = self.frames.level_of(role);
+        self.new_line(level, is_blank)
+    }
+
+    /// Places a gap after the last piece.
+    #[inline]
+    fn place_gap(&mut self, gap: Gap) -> Result<(), AllocError> {
+        self.line.go_past_gap(gap);
+        self.gaps.push(gap)?;
+        Ok(())
+    }
+
+    /// Places a token after a gap.
+    fn push(
+        &mut self,
+        gap: Gap,
+        symbol: Symbol,
+        role: Role,
+        piece: &Piece<'_>,
+    ) -> Result<(), AllocError> {
+        self.place_gap(gap)?;
+        self.line.go_past_token(symbol, piece);
+        self.frames.update(role);
+        self.before = symbol;
+        self.role_after_comments = None;
+        self.follows_item_comment = false;
+        Ok(())
+    }
+
+    /// The role of the first token after comments.
+    fn role_after_comments(&mut self, rest: &[Piece<'_>]) -> Role {
+        let role = match self.role_after_comments {
+            Some(role) => role,
+            None => next_role(self.reader.context(), rest),
+        };
+        self.role_after_comments = Some(role);
+        role
+    }
+
+    /// What comes before a comment on a separate line, if the next token has this role.
+    fn gap_before_comment(&mut self, role: Role, piece: &Piece<'_>) -> Gap {
+        let is_blank = match role {
+            Role::Item => self.is_blank_before_item(piece),
+            Role::End => self.is_blank_before(piece),
+            _ => false,
+        };
+        let level = match role {
+            Role::End => self.frames.level(),
+            _ => self.frames.level_of(role),
+        };
+        self.new_line(level, is_blank)
+    }
+
+    /// Places a comment that comes before `rest`.
+    fn place_comment(&mut self, piece: &Piece<'_>, rest: &[Piece<'_>]) -> Result<(), AllocError> {
+        let mut gap = Gap::Space;
+        let mut is_before_item = false;
+        if piece.begins_line {
+            let role = self.role_after_comments(rest);
+            gap = self.gap_before_comment(role, piece);
+            is_before_item = role == Role::Item;
+        }
+        self.follows_item_comment = is_before_item;
+        self.place_gap(gap)?;
+        self.before = Symbol::Comment;
+        Ok(())
+    }
+
+    /// Places a piece that comes before `rest`, and some of the next pieces: the number of these.
+    pub fn place(&mut self, piece: &Piece<'_>, rest: &[Piece<'_>]) -> Result<usize, AllocError> {
+        let symbol = symbol_of(piece);
+        if symbol == Symbol::Comment {
+            self.place_comment(piece, rest)?;
+            return Ok(0);
+        }
+        let role = self.reader.read(symbol, piece)?;
+        if role == Role::Directive && !self.frames.is_item_broken() {
+            return self.place_directives(piece, rest);
+        }
+        let gap = self.gap(symbol, role, piece);
+        self.push(gap, symbol, role, piece)?;
+        if symbol.is_opener() {
+            self.place_brackets(rest)
+        } else if role == Role::Lead {
+            self.place_members(rest)
+        } else {
+            Ok(0)
+        }
+    }
+}

@@ -1,0 +1,17 @@
+//! Formats GraphQL source text, and keeps its comments.
+//!
+//! The output of [`format_source`] has exactly the tokens and the comments of the input, in the same order. Only white
+//! space and commas between them change, and the indentation of block strings.
+#![tactic(auto)]
+
+mod error;
+mod format;
+mod laws;
+mod layout;
+mod options;
+mod pieces;
+
+pub use error::FormatSourceError;
+pub use format::{format_source, language_of};
+pub use laws::kept_tokens_have_one_document;
+pub use options::{FormatOptions, Language};

@@ -1,0 +1,11 @@
+//! An input as its tokens and its comments, and output made of them.
+
+mod gap;
+mod join;
+mod piece;
+mod source;
+
+pub use gap::Gap;
+pub use join::joined;
+pub use piece::{Piece, PieceKind};
+pub use source::pieces_of;

@@ -1,0 +1,34 @@
+//! The tokens and the comments of an input.
+
+use graphql_core::tokenizer::Kind;
+
+/// What a piece is.
+#[derive(Clone, Copy, Debug, PartialEq, Eq)]
+pub enum PieceKind {
+    /// A token of this kind.
+    Token(Kind),
+    /// A comment.
+    Comment,
+}
+
+/// A token or a comment of an input.
+#[derive(Clone, Copy)]
+pub struct Piece<'a> {
+    /// What it is.
+    pub kind: PieceKind,
+    /// Whether it is a block string that can be written with any indentation.
+    pub is_indented: bool,
+    /// Whether it is the first piece that begins in its line.
+    pub begins_line: bool,
+    /// Whether an empty line comes right before it.
+    pub after_blank: bool,
+    /// The spelling of a token. A comment from its `#` on, without white space at its end.
+    pub text: &'a str,
+}
+
+impl<'a> Piece<'a> {
+    /// Whether it is written on several lines.
+    pub fn has_lines(&self) -> bool {
+        self.is_indented || self.text.contains('\n')
+    }
+}
