@@ -1,0 +1,40 @@
+//! Why an input cannot be read or written.
+
+use std::alloc::AllocError;
+use std::io;
+use thiserror::Error;
+
+/// Why an input cannot be read or written.
+#[derive(Debug, Drop, Error)]
+pub enum InputError {
+    /// The file, the folder or standard input cannot be read.
+    #[error("cannot be read: {0}")]
+    Read(io::Error),
+    /// The input is not UTF-8.
+    #[error("is not UTF-8")]
+    NotUtf8,
+    /// Folders are nested too deeply.
+    #[error("has too many folders in one another")]
+    TooDeep,
+    /// Only a regular file is rewritten.
+    #[error("cannot be rewritten: not a regular file")]
+    NotRegular,
+    /// The path leads to another file, or the file changed, since it was read.
+    #[error("cannot be rewritten: changed since it was read")]
+    Changed,
+    /// The new text cannot be written, or cannot take the place of the old one.
+    #[error("cannot be rewritten: {0}")]
+    Write(io::Error),
+    /// The new file cannot get the owner and the group of the old one.
+    #[error("cannot be rewritten: its owner and group cannot be kept: {0}")]
+    Owner(io::Error),
+    /// An allocation failed.
+    #[error("out of memory")]
+    OutOfMemory,
+}
+
+impl From<AllocError> for InputError {
+    fn from(_error: AllocError) -> InputError {
+        InputError::OutOfMemory
+    }
+}

@@ -1,0 +1,37 @@
+//! Reading.
+ghost use Rattle.std.specs.Prelude.{◌≡◌, IfOk, IfSome, string_bytes};
+
+use crate::error::InputError;
+use std::alloc::Global;
+use std::fs::{File, Metadata, OpenFile};
+use std::io::Read;
+use std::rt::Files;
+
+/// The text of a file, and what the file was before it was read.
+#[derive(Drop)]
+pub struct Source {
+    pub text: String,
+    pub metadata: Metadata,
+}
+
+/// Reads a text to its end.
+pub fn read_text<R: Read>(alloc: Global, reader: &mut R) -> Result<String, InputError>
+    ensures { IfSome (R.remaining reader.old) (λ input. IfOk result (λ text. string_bytes text ≡ input)) }
+{
+    let mut bytes = Vec::new(alloc);
+    if let Err(error) = reader.read_to_end(&mut bytes) {
+        return Err(InputError::Read(error));
+    }
+    match String::from_utf8(bytes) {
+        Ok(text) => Ok(text),
+        Err(_) => Err(InputError::NotUtf8),
+    }
+}
+
+/// Reads a file.
+pub fn read_file<R: Files + AllocGlobal>(rt: &R, path: &str) -> Result<Source, InputError> {
+    let mut file = File::open(rt, path).map_err(InputError::Read)?;
+    let metadata = file.metadata().map_err(InputError::Read)?;
+    let text = read_text(rt.alloc(), &mut file)?;
+    Ok(Source { text, metadata })
+}

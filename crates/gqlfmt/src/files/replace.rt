@@ -1,0 +1,125 @@
+//! Rewriting a file, so that it has the old text or the new one at each moment.
+
+use crate::error::InputError;
+use std::fs::{File, Metadata, OpenOptions};
+use std::io::{ErrorKind, Write};
+use std::os::fd::AsFd;
+use std::os::unix::fs::{MetadataExt, OpenOptionsExt, fchown};
+use std::rt::Files;
+use std::{fs, io};
+
+/// How many names are tried for the temporary file.
+const TRIES: usize = 1000;
+
+/// A new file in the folder of another file, which only its owner can read and write.
+#[derive(Drop)]
+struct Temporary {
+    path: String,
+    file: File,
+}
+
+/// Whether nothing shows that a file has changed: it is the same file, with the same length and the same times.
+fn is_same(before: &Metadata, now: &Metadata) -> bool {
+    now.is_file()
+        && before.dev() == now.dev()
+        && before.ino() == now.ino()
+        && before.len() == now.len()
+        && (before.mtime(), before.mtime_nsec()) == (now.mtime(), now.mtime_nsec())
+        && (before.ctime(), before.ctime_nsec()) == (now.ctime(), now.ctime_nsec())
+}
+
+/// Fails if the file cannot be written, and does not change it.
+fn check_writable<R: Files>(rt: &R, path: &str) -> io::Result<()> {
+    OpenOptions::new().write(true).open(rt, path)?;
+    Ok(())
+}
+
+/// Fails if a path leads to another file than this one, or if the file changed.
+fn check_unchanged<R: Files>(rt: &R, path: &str, before: &Metadata) -> Result<(), InputError> {
+    let now = fs::symlink_metadata(rt, path).map_err(|_| InputError::Changed)?;
+    if is_same(before, &now) {
+        Ok(())
+    } else {
+        Err(InputError::Changed)
+    }
+}
+
+/// Makes a new file beside the file with this absolute path.
+fn new_file_beside<R: Files<File = File> + AllocGlobal>(
+    rt: &R,
+    path: &str,
+) -> io::Result<Temporary> {
+    let folder = path.rsplit_once('/').map_or("", |(folder, _)| folder);
+    let mut options = OpenOptions::new();
+    options.write(true).create_new(true).mode(0o600);
+    for number in 0..TRIES {
+        let path = format!(in rt.alloc(); "{folder}/.gqlfmt-{number}")?;
+        match options.open(rt, path.as_str()) {
+            Ok(file) => return Ok(Temporary { path, file }),
+            Err(error) if error.kind() == ErrorKind::AlreadyExists => {}
+            Err(error) => return Err(error),
+        }
+    }
+    Err(io::Error::from(ErrorKind::AlreadyExists))
+}
+
+/// Gives a new file the owner and the group of an old one.
+fn keep_owner(file: &File, old: &Metadata) -> io::Result<()> {
+    let new = file.metadata()?;
+    if new.uid() == old.uid() && new.gid() == old.gid() {
+        return Ok(());
+    }
+    fchown(file.as_fd(), Some(old.uid()), Some(old.gid()))
+}
+
+/// Writes a text to a new file, with the owner, the group and the mode of an old one. Then it waits until the file is
+/// on the disk.
+fn fill(file: &mut File, text: &str, old: &Metadata) -> Result<(), InputError> {
+    file.write_all(text.as_bytes()).map_err(InputError::Write)?;
+    keep_owner(file, old).map_err(InputError::Owner)?;
+    // A change of the owner can clear bits of the mode, so the mode comes after it.
+    file.set_permissions(old.permissions())
+        .map_err(InputError::Write)?;
+    file.sync_all().map_err(InputError::Write)
+}
+
+/// Puts a filled file in the place of the old one, if the old one has not changed.
+fn put_in_place<R: Files>(
+    rt: &R,
+    temporary: &str,
+    path: &str,
+    old: &Metadata,
+) -> Result<(), InputError> {
+    check_unchanged(rt, path, old)?;
+    fs::rename(rt, temporary, path).map_err(InputError::Write)
+}
+
+/// Replaces the text of a file that was read with this metadata.
+///
+/// A symbolic link stays, and the file that it leads to is replaced. If anything fails, that file is as it was. A file
+/// that someone else changed, moved or replaced since it was read also stays as it is. The last moment at which this
+/// is noticed is just before the rename.
+pub fn replace_text<R: Files<File = File> + AllocGlobal>(
+    rt: &R,
+    path: &str,
+    old: &Metadata,
+    text: &str,
+) -> Result<(), InputError> {
+    if !old.is_file() {
+        return Err(InputError::NotRegular);
+    }
+    let path = fs::canonicalize(rt, path).map_err(InputError::Write)?;
+    let path = path.as_str();
+    check_unchanged(rt, path, old)?;
+    check_writable(rt, path).map_err(InputError::Write)?;
+    let mut temporary = new_file_beside(rt, path).map_err(InputError::Write)?;
+    let filled = fill(&mut temporary.file, text, old);
+    let replaced = match filled {
+        Ok(()) => put_in_place(rt, temporary.path.as_str(), path, old),
+        Err(error) => Err(error),
+    };
+    if replaced.is_err() {
+        let _ = fs::remove_file(rt, temporary.path.as_str());
+    }
+    replaced
+}

@@ -1,0 +1,47 @@
+//! `gqlfmt`: formats GraphQL files, and keeps their comments.
+#![tactic(auto)]
+
+mod action;
+mod arguments;
+mod diff;
+mod error;
+mod files;
+mod message;
+mod name;
+mod outcome;
+mod run;
+
+use crate::arguments::read_arguments;
+use crate::run::run_request;
+use std::process::ExitCode;
+use std::{env, io};
+
+/// The arguments, of which the first is the program's name.
+fn words(rt: &HostRuntime) -> io::Result<Vec<String>> {
+    let mut words = Vec::new(rt.alloc());
+    for word in env::args(rt)? {
+        words.push(word)?;
+    }
+    Ok(words)
+}
+
+fn main(rt: HostRuntime) -> ExitCode {
+    let words = match words(&rt) {
+        Ok(words) => words,
+        Err(error) => {
+            let _ = eprintln!(rt; "gqlfmt: the arguments cannot be read: {error}");
+            return ExitCode::from(2u8);
+        }
+    };
+    match read_arguments(rt.alloc(), &words) {
+        Ok(request) => ExitCode::from(run_request(&rt, &request)),
+        Err(error) => {
+            let is_written = error.print(&rt).is_ok();
+            ExitCode::from(if error.use_stderr() || !is_written {
+                2u8
+            } else {
+                0u8
+            })
+        }
+    }
+}

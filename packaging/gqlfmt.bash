@@ -1,0 +1,23 @@
+# Completions of gqlfmt for bash.
+_gqlfmt() {
+    local word=${COMP_WORDS[COMP_CWORD]} before=${COMP_WORDS[COMP_CWORD - 1]} name
+    COMPREPLY=()
+    case $before in
+    --language) COMPREPLY=($(compgen -W 'query schema' -- "$word")) ;;
+    --indent | --width) ;;
+    *)
+        if [[ $word == -* ]]; then
+            local options='--check --diff --write --indent --width --language --stdin-path --help --version'
+            COMPREPLY=($(compgen -W "$options" -- "$word"))
+        else
+            compopt -o filenames 2> /dev/null
+            while IFS= read -r name; do
+                if [[ -d $name || $before == --stdin-path || $name =~ \.(graphqls?|gql)$ ]]; then
+                    COMPREPLY+=("$name")
+                fi
+            done < <(compgen -f -- "$word")
+        fi
+        ;;
+    esac
+}
+complete -F _gqlfmt gqlfmt

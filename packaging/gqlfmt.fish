@@ -1,0 +1,10 @@
+# Completions of gqlfmt for fish.
+complete -c gqlfmt -l check -d 'Name the inputs that would change'
+complete -c gqlfmt -l diff -d 'Show what would change as a unified diff'
+complete -c gqlfmt -l write -d 'Rewrite the files that change'
+complete -c gqlfmt -l indent -x -d 'Spaces for each level'
+complete -c gqlfmt -l width -x -d 'Columns that a line can take'
+complete -c gqlfmt -l language -x -a 'query schema' -d 'Language of the inputs'
+complete -c gqlfmt -l stdin-path -r -d 'Name of standard input in messages'
+complete -c gqlfmt -l help -d 'List the options'
+complete -c gqlfmt -l version -d 'Write the version'
