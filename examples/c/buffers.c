@@ -1,62 +1,64 @@
-/* Tries each call with buffers of every length, from none to more than it needs: it writes all of its output or its message, or nothing, and tells
- * the same length throughout. Around each buffer are bytes that have to stay as they are, and each text ends where its block of memory ends, so that
- * valgrind sees a byte that is read too far. Prints nothing, and ends with status 0, where all is well. */
-#include "graphql.h"
+/* Tries each call with buffers of every length, from none to more than it needs, filled with one value or another. The
+ * call writes all of its output or its message, or nothing, and returns the same each time. It is also tried with null
+ * pointers, and with a buffer that nothing initialised: valgrind sees if a result depends on a byte that the call has
+ * not written. Around each other buffer are bytes that must not change. Each input ends where its block of memory ends,
+ * so that valgrind sees a byte that is read too far. Prints nothing, and ends with status 0, if all is well. */
+#include "graphql_proved.h"
 #include <stdio.h>
 #include <stdlib.h>
 #include <string.h>
 
-#define FILLED 0xa5
 #define AROUND 16
 
-typedef graphql_answer (*caller)(const uint8_t *text, size_t length, uint8_t *out, size_t capacity);
+typedef graphql_proved_result (*caller)(const uint8_t *text, size_t length, uint8_t *out, size_t capacity);
 
-static graphql_answer query_in_lines(const uint8_t *text, size_t length, uint8_t *out, size_t capacity) {
-    return graphql_format_query(text, length, 3, true, out, capacity);
+static graphql_proved_result query_in_lines(const uint8_t *text, size_t length, uint8_t *out, size_t capacity) {
+    return graphql_proved_format_query(text, length, 3, true, out, capacity);
 }
 
-static graphql_answer schema(const uint8_t *text, size_t length, uint8_t *out, size_t capacity) {
-    return graphql_format_schema(text, length, 2, false, out, capacity);
+static graphql_proved_result schema(const uint8_t *text, size_t length, uint8_t *out, size_t capacity) {
+    return graphql_proved_format_schema(text, length, 2, false, out, capacity);
 }
 
-static graphql_answer query_too_wide(const uint8_t *text, size_t length, uint8_t *out, size_t capacity) {
-    return graphql_format_query(text, length, UINT32_MAX, false, out, capacity);
+static graphql_proved_result query_too_wide(const uint8_t *text, size_t length, uint8_t *out, size_t capacity) {
+    return graphql_proved_format_query(text, length, UINT32_MAX, false, out, capacity);
 }
 
-/* What is wanted of a call: its status, its place, and what a buffer with room begins with, which is all of an output. */
+/* What is wanted of a call: its status, its position and its offset. A buffer that is long enough begins with this
+ * text: the whole output, or the beginning of the message. */
 struct wanted {
     caller call;
     const char *text;
     uint32_t status;
-    size_t line, column;
+    size_t line, column, offset;
     const char *begun;
 };
 
-static const struct wanted all[] = {
-    {query_in_lines, "{a(b:1){c}}", GRAPHQL_OK, 0, 0, "{\n   a(\n      b: 1\n   ) {\n      c\n   }\n}\n"},
-    {schema, "scalar A,scalar B", GRAPHQL_OK, 0, 0, "scalar A\n\nscalar B\n"},
-    {graphql_minify, "query { a , b }", GRAPHQL_OK, 0, 0, "query{a b}"},
-    {graphql_minify, "", GRAPHQL_OK, 0, 0, ""},
-    {graphql_first_definition, "{ a } # b\n?", GRAPHQL_OK, 0, 0, ""},
-    {graphql_check_query, "{ a }", GRAPHQL_OK, 0, 0, ""},
-    {graphql_check_schema, "scalar A", GRAPHQL_OK, 0, 0, ""},
-    {query_in_lines, "{\na(b: 1e+)}", GRAPHQL_MALFORMED_FLOAT, 2, 6, "query parse error: Parse error at 2:6\n"},
-    {query_too_wide, "{ a { b } }", GRAPHQL_TOO_WIDE, 0, 0, "format error: indentation too wide"},
-    {schema, "extend type A", GRAPHQL_EMPTY_EXTENSION, 1, 8, "schema parse error: Parse error at 1:8\n"},
-    {graphql_minify, "{ a ; }", GRAPHQL_BAD_TOKEN, 1, 5, "query minify error: "},
-    {graphql_first_definition, "{ a } b\xff", GRAPHQL_OK, 0, 0, ""},
-    {graphql_first_definition, "{ a } \xff", GRAPHQL_NOT_UTF8, 0, 0, "text is not UTF-8"},
-    {graphql_first_definition, "where", GRAPHQL_UNEXPECTED_TOKEN, 1, 1, "query parse error: Parse error at 1:1\n"},
-    {graphql_check_query, "", GRAPHQL_UNEXPECTED_END, 1, 1, "query parse error: Parse error at 1:1\n"},
-    {graphql_check_schema, "schema { what: A }", GRAPHQL_UNKNOWN_OPERATION, 1, 1, "schema parse error: Parse error at 1:1\n"},
-    {graphql_check_schema, "\xff", GRAPHQL_NOT_UTF8, 0, 0, "text is not UTF-8"},
-};
+#define QUERY_AT_START "query parse error: Parse error at 1:1\n"
+#define SCHEMA_AT_START "schema parse error: Parse error at 1:1\n"
 
-/* A call with a buffer of some capacity. It has AROUND more bytes on both sides, and each byte has the same value before the call. */
-struct tried {
-    graphql_answer answer;
-    uint8_t *block, *out;
-    size_t capacity;
+static const struct wanted all[] = {
+    {query_in_lines, "{a(b:1){c}}", GRAPHQL_PROVED_OK, 0, 0, 0, "{\n   a(\n      b: 1\n   ) {\n      c\n   }\n}\n"},
+    {schema, "scalar A,scalar B", GRAPHQL_PROVED_OK, 0, 0, 0, "scalar A\n\nscalar B\n"},
+    {graphql_proved_minify, "query { a , b }", GRAPHQL_PROVED_OK, 0, 0, 0, "query{a b}"},
+    {graphql_proved_minify, "", GRAPHQL_PROVED_OK, 0, 0, 0, ""},
+    {graphql_proved_first_definition, "{ a } # b\n?", GRAPHQL_PROVED_OK, 0, 0, 10, ""},
+    {graphql_proved_check_query, "{ a }", GRAPHQL_PROVED_OK, 0, 0, 0, ""},
+    {graphql_proved_check_schema, "scalar A", GRAPHQL_PROVED_OK, 0, 0, 0, ""},
+    {query_in_lines, "{\na(b: 1e+)}", GRAPHQL_PROVED_MALFORMED_FLOAT, 2, 6, 0, "query parse error: Parse error at 2:6"},
+    {query_in_lines, "", GRAPHQL_PROVED_UNEXPECTED_END, 1, 1, 0, QUERY_AT_START},
+    {query_too_wide, "{ a { b } }", GRAPHQL_PROVED_TOO_WIDE, 0, 0, 0, "format error: indentation too wide"},
+    {schema, "extend type A", GRAPHQL_PROVED_EMPTY_EXTENSION, 1, 8, 0, "schema parse error: Parse error at 1:8\n"},
+    {schema, "", GRAPHQL_PROVED_UNEXPECTED_END, 1, 1, 0, SCHEMA_AT_START},
+    {graphql_proved_minify, "{ a ; }", GRAPHQL_PROVED_BAD_TOKEN, 1, 5, 0, "query minify error: "},
+    {graphql_proved_first_definition, "{ a } b\xff", GRAPHQL_PROVED_OK, 0, 0, 6, ""},
+    {graphql_proved_first_definition, "{ a } \xff", GRAPHQL_PROVED_NOT_UTF8, 0, 0, 0, "text is not UTF-8"},
+    {graphql_proved_first_definition, "where", GRAPHQL_PROVED_UNEXPECTED_TOKEN, 1, 1, 0, QUERY_AT_START},
+    {graphql_proved_first_definition, "", GRAPHQL_PROVED_UNEXPECTED_END, 1, 1, 0, QUERY_AT_START},
+    {graphql_proved_check_query, "", GRAPHQL_PROVED_UNEXPECTED_END, 1, 1, 0, QUERY_AT_START},
+    {graphql_proved_check_schema, "", GRAPHQL_PROVED_UNEXPECTED_END, 1, 1, 0, SCHEMA_AT_START},
+    {graphql_proved_check_schema, "schema { what: A }", GRAPHQL_PROVED_UNKNOWN_OPERATION, 1, 1, 0, SCHEMA_AT_START},
+    {graphql_proved_check_schema, "\xff", GRAPHQL_PROVED_NOT_UTF8, 0, 0, 0, "text is not UTF-8"},
 };
 
 static uint8_t *block_of(size_t length) {
@@ -66,60 +68,83 @@ static uint8_t *block_of(size_t length) {
     return block;
 }
 
-static struct tried tried(const struct wanted *it, size_t capacity) {
-    struct tried done = {{0, 0, 0, 0}, block_of(capacity + 2 * AROUND), NULL, capacity};
+/* Calls with the input in a block of its own length, or with a null pointer if the input is empty. */
+static graphql_proved_result called(const struct wanted *it, uint8_t *out, size_t capacity) {
     size_t length = strlen(it->text);
+    if (length == 0)
+        return it->call(NULL, 0, out, capacity);
     uint8_t *text = block_of(length);
     memcpy(text, it->text, length);
-    memset(done.block, FILLED, capacity + 2 * AROUND);
-    done.out = done.block + AROUND;
-    done.answer = it->call(text, length, done.out, capacity);
+    graphql_proved_result result = it->call(text, length, out, capacity);
     if (memcmp(text, it->text, length) != 0)
         abort();
     free(text);
-    return done;
+    return result;
 }
 
-static bool is_filled(const uint8_t *bytes, size_t length) {
+/* How many bytes a call writes: those of the output or the message, if they fit. */
+static size_t written(graphql_proved_result result, size_t capacity) {
+    size_t length = result.output_length + result.message_length;
+    return length <= capacity ? length : 0;
+}
+
+static bool is_filled(const uint8_t *bytes, size_t length, uint8_t filled) {
     size_t at = 0;
-    while (at < length && bytes[at] == FILLED)
+    while (at < length && bytes[at] == filled)
         at++;
     return at == length;
 }
 
-/* Whether so many bytes at the beginning of the buffer are these, and all others are as they were, also those around it. */
-static bool holds(const struct tried *done, const void *bytes, size_t length) {
-    return length <= done->capacity && memcmp(done->out, bytes, length) == 0 && is_filled(done->block, AROUND)
-        && is_filled(done->out + length, done->capacity - length + AROUND);
+/* The output and the message of a call, of which one is empty. */
+struct texts {
+    uint8_t *bytes;
+    size_t output, message;
+};
+
+/* Whether a result is the wanted one. */
+static bool is_wanted(const struct wanted *it, graphql_proved_result result, size_t capacity, struct texts right) {
+    uint32_t status = right.output > capacity ? (uint32_t)GRAPHQL_PROVED_BUFFER_TOO_SHORT : it->status;
+    return result.status == status && result.output_length == right.output && result.message_length == right.message
+        && result.offset == it->offset && result.line == it->line && result.column == it->column;
 }
 
-/* Whether an answer is the wanted one, but for its status and its length. */
-static int has_place(const struct wanted *it, graphql_answer answer) {
-    return answer.line == it->line && answer.column == it->column;
+/* Whether a call with a buffer of some capacity writes these bytes or nothing. All bytes have one value before. */
+static bool fills(const struct wanted *it, size_t capacity, uint8_t filled, struct texts right) {
+    uint8_t *block = block_of(capacity + 2 * AROUND), *out = block + AROUND;
+    memset(block, filled, capacity + 2 * AROUND);
+    graphql_proved_result result = called(it, out, capacity);
+    size_t length = written(result, capacity);
+    bool is_right = is_wanted(it, result, capacity, right) && memcmp(out, right.bytes, length) == 0
+        && is_filled(block, AROUND, filled) && is_filled(out + length, capacity - length + AROUND, filled);
+    free(block);
+    return is_right;
 }
 
-/* Whether a call answers the same with each buffer, but for what does not fit. */
-static int is_right(const struct wanted *it) {
-    struct tried roomy = tried(it, 400);
-    int is_offset = it->call == graphql_first_definition && it->status == GRAPHQL_OK;
-    size_t told = roomy.answer.length, written = is_offset ? 0 : told, begun = strlen(it->begun);
-    int right = roomy.answer.status == it->status && has_place(it, roomy.answer) && holds(&roomy, roomy.out, written)
-        && (it->status == GRAPHQL_OK ? begun == written : begun <= written) && memcmp(roomy.out, it->begun, begun) == 0;
-    for (size_t capacity = 0; right && capacity <= written + 2; capacity++) {
-        struct tried done = tried(it, capacity);
-        uint32_t short_of = it->status == GRAPHQL_OK ? (uint32_t)GRAPHQL_BUFFER_TOO_SHORT : it->status;
-        right = done.answer.status == (written <= capacity ? it->status : short_of) && done.answer.length == told && has_place(it, done.answer)
-            && holds(&done, roomy.out, written <= capacity ? written : 0);
-        free(done.block);
-    }
-    free(roomy.block);
-    return right;
+/* Whether a call into a buffer that nothing initialised writes what is wanted. */
+static bool begins(const struct wanted *it, struct texts right) {
+    size_t needed = right.output + right.message, begun = strlen(it->begun);
+    size_t length = it->status == GRAPHQL_PROVED_OK ? right.output : right.message;
+    return is_wanted(it, called(it, right.bytes, needed), needed, right) && length == needed
+        && (it->status == GRAPHQL_PROVED_OK ? begun == length : begun <= length)
+        && memcmp(right.bytes, it->begun, begun) == 0;
+}
+
+/* Whether a call returns the same with each buffer, and writes what fits. */
+static bool is_right(const struct wanted *it) {
+    graphql_proved_result asked = called(it, NULL, 0);
+    size_t needed = asked.output_length + asked.message_length;
+    struct texts right = {block_of(needed), asked.output_length, asked.message_length};
+    bool is_right = is_wanted(it, asked, 0, right) && begins(it, right);
+    for (size_t capacity = 0; is_right && capacity <= needed + 2; capacity++)
+        is_right = fills(it, capacity, 0xa5, right) && fills(it, capacity, 0x5a, right);
+    free(right.bytes);
+    return is_right;
 }
 
 int main(void) {
     for (size_t at = 0; at < sizeof all / sizeof *all; at++) {
         if (!is_right(&all[at])) {
-            fprintf(stderr, "another answer than is wanted for: %s\n", all[at].text);
+            fprintf(stderr, "another result than is wanted for: %s\n", all[at].text);
             return 1;
         }
     }

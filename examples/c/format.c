@@ -1,10 +1,12 @@
-/* A filter: reads a query document from standard input, and writes it laid out to standard output. The status is 1 where the document is refused, and 2
- * where a read, a write or an allocation fails. */
-#include "graphql.h"
+/* A filter: reads a query document from standard input, and writes it formatted to standard output. The status is 1 if
+ * the document is rejected, and 2 if a read, a write or an allocation fails. */
+#include "graphql_proved.h"
+#include <errno.h>
 #include <stdio.h>
 #include <stdlib.h>
+#include <string.h>
 
-/* All that a stream has left, with its length; NULL where it cannot be read or there is no memory. */
+/* All that is left of a stream, and its length. NULL if a read or an allocation fails. */
 static uint8_t *read_all(FILE *in, size_t *length) {
     size_t capacity = 65536;
     uint8_t *bytes = malloc(capacity);
@@ -24,32 +26,46 @@ static uint8_t *read_all(FILE *in, size_t *length) {
     return bytes;
 }
 
-/* Writes the layout of a text, or on standard error why there is none. Returns the status of the program. */
-static int write_layout(const uint8_t *text, size_t length) {
-    for (size_t capacity = 2 * length + 256;;) {
-        uint8_t *out = calloc(capacity, 1);
+static bool write_all(FILE *to, const uint8_t *bytes, size_t length) {
+    return fwrite(bytes, 1, length, to) == length && fflush(to) == 0;
+}
+
+/* Formats a document into a buffer that is long enough for the output or the message. NULL if an allocation fails.
+ * Most documents take one call. */
+static uint8_t *formatted(const uint8_t *text, size_t length, graphql_proved_result *result) {
+    size_t capacity = graphql_proved_format_capacity(length);
+    for (;;) {
+        uint8_t *out = malloc(capacity);
         if (out == NULL)
-            return 2;
-        graphql_answer answer = graphql_format_query(text, length, 2, false, out, capacity);
-        bool fits = answer.length <= capacity;
-        FILE *to = answer.status == GRAPHQL_OK ? stdout : stderr;
-        bool written = fits && fwrite(out, 1, answer.length, to) == answer.length && fflush(to) == 0;
+            return NULL;
+        *result = graphql_proved_format_query(text, length, 2, false, out, capacity);
+        /* At most one of the two lengths is not 0. */
+        size_t needed = result->output_length + result->message_length;
+        if (needed <= capacity)
+            return out;
         free(out);
-        if (fits && !written)
-            return 2;
-        if (fits)
-            return answer.status == GRAPHQL_OK ? 0 : 1;
-        /* The output, or the message, is longer than the buffer: once more, with the length that it needs. */
-        capacity = answer.length;
+        capacity = needed;
     }
+}
+
+/* Writes the formatted document, or the message on standard error. Returns the status of the program. */
+static int write_formatted(const uint8_t *text, size_t length) {
+    graphql_proved_result result;
+    uint8_t *out = formatted(text, length, &result);
+    if (out == NULL)
+        return 2;
+    bool is_ok = result.status == GRAPHQL_PROVED_OK;
+    bool is_written = write_all(is_ok ? stdout : stderr, out, result.output_length + result.message_length);
+    free(out);
+    return !is_written ? 2 : is_ok ? 0 : 1;
 }
 
 int main(void) {
     size_t length;
     uint8_t *text = read_all(stdin, &length);
-    if (text == NULL)
-        return 2;
-    int status = write_layout(text, length);
+    int status = text == NULL ? 2 : write_formatted(text, length);
+    if (status == 2)
+        fprintf(stderr, "format: %s\n", strerror(errno));
     free(text);
     return status;
 }

@@ -1,7 +1,8 @@
-/* Makes the allocations of each call fail: each one alone, and then all from each one on. A call answers GRAPHQL_OUT_OF_MEMORY, or how its text is
- * refused, with a length of 0 where there is no memory for the message. Prints nothing, and ends with status 0, where all is well.
- * It is linked with `-Wl,--wrap=malloc,--wrap=realloc`, which puts the two functions below before those of the C library. */
-#include "graphql.h"
+/* Makes the allocations of each call fail: each one alone, and then all from each one on. A call returns
+ * GRAPHQL_PROVED_OUT_OF_MEMORY, or the error of its input, with a message of length 0 if there is no memory for it.
+ * Prints nothing, and ends with status 0, if all is well. It is linked with `-Wl,--wrap=malloc,--wrap=realloc`, which
+ * puts the two functions below before those of the C library. */
+#include "graphql_proved.h"
 #include <limits.h>
 #include <stdio.h>
 #include <string.h>
@@ -30,17 +31,17 @@ void *__wrap_realloc(void *old, size_t size) {
     return fails() ? NULL : __real_realloc(old, size);
 }
 
-static graphql_answer query(const uint8_t *text, size_t length, uint8_t *out, size_t capacity) {
-    return graphql_format_query(text, length, 2, false, out, capacity);
+static graphql_proved_result query(const uint8_t *text, size_t length, uint8_t *out, size_t capacity) {
+    return graphql_proved_format_query(text, length, 2, false, out, capacity);
 }
 
-static graphql_answer schema(const uint8_t *text, size_t length, uint8_t *out, size_t capacity) {
-    return graphql_format_schema(text, length, 2, false, out, capacity);
+static graphql_proved_result schema(const uint8_t *text, size_t length, uint8_t *out, size_t capacity) {
+    return graphql_proved_format_schema(text, length, 2, false, out, capacity);
 }
 
 /* A call, its status and its place while there is memory, and what it may write where one allocation fails. */
 struct called {
-    graphql_answer (*call)(const uint8_t *text, size_t length, uint8_t *out, size_t capacity);
+    graphql_proved_result (*call)(const uint8_t *text, size_t length, uint8_t *out, size_t capacity);
     const char *text;
     uint32_t status;
     size_t line, column;
@@ -50,23 +51,24 @@ struct called {
 #define OF_QUERY "query parse error: out of memory"
 #define OF_SCHEMA "schema parse error: out of memory"
 #define OF_FORMAT "format error: out of memory"
+#define OF_MINIFY "query minify error: out of memory"
 
 static const struct called all[] = {
-    {query, "{a(b: [1])}", GRAPHQL_OK, 0, 0, {OF_QUERY, OF_FORMAT}},
-    {query, "{a(b: 1e+)}", GRAPHQL_MALFORMED_FLOAT, 1, 7, {OF_QUERY, OF_QUERY}},
-    {query, "\xff", GRAPHQL_NOT_UTF8, 0, 0, {"", ""}},
-    {schema, "scalar A", GRAPHQL_OK, 0, 0, {OF_SCHEMA, OF_FORMAT}},
-    {graphql_minify, "{ a }", GRAPHQL_OK, 0, 0, {"out of memory", "query minify error: out of memory"}},
-    {graphql_minify, "{ ; }", GRAPHQL_BAD_TOKEN, 1, 3, {"out of memory", "query minify error: out of memory"}},
-    {graphql_first_definition, "{ a } ?", GRAPHQL_OK, 0, 0, {OF_QUERY, OF_QUERY}},
-    {graphql_check_query, "{ a }", GRAPHQL_OK, 0, 0, {OF_QUERY, OF_QUERY}},
-    {graphql_check_schema, "extend type A", GRAPHQL_EMPTY_EXTENSION, 1, 8, {OF_SCHEMA, OF_SCHEMA}},
+    {query, "{a(b: [1])}", GRAPHQL_PROVED_OK, 0, 0, {OF_QUERY, OF_FORMAT}},
+    {query, "{a(b: 1e+)}", GRAPHQL_PROVED_MALFORMED_FLOAT, 1, 7, {OF_QUERY, OF_QUERY}},
+    {query, "\xff", GRAPHQL_PROVED_NOT_UTF8, 0, 0, {"", ""}},
+    {schema, "scalar A", GRAPHQL_PROVED_OK, 0, 0, {OF_SCHEMA, OF_FORMAT}},
+    {graphql_proved_minify, "{ a }", GRAPHQL_PROVED_OK, 0, 0, {"out of memory", OF_MINIFY}},
+    {graphql_proved_minify, "{ ; }", GRAPHQL_PROVED_BAD_TOKEN, 1, 3, {"out of memory", OF_MINIFY}},
+    {graphql_proved_first_definition, "{ a } ?", GRAPHQL_PROVED_OK, 0, 0, {OF_QUERY, OF_QUERY}},
+    {graphql_proved_check_query, "{ a }", GRAPHQL_PROVED_OK, 0, 0, {OF_QUERY, OF_QUERY}},
+    {graphql_proved_check_schema, "extend type A", GRAPHQL_PROVED_EMPTY_EXTENSION, 1, 8, {OF_SCHEMA, OF_SCHEMA}},
 };
 
 static uint8_t out[CAPACITY];
 
 /* Calls once, while the allocations with these numbers fail. */
-static graphql_answer answer_of(const struct called *it, unsigned from, unsigned to) {
+static graphql_proved_result result_of(const struct called *it, unsigned from, unsigned to) {
     memset(out, FILLED, CAPACITY);
     first = from;
     last = to;
@@ -74,8 +76,8 @@ static graphql_answer answer_of(const struct called *it, unsigned from, unsigned
     return it->call((const uint8_t *)it->text, strlen(it->text), out, CAPACITY);
 }
 
-static bool has_place(graphql_answer answer, size_t line, size_t column) {
-    return answer.line == line && answer.column == column;
+static bool has_place(graphql_proved_result result, size_t line, size_t column) {
+    return result.line == line && result.column == column;
 }
 
 /* Whether a message of this length is this one, and the rest of the buffer is as it was. */
@@ -86,28 +88,30 @@ static bool holds(const char *message, size_t length) {
     return length == strlen(message) && memcmp(out, message, length) == 0 && at == CAPACITY;
 }
 
-/* Whether a call answers rightly where such allocations fail. After one that fails alone there is memory for the message that tells of it. */
-static bool is_right(const struct called *it, graphql_answer answer, bool alone) {
-    bool is_empty = holds("", answer.length);
-    if (answer.status != GRAPHQL_OUT_OF_MEMORY)
-        return it->status != GRAPHQL_OK && answer.status == it->status && is_empty
-            && has_place(answer, it->line, it->column);
-    bool is_told = holds(it->messages[0], answer.length) || holds(it->messages[1], answer.length);
-    return has_place(answer, 0, 0) && (alone ? is_told : is_empty);
+/* Whether a result is right if such allocations fail. If one fails alone, there is memory for the message. */
+static bool is_right(const struct called *it, graphql_proved_result result, bool alone) {
+    bool is_empty = holds("", result.message_length);
+    if (result.output_length != 0 || result.offset != 0)
+        return false;
+    if (result.status != GRAPHQL_PROVED_OUT_OF_MEMORY)
+        return it->status != GRAPHQL_PROVED_OK && result.status == it->status && is_empty
+            && has_place(result, it->line, it->column);
+    bool has_message = holds(it->messages[0], result.message_length) || holds(it->messages[1], result.message_length);
+    return has_place(result, 0, 0) && (alone ? has_message : is_empty);
 }
 
-/* Whether a call allocates, and answers rightly whichever of its allocations fail. */
+/* Whether a call allocates, and its result is right whichever of its allocations fail. */
 static bool survives(const struct called *it) {
-    bool right = answer_of(it, UINT_MAX, UINT_MAX).status == it->status && asked > 0;
+    bool right = result_of(it, UINT_MAX, UINT_MAX).status == it->status && asked > 0;
     for (unsigned from = 1, count = asked; right && from <= count; from++)
-        right = is_right(it, answer_of(it, from, from), true) && is_right(it, answer_of(it, from, UINT_MAX), false);
+        right = is_right(it, result_of(it, from, from), true) && is_right(it, result_of(it, from, UINT_MAX), false);
     return right;
 }
 
 int main(void) {
     for (size_t at = 0; at < sizeof all / sizeof *all; at++) {
         if (!survives(&all[at])) {
-            fprintf(stderr, "another answer than is wanted where allocation %u fails, of: %s\n", first, all[at].text);
+            fprintf(stderr, "another result than is wanted if allocation %u fails, of: %s\n", first, all[at].text);
             return 1;
         }
     }

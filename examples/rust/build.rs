@@ -7,7 +7,7 @@ use std::{env, process};
 const ARCHIVES: [&[&str]; 2] = [&["graphql_proved"], &["graphql_c", "libc_c"]];
 
 /// The variable that names a folder with the archives. No other folder is searched then.
-const VARIABLE: &str = "GRAPHQL_LIBRARIES";
+const VARIABLE: &str = "GRAPHQL_PROVED_LIBRARIES";
 
 /// The folders in which the archives can be, relative to this file: that of a package, and that of a clone.
 const FOLDERS: [&str; 2] = ["native", "../../crates/graphql_c/out"];

@@ -1,5 +1,7 @@
 pub mod Fronts
 pub mod Rest
-pub mod Told
+pub mod Results
+pub mod Shortest
 pub use Rest.*
-pub use Told.*
+pub use Results.*
+pub use Shortest.*

@@ -1,4 +1,6 @@
-pub mod Answers
+pub mod Names
 pub mod Output
-pub use Answers.*
+pub mod Results
+pub use Names.*
 pub use Output.*
+pub use Results.*

@@ -1,86 +1,129 @@
-//! The library for C: each function takes bytes and writes bytes. `include/graphql.h` declares the functions, and
-//! `docs/FROM_C.md` shows how to call them.
+//! The library for C: each function takes bytes and writes bytes. `include/graphql_proved.h` declares the functions,
+//! and `docs/FROM_C.md` shows how to call them.
 //!
-//! In C a `Global` is no parameter, and a slice is two: a pointer, which must never be null, and a length.
+//! In C a `Global` is no parameter, and a slice is two: a pointer, which must never be null, and a length. The header
+//! has a function for each whose name here ends in `_nonnull`. It also takes null pointers with a length of 0.
 #![tactic(auto)]
 
+ghost use Rattle.std.specs.Prelude.{◌≡◌, ◌≢◌, ◌*◌, ◌≤◌, length};
 ghost use Rattle.graphql_core.specs.{IsMinified};
 ghost use Rattle.graphql_query.specs.{IsMinifyRefusalOf};
-ghost use Rattle.graphql_c.specs.Answers.{Answers};
-ghost use Rattle.graphql_c.specs.{Writes, Finds, layout_in, IsQueryLaidOut, IsSchemaLaidOut, IsQueryChecked};
+ghost use Rattle.graphql_c.specs.{Returns, Writes, Finds, layout_in, IsQueryLaidOut, IsSchemaLaidOut, IsQueryChecked};
 ghost use Rattle.graphql_c.specs.{IsSchemaChecked, HasNoQuery, HasNoSchema, HasNoFirst, IsQueryTooWide};
-ghost use Rattle.graphql_c.specs.{IsSchemaTooWide, EndsAt};
+ghost use Rattle.graphql_c.specs.{IsSchemaTooWide, EndsAt, status_name, status_too_short, with_zeros};
 
-mod answer;
+mod call_result;
 mod calls;
 mod failure;
+mod names;
 
-pub use answer::Answer;
-use answer::{answer_of, offset_of};
+pub use call_result::CallResult;
+use call_result::{of_offset, of_output};
+pub use names::{StatusName, Version};
 use std::alloc::Global;
 
 /// Formats a query document (October 2021, section 2.2) into `out`, with `indent` spaces a level. Under `multiline`
 /// each argument, list item and object field has a separate line.
 #[unsafe(no_mangle)]
-pub extern "C" fn graphql_format_query(
+pub extern "C" fn graphql_proved_format_query_nonnull(
     alloc: Global,
     text: &[u8],
     indent: u32,
     multiline: bool,
     out: &mut [u8],
-) -> Answer
-    ensures { Answers (Writes (IsQueryLaidOut (layout_in indent multiline) text.now)) (HasNoQuery text.now)
+) -> CallResult
+    ensures { Returns (Writes (IsQueryLaidOut (layout_in indent multiline) text.now)) (HasNoQuery text.now)
         (IsQueryTooWide (layout_in indent multiline) text.now) text.now out.old out.new result }
 {
     let style = calls::style_in(indent, multiline);
-    answer_of(out, calls::query_laid_out(alloc, text, &style))
+    of_output(out, calls::query_laid_out(alloc, text, &style))
 }
 
 /// Formats a schema document (section 3) into `out`, with `indent` spaces a level. Under `multiline` each argument,
 /// list item and object field has a separate line.
 #[unsafe(no_mangle)]
-pub extern "C" fn graphql_format_schema(
+pub extern "C" fn graphql_proved_format_schema_nonnull(
     alloc: Global,
     text: &[u8],
     indent: u32,
     multiline: bool,
     out: &mut [u8],
-) -> Answer
-    ensures { Answers (Writes (IsSchemaLaidOut (layout_in indent multiline) text.now)) (HasNoSchema text.now)
+) -> CallResult
+    ensures { Returns (Writes (IsSchemaLaidOut (layout_in indent multiline) text.now)) (HasNoSchema text.now)
         (IsSchemaTooWide (layout_in indent multiline) text.now) text.now out.old out.new result }
 {
     let style = calls::style_in(indent, multiline);
-    answer_of(out, calls::schema_laid_out(alloc, text, &style))
+    of_output(out, calls::schema_laid_out(alloc, text, &style))
 }
 
 /// Writes the tokens of the input into `out`, with a space only where two tokens would otherwise run together.
 #[unsafe(no_mangle)]
-pub extern "C" fn graphql_minify(alloc: Global, text: &[u8], out: &mut [u8]) -> Answer
-    ensures { Answers (Writes (IsMinified text.now)) (IsMinifyRefusalOf text.now) ⊥ text.now out.old out.new result }
+pub extern "C" fn graphql_proved_minify_nonnull(
+    alloc: Global,
+    text: &[u8],
+    out: &mut [u8],
+) -> CallResult
+    ensures returned { Returns (Writes (IsMinified text.now)) (IsMinifyRefusalOf text.now) ⊥ text.now out.old out.new result }
+
+    // A buffer of twice the length of the input is never too short.
+    ensures enough { 2 * length text.now ≤ length out.old → result.status ≢ status_too_short }
 {
-    answer_of(out, calls::minified(alloc, text))
+    of_output(out, calls::minified(alloc, text))
 }
 
 /// Finds the end of the first definition (section 2.2) and of the ignored tokens behind it. The rest can be any bytes.
 #[unsafe(no_mangle)]
-pub extern "C" fn graphql_first_definition(alloc: Global, text: &[u8], out: &mut [u8]) -> Answer
-    ensures { Answers (Finds (EndsAt text.now)) (HasNoFirst text.now) ⊥ text.now out.old out.new result }
+pub extern "C" fn graphql_proved_first_definition_nonnull(
+    alloc: Global,
+    text: &[u8],
+    out: &mut [u8],
+) -> CallResult
+    ensures { Returns (Finds (EndsAt text.now)) (HasNoFirst text.now) ⊥ text.now out.old out.new result }
 {
-    offset_of(out, calls::first_end(alloc, text))
+    of_offset(out, calls::first_end(alloc, text))
 }
 
 /// Checks that the input is a query document (section 2.2). Nothing is written into `out` except a message.
 #[unsafe(no_mangle)]
-pub extern "C" fn graphql_check_query(alloc: Global, text: &[u8], out: &mut [u8]) -> Answer
-    ensures { Answers (Writes (IsQueryChecked text.now)) (HasNoQuery text.now) ⊥ text.now out.old out.new result }
+pub extern "C" fn graphql_proved_check_query_nonnull(
+    alloc: Global,
+    text: &[u8],
+    out: &mut [u8],
+) -> CallResult
+    ensures { Returns (Writes (IsQueryChecked text.now)) (HasNoQuery text.now) ⊥ text.now out.old out.new result }
 {
-    answer_of(out, calls::query_checked(alloc, text))
+    of_output(out, calls::query_checked(alloc, text))
 }
 
 /// Checks that the input is a schema document (section 3). Nothing is written into `out` except a message.
 #[unsafe(no_mangle)]
-pub extern "C" fn graphql_check_schema(alloc: Global, text: &[u8], out: &mut [u8]) -> Answer
-    ensures { Answers (Writes (IsSchemaChecked text.now)) (HasNoSchema text.now) ⊥ text.now out.old out.new result }
+pub extern "C" fn graphql_proved_check_schema_nonnull(
+    alloc: Global,
+    text: &[u8],
+    out: &mut [u8],
+) -> CallResult
+    ensures { Returns (Writes (IsSchemaChecked text.now)) (HasNoSchema text.now) ⊥ text.now out.old out.new result }
 {
-    answer_of(out, calls::schema_checked(alloc, text))
+    of_output(out, calls::schema_checked(alloc, text))
+}
+
+/// The name of the status with this number, as the header has it after `GRAPHQL_PROVED_`, with zero bytes behind it.
+/// Only zero bytes if no status has this number.
+#[unsafe(no_mangle)]
+pub extern "C" fn graphql_proved_status_name(status: u32) -> StatusName
+    ensures { result.text ≡ with_zeros (status_name status) }
+{
+    names::status_name(status)
+}
+
+/// The version of the library.
+#[unsafe(no_mangle)]
+pub extern "C" fn graphql_proved_version() -> Version
+    ensures { result ≡ record { major = 0; minor = 1; patch = 0 } }
+{
+    Version {
+        major: 0,
+        minor: 1,
+        patch: 0,
+    }
 }

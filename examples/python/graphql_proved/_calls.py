@@ -112,7 +112,7 @@ def first_definition(source: AnyStr) -> tuple[AnyStr, AnyStr]:
         TypeError: `source` has another type.
     """
     given = _bytes_of(source)
-    end = _FIRST_DEFINITION.length(given)
+    end = _FIRST_DEFINITION.offset(given)
     return _typed(source, given[:end]), _typed(source, given[end:])
 
 
@@ -126,7 +126,7 @@ def check_query(source: str | bytes) -> None:
         DocumentError: the source is not a valid query document, or the call ran out of memory.
         TypeError: `source` has another type.
     """
-    _CHECK_QUERY.length(_bytes_of(source))
+    _CHECK_QUERY.check(_bytes_of(source))
 
 
 def check_schema(source: str | bytes) -> None:
@@ -139,4 +139,4 @@ def check_schema(source: str | bytes) -> None:
         DocumentError: the source is not a valid schema document, or the call ran out of memory.
         TypeError: `source` has another type.
     """
-    _CHECK_SCHEMA.length(_bytes_of(source))
+    _CHECK_SCHEMA.check(_bytes_of(source))

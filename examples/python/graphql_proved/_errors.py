@@ -6,7 +6,7 @@ import enum
 
 
 class Status(enum.IntEnum):
-    """The cause of an error. `graphql.h` has the same names and numbers, and no number ever changes."""
+    """The cause of an error. `graphql_proved.h` has the same names and numbers, and no number ever changes."""
 
     BAD_TOKEN = 1
     """There is no valid token at the position."""

@@ -1,4 +1,4 @@
-"""The functions of the library, as `graphql.h` declares them."""
+"""The functions of the library, as `graphql_proved.h` declares them."""
 
 from __future__ import annotations
 
@@ -8,21 +8,29 @@ import pathlib
 from ._errors import DocumentError
 
 VERSION = "0.1.0"
-# What the names of the library's functions begin with.
-PREFIX = "graphql_"
 NAME = "libgraphql_proved.so"
-OK = 0
+OK, BUFFER_TOO_SHORT = 0, 16
+# As in the header: enough for most messages.
+MESSAGE_CAPACITY = 256
 
 
-class Answer(ctypes.Structure):
-    """`graphql_answer` of `graphql.h`."""
+class Result(ctypes.Structure):
+    """`graphql_proved_result` of `graphql_proved.h`."""
 
     _fields_ = [
         ("status", ctypes.c_uint32),
-        ("length", ctypes.c_size_t),
+        ("output_length", ctypes.c_size_t),
+        ("message_length", ctypes.c_size_t),
+        ("offset", ctypes.c_size_t),
         ("line", ctypes.c_size_t),
         ("column", ctypes.c_size_t),
     ]
+
+
+class Numbers(ctypes.Structure):
+    """`graphql_proved_numbers` of `graphql_proved.h`."""
+
+    _fields_ = [("major", ctypes.c_uint32), ("minor", ctypes.c_uint32), ("patch", ctypes.c_uint32)]
 
 
 def _loaded() -> ctypes.CDLL:
@@ -38,40 +46,55 @@ def _loaded() -> ctypes.CDLL:
 _library = _loaded()
 
 
+def _check_version() -> None:
+    """A library with other first two numbers could have other declarations."""
+    function = _library.graphql_proved_version
+    function.restype, function.argtypes = Numbers, []
+    found = function()
+    if f"{found.major}.{found.minor}" != VERSION.rpartition(".")[0]:
+        raise ImportError(f"graphql_proved {VERSION} found a library {found.major}.{found.minor}.{found.patch}")
+
+
+_check_version()
+
+
 class Function:
-    """A function of the library."""
+    """A function of the library. Its pointers are never null: ctypes passes the addresses of objects."""
 
     def __init__(self, name: str, *options: type[ctypes.c_uint32 | ctypes.c_bool]) -> None:
-        self._call = getattr(_library, PREFIX + name)
-        self._call.restype = Answer
+        self._call = getattr(_library, f"graphql_proved_{name}_nonnull")
+        self._call.restype = Result
         self._call.argtypes = [ctypes.c_char_p, ctypes.c_size_t, *options, ctypes.c_char_p, ctypes.c_size_t]
 
-    def length(self, source: bytes, *options: int) -> int:
-        """Calls a function that writes only messages, and returns the length in its answer."""
-        return self._answer(source, 256, options)[0]
+    def check(self, source: bytes) -> None:
+        """Calls a function that only checks."""
+        self._result(source, MESSAGE_CAPACITY, ())
+
+    def offset(self, source: bytes) -> int:
+        """Calls a function that finds an offset, and returns the offset."""
+        return self._result(source, MESSAGE_CAPACITY, ())[0].offset
 
     def output(self, source: bytes, *options: int) -> bytes:
         """Calls a function that writes an output, and returns the output."""
-        length, out = self._answer(source, 2 * len(source) + 256, options)
-        return ctypes.string_at(out, length)
+        # As in the header: enough for most outputs.
+        result, out = self._result(source, 2 * len(source) + MESSAGE_CAPACITY, options)
+        return ctypes.string_at(out, result.output_length)
 
-    def _answer(
+    def _result(
         self, source: bytes, capacity: int, options: tuple[int, ...]
-    ) -> tuple[int, ctypes.Array[ctypes.c_char]]:
+    ) -> tuple[Result, ctypes.Array[ctypes.c_char]]:
         while True:
-            # The library takes only an initialised buffer, which this is. It is never empty: ctypes can pass an
-            # empty one as a null pointer.
-            out = ctypes.create_string_buffer(max(capacity, 1))
-            answer = self._call(source, len(source), *options, out, capacity)
-            if answer.status == OK:
-                return answer.length, out
-            if answer.length <= capacity:
-                raise _error(answer, ctypes.string_at(out, answer.length))
-            # The output or the message is longer than the buffer.
-            capacity = answer.length
+            out = ctypes.create_string_buffer(capacity)
+            result = self._call(source, len(source), *options, out, capacity)
+            if result.status == OK:
+                return result, out
+            if result.status != BUFFER_TOO_SHORT and result.message_length <= capacity:
+                raise _error(result, ctypes.string_at(out, result.message_length))
+            # The output or the message is longer than the buffer. One of the lengths is 0.
+            capacity = result.output_length + result.message_length
 
 
-def _error(answer: Answer, message: bytes) -> DocumentError:
-    """The error of an answer, with its message."""
-    place = (answer.line, answer.column) if answer.line else (None, None)
-    return DocumentError(answer.status, message.decode("utf-8", "replace"), *place)
+def _error(result: Result, message: bytes) -> DocumentError:
+    """The error of a result, with its message."""
+    place = (result.line, result.column) if result.line else (None, None)
+    return DocumentError(result.status, message.decode("utf-8", "replace"), *place)

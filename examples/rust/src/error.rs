@@ -2,7 +2,7 @@
 
 use std::fmt;
 
-/// The cause of an error. `graphql.h` has the same names.
+/// The cause of an error. `graphql_proved.h` has the same names.
 #[derive(Clone, Copy, Debug, PartialEq, Eq, Hash)]
 #[non_exhaustive]
 pub enum Cause {
@@ -41,7 +41,7 @@ pub enum Cause {
 }
 
 impl From<u32> for Cause {
-    /// The cause that has this number in `graphql.h`.
+    /// The cause that has this number in `graphql_proved.h`.
     fn from(status: u32) -> Self {
         match status {
             1 => Cause::BadToken,

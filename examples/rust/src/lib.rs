@@ -14,6 +14,7 @@ mod error;
 mod raw;
 
 pub use error::{Cause, Error, Position};
+use std::fmt;
 
 /// How a document is formatted.
 #[derive(Clone, Copy, Debug, PartialEq, Eq, Hash)]
@@ -29,6 +30,33 @@ impl Default for Style {
     fn default() -> Self {
         Style { indent: 2, multiline: false }
     }
+}
+
+/// The version of the library. `Display` writes the three numbers with points between them.
+#[repr(C)]
+#[derive(Clone, Copy, Debug, PartialEq, Eq, PartialOrd, Ord, Hash)]
+pub struct Version {
+    /// The first number.
+    pub major: u32,
+    /// The second number.
+    pub minor: u32,
+    /// The third number.
+    pub patch: u32,
+}
+
+impl fmt::Display for Version {
+    fn fmt(&self, f: &mut fmt::Formatter<'_>) -> fmt::Result {
+        write!(f, "{}.{}.{}", self.major, self.minor, self.patch)
+    }
+}
+
+/// The version of the library that is linked.
+///
+/// ```
+/// assert_eq!(graphql_proved::library_version().to_string(), env!("CARGO_PKG_VERSION"));
+/// ```
+pub fn library_version() -> Version {
+    raw::version()
 }
 
 /// Formats a query document. The output has no comments.

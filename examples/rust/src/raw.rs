@@ -1,38 +1,44 @@
-//! The functions of the library, as `graphql.h` declares them, without `unsafe`.
+//! The functions of the library, as `graphql_proved.h` declares them, without `unsafe`.
 
 use crate::error::{Error, Position};
-use crate::Style;
+use crate::{Style, Version};
+use std::mem::MaybeUninit;
 
-/// `graphql_answer` of `graphql.h`.
+/// `graphql_proved_result` of `graphql_proved.h`.
 #[repr(C)]
-struct Answer {
+struct CallResult {
     status: u32,
-    length: usize,
+    output_length: usize,
+    message_length: usize,
+    offset: usize,
     line: usize,
     column: usize,
 }
 
 const OK: u32 = 0;
+const BUFFER_TOO_SHORT: u32 = 16;
 
-/// The capacity of a buffer for which most messages are short enough.
-const MESSAGE: usize = 256;
+/// As in the header: enough for most messages.
+const MESSAGE_CAPACITY: usize = 256;
 
-/// Declares functions of the library, whose names in C begin with this prefix.
+/// Declares the functions of the library that take a source and a buffer, by their names in C.
 macro_rules! library {
-    ($prefix:literal; $(fn $name:ident($($argument:ident: $type:ty),*);)*) => {
+    ($(fn $name:ident($($argument:ident: $type:ty),*);)*) => {
         mod c {
-            use super::Answer;
+            use super::{CallResult, Version};
 
             extern "C" {
-                $(#[link_name = concat!($prefix, stringify!($name))]
-                pub fn $name($($argument: $type),*) -> Answer;)*
+                $(#[link_name = concat!("graphql_proved_", stringify!($name), "_nonnull")]
+                pub fn $name($($argument: $type),*) -> CallResult;)*
+
+                #[link_name = "graphql_proved_version"]
+                pub fn version() -> Version;
             }
         }
     };
 }
 
 library! {
-    "graphql_";
     fn format_query(text: *const u8, length: usize, indent: u32, multiline: bool, out: *mut u8, capacity: usize);
     fn format_schema(text: *const u8, length: usize, indent: u32, multiline: bool, out: *mut u8, capacity: usize);
     fn minify(text: *const u8, length: usize, out: *mut u8, capacity: usize);
@@ -41,82 +47,99 @@ library! {
     fn check_schema(text: *const u8, length: usize, out: *mut u8, capacity: usize);
 }
 
-/// A function of the library, called with pointers and lengths of these slices.
-type Call<'a> = &'a dyn Fn(&[u8], &mut [u8]) -> Answer;
+/// The buffer of a call, which need not be initialised.
+type Buffer = [MaybeUninit<u8>];
 
-/// The length in the answer of a call, and the buffer. A buffer that is too short for the output or the message is made
-/// longer, and the function called again.
-fn answer(source: &[u8], capacity: usize, call: Call<'_>) -> Result<(usize, Vec<u8>), Error> {
-    let mut out = vec![0; capacity];
+/// The address of a buffer.
+fn address(out: &mut Buffer) -> *mut u8 {
+    out.as_mut_ptr().cast()
+}
+
+/// A function of the library, called with pointers and lengths of these slices.
+type Call<'a> = &'a dyn Fn(&[u8], &mut Buffer) -> CallResult;
+
+/// The result of a call that succeeded, and its output. A buffer that is too short for the output or the message is
+/// made longer, and the function called again.
+fn called(source: &[u8], capacity: usize, call: Call<'_>) -> Result<(CallResult, Vec<u8>), Error> {
+    let mut buffer: Vec<u8> = Vec::with_capacity(capacity);
     loop {
-        let Answer { status, length, line, column } = call(source, &mut out);
-        if status == OK {
-            return Ok((length, out));
+        let out = buffer.spare_capacity_mut();
+        let capacity = out.len();
+        let result = call(source, out);
+        // One of the two lengths is 0.
+        let length = result.output_length + result.message_length;
+        if result.status == BUFFER_TOO_SHORT || length > capacity {
+            buffer.reserve(length);
+            continue;
         }
-        if length <= out.len() {
-            let position = (line > 0).then_some(Position { line, column });
-            let message = String::from_utf8_lossy(&out[..length]).into_owned();
-            return Err(Error { cause: status.into(), position, message });
+        // SAFETY: the call wrote the output or the message, which has this length, at the beginning of the buffer.
+        unsafe { buffer.set_len(length) };
+        if result.status == OK {
+            return Ok((result, buffer));
         }
-        out.resize(length, 0);
+        return Err(error(&result, &buffer));
     }
 }
 
+/// The error of a result, with its message.
+fn error(result: &CallResult, message: &[u8]) -> Error {
+    let &CallResult { status, line, column, .. } = result;
+    let position = (line > 0).then_some(Position { line, column });
+    Error { cause: status.into(), position, message: String::from_utf8_lossy(message).into_owned() }
+}
+
 /// The output of a call.
-fn output(source: &[u8], capacity: usize, call: Call<'_>) -> Result<String, Error> {
-    let (length, mut out) = answer(source, capacity, call)?;
-    out.truncate(length);
+fn output(source: &[u8], call: Call<'_>) -> Result<String, Error> {
+    // As in the header: enough for most outputs.
+    let (_, output) = called(source, 2 * source.len() + MESSAGE_CAPACITY, call)?;
     // An output is UTF-8, so no byte is replaced.
-    Ok(String::from_utf8(out).unwrap_or_else(|error| String::from_utf8_lossy(error.as_bytes()).into_owned()))
+    Ok(String::from_utf8(output).unwrap_or_else(|error| String::from_utf8_lossy(error.as_bytes()).into_owned()))
 }
 
-/// The capacity of a buffer for which most formatted documents are short enough.
-fn formatted(source: &[u8]) -> usize {
-    2 * source.len() + MESSAGE
-}
+// SAFETY, of each call below: the declaration is that of `graphql_proved.h`. The pointers and the lengths are those of
+// slices, which are not null, do not overlap, and live through the call.
 
-// SAFETY, of each call below: the declaration is that of `graphql.h`. The pointers and the lengths are those of slices,
-// which are not null, do not overlap, and live through the call. The bytes of `out` are initialised.
+/// The version of the library, as [`crate::library_version`].
+pub fn version() -> Version {
+    unsafe { c::version() }
+}
 
 /// Formats a query document, as [`crate::format_query`].
 pub fn format_query(source: &[u8], style: Style) -> Result<String, Error> {
     let Style { indent, multiline } = style;
-    output(source, formatted(source), &|text, out| unsafe {
-        c::format_query(text.as_ptr(), text.len(), indent, multiline, out.as_mut_ptr(), out.len())
+    output(source, &|text, out| unsafe {
+        c::format_query(text.as_ptr(), text.len(), indent, multiline, address(out), out.len())
     })
 }
 
 /// Formats a schema document, as [`crate::format_schema`].
 pub fn format_schema(source: &[u8], style: Style) -> Result<String, Error> {
     let Style { indent, multiline } = style;
-    output(source, formatted(source), &|text, out| unsafe {
-        c::format_schema(text.as_ptr(), text.len(), indent, multiline, out.as_mut_ptr(), out.len())
+    output(source, &|text, out| unsafe {
+        c::format_schema(text.as_ptr(), text.len(), indent, multiline, address(out), out.len())
     })
 }
 
 /// Writes the tokens of a source, as [`crate::minify`].
 pub fn minify(source: &[u8]) -> Result<String, Error> {
-    output(source, source.len() + MESSAGE, &|text, out| unsafe {
-        c::minify(text.as_ptr(), text.len(), out.as_mut_ptr(), out.len())
-    })
+    output(source, &|text, out| unsafe { c::minify(text.as_ptr(), text.len(), address(out), out.len()) })
 }
 
 /// The offset of the rest, which begins after the first definition.
 pub fn first_definition(source: &[u8]) -> Result<usize, Error> {
     let call: Call<'_> =
-        &|text, out| unsafe { c::first_definition(text.as_ptr(), text.len(), out.as_mut_ptr(), out.len()) };
-    answer(source, MESSAGE, call).map(|(offset, _)| offset)
+        &|text, out| unsafe { c::first_definition(text.as_ptr(), text.len(), address(out), out.len()) };
+    called(source, MESSAGE_CAPACITY, call).map(|(result, _)| result.offset)
 }
 
 /// Checks that a source is a query document, as [`crate::check_query`].
 pub fn check_query(source: &[u8]) -> Result<(), Error> {
-    let call: Call<'_> = &|text, out| unsafe { c::check_query(text.as_ptr(), text.len(), out.as_mut_ptr(), out.len()) };
-    answer(source, MESSAGE, call).map(drop)
+    let call: Call<'_> = &|text, out| unsafe { c::check_query(text.as_ptr(), text.len(), address(out), out.len()) };
+    called(source, MESSAGE_CAPACITY, call).map(drop)
 }
 
 /// Checks that a source is a schema document, as [`crate::check_schema`].
 pub fn check_schema(source: &[u8]) -> Result<(), Error> {
-    let call: Call<'_> =
-        &|text, out| unsafe { c::check_schema(text.as_ptr(), text.len(), out.as_mut_ptr(), out.len()) };
-    answer(source, MESSAGE, call).map(drop)
+    let call: Call<'_> = &|text, out| unsafe { c::check_schema(text.as_ptr(), text.len(), address(out), out.len()) };
+    called(source, MESSAGE_CAPACITY, call).map(drop)
 }

@@ -1,4 +1,5 @@
-//! The recorded cases of this repository, through the library for C, and those of a folder that GRAPHQL_VECTORS names.
+//! The recorded cases of this repository, through the library for C, and those of a folder that the variable
+//! `GRAPHQL_PROVED_VECTORS` names.
 
 use graphql_proved::{bytes, check_query, check_schema, first_definition, format_query, format_schema, minify};
 use graphql_proved::{Cause, Error, Position, Style};
@@ -96,8 +97,8 @@ fn recorded_cases_agree() {
 
 #[test]
 fn cases_of_a_folder_agree() {
-    let Ok(folder) = env::var("GRAPHQL_VECTORS") else {
-        println!("GRAPHQL_VECTORS names no folder: skipped");
+    let Ok(folder) = env::var("GRAPHQL_PROVED_VECTORS") else {
+        println!("GRAPHQL_PROVED_VECTORS names no folder: skipped");
         return;
     };
     for word in ["query", "schema", "minify"] {

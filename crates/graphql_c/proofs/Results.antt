@@ -1,0 +1,88 @@
+-- What a result says of outputs and failures.
+use Rattle.std.proofs.Common.{◌≡◌, ◌∙◌, ℕ, List, Option, None, Result, Ok, Err, MatchResult, IfOk, IsErrAnd, String, string_bytes, refl, sym, ap, subst}
+use Rattle.std.specs.Global.{Global}
+use Rattle.graphql_core.specs.{Place, CauseText, IsDocumentOf, ParsesDocument, Refusal, Language, IsWrittenOf}
+use Rattle.graphql_core.specs.{HasNone, IsWide}
+use Rattle.graphql_core.specs.declared.format.error.FormatError.{FormatError}
+use Rattle.graphql_core.specs.declared.format.error.FormatError.TheVariants.{TooWide, OutOfMemory}
+use Rattle.graphql_c.specs.declared.call_result.CallResult.{CallResult}
+use Rattle.graphql_c.specs.declared.failure.Failure.{Failure}
+use Rattle.graphql_c.specs.{status_of, layout_status, line_of, column_of, HasNumbers, Explains, refused, too_wide}
+use Rattle.graphql_c.specs.{not_utf8, ran_out, Fails, IsResultOf, Writes, written, too_short, Finds, done, failed}
+use Rattle.graphql_c.specs.{Returns, for_error}
+use Rattle.graphql_core.proofs.{none_parsed}
+
+-- ---- failures
+
+module _ {R S : Refusal → Type 0} {V W : Type 0} {text : List ℕ} (refusal : (e : Refusal) → R e → S e) (width : V → W) where
+  -- a failure that is explained is also explained by weaker reasons
+  explained : {s l c : ℕ} → Explains R V text s l c → Explains S W text s l c
+  explained (refused e h) = refused e (refusal e h)
+  explained (too_wide h) = too_wide (width h)
+  explained (not_utf8 h) = not_utf8 h
+  explained ran_out = ran_out
+
+-- the same for the failure that `?` returns
+pub halts : {T : Type 0} {R : Refusal → Type 0} {text : List ℕ} (r : Result T Failure) (P : T → Type 0) (S : Refusal → Type 0) (W : Type 0) (f : Failure)
+    → ((e : Refusal) → R e → S e) → Explains R ⊥ text f.status f.line f.column → IsErrAnd r (λ y. y ≡ f) → MatchResult r P (Fails S W text)
+halts (Ok v) P S W f refusal h up = absurd up
+halts {text = text} (Err y) P S W f refusal h up = subst (Fails S W text) (sym up) (explained refusal (λ never. absurd never) h)
+
+module _ {R : Refusal → Type 0} {W : Type 0} {text : List ℕ} where
+  -- equal numbers are explained alike
+  pub explains_as : {s t l m c d : ℕ} → (s ≡ t) × (l ≡ m) × (c ≡ d) → Explains R W text t m d → Explains R W text s l c
+  explains_as {t = t} {l = l} {m = m} {c = c} (p, q, r) h =
+      subst (λ x. Explains R W text x l c) (sym p) (subst (λ x. Explains R W text t x c) (sym q) (subst (λ x. Explains R W text t m x) (sym r) h))
+
+  -- an error with its cause and its position
+  pub refused_at : {s l n : ℕ} {c : CauseText} {p : Option Place} (e : Refusal) → R e → c ≡ e.cause → p ≡ e.place
+      → (s ≡ status_of c) × (l ≡ line_of p) × (n ≡ column_of p) → Explains R W text s l n
+  refused_at e h cause place (p, q, r) = explains_as (p ∙ ap status_of cause, q ∙ ap line_of place, r ∙ ap column_of place) (refused e h)
+
+-- an input that parses to no document
+pub no_document : {D V W : Type 0} {l : Language D} {view : V → D} {text bytes : List ℕ} {e : Refusal} {s m n : ℕ} {c : CauseText} {p : Option Place}
+    → ParsesDocument l view text (Err e) → text ≡ bytes → c ≡ e.cause → p ≡ e.place → (s ≡ status_of c) × (m ≡ line_of p) × (n ≡ column_of p)
+    → Explains (HasNone (IsDocumentOf l) l bytes) W bytes s m n
+no_document {l = l} {e = e} parses same cause place numbers =
+    refused_at e (subst (λ t. HasNone (IsDocumentOf l) l t e) same (none_parsed parses)) cause place numbers
+
+-- the formatted document, or the failure to format it
+pub laid_out : {D : Type 0} (l : Language D) (text : List ℕ) (d : D) (lay : D → List ℕ) (IsTooWide : D → Type 0)
+    (made : Result (String Global) FormatError) (r : Result (String Global) Failure) → IsDocumentOf l text d → IfOk made (λ s. string_bytes s ≡ lay d)
+    → (made ≡ Err TooWide → IsTooWide d) → MatchResult made (λ s. r ≡ Ok s) (λ e. IsErrAnd r (HasNumbers (layout_status e) None))
+    → MatchResult r (λ s. IsWrittenOf (IsDocumentOf l) lay text (string_bytes s))
+    (Fails (HasNone (IsDocumentOf l) l text) (IsWide (IsDocumentOf l) IsTooWide text) text)
+laid_out l text d lay IsTooWide (Ok s) r has is wide same = rw same (d, has, is)
+laid_out l text d lay IsTooWide (Err e) (Ok s) has is wide numbers = absurd numbers
+laid_out l text d lay IsTooWide (Err TooWide) (Err f) has is wide numbers = explains_as numbers (too_wide (d, has, wide refl))
+laid_out l text d lay IsTooWide (Err OutOfMemory) (Err f) has is wide numbers = explains_as numbers ran_out
+
+-- ---- outputs
+
+module _ {old new : List ℕ} {r : CallResult} where
+  writes : {Makes : List ℕ → Type 0} {output : List ℕ} → Makes output → Writes (λ t. t ≡ output) old new r → Writes Makes old new r
+  writes {Makes = Makes} h (written t is fits put says) = written t (subst Makes (sym is) h) fits put says
+  writes {Makes = Makes} h (too_short t is short same says) = too_short t (subst Makes (sym is) h) short same says
+
+  finds : {IsAt : ℕ → Type 0} {n : ℕ} → IsAt n → Finds (λ k. k ≡ n) old new r → Finds IsAt old new r
+  finds {IsAt = IsAt} h (n, is, same, says) = (n, subst IsAt (sym is) h, same, says)
+
+-- ---- results of calls
+
+module _ {R : Refusal → Type 0} {W : Type 0} {text old new : List ℕ} where
+  failed_so : {Done : List ℕ → List ℕ → CallResult → Type 0} (f : Failure) (r : CallResult) → Fails R W text f → IsResultOf f old new r
+      → Returns Done R W text old new r
+  failed_so f r why (is, message) = rw is (failed (string_bytes f.message) why refl message)
+
+  module _ {r : CallResult} where
+    -- the result for an output, or for a failure
+    pub returned : {Makes : List ℕ → Type 0} (made : Result (String Global) Failure) → MatchResult made (λ s. Makes (string_bytes s)) (Fails R W text)
+        → MatchResult made (λ s. Writes (λ t. t ≡ string_bytes s) old new r) (λ f. IsResultOf f old new r) → Returns (Writes Makes) R W text old new r
+    returned (Ok s) is result = done (writes is result)
+    returned (Err f) why result = failed_so f r why result
+
+    -- the same for an offset
+    pub located : {IsAt : ℕ → Type 0} (at : Result ℕ Failure) → MatchResult at IsAt (Fails R W text)
+        → MatchResult at (λ n. Finds (λ k. k ≡ n) old new r) (λ f. IsResultOf f old new r) → Returns (Finds IsAt) R W text old new r
+    located (Ok n) is result = done (finds is result)
+    located (Err f) why result = failed_so f r why result

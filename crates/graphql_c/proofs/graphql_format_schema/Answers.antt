@@ -1,5 +1,0 @@
-use Rattle.graphql_c.proofs.{answered}
-use Rattle.graphql_c.proofs.graphql_format_schema.Goals as goal
-
-pub returns : goal.returns
-returns c = answered c.schema_laid_out.result (rw c.style_in-style.ensures at c.schema_laid_out.ensures) c.answer_of.ensures
