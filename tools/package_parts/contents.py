@@ -45,7 +45,7 @@ def pkg_config(version, layout):
     return "\n".join([
         f"prefix=${{pcfiledir}}/{depth}",
         f"libdir=${{prefix}}/{layout.lib.removeprefix(layout.prefix)}",
-        f"includedir=${{prefix}}/include/{names.LIBRARY}",
+        "includedir=${prefix}/include",
         "",
         f"Name: {names.LIBRARY}",
         f"Description: {names.SUMMARY}",
@@ -81,7 +81,7 @@ def library(version, binaries, layout):
     """The library for C, with its header."""
     file, soname = names.shared_object(version)
     return {
-        f"{layout.prefix}include/{names.LIBRARY}/{names.HEADER.name}": file_of(names.HEADER),
+        f"{layout.prefix}include/{names.HEADER.name}": file_of(names.HEADER),
         f"{layout.lib}/lib{names.LIBRARY}.a": File(binaries.archive),
         f"{layout.lib}/{file}": File(binaries.shared),
         f"{layout.lib}/{soname}": Link(file),

@@ -9,19 +9,19 @@ PROJECT = "graphql_parser"
 LIBRARY = "graphql_proved"
 DEBIAN = PROJECT.replace("_", "-")
 SUMMARY = "Formats, minifies and checks GraphQL documents, with code that is proved correct"
-PROGRAMS = ("gql",)
+PROGRAMS = ("gql", "gqlfmt")
 CRATE = TOP / "crates/graphql_c"
 [HEADER] = CRATE.glob("include/*.h")
 PACKAGING = TOP / "packaging"
 
 
 def version_of_header():
-    return re.search(r'(?m)^#define \w+_VERSION "(.*)"$', HEADER.read_text(encoding="utf-8"))[1]
+    return re.search(r'(?m)^#define GRAPHQL_PROVED_VERSION "(.*)"$', HEADER.read_text(encoding="utf-8"))[1]
 
 
 def functions(header):
-    """The functions that a header declares, which are all that the library exports."""
-    return sorted(re.findall(r"(?m)^\w[\w *]*\b(\w+)\((?!\()", header.read_text(encoding="utf-8")))
+    """The functions that a header declares without a body, which are all that the library exports."""
+    return sorted(re.findall(r"(?m)^(?!static\b)\w[\w *]*\b(\w+)\((?!\()", header.read_text(encoding="utf-8")))
 
 
 def shared_object(version):

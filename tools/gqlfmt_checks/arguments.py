@@ -1,0 +1,92 @@
+"""The arguments of gqlfmt, and what it does with standard input and with single files."""
+import re
+
+from common.pages import text_of
+
+from .running import BROKEN, FORMATTED, SHORT, expect, gqlfmt, new, read, test
+
+
+@test
+def standard_input():
+    for words in ((), ("-",), ("--", "-"), ("--stdin-path", "x.gql", "-")):
+        expect(f"{words}", gqlfmt(*words, text=SHORT), (0, FORMATTED, ""))
+    expect("a comment is kept", gqlfmt(text=b"{a # c\n}\n")[:2], (0, b"{\n  a # c\n}\n"))
+    expect("--check", gqlfmt("--check", text=SHORT), (1, b"<stdin>\n", ""))
+    expect("--check, formatted", gqlfmt("--check", text=FORMATTED), (0, b"", ""))
+    expect("--check with a name", gqlfmt("--check", "--stdin-path", "a b", text=SHORT), (1, b"a b\n", ""))
+    status, out, err = gqlfmt(text=BROKEN)
+    expect("an error", (status, out, err), (1, b"", "<stdin>:2:1: Unexpected end of input\n\n^\n"))
+    err = gqlfmt("--stdin-path", "n.graphql", text=BROKEN)[2]
+    expect("an error with a name", err.split(":")[0], "n.graphql")
+    expect("not UTF-8", gqlfmt(text=b"{a \xff}"), (2, b"", "<stdin>: is not UTF-8\n"))
+
+
+@test
+def format_options():
+    expect("--indent", gqlfmt("--indent", "4", text=SHORT)[1], b"{\n    a\n    b\n}\n")
+    expect("--indent=", gqlfmt("--indent=0", text=SHORT)[1], b"{\na\nb\n}\n")
+    long = b"{a(" + b", ".join(b"argument%d: 1" % n for n in range(9)) + b")}\n"
+    lines = [len(gqlfmt("--width", width, text=long)[1].splitlines()) for width in ("40", "200")]
+    expect("--width", lines[0] > lines[1], True)
+    expect("--language query", gqlfmt("--language", "query", text=SHORT)[0], 0)
+    expect("--language schema", gqlfmt("--language", "schema", text=SHORT)[0], 1)
+    expect("--language query for a schema", gqlfmt("--language", "query", text=b"type T {a: Int}\n")[0], 1)
+    expect("a schema by its first token", gqlfmt(text=b"type T {a: Int}\n")[0], 0)
+
+
+@test
+def invalid_arguments():
+    new("a.graphql")
+    wrong = [
+        ["--check", "--write"], ["--diff", "--check"], ["--check", "--check"], ["--check=1"], ["--chek"], ["-x"],
+        ["--indent"], ["--indent", "x"], ["--indent", "-1"], ["--indent", "70000"], ["--indent", "2", "--indent", "2"],
+        ["--width", ""], ["--width", "4294967296"], ["--language", "sdl"], ["--stdin-path"], [b"\xff"],
+        ["--stdin-path", "x", "a.graphql"], ["--write"], ["--write", "-"], ["-", "a.graphql"], ["a.graphql", "-"],
+        ["-", "-"],
+    ]
+    for words in wrong:
+        status, out, err = gqlfmt(*words, text=SHORT)
+        expect(f"{words}", (status, out, bool(err)), (2, b"", True))
+    expect("no file is changed", read("a.graphql"), SHORT)
+    for words in (["--help"], ["-h"], ["--version"], ["-V"]):
+        status, out, err = gqlfmt(*words)
+        expect(f"{words}", (status, bool(out), err), (0, True, ""))
+    expect("the version", gqlfmt("--version")[1], b"gqlfmt 0.1.0\n")
+    shown = gqlfmt("--help")[1].decode()
+    options = ["--check", "--write", "--diff", "--indent <N>", "--width <N>", "--language <LANGUAGE>"]
+    for option in [*options, "--stdin-path <NAME>", "[PATH]...", "--help", "--version", "Status:"]:
+        expect(f"help has {option}", option in shown, True)
+
+
+@test
+def manual_page_and_completions():
+    """Each has the options of the help, and no others."""
+    shown = gqlfmt("--help")[1].decode()
+    options = set(re.findall(r"(?m)^ +(?:-\w, )?--([\w-]+)", shown))
+    expect("the number of options", len(options) >= 9)
+    found = {
+        "gqlfmt.1": re.findall(r"(?m)^\.B\w* .*\\-\\-(\w\S*)", text_of("packaging/gqlfmt.1")),
+        "gqlfmt.bash": re.search(r"options='(.*)'", text_of("packaging/gqlfmt.bash"))[1].replace("--", "").split(),
+        "gqlfmt.fish": re.findall(r" -l (\S+)", text_of("packaging/gqlfmt.fish")),
+        "_gqlfmt": re.findall(r"--([\w-]+)\[", text_of("packaging/_gqlfmt")),
+    }
+    for name, listed in found.items():
+        expect(name, {option.replace("\\", "") for option in listed}, options)
+
+
+@test
+def print_and_check():
+    new("a.graphql")
+    new("b.graphql", FORMATTED)
+    new("c.graphql", BROKEN)
+    expect("printed", gqlfmt("a.graphql", "b.graphql"), (0, FORMATTED + FORMATTED, ""))
+    expect("one that is formatted", gqlfmt("--check", "b.graphql"), (0, b"", ""))
+    expect("one that is not", gqlfmt("--check", "a.graphql"), (1, b"a.graphql\n", ""))
+    status, out, err = gqlfmt("--check", "c.graphql", "a.graphql", "b.graphql")
+    expect("three", (status, out), (1, b"a.graphql\n"))
+    expect("their summary", err.splitlines()[-1], "1 file would change, 1 unchanged, 1 rejected")
+    status, out, err = gqlfmt("--check", "none.graphql", "a.graphql")
+    expect("one is missing", (status, out), (2, b"a.graphql\n"))
+    expect("its message", err.splitlines()[0], "none.graphql: cannot be read: No such file or directory (os error 2)")
+    expect("its summary", err.splitlines()[1], "1 file would change, 0 unchanged, 1 failed")
+    expect("nothing is written", [read("a.graphql"), read("b.graphql")], [SHORT, FORMATTED])

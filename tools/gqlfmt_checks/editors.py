@@ -1,0 +1,126 @@
+"""What docs/EDITORS.md shows."""
+import json
+import os
+import re
+import subprocess
+
+from common.pages import blocks, text_of
+
+from .running import BROKEN, FORMATTED, ODD_NAMES, SHORT, expect, needs_vim, new, on_the_path, other, read, test
+
+NAMES = [f"d/{name}.graphql" for name in ODD_NAMES]
+
+
+def block(kind, number=0):
+    """A block of the page."""
+    return blocks(kind, text_of("docs/EDITORS.md"))[number]
+
+
+class Repository:
+    """A new repository, which is the current folder from then on."""
+
+    def __init__(self):
+        self.env = on_the_path()
+        os.mkdir("repository")
+        os.chdir("repository")
+        self.git("init", "-q")
+
+    def git(self, *words):
+        return other("git", *words, env=self.env)
+
+    def stage(self, texts):
+        """Writes files, and stages them."""
+        for name, text in texts.items():
+            new(name, text)
+        expect("git add", self.git("add", "-A").returncode, 0)
+
+    def commit(self):
+        """The status of a commit, and what the hook says."""
+        run = self.git("commit", "-qm", "a")
+        return run.returncode, (run.stdout + run.stderr).decode()
+
+
+@test
+def commands_of_editors():
+    env = on_the_path()
+    arguments = re.search(r"args = \{(.*?)\}", block("lua"))[1].replace("$FILENAME", "a b")
+    commands = [
+        json.loads(block("json"))["customLocalFormatters.formatters"][0]["command"].split(),
+        ["gqlfmt", *re.findall(r'"([^"]*)"', arguments)],
+        re.search(r"systemlist\('(.*?)'", block("vim"))[1].split(),
+        re.findall(r'"([^"]*)"', re.search(r"formatter = (.*)", block("toml"))[1]),
+        [*re.search(r":program \"(.*?)\" :args '\(\"(.*?)\"\)", block("elisp")).groups()],
+    ]
+    for command in commands:
+        for text, wanted in ((SHORT, (0, FORMATTED)), (BROKEN, (1, b""))):
+            run = other(*command, input=text, env=env)
+            expect(f"{command}", (run.returncode, run.stdout), wanted)
+
+
+@test
+@needs_vim
+def vim():
+    env = on_the_path()
+    new("rc.vim", block("vim").encode())
+    lines = b"{" + b"\n" * 9 + b"a b}"
+    files = {"a b.graphql": (SHORT, FORMATTED), "c.gql": (lines, FORMATTED), "d.graphqls": (BROKEN, BROKEN)}
+    for name, (text, wanted) in files.items():
+        new(name, text)
+        words = ["-u", "NONE", "-N", "-es", "-S", "rc.vim", name, "-c", "normal G", "-c", "write", "-c", "qa!"]
+        other("vim", *words, env=env, stdin=subprocess.DEVNULL)
+        expect(f"vim writes {name}", read(name), wanted)
+
+
+@test
+def hook():
+    repository = Repository()
+    new(".git/hooks/pre-commit", block("bash").encode(), mode=0o755)
+    repository.stage(dict.fromkeys(NAMES, SHORT))
+    status, said = repository.commit()
+    expect("files that are not formatted", (status, said.count(".graphql")), (1, len(NAMES)))
+    repository.stage(dict.fromkeys(NAMES, FORMATTED))
+    for name in NAMES:
+        new(name, BROKEN)
+    expect("the hook reads what is staged", repository.commit(), (0, ""))
+    repository.git("checkout", "-q", ".")
+    os.symlink("nowhere", "link.graphql")
+    repository.git("rm", "-q", NAMES[0])
+    repository.stage({"other": BROKEN, "d/x.gql": FORMATTED})
+    expect("a link, a removal and another kind of file", repository.commit(), (0, ""))
+    os.remove("link.graphql")
+    repository.stage({"link.graphql": SHORT})
+    expect("a file in place of a link", repository.commit(), (1, "link.graphql\n"))
+    repository.stage({"link.graphql": BROKEN})
+    status, said = repository.commit()
+    expect("a file that is rejected", (status, said.splitlines()[0]), (1, "link.graphql:2:1: Unexpected end of input"))
+    alone = other(".git/hooks/pre-commit", env={**repository.env, "GIT_DIR": "/nowhere"})
+    expect("git fails", alone.returncode != 0)
+
+
+@test
+def checks_before_a_merge():
+    """The entry of pre-commit, with the names that it adds, and the two commands for CI."""
+    repository = Repository()
+    of_workflow = re.search(r"run: (.*)", block("yaml", 1))[1]
+    checks = [[*re.search(r"entry: (.*)", block("yaml"))[1].split(), *NAMES]]
+    checks += [["bash", "-c", command] for command in (of_workflow, block("sh"))]
+    for text, is_formatted in ((SHORT, False), (FORMATTED, True)):
+        repository.stage(dict.fromkeys(NAMES, text))
+        for check in checks:
+            expect(f"{check[:3]}, {text}", other(*check, env=repository.env).returncode == 0, is_formatted)
+    pattern = re.search(r"files: (.*)", block("yaml"))[1]
+    files = ["a.graphql", "d/a.graphqls", "a.gql", "a.gql.txt", "graphql", "agql"]
+    expect("the files of pre-commit", [bool(re.search(pattern, name)) for name in files], [True] * 3 + [False] * 3)
+
+
+@test
+def files_that_are_left_out():
+    repository = Repository()
+    repository.stage({"a.graphql": FORMATTED})
+    os.symlink("nowhere", "link.graphql")
+    repository.stage({})
+    command = block("sh")
+    expect("a link that leads nowhere", other("bash", "-c", command, env=repository.env).returncode != 0)
+    without = re.search(r"put `('.*?')` after the patterns", text_of("docs/EDITORS.md"))[1]
+    command = command.replace("'*.gql'", f"'*.gql' {without}")
+    expect("without the link", other("bash", "-c", command, env=repository.env).returncode, 0)

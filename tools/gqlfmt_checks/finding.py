@@ -1,0 +1,91 @@
+"""Which files gqlfmt formats, and which it leaves alone or rejects."""
+import os
+import pathlib
+import threading
+
+from .running import FORMATTED, ODD_NAMES, SHORT, expect, expect_failure, gqlfmt, here, new, read, test
+
+
+@test
+def odd_names():
+    names = [f"{name}.graphql" for name in ODD_NAMES]
+    for name in names:
+        new(name)
+    status, out, err = gqlfmt("--check", "--", *names)
+    expect("--check", (status, out.count(b"\n")), (1, len(names)))
+    expect("a control character is escaped", b'"new\\nline.graphql"\n' in out, True)
+    expect("a blank is not", b"\na b.graphql\n" in b"\n" + out, True)
+    expect("--write", gqlfmt("--write", "--", *names)[0], 0)
+    expect("all are formatted", list(map(read, names)), [FORMATTED] * len(names))
+    expect("no other files", here(), sorted(names))
+    new("-")
+    expect("a file whose name is a dash", gqlfmt("./-"), (0, FORMATTED, ""))
+
+
+@test
+def names_that_are_not_utf8():
+    new(b"d/\xff.graphql".decode("utf-8", "surrogateescape"))
+    new("d/a.graphql")
+    run = gqlfmt("--write", "d")
+    expect_failure("in a folder", run, "d: cannot be read: ")
+    expect("its summary", run[2].splitlines()[-1], "1 file rewritten, 0 unchanged, 1 failed")
+    expect("the other file", read("d/a.graphql"), FORMATTED)
+
+
+@test
+def folders():
+    wanted = ["t/a.graphql", "t/b.gql", "t/c.graphqls", "t/deep/er/d.graphql", "t/x.graphql/e.graphql"]
+    others = ["t/.hidden.graphql", "t/.git/f.graphql", "t/deep/.x/j.gql", "outside/k.graphql"]
+    others += ["t/g.txt", "t/graphql", "t/h.GRAPHQL", "t/i.graphql.bak"]
+    for name in wanted + others:
+        new(name)
+    os.symlink("../outside", "t/folder_link")
+    os.symlink("../outside/k.graphql", "t/link.graphql")
+    os.symlink("none", "t/dangling.graphql")
+    os.symlink(".", "t/loop")
+    os.mkfifo("t/fifo.graphql")
+    status, out, err = gqlfmt("--check", "t")
+    expect("--check", (status, out.decode().splitlines()), (1, sorted(wanted)))
+    expect("its summary", err, "5 files would change, 0 unchanged\n")
+    expect("--check ./t/", gqlfmt("--check", "./t/")[1].decode().splitlines(), [f"./{name}" for name in sorted(wanted)])
+    expect("--write", gqlfmt("--write", "t"), (0, b"", "5 files rewritten, 0 unchanged\n"))
+    expect("these are formatted", list(map(read, wanted)), [FORMATTED] * len(wanted))
+    expect("these are not", list(map(read, others)), [SHORT] * len(others))
+    expect("a hidden folder that is named", gqlfmt("--check", "t/.git")[1], b"t/.git/f.graphql\n")
+    expect("a hidden file that is named", gqlfmt("--check", "t/.hidden.graphql")[1], b"t/.hidden.graphql\n")
+    expect("a link that is named", gqlfmt("--check", "t/folder_link")[1], b"t/folder_link/k.graphql\n")
+    os.mkdir("empty")
+    message = "empty: has no files that end in .graphql, .graphqls or .gql\n"
+    expect("an empty folder", gqlfmt("--check", "empty"), (0, b"", message))
+    os.chdir("t")
+    expect("the current folder", gqlfmt("--check", ".")[0], 0)
+    os.chdir("..")
+
+
+@test
+def deep_folders():
+    depth = 300
+    start = os.getcwd()
+    for _ in range(depth):
+        os.mkdir("d")
+        os.chdir("d")
+    new("a.graphql")
+    os.chdir(start)
+    expect("--write", gqlfmt("--write", "d"), (0, b"", ""))
+    expect("the file", read("d/" * depth + "a.graphql"), FORMATTED)
+
+
+@test
+def other_kinds_of_files():
+    os.mkfifo("fifo")
+    rejected = (2, b"", "fifo: cannot be rewritten: not a regular file\n")
+    for task, wanted in (("--check", (1, b"fifo\n", "")), ("--write", rejected)):
+        writer = threading.Thread(target=pathlib.Path("fifo").write_bytes, args=[SHORT], daemon=True)
+        writer.start()
+        expect(f"{task} of a pipe", gqlfmt(task, "fifo"), wanted)
+        writer.join(timeout=60)
+    new("a.graphql", b"{a \xff}\n")
+    for task in ("--check", "--write", "--diff"):
+        expect(f"{task}, not UTF-8", gqlfmt(task, "a.graphql"), (2, b"", "a.graphql: is not UTF-8\n"))
+    new("empty.graphql", b"")
+    expect("an empty file", gqlfmt("--write", "empty.graphql")[0], 1)

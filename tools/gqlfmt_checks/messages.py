@@ -1,0 +1,98 @@
+"""The messages of gqlfmt, which docs/ERRORS.md lists."""
+import re
+
+from common.pages import TOP, rows, text_of
+
+from .running import BROKEN, FORMATTED, SHORT, expect, gqlfmt, new, on_the_path, other, test
+
+SOURCES = "crates/gqlfmt/src"
+# What the page writes for what is different in each run.
+PARTS = {"PATH": ".+", "LINE": "[1-9][0-9]*", "COLUMN": "[1-9][0-9]*", "CAUSE": ".+", "REASON": ".+"}
+# Ways to the messages, except those of other tests, of folders that are too deep, and of allocations that fail.
+WAYS = {
+    "PATH:LINE:COLUMN: CAUSE": ["echo '{' | gqlfmt", "gqlfmt --language schema a.graphql"],
+    "PATH: is not UTF-8": ["printf '\\xff' | gqlfmt"],
+    "PATH: cannot be read: REASON": ["gqlfmt none", "gqlfmt < ."],
+    "PATH: has no files that end in .graphql, .graphqls or .gql": ["mkdir empty; gqlfmt --check empty"],
+    "PATH: cannot be rewritten: not a regular file": ["cat a.graphql | gqlfmt --write /dev/stdin"],
+    "PATH: cannot be rewritten: REASON": ["trap '' XFSZ; ulimit -f 0; gqlfmt --write a.graphql"],
+    "gqlfmt: standard output cannot be written: REASON": ["gqlfmt a.graphql > /dev/full"],
+    "gqlfmt: the arguments cannot be read: REASON": ["gqlfmt $'\\xff'"],
+    "error: standard input cannot be rewritten: '--write' needs a PATH": ["gqlfmt --write", "gqlfmt --write -"],
+    "error: standard input cannot be combined with other inputs: '-' must be the only PATH": ["gqlfmt - a.graphql"],
+    "error: '--stdin-path' can only be used with standard input": ["gqlfmt --stdin-path x a.graphql"],
+}
+
+
+def section():
+    """What the page says of gqlfmt."""
+    return text_of("docs/ERRORS.md").partition("## When `gqlfmt` fails\n")[2]
+
+
+def messages_of_the_page():
+    """The messages of the table, with their statuses."""
+    return {message.strip("`"): int(status) for message, _, status in rows(section())[1:]}
+
+
+def messages_of_the_sources():
+    """The messages in the sources, with the words of the page for what is different in each run."""
+    found = [f"PATH: {text}" for text in re.findall(r'#\[error\("(.*)"\)\]', text_of(f"{SOURCES}/error.rt"))]
+    for file in sorted((TOP / SOURCES).rglob("*.rt")):
+        found += re.findall(r'eprintln!\(rt; "(.*)"\)', file.read_text(encoding="utf-8"))
+    found += re.findall(r'format!\(in alloc; "(\{name\}:.*)\\n', text_of(f"{SOURCES}/message.rt"))
+    [contradictions] = re.findall(r"(?ms)^fn contradiction\(.*?^\}", text_of(f"{SOURCES}/arguments.rt"))
+    found += [f"error: {text}" for text in re.findall(r'[Ss]ome\(\s*"([^"]*)"', contradictions)]
+    names = {"name": "PATH", "path": "PATH", "line": "LINE", "column": "COLUMN", "cause": "CAUSE", "error": "REASON"}
+    texts = {re.sub(r"\{(\w+)\}", lambda part: names.get(part[1], "REASON"), text) for text in found}
+    # Any error of an input, and the line of counts.
+    return texts - {"PATH: REASON", "REASON"}
+
+
+@test
+def page_of_errors():
+    env = on_the_path()
+    new("a.graphql")
+    new("b.graphql", FORMATTED)
+    new("c.graphql", BROKEN)
+    wanted = messages_of_the_page()
+    expect("the messages of the page", sorted(wanted), sorted(messages_of_the_sources()))
+    for message, ways in WAYS.items():
+        pattern = re.sub("|".join(PARTS), lambda part: PARTS[part[0]], re.escape(message))
+        for way in ways:
+            run = other("bash", "-c", way, env=env)
+            first = run.stderr.decode(errors="replace").partition("\n")[0]
+            found = (run.returncode, run.stdout, bool(re.fullmatch(pattern, first)))
+            expect(f"{way}: {first}", found, (wanted.get(message), b"", True))
+    counts = re.search(r"one more line: `(.*?)`, or `(.*?)`", section())
+    expect("counts", gqlfmt("--check", "a.graphql", "b.graphql", "c.graphql")[2].splitlines()[-1], counts[1])
+    new("b.graphql", SHORT)
+    expect("counts", gqlfmt("--write", "a.graphql", "b.graphql", "none")[2].splitlines()[-1], counts[2])
+
+
+@test
+def messages():
+    cases = [
+        (b"{a ;}\n", "1:4", "{a ;}", "   ^"),
+        (b"{\n\ta\t;\n}\n", "2:4", "\ta\t;", "\t \t^"),
+        ("{a(b: \"中文\") ;}\n".encode(), "1:13", '{a(b: "中文") ;}', " " * 14 + "^"),
+        ("{a(b: \"e\u0301\") ;}\n".encode(), "1:13", '{a(b: "e\u0301") ;}', " " * 11 + "^"),
+        ("{a(b: \"\U0001f600\") ;}\n".encode(), "1:12", '{a(b: "\U0001f600") ;}', " " * 12 + "^"),
+        (b"\xef\xbb\xbf{;}\n", "1:3", "\ufeff{;}", " ^"),
+        (b"{a\r\n ;}\r\n", "2:2", " ;}", " ^"),
+        (b"{a\r ;}\r", "2:2", " ;}", " ^"),
+        (b"# c\r{;}\n", "2:2", "{;}", " ^"),
+        (b"{a \x01}\n", "1:4", "{a \ufffd}", "   ^"),
+        (b"{a(b: 99999999999999999999)}", "1:7", "{a(b: 99999999999999999999)}", "      ^"),
+        (b'{a(b: """x\n\ty""" ;)}', "2:7", '\ty""" ;)}', "\t     ^"),
+    ]
+    cut = "..." + "a" * 59 + " ;" + "b" * 59 + "..."
+    cases.append((b"{" + b"a" * 200 + b" ;" + b"b" * 200 + b"}", "1:203", cut, " " * 63 + "^"))
+    for text, place, line, caret in cases:
+        new("m.graphql", text)
+        status, _, err = gqlfmt("--check", "m.graphql")
+        first, *rest = err.split("\n")
+        expect(f"{text[:60]}", (status, first.split(" ")[0], rest), (1, f"m.graphql:{place}:", [line, caret, ""]))
+    err = gqlfmt(text=b'{a """' + b"long\n" * 1000 + b'"""}')[2]
+    expect("a long token is one short line", (err.count("\n"), len(err) < 500), (3, True))
+    status, _, err = gqlfmt("--stdin-path", "a\nb", text=BROKEN)
+    expect("a name with a line end", err.split(":")[0], '"a\\nb"')
