@@ -1,0 +1,3 @@
+pub mod Pieces
+unfoldable pub use Pieces.*
+pub use Pieces.{Appends}
