@@ -37,6 +37,16 @@ struct wanted {
 #define QUERY_AT_START "query parse error: Parse error at 1:1\n"
 #define SCHEMA_AT_START "schema parse error: Parse error at 1:1\n"
 
+#define QUERY_IN_JSON \
+    "{\"kind\":\"Document\",\"definitions\":[{\"kind\":\"OperationDefinition\",\"loc\":{\"line\":1,\"column\":1}," \
+    "\"operation\":\"query\",\"variableDefinitions\":[],\"directives\":[],\"selectionSet\":{\"kind\":\"SelectionSet\"," \
+    "\"loc\":{\"line\":1,\"column\":1,\"endLine\":1,\"endColumn\":3},\"selections\":[{\"kind\":\"Field\"," \
+    "\"loc\":{\"line\":1,\"column\":2},\"name\":{\"kind\":\"Name\",\"value\":\"a\"},\"arguments\":[]," \
+    "\"directives\":[]}]}}]}"
+#define SCHEMA_IN_JSON \
+    "{\"kind\":\"Document\",\"definitions\":[{\"kind\":\"ScalarTypeDefinition\",\"loc\":{\"line\":1,\"column\":1}," \
+    "\"name\":{\"kind\":\"Name\",\"value\":\"A\"},\"directives\":[]}]}"
+
 static const struct wanted all[] = {
     {query_in_lines, "{a(b:1){c}}", GRAPHQL_PROVED_OK, 0, 0, 0, "{\n   a(\n      b: 1\n   ) {\n      c\n   }\n}\n"},
     {schema, "scalar A,scalar B", GRAPHQL_PROVED_OK, 0, 0, 0, "scalar A\n\nscalar B\n"},
@@ -45,6 +55,8 @@ static const struct wanted all[] = {
     {graphql_proved_first_definition, "{ a } # b\n?", GRAPHQL_PROVED_OK, 0, 0, 10, ""},
     {graphql_proved_check_query, "{ a }", GRAPHQL_PROVED_OK, 0, 0, 0, ""},
     {graphql_proved_check_schema, "scalar A", GRAPHQL_PROVED_OK, 0, 0, 0, ""},
+    {graphql_proved_query_to_json, "{a}", GRAPHQL_PROVED_OK, 0, 0, 0, QUERY_IN_JSON},
+    {graphql_proved_schema_to_json, "scalar A", GRAPHQL_PROVED_OK, 0, 0, 0, SCHEMA_IN_JSON},
     {query_in_lines, "{\na(b: 1e+)}", GRAPHQL_PROVED_MALFORMED_FLOAT, 2, 6, 0, "query parse error: Parse error at 2:6"},
     {query_in_lines, "", GRAPHQL_PROVED_UNEXPECTED_END, 1, 1, 0, QUERY_AT_START},
     {query_too_wide, "{ a { b } }", GRAPHQL_PROVED_TOO_WIDE, 0, 0, 0, "format error: indentation too wide"},
@@ -59,6 +71,8 @@ static const struct wanted all[] = {
     {graphql_proved_check_schema, "", GRAPHQL_PROVED_UNEXPECTED_END, 1, 1, 0, SCHEMA_AT_START},
     {graphql_proved_check_schema, "schema { what: A }", GRAPHQL_PROVED_UNKNOWN_OPERATION, 1, 1, 0, SCHEMA_AT_START},
     {graphql_proved_check_schema, "\xff", GRAPHQL_PROVED_NOT_UTF8, 0, 0, 0, "text is not UTF-8"},
+    {graphql_proved_query_to_json, "", GRAPHQL_PROVED_UNEXPECTED_END, 1, 1, 0, QUERY_AT_START},
+    {graphql_proved_schema_to_json, "", GRAPHQL_PROVED_UNEXPECTED_END, 1, 1, 0, SCHEMA_AT_START},
 };
 
 static uint8_t *block_of(size_t length) {

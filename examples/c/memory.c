@@ -51,6 +51,7 @@ struct called {
 #define OF_QUERY "query parse error: out of memory"
 #define OF_SCHEMA "schema parse error: out of memory"
 #define OF_FORMAT "format error: out of memory"
+#define OF_JSON "out of memory"
 #define OF_MINIFY "query minify error: out of memory"
 
 static const struct called all[] = {
@@ -62,6 +63,8 @@ static const struct called all[] = {
     {graphql_proved_minify, "{ ; }", GRAPHQL_PROVED_BAD_TOKEN, 1, 3, {"out of memory", OF_MINIFY}},
     {graphql_proved_first_definition, "{ a } ?", GRAPHQL_PROVED_OK, 0, 0, {OF_QUERY, OF_QUERY}},
     {graphql_proved_check_query, "{ a }", GRAPHQL_PROVED_OK, 0, 0, {OF_QUERY, OF_QUERY}},
+    {graphql_proved_query_to_json, "{a}", GRAPHQL_PROVED_OK, 0, 0, {OF_QUERY, OF_JSON}},
+    {graphql_proved_schema_to_json, "scalar A", GRAPHQL_PROVED_OK, 0, 0, {OF_SCHEMA, OF_JSON}},
     {graphql_proved_check_schema, "extend type A", GRAPHQL_PROVED_EMPTY_EXTENSION, 1, 8, {OF_SCHEMA, OF_SCHEMA}},
 };
 

@@ -1,18 +1,25 @@
 """Tests of the package. `python3 -m unittest` runs them, and so does pytest."""
 import copy
 import doctest
+import json
 import pathlib
 import pickle
 import sys
 import threading
 import unittest
 
+try:
+    import graphql
+except ImportError:
+    graphql = None
+
 import graphql_proved
 from graphql_proved import DocumentError, Status
 
 FORMATS = (graphql_proved.format_query, graphql_proved.format_schema)
 CHECKS = (graphql_proved.check_query, graphql_proved.check_schema)
-CALLS = (*FORMATS, *CHECKS, graphql_proved.minify, graphql_proved.first_definition)
+JSON = (graphql_proved.query_to_json, graphql_proved.schema_to_json)
+CALLS = (*FORMATS, *CHECKS, *JSON, graphql_proved.minify, graphql_proved.first_definition)
 
 
 class Outputs(unittest.TestCase):
@@ -59,6 +66,70 @@ class Outputs(unittest.TestCase):
         self.assertEqual((len(found), all(found)), (1600, True))
 
 
+QUERY = '''query Q($v: [Int!]! = [1], $w: T) @d(a: {b: $v, c: "é"}) {
+  ...F
+  x: f(e: RED, n: null, t: true, s: 1.5) { ... on T @skip(if: $w) { y } }
+}
+fragment F on T { z }
+'''
+SCHEMA = '''"d" schema { query: Q }
+interface I { a(b: Int = 1 @x): [ID!] }
+type Q implements I & J @y { a: A }
+union U = A | B
+enum E { "v" X Y }
+input N { a: Int = 2 }
+directive @x(a: Int) repeatable on FIELD | ENUM
+extend scalar S @z
+'''
+
+
+def plain(name):
+    """A name as graphql-core and graphql-js both have it: `kind_of` and `kindOf` are the same."""
+    return name.replace("_", "").lower()
+
+
+def nodes_of_json(value):
+    """A node as its kind and its members that are nodes, or a list of nodes."""
+    if isinstance(value, list):
+        return [nodes_of_json(it) for it in value]
+    members = {name: it for name, it in value.items() if name != "loc" and isinstance(it, (dict, list)) and it}
+    return plain(value["kind"]), {plain(name): nodes_of_json(it) for name, it in members.items()}
+
+
+def nodes_of_core(value):
+    """The same for a node of graphql-core."""
+    if isinstance(value, (list, tuple)):
+        return [nodes_of_core(it) for it in value]
+    members = {name: getattr(value, name) for name in value.keys}
+    members = {name: it for name, it in members.items() if isinstance(it, (graphql.Node, list, tuple)) and it}
+    return plain(value.kind), {plain(name): nodes_of_core(it) for name, it in members.items()}
+
+
+class Json(unittest.TestCase):
+    def test_values(self):
+        document = json.loads(graphql_proved.query_to_json('{ a(b: "\\"é\\n") }'))
+        [operation] = document["definitions"]
+        self.assertEqual((operation["kind"], operation["operation"]), ("OperationDefinition", "query"))
+        [field] = operation["selectionSet"]["selections"]
+        self.assertEqual((field["name"]["value"], field["loc"]), ("a", {"line": 1, "column": 3}))
+        self.assertEqual(field["arguments"][0]["value"], {"kind": "StringValue", "value": '"é\n'})
+
+    def test_output_has_the_type_of_its_source(self):
+        for call, source in zip(JSON, ('{ a(b: "é") }', '"é" scalar A')):
+            text = call(source)
+            self.assertIsInstance(text, str)
+            self.assertEqual(call(source.encode()), text.encode())
+
+    def test_output_longer_than_the_first_buffer(self):
+        document = json.loads(graphql_proved.query_to_json("{a}" * 1000))
+        self.assertEqual(len(document["definitions"]), 1000)
+
+    @unittest.skipIf(graphql is None, "Python has no graphql-core")
+    def test_nodes_are_those_of_graphql_core(self):
+        for call, source in zip(JSON, (QUERY, SCHEMA)):
+            self.assertEqual(nodes_of_json(json.loads(call(source))), nodes_of_core(graphql.parse(source)))
+
+
 class Errors(unittest.TestCase):
     def error(self, call, *sources, **options):
         with self.assertRaises(DocumentError) as caught:
@@ -72,6 +143,8 @@ class Errors(unittest.TestCase):
             (graphql_proved.minify, "{ a ; }", Status.BAD_TOKEN, 1, 5),
             (graphql_proved.check_schema, "\nextend type A", Status.EMPTY_EXTENSION, 2, 8),
             (graphql_proved.first_definition, "where", Status.UNEXPECTED_TOKEN, 1, 1),
+            (graphql_proved.query_to_json, "{ a ; }", Status.BAD_TOKEN, 1, 5),
+            (graphql_proved.schema_to_json, "\nextend type A", Status.EMPTY_EXTENSION, 2, 8),
             (graphql_proved.format_query, b"{ \xff }", Status.NOT_UTF8, None, None),
             (graphql_proved.format_query, "{ a # \ud800\n}", Status.NOT_UTF8, None, None),
         ]:

@@ -1,5 +1,6 @@
 /*
- * graphql_proved: formats, minifies and checks GraphQL documents, by code that is proved correct.
+ * graphql_proved: formats, minifies and checks GraphQL documents, and writes them as JSON, by code that is proved
+ * correct.
  *
  * Each call reads the `length` bytes at `text`, and writes at most the `capacity` bytes at `out`. The bytes at `out`
  * need not be initialised: the library is linked as machine code, where each byte has some value, and the proofs hold
@@ -16,6 +17,7 @@
  *  - 64 KB of stack are enough.
  *  - Its time and memory grow about in proportion to the input and the output.
  *  - Brackets nest up to 50 deep, so an output can be about fifty times as long as its input with an `indent` of 2.
+ *  - JSON can be about 120 times as long as its input.
  *  - `indent` has no limit: `{a}` takes 4 GB with an `indent` of UINT32_MAX. A program that lets others choose `indent`
  *    must limit it.
  */
@@ -124,6 +126,11 @@ static inline size_t graphql_proved_minify_capacity(size_t length) {
     return 2 * length + GRAPHQL_PROVED_MESSAGE_CAPACITY;
 }
 
+/* Enough for most documents as JSON, and for most messages. */
+static inline size_t graphql_proved_json_capacity(size_t length) {
+    return 16 * length + 4 * GRAPHQL_PROVED_MESSAGE_CAPACITY;
+}
+
 /* ---- calls ---- */
 
 /* What the library exports. Here no pointer is null, also if its length is 0. C and C++ call the functions below. */
@@ -137,6 +144,10 @@ graphql_proved_result graphql_proved_first_definition_nonnull(const uint8_t *tex
 graphql_proved_result graphql_proved_check_query_nonnull(const uint8_t *text, size_t length, uint8_t *out,
     size_t capacity);
 graphql_proved_result graphql_proved_check_schema_nonnull(const uint8_t *text, size_t length, uint8_t *out,
+    size_t capacity);
+graphql_proved_result graphql_proved_query_to_json_nonnull(const uint8_t *text, size_t length, uint8_t *out,
+    size_t capacity);
+graphql_proved_result graphql_proved_schema_to_json_nonnull(const uint8_t *text, size_t length, uint8_t *out,
     size_t capacity);
 
 /* Formats a query document, with `indent` spaces for each level. `multiline`, which is 0 or 1, writes each argument,
@@ -189,6 +200,22 @@ static inline graphql_proved_result graphql_proved_check_schema(const uint8_t *t
     size_t capacity) {
     uint8_t none = 0;
     return graphql_proved_check_schema_nonnull(length > 0 ? text : &none, length, capacity > 0 ? out : &none, capacity);
+}
+
+/* Writes a query document as JSON, in the form of the AST of graphql-js. */
+static inline graphql_proved_result graphql_proved_query_to_json(const uint8_t *text, size_t length, uint8_t *out,
+    size_t capacity) {
+    uint8_t none = 0;
+    return graphql_proved_query_to_json_nonnull(length > 0 ? text : &none, length, capacity > 0 ? out : &none,
+        capacity);
+}
+
+/* Writes a schema document as JSON, in the same way. */
+static inline graphql_proved_result graphql_proved_schema_to_json(const uint8_t *text, size_t length, uint8_t *out,
+    size_t capacity) {
+    uint8_t none = 0;
+    return graphql_proved_schema_to_json_nonnull(length > 0 ? text : &none, length, capacity > 0 ? out : &none,
+        capacity);
 }
 
 #ifdef __cplusplus

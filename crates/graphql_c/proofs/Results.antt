@@ -2,7 +2,7 @@
 use Rattle.std.proofs.Common.{◌≡◌, ◌∙◌, ℕ, List, Option, None, Result, Ok, Err, MatchResult, IfOk, IsErrAnd, String, string_bytes, refl, sym, ap, subst}
 use Rattle.std.specs.Global.{Global}
 use Rattle.graphql_core.specs.{Place, CauseText, IsDocumentOf, ParsesDocument, Refusal, Language, IsWrittenOf}
-use Rattle.graphql_core.specs.{HasNone, IsWide}
+use Rattle.graphql_core.specs.{HasNone, IsWide, out_of_memory}
 use Rattle.graphql_core.specs.declared.format.error.FormatError.{FormatError}
 use Rattle.graphql_core.specs.declared.format.error.FormatError.TheVariants.{TooWide, OutOfMemory}
 use Rattle.graphql_c.specs.declared.call_result.CallResult.{CallResult}
@@ -56,6 +56,15 @@ laid_out l text d lay IsTooWide (Ok s) r has is wide same = rw same (d, has, is)
 laid_out l text d lay IsTooWide (Err e) (Ok s) has is wide numbers = absurd numbers
 laid_out l text d lay IsTooWide (Err TooWide) (Err f) has is wide numbers = explains_as numbers (too_wide (d, has, wide refl))
 laid_out l text d lay IsTooWide (Err OutOfMemory) (Err f) has is wide numbers = explains_as numbers ran_out
+
+-- the JSON of the document, or the failure to write it
+pub written_as_json : {D A : Type 0} (l : Language D) (text : List ℕ) (d : D) (write : D → List ℕ) (made : Result (String Global) A)
+    (r : Result (String Global) Failure) → IsDocumentOf l text d → IfOk made (λ s. string_bytes s ≡ write d)
+    → MatchResult made (λ s. r ≡ Ok s) (λ e. IsErrAnd r (HasNumbers (status_of out_of_memory) None))
+    → MatchResult r (λ s. IsWrittenOf (IsDocumentOf l) write text (string_bytes s)) (Fails (HasNone (IsDocumentOf l) l text) ⊥ text)
+written_as_json l text d write (Ok s) r has is same = rw same (d, has, is)
+written_as_json l text d write (Err e) (Ok s) has is numbers = absurd numbers
+written_as_json l text d write (Err e) (Err f) has is numbers = explains_as numbers ran_out
 
 -- ---- outputs
 

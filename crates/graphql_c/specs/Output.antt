@@ -5,6 +5,9 @@ use Rattle.graphql_query.specs.{queries, DefinitionTree, one_definition, IsFirst
 use Rattle.graphql_query.specs.Layout as query
 use Rattle.graphql_schema.specs.{schemas}
 use Rattle.graphql_schema.specs.Layout as schema
+use Rattle.graphql_json.specs.Json.{json_text}
+use Rattle.graphql_json.specs.Query as query_json
+use Rattle.graphql_json.specs.Schema as schema_json
 
 -- ---- documents
 
@@ -25,6 +28,13 @@ IsQueryChecked = IsWrittenOf (IsDocumentOf queries) (λ d. [])
 
 abbrev pub IsSchemaChecked : List ℕ → List ℕ → Type 0
 IsSchemaChecked = IsWrittenOf (IsDocumentOf schemas) (λ d. [])
+
+-- the output is the JSON text of the document of the input
+abbrev pub IsQueryJson : List ℕ → List ℕ → Type 0
+IsQueryJson = IsWrittenOf (IsDocumentOf queries) (λ d. json_text (query_json.document_json d))
+
+abbrev pub IsSchemaJson : List ℕ → List ℕ → Type 0
+IsSchemaJson = IsWrittenOf (IsDocumentOf schemas) (λ d. json_text (schema_json.document_json d))
 
 -- why the input is no such document
 abbrev pub HasNoQuery : List ℕ → Refusal → Type 0

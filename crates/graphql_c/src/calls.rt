@@ -1,19 +1,20 @@
 //! What each call does with its bytes.
 ghost use Rattle.std.specs.Prelude.{◌≡◌, ◌++◌, ℕ, List, length, take, string_bytes, Ok, None, IfSome, MatchResult, IsErrAnd};
-ghost use Rattle.graphql_core.specs.{IsMinified, IsDocumentOf};
+ghost use Rattle.graphql_core.specs.{IsMinified, IsDocumentOf, out_of_memory};
 ghost use Rattle.graphql_query.specs.{queries, IsMinifyRefusalOf};
 ghost use Rattle.graphql_query.specs.Tree as query;
 ghost use Rattle.graphql_schema.specs.{schemas};
 ghost use Rattle.graphql_schema.specs.Views as schema;
-ghost use Rattle.graphql_c.specs.{Fails, HasNumbers, layout_status, layout_in, IsQueryLaidOut, IsSchemaLaidOut};
-ghost use Rattle.graphql_c.specs.{IsQueryChecked, IsSchemaChecked, HasNoQuery, HasNoSchema, HasNoFirst};
-ghost use Rattle.graphql_c.specs.{IsQueryTooWide, IsSchemaTooWide, EndsAt};
+ghost use Rattle.graphql_c.specs.{Fails, HasNumbers, layout_status, layout_in, status_of, IsQueryLaidOut};
+ghost use Rattle.graphql_c.specs.{IsSchemaLaidOut, IsQueryChecked, IsSchemaChecked, IsQueryJson, IsSchemaJson};
+ghost use Rattle.graphql_c.specs.{HasNoQuery, HasNoSchema, HasNoFirst, IsQueryTooWide, IsSchemaTooWide, EndsAt};
 
 use crate::failure::Failure;
 use graphql_core::format::{FormatError, Style};
+use graphql_json::{query_to_json, schema_to_json};
 use graphql_query::{Document as QueryDocument, consume_definition, minify_query, parse_query};
 use graphql_schema::{Document as SchemaDocument, parse_schema};
-use std::alloc::Global;
+use std::alloc::{AllocError, Global};
 use std::str;
 
 /// The length in bytes of the first prefix of the input that is searched for a definition.
@@ -45,6 +46,16 @@ fn output_of(alloc: Global, made: Result<String, FormatError>) -> Result<String,
     match made {
         Ok(output) => Ok(output),
         Err(error) => Err(Failure::no_layout(alloc, &error)),
+    }
+}
+
+/// The JSON of a document, or the failure to write it.
+fn json_of(alloc: Global, made: Result<String, AllocError>) -> Result<String, Failure>
+    ensures { MatchResult made (λ s. result ≡ Ok s) (λ e. IsErrAnd result (HasNumbers (status_of out_of_memory) None)) }
+{
+    match made {
+        Ok(json) => Ok(json),
+        Err(_) => Err(Failure::out_of_memory(alloc)),
     }
 }
 
@@ -100,6 +111,22 @@ pub fn schema_checked(alloc: Global, bytes: &[u8]) -> Result<String, Failure>
 {
     schema_of(alloc, bytes)?;
     Ok(String::new(alloc))
+}
+
+/// Parses these bytes as a query document, and writes it as JSON.
+pub fn query_as_json(alloc: Global, bytes: &[u8]) -> Result<String, Failure>
+    ensures { MatchResult result (λ s. IsQueryJson bytes.now (string_bytes s)) (Fails (HasNoQuery bytes.now) ⊥ bytes.now) }
+{
+    let document = query_of(alloc, bytes)?;
+    json_of(alloc, query_to_json(alloc, &document))
+}
+
+/// Parses these bytes as a schema document, and writes it as JSON.
+pub fn schema_as_json(alloc: Global, bytes: &[u8]) -> Result<String, Failure>
+    ensures { MatchResult result (λ s. IsSchemaJson bytes.now (string_bytes s)) (Fails (HasNoSchema bytes.now) ⊥ bytes.now) }
+{
+    let document = schema_of(alloc, bytes)?;
+    json_of(alloc, schema_to_json(alloc, &document))
 }
 
 /// The tokens of these bytes, with a space only where two tokens would otherwise run together.

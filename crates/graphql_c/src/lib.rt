@@ -9,8 +9,8 @@ ghost use Rattle.std.specs.Prelude.{◌≡◌, ◌≢◌, ◌*◌, ◌≤◌, le
 ghost use Rattle.graphql_core.specs.{IsMinified};
 ghost use Rattle.graphql_query.specs.{IsMinifyRefusalOf};
 ghost use Rattle.graphql_c.specs.{Returns, Writes, Finds, layout_in, IsQueryLaidOut, IsSchemaLaidOut, IsQueryChecked};
-ghost use Rattle.graphql_c.specs.{IsSchemaChecked, HasNoQuery, HasNoSchema, HasNoFirst, IsQueryTooWide};
-ghost use Rattle.graphql_c.specs.{IsSchemaTooWide, EndsAt, status_name, status_too_short, with_zeros};
+ghost use Rattle.graphql_c.specs.{IsSchemaChecked, IsQueryJson, IsSchemaJson, HasNoQuery, HasNoSchema, HasNoFirst};
+ghost use Rattle.graphql_c.specs.{IsQueryTooWide, IsSchemaTooWide, EndsAt, status_name, status_too_short, with_zeros};
 
 mod call_result;
 mod calls;
@@ -105,6 +105,30 @@ pub extern "C" fn graphql_proved_check_schema_nonnull(
     ensures { Returns (Writes (IsSchemaChecked text.now)) (HasNoSchema text.now) ⊥ text.now out.old out.new result }
 {
     of_output(out, calls::schema_checked(alloc, text))
+}
+
+/// Writes a query document (section 2.2) into `out` as JSON, in the form of the AST of graphql-js.
+#[unsafe(no_mangle)]
+pub extern "C" fn graphql_proved_query_to_json_nonnull(
+    alloc: Global,
+    text: &[u8],
+    out: &mut [u8],
+) -> CallResult
+    ensures { Returns (Writes (IsQueryJson text.now)) (HasNoQuery text.now) ⊥ text.now out.old out.new result }
+{
+    of_output(out, calls::query_as_json(alloc, text))
+}
+
+/// Writes a schema document (section 3) into `out` as JSON, in the form of the AST of graphql-js.
+#[unsafe(no_mangle)]
+pub extern "C" fn graphql_proved_schema_to_json_nonnull(
+    alloc: Global,
+    text: &[u8],
+    out: &mut [u8],
+) -> CallResult
+    ensures { Returns (Writes (IsSchemaJson text.now)) (HasNoSchema text.now) ⊥ text.now out.old out.new result }
+{
+    of_output(out, calls::schema_as_json(alloc, text))
 }
 
 /// The name of the status with this number, as the header has it after `GRAPHQL_PROVED_`, with zero bytes behind it.

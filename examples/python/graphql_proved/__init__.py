@@ -1,4 +1,4 @@
-"""Format, minify and check GraphQL documents, with code that is proved correct.
+"""Format, minify and check GraphQL documents, and write them as JSON, with code that is proved correct.
 
 Each function takes a source as `str`, or as `bytes` in UTF-8. An output has the type of its source.
 A call that fails raises a `DocumentError`. Threads can call at once.
@@ -9,6 +9,7 @@ A call that fails raises a `DocumentError`. Threads can call at once.
 """
 
 from ._calls import check_query, check_schema, first_definition, format_query, format_schema, minify
+from ._calls import query_to_json, schema_to_json
 from ._errors import DocumentError, Status
 from ._library import VERSION as __version__
 
@@ -22,4 +23,6 @@ __all__ = [
     "format_query",
     "format_schema",
     "minify",
+    "query_to_json",
+    "schema_to_json",
 ]

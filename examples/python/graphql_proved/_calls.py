@@ -6,7 +6,7 @@ import ctypes
 import operator
 from typing import AnyStr
 
-from ._library import Function
+from ._library import Function, json_capacity
 
 _STYLE = (ctypes.c_uint32, ctypes.c_bool)
 _MAX_INDENT = 2**32 - 1
@@ -16,6 +16,8 @@ _MINIFY = Function("minify")
 _FIRST_DEFINITION = Function("first_definition")
 _CHECK_QUERY = Function("check_query")
 _CHECK_SCHEMA = Function("check_schema")
+_QUERY_TO_JSON = Function("query_to_json", capacity=json_capacity)
+_SCHEMA_TO_JSON = Function("schema_to_json", capacity=json_capacity)
 
 
 def _bytes_of(source: str | bytes) -> bytes:
@@ -140,3 +142,35 @@ def check_schema(source: str | bytes) -> None:
         TypeError: `source` has another type.
     """
     _CHECK_SCHEMA.check(_bytes_of(source))
+
+
+def query_to_json(source: AnyStr) -> AnyStr:
+    """Write a query document as JSON, in the form of the AST of graphql-js. `json.loads` reads it.
+
+    Args:
+        source: the document.
+
+    Returns:
+        One JSON object: the node of the document, with the nodes of its definitions.
+
+    Raises:
+        DocumentError: the source is not a valid query document, or the call ran out of memory.
+        TypeError: `source` has another type.
+    """
+    return _typed(source, _QUERY_TO_JSON.output(_bytes_of(source)))
+
+
+def schema_to_json(source: AnyStr) -> AnyStr:
+    """Write a schema document as JSON, in the form of the AST of graphql-js. `json.loads` reads it.
+
+    Args:
+        source: the document.
+
+    Returns:
+        One JSON object: the node of the document, with the nodes of its definitions.
+
+    Raises:
+        DocumentError: the source is not a valid schema document, or the call ran out of memory.
+        TypeError: `source` has another type.
+    """
+    return _typed(source, _SCHEMA_TO_JSON.output(_bytes_of(source)))

@@ -4,6 +4,7 @@ from __future__ import annotations
 
 import ctypes
 import pathlib
+from typing import Callable
 
 from ._errors import DocumentError
 
@@ -58,10 +59,26 @@ def _check_version() -> None:
 _check_version()
 
 
+def format_capacity(length: int) -> int:
+    """As in the header: enough for most formatted documents, and for every minified output."""
+    return 2 * length + MESSAGE_CAPACITY
+
+
+def json_capacity(length: int) -> int:
+    """As in the header: enough for most documents as JSON."""
+    return 16 * length + 4 * MESSAGE_CAPACITY
+
+
 class Function:
     """A function of the library. Its pointers are never null: ctypes passes the addresses of objects."""
 
-    def __init__(self, name: str, *options: type[ctypes.c_uint32 | ctypes.c_bool]) -> None:
+    def __init__(
+        self,
+        name: str,
+        *options: type[ctypes.c_uint32 | ctypes.c_bool],
+        capacity: Callable[[int], int] = format_capacity,
+    ) -> None:
+        self._capacity = capacity
         self._call = getattr(_library, f"graphql_proved_{name}_nonnull")
         self._call.restype = Result
         self._call.argtypes = [ctypes.c_char_p, ctypes.c_size_t, *options, ctypes.c_char_p, ctypes.c_size_t]
@@ -76,8 +93,7 @@ class Function:
 
     def output(self, source: bytes, *options: int) -> bytes:
         """Calls a function that writes an output, and returns the output."""
-        # As in the header: enough for most outputs.
-        result, out = self._result(source, 2 * len(source) + MESSAGE_CAPACITY, options)
+        result, out = self._result(source, self._capacity(len(source)), options)
         return ctypes.string_at(out, result.output_length)
 
     def _result(

@@ -1,4 +1,4 @@
-//! Formats, minifies and checks GraphQL documents, with code that is proved correct.
+//! Formats, minifies and checks GraphQL documents, and writes them as JSON, with code that is proved correct.
 //!
 //! This crate links a static library. No function here is `unsafe`, and threads can call at once.
 //!
@@ -132,6 +132,30 @@ pub fn check_schema(source: &str) -> Result<(), Error> {
     raw::check_schema(source.as_bytes())
 }
 
+/// Writes a query document as JSON, in the form of the AST of graphql-js.
+///
+/// # Errors
+///
+/// If the source is not a valid query document, or an allocation fails.
+///
+/// ```
+/// let json = graphql_proved::query_to_json("{ a }")?;
+/// assert!(json.starts_with(r#"{"kind":"Document","definitions":[{"kind":"OperationDefinition","#));
+/// # Ok::<(), graphql_proved::Error>(())
+/// ```
+pub fn query_to_json(source: &str) -> Result<String, Error> {
+    raw::query_to_json(source.as_bytes())
+}
+
+/// Writes a schema document as JSON, in the form of the AST of graphql-js.
+///
+/// # Errors
+///
+/// If the source is not a valid schema document, or an allocation fails.
+pub fn schema_to_json(source: &str) -> Result<String, Error> {
+    raw::schema_to_json(source.as_bytes())
+}
+
 /// The same functions for bytes. They also return an error if the source is not UTF-8.
 ///
 /// ```
@@ -144,7 +168,7 @@ pub fn check_schema(source: &str) -> Result<(), Error> {
 pub mod bytes {
     use crate::{raw, Error};
 
-    pub use raw::{check_query, check_schema, format_query, format_schema, minify};
+    pub use raw::{check_query, check_schema, format_query, format_schema, minify, query_to_json, schema_to_json};
 
     /// As [`crate::first_definition`]. The rest can be any bytes.
     ///

@@ -45,6 +45,8 @@ library! {
     fn first_definition(text: *const u8, length: usize, out: *mut u8, capacity: usize);
     fn check_query(text: *const u8, length: usize, out: *mut u8, capacity: usize);
     fn check_schema(text: *const u8, length: usize, out: *mut u8, capacity: usize);
+    fn query_to_json(text: *const u8, length: usize, out: *mut u8, capacity: usize);
+    fn schema_to_json(text: *const u8, length: usize, out: *mut u8, capacity: usize);
 }
 
 /// The buffer of a call, which need not be initialised.
@@ -88,10 +90,19 @@ fn error(result: &CallResult, message: &[u8]) -> Error {
     Error { cause: status.into(), position, message: String::from_utf8_lossy(message).into_owned() }
 }
 
-/// The output of a call.
-fn output(source: &[u8], call: Call<'_>) -> Result<String, Error> {
-    // As in the header: enough for most outputs.
-    let (_, output) = called(source, 2 * source.len() + MESSAGE_CAPACITY, call)?;
+/// As in the header: enough for most formatted documents, and for every minified output.
+fn format_capacity(length: usize) -> usize {
+    2 * length + MESSAGE_CAPACITY
+}
+
+/// As in the header: enough for most documents as JSON.
+fn json_capacity(length: usize) -> usize {
+    16 * length + 4 * MESSAGE_CAPACITY
+}
+
+/// The output of a call. The first buffer has this capacity.
+fn output(source: &[u8], capacity: usize, call: Call<'_>) -> Result<String, Error> {
+    let (_, output) = called(source, capacity, call)?;
     // An output is UTF-8, so no byte is replaced.
     Ok(String::from_utf8(output).unwrap_or_else(|error| String::from_utf8_lossy(error.as_bytes()).into_owned()))
 }
@@ -107,7 +118,7 @@ pub fn version() -> Version {
 /// Formats a query document, as [`crate::format_query`].
 pub fn format_query(source: &[u8], style: Style) -> Result<String, Error> {
     let Style { indent, multiline } = style;
-    output(source, &|text, out| unsafe {
+    output(source, format_capacity(source.len()), &|text, out| unsafe {
         c::format_query(text.as_ptr(), text.len(), indent, multiline, address(out), out.len())
     })
 }
@@ -115,14 +126,16 @@ pub fn format_query(source: &[u8], style: Style) -> Result<String, Error> {
 /// Formats a schema document, as [`crate::format_schema`].
 pub fn format_schema(source: &[u8], style: Style) -> Result<String, Error> {
     let Style { indent, multiline } = style;
-    output(source, &|text, out| unsafe {
+    output(source, format_capacity(source.len()), &|text, out| unsafe {
         c::format_schema(text.as_ptr(), text.len(), indent, multiline, address(out), out.len())
     })
 }
 
 /// Writes the tokens of a source, as [`crate::minify`].
 pub fn minify(source: &[u8]) -> Result<String, Error> {
-    output(source, &|text, out| unsafe { c::minify(text.as_ptr(), text.len(), address(out), out.len()) })
+    output(source, format_capacity(source.len()), &|text, out| unsafe {
+        c::minify(text.as_ptr(), text.len(), address(out), out.len())
+    })
 }
 
 /// The offset of the rest, which begins after the first definition.
@@ -142,4 +155,18 @@ pub fn check_query(source: &[u8]) -> Result<(), Error> {
 pub fn check_schema(source: &[u8]) -> Result<(), Error> {
     let call: Call<'_> = &|text, out| unsafe { c::check_schema(text.as_ptr(), text.len(), address(out), out.len()) };
     called(source, MESSAGE_CAPACITY, call).map(drop)
+}
+
+/// Writes a query document as JSON, as [`crate::query_to_json`].
+pub fn query_to_json(source: &[u8]) -> Result<String, Error> {
+    output(source, json_capacity(source.len()), &|text, out| unsafe {
+        c::query_to_json(text.as_ptr(), text.len(), address(out), out.len())
+    })
+}
+
+/// Writes a schema document as JSON, as [`crate::schema_to_json`].
+pub fn schema_to_json(source: &[u8]) -> Result<String, Error> {
+    output(source, json_capacity(source.len()), &|text, out| unsafe {
+        c::schema_to_json(text.as_ptr(), text.len(), address(out), out.len())
+    })
 }

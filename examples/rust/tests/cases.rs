@@ -2,7 +2,7 @@
 //! `GRAPHQL_PROVED_VECTORS` names.
 
 use graphql_proved::{bytes, check_query, check_schema, first_definition, format_query, format_schema, minify};
-use graphql_proved::{Cause, Error, Position, Style};
+use graphql_proved::{query_to_json, schema_to_json, Cause, Error, Position, Style};
 use std::path::{Path, PathBuf};
 use std::{env, fs};
 
@@ -127,6 +127,27 @@ fn hero_is_laid_out() {
 }
 
 #[test]
+fn documents_are_written_as_json() {
+    let query = concat!(
+        r#"{"kind":"Document","definitions":[{"kind":"OperationDefinition","loc":{"line":1,"column":1},"#,
+        r#""operation":"query","variableDefinitions":[],"directives":[],"#,
+        r#""selectionSet":{"kind":"SelectionSet","loc":{"line":1,"column":1,"endLine":1,"endColumn":14},"#,
+        r#""selections":[{"kind":"Field","loc":{"line":1,"column":3},"name":{"kind":"Name","value":"a"},"#,
+        r#""arguments":[{"kind":"Argument","name":{"kind":"Name","value":"b"},"#,
+        r#""value":{"kind":"StringValue","value":"\"é"}}],"directives":[]}]}}]}"#,
+    );
+    assert_eq!(query_to_json(r#"{ a(b:"\"é") }"#).as_deref(), Ok(query));
+    let schema = concat!(
+        r#"{"kind":"Document","definitions":[{"kind":"ScalarTypeDefinition","loc":{"line":2,"column":1},"#,
+        r#""name":{"kind":"Name","value":"A"},"directives":[]}]}"#,
+    );
+    assert_eq!(schema_to_json("\nscalar A").as_deref(), Ok(schema));
+    let error = query_to_json("scalar A").expect_err("no query");
+    assert_eq!(Some(&error), check_query("scalar A").as_ref().err());
+    assert_eq!(bytes::schema_to_json(b"scalar \xff").expect_err("not UTF-8").cause, Cause::NotUtf8);
+}
+
+#[test]
 fn refusals_have_places() {
     let error = format_query("{ hero(id: 99999999999999999999) }", Style::default()).expect_err("too large");
     assert_eq!((error.cause, error.position), (Cause::IntOutOfRange, Some(Position { line: 1, column: 12 })));
@@ -161,6 +182,8 @@ fn bytes_are_taken_as_strings_are() {
         assert_eq!(bytes::minify(source), minify(text));
         assert_eq!(bytes::check_query(source), check_query(text));
         assert_eq!(bytes::check_schema(source), check_schema(text));
+        assert_eq!(bytes::query_to_json(source), query_to_json(text));
+        assert_eq!(bytes::schema_to_json(source), schema_to_json(text));
         let parts =
             |(definition, rest): (&str, &str)| (definition.to_owned().into_bytes(), rest.to_owned().into_bytes());
         let split = bytes::first_definition(source).map(|(definition, rest)| (definition.to_vec(), rest.to_vec()));
