@@ -89,7 +89,8 @@ def hook():
     expect("a link, a removal and another kind of file", repository.commit(), (0, ""))
     os.remove("link.graphql")
     repository.stage({"link.graphql": SHORT})
-    expect("a file in place of a link", repository.commit(), (1, "link.graphql\n"))
+    said = "link.graphql\nNot committed: gqlfmt --write formats files.\n"
+    expect("a file in place of a link", repository.commit(), (1, said))
     repository.stage({"link.graphql": BROKEN})
     status, said = repository.commit()
     expect("a file that is rejected", (status, said.splitlines()[0]), (1, "link.graphql:2:1: Unexpected end of input"))
