@@ -10,6 +10,7 @@ pub mod OneCut
 pub mod Elements
 pub mod CharacterClasses
 pub mod Lanes
+pub mod Characters
 pub mod Positions
 pub mod Near
 pub mod Tokens
@@ -26,6 +27,7 @@ unfoldable pub use OneCut.*
 unfoldable pub use Elements.*
 unfoldable pub use CharacterClasses.*
 unfoldable pub use Lanes.*
+unfoldable pub use Characters.*
 unfoldable pub use Positions.*
 unfoldable pub use Near.*
 unfoldable pub use Tokens.*

@@ -2,11 +2,13 @@
 
 mod bad;
 mod brackets;
+mod characters;
 mod class;
 mod element;
 mod ignored;
 pub mod lanes;
 mod laws;
+pub mod line;
 pub mod number;
 mod piece;
 mod place;

@@ -1,13 +1,13 @@
 -- From the mask of one load to the bytes that pass a test, and from one load to a run.
 use lib.Lanes.{zip2, mask_l, top}
 use native.Mathlib.Numerals.{unary_clauses}
-use Rattle.std.specs.List.{prefix_len}
+use Rattle.std.specs.List.{prefix_len, count_by}
 use Rattle.std.proofs.Common.{◌≡◌, ℕ, zero, suc, ◌+◌, ◌-◌, ◌*◌, ◌/◌, ◌%◌, ◌^◌, ◌<◌, ◌≤◌, ◌≢◌, Bool, true, false, not, List, [], ◌∷◌, map, ◌++◌, take, drop}
-use Rattle.std.proofs.Common.{length, min, get_or, replicate, Fits, w8, refl, sym, ap, ap₂, ◌∙◌, arith, inl, inr, length-drop}
+use Rattle.std.proofs.Common.{cond, count_ones, length, min, get_or, replicate, Fits, w8, refl, sym, ap, ap₂, ◌∙◌, arith, inl, inr, length-drop}
 use Rattle.std.proofs.lemmas.Bool.{cases_Bool, agree_below, agree_below_at, cases_eq, eq-eqb, ne_eqb, cond-true, cond-false}
-use Rattle.std.proofs.lemmas.Simd.{map-map, mask_l-mod, length-chunk, leading_from_mask_l, trailing_mask_l}
+use Rattle.std.proofs.lemmas.Simd.{map-map, mask_l-mod, length-chunk, leading_from_mask_l, trailing_mask_l, ones-mask_l}
 use Rattle.std.proofs.lemmas.List.{length-map, length-take, drop-map, drop-take, get_or-drop}
-use Rattle.std.proofs.lemmas.List.Sums.{prefix_len-le-length}
+use Rattle.std.proofs.lemmas.List.Sums.{prefix_len-le-length, sum_by-cons}
 use Rattle.std.proofs.Math.Nat.{div-div-eq-div-mul, zero-div}
 use Rattle.graphql_core.specs.{first_set}
 
@@ -54,6 +54,27 @@ lanes_run q d n r z room few fits found f lanes all =
     ∙ mask_l-mod (map stops v) 64 (omega (arith, length-map v stops, long)) in
     found ∙ ap (λ m. first_set m n) mask ∙ run_is stops v n long few
     ∙ same_prefix stops q (λ b lt. agree_below_at stops (λ x. not (q x)) 256 b all lt) n d (λ k. (fits k).fits)
+
+same_count : (p q : ℕ → Bool) → ((b : ℕ) → b < 256 → p b ≡ q b) → (n : ℕ) (d : List ℕ) → ((k : ℕ) → get_or d k 0 < 256)
+    → count_by p (take n d) ≡ count_by q (take n d)
+same_count p q agree zero d fits = refl
+same_count p q agree (suc n) [] fits = refl
+same_count p q agree (suc n) (x ∷ xs) fits =
+    let more = same_count p q agree n xs (λ k. fits (suc k)) in
+    sum_by-cons (λ y. cond (p y) 1 0) x (take n xs) ∙ (λ i. cond (agree x (fits 0) i) 1 0 + more i) ∙ sym (sum_by-cons (λ y. cond (q y) 1 0) x (take n xs))
+
+-- a lane is set exactly if q passes
+pub lanes_count : (q : ℕ → Bool) (d : List ℕ) (n r : ℕ) (z : List ℕ) → n ≤ length d → n ≤ 64 → ((k : ℕ) → Fits w8 (get_or d k 0))
+    → r ≡ count_ones (mask_l (map (top 7) z) % 2 ^ 64) → (f : ℕ → ℕ) → (length (take n d) ≡ n → z ≡ map f (take n d))
+    → agree_below (λ x. top 7 (f x)) q 256 ≡ true → r ≡ count_by q (take n d)
+lanes_count q d n r z room few fits counted f lanes all =
+    let v = take n d in
+    let long : length v ≡ n = length-chunk 0 n d (omega arith) in
+    let set : ℕ → Bool = λ x. top 7 (f x) in
+    let mask = ap (λ l. mask_l l % 2 ^ 64) (ap (map (top 7)) (lanes long) ∙ map-map (top 7) f v)
+    ∙ mask_l-mod (map set v) 64 (omega (arith, length-map v set, long)) in
+    counted ∙ ap count_ones mask ∙ ones-mask_l set v
+    ∙ same_count set q (λ b lt. agree_below_at set q 256 b all lt) n d (λ k. (fits k).fits)
 
 -- the lowest bits of a mask are those of the first lanes
 mask_drop : (ms : List Bool) (k : ℕ) → mask_l ms / 2 ^ k ≡ mask_l (drop k ms)

@@ -1,25 +1,26 @@
 -- The position after a token.
-use Rattle.std.specs.List.{list_all}
+use Rattle.std.specs.List.{list_all, prefix_len}
 use Rattle.std.specs.Str.{chars, IsAscii, IsCharBoundary}
 use Rattle.std.specs.Char.{encode_utf8}
 use Rattle.std.proofs.Common.{◌≡◌, ℕ, ◌+◌, ◌<◌, ◌≤◌, true, false, ◌==◌, List, [], ◌∷◌, ◌++◌, zero, suc, length, take, drop, IsUtf8, refl, sym, ap, ◌∙◌}
-use Rattle.std.proofs.Common.{subst, inl, inr, arith}
+use Rattle.std.proofs.Common.{◌≢◌, subst, inl, inr, arith, eqb-true}
 use Rattle.std.proofs.lemmas.Bool.{and_parts, cases_Bool}
 use Rattle.std.proofs.lemmas.Bool.Decides.{nat_tests}
-use Rattle.std.proofs.lemmas.List.{take_at, take-append-drop}
-use Rattle.std.proofs.lemmas.Str.{chars-IsAscii, chars-append, chars_past_char, encodes-chars, length-le-encodes, IsUtf8-take}
+use Rattle.std.proofs.lemmas.List.{take_at, take-append-drop, drop_all}
+use Rattle.std.proofs.lemmas.Str.{chars-IsAscii, chars-append, chars_past_char, encodes-chars, length-le-encodes, IsUtf8-take, encode_ascii, chars-nil}
 use Rattle.graphql_core.specs.declared.position.Pos.{Pos}
 use Rattle.graphql_core.specs.declared.tokenizer.token.Kind.{Kind}
 use Rattle.graphql_core.specs.declared.tokenizer.piece.Nesting.{Nesting}
 use Rattle.graphql_core.specs.declared.tokenizer.piece.Piece.{Piece as Ahead}
 use Rattle.graphql_core.specs.declared.tokenizer.piece.Piece.TheVariants.{AtEnd, Skips, Takes, Stops}
-use Rattle.graphql_core.specs.{front, is_flat, IsFlat, past, past_character, past_characters, is_name_start}
+use Rattle.graphql_core.specs.{front, is_flat, is_no_line_feed, IsFlat, past, past_character, past_characters, is_name_start}
 use Rattle.graphql_core.specs.{is_name_continue, is_punctuator_byte, Meaning, Ignored, Word, Stands, ignored_tab}
 use Rattle.graphql_core.specs.{ignored_line_feed, ignored_carriage_return, ignored_space, ignored_comma}
 use Rattle.graphql_core.specs.{ignored_byte_order_mark, comment_at_end, comment_feed, comment_return_feed}
 use Rattle.graphql_core.specs.{comment_return, name_token, punctuator_token, spread_token, integer_token}
 use Rattle.graphql_core.specs.{float_token, string_token, block_string_token}
 use Rattle.graphql_core.proofs.lexical.Runs.{all_weaken}
+use Rattle.graphql_core.proofs.lexical.Characters.{characters_no_feed}
 use Rattle.graphql_core.proofs.lexical.Numbers.{integer_run, float_run}
 use Rattle.graphql_core.proofs.lexical.FrontIsPiece.{ahead_of, stands_front}
 use Rattle.graphql_core.proofs.lexical.OneCut.{Sees, front_sees}
@@ -49,6 +50,23 @@ flat_characters (b ∷ bs) p all =
 
 pub past_flat : (bytes : List ℕ) (p : Pos) → list_all is_flat bytes ≡ true → past bytes p ≡ record { line = p.line; column = p.column + length bytes }
 past_flat bytes p all = ap (λ cs. past_characters cs p) (chars-IsAscii bytes (flat_ascii bytes all)) ∙ flat_characters bytes p all
+
+-- ---- parts of a token without a line feed
+
+line_step : (c : ℕ) (p : Pos) → is_no_line_feed c ≡ true → past_character c p ≡ record { line = p.line; column = p.column + 1 }
+line_step c p h = let none : (c == 10) ≡ false = grind (arith, nat_tests) in rw none refl
+
+line_characters : (cs : List ℕ) (p : Pos) → list_all is_no_line_feed cs ≡ true
+    → past_characters cs p ≡ record { line = p.line; column = p.column + length cs }
+line_characters [] p all = column_of p.line p.column (p.column + 0) (omega arith)
+line_characters (c ∷ cs) p all =
+    let (here, more) = and_parts (is_no_line_feed c) (list_all is_no_line_feed cs) all in
+    ap (past_characters cs) (line_step c p here) ∙ line_characters cs (record { line = p.line; column = p.column + 1 }) more
+    ∙ column_of p.line _ _ (omega arith)
+
+pub past_line : (bytes : List ℕ) (p : Pos) → IsUtf8 bytes → list_all is_no_line_feed bytes ≡ true
+    → past bytes p ≡ record { line = p.line; column = p.column + length (chars bytes) }
+past_line bytes p utf8 all = line_characters (chars bytes) p (characters_no_feed bytes utf8 all)
 
 past_more : (cs ds : List ℕ) (p : Pos) → past_characters (cs ++ ds) p ≡ past_characters ds (past_characters cs p)
 past_more [] ds p = refl
@@ -127,3 +145,24 @@ character_bounds c p =
       | inl feed ↦ rw feed (omega arith, omega arith)
       | inr other ↦ rw other (omega arith, omega arith)
     ]
+
+-- ---- line by line
+
+-- the position after an input that begins with a line feed
+pub past_feed : (text rest : List ℕ) (p : Pos) → IsUtf8 text → text ≡ 10 ∷ rest → past text p ≡ past rest (record { line = p.line + 1; column = 1 })
+past_feed text rest p utf8 is = past_first text rest 10 p utf8 (is ∙ ap (λ l. l ++ rest) (sym (encode_ascii 10 (omega arith))))
+
+pub past_nothing : (bytes : List ℕ) (p : Pos) → bytes ≡ [] → past bytes p ≡ p
+past_nothing bytes p is = ap (λ l. past l p) is ∙ ap (λ cs. past_characters cs p) chars-nil
+
+-- a line that no line feed follows ends the input
+pub line_ends : (text : List ℕ) (n : ℕ) → n ≡ prefix_len is_no_line_feed text → ((rest : List ℕ) → drop n text ≢ 10 ∷ rest) → drop n text ≡ []
+line_ends [] n e none = drop_all n [] (omega arith)
+line_ends (b ∷ bs) zero e none = elim (cases_Bool (b == 10)) [
+  | inl feed ↦ absurd (none bs (ap (λ c. c ∷ bs) (eqb-true b 10 feed)))
+  | inr other ↦ absurd (omega (arith, rw other at e))
+]
+line_ends (b ∷ bs) (suc n) e none = elim (cases_Bool (b == 10)) [
+  | inl feed ↦ absurd (omega (arith, rw feed at e))
+  | inr other ↦ line_ends bs n (omega (arith, rw other at e)) none
+]

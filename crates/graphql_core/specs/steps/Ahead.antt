@@ -1,5 +1,5 @@
 -- What the fast paths of the tokenizer test for.
-use Rattle.std.specs.Prelude.{◌≡◌, ℕ, ◌+◌, ◌-◌, ◌*◌, ◌^◌, ◌<◌, ◌≤◌, Bool, not, ◌==◌, ◌&&◌, ◌||◌, if◌then◌else◌, List, ◌∷◌, length, map, slice_index, Option}
+use Rattle.std.specs.Prelude.{◌≡◌, ℕ, ◌+◌, ◌-◌, ◌*◌, ◌^◌, ◌<◌, ◌≤◌, Bool, not, nat_le, nat_lt, ◌==◌, ◌&&◌, ◌||◌, if◌then◌else◌, List, ◌∷◌, length, map, slice_index, Option}
 use Rattle.std.specs.Prelude.{Some, None}
 use Rattle.std.specs.Int.{w64, trailing_zeros}
 use Rattle.graphql_core.specs.steps.Front.{Cuts, is_flat}
@@ -24,6 +24,13 @@ is_plain_in_string b = is_flat b && not (b == 34 || b == 92)
 -- neither a quote nor a backslash
 abbrev pub is_plain_in_block : ℕ → Bool
 is_plain_in_block b = not (b == 34 || b == 92)
+
+abbrev pub is_no_line_feed : ℕ → Bool
+is_no_line_feed b = not (b == 10)
+
+-- a byte of a character in UTF-8 except its first: 0x80 to 0xBF
+abbrev pub continues_character : ℕ → Bool
+continues_character b = nat_le 128 b && nat_lt b 192
 
 abbrev pub is_blank : ℕ → Bool
 is_blank b = b == 32 || b == 44

@@ -1,9 +1,10 @@
 //! How many of 16 bytes, from the first on, are in a class.
 ghost use Rattle.std.specs.Prelude.{◌≡◌, ◌<◌, ◌≤◌, ◌-◌, ◌/◌, ◌^◌, length, take, drop};
-ghost use Rattle.std.specs.List.{prefix_len};
+ghost use Rattle.std.specs.List.{prefix_len, count_by};
 ghost use Rattle.std.specs.Char.{is_ascii_digit};
 ghost use Rattle.graphql_core.specs.{is_in_line, is_name_continue, is_gap, is_space, is_plain_in_string};
 ghost use Rattle.graphql_core.specs.{is_plain_in_block, first_set, is_flat};
+ghost use Rattle.graphql_core.specs.{is_no_line_feed, continues_character};
 
 use std::simd::prelude::*;
 
@@ -81,6 +82,27 @@ pub fn flat_lanes(bytes: &[u8]) -> usize
     let v = u8x16::from_slice(bytes);
     let stops = v.simd_eq(u8x16::splat(b'\n')) | v.simd_ge(u8x16::splat(0x80));
     first_set(stops.to_bitmask())
+}
+
+/// How many of the first 16 bytes come before a line feed.
+#[inline(always)]
+pub fn no_feed_lanes(bytes: &[u8]) -> usize
+    requires { 16 ≤ length bytes.now }
+    ensures { result ≡ prefix_len is_no_line_feed (take 16 bytes.now) }
+{
+    let stops = u8x16::from_slice(bytes).simd_eq(u8x16::splat(b'\n'));
+    first_set(stops.to_bitmask())
+}
+
+/// How many of the first 16 bytes continue a character.
+#[inline(always)]
+pub fn continuing_lanes(bytes: &[u8]) -> usize
+    requires { 16 ≤ length bytes.now }
+    ensures { result ≡ count_by continues_character (take 16 bytes.now) }
+{
+    let from_0x80 = u8x16::from_slice(bytes) - u8x16::splat(0x80);
+    let continuing = from_0x80.simd_lt(u8x16::splat(0x40));
+    continuing.to_bitmask().count_ones() as usize
 }
 
 /// How many of the first 16 bytes are ASCII except quote, backslash and line feed.

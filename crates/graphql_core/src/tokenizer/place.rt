@@ -1,11 +1,13 @@
 //! Positions after ignored text and after tokens.
 ghost use Rattle.std.specs.Prelude.{◌≡◌, ◌+◌, ◌<◌, ◌≤◌, ◌^◌, length, true};
 ghost use Rattle.std.specs.List.{list_all};
-ghost use Rattle.graphql_core.specs.{steps_over, moved, past, past_character};
+ghost use Rattle.graphql_core.specs.{steps_over, moved, past, is_no_line_feed};
 ghost use Rattle.graphql_core.specs.declared.tokenizer.piece.Move.TheVariants.{Over, Down};
 ghost use Rattle.graphql_core.specs.steps.Front as steps;
 
 use crate::position::Pos;
+use crate::tokenizer::characters::character_count;
+use crate::tokenizer::line::line_len;
 use crate::tokenizer::piece::{Move, flat_of};
 
 /// The position after ignored text.
@@ -40,23 +42,18 @@ pub fn position_after_spaces(spaces: usize, at: Pos) -> Pos
     }
 }
 
-/// The position after one character of a token, in which a tab counts one column.
-#[inline]
-fn position_after_character(character: char, at: Pos) -> Pos
-    requires line { at.line + 1 < 2 ^ 64 }
-    requires column { at.column + 1 < 2 ^ 64 }
-    ensures { result ≡ past_character character at }
+/// The position after a part of a token without a line feed.
+#[inline(always)]
+fn position_in_line(part: &str, at: Pos) -> Pos
+    requires column { at.column + length part.now < 2 ^ 64 }
+    requires line { list_all is_no_line_feed part.now ≡ true }
+    ensures is { result ≡ past part.now at }
+    ensures line { result.line ≡ at.line }
+    ensures column { result.column ≤ at.column + length part.now }
 {
-    if character == '\n' {
-        Pos {
-            line: at.line + 1,
-            column: 1,
-        }
-    } else {
-        Pos {
-            line: at.line,
-            column: at.column + 1,
-        }
+    Pos {
+        line: at.line,
+        column: at.column + character_count(part),
     }
 }
 
@@ -71,15 +68,16 @@ fn position_after_characters(value: &str, at: Pos) -> Pos
 {
     let mut rest = value;
     let mut place = at;
-    'runs: loop {
-        let (run, after) = rest.split_at(flat_of(rest));
-        place = position_after_flat(run, place);
-        let mut characters = after.chars();
-        let Some(character) = characters.next() else {
+    'lines: loop {
+        let (flat, other) = rest.split_at(flat_of(rest));
+        place = position_after_flat(flat, place);
+        let (part, after) = other.split_at(line_len(other));
+        place = position_in_line(part, place);
+        let Some(lines) = after.strip_prefix('\n') else {
             return place;
         };
-        place = position_after_character(character, place);
-        rest = characters.as_str();
+        place = position_after_line(place);
+        rest = lines;
     }
 }
 

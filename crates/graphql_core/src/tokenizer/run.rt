@@ -3,7 +3,8 @@ ghost use Rattle.std.specs.Prelude.{◌≡◌, ◌<◌, ◌≤◌, length, IfSom
 ghost use Rattle.std.specs.List.{prefix_len};
 
 use crate::tokenizer::lanes::{
-    LANES, block_lanes, digit_lanes, flat_lanes, line_lanes, name_lanes, space_lanes, string_lanes,
+    LANES, block_lanes, digit_lanes, flat_lanes, line_lanes, name_lanes, no_feed_lanes,
+    space_lanes, string_lanes,
 };
 
 /// A class of bytes.
@@ -86,6 +87,20 @@ impl Class for Flat {
     #[inline(always)]
     fn lanes(bytes: &[u8]) -> usize {
         flat_lanes(bytes)
+    }
+}
+
+/// All bytes except line feed.
+pub struct NoLineFeed;
+
+impl Class for NoLineFeed {
+    ghost use Rattle.graphql_core.specs.steps.Ahead.{is_no_line_feed};
+
+    ghost has = { is_no_line_feed };
+
+    #[inline(always)]
+    fn lanes(bytes: &[u8]) -> usize {
+        no_feed_lanes(bytes)
     }
 }
 

@@ -10,9 +10,8 @@ ghost use Rattle.graphql_core.specs.layouts.ValueLayout as spec;
 use crate::common::strings::{ESCAPED_QUOTES, QUOTES, is_blank, is_white};
 use crate::format::Sink;
 use crate::format::print::spaces::write_spaces;
-use crate::tokenizer::lanes::first_set;
-use crate::tokenizer::run::{Class, PlainInBlock, class_prefix_len};
-use std::simd::prelude::*;
+use crate::tokenizer::line::split_line;
+use crate::tokenizer::run::{PlainInBlock, class_prefix_len};
 
 /// Whether a string has more than one line.
 fn has_line_feed(text: &str) -> bool
@@ -99,41 +98,6 @@ fn is_whole_line(line: &str) -> bool
     ensures { result ≡ ((not (is_blank_line line.now) || spec.is_empty line.now) && not (spec.ends_in_return line.now)) }
 {
     is_empty_or_text(line) && ends_in_no_return(line)
-}
-
-/// The bytes of a line: all except LF.
-struct InLine;
-
-impl Class for InLine {
-    ghost use Rattle.std.specs.Prelude.{not, ◌==◌};
-
-    ghost has = { λ b. not (b == 10) };
-
-    #[inline(always)]
-    fn lanes(bytes: &[u8]) -> usize {
-        let stops = u8x16::from_slice(bytes).simd_eq(u8x16::splat(b'\n'));
-        first_set(stops.to_bitmask())
-    }
-}
-
-/// How many bytes the first line of a string has.
-#[inline(always)]
-#[tactic(auto, using(crate::proofs::strings::TextLines::line_cuts))]
-fn line_len(text: &str) -> usize
-    ensures len { result ≡ prefix_len (λ b. not (b == 10)) text.now }
-    ensures within { result ≤ length text.now }
-    ensures cuts { IsCharBoundary text.now result }
-{
-    class_prefix_len::<InLine>(text.as_bytes())
-}
-
-/// The first line of a string, and the lines after it, if there are any.
-#[inline(always)]
-fn split_line(text: &str) -> (&str, Option<&str>)
-    ensures { MatchOption result.1 (spec.lines_of text.now ≡ result.0.now ∷ []) (λ rest. spec.lines_of text.now ≡ result.0.now ∷ spec.lines_of rest.now) }
-{
-    let (line, rest) = text.split_at(line_len(text));
-    (line, rest.strip_prefix('\n'))
 }
 
 /// Whether each line passes `is_whole_line`.

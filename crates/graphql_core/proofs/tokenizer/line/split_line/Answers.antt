@@ -1,7 +1,7 @@
 use Rattle.std.proofs.Common.{arith}
 use Rattle.std.proofs.lemmas.Str.Pattern.{strip_prefix_char}
 use Rattle.graphql_core.proofs.{line_parts}
-use Rattle.graphql_core.proofs.format.print.block.split_line.Goals as goal
+use Rattle.graphql_core.proofs.tokenizer.line.split_line.Goals as goal
 
 pub returns : goal.returns
 returns c =
