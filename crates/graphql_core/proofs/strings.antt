@@ -4,6 +4,7 @@ pub mod FloatLiterals
 pub mod LeafValues
 pub mod BlockBytes
 pub mod BlockLines
+pub mod BlockShapes
 pub mod OuterLines
 pub mod QuotedText
 pub mod TextLines
@@ -14,6 +15,7 @@ unfoldable pub use FloatLiterals.*
 unfoldable pub use LeafValues.*
 unfoldable pub use BlockBytes.*
 unfoldable pub use BlockLines.*
+unfoldable pub use BlockShapes.*
 unfoldable pub use OuterLines.*
 unfoldable pub use QuotedText.*
 unfoldable pub use TextLines.*

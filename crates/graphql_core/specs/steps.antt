@@ -1,6 +1,7 @@
 pub mod Ahead
 pub mod Answers
 pub mod BlockBytes
+pub mod BlockShape
 pub mod Constness
 pub mod Cut
 pub mod Endings
@@ -22,6 +23,7 @@ pub mod Unescaped
 unfoldable pub use Ahead.*
 unfoldable pub use Answers.*
 unfoldable pub use BlockBytes.*
+unfoldable pub use BlockShape.*
 unfoldable pub use Constness.*
 unfoldable pub use Cut.*
 unfoldable pub use Endings.*

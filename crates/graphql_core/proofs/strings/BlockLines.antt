@@ -32,7 +32,7 @@ boundary_in_indent line (suc n) u h =
     let same : suc n ≡ n + 1 = omega arith in
     rw same at
 
-blank_indent : (line : List ℕ) → is_blank_line line ≡ true → indent line ≡ length line
+pub blank_indent : (line : List ℕ) → is_blank_line line ≡ true → indent line ≡ length line
 blank_indent [] h = refl
 blank_indent (b ∷ bs) h =
     let (here, others) = and_parts (is_white b) (is_blank_line bs) h in

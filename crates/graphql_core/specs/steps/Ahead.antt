@@ -28,6 +28,9 @@ is_plain_in_block b = not (b == 34 || b == 92)
 abbrev pub is_no_line_feed : ℕ → Bool
 is_no_line_feed b = not (b == 10)
 
+abbrev pub is_no_backslash : ℕ → Bool
+is_no_backslash b = not (b == 92)
+
 -- a byte of a character in UTF-8 except its first: 0x80 to 0xBF
 abbrev pub continues_character : ℕ → Bool
 continues_character b = nat_le 128 b && nat_lt b 192

@@ -4,7 +4,7 @@ ghost use Rattle.std.specs.List.{prefix_len, count_by};
 ghost use Rattle.std.specs.Char.{is_ascii_digit};
 ghost use Rattle.graphql_core.specs.{is_in_line, is_name_continue, is_gap, is_space, is_plain_in_string};
 ghost use Rattle.graphql_core.specs.{is_plain_in_block, first_set, is_flat};
-ghost use Rattle.graphql_core.specs.{is_no_line_feed, continues_character};
+ghost use Rattle.graphql_core.specs.{is_no_line_feed, is_no_backslash, continues_character};
 
 use std::simd::prelude::*;
 
@@ -91,6 +91,16 @@ pub fn no_feed_lanes(bytes: &[u8]) -> usize
     ensures { result ≡ prefix_len is_no_line_feed (take 16 bytes.now) }
 {
     let stops = u8x16::from_slice(bytes).simd_eq(u8x16::splat(b'\n'));
+    first_set(stops.to_bitmask())
+}
+
+/// How many of the first 16 bytes come before a backslash.
+#[inline(always)]
+pub fn no_backslash_lanes(bytes: &[u8]) -> usize
+    requires { 16 ≤ length bytes.now }
+    ensures { result ≡ prefix_len is_no_backslash (take 16 bytes.now) }
+{
+    let stops = u8x16::from_slice(bytes).simd_eq(u8x16::splat(b'\\'));
     first_set(stops.to_bitmask())
 }
 

@@ -1,5 +1,5 @@
 //! The lines of a string, which line feeds separate.
-ghost use Rattle.std.specs.Prelude.{◌≡◌, ◌≤◌, ◌∷◌, [], length};
+ghost use Rattle.std.specs.Prelude.{◌≡◌, ◌<◌, ◌≤◌, ◌∷◌, [], length, IfSome};
 ghost use Rattle.std.specs.Option.{MatchOption};
 ghost use Rattle.std.specs.List.{prefix_len};
 ghost use Rattle.std.specs.Str.{IsCharBoundary};
@@ -22,7 +22,8 @@ pub fn line_len(text: &str) -> usize
 /// The first line of a string, and the lines after it, if there are any.
 #[inline(always)]
 pub fn split_line(text: &str) -> (&str, Option<&str>)
-    ensures { MatchOption result.1 (lines_of text.now ≡ result.0.now ∷ []) (λ rest. lines_of text.now ≡ result.0.now ∷ lines_of rest.now) }
+    ensures shorter { IfSome result.1 (λ rest. length rest.now < length text.now) }
+    ensures lines { MatchOption result.1 (lines_of text.now ≡ result.0.now ∷ []) (λ rest. lines_of text.now ≡ result.0.now ∷ lines_of rest.now) }
 {
     let (line, rest) = text.split_at(line_len(text));
     (line, rest.strip_prefix('\n'))

@@ -3,8 +3,8 @@ ghost use Rattle.std.specs.Prelude.{◌≡◌, ◌<◌, ◌≤◌, length, IfSom
 ghost use Rattle.std.specs.List.{prefix_len};
 
 use crate::tokenizer::lanes::{
-    LANES, block_lanes, digit_lanes, flat_lanes, line_lanes, name_lanes, no_feed_lanes,
-    space_lanes, string_lanes,
+    LANES, block_lanes, digit_lanes, flat_lanes, line_lanes, name_lanes, no_backslash_lanes,
+    no_feed_lanes, space_lanes, string_lanes,
 };
 
 /// A class of bytes.
@@ -101,6 +101,20 @@ impl Class for NoLineFeed {
     #[inline(always)]
     fn lanes(bytes: &[u8]) -> usize {
         no_feed_lanes(bytes)
+    }
+}
+
+/// All bytes except backslash.
+pub struct NoBackslash;
+
+impl Class for NoBackslash {
+    ghost use Rattle.graphql_core.specs.steps.Ahead.{is_no_backslash};
+
+    ghost has = { is_no_backslash };
+
+    #[inline(always)]
+    fn lanes(bytes: &[u8]) -> usize {
+        no_backslash_lanes(bytes)
     }
 }
 

@@ -1,5 +1,5 @@
 //! Values of strings in quotes (GraphQL, October 2021, section 2.9.4).
-ghost use Rattle.std.specs.Prelude.{◌≡◌, ℕ, List, true, length, IfOk, IfSome, IfNone, SomeIff, IsErrOf, string_bytes};
+ghost use Rattle.std.specs.Prelude.{◌≡◌, ◌≢◌, ◌<◌, ℕ, List, slice_index, true, length, IfOk, IfSome, IfNone, SomeIff, IsErrOf, string_bytes};
 ghost use Rattle.std.specs.Char.{is_ascii_hexdigit};
 ghost use Rattle.std.specs.List.{list_all};
 ghost use Rattle.std.specs.Str.Parse.{digits_value};
@@ -8,6 +8,7 @@ ghost use Rattle.graphql_core.specs.{BeginsName, BeginsNoName};
 ghost use Rattle.graphql_core.specs.declared.common.strings.error.UnquoteError.TheVariants.{BadEscape};
 
 use crate::common::strings::error::UnquoteError;
+use crate::tokenizer::run::{NoBackslash, class_prefix_len};
 use std::alloc::Global;
 
 fn are_hexadecimal(digits: &str) -> bool
@@ -59,6 +60,14 @@ fn escape(text: &str) -> Option<(char, &str)>
     Some((character, characters.as_str()))
 }
 
+/// Whether a string has no backslash, and so no escape.
+#[inline(always)]
+pub fn has_no_backslash(text: &str) -> bool
+    ensures { result ≡ true → (i : ℕ) → i < length text.now → slice_index text.now i ≢ 92 }
+{
+    class_prefix_len::<NoBackslash>(text.as_bytes()) == text.len()
+}
+
 /// Returns the value of a string in quotes (GraphQL, October 2021, section 2.9.4).
 ///
 /// `text` must be the spelling of the token, with both quotes. It returns `BadEscape` if an escape denotes no
@@ -71,6 +80,9 @@ pub fn unquote_string(alloc: Global, text: &str) -> Result<String, UnquoteError>
     ensures bad_escape { (body : List ℕ) → IsInQuotes text.now body → IsErrOf result BadEscape → HasNoStringValue body }
 {
     let mut rest = &text[1..text.len() - 1];
+    if has_no_backslash(rest) {
+        return Ok(String::from_str(alloc, rest)?);
+    }
     // The value is at most as long as the content.
     let mut value = String::with_capacity(alloc, rest.len())?;
     'escapes: while let Some((plain, escaped)) = rest.split_once('\\') {

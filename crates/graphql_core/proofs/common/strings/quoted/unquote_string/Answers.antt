@@ -1,5 +1,5 @@
 use Rattle.std.specs.Option.{IfNone, IfSome}
-use Rattle.std.proofs.Common.{◌≡◌, ◌++◌, List, ℕ, length, get_or, Some, None, string_bytes, sym, ap, subst, arith, rules, append_assoc}
+use Rattle.std.proofs.Common.{◌≡◌, ◌++◌, List, ℕ, length, get_or, Some, None, string_bytes, sym, ap, subst, ◌∙◌, arith, rules, append_assoc}
 use Rattle.std.proofs.lemmas.Str.Pattern.{split_parts}
 use Rattle.std.specs.Char.{encode_utf8}
 use Rattle.graphql_core.specs.{HasValue, BeginsEscape, BeginsNoEscape}
@@ -13,6 +13,17 @@ range-rest-requires-clause-start_boundary c =
     let long = ap length e in
     let first : get_or c.args.text.now 0 0 ≡ 34 = ap (λ t. get_or t 0 0) e in
     λ _. IsCharBoundary-after_ascii c.args.text.now 0 c.utf8.text (omega arith) (omega arith)
+
+pub returns-then-has_no_backslash-clause-value : goal.returns-then-has_no_backslash-clause-value
+returns-then-has_no_backslash-clause-value c body q =
+    let rest = c.range-rest.result.now in
+    let whole = plain_value rest (c.has_no_backslash.ensures c.if-has_no_backslash.true) in
+    let is = c.range-rest.ensures.value ∙ between c.args.text.now body q in
+    subst (λ b. HasValue b (string_bytes c.in_ok-from_str.field-0)) is (subst (λ v. HasValue rest v) (sym c.in_ok-from_str.ensures.ok) whole)
+
+pub returns-then-has_no_backslash-clause-only : goal.returns-then-has_no_backslash-clause-only
+returns-then-has_no_backslash-clause-only c body v q h =
+    one_value body v (string_bytes c.in_ok-from_str.field-0) h (returns-then-has_no_backslash-clause-value c body q)
 
 pub returns-in_err-character-clause-bad_escape : goal.returns-in_err-character-clause-bad_escape
 returns-in_err-character-clause-bad_escape c body q _ v h =
