@@ -17,13 +17,9 @@ fn continuing_in_short_slice(bytes: &[u8]) -> usize
 }
 
 /// How many of these bytes continue a character.
-#[inline(always)]
 fn continuing_count(bytes: &[u8]) -> usize
     ensures { result ≡ count_by continues_character bytes.now }
 {
-    if bytes.is_empty() {
-        return 0;
-    }
     let mut count = 0;
     let mut rest = bytes;
     'loads: while rest.len() >= LANES {
