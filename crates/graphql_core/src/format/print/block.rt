@@ -1,8 +1,7 @@
 //! Strings in block form.
-ghost use Rattle.std.specs.Prelude.{◌≡◌, ◌≤◌, ◌∷◌, [], false, not, ◌&&◌, ◌||◌, ◌==◌, length, OnOk};
-ghost use Rattle.std.specs.Option.{MatchOption};
-ghost use Rattle.std.specs.List.{list_all, list_any, flat_map, prefix_len};
-ghost use Rattle.std.specs.Str.{chars, IsCharBoundary};
+ghost use Rattle.std.specs.Prelude.{◌≡◌, false, not, ◌&&◌, ◌||◌, ◌==◌, OnOk};
+ghost use Rattle.std.specs.List.{list_all, list_any, flat_map};
+ghost use Rattle.std.specs.Str.{chars};
 ghost use Rattle.graphql_core.specs.strings.BlockStrings.{is_blank_line};
 ghost use Rattle.graphql_core.specs.steps.BlockBytes.{is_block_byte};
 ghost use Rattle.graphql_core.specs.layouts.ValueLayout as spec;

@@ -1,4 +1,4 @@
-use Rattle.std.proofs.Common.{◌-◌, ℕ, cond, length, drop, length-drop, arith}
+use Rattle.std.proofs.Common.{◌-◌, cond, length, drop, length-drop, arith}
 use Rattle.std.proofs.lemmas.List.{take_all}
 use Rattle.std.proofs.lemmas.List.Sums.{sum_by-take-drop, count_by-le-length}
 use Rattle.graphql_core.specs.{continues_character}

@@ -1,4 +1,4 @@
-use Rattle.std.proofs.Common.{◌≡◌, refl, sym, ap, ◌∙◌, drop, arith, rules}
+use Rattle.std.proofs.Common.{◌≡◌, sym, ap, ◌∙◌, drop, arith, rules}
 use Rattle.std.specs.Str.Lines.{lines}
 use Rattle.graphql_core.proofs.{some_left, left_after}
 use Rattle.graphql_core.proofs.common.strings.block.after_lines.Goals as goal

@@ -2,7 +2,7 @@ use Rattle.std.proofs.Common.{◌≡◌, ◌≤◌, ℕ, ◌+◌, ◌-◌, min, 
 use Rattle.std.proofs.Common.{rules}
 use Rattle.std.proofs.lemmas.List.{take_all}
 use Rattle.std.proofs.lemmas.List.Sums.{prefix_len-le-length}
-use Rattle.std.specs.List.{join_by, prefix_len, suffix_len}
+use Rattle.std.specs.List.{join_by, prefix_len}
 use Rattle.std.specs.Str.Lines.{lines}
 use Rattle.graphql_core.specs.{indent, is_blank_line, common_indent, unescaped}
 use Rattle.std.proofs.lemmas.Bool.Decides.{nat_tests}
