@@ -1,5 +1,6 @@
 pub mod ReaderSteps
 pub mod Reading
+pub mod TakenOff
 pub mod Steps
 pub mod Alternatives
 pub mod Optional
@@ -10,6 +11,7 @@ pub mod PlainAlternatives
 pub mod ValueAlternatives
 unfoldable pub use ReaderSteps.*
 unfoldable pub use Reading.*
+unfoldable pub use TakenOff.*
 unfoldable pub use Steps.*
 unfoldable pub use Alternatives.*
 unfoldable pub use Optional.*

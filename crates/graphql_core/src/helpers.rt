@@ -15,7 +15,7 @@ pub use matching::{expect_keyword, expect_name, expect_punctuator, sees_keyword}
 pub use minify::{is_spaced, minified, spaced_tokens_are_cut};
 pub use punctuator::Punctuator;
 pub use read_error::{ReadError, fault_of};
-pub use room::shrink_list;
+pub use room::{shrink_list, split_list};
 pub use source::{Lexeme, TokenSource};
 pub use span::{Span, WIDE_TEXT, Width};
 pub use spans::SpanSource;

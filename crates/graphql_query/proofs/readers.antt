@@ -4,7 +4,6 @@ pub mod VariableAlternatives
 pub mod SelectionAlternatives
 pub mod DefinitionAlternatives
 pub mod EqualParts
-pub mod TakenOff
 pub mod Views
 pub mod Printable
 unfoldable pub use Readable.*
@@ -13,6 +12,5 @@ unfoldable pub use VariableAlternatives.*
 unfoldable pub use SelectionAlternatives.*
 unfoldable pub use DefinitionAlternatives.*
 unfoldable pub use EqualParts.*
-unfoldable pub use TakenOff.*
 unfoldable pub use Views.*
 unfoldable pub use Printable.*

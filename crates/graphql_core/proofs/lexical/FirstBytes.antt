@@ -1,5 +1,5 @@
 -- The first byte of a token decides which punctuator it is, and whether it is a name.
-use Rattle.std.proofs.Common.{◌≡◌, ℕ, true, false, Bool, ◌&&◌, ◌||◌, ◌==◌, List, [], ◌∷◌, All, refl, sym, ap, ◌∙◌, arith}
+use Rattle.std.proofs.Common.{◌≡◌, ℕ, true, false, Bool, ◌&&◌, ◌||◌, ◌==◌, List, [], ◌∷◌, All, refl, sym, ap, ap₂, ◌∙◌, arith}
 use Rattle.std.proofs.lemmas.Bool.Decides.{nat_tests}
 use Rattle.std.proofs.lemmas.List.Elements.{All-head}
 use Rattle.graphql_core.specs.{name_token, punctuator_token, is_name_start, is_punctuator_byte, Word, Stands, spread_token}
@@ -9,7 +9,7 @@ use Rattle.graphql_core.specs.{first_byte, front_byte, IsLexeme}
 use Rattle.graphql_core.proofs.lexical.Runs.{differs}
 use Rattle.graphql_core.proofs.lexical.Numbers.{NumberRun, integer_run, float_run}
 use Rattle.graphql_core.specs.declared.tokenizer.token.Kind.{Kind}
-use Rattle.graphql_core.specs.declared.tokenizer.token.Kind.TheVariants.{Name}
+use Rattle.graphql_core.specs.declared.tokenizer.token.Kind.TheVariants.{Name, StringValue, BlockString}
 use Rattle.graphql_core.specs.declared.tokenizer.piece.Nesting.{Nesting}
 use Rattle.graphql_core.specs.declared.helpers.punctuator.Punctuator.{Punctuator}
 use Rattle.graphql_core.specs.declared.helpers.punctuator.Punctuator.TheVariants.{Bang, Dollar, Ampersand, OpenParen}
@@ -85,6 +85,17 @@ name_seen (float_token {run = run} f e) = let r = float_run f in ap (λ ys. is_n
 name_seen (string_token body h n) = refl
 name_seen (block_string_token h) = refl
 
+-- strings and block strings begin with a quote
+string_seen : {k : Kind} {s : Nesting} {bytes rest : List ℕ} → Stands bytes (Word k s) rest
+    → (first_byte bytes == 34) ≡ ((kind_number StringValue == kind_number k) && true) || ((kind_number BlockString == kind_number k) && true)
+string_seen (name_token {b = f} h all stop) = differs is_name_start f 34 h refl
+string_seen (punctuator_token {b = f} h) = differs is_punctuator_byte f 34 h refl
+string_seen spread_token = refl
+string_seen (integer_token {run = run} h e) = in_run run 34 (integer_run run h) refl
+string_seen (float_token {run = run} f e) = in_run run 34 (float_run f) refl
+string_seen (string_token body h n) = refl
+string_seen (block_string_token h) = refl
+
 -- ---- the first of a list of tokens
 
 or_false : (b : Bool) → b ≡ b || false
@@ -119,3 +130,11 @@ sees_name [] all = refl
 sees_name (t ∷ ts) all =
     let (k, s, rest, kind, stands) = All-head IsLexeme t ts all in
     name_seen stands ∙ ap (λ n. (kind_number Name == n) && true) (sym kind) ∙ or_false (matches (AnyOf (kind_number Name)) t)
+
+pub sees_string : (ts : List Token) → All IsLexeme ts → (front_byte ts == 34)
+    ≡ (sees (AnyOf (kind_number StringValue) ∷ []) (peek ts) || sees (AnyOf (kind_number BlockString) ∷ []) (peek ts))
+sees_string [] all = refl
+sees_string (t ∷ ts) all =
+    let (k, s, rest, kind, stands) = All-head IsLexeme t ts all in
+    string_seen stands ∙ ap (λ n. ((kind_number StringValue == n) && true) || ((kind_number BlockString == n) && true)) (sym kind)
+    ∙ ap₂ (λ x y. x || y) (or_false (matches (AnyOf (kind_number StringValue)) t)) (or_false (matches (AnyOf (kind_number BlockString)) t))

@@ -224,6 +224,11 @@ impl<'a, T: Text<'a>> TokenSource for Cursor<'a, T> {
     }
 
     #[inline(always)]
+    fn sees_string(&self) -> bool {
+        self.front == b'"'
+    }
+
+    #[inline(always)]
     fn position(&self) -> Pos {
         self.position
     }

@@ -18,9 +18,9 @@ pub struct Lexeme<T> {
 
 /// The tokens of an input, with one token of lookahead.
 pub trait TokenSource {
-    ghost use Rattle.std.specs.Prelude.{ℕ, List, ◌≡◌, IfOk, IfSome, IsTrue, ◌↔◌};
+    ghost use Rattle.std.specs.Prelude.{ℕ, List, ◌≡◌, IfOk, IfSome, IsTrue, ◌↔◌, ◌||◌};
     ghost use Rattle.graphql_core.specs.grammar.Tokens.{AnyOf};
-    ghost use Rattle.graphql_core.specs.declared.tokenizer.token.Kind.TheVariants.{Name};
+    ghost use Rattle.graphql_core.specs.declared.tokenizer.token.Kind.TheVariants.{Name, StringValue, BlockString};
     ghost use Rattle.graphql_core.specs.sources.Causes.{kind_number};
     ghost use Rattle.graphql_core.specs.steps.Punctuators.{class_of};
     ghost use Rattle.graphql_core.specs.steps.Matching.{sees_class};
@@ -52,6 +52,11 @@ pub trait TokenSource {
     /// Whether the next token is a name.
     fn sees_name(&self) -> bool
         ensures { result ≡ sees_class (AnyOf (kind_number Name)) (items self.now) };
+
+    /// Whether the next token is a string or a block string.
+    fn sees_string(&self) -> bool
+        ensures { result ≡ (sees_class (AnyOf (kind_number StringValue)) (items self.now)
+            || sees_class (AnyOf (kind_number BlockString)) (items self.now)) };
 
     /// The position of the next token, of the end of input, or of the lexical error.
     fn position(&self) -> Pos

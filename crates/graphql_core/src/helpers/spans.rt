@@ -222,6 +222,11 @@ impl<'a, T: Text<'a>, W: Width> TokenSource for SpanSource<'a, T, W> {
     }
 
     #[inline(always)]
+    fn sees_string(&self) -> bool {
+        self.front == b'"'
+    }
+
+    #[inline(always)]
     fn position(&self) -> Pos {
         match self.spans.tokens.get(self.taken) {
             Some(span) => position_of(*span),

@@ -86,9 +86,13 @@ pub fn definitions<S: TokenSource>(
     let mut definitions = Vec::new(alloc);
     // The selections of the open selection sets. A set that closes removes its own from the end.
     let mut scratch = Vec::new(alloc);
-    definitions.push(definition(alloc, source, &mut scratch)?)?;
+    let first = definition(alloc, source, &mut scratch)?;
+    definitions.reserve(1)?;
+    definitions.push_reserved(first);
     'more: while sees_definition(source) {
-        definitions.push(definition(alloc, source, &mut scratch)?)?;
+        let next = definition(alloc, source, &mut scratch)?;
+        definitions.reserve(1)?;
+        definitions.push_reserved(next);
     }
     Ok(definitions)
 }

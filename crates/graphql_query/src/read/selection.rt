@@ -12,7 +12,7 @@ use crate::read::alias::alias_and_name;
 use crate::read::fragment::{fragment_spread, optional_type_condition, sees_spread_name};
 use crate::tree::{Field, InlineFragment, Selection, SelectionSet};
 use graphql_core::common::read::directives::{self, optional_arguments};
-use graphql_core::helpers::{Punctuator, ReadError, TokenSource, expect_punctuator};
+use graphql_core::helpers::{Punctuator, ReadError, TokenSource, expect_punctuator, split_list};
 use graphql_core::position::Pos;
 use std::alloc::Global;
 
@@ -172,7 +172,7 @@ fn selections<S: TokenSource>(
 }
 
 /// `SelectionSet = "{" Selection+ "}"`. Selections are collected at the end of `others` and then split off,
-/// so the list of a set is allocated once, at its exact length.
+/// so the list of a set is allocated once.
 #[cycle(reading)]
 #[inline(always)]
 #[tactic(auto, using(graphql_core::proofs::readers::Reading::reading))]
@@ -189,6 +189,6 @@ pub fn selection_set<S: TokenSource>(
 {
     let count = others.len();
     let span = selections(alloc, source, others)?;
-    let items = others.split_off(count)?;
+    let items = split_list(alloc, others, count)?;
     Ok(SelectionSet { span, items })
 }

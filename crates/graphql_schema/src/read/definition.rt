@@ -9,7 +9,7 @@ use crate::read::extension::extension;
 use crate::read::invalid_node::InvalidNode;
 use crate::read::keyword::{Keyword, peek_keyword, sees_definition_keyword};
 use crate::read::schema::schema_definition;
-use crate::read::types::type_body;
+use crate::read::types::{Scratch, type_body};
 use crate::tree::Definition;
 use graphql_core::common::read::node_error::NodeError;
 use graphql_core::helpers::{ReadError, TokenSource, sees_keyword};
@@ -17,11 +17,12 @@ use std::alloc::Global;
 
 /// `SchemaItem = Description? Schema | Extension | Described`,
 /// where `Described = Description? TypeBody | Description? DirectiveDef`
-/// and `TypeBody = Scalar | Object | Interface | Union | Enum | Input`.
+/// and `TypeBody = Scalar | Object | Interface | Union | Enum | Input`. Parts of a type are collected in `scratch`.
 #[tactic(auto, using(graphql_core::proofs::readers::Reading::reading))]
 fn definition<S: TokenSource>(
     alloc: Global,
     source: &mut S,
+    scratch: &mut Scratch<S::Names>,
 ) -> Result<Definition<S::Names>, NodeError<InvalidNode>>
     ensures reads { ReadsNode (Sym item_symbol) (S.items source.old) (S.items source.new)
         (λ v x. definition_view S.Names.bytes v ≡ item_of x) result }
@@ -29,7 +30,7 @@ fn definition<S: TokenSource>(
     ensures shorter { Shortens (S.items source.old) (S.items source.new) result }
 {
     if sees_keyword(source, "extend") {
-        return extension(alloc, source);
+        return extension(alloc, source, scratch);
     }
     let description = optional_description(alloc, source)?;
     match peek_keyword(source) {
@@ -39,7 +40,7 @@ fn definition<S: TokenSource>(
             Ok(Definition::SchemaDefinition(schema))
         }
         Some(Keyword::OfType(kind)) => {
-            let body = type_body(alloc, source, kind)?;
+            let body = type_body(alloc, source, kind, scratch)?;
             Ok(Definition::TypeDefinition(body.into_definition(description)))
         }
         Some(Keyword::Directive) => {
@@ -70,9 +71,14 @@ pub fn definitions<S: TokenSource>(
     ensures shorter { Shortens (S.items source.old) (S.items source.new) result }
 {
     let mut definitions = Vec::new(alloc);
-    definitions.push(definition(alloc, source)?)?;
+    let mut scratch = Scratch::new(alloc);
+    let first = definition(alloc, source, &mut scratch)?;
+    definitions.reserve(1)?;
+    definitions.push_reserved(first);
     'more: while sees_definition(source) {
-        definitions.push(definition(alloc, source)?)?;
+        let next = definition(alloc, source, &mut scratch)?;
+        definitions.reserve(1)?;
+        definitions.push_reserved(next);
     }
     Ok(definitions)
 }

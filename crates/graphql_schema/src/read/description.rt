@@ -11,13 +11,11 @@ use graphql_core::tokenizer::Kind;
 use std::alloc::Global;
 
 /// Whether the next token is a description.
+#[inline(always)]
 pub fn sees_description<S: TokenSource>(source: &S) -> bool
     ensures { result ≡ sees_description (S.items source.now) }
 {
-    match source.peek() {
-        Some(token) => matches!(token.kind, Kind::StringValue | Kind::BlockString),
-        None => false,
-    }
+    source.sees_string()
 }
 
 /// Whether the next token is a block string.

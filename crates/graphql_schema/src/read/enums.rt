@@ -1,6 +1,6 @@
 //! Values of enums.
-ghost use Rattle.std.specs.Prelude.{◌≡◌, ◌≤◌, OnOk, length};
-ghost use Rattle.graphql_core.specs.{Sym, optional, kept, Adds, reading, enclosed_of, optional_list_of};
+ghost use Rattle.std.specs.Prelude.{◌≡◌, ◌≤◌, OnOk, length, map};
+ghost use Rattle.graphql_core.specs.{Sym, optional, kept, reading, enclosed_of, optional_list_of};
 ghost use Rattle.graphql_schema.specs.Grammar.{enum_value_symbol, enum_values_symbol};
 ghost use Rattle.graphql_schema.specs.Meanings.{enum_value_of};
 ghost use Rattle.graphql_schema.specs.Views.{enum_value_view};
@@ -11,7 +11,7 @@ ghost use Rattle.graphql_schema.specs.steps.Readers.{Reads, as_written};
 use crate::read::description::{optional_description, sees_described_name};
 use crate::tree::EnumValue;
 use graphql_core::common::read::directives;
-use graphql_core::common::read::lists::{Elements, optional_list};
+use graphql_core::common::read::lists::{Elements, optional_split_list};
 use graphql_core::helpers::{Punctuator, ReadError, TokenSource, expect_name};
 use std::alloc::Global;
 
@@ -58,17 +58,17 @@ impl<S: TokenSource> Elements<S> for EnumValueList {
     }
 }
 
-/// `EnumValues?`, `EnumValues = "{" EnumValue+ "}"`
+/// `EnumValues?`, `EnumValues = "{" EnumValue+ "}"`. Elements are collected at the end of `others`, and split off.
 pub fn optional_enum_values<S: TokenSource>(
     alloc: Global,
     source: &mut S,
-    values: &mut Vec<EnumValue<S::Names>>,
-) -> Result<(), ReadError>
+    others: &mut Vec<EnumValue<S::Names>>,
+) -> Result<Vec<EnumValue<S::Names>>, ReadError>
     ensures reads { Reads (optional (Sym enum_values_symbol)) (S.items source.old) (S.items source.new)
-        (λ v x. Adds (enum_value_view S.Names.bytes) values.old.items values.new.items (optional_list_of (enclosed_of enum_value_of) x)) result }
+        (λ v x. map (enum_value_view S.Names.bytes) v.items ≡ optional_list_of (enclosed_of enum_value_of) x) result }
     ensures kept { kept (S.items source.new) ≡ kept (S.items source.old) }
     ensures within { OnOk result (length (S.items source.new).tokens ≤ length (S.items source.old).tokens) }
 {
     let (open, close) = (Punctuator::OpenBrace, Punctuator::CloseBrace);
-    optional_list::<S, EnumValueList>(alloc, source, open, close, values)
+    optional_split_list::<S, EnumValueList>(alloc, source, open, close, others)
 }

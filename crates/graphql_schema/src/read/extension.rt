@@ -7,7 +7,7 @@ ghost use Rattle.graphql_schema.specs.{definition_view, ReadsNode};
 use crate::read::invalid_node::InvalidNode;
 use crate::read::keyword::{Keyword, peek_keyword};
 use crate::read::schema::schema_extension;
-use crate::read::types::type_body;
+use crate::read::types::{Scratch, type_body};
 use crate::tree::{Definition, SchemaExtension};
 use graphql_core::common::Names;
 use graphql_core::common::read::node_error::NodeError;
@@ -25,10 +25,12 @@ fn adds_to_schema<N: Names>(added: &SchemaExtension<N>) -> bool
 }
 
 /// `Extension = "extend" TypeBody | "extend" SchemaExt`. An extension that adds nothing is rejected.
+/// Parts of a type are collected in `scratch`.
 #[tactic(auto, using(graphql_core::proofs::readers::Reading::reading))]
 pub fn extension<S: TokenSource>(
     alloc: Global,
     source: &mut S,
+    scratch: &mut Scratch<S::Names>,
 ) -> Result<Definition<S::Names>, NodeError<InvalidNode>>
     ensures reads { ReadsNode (Sym extension_symbol) (S.items source.old) (S.items source.new)
         (λ v x. definition_view S.Names.bytes v ≡ extension_of x) result }
@@ -45,7 +47,7 @@ pub fn extension<S: TokenSource>(
             Ok(Definition::SchemaExtension(extension))
         }
         Some(Keyword::OfType(kind)) => {
-            let body = type_body(alloc, source, kind)?;
+            let body = type_body(alloc, source, kind, scratch)?;
             if !body.adds() {
                 return Err(NodeError::Refused(InvalidNode::Extension(body.position)));
             }

@@ -1,6 +1,6 @@
 //! Fields of object types and of interfaces.
-ghost use Rattle.std.specs.Prelude.{◌≡◌, ◌≤◌, OnOk, length};
-ghost use Rattle.graphql_core.specs.{Sym, optional, kept, Adds, reading, enclosed_of, optional_list_of};
+ghost use Rattle.std.specs.Prelude.{◌≡◌, ◌≤◌, OnOk, length, map};
+ghost use Rattle.graphql_core.specs.{Sym, optional, kept, reading, enclosed_of, optional_list_of};
 ghost use Rattle.graphql_schema.specs.Grammar.{field_symbol, fields_symbol};
 ghost use Rattle.graphql_schema.specs.Meanings.{field_of};
 ghost use Rattle.graphql_schema.specs.Views.{field_view};
@@ -12,7 +12,7 @@ use crate::read::description::{optional_description, sees_described_name};
 use crate::read::input::optional_argument_definitions;
 use crate::tree::Field;
 use graphql_core::common::read::directives;
-use graphql_core::common::read::lists::{Elements, optional_list};
+use graphql_core::common::read::lists::{Elements, optional_split_list};
 use graphql_core::common::read::types::type_reference;
 use graphql_core::helpers::{Punctuator, ReadError, TokenSource, expect_name, expect_punctuator};
 use std::alloc::Global;
@@ -66,17 +66,17 @@ impl<S: TokenSource> Elements<S> for FieldList {
     }
 }
 
-/// `Fields?`, `Fields = "{" FieldDef+ "}"`
+/// `Fields?`, `Fields = "{" FieldDef+ "}"`. Elements are collected at the end of `others`, and split off.
 pub fn optional_fields<S: TokenSource>(
     alloc: Global,
     source: &mut S,
-    fields: &mut Vec<Field<S::Names>>,
-) -> Result<(), ReadError>
+    others: &mut Vec<Field<S::Names>>,
+) -> Result<Vec<Field<S::Names>>, ReadError>
     ensures reads { Reads (optional (Sym fields_symbol)) (S.items source.old) (S.items source.new)
-        (λ v x. Adds (field_view S.Names.bytes) fields.old.items fields.new.items (optional_list_of (enclosed_of field_of) x)) result }
+        (λ v x. map (field_view S.Names.bytes) v.items ≡ optional_list_of (enclosed_of field_of) x) result }
     ensures kept { kept (S.items source.new) ≡ kept (S.items source.old) }
     ensures within { OnOk result (length (S.items source.new).tokens ≤ length (S.items source.old).tokens) }
 {
     let (open, close) = (Punctuator::OpenBrace, Punctuator::CloseBrace);
-    optional_list::<S, FieldList>(alloc, source, open, close, fields)
+    optional_split_list::<S, FieldList>(alloc, source, open, close, others)
 }

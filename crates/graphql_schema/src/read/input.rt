@@ -1,5 +1,5 @@
 //! Arguments of fields and of directives, and fields of input objects.
-ghost use Rattle.std.specs.Prelude.{◌≡◌, ◌≤◌, OnOk, length};
+ghost use Rattle.std.specs.Prelude.{◌≡◌, ◌≤◌, OnOk, length, map};
 ghost use Rattle.graphql_core.specs.{Sym, optional, kept, Adds, reading, enclosed_of, optional_list_of};
 ghost use Rattle.graphql_schema.specs.Grammar.{input_value_symbol, argument_definitions_symbol, input_fields_symbol};
 ghost use Rattle.graphql_schema.specs.Meanings.{input_value_of};
@@ -11,7 +11,7 @@ ghost use Rattle.graphql_schema.specs.steps.Readers.{Reads, as_written};
 use crate::read::description::{optional_description, sees_described_name};
 use crate::tree::InputValue;
 use graphql_core::common::read::directives::{self, optional_default};
-use graphql_core::common::read::lists::{Elements, optional_list};
+use graphql_core::common::read::lists::{Elements, optional_list, optional_split_list};
 use graphql_core::common::read::types::type_reference;
 use graphql_core::helpers::{Punctuator, ReadError, TokenSource, expect_name, expect_punctuator};
 use std::alloc::Global;
@@ -76,21 +76,24 @@ pub fn optional_argument_definitions<S: TokenSource>(
     ensures kept { kept (S.items source.new) ≡ kept (S.items source.old) }
     ensures within { OnOk result (length (S.items source.new).tokens ≤ length (S.items source.old).tokens) }
 {
+    if source.sees_punctuator(Punctuator::OpenParen) {
+        values.reserve_exact(2)?;
+    }
     let (open, close) = (Punctuator::OpenParen, Punctuator::CloseParen);
     optional_list::<S, InputValueList>(alloc, source, open, close, values)
 }
 
-/// `InputFields?`, `InputFields = "{" InputValue+ "}"`
+/// `InputFields?`, `InputFields = "{" InputValue+ "}"`. Elements are collected at the end of `others`, and split off.
 pub fn optional_input_fields<S: TokenSource>(
     alloc: Global,
     source: &mut S,
-    fields: &mut Vec<InputValue<S::Names>>,
-) -> Result<(), ReadError>
+    others: &mut Vec<InputValue<S::Names>>,
+) -> Result<Vec<InputValue<S::Names>>, ReadError>
     ensures reads { Reads (optional (Sym input_fields_symbol)) (S.items source.old) (S.items source.new)
-        (λ v x. Adds (input_value_view S.Names.bytes) fields.old.items fields.new.items (optional_list_of (enclosed_of input_value_of) x)) result }
+        (λ v x. map (input_value_view S.Names.bytes) v.items ≡ optional_list_of (enclosed_of input_value_of) x) result }
     ensures kept { kept (S.items source.new) ≡ kept (S.items source.old) }
     ensures within { OnOk result (length (S.items source.new).tokens ≤ length (S.items source.old).tokens) }
 {
     let (open, close) = (Punctuator::OpenBrace, Punctuator::CloseBrace);
-    optional_list::<S, InputValueList>(alloc, source, open, close, fields)
+    optional_split_list::<S, InputValueList>(alloc, source, open, close, others)
 }

@@ -10,10 +10,30 @@ use crate::read::input::optional_input_fields;
 use crate::read::keyword::TypeKind;
 use crate::read::names::{optional_implements, optional_members};
 use crate::read::type_body::{TypeBody, TypeParts};
+use crate::tree::{EnumValue, Field, InputValue};
 use graphql_core::common::Names;
 use graphql_core::common::read::directives;
 use graphql_core::helpers::{ReadError, TokenSource, expect_keyword, expect_name};
 use std::alloc::Global;
+
+/// Lists at whose ends the parts of a type are collected.
+#[derive(Drop)]
+pub struct Scratch<N: Names> {
+    fields: Vec<Field<N>>,
+    values: Vec<EnumValue<N>>,
+    inputs: Vec<InputValue<N>>,
+}
+
+impl<N: Names> Scratch<N> {
+    /// Empty lists.
+    pub fn new(alloc: Global) -> Self {
+        Scratch {
+            fields: Vec::new(alloc),
+            values: Vec::new(alloc),
+            inputs: Vec::new(alloc),
+        }
+    }
+}
 
 /// `Implements?` if the kind can have it. Appends the interfaces to `names`.
 #[tactic(auto, using(graphql_core::proofs::readers::Reading::reading))]
@@ -35,12 +55,14 @@ fn interfaces<S: TokenSource>(
 }
 
 /// `Fields?`, `Members?`, `EnumValues?` or `InputFields?`, as `kind` says. The result also holds `interfaces`.
+/// Parts are collected in `scratch`.
 #[tactic(auto, using(graphql_core::proofs::readers::Reading::reading))]
 fn parts<S: TokenSource>(
     alloc: Global,
     source: &mut S,
     kind: TypeKind,
     interfaces: Vec<<S::Names as Names>::Value>,
+    scratch: &mut Scratch<S::Names>,
 ) -> Result<TypeParts<S::Names>, ReadError>
     ensures reads { Reads (parts_rule kind) (S.items source.old) (S.items source.new)
         (λ v x. parts_view S.Names.bytes v ≡ parts_of kind (map S.Names.bytes interfaces.items) x) result }
@@ -50,13 +72,11 @@ fn parts<S: TokenSource>(
     match kind {
         TypeKind::Scalar => Ok(TypeParts::Scalar),
         TypeKind::Object => {
-            let mut fields = Vec::new(alloc);
-            optional_fields(alloc, source, &mut fields)?;
+            let fields = optional_fields(alloc, source, &mut scratch.fields)?;
             Ok(TypeParts::Object(interfaces, fields))
         }
         TypeKind::Interface => {
-            let mut fields = Vec::new(alloc);
-            optional_fields(alloc, source, &mut fields)?;
+            let fields = optional_fields(alloc, source, &mut scratch.fields)?;
             Ok(TypeParts::Interface(interfaces, fields))
         }
         TypeKind::Union => {
@@ -65,13 +85,11 @@ fn parts<S: TokenSource>(
             Ok(TypeParts::Union(types))
         }
         TypeKind::Enum => {
-            let mut values = Vec::new(alloc);
-            optional_enum_values(alloc, source, &mut values)?;
+            let values = optional_enum_values(alloc, source, &mut scratch.values)?;
             Ok(TypeParts::Enum(values))
         }
         TypeKind::InputObject => {
-            let mut fields = Vec::new(alloc);
-            optional_input_fields(alloc, source, &mut fields)?;
+            let fields = optional_input_fields(alloc, source, &mut scratch.inputs)?;
             Ok(TypeParts::InputObject(fields))
         }
     }
@@ -79,11 +97,13 @@ fn parts<S: TokenSource>(
 
 /// `Scalar`, `Object`, `Interface`, `Union`, `Enum` or `Input`, as `kind` says:
 /// the keyword, `Name`, `Implements?` if the kind can have it, `Directives`, and the parts.
+/// Parts are collected in `scratch`.
 #[tactic(auto, using(graphql_core::proofs::readers::Reading::reading))]
 pub fn type_body<S: TokenSource>(
     alloc: Global,
     source: &mut S,
     kind: TypeKind,
+    scratch: &mut Scratch<S::Names>,
 ) -> Result<TypeBody<S::Names>, ReadError>
     ensures reads { Reads (Sym (symbol_of kind)) (S.items source.old) (S.items source.new)
         (λ v x. type_body_view S.Names.bytes v ≡ means kind x) result }
@@ -96,7 +116,7 @@ pub fn type_body<S: TokenSource>(
     interfaces(alloc, source, kind, &mut implements)?;
     let mut directives = Vec::new(alloc);
     directives::directives(alloc, source, &mut directives)?;
-    let parts = parts(alloc, source, kind, implements)?;
+    let parts = parts(alloc, source, kind, implements, scratch)?;
     Ok(TypeBody {
         position,
         name,

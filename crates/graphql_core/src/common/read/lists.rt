@@ -1,12 +1,14 @@
 //! Lists of consecutive elements.
-ghost use Rattle.std.specs.Prelude.{◌≡◌, ◌≤◌, ℕ, List, OnOk, length};
+ghost use Rattle.std.specs.Prelude.{◌≡◌, ◌≤◌, ℕ, List, OnOk, length, map};
 ghost use Rattle.graphql_core.specs.steps.Punctuators.{class_of};
 ghost use Rattle.graphql_core.specs.grammar.Trees.{ParseTree, Many, Sym, optional};
 ghost use Rattle.graphql_core.specs.sources.Source.{kept};
 ghost use Rattle.graphql_core.specs.steps.Answers.{Gives, Adds, Shortens};
 ghost use Rattle.graphql_core.specs.steps.Lists.{each, IsList, IsOption};
 
-use crate::helpers::{Punctuator, ReadError, TokenSource, expect_punctuator, shrink_list};
+use crate::helpers::{
+    Punctuator, ReadError, TokenSource, expect_punctuator, shrink_list, split_list,
+};
 use std::alloc::Global;
 
 /// How to read the elements of a list.
@@ -78,6 +80,7 @@ pub fn read_enclosed<S: TokenSource, E: Elements<S>>(
     ensures reads { (k : ℕ) (m : ParseTree → List E.Tree) → IsList E.grammar (class_of opener) (class_of closer) E.production E.means k m
         → Gives E.grammar (Sym k) (S.items source.old) (S.items source.new) (λ v x. Adds E.view items.old.items items.new.items (m x)) result }
     ensures kept { kept (S.items source.new) ≡ kept (S.items source.old) }
+    ensures grows { OnOk result (length items.old.items ≤ length items.new.items) }
     ensures shorter { Shortens (S.items source.old) (S.items source.new) result }
 {
     expect_punctuator(source, opener)?;
@@ -85,6 +88,30 @@ pub fn read_enclosed<S: TokenSource, E: Elements<S>>(
     read_many::<S, E>(alloc, source, items)?;
     expect_punctuator(source, closer)?;
     Ok(())
+}
+
+/// Reads what `read_enclosed` reads, or nothing if `opener` does not come next. The elements are collected at the end of
+/// `others` and then split off, so their list is allocated once.
+#[inline(always)]
+#[tactic(auto, using(crate::proofs::readers::Reading::reading))]
+pub fn optional_split_list<S: TokenSource, E: Elements<S>>(
+    alloc: Global,
+    source: &mut S,
+    opener: Punctuator,
+    closer: Punctuator,
+    others: &mut Vec<E::Item>,
+) -> Result<Vec<E::Item>, ReadError>
+    ensures reads { (k : ℕ) (m n : ParseTree → List E.Tree) → IsList E.grammar (class_of opener) (class_of closer) E.production E.means k m → IsOption m n
+        → Gives E.grammar (optional (Sym k)) (S.items source.old) (S.items source.new) (λ v x. map E.view v.items ≡ n x) result }
+    ensures kept { kept (S.items source.new) ≡ kept (S.items source.old) }
+    ensures within { OnOk result (length (S.items source.new).tokens ≤ length (S.items source.old).tokens) }
+{
+    if !source.sees_punctuator(opener) {
+        return Ok(Vec::new(alloc));
+    }
+    let count = others.len();
+    read_enclosed::<S, E>(alloc, source, opener, closer, others)?;
+    Ok(split_list(alloc, others, count)?)
 }
 
 /// Reads what `read_enclosed` reads, or nothing if `opener` does not come next. For a long source it gives back the

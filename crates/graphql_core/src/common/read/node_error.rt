@@ -4,7 +4,7 @@ ghost use Rattle.graphql_core.specs.declared.helpers.read_error.ReadError.TheVar
 ghost use Rattle.graphql_core.specs.declared.common.read.node_error.NodeError.TheVariants.{Stopped};
 
 use crate::helpers::ReadError;
-use std::alloc::AllocFailed;
+use std::alloc::{AllocError, AllocFailed};
 
 /// Why a reader stops that can reject a node. `R` identifies the node.
 pub enum NodeError<R> {
@@ -19,6 +19,14 @@ impl<R> From<ReadError> for NodeError<R> {
 
     fn from(error: ReadError) -> NodeError<R> {
         NodeError::Stopped(error)
+    }
+}
+
+impl<R> From<AllocError> for NodeError<R> {
+    ghost from_gives = { λ _ e. e ≡ Stopped Memory };
+
+    fn from(_e: AllocError) -> NodeError<R> {
+        NodeError::Stopped(ReadError::Memory)
     }
 }
 

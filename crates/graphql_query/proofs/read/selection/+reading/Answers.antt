@@ -5,13 +5,13 @@ use Rattle.graphql_core.proofs.{Stops-before, Stops-after, Stops-turn, Turns-sta
 use Rattle.graphql_core.proofs.{takes_one, stops_one, answered_error, one_of, adds_none, adds_reserved, adds_more}
 use Rattle.graphql_core.proofs.{fills, here, took, past, after, fails, fails_last, lacks, begins_at, leads_in, into}
 use Rattle.graphql_core.proofs.{gives_led, lacks_last, some_given, none_given, pushes_none, turn_appends, turn_fails}
-use Rattle.graphql_core.proofs.{whole}
+use Rattle.graphql_core.proofs.{whole, no_fewer, stays}
 use Rattle.graphql_query.specs.{more, trees_of, selection_view, set, reading, changes, selection_set_symbol}
 use Rattle.graphql_query.specs.{selection_symbol, inline_fragment_rest, selections_of, queries, first_names}
 use Rattle.graphql_query.proofs.{readable, begun, lifted, stops_lifted, selection_set_begins, field_side, dots_side}
 use Rattle.graphql_query.proofs.{fragment_spread_side, inline_fragment_side, names_taken, stops_in_names}
 use Rattle.graphql_query.proofs.{begins_selection, field_means, inline_fragment_means, dots_mean, selection_at}
-use Rattle.graphql_query.proofs.{selections_mean, no_fewer, stays, field_made, inline_fragment_made}
+use Rattle.graphql_query.proofs.{selections_mean, field_made, inline_fragment_made}
 use Rattle.graphql_query.proofs.{selection_set_made, selection_set_taken, field_selected, inline_fragment_selected}
 use Rattle.graphql_query.proofs.read.selection.+reading.Goals as goal
 
@@ -211,8 +211,8 @@ selections-returns-clause-reads g t c =
 pub selection_set-returns-in_err-span-clause-reads : goal.selection_set-returns-in_err-span-clause-reads
 selection_set-returns-in_err-span-clause-reads g t c = fails_last _ _ _ _ here c.in_err-span.ensures.reads c.from_residual.ensures.1
 
-pub selection_set-split_off-requires : goal.selection_set-split_off-requires
-selection_set-split_off-requires g t c =
+pub selection_set-split_list-requires : goal.selection_set-split_list-requires
+selection_set-split_list-requires g t c =
     let (x, takes, (xs, added, is)) = c.in_ok-span.ensures.reads in
     let fewer = no_fewer (selection_view g.S.Names.Names.bytes) _ _ xs added in
     omega (arith, fewer, c.len-count.ensures, c.selections.new.items.ok.0, c.args.others.now.ok.0)
@@ -221,10 +221,10 @@ pub selection_set-returns-clause-reads : goal.selection_set-returns-clause-reads
 selection_set-returns-clause-reads g t c =
     let (x, takes, added) = c.in_ok-span.ensures.reads in
     let count : c.len-count.result ≡ length c.args.others.now.items = omega (arith, c.len-count.ensures, c.args.others.now.ok.0) in
-    (x, takes, selection_set_taken g.S.Names.Names.bytes _ _ _ count _ _ _ c.in_ok-items.ensures.tail added)
+    (x, takes, selection_set_taken g.S.Names.Names.bytes _ _ _ count _ _ _ c.in_ok-items.ensures.taken added)
 
 pub selection_set-returns-clause-others : goal.selection_set-returns-clause-others
 selection_set-returns-clause-others g t c =
     let (x, takes, (xs, added, is)) = c.in_ok-span.ensures.reads in
     let count : c.len-count.result ≡ length c.args.others.now.items = omega (arith, c.len-count.ensures, c.args.others.now.ok.0) in
-    stays (selection_view g.S.Names.Names.bytes) _ _ xs added _ count _ c.in_ok-items.ensures.items
+    stays (selection_view g.S.Names.Names.bytes) _ _ xs added _ count _ c.in_ok-items.ensures.left
