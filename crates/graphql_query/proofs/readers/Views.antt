@@ -14,7 +14,7 @@ use Rattle.graphql_query.specs.declared.tree.Selection.TheViews.{roll-Field, rol
 use Rattle.graphql_query.specs.{field, inline, set, SelectionSetTree, trees_of, type_condition_view, field_view}
 use Rattle.graphql_query.specs.{fragment_spread_view, inline_fragment_view, selection_view, selection_set_view}
 use Rattle.graphql_query.specs.{AddsSet}
-use Rattle.graphql_core.proofs.{taken_off}
+use Rattle.graphql_core.proofs.readers.TakenOff.{taken_off}
 use Rattle.graphql_query.specs.declared.tree.Selection.TheViews as made
 use Rattle.graphql_query.specs.declared.tree.Selection.TheBlock as block
 

@@ -20,7 +20,7 @@ more-preserved g c =
     record {
       pushes = turn_appends reading _ read_definition view _ now _ _ _ _ c.more.invariant.pushes
           (begins_definition now ∙ sym c.sees_definition.ensures ∙ c.more-test.true)
-          (x, takes, adds_reserved view _ _ _ _ _ c.in_ok-reserve-2.ensures.items c.push_reserved-2.ensures.items is) c.in_ok-next.ensures.kept;
+          (x, takes, adds_reserved view _ _ _ _ _ c.in_ok-reserve-2.ensures.items c.push_reserved-in-more.ensures.items is) c.in_ok-next.ensures.kept;
     }
 
 pub returns-in_err-next-clause-reads : goal.returns-in_err-next-clause-reads

@@ -5,7 +5,8 @@ use Rattle.graphql_core.proofs.{Stops-before, Stops-after, Stops-turn, Turns-sta
 use Rattle.graphql_core.proofs.{takes_one, stops_one, answered_error, one_of, adds_none, adds_reserved, adds_more}
 use Rattle.graphql_core.proofs.{fills, here, took, past, after, fails, fails_last, lacks, begins_at, leads_in, into}
 use Rattle.graphql_core.proofs.{gives_led, lacks_last, some_given, none_given, pushes_none, turn_appends, turn_fails}
-use Rattle.graphql_core.proofs.{whole, no_fewer, stays}
+use Rattle.graphql_core.proofs.{whole}
+use Rattle.graphql_core.proofs.readers.TakenOff.{no_fewer, stays}
 use Rattle.graphql_query.specs.{more, trees_of, selection_view, set, reading, changes, selection_set_symbol}
 use Rattle.graphql_query.specs.{selection_symbol, inline_fragment_rest, selections_of, queries, first_names}
 use Rattle.graphql_query.proofs.{readable, begun, lifted, stops_lifted, selection_set_begins, field_side, dots_side}
