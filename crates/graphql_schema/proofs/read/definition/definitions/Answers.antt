@@ -19,7 +19,7 @@ more-preserved g c =
     record {
       pushes = turn_done schemas refusals _ item_of (definition_view g.S.Names.Names.bytes) _ now _ _ _ _ _ c.more.invariant.pushes
           (item_begins now ∙ sym c.sees_definition.ensures ∙ c.more-test.true) c.in_ok-next.ensures.reads c.in_ok-next.ensures.kept
-          (c.push_reserved-2.ensures.items ∙ ap (λ l. l ++ c.in_ok-next.next ∷ []) c.in_ok-reserve-2.ensures.items);
+          (c.push_reserved-in-more.ensures.items ∙ ap (λ l. l ++ c.in_ok-next.next ∷ []) c.in_ok-reserve-2.ensures.items);
     }
 
 pub returns-in_err-next-clause-reads : goal.returns-in_err-next-clause-reads
@@ -38,6 +38,7 @@ returns-clause-reads g c =
     let (x, taken, is) = c.in_ok-first.ensures.reads.gives in
     let all = as_written (each_of item_of) in
     let (xs, all, adds) =
-    some_taken (as_written item_of) all all _ refl (λ x y. refl) (λ x y. refl) (x, taken, adds_reserved view _ _ _ _ _ c.in_ok-reserve.ensures.items c.push_reserved.ensures.items is)
+    some_taken (as_written item_of) all all _ refl (λ x y. refl) (λ x y. refl)
+    (x, taken, adds_reserved view _ _ _ _ _ c.in_ok-reserve.ensures.items c.push_reserved.ensures.items is)
     c.more.invariant.pushes (item_begins now ∙ sym c.sees_definition.ensures ∙ c.more-test.false) in
     record { gives = (xs, all, fills view _ _ _ c.new-definitions.ensures.items adds); says = tt }
