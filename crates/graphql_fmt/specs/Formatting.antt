@@ -1,5 +1,6 @@
 -- The results of formatting a source.
-use Rattle.std.specs.Prelude.{◌≡◌, ◌≤◌, ◌<◌, ◌⊎◌, ℕ, List, length, Option, Some, None, Result, IfOk, IfErr, IsErrOf, String, string_bytes}
+use Rattle.std.specs.Prelude.{◌≡◌, ◌≤◌, ◌<◌, ◌⊎◌, ℕ, List, length, Option, Some, None, Result, IfOk, IfErr, IsErrOf}
+use Rattle.std.specs.Prelude.{String, string_bytes}
 use Rattle.std.specs.Global.{Global}
 use Rattle.graphql_core.specs.{Refusal, no_memory, max_length, too_long, IsDocumentOf, IsReadBack, IsRefusalOf}
 use Rattle.graphql_core.specs.documents.Languages as languages
@@ -22,10 +23,10 @@ IsOutOfMemory (error.Query e) = e ≡ no_memory
 IsOutOfMemory (error.Schema e) = e ≡ no_memory
 IsOutOfMemory error.OutOfMemory = Unit {0}
 
--- The result of formatting a source that is read in the language `l`. `wrapped` maps an error of its parser to the error
--- that is returned.
-pub record FormatsDocument {D : Type 0} (l : languages.Language D) (wrapped : Refusal → FormatSourceError) (source : List ℕ)
-    (r : Result (String Global) FormatSourceError) : Type 0 where
+-- The result of formatting a source that is read in the language `l`. `wrapped` maps an error of its parser to the
+-- error that is returned.
+pub record FormatsDocument {D : Type 0} (l : languages.Language D) (wrapped : Refusal → FormatSourceError)
+    (source : List ℕ) (r : Result (String Global) FormatSourceError) : Type 0 where
   -- Sound: the source parses to a document, and the output parses to the same document, ignoring positions.
   pub same_document : IfOk r (λ output. (d : D) × IsDocumentOf l source d × IsReadBack l (string_bytes output) d)
   -- Complete: a source of at most `max_length` bytes that parses to a document is formatted, or an allocation failed.

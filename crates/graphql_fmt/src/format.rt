@@ -26,8 +26,8 @@ fn begins_query(kind: Kind, spelling: &str) -> bool
 /// The language that an input is read as, if no option names one: `Query` if the first token is `{`, `query`,
 /// `mutation`, `subscription` or `fragment`, else `Schema`.
 ///
-/// An input without a first token is read as `Schema`: it has none, or it begins with a lexical error. So is an input of
-/// more than `MAX_LENGTH` bytes.
+/// An input without a first token is read as `Schema`: it has none, or it begins with a lexical error. So is an input
+/// of more than `MAX_LENGTH` bytes.
 pub fn language_of(source: &str) -> Language
     ensures { IsLanguageOf source.now result }
 {
@@ -74,7 +74,8 @@ fn formatted(
     options: &FormatOptions,
 ) -> Result<Option<String>, AllocError>
     requires { length source.now ≤ usize.MAX / 16 }
-    ensures { IfOk result (λ found. MatchOption found ((ks : List Kept) → HasKept source.now ks → ⊥) (λ text. KeepsAll source.now (string_bytes text))) }
+    ensures { IfOk result (λ found. MatchOption found ((ks : List Kept) → HasKept source.now ks → ⊥)
+        (λ text. KeepsAll source.now (string_bytes text))) }
 {
     let Some(pieces) = pieces_of(alloc, source)? else {
         return Ok(None);

@@ -9,8 +9,8 @@ ghost use Rattle.graphql_fmt.specs.{KeepsAll};
 
 /// Inputs with the same tokens and comments have the same document, ignoring positions, in either language.
 pub fn kept_tokens_have_one_document()
-    ensures queries { (source text : List ℕ) (d : query.DocumentTree) → KeepsAll source text → IsDocumentOf queries source d
-        → IsReadBack queries text d }
-    ensures schemas { (source text : List ℕ) (d : schema.DocumentTree) → KeepsAll source text → IsDocumentOf schemas source d
-        → IsReadBack schemas text d }
+    ensures queries { (source text : List ℕ) (d : query.DocumentTree) → KeepsAll source text
+        → IsDocumentOf queries source d → IsReadBack queries text d }
+    ensures schemas { (source text : List ℕ) (d : schema.DocumentTree) → KeepsAll source text
+        → IsDocumentOf schemas source d → IsReadBack schemas text d }
 {}

@@ -1,6 +1,7 @@
 -- The texts of members, nodes and lists, part by part, and texts appended one after the other.
-use Rattle.std.proofs.Common.{◌≡◌, ◌++◌, ◌∷◌, [], ◌∙◌, ℕ, List, Bool, true, false, ap, sym, refl, append_assoc, append-nil, codes, map, option_map}
-use Rattle.std.proofs.Common.{Option, Some, None, Result, OnOk}
+use Rattle.std.proofs.Common.{◌≡◌, ◌≤◌, ◌++◌, ◌∷◌, [], ◌∙◌, ℕ, List, Bool, true, false, Option, Some, None, Result, OnOk}
+use Rattle.std.proofs.Common.{ap, sym, subst, refl, append_assoc, append-nil, codes, drop, length, map, option_map}
+use Rattle.std.proofs.lemmas.List.{at_drop_all}
 use Rattle.std.proofs.lemmas.Result.{on_ok_weaker}
 use Rattle.std.proofs.lemmas.Simd.{map-map}
 use Rattle.graphql_core.specs.{quoted}
@@ -59,8 +60,16 @@ no_elements_left is_later = refl
 
 -- ---- what is appended
 
-pub appends_more : (s a t b u : List ℕ) → Appends s a t → Appends t b u → Appends s (a ++ b) u
-appends_more s a t b u p q = record { grown = q.grown ∙ ap (λ r. r ++ b) p.grown ∙ append_assoc s a b }
+infixl 40 ◌▹◌
+-- one text appended, and then another
+pub ◌▹◌ : {s a t b u : List ℕ} → Appends s a t → Appends t b u → Appends s (a ++ b) u
+◌▹◌ {s} {a} {t} {b} {u} p q = record { grown = q.grown ∙ ap (λ r. r ++ b) p.grown ∙ append_assoc s a b }
+
+-- the last text appended, by a call that can fail; all of them are `whole`
+pub then_last : {E : Type 0} {s a t whole : List ℕ} (r : Result (Unit {0}) E) (b u : List ℕ) → Appends s a t
+    → OnOk r (Appends t b u) → a ++ b ≡ whole → OnOk r (Appends s whole u)
+then_last {E} {s} {a} {t} r b u p q e =
+    on_ok_weaker r (λ (x : Appends t b u). subst (λ w. Appends s w u) e (p ▹ x)) q
 
 -- something appended, and what is left to append
 pub begun : (s t a left : List ℕ) → t ≡ s ++ a → t ++ left ≡ s ++ (a ++ left)
@@ -77,6 +86,13 @@ next_element is_later v vs s m t whole p q e = begun m t (json_text v) (elements
 -- nothing left to append
 pub appended : (s t a left : List ℕ) → t ++ left ≡ s ++ a → left ≡ [] → Appends s a t
 appended s t a left e none = record { grown = sym (append-nil t) ∙ ap (λ r. t ++ r) (sym none) ∙ e }
+
+-- a list appended after another text, when no element is left
+pub list_appended : {A : Type 0} (f : List A → Elements) (xs : List A) (i : ℕ) (is_later : Bool) (s t before : List ℕ)
+    → length xs ≤ i → f [] ≡ json.no_elements
+    → t ++ elements_text is_later (f (drop i xs)) ≡ s ++ (before ++ elements_text false (f xs)) → Appends s (before ++ elements_text false (f xs)) t
+list_appended f xs i is_later s t before past none e = appended s t (before ++ elements_text false (f xs)) _ e
+    (at_drop_all (λ ys. elements_text is_later (f ys)) xs i past ∙ ap (λ es. elements_text is_later es) none ∙ no_elements_left is_later)
 
 -- ---- lists of nodes, by the models of the trees that they are written from
 
@@ -116,9 +132,6 @@ node_described k a b c d e f = simp (text-node, later-append, append_assoc)
 pub described_end : (k : List ℕ) (a b c d : List Member)
     → (opening k ++ later (a ++ (b ++ c))) ++ (later d ++ codes "}") ≡ json_text (node k (a ++ (b ++ (c ++ d))))
 described_end k a b c d = simp (text-node, later-append, append_assoc)
-
-pub named_end : (k : List ℕ) (a b c : List Member) → (opening k ++ later (a ++ b)) ++ (later c ++ codes "}") ≡ json_text (node k (a ++ (b ++ c)))
-named_end k a b c = simp (text-node, later-append, append_assoc)
 
 pub placed_end : (k : List ℕ) (a b : List Member) → (opening k ++ later a) ++ (later b ++ codes "}") ≡ json_text (node k (a ++ b))
 placed_end k a b = simp (text-node, later-append, append_assoc)

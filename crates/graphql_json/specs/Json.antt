@@ -43,4 +43,5 @@ unfoldable mutual
 
   pub members_text : Bool → Members → List ℕ
   members_text later no_members = []
-  members_text later (member n v ms) = separator later ++ (quoted n ++ (codes ":" ++ (json_text v ++ members_text true ms)))
+  members_text later (member n v ms) =
+      separator later ++ (quoted n ++ (codes ":" ++ (json_text v ++ members_text true ms)))

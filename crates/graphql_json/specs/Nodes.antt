@@ -35,7 +35,9 @@ each name vs = one name (json.array (elements_of vs))
 
 -- the line and the column of a node
 unfoldable pub located : Place → List Member
-located p = one (codes "loc") (json.object (members_of (one (codes "line") (json.number p.line) ++ one (codes "column") (json.number p.column))))
+located p =
+    one (codes "loc")
+    (json.object (members_of (one (codes "line") (json.number p.line) ++ one (codes "column") (json.number p.column))))
 
 -- the same with the line and the column of its last token
 unfoldable pub spanned : Place → Place → List Member

@@ -56,7 +56,8 @@ variable_definition_json v =
     ++ (optional (codes "defaultValue") (option_map value_json v.default_value) ++ directives_json v.directives))))
 
 -- an operation, from its keyword and its parts
-abbrev pub operation_json_of : Place → List ℕ → Option (List ℕ) → List VariableDefinitionTree → List DirectiveTree → SelectionSetTree → Json
+abbrev pub operation_json_of : Place → List ℕ → Option (List ℕ) → List VariableDefinitionTree → List DirectiveTree
+    → SelectionSetTree → Json
 operation_json_of p word n vs ds s =
     node (codes "OperationDefinition")
     (located p

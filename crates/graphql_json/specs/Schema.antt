@@ -36,12 +36,15 @@ field_json f =
 abbrev pub enum_value_json : EnumValueTree → Json
 enum_value_json v =
     node (codes "EnumValueDefinition")
-    (located v.position ++ (described v.description ++ (one (codes "name") (name_json v.name) ++ directives_json v.directives)))
+    (located v.position
+    ++ (described v.description ++ (one (codes "name") (name_json v.name) ++ directives_json v.directives)))
 
 -- ---- schemas
 
 abbrev pub root_json : List ℕ → List ℕ → Json
-root_json word n = node (codes "OperationTypeDefinition") (one (codes "operation") (json.string word) ++ one (codes "type") (named_type_json n))
+root_json word n =
+    node (codes "OperationTypeDefinition")
+    (one (codes "operation") (json.string word) ++ one (codes "type") (named_type_json n))
 
 -- the type of an operation, if there is one, before others
 abbrev pub root_before : List ℕ → Option (List ℕ) → Elements → Elements
@@ -55,7 +58,9 @@ roots_json s =
 
 abbrev pub schema_json : List ℕ → Option (List ℕ) → SchemaTree → Json
 schema_json kind d s =
-    node kind (located s.position ++ (described d ++ (directives_json s.directives ++ one (codes "operationTypes") (json.array (roots_json s)))))
+    node kind
+    (located s.position
+    ++ (described d ++ (directives_json s.directives ++ one (codes "operationTypes") (json.array (roots_json s)))))
 
 -- ---- types
 
@@ -85,7 +90,8 @@ parts_json directives (input fs) = directives ++ each (codes "fields") (map inpu
 abbrev pub type_body_json : List ℕ → Option (List ℕ) → BodyTree → Json
 type_body_json kind d b =
     node kind
-    (located b.position ++ (described d ++ (one (codes "name") (name_json b.name) ++ parts_json (directives_json b.directives) b.parts)))
+    (located b.position
+    ++ (described d ++ (one (codes "name") (name_json b.name) ++ parts_json (directives_json b.directives) b.parts)))
 
 -- ---- definitions
 
@@ -99,7 +105,8 @@ directive_definition_json d =
     ++ (described d.description
     ++ (one (codes "name") (name_json d.name)
     ++ (each (codes "arguments") (map input_value_json d.arguments)
-    ++ (one (codes "repeatable") (json.boolean d.repeatable) ++ each (codes "locations") (map location_json d.locations))))))
+    ++ (one (codes "repeatable") (json.boolean d.repeatable)
+    ++ each (codes "locations") (map location_json d.locations))))))
 
 abbrev pub definition_json : DefinitionTree → Json
 definition_json (schema d s) = schema_json (codes "SchemaDefinition") d s

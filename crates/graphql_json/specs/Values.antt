@@ -73,7 +73,9 @@ abbrev pub arguments_json : List (List ℕ × ValueTree) → List Member
 arguments_json arguments = each (codes "arguments") (map argument_json arguments)
 
 abbrev pub directive_json : DirectiveTree → Json
-directive_json d = node (codes "Directive") (located d.position ++ (one (codes "name") (name_json d.name) ++ arguments_json d.arguments))
+directive_json d =
+    node (codes "Directive")
+    (located d.position ++ (one (codes "name") (name_json d.name) ++ arguments_json d.arguments))
 
 abbrev pub directives_json : List DirectiveTree → List Member
 directives_json ds = each (codes "directives") (map directive_json ds)

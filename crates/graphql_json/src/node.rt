@@ -90,7 +90,8 @@ pub fn write_optional_name<N: Names>(
     label: &str,
     name: &Option<N::Value>,
 ) -> Result<(), AllocError>
-    ensures { OnOk result (Appends out.old (later (optional label.now (option_map name_json (option_map N.bytes name.now)))) out.new) }
+    ensures { OnOk result
+        (Appends out.old (later (optional label.now (option_map name_json (option_map N.bytes name.now)))) out.new) }
 {
     match name {
         Some(name) => write_name(out, label, N::view(name)),

@@ -2,7 +2,8 @@
 ghost use Rattle.std.specs.Prelude.{◌≡◌, ◌++◌, codes, OnOk, IfOk, option_map, string_bytes};
 ghost use Rattle.graphql_core.specs.{place_of, directives_view};
 ghost use Rattle.graphql_query.specs.Tree.{type_condition_view, fragment_spread_view, field_view, inline_fragment_view};
-ghost use Rattle.graphql_query.specs.Tree.{selection_view, selections_view, selection_set_view, variable_definition_view};
+ghost use Rattle.graphql_query.specs.Tree.{selection_view, selections_view, selection_set_view};
+ghost use Rattle.graphql_query.specs.Tree.{variable_definition_view};
 ghost use Rattle.graphql_query.specs.Tree.{variable_definitions_view, operation_view, fragment_definition_view};
 ghost use Rattle.graphql_query.specs.Tree.{definition_view, document_view, query_view, mutation_view};
 ghost use Rattle.graphql_query.specs.Tree.{subscription_view, short, operation, fragment};
@@ -45,7 +46,8 @@ impl<N: Names> Node for TypeCondition<N> {
 /// Appends the node of a selection set.
 #[cycle(selection)]
 fn write_selection_set<N: Names>(out: &mut Buffer, set: &SelectionSet<N>) -> Result<(), AllocError>
-    ensures { OnOk result (Appends out.old (json_text (selection_set_json (selection_set_view N.bytes set.now))) out.new) }
+    ensures { OnOk result
+        (Appends out.old (json_text (selection_set_json (selection_set_view N.bytes set.now))) out.new) }
 {
     open_node(out, "SelectionSet")?;
     write_span(out, &set.span)?;
@@ -57,7 +59,8 @@ fn write_selection_set<N: Names>(out: &mut Buffer, set: &SelectionSet<N>) -> Res
 /// Appends the list of selections.
 #[cycle(selection)]
 fn write_selections<N: Names>(out: &mut Buffer, items: &[Selection<N>]) -> Result<(), AllocError>
-    ensures { OnOk result (Appends out.old (json_text (json.array (selections_json (selections_view N.bytes items.now)))) out.new) }
+    ensures { OnOk result
+        (Appends out.old (json_text (json.array (selections_json (selections_view N.bytes items.now)))) out.new) }
 {
     write_text(out, "[")?;
     let mut is_later = false;
@@ -72,7 +75,8 @@ fn write_selections<N: Names>(out: &mut Buffer, items: &[Selection<N>]) -> Resul
 /// Appends the node of a selection.
 #[cycle(selection)]
 fn write_selection<N: Names>(out: &mut Buffer, selection: &Selection<N>) -> Result<(), AllocError>
-    ensures { OnOk result (Appends out.old (json_text (selection_json (selection_view N.bytes selection.now))) out.new) }
+    ensures { OnOk result
+        (Appends out.old (json_text (selection_json (selection_view N.bytes selection.now))) out.new) }
 {
     match selection {
         Selection::Field(field) => write_field(out, field),
@@ -112,7 +116,8 @@ fn write_fragment_spread<N: Names>(
     out: &mut Buffer,
     spread: &FragmentSpread<N>,
 ) -> Result<(), AllocError>
-    ensures { OnOk result (Appends out.old (json_text (selection_json (fragment_spread_view N.bytes spread.now))) out.new) }
+    ensures { OnOk result
+        (Appends out.old (json_text (selection_json (fragment_spread_view N.bytes spread.now))) out.new) }
 {
     open_node(out, "FragmentSpread")?;
     write_position(out, &spread.position)?;
@@ -126,7 +131,8 @@ fn write_inline_fragment<N: Names>(
     out: &mut Buffer,
     fragment: &InlineFragment<N>,
 ) -> Result<(), AllocError>
-    ensures { OnOk result (Appends out.old (json_text (selection_json (inline_fragment_view N.bytes fragment.now))) out.new) }
+    ensures { OnOk result
+        (Appends out.old (json_text (selection_json (inline_fragment_view N.bytes fragment.now))) out.new) }
 {
     open_node(out, "InlineFragment")?;
     write_position(out, &fragment.position)?;
@@ -170,8 +176,9 @@ fn write_operation<N: Names>(
     set: &SelectionSet<N>,
 ) -> Result<(), AllocError>
     ensures { OnOk result (Appends out.old (json_text
-        (operation_json_of (place_of position.now) keyword.now (option_map N.bytes name.now) (variable_definitions_view N.bytes variables.now)
-        (directives_view N.bytes directives.now) (selection_set_view N.bytes set.now))) out.new) }
+        (operation_json_of (place_of position.now) keyword.now (option_map N.bytes name.now)
+        (variable_definitions_view N.bytes variables.now) (directives_view N.bytes directives.now)
+        (selection_set_view N.bytes set.now))) out.new) }
 {
     open_node(out, "OperationDefinition")?;
     write_position(out, position)?;
@@ -185,7 +192,8 @@ fn write_operation<N: Names>(
 
 /// Appends the node of a query in its short form.
 fn write_short_query<N: Names>(out: &mut Buffer, set: &SelectionSet<N>) -> Result<(), AllocError>
-    ensures { OnOk result (Appends out.old (json_text (definition_json (short (selection_set_view N.bytes set.now)))) out.new) }
+    ensures { OnOk result
+        (Appends out.old (json_text (definition_json (short (selection_set_view N.bytes set.now)))) out.new) }
 {
     open_node(out, "OperationDefinition")?;
     write_position(out, &set.span.0)?;
@@ -196,19 +204,26 @@ fn write_short_query<N: Names>(out: &mut Buffer, set: &SelectionSet<N>) -> Resul
     close_node(out)
 }
 
+// Appends the node of an operation with this keyword.
+macro_rules! write_keyword_operation {
+    ($of:expr, $out:expr, $keyword:literal) => {
+        write_operation(
+            $out,
+            $keyword,
+            &$of.position,
+            &$of.name,
+            &$of.variable_definitions,
+            &$of.directives,
+            &$of.selection_set,
+        )
+    };
+}
+
 impl<N: Names> Node for Query<N> {
     ghost as_json = { λ o. definition_json (operation (query_view N.bytes o)) };
 
     fn write(&self, out: &mut Buffer) -> Result<(), AllocError> {
-        write_operation(
-            out,
-            "query",
-            &self.position,
-            &self.name,
-            &self.variable_definitions,
-            &self.directives,
-            &self.selection_set,
-        )
+        write_keyword_operation!(self, out, "query")
     }
 }
 
@@ -216,15 +231,7 @@ impl<N: Names> Node for Mutation<N> {
     ghost as_json = { λ o. definition_json (operation (mutation_view N.bytes o)) };
 
     fn write(&self, out: &mut Buffer) -> Result<(), AllocError> {
-        write_operation(
-            out,
-            "mutation",
-            &self.position,
-            &self.name,
-            &self.variable_definitions,
-            &self.directives,
-            &self.selection_set,
-        )
+        write_keyword_operation!(self, out, "mutation")
     }
 }
 
@@ -232,15 +239,7 @@ impl<N: Names> Node for Subscription<N> {
     ghost as_json = { λ o. definition_json (operation (subscription_view N.bytes o)) };
 
     fn write(&self, out: &mut Buffer) -> Result<(), AllocError> {
-        write_operation(
-            out,
-            "subscription",
-            &self.position,
-            &self.name,
-            &self.variable_definitions,
-            &self.directives,
-            &self.selection_set,
-        )
+        write_keyword_operation!(self, out, "subscription")
     }
 }
 

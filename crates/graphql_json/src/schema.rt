@@ -12,6 +12,13 @@ ghost use Rattle.graphql_json.specs.Schema.{root_json, root_before, location_jso
 ghost use Rattle.graphql_json.specs.steps.{later};
 ghost use Rattle.graphql_json.specs.Json as json;
 
+// Begins the node of a definition, which can have a description, with this kind.
+macro_rules! open_definition {
+    ($out:expr, $kind:expr, $of:expr) => {
+        open_described($out, $kind, &$of.position, &$of.description, N::view(&$of.name))
+    };
+}
+
 mod parts;
 mod types;
 
@@ -81,7 +88,8 @@ fn write_operations<N: Names>(
     ensures { OnOk result (Appends out.old (later (directives_json (directives_view N.bytes directives.now)
         ++ one (codes "operationTypes") (json.array (root_before (codes "query") (option_map N.bytes query.now)
         (root_before (codes "mutation") (option_map N.bytes mutation.now)
-        (root_before (codes "subscription") (option_map N.bytes subscription.now) json.no_elements))))) ++ codes "}") out.new) }
+        (root_before (codes "subscription") (option_map N.bytes subscription.now) json.no_elements))))) ++ codes "}")
+        out.new) }
 {
     write_directives(out, directives)?;
     write_label(out, "operationTypes")?;
@@ -92,19 +100,26 @@ fn write_operations<N: Names>(
     write_text(out, "]}")
 }
 
+// Appends the directives and the operations of a schema or of its extension, and ends its node.
+macro_rules! write_operations_of {
+    ($of:expr, $out:expr) => {
+        write_operations::<N>(
+            $out,
+            &$of.directives,
+            &$of.query,
+            &$of.mutation,
+            &$of.subscription,
+        )
+    };
+}
+
 impl<N: Names> Node for SchemaDefinition<N> {
     ghost as_json = { λ s. definition_json (schema_definition_view N.bytes s) };
 
     fn write(&self, out: &mut Buffer) -> Result<(), AllocError> {
         open_at(out, "SchemaDefinition", &self.position)?;
         write_description(out, &self.description)?;
-        write_operations::<N>(
-            out,
-            &self.directives,
-            &self.query,
-            &self.mutation,
-            &self.subscription,
-        )
+        write_operations_of!(self, out)
     }
 }
 
@@ -113,13 +128,7 @@ impl<N: Names> Node for SchemaExtension<N> {
 
     fn write(&self, out: &mut Buffer) -> Result<(), AllocError> {
         open_at(out, "SchemaExtension", &self.position)?;
-        write_operations::<N>(
-            out,
-            &self.directives,
-            &self.query,
-            &self.mutation,
-            &self.subscription,
-        )
+        write_operations_of!(self, out)
     }
 }
 
@@ -135,14 +144,7 @@ impl<N: Names> Node for DirectiveDefinition<N> {
     ghost as_json = { λ d. definition_json (directive (directive_definition_view N.bytes d)) };
 
     fn write(&self, out: &mut Buffer) -> Result<(), AllocError> {
-        let kind = "DirectiveDefinition";
-        open_described(
-            out,
-            kind,
-            &self.position,
-            &self.description,
-            N::view(&self.name),
-        )?;
+        open_definition!(out, "DirectiveDefinition", self)?;
         write_nodes(out, "arguments", &self.arguments)?;
         write_boolean(out, "repeatable", self.repeatable)?;
         write_nodes(out, "locations", &self.locations)?;

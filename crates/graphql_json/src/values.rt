@@ -22,7 +22,8 @@ use std::collections::BTreeMap;
 
 /// Appends the node of an integer, whose value is a string.
 fn write_int(out: &mut Buffer, value: i64) -> Result<(), AllocError>
-    ensures { OnOk result (Appends out.old (json_text (valued_json (codes "IntValue") (json.string (signed_decimal value)))) out.new) }
+    ensures { OnOk result
+        (Appends out.old (json_text (valued_json (codes "IntValue") (json.string (signed_decimal value)))) out.new) }
 {
     let mut digits = itoa::Buffer::new();
     write_valued(out, "IntValue", digits.format(value))
@@ -30,7 +31,8 @@ fn write_int(out: &mut Buffer, value: i64) -> Result<(), AllocError>
 
 /// Appends the node of a boolean.
 fn write_boolean_value(out: &mut Buffer, value: bool) -> Result<(), AllocError>
-    ensures { OnOk result (Appends out.old (json_text (valued_json (codes "BooleanValue") (json.boolean value))) out.new) }
+    ensures { OnOk result
+        (Appends out.old (json_text (valued_json (codes "BooleanValue") (json.boolean value))) out.new) }
 {
     open_node(out, "BooleanValue")?;
     write_boolean(out, "value", value)?;
@@ -66,7 +68,8 @@ fn write_value<N: Names>(out: &mut Buffer, value: &Value<N>) -> Result<(), Alloc
 /// Appends the node of a list.
 #[cycle(value)]
 fn write_list<N: Names>(out: &mut Buffer, items: &[Value<N>]) -> Result<(), AllocError>
-    ensures { OnOk result (Appends out.old (json_text (list_json (items_json (items_view N.bytes items.now)))) out.new) }
+    ensures { OnOk result
+        (Appends out.old (json_text (list_json (items_json (items_view N.bytes items.now)))) out.new) }
 {
     open_node(out, "ListValue")?;
     write_label(out, "values")?;
@@ -77,7 +80,8 @@ fn write_list<N: Names>(out: &mut Buffer, items: &[Value<N>]) -> Result<(), Allo
 /// Appends the list of the items of a list.
 #[cycle(value)]
 fn write_items<N: Names>(out: &mut Buffer, items: &[Value<N>]) -> Result<(), AllocError>
-    ensures { OnOk result (Appends out.old (json_text (json.array (items_json (items_view N.bytes items.now)))) out.new) }
+    ensures { OnOk result
+        (Appends out.old (json_text (json.array (items_json (items_view N.bytes items.now)))) out.new) }
 {
     write_text(out, "[")?;
     let mut is_later = false;
@@ -95,7 +99,8 @@ fn write_object<N: Names>(
     out: &mut Buffer,
     members: &BTreeMap<N::Value, Value<N>>,
 ) -> Result<(), AllocError>
-    ensures { OnOk result (Appends out.old (json_text (object_json (fields_json (members_view N.bytes members.now.entries)))) out.new) }
+    ensures { OnOk result
+        (Appends out.old (json_text (object_json (fields_json (members_view N.bytes members.now.entries)))) out.new) }
 {
     open_node(out, "ObjectValue")?;
     write_label(out, "fields")?;
@@ -109,7 +114,8 @@ fn write_fields<N: Names>(
     out: &mut Buffer,
     members: &BTreeMap<N::Value, Value<N>>,
 ) -> Result<(), AllocError>
-    ensures { OnOk result (Appends out.old (json_text (json.array (fields_json (members_view N.bytes members.now.entries)))) out.new) }
+    ensures { OnOk result
+        (Appends out.old (json_text (json.array (fields_json (members_view N.bytes members.now.entries)))) out.new) }
 {
     write_text(out, "[")?;
     let mut is_later = false;
@@ -129,7 +135,8 @@ fn write_pair<N: Names>(
     name: &str,
     value: &Value<N>,
 ) -> Result<(), AllocError>
-    ensures { OnOk result (Appends out.old (json_text (pair_json kind.now name.now (value_json (value_view N.bytes value.now)))) out.new) }
+    ensures { OnOk result (Appends out.old
+        (json_text (pair_json kind.now name.now (value_json (value_view N.bytes value.now)))) out.new) }
 {
     open_node(out, kind)?;
     write_name(out, "name", name)?;

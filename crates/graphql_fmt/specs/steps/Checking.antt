@@ -11,8 +11,8 @@ use Rattle.graphql_fmt.specs.declared.error.FormatSourceError.TheVariants as err
 
 -- The result of testing a source that is read in the language `l`. `wrapped` maps an error of its parser to the error
 -- that is returned.
-pub record ChecksDocument {D : Type 0} (l : languages.Language D) (wrapped : Refusal → FormatSourceError) (source : List ℕ)
-    (r : Result (Unit {0}) FormatSourceError) : Type 0 where
+pub record ChecksDocument {D : Type 0} (l : languages.Language D) (wrapped : Refusal → FormatSourceError)
+    (source : List ℕ) (r : Result (Unit {0}) FormatSourceError) : Type 0 where
   pub document : OnOk r ((d : D) × IsDocumentOf l source d)
   pub short : OnOk r (length source ≤ max_length)
   -- the parser returns this error for the source

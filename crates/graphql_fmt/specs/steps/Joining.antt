@@ -40,7 +40,8 @@ Follows piece.Comment rest ks = (more : List ℕ) × (rest ≡ 10 ∷ more) × H
 
 -- what keeps a piece of this spelling apart from the piece before it does so for the other spelling
 abbrev pub KeepsApart : PieceKind → (spelling other : List ℕ) → Type 0
-KeepsApart kind spelling other = (before : PieceKind) (gap : List ℕ) → IsApart before gap kind spelling → IsApart before gap kind other
+KeepsApart kind spelling other =
+    (before : PieceKind) (gap : List ℕ) → IsApart before gap kind spelling → IsApart before gap kind other
 
 -- The spelling can be written for the piece: the same is kept of it, and it is kept apart from the piece before it.
 abbrev pub IsWrittenFor : Piece → List ℕ → Type 0

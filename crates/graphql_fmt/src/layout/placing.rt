@@ -28,6 +28,8 @@ pub struct Placer {
     role_after_comments: Option<Role>,
     /// Whether the last piece is a comment on a separate line before an item.
     follows_item_comment: bool,
+    /// Whether a comment that comes next can belong to the definition before it.
+    can_end_definition: bool,
 }
 
 impl Placer {
@@ -47,6 +49,7 @@ impl Placer {
             before: Symbol::Comment,
             role_after_comments: None,
             follows_item_comment: false,
+            can_end_definition: false,
         })
     }
 
@@ -147,16 +150,39 @@ impl Placer {
         self.new_line(level, is_blank)
     }
 
+    /// Whether a comment on a separate line belongs to the definition before it, if the next token has this role.
+    /// Without indentation, the output would not show that.
+    fn ends_definition(&self, role: Role, piece: &Piece<'_>) -> bool {
+        self.can_end_definition
+            && self.frames.is_document()
+            && matches!(role, Role::Item | Role::End)
+            && piece.after_indent
+            && self.options.indent > 0
+    }
+
+    /// What comes before a comment on a separate line that comes before `rest`.
+    fn gap_before_separate(&mut self, piece: &Piece<'_>, rest: &[Piece<'_>]) -> Gap {
+        let role = self.role_after_comments(rest);
+        if self.ends_definition(role, piece) {
+            let level = self.frames.level_of(Role::Member);
+            return self.new_line(level, piece.after_blank);
+        }
+        let gap = self.gap_before_comment(role, piece);
+        self.follows_item_comment = role == Role::Item;
+        self.can_end_definition = false;
+        gap
+    }
+
     /// Places a comment that comes before `rest`.
     fn place_comment(&mut self, piece: &Piece<'_>, rest: &[Piece<'_>]) -> Result<(), AllocError> {
-        let mut gap = Gap::Space;
-        let mut is_before_item = false;
-        if piece.begins_line {
-            let role = self.role_after_comments(rest);
-            gap = self.gap_before_comment(role, piece);
-            is_before_item = role == Role::Item;
+        if self.before != Symbol::Comment {
+            self.can_end_definition = self.before != Symbol::CloseBrace;
         }
-        self.follows_item_comment = is_before_item;
+        let gap = if piece.begins_line {
+            self.gap_before_separate(piece, rest)
+        } else {
+            Gap::Space
+        };
         self.place_gap(gap)?;
         self.before = Symbol::Comment;
         Ok(())

@@ -22,6 +22,8 @@ pub struct Piece<'a> {
     pub begins_line: bool,
     /// Whether an empty line comes right before it.
     pub after_blank: bool,
+    /// Whether it begins a line, after a space or a tab.
+    pub after_indent: bool,
     /// The spelling of a token. A comment from its `#` on, without white space at its end.
     pub text: &'a str,
 }

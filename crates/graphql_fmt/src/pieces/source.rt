@@ -28,18 +28,49 @@ fn is_indentable(alloc: Global, spelling: &str) -> Result<bool, AllocError>
     Ok(has_block_lines(&value))
 }
 
-/// The number of line ends since the last piece, after this element. A comment ends a line.
-fn line_ends_after(line_ends: usize, element: &Element<'_>) -> usize {
-    match element.kind {
-        ElementKind::Token(_) => 0,
-        ElementKind::Comment => 1,
-        ElementKind::Ignored => {
-            let is_end = match element.text.as_bytes().first().copied() {
-                Some(b'\n') => true,
-                Some(b'\r') => element.rest.as_bytes().first().copied() != Some(b'\n'),
-                _ => false,
-            };
-            line_ends.saturating_add(usize::from(is_end))
+/// What comes between the last piece and the next one.
+#[derive(Clone, Copy)]
+struct Between {
+    /// The number of line ends. A comment before them ends a line.
+    line_ends: usize,
+    /// Whether a space or a tab comes after the last line end or piece.
+    has_space: bool,
+}
+
+impl Between {
+    /// Before the input, as if a line ended there.
+    const START: Between = Between {
+        line_ends: 1,
+        has_space: false,
+    };
+
+    /// With one more character of ignored text, which comes before `rest`.
+    fn extended(self, ignored: &str, rest: &str) -> Self {
+        match ignored.as_bytes().first().copied() {
+            Some(b' ' | b'\t') => Between {
+                has_space: true,
+                ..self
+            },
+            // CR LF is one line end.
+            Some(b'\r') if rest.as_bytes().first().copied() == Some(b'\n') => self,
+            Some(b'\n' | b'\r') => Between {
+                line_ends: self.line_ends.saturating_add(1),
+                has_space: false,
+            },
+            _ => self,
+        }
+    }
+
+    /// After this element.
+    fn after(self, element: &Element<'_>) -> Self {
+        let line_ends = match element.kind {
+            ElementKind::Token(_) => 0,
+            ElementKind::Comment => 1,
+            ElementKind::Ignored => return self.extended(element.text, element.rest),
+        };
+        Between {
+            line_ends,
+            has_space: false,
         }
     }
 }
@@ -49,7 +80,7 @@ fn push_element<'a>(
     alloc: Global,
     pieces: &mut Vec<Piece<'a>>,
     element: &Element<'a>,
-    line_ends: usize,
+    between: Between,
 ) -> Result<(), AllocError>
     requires element { IsElement element.now.kind element.now.text.now }
     ensures kept { OnOk result (map kept_piece pieces.new.items
@@ -68,8 +99,9 @@ fn push_element<'a>(
     pieces.push(Piece {
         kind,
         is_indented,
-        begins_line: line_ends > 0,
-        after_blank: line_ends > 1,
+        begins_line: between.line_ends > 0,
+        after_blank: between.line_ends > 1,
+        after_indent: between.line_ends > 0 && between.has_space,
         text,
     })?;
     Ok(())
@@ -85,11 +117,10 @@ pub fn pieces_of<'a>(alloc: Global, source: &'a str) -> Result<Option<Vec<Piece<
 {
     let mut pieces = Vec::new(alloc);
     let mut rest = source;
-    // As if a line ended before the input.
-    let mut line_ends = 1usize;
+    let mut between = Between::START;
     'elements: while let Some(element) = first_element(rest) {
-        push_element(alloc, &mut pieces, &element, line_ends)?;
-        line_ends = line_ends_after(line_ends, &element);
+        push_element(alloc, &mut pieces, &element, between)?;
+        between = between.after(&element);
         rest = element.rest;
     }
     if rest.is_empty() {

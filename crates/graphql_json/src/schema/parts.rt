@@ -48,24 +48,11 @@ pub fn open_described(
     name: &str,
 ) -> Result<(), AllocError>
     ensures { OnOk result (Appends out.old (opening kind.now
-        ++ later (located (place_of position.now) ++ (described (option_map string_bytes description.now) ++ one (codes "name") (name_json name.now)))) out.new) }
+        ++ later (located (place_of position.now) ++ (described (option_map string_bytes description.now)
+        ++ one (codes "name") (name_json name.now)))) out.new) }
 {
     open_at(out, kind, position)?;
     write_description(out, description)?;
-    write_name(out, "name", name)
-}
-
-/// Begins a node with its kind, its position and its name.
-pub fn open_named(
-    out: &mut Buffer,
-    kind: &str,
-    position: &Pos,
-    name: &str,
-) -> Result<(), AllocError>
-    ensures { OnOk result (Appends out.old (opening kind.now
-        ++ later (located (place_of position.now) ++ one (codes "name") (name_json name.now))) out.new) }
-{
-    open_at(out, kind, position)?;
     write_name(out, "name", name)
 }
 
@@ -92,14 +79,7 @@ impl<N: Names> Node for InputValue<N> {
     ghost as_json = { λ v. input_value_json (input_value_view N.bytes v) };
 
     fn write(&self, out: &mut Buffer) -> Result<(), AllocError> {
-        let kind = "InputValueDefinition";
-        open_described(
-            out,
-            kind,
-            &self.position,
-            &self.description,
-            N::view(&self.name),
-        )?;
+        open_definition!(out, "InputValueDefinition", self)?;
         write_node(out, "type", &self.value_type)?;
         write_optional_node(out, "defaultValue", &self.default_value)?;
         write_directives(out, &self.directives)?;
@@ -111,14 +91,7 @@ impl<N: Names> Node for Field<N> {
     ghost as_json = { λ f. field_json (field_view N.bytes f) };
 
     fn write(&self, out: &mut Buffer) -> Result<(), AllocError> {
-        let kind = "FieldDefinition";
-        open_described(
-            out,
-            kind,
-            &self.position,
-            &self.description,
-            N::view(&self.name),
-        )?;
+        open_definition!(out, "FieldDefinition", self)?;
         write_nodes(out, "arguments", &self.arguments)?;
         write_node(out, "type", &self.field_type)?;
         write_directives(out, &self.directives)?;
@@ -130,14 +103,7 @@ impl<N: Names> Node for EnumValue<N> {
     ghost as_json = { λ v. enum_value_json (enum_value_view N.bytes v) };
 
     fn write(&self, out: &mut Buffer) -> Result<(), AllocError> {
-        let kind = "EnumValueDefinition";
-        open_described(
-            out,
-            kind,
-            &self.position,
-            &self.description,
-            N::view(&self.name),
-        )?;
+        open_definition!(out, "EnumValueDefinition", self)?;
         write_directives(out, &self.directives)?;
         close_node(out)
     }

@@ -1,10 +1,7 @@
 //! Types and their extensions.
 ghost use Rattle.std.specs.Prelude.{◌≡◌, ◌++◌, codes, OnOk, map};
 ghost use Rattle.graphql_core.specs.{directives_view};
-ghost use Rattle.graphql_schema.specs.Views.{field_view, type_definition_view, type_extension_view, scalar_view};
-ghost use Rattle.graphql_schema.specs.Views.{object_view, interface_view, union_view, enum_view, input_view};
-ghost use Rattle.graphql_schema.specs.Views.{scalar_extension_view, object_extension_view, interface_extension_view};
-ghost use Rattle.graphql_schema.specs.Views.{union_extension_view, enum_extension_view, input_extension_view};
+ghost use Rattle.graphql_schema.specs.Views.{field_view, type_definition_view, type_extension_view};
 ghost use Rattle.graphql_json.specs.steps.Pieces.{Appends};
 ghost use Rattle.graphql_json.specs.Nodes.{each};
 ghost use Rattle.graphql_json.specs.Values.{directives_json};
@@ -13,16 +10,12 @@ ghost use Rattle.graphql_json.specs.steps.{later};
 
 use crate::json::close_node;
 use crate::node::{Node, write_nodes};
-use crate::schema::parts::{open_described, open_named, write_named_types};
+use crate::schema::parts::{open_described, write_named_types};
 use crate::values::write_directives;
 use graphql_core::common::Names;
 use graphql_core::common::tree::Directive;
 use graphql_core::format::Buffer;
-use graphql_schema::tree::{
-    EnumType, EnumTypeExtension, Field, InputObjectType, InputObjectTypeExtension, InterfaceType,
-    InterfaceTypeExtension, ObjectType, ObjectTypeExtension, ScalarType, ScalarTypeExtension,
-    TypeDefinition, TypeExtension, UnionType, UnionTypeExtension,
-};
+use graphql_schema::tree::{Field, TypeDefinition, TypeExtension};
 use std::alloc::AllocError;
 
 /// Appends the directives of a type and the member that has its fields or its values, and ends its node.
@@ -71,224 +64,57 @@ fn write_union<N: Names>(
 
 /// Appends the directives of a scalar type, and ends its node.
 fn write_scalar<N: Names>(out: &mut Buffer, directives: &[Directive<N>]) -> Result<(), AllocError>
-    ensures { OnOk result (Appends out.old (later (directives_json (directives_view N.bytes directives.now)) ++ codes "}") out.new) }
+    ensures { OnOk result
+        (Appends out.old (later (directives_json (directives_view N.bytes directives.now)) ++ codes "}") out.new) }
 {
     write_directives(out, directives)?;
     close_node(out)
 }
 
-impl<N: Names> Node for ScalarType<N> {
-    ghost as_json = { λ t. definition_json (scalar_view N.bytes t) };
-
-    fn write(&self, out: &mut Buffer) -> Result<(), AllocError> {
-        let kind = "ScalarTypeDefinition";
-        open_described(
-            out,
-            kind,
-            &self.position,
-            &self.description,
-            N::view(&self.name),
-        )?;
-        write_scalar(out, &self.directives)
-    }
+// Begins the node of an extension of a type, which has no description, with this kind.
+macro_rules! open_extension {
+    ($out:expr, $kind:expr, $of:expr) => {
+        open_described($out, $kind, &$of.position, &None, N::view(&$of.name))
+    };
 }
 
-impl<N: Names> Node for ObjectType<N> {
-    ghost as_json = { λ t. definition_json (object_view N.bytes t) };
-
-    fn write(&self, out: &mut Buffer) -> Result<(), AllocError> {
-        let kind = "ObjectTypeDefinition";
-        open_described(
-            out,
-            kind,
-            &self.position,
-            &self.description,
-            N::view(&self.name),
-        )?;
-        write_fielded::<N>(
-            out,
-            &self.implements_interfaces,
-            &self.directives,
-            &self.fields,
-        )
-    }
-}
-
-impl<N: Names> Node for InterfaceType<N> {
-    ghost as_json = { λ t. definition_json (interface_view N.bytes t) };
-
-    fn write(&self, out: &mut Buffer) -> Result<(), AllocError> {
-        let kind = "InterfaceTypeDefinition";
-        open_described(
-            out,
-            kind,
-            &self.position,
-            &self.description,
-            N::view(&self.name),
-        )?;
-        write_fielded::<N>(
-            out,
-            &self.implements_interfaces,
-            &self.directives,
-            &self.fields,
-        )
-    }
-}
-
-impl<N: Names> Node for UnionType<N> {
-    ghost as_json = { λ t. definition_json (union_view N.bytes t) };
-
-    fn write(&self, out: &mut Buffer) -> Result<(), AllocError> {
-        let kind = "UnionTypeDefinition";
-        open_described(
-            out,
-            kind,
-            &self.position,
-            &self.description,
-            N::view(&self.name),
-        )?;
-        write_union::<N>(out, &self.directives, &self.types)
-    }
-}
-
-impl<N: Names> Node for EnumType<N> {
-    ghost as_json = { λ t. definition_json (enum_view N.bytes t) };
-
-    fn write(&self, out: &mut Buffer) -> Result<(), AllocError> {
-        let kind = "EnumTypeDefinition";
-        open_described(
-            out,
-            kind,
-            &self.position,
-            &self.description,
-            N::view(&self.name),
-        )?;
-        write_parts(out, &self.directives, "values", &self.values)
-    }
-}
-
-impl<N: Names> Node for InputObjectType<N> {
-    ghost as_json = { λ t. definition_json (input_view N.bytes t) };
-
-    fn write(&self, out: &mut Buffer) -> Result<(), AllocError> {
-        let kind = "InputObjectTypeDefinition";
-        open_described(
-            out,
-            kind,
-            &self.position,
-            &self.description,
-            N::view(&self.name),
-        )?;
-        write_parts(out, &self.directives, "fields", &self.fields)
-    }
-}
-
-impl<N: Names> Node for ScalarTypeExtension<N> {
-    ghost as_json = { λ t. definition_json (scalar_extension_view N.bytes t) };
-
-    fn write(&self, out: &mut Buffer) -> Result<(), AllocError> {
-        open_named(
-            out,
-            "ScalarTypeExtension",
-            &self.position,
-            N::view(&self.name),
-        )?;
-        write_scalar(out, &self.directives)
-    }
-}
-
-impl<N: Names> Node for ObjectTypeExtension<N> {
-    ghost as_json = { λ t. definition_json (object_extension_view N.bytes t) };
-
-    fn write(&self, out: &mut Buffer) -> Result<(), AllocError> {
-        open_named(
-            out,
-            "ObjectTypeExtension",
-            &self.position,
-            N::view(&self.name),
-        )?;
-        write_fielded::<N>(
-            out,
-            &self.implements_interfaces,
-            &self.directives,
-            &self.fields,
-        )
-    }
-}
-
-impl<N: Names> Node for InterfaceTypeExtension<N> {
-    ghost as_json = { λ t. definition_json (interface_extension_view N.bytes t) };
-
-    fn write(&self, out: &mut Buffer) -> Result<(), AllocError> {
-        open_named(
-            out,
-            "InterfaceTypeExtension",
-            &self.position,
-            N::view(&self.name),
-        )?;
-        write_fielded::<N>(
-            out,
-            &self.implements_interfaces,
-            &self.directives,
-            &self.fields,
-        )
-    }
-}
-
-impl<N: Names> Node for UnionTypeExtension<N> {
-    ghost as_json = { λ t. definition_json (union_extension_view N.bytes t) };
-
-    fn write(&self, out: &mut Buffer) -> Result<(), AllocError> {
-        open_named(
-            out,
-            "UnionTypeExtension",
-            &self.position,
-            N::view(&self.name),
-        )?;
-        write_union::<N>(out, &self.directives, &self.types)
-    }
-}
-
-impl<N: Names> Node for EnumTypeExtension<N> {
-    ghost as_json = { λ t. definition_json (enum_extension_view N.bytes t) };
-
-    fn write(&self, out: &mut Buffer) -> Result<(), AllocError> {
-        open_named(
-            out,
-            "EnumTypeExtension",
-            &self.position,
-            N::view(&self.name),
-        )?;
-        write_parts(out, &self.directives, "values", &self.values)
-    }
-}
-
-impl<N: Names> Node for InputObjectTypeExtension<N> {
-    ghost as_json = { λ t. definition_json (input_extension_view N.bytes t) };
-
-    fn write(&self, out: &mut Buffer) -> Result<(), AllocError> {
-        open_named(
-            out,
-            "InputObjectTypeExtension",
-            &self.position,
-            N::view(&self.name),
-        )?;
-        write_parts(out, &self.directives, "fields", &self.fields)
-    }
+// Appends the node of a type or of an extension of a type. `$open` begins it, and `$suffix` ends its kind.
+macro_rules! write_type {
+    ($of:expr, $out:expr, $kinds:ident, $open:ident, $suffix:literal) => {
+        match $of {
+            $kinds::Scalar(of) => {
+                $open!($out, concat!("ScalarType", $suffix), of)?;
+                write_scalar($out, &of.directives)
+            }
+            $kinds::Object(of) => {
+                $open!($out, concat!("ObjectType", $suffix), of)?;
+                write_fielded::<N>($out, &of.implements_interfaces, &of.directives, &of.fields)
+            }
+            $kinds::Interface(of) => {
+                $open!($out, concat!("InterfaceType", $suffix), of)?;
+                write_fielded::<N>($out, &of.implements_interfaces, &of.directives, &of.fields)
+            }
+            $kinds::Union(of) => {
+                $open!($out, concat!("UnionType", $suffix), of)?;
+                write_union::<N>($out, &of.directives, &of.types)
+            }
+            $kinds::Enum(of) => {
+                $open!($out, concat!("EnumType", $suffix), of)?;
+                write_parts($out, &of.directives, "values", &of.values)
+            }
+            $kinds::InputObject(of) => {
+                $open!($out, concat!("InputObjectType", $suffix), of)?;
+                write_parts($out, &of.directives, "fields", &of.fields)
+            }
+        }
+    };
 }
 
 impl<N: Names> Node for TypeDefinition<N> {
     ghost as_json = { λ t. definition_json (type_definition_view N.bytes t) };
 
     fn write(&self, out: &mut Buffer) -> Result<(), AllocError> {
-        match self {
-            TypeDefinition::Scalar(declared) => declared.write(out),
-            TypeDefinition::Object(declared) => declared.write(out),
-            TypeDefinition::Interface(declared) => declared.write(out),
-            TypeDefinition::Union(declared) => declared.write(out),
-            TypeDefinition::Enum(declared) => declared.write(out),
-            TypeDefinition::InputObject(declared) => declared.write(out),
-        }
+        write_type!(self, out, TypeDefinition, open_definition, "Definition")
     }
 }
 
@@ -296,13 +122,6 @@ impl<N: Names> Node for TypeExtension<N> {
     ghost as_json = { λ t. definition_json (type_extension_view N.bytes t) };
 
     fn write(&self, out: &mut Buffer) -> Result<(), AllocError> {
-        match self {
-            TypeExtension::Scalar(extension) => extension.write(out),
-            TypeExtension::Object(extension) => extension.write(out),
-            TypeExtension::Interface(extension) => extension.write(out),
-            TypeExtension::Union(extension) => extension.write(out),
-            TypeExtension::Enum(extension) => extension.write(out),
-            TypeExtension::InputObject(extension) => extension.write(out),
-        }
+        write_type!(self, out, TypeExtension, open_extension, "Extension")
     }
 }

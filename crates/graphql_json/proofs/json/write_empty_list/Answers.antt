@@ -1,12 +1,11 @@
 use Rattle.std.proofs.Common.{sym}
-use Rattle.graphql_core.proofs.{and_last}
 use Rattle.graphql_json.specs.Json.{json_text, elements_text}
 use Rattle.graphql_json.specs.Json as json
-use Rattle.graphql_json.specs.steps.Pieces.{Appends}
-use Rattle.graphql_json.proofs.{appends_more, later-one}
+use Rattle.graphql_json.proofs.{then_last, later-one}
 use Rattle.graphql_json.proofs.json.write_empty_list.Goals as goal
 
 pub returns : goal.returns
 unfolding json_text elements_text
 returns c =
-    and_last Appends appends_more _ _ _ _ _ _ _ c.in_ok-write_label.ensures c.write_text.ensures (sym (later-one c.args.name.now (json.array json.no_elements)))
+    then_last _ _ _ c.in_ok-write_label.ensures c.write_text.ensures
+    (sym (later-one c.args.name.now (json.array json.no_elements)))

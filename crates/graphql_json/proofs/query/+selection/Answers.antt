@@ -1,14 +1,11 @@
-use Rattle.std.proofs.Common.{false, codes, ◌∙◌, ◌++◌, ap, sym, arith, append_assoc, append-nil}
-use Rattle.std.proofs.lemmas.List.{at_drop_all}
-use Rattle.graphql_core.proofs.{and_last}
+use Rattle.std.proofs.Common.{◌∙◌, ◌++◌, ap, refl, sym, arith, append_assoc, append-nil}
 use Rattle.graphql_query.specs.declared.tree.SelectionSet.{the_lemmas}
 use Rattle.graphql_query.specs.Tree.{selections_view}
 use Rattle.graphql_query.proofs.layouts.LayoutTexts.{selection_set_parts, field_parts, inline_fragment_parts, selection_here}
 use Rattle.graphql_query.proofs.layouts.LayoutTexts.{no_items, some_items}
 use Rattle.graphql_json.specs.{selections_json}
 use Rattle.graphql_json.specs.Json.{elements_text}
-use Rattle.graphql_json.specs.steps.Pieces.{Appends}
-use Rattle.graphql_json.proofs.{appends_more, begun, next_element, appended, no_elements_left, later-one, later-append}
+use Rattle.graphql_json.proofs.{◌▹◌, then_last, begun, next_element, list_appended, later-one, later-append}
 use Rattle.graphql_json.proofs.{text-array, text-node, option_map-option_map, selected_none, selected_some}
 use Rattle.graphql_json.proofs.query.+selection.Goals as goal
 
@@ -20,8 +17,7 @@ write_selection_set-write_selections-requires g t c κs within = rw c.deref.ensu
 pub write_selection_set-returns : goal.write_selection_set-returns
 write_selection_set-returns g t c =
     let selections = rw c.deref.ensures.value at c.in_ok-write_selections.ensures in
-    and_last Appends appends_more _ _ _ _ _ _ _
-    (appends_more _ _ _ _ _ (appends_more _ _ _ _ _ (appends_more _ _ _ _ _ c.in_ok-open_node.ensures c.in_ok-write_span.ensures) c.in_ok-write_label.ensures) selections) c.close_node.ensures
+    then_last _ _ _ (c.in_ok-open_node.ensures ▹ c.in_ok-write_span.ensures ▹ c.in_ok-write_label.ensures ▹ selections) c.close_node.ensures
     (rw (selection_set_parts g.N.Names.bytes c.args.set.now) (simp (text-node, later-append, later-one, append_assoc)))
 
 pub write_selections-items-init : goal.write_selections-items-init
@@ -38,9 +34,9 @@ write_selections-items-preserved g t c =
 pub write_selections-returns : goal.write_selections-returns
 write_selections-returns g t c =
     let l = c.items in
-    let none = at_drop_all (λ xs. elements_text l.is_later (selections_json (selections_view g.N.Names.bytes xs))) c.args.items.now
-    l.item-index (omega arith) in
-    and_last Appends appends_more _ _ _ _ _ _ _ (appended c.args.out.now l.out (codes "[" ++ elements_text false (selections_json (selections_view g.N.Names.bytes c.args.items.now))) _ l.invariant (none ∙ no_elements_left l.is_later)) c.write_text-2.ensures
+    let items = list_appended (λ xs. selections_json (selections_view g.N.Names.bytes xs)) c.args.items.now l.item-index l.is_later _ _ _
+    (omega arith) refl l.invariant in
+    then_last _ _ _ items c.write_text-2.ensures
     (sym (text-array _))
 
 -- ---- selections
@@ -49,8 +45,9 @@ pub write_field-returns : goal.write_field-returns
 write_field-returns g t c =
     let arguments = rw c.deref.ensures.value at c.in_ok-write_arguments.ensures in
     let directives = rw c.deref-2.ensures.value at c.in_ok-write_directives.ensures in
-    and_last Appends appends_more _ _ _ _ _ _ _
-    (appends_more _ _ _ _ _ (appends_more _ _ _ _ _ (appends_more _ _ _ _ _ (appends_more _ _ _ _ _ (appends_more _ _ _ _ _ (appends_more _ _ _ _ _ c.in_ok-open_node.ensures c.in_ok-write_position.ensures) c.in_ok-write_optional_name.ensures) c.in_ok-write_name.ensures) arguments) directives) c.in_ok-write_selected.ensures) c.close_node.ensures
+    then_last _ _ _
+    (c.in_ok-open_node.ensures ▹ c.in_ok-write_position.ensures ▹ c.in_ok-write_optional_name.ensures ▹ c.in_ok-write_name.ensures ▹ arguments
+    ▹ directives ▹ c.in_ok-write_selected.ensures) c.close_node.ensures
     (rw (field_parts g.N.Names.bytes c.args.field.now, c.view.ensures) (simp (text-node, later-append, append_assoc)))
 
 pub write_selected-returns-then-is_empty : goal.write_selected-returns-then-is_empty
@@ -65,13 +62,14 @@ pub write_selected-returns : goal.write_selected-returns
 write_selected-returns g t c =
     let bytes = g.N.Names.bytes in
     let s = c.args.set.now in
-    and_last Appends appends_more _ _ _ _ _ _ _ c.in_ok-write_label.ensures c.write_selection_set.ensures
+    then_last _ _ _ c.in_ok-write_label.ensures c.write_selection_set.ensures
     (sym (selected_some bytes s (some_items bytes s (sym c.is_empty.ensures ∙ c.if-is_empty.false))))
 
 pub write_inline_fragment-returns : goal.write_inline_fragment-returns
 write_inline_fragment-returns g t c =
     let bytes = g.N.Names.bytes in
     let directives = rw c.deref.ensures.value at c.in_ok-write_directives.ensures in
-    and_last Appends appends_more _ _ _ _ _ _ _
-    (appends_more _ _ _ _ _ (appends_more _ _ _ _ _ (appends_more _ _ _ _ _ (appends_more _ _ _ _ _ (appends_more _ _ _ _ _ c.in_ok-open_node.ensures c.in_ok-write_position.ensures) c.in_ok-write_optional_node.ensures) directives) c.in_ok-write_label.ensures) c.in_ok-write_selection_set.ensures) c.close_node.ensures
+    then_last _ _ _
+    (c.in_ok-open_node.ensures ▹ c.in_ok-write_position.ensures ▹ c.in_ok-write_optional_node.ensures ▹ directives ▹ c.in_ok-write_label.ensures
+    ▹ c.in_ok-write_selection_set.ensures) c.close_node.ensures
     (rw (inline_fragment_parts bytes c.args.fragment.now) (simp (option_map-option_map, text-node, later-append, later-one, append_assoc)))

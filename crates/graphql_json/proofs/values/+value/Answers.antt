@@ -1,11 +1,9 @@
-use Rattle.std.proofs.Common.{◌≡◌, ◌∙◌, ◌++◌, ap, sym, arith, rules, append_assoc, false, codes}
-use Rattle.std.proofs.lemmas.List.{at_drop_all}
-use Rattle.graphql_core.proofs.{and_last, item_here}
+use Rattle.std.proofs.Common.{◌≡◌, ◌∙◌, ◌++◌, ap, refl, sym, arith, rules, append_assoc, false, codes}
+use Rattle.graphql_core.proofs.{item_here}
 use Rattle.graphql_core.specs.values.ValueViews.{items_view, members_view}
 use Rattle.graphql_json.specs.{items_json, fields_json}
 use Rattle.graphql_json.specs.Json.{elements_text}
-use Rattle.graphql_json.specs.steps.Pieces.{Appends}
-use Rattle.graphql_json.proofs.{appends_more, begun, next_element, appended, no_elements_left, later-one, later-append}
+use Rattle.graphql_json.proofs.{◌▹◌, then_last, begun, next_element, appended, list_appended, later-one, later-append}
 use Rattle.graphql_json.proofs.{text-array, text-node}
 use Rattle.graphql_json.proofs.values.+value.Goals as goal
 
@@ -13,8 +11,7 @@ use Rattle.graphql_json.proofs.values.+value.Goals as goal
 
 pub write_list-returns : goal.write_list-returns
 write_list-returns g t c =
-    and_last Appends appends_more _ _ _ _ _ _ _
-    (appends_more _ _ _ _ _ (appends_more _ _ _ _ _ c.in_ok-open_node.ensures c.in_ok-write_label.ensures) c.in_ok-write_items.ensures) c.close_node.ensures
+    then_last _ _ _ (c.in_ok-open_node.ensures ▹ c.in_ok-write_label.ensures ▹ c.in_ok-write_items.ensures) c.close_node.ensures
     (simp (text-node, later-one, append_assoc))
 
 pub write_items-items-init : goal.write_items-items-init
@@ -31,16 +28,16 @@ write_items-items-preserved g t c =
 pub write_items-returns : goal.write_items-returns
 write_items-returns g t c =
     let l = c.items in
-    let none = at_drop_all (λ xs. elements_text l.is_later (items_json (items_view g.N.Names.bytes xs))) c.args.items.now l.item-index (omega arith) in
-    and_last Appends appends_more _ _ _ _ _ _ _ (appended c.args.out.now l.out (codes "[" ++ elements_text false (items_json (items_view g.N.Names.bytes c.args.items.now))) _ l.invariant (none ∙ no_elements_left l.is_later)) c.write_text-2.ensures
+    let items = list_appended (λ xs. items_json (items_view g.N.Names.bytes xs)) c.args.items.now l.item-index l.is_later _ _ _
+    (omega arith) refl l.invariant in
+    then_last _ _ _ items c.write_text-2.ensures
     (sym (text-array _))
 
 -- ---- objects
 
 pub write_object-returns : goal.write_object-returns
 write_object-returns g t c =
-    and_last Appends appends_more _ _ _ _ _ _ _
-    (appends_more _ _ _ _ _ (appends_more _ _ _ _ _ c.in_ok-open_node.ensures c.in_ok-write_label.ensures) c.in_ok-write_fields.ensures) c.close_node.ensures
+    then_last _ _ _ (c.in_ok-open_node.ensures ▹ c.in_ok-write_label.ensures ▹ c.in_ok-write_fields.ensures) c.close_node.ensures
     (simp (text-node, later-one, append_assoc))
 
 pub write_fields-members-init : goal.write_fields-members-init
@@ -62,14 +59,14 @@ pub write_fields-returns : goal.write_fields-returns
 unfolding elements_text
 write_fields-returns g t c =
     let l = c.members in
-    and_last Appends appends_more _ _ _ _ _ _ _
-    (appended c.args.out.now l.out (codes "[" ++ elements_text false (fields_json (members_view g.N.Names.bytes c.args.members.now.entries))) _ l.invariant
-    (search rules)) c.write_text-2.ensures (sym (text-array _))
+    then_last _ _ _
+    (appended c.args.out.now l.out (codes "[" ++ elements_text false (fields_json (members_view g.N.Names.bytes c.args.members.now.entries))) _
+    l.invariant (search rules)) c.write_text-2.ensures
+    (sym (text-array _))
 
 -- ---- names with values
 
 pub write_pair-returns : goal.write_pair-returns
 write_pair-returns g t c =
-    and_last Appends appends_more _ _ _ _ _ _ _
-    (appends_more _ _ _ _ _ (appends_more _ _ _ _ _ (appends_more _ _ _ _ _ c.in_ok-open_node.ensures c.in_ok-write_name.ensures) c.in_ok-write_label.ensures) c.in_ok-write_value.ensures) c.close_node.ensures
+    then_last _ _ _ (c.in_ok-open_node.ensures ▹ c.in_ok-write_name.ensures ▹ c.in_ok-write_label.ensures ▹ c.in_ok-write_value.ensures) c.close_node.ensures
     (simp (text-node, later-append, later-one, append_assoc))

@@ -1,14 +1,12 @@
-use Rattle.std.proofs.Common.{false, codes, ◌∙◌, ◌++◌, ap, sym, map, arith, append_assoc}
-use Rattle.std.proofs.lemmas.List.{at_drop_all}
-use Rattle.graphql_core.proofs.{and_last, item_here}
-use Rattle.graphql_json.specs.{label, elements_of, named_type_json}
+use Rattle.std.proofs.Common.{◌∙◌, ◌++◌, ap, refl, sym, map, arith, append_assoc}
+use Rattle.graphql_core.proofs.{item_here}
+use Rattle.graphql_json.specs.{elements_of, named_type_json}
 use Rattle.graphql_json.specs.Json.{elements_text}
-use Rattle.graphql_json.specs.steps.Pieces.{Appends}
-use Rattle.graphql_json.proofs.{appends_more, begun, next_element, appended, no_elements_left, later-one, text-array}
+use Rattle.graphql_json.proofs.{◌▹◌, then_last, begun, next_element, list_appended, later-one, text-array}
 use Rattle.graphql_json.proofs.schema.parts.write_named_types.Goals as goal
 
 pub names-init : goal.names-init
-names-init g c = begun _ _ _ _ (appends_more _ _ _ _ _ c.in_ok-write_label.ensures c.in_ok-write_text.ensures).grown
+names-init g c = begun _ _ _ _ (c.in_ok-write_label.ensures ▹ c.in_ok-write_text.ensures).grown
 
 pub names-preserved : goal.names-preserved
 names-preserved g c =
@@ -23,7 +21,7 @@ pub returns : goal.returns
 returns g c =
     let bytes = g.N.Names.bytes in
     let l = c.names in
-    let none = at_drop_all (λ xs. elements_text l.is_later (elements_of (map named_type_json (map bytes xs)))) c.args.names.now
-    l.name-index (omega arith) in
-    and_last Appends appends_more _ _ _ _ _ _ _ (appended c.args.out.now l.out ((label c.args.label.now ++ codes "[") ++ elements_text false (elements_of (map named_type_json (map bytes c.args.names.now)))) _ l.invariant (none ∙ no_elements_left l.is_later)) c.write_text-2.ensures
+    let names = list_appended (λ xs. elements_of (map named_type_json (map bytes xs))) c.args.names.now l.name-index l.is_later _ _ _
+    (omega arith) refl l.invariant in
+    then_last _ _ _ names c.write_text-2.ensures
     (simp (later-one, text-array, append_assoc))
