@@ -2,7 +2,7 @@
 use Rattle.std.specs.Prelude.{List}
 use Rattle.std.specs.List.{AllByRecursion}
 use Rattle.std.specs.Option.{IfSome}
-use Rattle.graphql_core.specs.{DirectiveTree, IsLawful, AreLawfulArguments, AreLawfulDirectives}
+use Rattle.graphql_core.specs.{IsLawful, AreLawfulArguments, AreLawfulDirectives}
 use Rattle.graphql_query.specs.Tree.{spread, more, SelectionTree, field, inline, SelectionSetTree, set}
 use Rattle.graphql_query.specs.Tree.{SelectionTrees, none, VariableDefinitionTree, FragmentDefinitionTree}
 use Rattle.graphql_query.specs.Tree.{DefinitionTree, short, operation, fragment, DocumentTree}
@@ -26,15 +26,13 @@ IsLawfulVariable v = IfSome v.default_value IsLawful × AreLawfulDirectives v.di
 abbrev pub AreLawfulVariables : List VariableDefinitionTree → Type 0
 AreLawfulVariables = AllByRecursion IsLawfulVariable
 
-abbrev pub AreLawfulParts : List VariableDefinitionTree → List DirectiveTree → SelectionSetTree → Type 0
-AreLawfulParts vs ds s = AreLawfulVariables vs × AreLawfulDirectives ds × IsLawfulSet s
-
 abbrev pub IsLawfulFragment : FragmentDefinitionTree → Type 0
 IsLawfulFragment f = AreLawfulDirectives f.directives × IsLawfulSet f.selected
 
 abbrev pub IsLawfulDefinition : DefinitionTree → Type 0
 IsLawfulDefinition (short s) = IsLawfulSet s
-IsLawfulDefinition (operation o) = AreLawfulParts o.variables o.directives o.selected
+IsLawfulDefinition (operation o) =
+    AreLawfulVariables o.variables × AreLawfulDirectives o.directives × IsLawfulSet o.selected
 IsLawfulDefinition (fragment f) = IsLawfulFragment f
 
 abbrev pub IsLawfulDocument : DocumentTree → Type 0

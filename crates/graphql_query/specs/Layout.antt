@@ -1,7 +1,7 @@
 -- The layout of a document in a style. A line begins with a margin, a number of spaces.
 use Rattle.std.specs.Prelude.{ℕ, ◌+◌, List, [], ◌++◌, Option, Some, None, codes}
 use Rattle.graphql_core.specs.{name_part, punctuator_part, text_of, Layout, spaces, Part, gap, ValueTree}
-use Rattle.graphql_core.specs.{DirectiveTree, type_layout, arguments_layout, directives_layout, in_levels, in_braces}
+use Rattle.graphql_core.specs.{type_layout, arguments_layout, directives_layout, in_levels, in_braces}
 use Rattle.graphql_core.specs.{most, default_layout, in_parentheses, separated}
 use Rattle.graphql_query.specs.Tree.{spread, more, SelectionTree, field, inline, SelectionSetTree, set}
 use Rattle.graphql_query.specs.Tree.{SelectionTrees, none, OperationKind, query_kind, mutation_kind}
@@ -9,8 +9,8 @@ use Rattle.graphql_query.specs.Tree.{subscription_kind, VariableDefinitionTree, 
 use Rattle.graphql_query.specs.Tree.{FragmentDefinitionTree, DefinitionTree, short, operation, fragment}
 use Rattle.graphql_query.specs.Tree.{DocumentTree}
 use Rattle.graphql_query.specs.TreeDepth.{selection_depth, selected_depth, selection_set_depth, selections_depth}
-use Rattle.graphql_query.specs.TreeDepth.{variable_definition_depth, variable_definitions_depth, operation_depth_of}
-use Rattle.graphql_query.specs.TreeDepth.{operation_depth, fragment_definition_depth, definition_depth}
+use Rattle.graphql_query.specs.TreeDepth.{variable_definition_depth, variable_definitions_depth, operation_depth}
+use Rattle.graphql_query.specs.TreeDepth.{fragment_definition_depth, definition_depth}
 use Rattle.graphql_core.specs.layouts.ValueLayout as values
 
 -- ---- selections
@@ -73,14 +73,11 @@ variable_definition_layout style v = punctuator_part (codes "$")
 abbrev pub variable_definitions_layout : Layout → List VariableDefinitionTree → List Part
 variable_definitions_layout style = in_parentheses (variable_definition_layout style)
 
--- an operation, from its keyword and its parts
-abbrev pub operation_layout_of : Layout → List ℕ → Option (List ℕ) → List VariableDefinitionTree → List DirectiveTree → SelectionSetTree → List Part
-operation_layout_of style word n vs ds s = name_part word
-    ++ (operation_name_layout n
-    ++ (variable_definitions_layout style vs ++ (directives_layout style 0 ds ++ (gap (codes " ") ++ selection_set_layout style 0 s))))
-
 abbrev pub operation_layout : Layout → OperationTree → List Part
-operation_layout style o = operation_layout_of style (keyword o.kind) o.name o.variables o.directives o.selected
+operation_layout style o = name_part (keyword o.kind)
+    ++ (operation_name_layout o.name
+    ++ (variable_definitions_layout style o.variables
+    ++ (directives_layout style 0 o.directives ++ (gap (codes " ") ++ selection_set_layout style 0 o.selected))))
 
 abbrev pub fragment_definition_layout : Layout → FragmentDefinitionTree → List Part
 fragment_definition_layout style f =
@@ -119,9 +116,6 @@ selections_levels style = selections_depth (in_levels style)
 
 abbrev pub variable_definitions_levels : Layout → List VariableDefinitionTree → ℕ
 variable_definitions_levels style = variable_definitions_depth (in_levels style)
-
-abbrev pub operation_levels_of : Layout → List VariableDefinitionTree → List DirectiveTree → SelectionSetTree → ℕ
-operation_levels_of style = operation_depth_of (in_levels style)
 
 abbrev pub operation_levels : Layout → OperationTree → ℕ
 operation_levels style = operation_depth (in_levels style)

@@ -1,6 +1,6 @@
 -- How deep selections and definitions nest, counted with weights.
 use Rattle.std.specs.Prelude.{ℕ, ◌+◌, max, List}
-use Rattle.graphql_core.specs.{DirectiveTree, Weights, most, most_around, default_depth, arguments_depth}
+use Rattle.graphql_core.specs.{Weights, most, most_around, default_depth, arguments_depth}
 use Rattle.graphql_core.specs.{directives_depth}
 use Rattle.graphql_query.specs.Tree.{spread, more, SelectionTree, field, inline, SelectionSetTree, set}
 use Rattle.graphql_query.specs.Tree.{SelectionTrees, none, VariableDefinitionTree, OperationTree}
@@ -35,11 +35,9 @@ variable_definition_depth w v = max (w.of_type v.var_type) (max (default_depth w
 abbrev pub variable_definitions_depth : Weights → List VariableDefinitionTree → ℕ
 variable_definitions_depth w = most_around w.around_definitions (variable_definition_depth w)
 
-abbrev pub operation_depth_of : Weights → List VariableDefinitionTree → List DirectiveTree → SelectionSetTree → ℕ
-operation_depth_of w vs ds s = max (variable_definitions_depth w vs) (max (directives_depth w ds) (selection_set_depth w s))
-
 abbrev pub operation_depth : Weights → OperationTree → ℕ
-operation_depth w o = operation_depth_of w o.variables o.directives o.selected
+operation_depth w o =
+    max (variable_definitions_depth w o.variables) (max (directives_depth w o.directives) (selection_set_depth w o.selected))
 
 abbrev pub fragment_definition_depth : Weights → FragmentDefinitionTree → ℕ
 fragment_definition_depth w f = max (directives_depth w f.directives) (selection_set_depth w f.selected)

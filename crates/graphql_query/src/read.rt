@@ -2,7 +2,7 @@
 mod alias;
 pub mod definition;
 mod fragment;
-mod keyword;
+pub mod keyword;
 mod operation;
 mod selection;
 

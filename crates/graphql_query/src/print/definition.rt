@@ -23,19 +23,19 @@ impl<N: Names> Pretty for OperationDefinition<N> {
     fn levels(&self, style: &Style) -> usize {
         match self {
             OperationDefinition::SelectionSet(set) => set.levels(style),
-            OperationDefinition::Query(query) => query.levels(style),
-            OperationDefinition::Mutation(mutation) => mutation.levels(style),
-            OperationDefinition::Subscription(subscription) => subscription.levels(style),
+            OperationDefinition::Query(query) => query.parts().levels(style),
+            OperationDefinition::Mutation(mutation) => mutation.parts().levels(style),
+            OperationDefinition::Subscription(subscription) => subscription.parts().levels(style),
         }
     }
 
-    fn write<S: Sink>(&self, out: &mut S, style: &Style, margin: usize) -> Result<(), S::Error> {
+    fn write<S: Sink>(&self, out: &mut S, style: &Style, _margin: usize) -> Result<(), S::Error> {
         match self {
             OperationDefinition::SelectionSet(set) => write_selection_set(out, set, style, 0),
-            OperationDefinition::Query(query) => query.write(out, style, margin),
-            OperationDefinition::Mutation(mutation) => mutation.write(out, style, margin),
+            OperationDefinition::Query(query) => query.parts().write(out, style, 0),
+            OperationDefinition::Mutation(mutation) => mutation.parts().write(out, style, 0),
             OperationDefinition::Subscription(subscription) => {
-                subscription.write(out, style, margin)
+                subscription.parts().write(out, style, 0)
             }
         }
     }

@@ -93,7 +93,7 @@ impl<N: Names> fmt::Display for Query<N> {
             (Some (text_of (operation_layout default_style (query_view N.bytes self.now)))) f.new }
         ensures narrow { OnOk result (IsNarrow (operation_levels default_style (query_view N.bytes self.now))) }
     {
-        fmt_in_default_style(self, f)
+        fmt_in_default_style(&self.parts(), f)
     }
 }
 
@@ -108,7 +108,7 @@ impl<N: Names> fmt::Display for Mutation<N> {
             (Some (text_of (operation_layout default_style (mutation_view N.bytes self.now)))) f.new }
         ensures narrow { OnOk result (IsNarrow (operation_levels default_style (mutation_view N.bytes self.now))) }
     {
-        fmt_in_default_style(self, f)
+        fmt_in_default_style(&self.parts(), f)
     }
 }
 
@@ -124,7 +124,7 @@ impl<N: Names> fmt::Display for Subscription<N> {
             (Some (text_of (operation_layout default_style (subscription_view N.bytes self.now)))) f.new }
         ensures narrow { OnOk result (IsNarrow (operation_levels default_style (subscription_view N.bytes self.now))) }
     {
-        fmt_in_default_style(self, f)
+        fmt_in_default_style(&self.parts(), f)
     }
 }
 

@@ -1,14 +1,14 @@
 //! Formatting operations with a keyword, and their variables.
-ghost use Rattle.std.specs.Prelude.{◌≡◌, ◌*◌, ◌-◌, ◌^◌, ◌<◌, OnOk, min, option_map};
-ghost use Rattle.graphql_core.specs.{text_of, directives_view};
-ghost use Rattle.graphql_query.specs.{variable_definition_view, variable_definitions_view, selection_set_view};
+ghost use Rattle.std.specs.Prelude.{◌≡◌, ◌*◌, ◌^◌, ◌<◌, OnOk, option_map};
+ghost use Rattle.graphql_core.specs.{text_of};
+ghost use Rattle.graphql_query.specs.{variable_definition_view, variable_definitions_view, operation_seen};
 ghost use Rattle.graphql_query.specs.{query_view, mutation_view, subscription_view, operation, IsLawfulVariable};
-ghost use Rattle.graphql_query.specs.{AreLawfulVariables, AreLawfulParts, IsLawfulDefinition, operation_name_layout};
+ghost use Rattle.graphql_query.specs.{AreLawfulVariables, IsLawfulDefinition, operation_name_layout};
 ghost use Rattle.graphql_query.specs.{variable_definition_layout, variable_definitions_layout, operation_layout};
-ghost use Rattle.graphql_query.specs.{variable_definition_levels, variable_definitions_levels, operation_levels_of};
-ghost use Rattle.graphql_query.specs.{operation_levels, operation_layout_of};
+ghost use Rattle.graphql_query.specs.{variable_definition_levels, variable_definitions_levels, operation_levels};
 
 use crate::print::selection::write_selection_set;
+use crate::read::keyword::Keyword;
 use crate::tree::{Mutation, Query, SelectionSet, Subscription, VariableDefinition};
 use graphql_core::common::Names;
 use graphql_core::common::tree::Directive;
@@ -17,6 +17,7 @@ use graphql_core::format::print::{
     write_directives, write_joined, write_type,
 };
 use graphql_core::format::{Sink, Style};
+use graphql_core::position::Pos;
 
 /// Appends the name of an operation, if it has one.
 fn write_operation_name<S: Sink, N: Names>(
@@ -73,131 +74,76 @@ fn write_variable_definitions<S: Sink, N: Names>(
     out.push_str(")")
 }
 
-fn levels_in_operation<N: Names>(
-    variables: &[VariableDefinition<N>],
-    directives: &[Directive<N>],
-    set: &SelectionSet<N>,
-    style: &Style,
-) -> usize
-    ensures { result ≡ min
-        (operation_levels_of style.now (variable_definitions_view N.bytes variables.now) (directives_view N.bytes directives.now)
-        (selection_set_view N.bytes set.now)) (2 ^ 64 - 1) }
-{
-    let around = levels_in_each(variables, style).max(levels_in_directives(directives, style));
-    around.max(set.levels(style))
+/// An operation with a keyword, by references to the parts that are formatted.
+#[derive(Drop)]
+pub struct OperationParts<'a, N: Names> {
+    pub keyword: Keyword,
+    /// The position of the keyword.
+    pub position: Pos,
+    pub name: &'a Option<N::Value>,
+    pub variables: &'a [VariableDefinition<N>],
+    pub directives: &'a [Directive<N>],
+    pub selected: &'a SelectionSet<N>,
 }
 
-/// Appends an operation with a keyword and these parts.
-fn write_operation<S: Sink, N: Names>(
-    out: &mut S,
-    keyword: &str,
-    name: &Option<N::Value>,
-    variables: &[VariableDefinition<N>],
-    directives: &[Directive<N>],
-    set: &SelectionSet<N>,
-    style: &Style,
-) -> Result<(), S::Error>
-    requires { operation_levels_of style.now (variable_definitions_view N.bytes variables.now) (directives_view N.bytes directives.now)
-        (selection_set_view N.bytes set.now) * style.now.indent < 2 ^ 32 }
-    ensures text { OnOk result
-        (S.took out.old (text_of
-        (operation_layout_of style.now keyword.now (option_map N.bytes name.now) (variable_definitions_view N.bytes variables.now)
-        (directives_view N.bytes directives.now) (selection_set_view N.bytes set.now))) out.new) }
-    ensures lawful { OnOk result
-        (AreLawfulParts (variable_definitions_view N.bytes variables.now) (directives_view N.bytes directives.now)
-        (selection_set_view N.bytes set.now)) }
-{
-    out.push_str(keyword)?;
-    write_operation_name::<S, N>(out, name)?;
-    write_variable_definitions(out, variables, style)?;
-    write_directives(out, directives, style, 0)?;
-    out.push_str(" ")?;
-    write_selection_set(out, set, style, 0)
-}
+impl<'a, N: Names> Pretty for OperationParts<'a, N> {
+    ghost lines = { λ style _ o. operation_layout style (operation_seen N.bytes o) };
 
-impl<N: Names> Pretty for Query<N> {
-    ghost lines = { λ style _ o. operation_layout style (query_view N.bytes o) };
+    ghost opens = { λ style o. operation_levels style (operation_seen N.bytes o) };
 
-    ghost opens = { λ style o. operation_levels style (query_view N.bytes o) };
-
-    ghost lawful = { λ o. IsLawfulDefinition (operation (query_view N.bytes o)) };
+    ghost lawful = { λ o. IsLawfulDefinition (operation (operation_seen N.bytes o)) };
 
     fn levels(&self, style: &Style) -> usize {
-        levels_in_operation(
-            &self.variable_definitions,
-            &self.directives,
-            &self.selection_set,
-            style,
-        )
+        let variables = levels_in_each(self.variables, style);
+        let around = variables.max(levels_in_directives(self.directives, style));
+        around.max(self.selected.levels(style))
     }
 
+    #[inline(always)]
     fn write<S: Sink>(&self, out: &mut S, style: &Style, _margin: usize) -> Result<(), S::Error> {
-        write_operation(
-            out,
-            "query",
-            &self.name,
-            &self.variable_definitions,
-            &self.directives,
-            &self.selection_set,
-            style,
-        )
+        out.push_str(self.keyword.word())?;
+        write_operation_name::<S, N>(out, self.name)?;
+        write_variable_definitions(out, self.variables, style)?;
+        write_directives(out, self.directives, style, 0)?;
+        out.push_str(" ")?;
+        write_selection_set(out, self.selected, style, 0)
     }
 }
 
-impl<N: Names> Pretty for Mutation<N> {
-    ghost lines = { λ style _ o. operation_layout style (mutation_view N.bytes o) };
+// The parts of an operation with this keyword.
+macro_rules! parts {
+    ($of:expr, $keyword:expr) => {
+        OperationParts {
+            keyword: $keyword,
+            position: $of.position,
+            name: &$of.name,
+            variables: &$of.variable_definitions,
+            directives: &$of.directives,
+            selected: &$of.selection_set,
+        }
+    };
+}
 
-    ghost opens = { λ style o. operation_levels style (mutation_view N.bytes o) };
-
-    ghost lawful = { λ o. IsLawfulDefinition (operation (mutation_view N.bytes o)) };
-
-    fn levels(&self, style: &Style) -> usize {
-        levels_in_operation(
-            &self.variable_definitions,
-            &self.directives,
-            &self.selection_set,
-            style,
-        )
-    }
-
-    fn write<S: Sink>(&self, out: &mut S, style: &Style, _margin: usize) -> Result<(), S::Error> {
-        write_operation(
-            out,
-            "mutation",
-            &self.name,
-            &self.variable_definitions,
-            &self.directives,
-            &self.selection_set,
-            style,
-        )
+impl<N: Names> Query<N> {
+    pub(crate) fn parts(&self) -> OperationParts<'_, N>
+        ensures { operation_seen N.bytes result ≡ query_view N.bytes self.now }
+    {
+        parts!(self, Keyword::Query)
     }
 }
 
-impl<N: Names> Pretty for Subscription<N> {
-    ghost lines = { λ style _ o. operation_layout style (subscription_view N.bytes o) };
-
-    ghost opens = { λ style o. operation_levels style (subscription_view N.bytes o) };
-
-    ghost lawful = { λ o. IsLawfulDefinition (operation (subscription_view N.bytes o)) };
-
-    fn levels(&self, style: &Style) -> usize {
-        levels_in_operation(
-            &self.variable_definitions,
-            &self.directives,
-            &self.selection_set,
-            style,
-        )
+impl<N: Names> Mutation<N> {
+    pub(crate) fn parts(&self) -> OperationParts<'_, N>
+        ensures { operation_seen N.bytes result ≡ mutation_view N.bytes self.now }
+    {
+        parts!(self, Keyword::Mutation)
     }
+}
 
-    fn write<S: Sink>(&self, out: &mut S, style: &Style, _margin: usize) -> Result<(), S::Error> {
-        write_operation(
-            out,
-            "subscription",
-            &self.name,
-            &self.variable_definitions,
-            &self.directives,
-            &self.selection_set,
-            style,
-        )
+impl<N: Names> Subscription<N> {
+    pub(crate) fn parts(&self) -> OperationParts<'_, N>
+        ensures { operation_seen N.bytes result ≡ subscription_view N.bytes self.now }
+    {
+        parts!(self, Keyword::Subscription)
     }
 }

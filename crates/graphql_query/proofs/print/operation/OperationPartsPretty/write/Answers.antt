@@ -1,7 +1,7 @@
 use Rattle.std.proofs.Common.{ℕ, ◌<◌, ◌*◌, ◌^◌, max, arith, append_assoc}
 use Rattle.std.proofs.lemmas.Result.{on_ok_weaker}
 use Rattle.graphql_core.proofs.{text_append, and_last, both_fit}
-use Rattle.graphql_query.proofs.print.operation.write_operation.Goals as goal
+use Rattle.graphql_query.proofs.print.operation.OperationPartsPretty.write.Goals as goal
 
 -- the parts of an operation fit if the operation fits
 parts_fit : (a b c indent : ℕ) → max a (max b c) * indent < 2 ^ 32 → (a * indent < 2 ^ 32) × (b * indent < 2 ^ 32) × (c * indent < 2 ^ 32)

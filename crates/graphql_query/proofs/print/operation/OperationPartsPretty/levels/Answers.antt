@@ -1,11 +1,11 @@
 use Rattle.std.proofs.Common.{arith}
 use Rattle.graphql_core.proofs.{most_seen}
 use Rattle.graphql_query.specs.{variable_definition_levels, variable_definition_view}
-use Rattle.graphql_query.proofs.print.operation.levels_in_operation.Goals as goal
+use Rattle.graphql_query.proofs.print.operation.OperationPartsPretty.levels.Goals as goal
 
 pub returns : goal.returns
 returns g c =
     let view = variable_definition_view g.N.Names.bytes in
-    let same = most_seen view (variable_definition_levels c.args.style.now) c.args.variables.now in
+    let same = most_seen view (variable_definition_levels c.args.style.now) c.args.self.now.variables.now in
     let each = rw same at c.levels_in_each.ensures in
     omega (arith, each, c.levels_in_directives.ensures, c.levels.ensures, c.max.ensures, c.max-around.ensures)
