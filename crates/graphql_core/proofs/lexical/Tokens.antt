@@ -2,7 +2,7 @@
 use Rattle.std.specs.Str.{IsCharBoundary}
 use Rattle.std.specs.List.{prefix_len}
 use Rattle.std.proofs.Common.{◌≡◌, ℕ, ◌+◌, ◌-◌, ◌<◌, ◌≤◌, Bool, true, false, ◌==◌, List, [], ◌∷◌, Option, Some, None, length, take, drop, get_or, IsUtf8}
-use Rattle.std.proofs.Common.{refl, sym, ap, ◌∙◌, arith, eqb-true, IfSome, cond, slice_index, inl, inr, ◌&&◌, ◌||◌}
+use Rattle.std.proofs.Common.{refl, sym, ap, ◌∙◌, arith, eqb-true, IfSome, cond, slice_index, add-zero, inl, inr, ◌&&◌, ◌||◌}
 use Rattle.std.proofs.lemmas.Bool.{false≢true, eqb-false, and_parts, or_cases, both_ways, cases_Bool}
 use Rattle.std.proofs.lemmas.List.{length-take, take_min}
 use Rattle.std.proofs.lemmas.Bool.Decides.{nat_tests}
@@ -10,7 +10,7 @@ use Rattle.graphql_core.specs.declared.position.Pos.{Pos}
 use Rattle.graphql_core.specs.declared.tokenizer.token.Kind.{Kind}
 use Rattle.graphql_core.specs.declared.tokenizer.token.Kind.TheVariants.{Punctuator, Name}
 use Rattle.graphql_core.specs.declared.tokenizer.piece.Move.{Move}
-use Rattle.graphql_core.specs.declared.tokenizer.piece.Move.TheVariants.{Over, Down}
+use Rattle.graphql_core.specs.declared.tokenizer.piece.Move.TheVariants.{Stay, Over, Down}
 use Rattle.graphql_core.specs.declared.tokenizer.piece.Nesting.{Nesting}
 use Rattle.graphql_core.specs.declared.tokenizer.piece.Nesting.TheVariants.{Level, Opens, Closes}
 use Rattle.graphql_core.specs.declared.tokenizer.piece.Piece.{Piece}
@@ -19,9 +19,9 @@ use Rattle.graphql_core.specs.{is_name_start, is_name_continue, is_punctuator_by
 use Rattle.graphql_core.specs.{Item, Content, item_at, TokenContent, EndOfInput, LexicalError, is_token, is_too_deep}
 use Rattle.graphql_core.specs.{openers_after, closers_after, past_token, token_then, items, items_by, BeginsWithNext}
 use Rattle.graphql_core.specs.{AreItemsOfRest, further, front, other_token, comment, line_end, FitsIn, IsItem, taken}
-use Rattle.graphql_core.specs.{FitsTaken, is_blank, is_line_feed, is_ignored}
+use Rattle.graphql_core.specs.{FitsTaken, is_blank, is_line_feed, is_spacing, is_ignored, columns_of, moved}
 use Rattle.graphql_core.proofs.lexical.Runs.{differs}
-use Rattle.graphql_core.proofs.lexical.FrontFits.{front_fits, front_within, items_at, next_place_items, PieceFits}
+use Rattle.graphql_core.proofs.lexical.FrontFits.{further_skip, front_fits, front_within, items_at, next_place_items, PieceFits}
 use Rattle.graphql_core.proofs.lexical.OneCut.{has_items_from}
 use Rattle.graphql_core.proofs.lexical.Spaces.{no_front, item_first}
 
@@ -213,6 +213,54 @@ feed bs = refl
 pub feed_front : (bytes : List ℕ) → is_line_feed (get_or bytes 0 0) ≡ true → front bytes ≡ Skips 1 Down
 feed_front [] h = absurd cc
 feed_front (b ∷ bs) h = ap (λ x. front (x ∷ bs)) (eqb-true b 10 h) ∙ feed bs
+
+tab : (bs : List ℕ) → front (9 ∷ bs) ≡ Skips 1 (Over 8)
+unfolding front
+tab bs = refl
+
+return : (bs : List ℕ) → front (13 ∷ bs) ≡ Skips 1 Stay
+unfolding front
+return bs = refl
+
+-- how a space, a comma, a tab or a carriage return moves the position
+abbrev pub spacing_move : ℕ → Move
+spacing_move b = cond (b == 13) Stay (Over (columns_of b))
+
+pub spacing_front : (bytes : List ℕ) → is_spacing (get_or bytes 0 0) ≡ true → front bytes ≡ Skips 1 (spacing_move (get_or bytes 0 0))
+spacing_front [] h = absurd cc
+spacing_front (b ∷ bs) h =
+    elim (cases_Bool (b == 9)) [
+      | inl is_tab ↦ rw (eqb-true b 9 is_tab) (tab bs)
+      | inr no_tab ↦ elim (cases_Bool (b == 13)) [
+        | inl is_return ↦ rw (eqb-true b 13 is_return) (return bs)
+        | inr no_return ↦
+            let blank_is : is_blank b ≡ true = rw (no_tab, no_return) at h in
+            rw (no_return, no_tab, blank_is) (blank b bs blank_is)
+      ]
+    ]
+
+spacing_moves : (b : ℕ) (place : Pos) → moved (spacing_move b) place ≡ moved (Over (columns_of b)) place
+spacing_moves b place =
+    elim (cases_Bool (b == 13)) [
+      | inl is_return ↦ rw (eqb-true b 13 is_return, add-zero place.column) refl
+      | inr no_return ↦ rw no_return refl
+    ]
+
+-- past a space, a comma, a tab or a carriage return
+pub further_spacing : (w : Where) (place : Pos) (passed : ℕ) (bytes : List ℕ) (n : ℕ) → is_spacing (get_or bytes 0 0) ≡ true
+    → n ≡ columns_of (get_or bytes 0 0)
+    → items (further (moved (Over n) place) (passed + 1) w) (drop 1 bytes) ≡ items (further place passed w) bytes
+further_spacing w place passed bytes n h columns =
+    let b = get_or bytes 0 0 in
+    rw columns (ap (λ p. items (further p (passed + 1) w) (drop 1 bytes)) (sym (spacing_moves b place))
+    ∙ further_skip w place passed bytes 1 (spacing_move b) (spacing_front bytes h))
+
+pub columns_most : (b : ℕ) → columns_of b ≤ 8
+columns_most b =
+    elim (cases_Bool (b == 9)) [
+      | inl is_tab ↦ rw is_tab (omega arith)
+      | inr no_tab ↦ rw no_tab (elim (cases_Bool (is_blank b)) [ inl blank_is ↦ rw blank_is (omega arith) | inr other ↦ rw other (omega arith) ])
+    ]
 
 -- past one byte of ignored text
 pub ignored_boundary : (bytes : List ℕ) (m : Move) → IsUtf8 bytes → front bytes ≡ Skips 1 m → IsCharBoundary bytes 1

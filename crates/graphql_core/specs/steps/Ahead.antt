@@ -78,6 +78,14 @@ FitsTaken bytes (Some (n, k, t)) = Cuts bytes n
 abbrev pub is_line_feed : ℕ → Bool
 is_line_feed b = b == 10
 
+-- a tab, a carriage return, a space or a comma
+abbrev pub is_spacing : ℕ → Bool
+is_spacing b = b == 9 || b == 13 || is_blank b
+
+-- the columns that a byte of ignored text takes; a carriage return takes none
+abbrev pub columns_of : ℕ → ℕ
+columns_of b = if b == 9 then 8 else if is_blank b then 1 else 0
+
 -- a byte that can begin ignored text; 239 is the first byte of a byte order mark
 abbrev pub is_ignored : ℕ → Bool
 is_ignored b = is_blank b || is_line_feed b || b == 9 || b == 13 || b == 35 || b == 239

@@ -1,22 +1,34 @@
 //! What a byte can begin, by one table lookup.
-ghost use Rattle.std.specs.Prelude.{◌≡◌};
+ghost use Rattle.std.specs.Prelude.{◌≡◌, ◌≤◌};
 ghost use Rattle.graphql_core.specs.lexical.Lexical as lexical;
 ghost use Rattle.graphql_core.specs.steps.Ahead as ahead;
 
 use crate::tokenizer::piece::Nesting;
 
 // The class of each byte: `a` begins a name, `(` is an opening bracket, `)` is a closing bracket, and `!` is any other
-// punctuator of one byte. `n` is a line feed, `s` is a space or a comma, `t` begins other ignored text, and `.` is any
-// other byte. Punctuators have the least classes and ignored text the greatest: one comparison tests for either.
+// punctuator of one byte. `n` is a line feed, `r` is a carriage return, `s` is a space or a comma, `t` is a tab, `o`
+// begins other ignored text, and `.` is any other byte. Punctuators have the least classes and ignored text the
+// greatest: one comparison tests for either.
 static CLASSES: [u8; 256] = *b"\
-    .........tn..t..................\
-    s!.t!.!.()..s.............!..!..\
+    .........tn..r..................\
+    s!.o!.!.()..s.............!..!..\
     !aaaaaaaaaaaaaaaaaaaaaaaaaa(.).a\
     .aaaaaaaaaaaaaaaaaaaaaaaaaa(!)..\
     ................................\
     ................................\
     ................................\
-    ...............t................";
+    ...............o................";
+
+// The columns that each byte takes in ignored text.
+static COLUMNS: [u8; 256] = *b"\
+    \0\0\0\0\0\0\0\0\0\x08\0\0\0\0\0\0\0\0\0\0\0\0\0\0\0\0\0\0\0\0\0\0\
+    \x01\0\0\0\0\0\0\0\0\0\0\0\x01\0\0\0\0\0\0\0\0\0\0\0\0\0\0\0\0\0\0\0\
+    \0\0\0\0\0\0\0\0\0\0\0\0\0\0\0\0\0\0\0\0\0\0\0\0\0\0\0\0\0\0\0\0\
+    \0\0\0\0\0\0\0\0\0\0\0\0\0\0\0\0\0\0\0\0\0\0\0\0\0\0\0\0\0\0\0\0\
+    \0\0\0\0\0\0\0\0\0\0\0\0\0\0\0\0\0\0\0\0\0\0\0\0\0\0\0\0\0\0\0\0\
+    \0\0\0\0\0\0\0\0\0\0\0\0\0\0\0\0\0\0\0\0\0\0\0\0\0\0\0\0\0\0\0\0\
+    \0\0\0\0\0\0\0\0\0\0\0\0\0\0\0\0\0\0\0\0\0\0\0\0\0\0\0\0\0\0\0\0\
+    \0\0\0\0\0\0\0\0\0\0\0\0\0\0\0\0\0\0\0\0\0\0\0\0\0\0\0\0\0\0\0\0";
 
 /// Whether a name can begin with this byte.
 #[inline(always)]
@@ -84,4 +96,21 @@ pub fn is_blank(byte: u8) -> bool
     ensures { result ≡ ahead.is_blank byte }
 {
     CLASSES[byte as usize] == b's'
+}
+
+/// Whether the byte is a space, a comma, a tab or a carriage return.
+#[inline(always)]
+pub fn is_spacing(byte: u8) -> bool
+    ensures { result ≡ ahead.is_spacing byte }
+{
+    CLASSES[byte as usize] >= b'r'
+}
+
+/// The columns that a space, a comma, a tab or a carriage return takes.
+#[inline(always)]
+pub fn columns_of(byte: u8) -> usize
+    ensures is { result ≡ ahead.columns_of byte }
+    ensures most { result ≤ 8 }
+{
+    COLUMNS[byte as usize] as usize
 }

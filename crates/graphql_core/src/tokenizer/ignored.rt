@@ -3,7 +3,7 @@ ghost use Rattle.std.specs.Prelude.{◌≡◌, ◌≤◌, IfSome, length, slice_
 ghost use Rattle.graphql_core.specs.{front, IsItem, HasRoom, SkipsTo, HasContentsOf};
 
 use crate::position::Pos;
-use crate::tokenizer::class::{is_blank, is_ignored, is_line_feed};
+use crate::tokenizer::class::{columns_of, is_ignored, is_line_feed, is_spacing};
 use crate::tokenizer::piece::{byte_at, ignored_of, spaces_in_one_load, spaces_of};
 use crate::tokenizer::place::{position_after_line, position_after_move, position_after_spaces};
 
@@ -34,10 +34,10 @@ fn front_byte(text: &str) -> u8
     byte_at(text.as_bytes(), 0)
 }
 
-/// Skips spaces, commas and line feeds. The flag is true only if all ignored text was skipped. The flag is false before
-/// other ignored text, and where one load does not show the end of the spaces after a line feed.
+/// Skips spaces, commas, tabs and line ends. The flag is true only if all ignored text was skipped. The flag is false
+/// before other ignored text, and where one load does not show the end of the spaces after a line feed.
 #[inline(always)]
-pub fn skip_common(text: &str, at: Pos) -> (&str, Pos, bool)
+fn skip_common(text: &str, at: Pos) -> (&str, Pos, bool)
     requires { HasRoom text.now at }
     ensures skips { SkipsTo text.now at result.0.now result.1 }
     ensures first { result.2 ≡ true → IsItem (front result.0.now) }
@@ -49,10 +49,7 @@ pub fn skip_common(text: &str, at: Pos) -> (&str, Pos, bool)
         if !is_ignored(byte) {
             return (rest, place, true);
         }
-        if is_blank(byte) {
-            place = position_after_spaces(1, place);
-            rest = rest.split_at(1).1;
-        } else if is_line_feed(byte) {
+        if is_line_feed(byte) {
             place = position_after_line(place);
             let after = rest.split_at(1).1;
             let Some(spaces) = spaces_in_one_load(after) else {
@@ -60,13 +57,16 @@ pub fn skip_common(text: &str, at: Pos) -> (&str, Pos, bool)
             };
             place = position_after_spaces(spaces, place);
             rest = after.split_at(spaces).1;
+        } else if is_spacing(byte) {
+            place = position_after_spaces(columns_of(byte), place);
+            rest = rest.split_at(1).1;
         } else {
             return (rest, place, false);
         }
     }
 }
 
-/// Skips spaces, commas and line feeds, without a position. Returns `None` where the flag of `skip_common` is false.
+/// Skips spaces, commas, tabs and line ends, without a position. Returns `None` where the flag of `skip_common` is false.
 #[inline(always)]
 pub fn after_common(text: &str) -> Option<&str>
     ensures skips { IfSome result (λ rest. HasContentsOf rest.now text.now × (length rest.now ≤ length text.now)) }
@@ -78,12 +78,12 @@ pub fn after_common(text: &str) -> Option<&str>
         if !is_ignored(byte) {
             return Some(rest);
         }
-        if is_blank(byte) {
-            rest = rest.split_at(1).1;
-        } else if is_line_feed(byte) {
+        if is_line_feed(byte) {
             let after = rest.split_at(1).1;
             let spaces = spaces_in_one_load(after)?;
             rest = after.split_at(spaces).1;
+        } else if is_spacing(byte) {
+            rest = rest.split_at(1).1;
         } else {
             return None;
         }

@@ -7,7 +7,7 @@ ghost use Rattle.graphql_core.specs.steps.Ahead.{NextLexeme};
 use crate::position::Pos;
 use crate::tokenizer::bad::bad_at;
 use crate::tokenizer::brackets::Brackets;
-use crate::tokenizer::ignored::{after_common, shows_item, skip_common, skip_ignored};
+use crate::tokenizer::ignored::{after_common, shows_item, skip_ignored};
 use crate::tokenizer::lanes::LANES;
 use crate::tokenizer::piece::{begins_with_name, name_in_one_load, token_at, token_in_one_load};
 use crate::tokenizer::place::{position_after_flat, position_after_token};
@@ -104,11 +104,10 @@ impl<'a> Tokens<'a> {
         (item, self)
     }
 
-    /// Returns the next token, if the fast path recognizes the token and the ignored text after it.
+    /// Returns the next token, if the fast path recognizes it.
     ///
     /// The token is a short name, a punctuator of one character, a nonempty ASCII string without escapes, or a number
-    /// without an exponent. No tab, CR, comment or long run of spaces follows, and more than 16 bytes of input are
-    /// left.
+    /// without an exponent. More than 16 bytes of input are left.
     ///
     /// `None` says nothing about the next token, and nothing changes: call `next_token`.
     #[inline(always)]
@@ -127,10 +126,7 @@ impl<'a> Tokens<'a> {
         }
         let (value, after) = self.rest.split_at(len);
         let end = position_after_flat(value, self.position);
-        let (rest, position, is_item) = skip_common(after, end);
-        if !is_item {
-            return None;
-        }
+        let (rest, position) = skip_ignored(after, end);
         self.rest = rest;
         self.position = position;
         self.brackets = self.brackets.after(nesting);

@@ -1,7 +1,7 @@
 use Rattle.std.proofs.Common.{◌≡◌, ◌∙◌, arith, rules}
-use Rattle.graphql_core.specs.declared.tokenizer.piece.Move.TheVariants.{Over, Down}
-use Rattle.graphql_core.specs.{is_blank, is_line_feed, is_ignored, contents, items}
-use Rattle.graphql_core.proofs.{skip_contents, gap_contents, spaces_gap, blank_front, feed_front, ignored_boundary}
+use Rattle.graphql_core.specs.declared.tokenizer.piece.Move.TheVariants.{Down}
+use Rattle.graphql_core.specs.{is_spacing, is_line_feed, is_ignored, contents, items}
+use Rattle.graphql_core.proofs.{skip_contents, gap_contents, spaces_gap, spacing_front, feed_front, ignored_boundary}
 use Rattle.graphql_core.proofs.{first_told, item_front}
 use Rattle.graphql_core.proofs.tokenizer.ignored.after_common.Goals as goal
 
@@ -11,40 +11,40 @@ returns-then-not-is_ignored-clause-first c =
     let other = first_told is_ignored rest c.front_byte-byte.ensures c.is_ignored.ensures c.if-not-is_ignored.true in
     item_front rest other
 
-pub split_at-requires : goal.split_at-requires
-split_at-requires c =
+pub split_at-requires-then-is_spacing : goal.split_at-requires-then-is_spacing
+split_at-requires-then-is_spacing c =
     let rest = c.common.rest.now in
-    let blank = first_told is_blank rest c.front_byte-byte.ensures c.is_blank.ensures c.if-is_blank.true in
-    ignored_boundary rest (Over 1) c.common.invariant.text (blank_front rest blank)
+    let spacing = first_told is_spacing rest c.front_byte-byte.ensures c.is_spacing.ensures c.if-is_spacing.true in
+    ignored_boundary rest _ c.common.invariant.text (spacing_front rest spacing)
 
-pub common-preserved-then-is_blank : goal.common-preserved-then-is_blank
-common-preserved-then-is_blank c =
+pub common-preserved : goal.common-preserved
+common-preserved c =
     let rest = c.common.rest.now in
-    let blank = first_told is_blank rest c.front_byte-byte.ensures c.is_blank.ensures c.if-is_blank.true in
+    let spacing = first_told is_spacing rest c.front_byte-byte.ensures c.is_spacing.ensures c.if-is_spacing.true in
     record {
       text = search rules;
-      left = λ w. rw c.split_at.ensures.back (skip_contents rest 1 (Over 1) (blank_front rest blank) w) ∙ c.common.invariant.left w;
+      left = λ w. rw c.split_at-then-is_spacing.ensures.back (skip_contents rest 1 _ (spacing_front rest spacing) w) ∙ c.common.invariant.left w;
       within = omega arith;
     }
 
-pub split_at-requires-then-is_line_feed : goal.split_at-requires-then-is_line_feed
-split_at-requires-then-is_line_feed c =
+pub split_at-requires : goal.split_at-requires
+split_at-requires c =
     let rest = c.common.rest.now in
     let feed = first_told is_line_feed rest c.front_byte-byte.ensures c.is_line_feed.ensures c.if-is_line_feed.true in
     ignored_boundary rest Down c.common.invariant.text (feed_front rest feed)
 
-pub common-preserved : goal.common-preserved
-common-preserved c =
+pub common-preserved-then-is_line_feed : goal.common-preserved-then-is_line_feed
+common-preserved-then-is_line_feed c =
     let rest = c.common.rest.now in
     let feed = first_told is_line_feed rest c.front_byte-byte.ensures c.is_line_feed.ensures c.if-is_line_feed.true in
     record {
       text = search rules;
       left = λ w.
-          let after = c.split_at-then-is_line_feed.result.1.now in
+          let after = c.split_at.result.1.now in
           let k = c.in_ok-spaces.spaces in
-          let past : contents (items w c.split_at-then-is_line_feed-2.result.1.now) ≡ contents (items w after) = rw c.split_at-then-is_line_feed-2.ensures.back
+          let past : contents (items w c.split_at-then-is_line_feed.result.1.now) ≡ contents (items w after) = rw c.split_at-then-is_line_feed.ensures.back
           (gap_contents k after (omega (arith, c.in_ok-spaces.ensures.len, spaces_gap after)) w) in
-          let down : contents (items w after) ≡ contents (items w rest) = rw c.split_at-then-is_line_feed.ensures.back
+          let down : contents (items w after) ≡ contents (items w rest) = rw c.split_at.ensures.back
           (skip_contents rest 1 Down (feed_front rest feed) w) in
           past ∙ down ∙ c.common.invariant.left w;
       within = omega arith;

@@ -1,7 +1,7 @@
-use Rattle.std.proofs.Common.{◌≡◌, ◌+◌, ◌-◌, length, ◌∙◌, arith, rules}
-use Rattle.graphql_core.specs.declared.tokenizer.piece.Move.TheVariants.{Over, Down}
-use Rattle.graphql_core.specs.{is_blank, is_line_feed, is_ignored}
-use Rattle.graphql_core.proofs.{further_skip, further_spaces, blank_front, feed_front, ignored_boundary, first_told}
+use Rattle.std.proofs.Common.{◌≡◌, ◌+◌, ◌-◌, length, ap, ◌∙◌, arith, rules}
+use Rattle.graphql_core.specs.declared.tokenizer.piece.Move.TheVariants.{Down}
+use Rattle.graphql_core.specs.{is_spacing, columns_of, is_line_feed, is_ignored}
+use Rattle.graphql_core.proofs.{further_skip, further_spaces, spacing_front, further_spacing, feed_front, ignored_boundary, first_told}
 use Rattle.graphql_core.proofs.{item_front}
 use Rattle.graphql_core.proofs.tokenizer.ignored.skip_common.Goals as goal
 
@@ -11,32 +11,33 @@ returns-then-not-is_ignored-clause-first c told =
     let other = first_told is_ignored rest c.front_byte-byte.ensures c.is_ignored.ensures c.if-not-is_ignored.true in
     item_front rest other
 
-pub split_at-requires : goal.split_at-requires
-split_at-requires c =
+pub split_at-requires-then-is_spacing : goal.split_at-requires-then-is_spacing
+split_at-requires-then-is_spacing c =
     let rest = c.common.rest.now in
-    let blank = first_told is_blank rest c.front_byte-byte.ensures c.is_blank.ensures c.if-is_blank.true in
-    ignored_boundary rest (Over 1) c.common.invariant.text (blank_front rest blank)
+    let spacing = first_told is_spacing rest c.front_byte-byte.ensures c.is_spacing.ensures c.if-is_spacing.true in
+    ignored_boundary rest _ c.common.invariant.text (spacing_front rest spacing)
 
-pub common-preserved-then-is_blank : goal.common-preserved-then-is_blank
-common-preserved-then-is_blank c =
+pub common-preserved : goal.common-preserved
+common-preserved c =
     let rest = c.common.rest.now in
-    let blank = first_told is_blank rest c.front_byte-byte.ensures c.is_blank.ensures c.if-is_blank.true in
+    let spacing = first_told is_spacing rest c.front_byte-byte.ensures c.is_spacing.ensures c.if-is_spacing.true in
+    let columns = c.columns_of.ensures.is ∙ ap columns_of c.front_byte-byte.ensures in
     record {
       text = search rules;
       skipped = (
         λ w at.
             let passed = length c.args.text.now - length rest in
-            let all : length c.args.text.now - length c.split_at.result.1.now ≡ passed + 1 = omega arith in
-            rw (all, c.split_at.ensures.back, c.position_after_spaces-place.ensures)
-            (further_skip w c.common.place passed rest 1 (Over 1) (blank_front rest blank) ∙ c.common.invariant.skipped.0 w at),
+            let all : length c.args.text.now - length c.split_at-then-is_spacing.result.1.now ≡ passed + 1 = omega arith in
+            rw (all, c.split_at-then-is_spacing.ensures.back, c.position_after_spaces-place-then-is_spacing.ensures)
+            (further_spacing w c.common.place passed rest c.columns_of.result spacing columns ∙ c.common.invariant.skipped.0 w at),
         omega arith,
         search rules,
         search rules,
       );
     }
 
-pub split_at-requires-then-is_line_feed : goal.split_at-requires-then-is_line_feed
-split_at-requires-then-is_line_feed c =
+pub split_at-requires : goal.split_at-requires
+split_at-requires c =
     let rest = c.common.rest.now in
     let feed = first_told is_line_feed rest c.front_byte-byte.ensures c.is_line_feed.ensures c.if-is_line_feed.true in
     ignored_boundary rest Down c.common.invariant.text (feed_front rest feed)
@@ -46,16 +47,16 @@ returns-in_default-clause-skips c =
     let rest = c.common.rest.now in
     let feed = first_told is_line_feed rest c.front_byte-byte.ensures c.is_line_feed.ensures c.if-is_line_feed.true in
     let passed = length c.args.text.now - length rest in
-    let all : length c.args.text.now - length c.split_at-then-is_line_feed.result.1.now ≡ passed + 1 = omega arith in (
-      (λ w at. rw (all, c.split_at-then-is_line_feed.ensures.back, c.position_after_line-place.ensures)
+    let all : length c.args.text.now - length c.split_at.result.1.now ≡ passed + 1 = omega arith in (
+      (λ w at. rw (all, c.split_at.ensures.back, c.position_after_line-place.ensures)
           (further_skip w c.common.place passed rest 1 Down (feed_front rest feed) ∙ c.common.invariant.skipped.0 w at)),
       omega arith,
       search rules,
       search rules,
     )
 
-pub common-preserved : goal.common-preserved
-common-preserved c =
+pub common-preserved-then-is_line_feed : goal.common-preserved-then-is_line_feed
+common-preserved-then-is_line_feed c =
     let rest = c.common.rest.now in
     let feed = first_told is_line_feed rest c.front_byte-byte.ensures c.is_line_feed.ensures c.if-is_line_feed.true in
     record {
@@ -63,12 +64,12 @@ common-preserved c =
       skipped = (
         λ w at.
             let k = c.in-Some.spaces in
-            let after = c.split_at-then-is_line_feed.result.1.now in
+            let after = c.split_at.result.1.now in
             let passed = length c.args.text.now - length rest in
-            let all : length c.args.text.now - length c.split_at-then-is_line_feed-2.result.1.now ≡ passed + 1 + k = omega (arith, c.in-Some.ensures.within) in
+            let all : length c.args.text.now - length c.split_at-then-is_line_feed.result.1.now ≡ passed + 1 + k = omega (arith, c.in-Some.ensures.within) in
             let spaces = further_spaces w c.position_after_line-place.result (passed + 1) after k (omega (arith, c.in-Some.ensures.len)) in
-            rw (all, c.position_after_spaces-place-then-is_line_feed.ensures, c.split_at-then-is_line_feed-2.ensures.back)
-            (spaces ∙ rw (c.split_at-then-is_line_feed.ensures.back, c.position_after_line-place.ensures)
+            rw (all, c.position_after_spaces-place.ensures, c.split_at-then-is_line_feed.ensures.back)
+            (spaces ∙ rw (c.split_at.ensures.back, c.position_after_line-place.ensures)
             (further_skip w c.common.place passed rest 1 Down (feed_front rest feed)) ∙ c.common.invariant.skipped.0 w at),
         omega arith,
         search rules,

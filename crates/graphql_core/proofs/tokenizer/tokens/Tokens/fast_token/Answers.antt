@@ -14,14 +14,14 @@ invariant_of-self c =
     let t = c.in-Some in
     let deep : is_too_deep t.nesting w ≡ false = sym (c.is_too_deep.ensures w refl refl) ∙ c.if-is_too_deep.false in
     let few = few_open t.nesting w deep c.self.invariant.6 in
-    let within = c.skip_common-is_item.ensures.skips.1 in
+    let within = c.skip_ignored.ensures.skips.1 in
     let after = c.after-self-inside.ensures in (
       omega arith,
       omega arith,
       omega arith,
       omega (arith, after.openers, (one_bracket t.nesting s.brackets.openers).0, t.ensures.fits.0, c.split_at.ensures.back_len, within),
       omega (arith, after.closers, (one_bracket t.nesting s.brackets.closers).1, t.ensures.fits.0, c.split_at.ensures.back_len, within),
-      c.skip_common-is_item.ensures.first c.if-not-is_item.false,
+      c.skip_ignored.ensures.first,
       omega (arith, few, after.openers, after.closers),
     )
 
@@ -32,10 +32,10 @@ returns-clause-item c =
     let t = c.in-Some in
     let deep : is_too_deep t.nesting w ≡ false = sym (c.is_too_deep.ensures w refl refl) ∙ c.if-is_too_deep.false in
     let end = sym (c.position_after_flat-end.ensures.is ∙ ap (λ v. past v s.position) c.split_at.ensures.front) in
-    let more = c.skip_common-is_item.ensures.skips.0 (past_token t.nesting (take t.len s.rest.now) w) end in
+    let more = c.skip_ignored.ensures.skips.0 (past_token t.nesting (take t.len s.rest.now) w) end in
     let len = ap length c.split_at.ensures.front in
     rw (← c.self.view_is, c.split_at.ensures.front, c.after-self-inside.ensures.openers, c.after-self-inside.ensures.closers) (
       w,
-      token_then_rest w s.rest.now _ _ c.skip_common-is_item.result.0.now s.size t.len t.kind t.nesting c.skip_common-is_item.result.1 t.ensures.is deep refl
-          c.split_at.ensures.back more (omega (arith, c.skip_common-is_item.ensures.skips.1)),
+      token_then_rest w s.rest.now _ _ c.skip_ignored.result.0.now s.size t.len t.kind t.nesting c.skip_ignored.result.1 t.ensures.is deep refl
+          c.split_at.ensures.back more (omega (arith, c.skip_ignored.ensures.skips.1)),
     )

@@ -1,0 +1,9 @@
+use Rattle.std.proofs.Common.{nat_le, refl, arith}
+use Rattle.graphql_core.specs.declared.tokenizer.class.TheConstants.{CLASSES}
+use Rattle.graphql_core.specs.{is_spacing}
+use Rattle.graphql_core.proofs.{agree_below, by_class}
+use Rattle.graphql_core.proofs.tokenizer.class.is_spacing.Goals as goal
+
+pub returns : goal.returns
+unfolding agree_below
+returns c = by_class CLASSES (λ n. nat_le 114 n) is_spacing c.args.byte (omega arith) refl
