@@ -66,7 +66,7 @@ pub use layouts.{default_bounded, default_rises, directives_alike, directives_bo
 pub use layouts.{gap_rises, in_parentheses_alike, in_parentheses_rise, in_parentheses_seen, item_here, level_rises}
 pub use layouts.{line_end_rises, lines_rise, most_bounded, most_seen, narrower, none_rise, on_ok, rises_as}
 pub use layouts.{separated_alike, separated_rise, separated_seen, some_items, string_bounded, string_rises}
-pub use layouts.{text_append, type_rises, written, written_plain}
+pub use layouts.{displays_narrow, text_append, type_rises}
 pub use round_trip.{Any, Back, IsMark, Takes, arguments_back, as_word_back, both_back, both_of_each, checked_back}
 pub use round_trip.{close_back, directives_back, document_back, dots_back, first_back, five_back, four_back}
 pub use round_trip.{gap_back, in_braces_back, in_parentheses_back, lift_back, margin_back, means, more_back}

@@ -61,10 +61,10 @@ pub use values.{optional_of, place_at, punctuator, punctuator_class, sample, sep
 pub use values.{spelling_at, token_value, type_of, type_symbol, type_view, value_brackets, value_view, valued}
 pub use values.{variable, word}
 unfoldable pub use values.{block_string_of, is_good, string_of, tables, unquoted}
-pub use layouts.{IsNarrow, Layout, Part, arguments_layout, bracket_of, deepest, default_layout, default_style}
-pub use layouts.{description_levels, directives_layout, gap, has_block_form, has_block_lines, in_block_form, in_braces, in_levels}
-pub use layouts.{in_parentheses, name_part, punctuator_part, quoted, separated, spaces, string_layout, text_of}
-pub use layouts.{token, type_layout, with_indent, with_multiline}
+pub use layouts.{Displays, HasDisplayed, IsNarrow, Layout, Part, arguments_layout, bracket_of, deepest, default_layout}
+pub use layouts.{default_style, description_levels, directives_layout, gap, has_block_form, has_block_lines}
+pub use layouts.{in_block_form, in_braces, in_levels, in_parentheses, name_part, punctuator_part, quoted, separated}
+pub use layouts.{spaces, string_layout, text_of, token, type_layout, with_indent, with_multiline}
 pub use steps.{Adds, Answered, Gives, IsFaultFor, IsList, IsNext, MayFollow, Shortens, Shows, TakesOne, TakesToken}
 pub use steps.{ignored_front, line_end, reason_of, sees_class, spelling_of}
 unfoldable pub use steps.{block_end, comment, front, items, items_in, number, other_token, quoted_front, string_end}

@@ -1,8 +1,8 @@
 //! `Display` of documents, definitions and types: in the default style, and an error if that is too wide.
-ghost use Rattle.std.specs.Prelude.{Some, OnOk};
-ghost use Rattle.std.specs.Fmt.{DisplaysOnOk, DisplaysStyledOnOk};
-ghost use Rattle.graphql_core.specs.{default_style, IsNarrow};
-ghost use Rattle.graphql_schema.specs.{layout, shown, levels, definition_levels, document_view, definition_view};
+ghost use Rattle.std.specs.Prelude.{Some};
+ghost use Rattle.graphql_core.specs.{default_style, Displays};
+ghost use Rattle.graphql_schema.specs.{layout, shown, levels, document_layout, definition_layout, definition_levels};
+ghost use Rattle.graphql_schema.specs.{document_view, definition_view};
 ghost use Rattle.graphql_schema.specs.{schema_definition_view, type_definition_view, scalar_view, object_view};
 ghost use Rattle.graphql_schema.specs.{interface_view, union_view, enum_view, input_view};
 
@@ -23,9 +23,7 @@ impl<N: Names> fmt::Display for Document<N> {
     ghost styled_output = { λ t _. Some (layout default_style (document_view N.bytes t)) };
 
     fn fmt<W: fmt::Write>(&self, f: &mut fmt::Formatter<W>) -> fmt::Result
-        ensures writes { DisplaysOnOk W.write_str_gives f.old result (Some (layout default_style (document_view N.bytes self.now))) f.new }
-        ensures styled { DisplaysStyledOnOk W.write_str_gives f.old result (Some (layout default_style (document_view N.bytes self.now))) f.new }
-        ensures narrow { OnOk result (IsNarrow (levels default_style (document_view N.bytes self.now))) }
+        ensures { Displays W.write_str_gives f.old result document_layout levels (document_view N.bytes self.now) f.new }
     {
         // No document is too wide in this style.
         let style = Style::default();
@@ -39,9 +37,7 @@ impl<N: Names> fmt::Display for Definition<N> {
     ghost styled_output = { λ t _. shown (definition_view N.bytes t) };
 
     fn fmt<W: fmt::Write>(&self, f: &mut fmt::Formatter<W>) -> fmt::Result
-        ensures writes { DisplaysOnOk W.write_str_gives f.old result (shown (definition_view N.bytes self.now)) f.new }
-        ensures styled { DisplaysStyledOnOk W.write_str_gives f.old result (shown (definition_view N.bytes self.now)) f.new }
-        ensures narrow { OnOk result (IsNarrow (definition_levels default_style (definition_view N.bytes self.now))) }
+        ensures { Displays W.write_str_gives f.old result definition_layout definition_levels (definition_view N.bytes self.now) f.new }
     {
         fmt_in_default_style(self, f)
     }
@@ -53,9 +49,7 @@ impl<N: Names> fmt::Display for SchemaDefinition<N> {
     ghost styled_output = { λ t _. shown (schema_definition_view N.bytes t) };
 
     fn fmt<W: fmt::Write>(&self, f: &mut fmt::Formatter<W>) -> fmt::Result
-        ensures writes { DisplaysOnOk W.write_str_gives f.old result (shown (schema_definition_view N.bytes self.now)) f.new }
-        ensures styled { DisplaysStyledOnOk W.write_str_gives f.old result (shown (schema_definition_view N.bytes self.now)) f.new }
-        ensures narrow { OnOk result (IsNarrow (definition_levels default_style (schema_definition_view N.bytes self.now))) }
+        ensures { Displays W.write_str_gives f.old result definition_layout definition_levels (schema_definition_view N.bytes self.now) f.new }
     {
         fmt_in_default_style(self, f)
     }
@@ -67,9 +61,7 @@ impl<N: Names> fmt::Display for TypeDefinition<N> {
     ghost styled_output = { λ t _. shown (type_definition_view N.bytes t) };
 
     fn fmt<W: fmt::Write>(&self, f: &mut fmt::Formatter<W>) -> fmt::Result
-        ensures writes { DisplaysOnOk W.write_str_gives f.old result (shown (type_definition_view N.bytes self.now)) f.new }
-        ensures styled { DisplaysStyledOnOk W.write_str_gives f.old result (shown (type_definition_view N.bytes self.now)) f.new }
-        ensures narrow { OnOk result (IsNarrow (definition_levels default_style (type_definition_view N.bytes self.now))) }
+        ensures { Displays W.write_str_gives f.old result definition_layout definition_levels (type_definition_view N.bytes self.now) f.new }
     {
         fmt_in_default_style(&self.outline(), f)
     }
@@ -81,9 +73,7 @@ impl<N: Names> fmt::Display for ScalarType<N> {
     ghost styled_output = { λ t _. shown (scalar_view N.bytes t) };
 
     fn fmt<W: fmt::Write>(&self, f: &mut fmt::Formatter<W>) -> fmt::Result
-        ensures writes { DisplaysOnOk W.write_str_gives f.old result (shown (scalar_view N.bytes self.now)) f.new }
-        ensures styled { DisplaysStyledOnOk W.write_str_gives f.old result (shown (scalar_view N.bytes self.now)) f.new }
-        ensures narrow { OnOk result (IsNarrow (definition_levels default_style (scalar_view N.bytes self.now))) }
+        ensures { Displays W.write_str_gives f.old result definition_layout definition_levels (scalar_view N.bytes self.now) f.new }
     {
         fmt_in_default_style(&self.outline(), f)
     }
@@ -95,9 +85,7 @@ impl<N: Names> fmt::Display for ObjectType<N> {
     ghost styled_output = { λ t _. shown (object_view N.bytes t) };
 
     fn fmt<W: fmt::Write>(&self, f: &mut fmt::Formatter<W>) -> fmt::Result
-        ensures writes { DisplaysOnOk W.write_str_gives f.old result (shown (object_view N.bytes self.now)) f.new }
-        ensures styled { DisplaysStyledOnOk W.write_str_gives f.old result (shown (object_view N.bytes self.now)) f.new }
-        ensures narrow { OnOk result (IsNarrow (definition_levels default_style (object_view N.bytes self.now))) }
+        ensures { Displays W.write_str_gives f.old result definition_layout definition_levels (object_view N.bytes self.now) f.new }
     {
         fmt_in_default_style(&self.outline(), f)
     }
@@ -109,9 +97,7 @@ impl<N: Names> fmt::Display for InterfaceType<N> {
     ghost styled_output = { λ t _. shown (interface_view N.bytes t) };
 
     fn fmt<W: fmt::Write>(&self, f: &mut fmt::Formatter<W>) -> fmt::Result
-        ensures writes { DisplaysOnOk W.write_str_gives f.old result (shown (interface_view N.bytes self.now)) f.new }
-        ensures styled { DisplaysStyledOnOk W.write_str_gives f.old result (shown (interface_view N.bytes self.now)) f.new }
-        ensures narrow { OnOk result (IsNarrow (definition_levels default_style (interface_view N.bytes self.now))) }
+        ensures { Displays W.write_str_gives f.old result definition_layout definition_levels (interface_view N.bytes self.now) f.new }
     {
         fmt_in_default_style(&self.outline(), f)
     }
@@ -123,9 +109,7 @@ impl<N: Names> fmt::Display for UnionType<N> {
     ghost styled_output = { λ t _. shown (union_view N.bytes t) };
 
     fn fmt<W: fmt::Write>(&self, f: &mut fmt::Formatter<W>) -> fmt::Result
-        ensures writes { DisplaysOnOk W.write_str_gives f.old result (shown (union_view N.bytes self.now)) f.new }
-        ensures styled { DisplaysStyledOnOk W.write_str_gives f.old result (shown (union_view N.bytes self.now)) f.new }
-        ensures narrow { OnOk result (IsNarrow (definition_levels default_style (union_view N.bytes self.now))) }
+        ensures { Displays W.write_str_gives f.old result definition_layout definition_levels (union_view N.bytes self.now) f.new }
     {
         fmt_in_default_style(&self.outline(), f)
     }
@@ -137,9 +121,7 @@ impl<N: Names> fmt::Display for EnumType<N> {
     ghost styled_output = { λ t _. shown (enum_view N.bytes t) };
 
     fn fmt<W: fmt::Write>(&self, f: &mut fmt::Formatter<W>) -> fmt::Result
-        ensures writes { DisplaysOnOk W.write_str_gives f.old result (shown (enum_view N.bytes self.now)) f.new }
-        ensures styled { DisplaysStyledOnOk W.write_str_gives f.old result (shown (enum_view N.bytes self.now)) f.new }
-        ensures narrow { OnOk result (IsNarrow (definition_levels default_style (enum_view N.bytes self.now))) }
+        ensures { Displays W.write_str_gives f.old result definition_layout definition_levels (enum_view N.bytes self.now) f.new }
     {
         fmt_in_default_style(&self.outline(), f)
     }
@@ -151,9 +133,7 @@ impl<N: Names> fmt::Display for InputObjectType<N> {
     ghost styled_output = { λ t _. shown (input_view N.bytes t) };
 
     fn fmt<W: fmt::Write>(&self, f: &mut fmt::Formatter<W>) -> fmt::Result
-        ensures writes { DisplaysOnOk W.write_str_gives f.old result (shown (input_view N.bytes self.now)) f.new }
-        ensures styled { DisplaysStyledOnOk W.write_str_gives f.old result (shown (input_view N.bytes self.now)) f.new }
-        ensures narrow { OnOk result (IsNarrow (definition_levels default_style (input_view N.bytes self.now))) }
+        ensures { Displays W.write_str_gives f.old result definition_layout definition_levels (input_view N.bytes self.now) f.new }
     {
         fmt_in_default_style(&self.outline(), f)
     }

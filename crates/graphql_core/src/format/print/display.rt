@@ -1,8 +1,7 @@
 //! `Display` of values, types and directives, in the default style.
-ghost use Rattle.std.specs.Prelude.{Some, OnOk};
+ghost use Rattle.std.specs.Prelude.{Some};
 ghost use Rattle.graphql_core.specs.{text_of, default_style, value_view, type_view, directive_view, value_layout};
-ghost use Rattle.graphql_core.specs.{type_layout, directive_layout, value_levels, arguments_levels, IsNarrow};
-ghost use Rattle.std.specs.Fmt.{DisplaysOnOk, DisplaysStyledOnOk};
+ghost use Rattle.graphql_core.specs.{type_layout, directive_layout, value_levels, arguments_levels, Displays};
 
 use crate::common::Names;
 use crate::common::tree::{Directive, Type, Value};
@@ -20,9 +19,7 @@ impl<N: Names> fmt::Display for Value<N> {
     ghost styled_output = { λ v spec. Some (text_of (value_layout default_style 0 (value_view N.bytes v))) };
 
     fn fmt<W: fmt::Write>(&self, f: &mut fmt::Formatter<W>) -> fmt::Result
-        ensures writes { DisplaysOnOk W.write_str_gives f.old result (Some (text_of (value_layout default_style 0 (value_view N.bytes self.now)))) f.new }
-        ensures styled { DisplaysStyledOnOk W.write_str_gives f.old result (Some (text_of (value_layout default_style 0 (value_view N.bytes self.now)))) f.new }
-        ensures narrow { OnOk result (IsNarrow (value_levels default_style (value_view N.bytes self.now))) }
+        ensures { Displays W.write_str_gives f.old result (λ s. value_layout s 0) value_levels (value_view N.bytes self.now) f.new }
     {
         let style = Style::default();
         check_width(levels_in_value(self, &style), &style)?;
@@ -48,11 +45,8 @@ impl<N: Names> fmt::Display for Directive<N> {
     ghost styled_output = { λ d spec. Some (text_of (directive_layout default_style 0 (directive_view N.bytes d))) };
 
     fn fmt<W: fmt::Write>(&self, f: &mut fmt::Formatter<W>) -> fmt::Result
-        ensures writes { DisplaysOnOk W.write_str_gives f.old result (Some (text_of (directive_layout default_style 0 (directive_view N.bytes self.now))))
-            f.new }
-        ensures styled { DisplaysStyledOnOk W.write_str_gives f.old result
-            (Some (text_of (directive_layout default_style 0 (directive_view N.bytes self.now)))) f.new }
-        ensures narrow { OnOk result (IsNarrow (arguments_levels default_style (directive_view N.bytes self.now).arguments)) }
+        ensures { Displays W.write_str_gives f.old result (λ s. directive_layout s 0) (λ s d. arguments_levels s d.arguments)
+            (directive_view N.bytes self.now) f.new }
     {
         let style = Style::default();
         check_width(levels_in_arguments(&self.arguments, &style), &style)?;

@@ -1,11 +1,10 @@
 //! Trees that have a layout: one, several in a row, and several with a separator.
-ghost use Rattle.std.specs.Prelude.{◌≡◌, ℕ, ◌+◌, ◌-◌, ◌*◌, ◌^◌, ◌<◌, Some, None, List, OnOk, min, map};
+ghost use Rattle.std.specs.Prelude.{◌≡◌, ℕ, ◌+◌, ◌-◌, ◌*◌, ◌^◌, ◌<◌, List, OnOk, min, map};
 ghost use Rattle.graphql_core.specs.layouts.TextParts.{text_of, Part};
-ghost use Rattle.std.specs.Fmt.{DisplaysOnOk, DisplaysStyledOnOk};
 ghost use Rattle.std.specs.List.{AllByRecursion, flat_map};
-ghost use Rattle.graphql_core.specs.layouts.Style.{Layout, default_style};
+ghost use Rattle.graphql_core.specs.layouts.Style.{Layout};
 ghost use Rattle.graphql_core.specs.values.TreeDepth.{most};
-ghost use Rattle.graphql_core.specs.layouts.ValueLayout.{IsNarrow};
+ghost use Rattle.graphql_core.specs.layouts.Displayed.{Displays};
 ghost use Rattle.graphql_core.specs.steps.Joined.{joined};
 
 use crate::format::print::levels::check_width;
@@ -39,9 +38,7 @@ pub fn fmt_in_default_style<P: Pretty, W: fmt::Write>(
     part: &P,
     f: &mut fmt::Formatter<W>,
 ) -> fmt::Result
-    ensures writes { DisplaysOnOk W.write_str_gives f.old result (Some (text_of (P.lines default_style 0 part.now))) f.new }
-    ensures styled { DisplaysStyledOnOk W.write_str_gives f.old result (Some (text_of (P.lines default_style 0 part.now))) f.new }
-    ensures narrow { OnOk result (IsNarrow (P.opens default_style part.now)) }
+    ensures { Displays W.write_str_gives f.old result (λ s. P.lines s 0) P.opens part.now f.new }
 {
     let style = Style::default();
     check_width(part.levels(&style), &style)?;

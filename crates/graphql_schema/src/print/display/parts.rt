@@ -1,9 +1,9 @@
 //! `Display` of extensions, directives and parts of types: in the default style, and an error if that is too wide.
-ghost use Rattle.std.specs.Prelude.{Some, OnOk};
-ghost use Rattle.graphql_core.specs.{text_of, default_style, IsNarrow};
-ghost use Rattle.std.specs.Fmt.{DisplaysOnOk, DisplaysStyledOnOk};
+ghost use Rattle.std.specs.Prelude.{Some};
+ghost use Rattle.graphql_core.specs.{text_of, default_style, Displays};
 ghost use Rattle.graphql_schema.specs.{field_layout, input_value_layout, shown, field_levels, input_value_levels};
-ghost use Rattle.graphql_schema.specs.{definition_levels, schema_extension, directive, field_view, input_value_view};
+ghost use Rattle.graphql_schema.specs.{definition_layout, definition_levels, schema_extension, directive};
+ghost use Rattle.graphql_schema.specs.{field_view, input_value_view};
 ghost use Rattle.graphql_schema.specs.{directive_definition_view, type_extension_view, scalar_extension_view};
 ghost use Rattle.graphql_schema.specs.{object_extension_view, interface_extension_view, union_extension_view};
 ghost use Rattle.graphql_schema.specs.{enum_extension_view, input_extension_view, schema_extension_view};
@@ -23,9 +23,7 @@ impl<N: Names> fmt::Display for Field<N> {
     ghost styled_output = { λ t _. Some (text_of (field_layout default_style 0 (field_view N.bytes t))) };
 
     fn fmt<W: fmt::Write>(&self, f: &mut fmt::Formatter<W>) -> fmt::Result
-        ensures writes { DisplaysOnOk W.write_str_gives f.old result (Some (text_of (field_layout default_style 0 (field_view N.bytes self.now)))) f.new }
-        ensures styled { DisplaysStyledOnOk W.write_str_gives f.old result (Some (text_of (field_layout default_style 0 (field_view N.bytes self.now)))) f.new }
-        ensures narrow { OnOk result (IsNarrow (field_levels default_style (field_view N.bytes self.now))) }
+        ensures { Displays W.write_str_gives f.old result (λ s. field_layout s 0) field_levels (field_view N.bytes self.now) f.new }
     {
         fmt_in_default_style(self, f)
     }
@@ -37,11 +35,7 @@ impl<N: Names> fmt::Display for InputValue<N> {
     ghost styled_output = { λ t _. Some (text_of (input_value_layout default_style 0 (input_value_view N.bytes t))) };
 
     fn fmt<W: fmt::Write>(&self, f: &mut fmt::Formatter<W>) -> fmt::Result
-        ensures writes { DisplaysOnOk W.write_str_gives f.old result
-            (Some (text_of (input_value_layout default_style 0 (input_value_view N.bytes self.now)))) f.new }
-        ensures styled { DisplaysStyledOnOk W.write_str_gives f.old result
-            (Some (text_of (input_value_layout default_style 0 (input_value_view N.bytes self.now)))) f.new }
-        ensures narrow { OnOk result (IsNarrow (input_value_levels default_style (input_value_view N.bytes self.now))) }
+        ensures { Displays W.write_str_gives f.old result (λ s. input_value_layout s 0) input_value_levels (input_value_view N.bytes self.now) f.new }
     {
         fmt_in_default_style(self, f)
     }
@@ -53,9 +47,7 @@ impl<N: Names> fmt::Display for TypeExtension<N> {
     ghost styled_output = { λ t _. shown (type_extension_view N.bytes t) };
 
     fn fmt<W: fmt::Write>(&self, f: &mut fmt::Formatter<W>) -> fmt::Result
-        ensures writes { DisplaysOnOk W.write_str_gives f.old result (shown (type_extension_view N.bytes self.now)) f.new }
-        ensures styled { DisplaysStyledOnOk W.write_str_gives f.old result (shown (type_extension_view N.bytes self.now)) f.new }
-        ensures narrow { OnOk result (IsNarrow (definition_levels default_style (type_extension_view N.bytes self.now))) }
+        ensures { Displays W.write_str_gives f.old result definition_layout definition_levels (type_extension_view N.bytes self.now) f.new }
     {
         fmt_in_default_style(&self.outline(), f)
     }
@@ -67,9 +59,7 @@ impl<N: Names> fmt::Display for ScalarTypeExtension<N> {
     ghost styled_output = { λ t _. shown (scalar_extension_view N.bytes t) };
 
     fn fmt<W: fmt::Write>(&self, f: &mut fmt::Formatter<W>) -> fmt::Result
-        ensures writes { DisplaysOnOk W.write_str_gives f.old result (shown (scalar_extension_view N.bytes self.now)) f.new }
-        ensures styled { DisplaysStyledOnOk W.write_str_gives f.old result (shown (scalar_extension_view N.bytes self.now)) f.new }
-        ensures narrow { OnOk result (IsNarrow (definition_levels default_style (scalar_extension_view N.bytes self.now))) }
+        ensures { Displays W.write_str_gives f.old result definition_layout definition_levels (scalar_extension_view N.bytes self.now) f.new }
     {
         fmt_in_default_style(&self.outline(), f)
     }
@@ -81,9 +71,7 @@ impl<N: Names> fmt::Display for ObjectTypeExtension<N> {
     ghost styled_output = { λ t _. shown (object_extension_view N.bytes t) };
 
     fn fmt<W: fmt::Write>(&self, f: &mut fmt::Formatter<W>) -> fmt::Result
-        ensures writes { DisplaysOnOk W.write_str_gives f.old result (shown (object_extension_view N.bytes self.now)) f.new }
-        ensures styled { DisplaysStyledOnOk W.write_str_gives f.old result (shown (object_extension_view N.bytes self.now)) f.new }
-        ensures narrow { OnOk result (IsNarrow (definition_levels default_style (object_extension_view N.bytes self.now))) }
+        ensures { Displays W.write_str_gives f.old result definition_layout definition_levels (object_extension_view N.bytes self.now) f.new }
     {
         fmt_in_default_style(&self.outline(), f)
     }
@@ -95,9 +83,7 @@ impl<N: Names> fmt::Display for InterfaceTypeExtension<N> {
     ghost styled_output = { λ t _. shown (interface_extension_view N.bytes t) };
 
     fn fmt<W: fmt::Write>(&self, f: &mut fmt::Formatter<W>) -> fmt::Result
-        ensures writes { DisplaysOnOk W.write_str_gives f.old result (shown (interface_extension_view N.bytes self.now)) f.new }
-        ensures styled { DisplaysStyledOnOk W.write_str_gives f.old result (shown (interface_extension_view N.bytes self.now)) f.new }
-        ensures narrow { OnOk result (IsNarrow (definition_levels default_style (interface_extension_view N.bytes self.now))) }
+        ensures { Displays W.write_str_gives f.old result definition_layout definition_levels (interface_extension_view N.bytes self.now) f.new }
     {
         fmt_in_default_style(&self.outline(), f)
     }
@@ -109,9 +95,7 @@ impl<N: Names> fmt::Display for UnionTypeExtension<N> {
     ghost styled_output = { λ t _. shown (union_extension_view N.bytes t) };
 
     fn fmt<W: fmt::Write>(&self, f: &mut fmt::Formatter<W>) -> fmt::Result
-        ensures writes { DisplaysOnOk W.write_str_gives f.old result (shown (union_extension_view N.bytes self.now)) f.new }
-        ensures styled { DisplaysStyledOnOk W.write_str_gives f.old result (shown (union_extension_view N.bytes self.now)) f.new }
-        ensures narrow { OnOk result (IsNarrow (definition_levels default_style (union_extension_view N.bytes self.now))) }
+        ensures { Displays W.write_str_gives f.old result definition_layout definition_levels (union_extension_view N.bytes self.now) f.new }
     {
         fmt_in_default_style(&self.outline(), f)
     }
@@ -123,9 +107,7 @@ impl<N: Names> fmt::Display for EnumTypeExtension<N> {
     ghost styled_output = { λ t _. shown (enum_extension_view N.bytes t) };
 
     fn fmt<W: fmt::Write>(&self, f: &mut fmt::Formatter<W>) -> fmt::Result
-        ensures writes { DisplaysOnOk W.write_str_gives f.old result (shown (enum_extension_view N.bytes self.now)) f.new }
-        ensures styled { DisplaysStyledOnOk W.write_str_gives f.old result (shown (enum_extension_view N.bytes self.now)) f.new }
-        ensures narrow { OnOk result (IsNarrow (definition_levels default_style (enum_extension_view N.bytes self.now))) }
+        ensures { Displays W.write_str_gives f.old result definition_layout definition_levels (enum_extension_view N.bytes self.now) f.new }
     {
         fmt_in_default_style(&self.outline(), f)
     }
@@ -137,9 +119,7 @@ impl<N: Names> fmt::Display for InputObjectTypeExtension<N> {
     ghost styled_output = { λ t _. shown (input_extension_view N.bytes t) };
 
     fn fmt<W: fmt::Write>(&self, f: &mut fmt::Formatter<W>) -> fmt::Result
-        ensures writes { DisplaysOnOk W.write_str_gives f.old result (shown (input_extension_view N.bytes self.now)) f.new }
-        ensures styled { DisplaysStyledOnOk W.write_str_gives f.old result (shown (input_extension_view N.bytes self.now)) f.new }
-        ensures narrow { OnOk result (IsNarrow (definition_levels default_style (input_extension_view N.bytes self.now))) }
+        ensures { Displays W.write_str_gives f.old result definition_layout definition_levels (input_extension_view N.bytes self.now) f.new }
     {
         fmt_in_default_style(&self.outline(), f)
     }
@@ -151,9 +131,7 @@ impl<N: Names> fmt::Display for DirectiveDefinition<N> {
     ghost styled_output = { λ t _. shown (directive (directive_definition_view N.bytes t)) };
 
     fn fmt<W: fmt::Write>(&self, f: &mut fmt::Formatter<W>) -> fmt::Result
-        ensures writes { DisplaysOnOk W.write_str_gives f.old result (shown (directive (directive_definition_view N.bytes self.now))) f.new }
-        ensures styled { DisplaysStyledOnOk W.write_str_gives f.old result (shown (directive (directive_definition_view N.bytes self.now))) f.new }
-        ensures narrow { OnOk result (IsNarrow (definition_levels default_style (directive (directive_definition_view N.bytes self.now)))) }
+        ensures { Displays W.write_str_gives f.old result definition_layout definition_levels (directive (directive_definition_view N.bytes self.now)) f.new }
     {
         fmt_in_default_style(self, f)
     }
@@ -165,9 +143,8 @@ impl<N: Names> fmt::Display for SchemaExtension<N> {
     ghost styled_output = { λ t _. shown (schema_extension (schema_extension_view N.bytes t)) };
 
     fn fmt<W: fmt::Write>(&self, f: &mut fmt::Formatter<W>) -> fmt::Result
-        ensures writes { DisplaysOnOk W.write_str_gives f.old result (shown (schema_extension (schema_extension_view N.bytes self.now))) f.new }
-        ensures styled { DisplaysStyledOnOk W.write_str_gives f.old result (shown (schema_extension (schema_extension_view N.bytes self.now))) f.new }
-        ensures narrow { OnOk result (IsNarrow (definition_levels default_style (schema_extension (schema_extension_view N.bytes self.now)))) }
+        ensures { Displays W.write_str_gives f.old result definition_layout definition_levels
+            (schema_extension (schema_extension_view N.bytes self.now)) f.new }
     {
         fmt_in_default_style(self, f)
     }
