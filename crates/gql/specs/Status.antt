@@ -1,7 +1,8 @@
 -- The exit status, and how messages end.
 use Rattle.std.specs.Prelude.{ℕ, Bool, false, Option, Some, None, is_some, Result, Ok, Err}
 use Rattle.gql.specs.declared.error.RunError.{RunError}
-use Rattle.gql.specs.declared.error.RunError.TheVariants.{Read, NotUtf8, Query, Schema, Minify, Format, Write, OutOfMemory}
+use Rattle.gql.specs.declared.error.RunError.TheVariants.{Read, NotUtf8, Query, Schema, Minify, Format, Write}
+use Rattle.gql.specs.declared.error.RunError.TheVariants.{OutOfMemory}
 
 abbrev pub error_status : RunError → ℕ
 error_status Read = 2

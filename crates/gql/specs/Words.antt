@@ -1,5 +1,6 @@
 -- The arguments of the program.
-use Rattle.std.specs.Prelude.{◌≡◌, ℕ, ◌^◌, Bool, true, false, ◌&&◌, nat_lt, nat_le, nat_eq, List, [], ◌∷◌, length, Option, Some, None, if◌then◌else◌, codes}
+use Rattle.std.specs.Prelude.{◌≡◌, ℕ, ◌^◌, Bool, true, false, ◌&&◌, nat_lt, nat_le, nat_eq, List, [], ◌∷◌, length}
+use Rattle.std.specs.Prelude.{Option, Some, None, if◌then◌else◌, codes}
 use Rattle.std.specs.Cmp.Lexicographic.{pointwise}
 use Rattle.std.specs.List.{list_all}
 use Rattle.std.specs.Char.{is_ascii_digit}
@@ -10,7 +11,8 @@ use Rattle.gql.specs.declared.command.Command.TheVariants.{Query, Schema, Minify
 
 -- one to ten digits, at most 4294967295
 abbrev pub is_number : List ℕ → Bool
-is_number w = nat_le (length w) 10 && (list_all is_ascii_digit w && (nat_lt 0 (length w) && nat_lt (digits_value 10 w) (2 ^ 32)))
+is_number w =
+    nat_le (length w) 10 && (list_all is_ascii_digit w && (nat_lt 0 (length w) && nat_lt (digits_value 10 w) (2 ^ 32)))
 
 abbrev pub number_of : List ℕ → Option ℕ
 number_of w = if is_number w then Some (digits_value 10 w) else None
@@ -31,8 +33,8 @@ pub data Says : Option ℕ → Bool → List (List ℕ) → Layout → Type 0 wh
   all_said : {indent : Option ℕ} {multiline : Bool} → Says indent multiline [] (style_said indent multiline)
   says_multiline : {indent : Option ℕ} {w : List ℕ} {ws : List (List ℕ)} {style : Layout} → is_multiline w ≡ true
       → Says indent true ws style → Says indent false (w ∷ ws) style
-  says_indent : {multiline : Bool} {w n : List ℕ} {ws : List (List ℕ)} {style : Layout} → is_indent w ≡ true → is_number n ≡ true
-      → Says (Some (digits_value 10 n)) multiline ws style → Says None multiline (w ∷ n ∷ ws) style
+  says_indent : {multiline : Bool} {w n : List ℕ} {ws : List (List ℕ)} {style : Layout} → is_indent w ≡ true
+      → is_number n ≡ true → Says (Some (digits_value 10 n)) multiline ws style → Says None multiline (w ∷ n ∷ ws) style
 
 -- options alone, and the style with them
 abbrev pub SaysStyle : List (List ℕ) → Layout → Type 0
@@ -48,6 +50,6 @@ styled_command w =
 
 -- the arguments as bytes, and their command and style; `minify` takes no options
 pub data Means : List (List ℕ) → Command × Layout → Type 0 where
-  means_styled : {w : List ℕ} {ws : List (List ℕ)} {command : Command} {style : Layout} → styled_command w ≡ Some command → SaysStyle ws style
-      → Means (w ∷ ws) (command, style)
+  means_styled : {w : List ℕ} {ws : List (List ℕ)} {command : Command} {style : Layout}
+      → styled_command w ≡ Some command → SaysStyle ws style → Means (w ∷ ws) (command, style)
   means_minify : {w : List ℕ} → pointwise nat_eq w (codes "minify") ≡ true → Means (w ∷ []) (Minify, default_style)

@@ -1,9 +1,11 @@
 //! The engine: it reads all of the input, and then writes all of the output.
-ghost use Rattle.std.specs.Prelude.{◌≡◌, ◌≢◌, ◌++◌, List, [], ◌∷◌, ℕ, Err, string_bytes, MatchResult, OnOk, IfOk, IfErr, IfSome};
+ghost use Rattle.std.specs.Prelude.{◌≡◌, ◌≢◌, ◌++◌, List, [], ◌∷◌, ℕ, Err, string_bytes, MatchResult, OnOk, IfOk};
+ghost use Rattle.std.specs.Prelude.{IfErr, IfSome};
 ghost use Rattle.std.specs.Str.{IsUtf8};
 ghost use Rattle.std.specs.Io.KnownBytes.{Keeps, Appends, Consumes, IsAtEnd};
 ghost use Rattle.graphql_core.specs.{Refusal};
-ghost use Rattle.gql.specs.{HasFault, IsOutputOf, HasNoQuery, HasNoSchema, HasBadPlace, RefusesLayout, ReadsAll, EndsReading, EndsEngine, WritesPart};
+ghost use Rattle.gql.specs.{HasFault, IsOutputOf, HasNoQuery, HasNoSchema, HasBadPlace, RefusesLayout, ReadsAll};
+ghost use Rattle.gql.specs.{EndsReading, EndsEngine, WritesPart};
 
 use crate::command::Command;
 use crate::counted::Counted;
@@ -16,7 +18,8 @@ use std::mem::forget;
 
 /// Reads all that the reader has left.
 fn read_all<R: Read>(alloc: Global, reader: &mut Counted<R>) -> Result<Vec<u8>, RunError>
-    ensures bytes { IfOk result (λ v. Consumes (R.remaining reader.old.device) (R.remaining reader.new.device) v.items) }
+    ensures bytes { IfOk result
+        (λ v. Consumes (R.remaining reader.old.device) (R.remaining reader.new.device) v.items) }
     ensures end { OnOk result (IsAtEnd (R.remaining reader.new.device)) }
     ensures faults { result ≢ Err RunError.Read → reader.new.faults ≡ reader.old.faults }
     ensures err { IfErr result (EndsReading reader.old.faults reader.new.faults) }
@@ -55,7 +58,8 @@ fn write_all<W: Write>(writer: &mut Counted<W>, bytes: &[u8]) -> Result<(), RunE
 /// Parses an input as a query document, and formats it. The document is not dropped, because the program ends soon and
 /// the drop takes a quarter of its time.
 fn query_laid_out(alloc: Global, style: &Style, text: &str) -> Result<String, RunError>
-    ensures { MatchResult result (λ s. IsOutputOf Command.Query style.now text.now (string_bytes s)) (EndsEngine Command.Query style.now text.now) }
+    ensures { MatchResult result (λ s. IsOutputOf Command.Query style.now text.now (string_bytes s))
+        (EndsEngine Command.Query style.now text.now) }
 {
     match parse_query::<&str>(alloc, text) {
         Ok(document) => {
@@ -69,7 +73,8 @@ fn query_laid_out(alloc: Global, style: &Style, text: &str) -> Result<String, Ru
 
 /// Parses an input as a schema document, and formats it. The document is not dropped, as in `query_laid_out`.
 fn schema_laid_out(alloc: Global, style: &Style, text: &str) -> Result<String, RunError>
-    ensures { MatchResult result (λ s. IsOutputOf Command.Schema style.now text.now (string_bytes s)) (EndsEngine Command.Schema style.now text.now) }
+    ensures { MatchResult result (λ s. IsOutputOf Command.Schema style.now text.now (string_bytes s))
+        (EndsEngine Command.Schema style.now text.now) }
 {
     match parse_schema::<&str>(alloc, text) {
         Ok(document) => {
@@ -115,7 +120,8 @@ fn with_rest(mut output: String, rest: &str) -> Result<String, RunError>
 
 /// Formats the first definition of an input as a document, and appends the rest of the input unchanged.
 fn first_laid_out(alloc: Global, style: &Style, text: &str) -> Result<String, RunError>
-    ensures { MatchResult result (λ s. IsOutputOf Command.First style.now text.now (string_bytes s)) (EndsEngine Command.First style.now text.now) }
+    ensures { MatchResult result (λ s. IsOutputOf Command.First style.now text.now (string_bytes s))
+        (EndsEngine Command.First style.now text.now) }
 {
     let (definition, rest) = consume_definition::<&str>(alloc, text).map_err(RunError::Query)?;
     let document = alone(alloc, definition)?;
@@ -130,7 +136,8 @@ fn output_of(
     style: &Style,
     text: String,
 ) -> Result<String, RunError>
-    ensures { MatchResult result (λ s. IsOutputOf command style.now (string_bytes text) (string_bytes s)) (EndsEngine command style.now (string_bytes text)) }
+    ensures { MatchResult result (λ s. IsOutputOf command style.now (string_bytes text) (string_bytes s))
+        (EndsEngine command style.now (string_bytes text)) }
 {
     match command {
         Command::Query => query_laid_out(alloc, style, &text),
@@ -153,23 +160,29 @@ pub fn run<R: Read, W: Write>(
         (λ input. (output : List ℕ) × IsOutputOf command style.now input output
         × Appends (W.contents writer.old.device) (W.contents writer.new.device) output)) }
     ensures read { result ≡ Err RunError.Read → HasFault reader.old.faults reader.new.faults }
-    ensures not_utf8 { result ≡ Err RunError.NotUtf8 → ReadsAll (R.remaining reader.old.device) (R.remaining reader.new.device)
-        (λ input. ¬ IsUtf8 input) }
-    ensures query { (e : Refusal) → result ≡ Err (RunError.Query e) → ReadsAll (R.remaining reader.old.device) (R.remaining reader.new.device)
+    ensures not_utf8 { result ≡ Err RunError.NotUtf8
+        → ReadsAll (R.remaining reader.old.device) (R.remaining reader.new.device) (λ input. ¬ IsUtf8 input) }
+    ensures query { (e : Refusal) → result ≡ Err (RunError.Query e)
+        → ReadsAll (R.remaining reader.old.device) (R.remaining reader.new.device)
         (λ input. HasNoQuery command input e) }
-    ensures schema { (e : Refusal) → result ≡ Err (RunError.Schema e) → ReadsAll (R.remaining reader.old.device) (R.remaining reader.new.device)
+    ensures schema { (e : Refusal) → result ≡ Err (RunError.Schema e)
+        → ReadsAll (R.remaining reader.old.device) (R.remaining reader.new.device)
         (λ input. HasNoSchema command input e) }
-    ensures minify { (e : Refusal) → result ≡ Err (RunError.Minify e) → ReadsAll (R.remaining reader.old.device) (R.remaining reader.new.device)
+    ensures minify { (e : Refusal) → result ≡ Err (RunError.Minify e)
+        → ReadsAll (R.remaining reader.old.device) (R.remaining reader.new.device)
         (λ input. HasBadPlace command input e) }
-    ensures format { (e : FormatError) → result ≡ Err (RunError.Format e) → ReadsAll (R.remaining reader.old.device) (R.remaining reader.new.device)
+    ensures format { (e : FormatError) → result ≡ Err (RunError.Format e)
+        → ReadsAll (R.remaining reader.old.device) (R.remaining reader.new.device)
         (λ input. RefusesLayout command style.now input e) }
     // The reader reports a failure only if the run returns `Read`, and the writer only if the run returns `Write`.
     ensures reader_faults { result ≢ Err RunError.Read → reader.new.faults ≡ reader.old.faults }
     ensures writer_faults { result ≢ Err RunError.Write → writer.new.faults ≡ writer.old.faults }
     // Only a run that returns `Write` can leave a part of the output written.
-    ensures untouched { IfErr result (λ e. e ≢ RunError.Write → Keeps (W.contents writer.old.device) (W.contents writer.new.device)) }
+    ensures untouched { IfErr result
+        (λ e. e ≢ RunError.Write → Keeps (W.contents writer.old.device) (W.contents writer.new.device)) }
     ensures write { result ≡ Err RunError.Write → HasFault writer.old.faults writer.new.faults
-        × ReadsAll (R.remaining reader.old.device) (R.remaining reader.new.device) (λ input. (output : List ℕ) × IsOutputOf command style.now input output
+        × ReadsAll (R.remaining reader.old.device) (R.remaining reader.new.device)
+        (λ input. (output : List ℕ) × IsOutputOf command style.now input output
         × WritesPart (W.contents writer.old.device) (W.contents writer.new.device) output) }
 {
     let bytes = read_all(alloc, reader)?;

@@ -161,8 +161,9 @@ module _ (qs : List Piece) (stop rest bytes text : List ℕ) (w : Where) (e : te
     KeptLater = (v : Where) (front : List Token) → (split (items_of v qs stop)).tokens ≡ front ++ others → Kept v rest (items_of v qs stop) front
 
     word_kept : (b : Bool) (k : Kind) (t : Nesting) (front : List Token) → is_too_deep t w ≡ b → Stands bytes (Word k t) rest
-        → (split (token_then b (item_at (LexicalError too_deep) w) (item_at (TokenContent k bytes) w) (items_of (past_token t bytes w) qs stop))).tokens ≡ front ++ others
-        → KeptLater → Kept w text (token_then b (item_at (LexicalError too_deep) w) (item_at (TokenContent k bytes) w) (items_of (past_token t bytes w) qs stop)) front
+        → (split (token_then b (item_at (LexicalError too_deep) w) (item_at (TokenContent k bytes) w) (items_of (past_token t bytes w) qs stop))).tokens
+        ≡ front ++ others → KeptLater
+        → Kept w text (token_then b (item_at (LexicalError too_deep) w) (item_at (TokenContent k bytes) w) (items_of (past_token t bytes w) qs stop)) front
     unfolding items_of
     word_kept b k t [] deep st is f =
         none_kept w text _ (token_placed b k bytes w _) (ap (λ x. ignored_front (front x)) e ∙ ap ignored_front (stands_front st))

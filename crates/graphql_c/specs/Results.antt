@@ -1,5 +1,6 @@
 -- The result of a call, and what the call leaves in the caller's buffer.
-use Rattle.std.specs.Prelude.{◌≡◌, ◌<◌, ◌≤◌, ◌++◌, ℕ, nat_le, List, length, drop, string_bytes, Option, Some, None, if◌then◌else◌}
+use Rattle.std.specs.Prelude.{◌≡◌, ◌<◌, ◌≤◌, ◌++◌, ℕ, nat_le, List, length, drop, string_bytes, Option, Some, None}
+use Rattle.std.specs.Prelude.{if◌then◌else◌}
 use Rattle.std.specs.Str.{IsUtf8}
 use Rattle.graphql_core.specs.{too_deep, Place, CauseText, no_token, unexpected_token, int_out_of_range}
 use Rattle.graphql_core.specs.{malformed_float, bad_escape, unknown_location, duplicate_operation, unknown_operation}
@@ -63,8 +64,10 @@ put text buffer = if nat_le (length text) (length buffer) then text ++ drop (len
 -- ---- results of calls
 
 -- Why a call failed: an error with its status and its position, or a status alone.
-pub data Explains (Refuses : Refusal → Type 0) (IsTooWide : Type 0) (text : List ℕ) : (status line column : ℕ) → Type 0 where
-  refused : (e : Refusal) → Refuses e → Explains Refuses IsTooWide text (status_of e.cause) (line_of e.place) (column_of e.place)
+pub data Explains (Refuses : Refusal → Type 0) (IsTooWide : Type 0) (text : List ℕ) : (status line column : ℕ)
+    → Type 0 where
+  refused : (e : Refusal) → Refuses e
+      → Explains Refuses IsTooWide text (status_of e.cause) (line_of e.place) (column_of e.place)
   too_wide : IsTooWide → Explains Refuses IsTooWide text status_too_wide 0 0
   not_utf8 : (IsUtf8 text → ⊥) → Explains Refuses IsTooWide text status_not_utf8 0 0
   -- an allocation failed
@@ -76,7 +79,8 @@ Fails Refuses IsTooWide text f = Explains Refuses IsTooWide text f.status f.line
 
 -- the result for an output of this length
 abbrev pub for_output : (status length : ℕ) → CallResult
-for_output status n = record { status = status; output_length = n; message_length = 0; offset = 0; line = 0; column = 0 }
+for_output status n =
+    record { status = status; output_length = n; message_length = 0; offset = 0; line = 0; column = 0 }
 
 -- the result for an offset
 abbrev pub for_offset : ℕ → CallResult
@@ -90,7 +94,8 @@ for_error status line column n =
 -- the result has the numbers of the failure, and its message is written into the buffer if it fits
 abbrev pub IsResultOf : Failure → (old new : List ℕ) → CallResult → Type 0
 IsResultOf f old new r =
-    (r ≡ for_error f.status f.line f.column (length (string_bytes f.message))) × (new ≡ put (string_bytes f.message) old)
+    (r ≡ for_error f.status f.line f.column (length (string_bytes f.message)))
+    × (new ≡ put (string_bytes f.message) old)
 
 -- The call made this output: it is in the buffer, or the buffer is too short and is unchanged.
 pub data Writes (Makes : List ℕ → Type 0) (old new : List ℕ) (r : CallResult) : Type 0 where

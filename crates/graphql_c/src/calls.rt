@@ -1,5 +1,6 @@
 //! What each call does with its bytes.
-ghost use Rattle.std.specs.Prelude.{◌≡◌, ◌++◌, ℕ, List, length, take, string_bytes, Ok, None, IfSome, MatchResult, IsErrAnd};
+ghost use Rattle.std.specs.Prelude.{◌≡◌, ◌++◌, ℕ, List, length, take, string_bytes, Ok, None, IfSome, MatchResult};
+ghost use Rattle.std.specs.Prelude.{IsErrAnd};
 ghost use Rattle.graphql_core.specs.{IsMinified, IsDocumentOf, out_of_memory};
 ghost use Rattle.graphql_query.specs.{queries, IsMinifyRefusalOf};
 ghost use Rattle.graphql_query.specs.Tree as query;
@@ -61,7 +62,8 @@ fn json_of(alloc: Global, made: Result<String, AllocError>) -> Result<String, Fa
 
 /// Parses these bytes as a query document.
 fn query_of(alloc: Global, bytes: &[u8]) -> Result<QueryDocument<'_, &str>, Failure>
-    ensures { MatchResult result (λ d. IsDocumentOf queries bytes.now (query.document_view (λ name. name.now) d)) (Fails (HasNoQuery bytes.now) ⊥ bytes.now) }
+    ensures { MatchResult result (λ d. IsDocumentOf queries bytes.now (query.document_view (λ name. name.now) d))
+        (Fails (HasNoQuery bytes.now) ⊥ bytes.now) }
 {
     match parse_query(alloc, text_of(alloc, bytes)?) {
         Ok(document) => Ok(document),
@@ -71,7 +73,8 @@ fn query_of(alloc: Global, bytes: &[u8]) -> Result<QueryDocument<'_, &str>, Fail
 
 /// Parses these bytes as a schema document.
 fn schema_of(alloc: Global, bytes: &[u8]) -> Result<SchemaDocument<'_, &str>, Failure>
-    ensures { MatchResult result (λ d. IsDocumentOf schemas bytes.now (schema.document_view (λ name. name.now) d)) (Fails (HasNoSchema bytes.now) ⊥ bytes.now) }
+    ensures { MatchResult result (λ d. IsDocumentOf schemas bytes.now (schema.document_view (λ name. name.now) d))
+        (Fails (HasNoSchema bytes.now) ⊥ bytes.now) }
 {
     match parse_schema(alloc, text_of(alloc, bytes)?) {
         Ok(document) => Ok(document),
@@ -99,7 +102,8 @@ pub fn schema_laid_out(alloc: Global, bytes: &[u8], style: &Style) -> Result<Str
 
 /// Parses these bytes as a query document. The output is empty.
 pub fn query_checked(alloc: Global, bytes: &[u8]) -> Result<String, Failure>
-    ensures { MatchResult result (λ s. IsQueryChecked bytes.now (string_bytes s)) (Fails (HasNoQuery bytes.now) ⊥ bytes.now) }
+    ensures { MatchResult result (λ s. IsQueryChecked bytes.now (string_bytes s))
+        (Fails (HasNoQuery bytes.now) ⊥ bytes.now) }
 {
     query_of(alloc, bytes)?;
     Ok(String::new(alloc))
@@ -107,7 +111,8 @@ pub fn query_checked(alloc: Global, bytes: &[u8]) -> Result<String, Failure>
 
 /// Parses these bytes as a schema document. The output is empty.
 pub fn schema_checked(alloc: Global, bytes: &[u8]) -> Result<String, Failure>
-    ensures { MatchResult result (λ s. IsSchemaChecked bytes.now (string_bytes s)) (Fails (HasNoSchema bytes.now) ⊥ bytes.now) }
+    ensures { MatchResult result (λ s. IsSchemaChecked bytes.now (string_bytes s))
+        (Fails (HasNoSchema bytes.now) ⊥ bytes.now) }
 {
     schema_of(alloc, bytes)?;
     Ok(String::new(alloc))
@@ -115,7 +120,8 @@ pub fn schema_checked(alloc: Global, bytes: &[u8]) -> Result<String, Failure>
 
 /// Parses these bytes as a query document, and writes it as JSON.
 pub fn query_as_json(alloc: Global, bytes: &[u8]) -> Result<String, Failure>
-    ensures { MatchResult result (λ s. IsQueryJson bytes.now (string_bytes s)) (Fails (HasNoQuery bytes.now) ⊥ bytes.now) }
+    ensures { MatchResult result (λ s. IsQueryJson bytes.now (string_bytes s))
+        (Fails (HasNoQuery bytes.now) ⊥ bytes.now) }
 {
     let document = query_of(alloc, bytes)?;
     json_of(alloc, query_to_json(alloc, &document))
@@ -123,7 +129,8 @@ pub fn query_as_json(alloc: Global, bytes: &[u8]) -> Result<String, Failure>
 
 /// Parses these bytes as a schema document, and writes it as JSON.
 pub fn schema_as_json(alloc: Global, bytes: &[u8]) -> Result<String, Failure>
-    ensures { MatchResult result (λ s. IsSchemaJson bytes.now (string_bytes s)) (Fails (HasNoSchema bytes.now) ⊥ bytes.now) }
+    ensures { MatchResult result (λ s. IsSchemaJson bytes.now (string_bytes s))
+        (Fails (HasNoSchema bytes.now) ⊥ bytes.now) }
 {
     let document = schema_of(alloc, bytes)?;
     json_of(alloc, schema_to_json(alloc, &document))
@@ -131,7 +138,8 @@ pub fn schema_as_json(alloc: Global, bytes: &[u8]) -> Result<String, Failure>
 
 /// The tokens of these bytes, with a space only where two tokens would otherwise run together.
 pub fn minified(alloc: Global, bytes: &[u8]) -> Result<String, Failure>
-    ensures { MatchResult result (λ s. IsMinified bytes.now (string_bytes s)) (Fails (IsMinifyRefusalOf bytes.now) ⊥ bytes.now) }
+    ensures { MatchResult result (λ s. IsMinified bytes.now (string_bytes s))
+        (Fails (IsMinifyRefusalOf bytes.now) ⊥ bytes.now) }
 {
     let Ok(source) = String::from_str(alloc, text_of(alloc, bytes)?) else {
         return Err(Failure::out_of_memory(alloc));

@@ -63,7 +63,8 @@ pub extern "C" fn graphql_proved_minify_nonnull(
     text: &[u8],
     out: &mut [u8],
 ) -> CallResult
-    ensures returned { Returns (Writes (IsMinified text.now)) (IsMinifyRefusalOf text.now) ⊥ text.now out.old out.new result }
+    ensures returned { Returns (Writes (IsMinified text.now)) (IsMinifyRefusalOf text.now) ⊥ text.now
+        out.old out.new result }
 
     // A buffer of twice the length of the input is never too short.
     ensures enough { 2 * length text.now ≤ length out.old → result.status ≢ status_too_short }

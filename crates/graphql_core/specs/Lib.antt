@@ -39,17 +39,16 @@ pub use grammar.{is_row, lax, leads_node, leaves, matches, nowhere, optional, ou
 pub use grammar.{out_of_sides, out_of_symbols, peek, row, row_at, same_spelling, sees, solve, some_of, takes_both}
 pub use grammar.{takes_first, takes_leaf, takes_node, takes_nothing, takes_second, takes_stop, turn_values}
 pub use grammar.{unchanged, with_rows, with_tables, written}
-pub use lexical.{BeginsNone, BeginsWithElement, HasItems, Ignored, IsCutInto, IsName, Item, LexicalError, Meaning, Piece, Stands}
-pub use lexical.{Stream, TokenContent, Where, Word, depth_of, is_in_line, is_too_deep, item_at, next_place}
-pub use lexical.{past_ignored, past_token, piece_then, start, token_then, too_deep}
+pub use lexical.{BeginsNone, BeginsWithElement, HasItems, Ignored, IsCutInto, IsName, Item, LexicalError, Meaning}
+pub use lexical.{Piece, Stands, Stream, TokenContent, Where, Word, depth_of, is_in_line, is_too_deep, item_at}
+pub use lexical.{next_place, past_ignored, past_token, piece_then, start, token_then, too_deep}
 unfoldable pub use lexical.{items_of}
 unfoldable pub use strings.{common_indent}
 pub use sources.{CauseText, FaultText, HasTokens, IsAtEnd, IsBadPlaceOf, IsEnd, IsMinified, Items, Last, LastIsError}
-pub use sources.{Refusal, Spent, after, at, bad_escape, cause_text, duplicate_operation, empty_extension, int_out_of_range}
-pub use sources.{is_unexpected, items_of_stream, kept, kind_number, lexeme_token, malformed_float, max_length}
-pub use sources.{no_memory, no_token, out_of_memory, place_next, place_of, split, text_too_long, token_of}
-pub use sources.{tokens_then, too_long, unexpected_end, unexpected_token, unknown_location, unknown_operation}
-pub use sources.{unplaced}
+pub use sources.{Refusal, Spent, after, at, bad_escape, cause_text, duplicate_operation, empty_extension}
+pub use sources.{int_out_of_range, is_unexpected, items_of_stream, kept, kind_number, lexeme_token, malformed_float}
+pub use sources.{max_length, no_memory, no_token, out_of_memory, place_next, place_of, split, text_too_long, token_of}
+pub use sources.{tokens_then, too_long, unexpected_end, unexpected_token, unknown_location, unknown_operation, unplaced}
 pub use values.{AreLawfulArguments, AreLawfulDirectives, DirectiveTree, IsLawful, IsNameBut, IsPrintableArgument}
 pub use values.{IsPrintableDefault, IsPrintableDirective, IsPrintableType, TypeTree, ValueTree, Weights, any}
 pub use values.{argument_view, arguments_brackets, arguments_depth, arguments_symbol, arguments_view, default_depth}

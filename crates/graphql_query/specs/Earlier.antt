@@ -12,14 +12,20 @@ use Rattle.graphql_core.specs.documents.Document as document
 -- VariableDefinition = "$" Name ":" Type Default?
 abbrev pub variable_definition_rule_0_4_1 : Expr
 variable_definition_rule_0_4_1 =
-    Then (punctuator (codes "$")) (Then name (Then (punctuator (codes ":")) (Then (Sym type_symbol) (optional (Sym default_symbol)))))
+    Then (punctuator (codes "$"))
+    (Then name (Then (punctuator (codes ":")) (Then (Sym type_symbol) (optional (Sym default_symbol)))))
 
 -- all other productions are the same
 abbrev pub rules_0_4_1 : List Expr
 rules_0_4_1 = take 5 rules ++ variable_definition_rule_0_4_1 ∷ drop 6 rules
 
 abbrev pub query_0_4_1 : Grammar
-query_0_4_1 = record { rows = shared.rows ++ with_tables rules_0_4_1 []; good = query.good; check = query.check; samples = query.samples }
+query_0_4_1 = record {
+  rows = shared.rows ++ with_tables rules_0_4_1 [];
+  good = query.good;
+  check = query.check;
+  samples = query.samples;
+}
 
 -- no input is parsed by this grammar, so the second rules are ignored
 abbrev pub queries_0_4_1 : Language DocumentTree

@@ -16,12 +16,14 @@ plain line column name selected = field (at line column) None name [] [] selecte
 -- `{ a { b } }`
 abbrev pub nested : DocumentTree
 nested = short (set (at 1 1) (at 1 11)
-    (more (plain 1 3 (codes "a") (set (at 1 5) (at 1 9) (more (plain 1 7 (codes "b") (no_selection_set (at 1 7))) none))) none)) ∷ []
+    (more (plain 1 3 (codes "a")
+    (set (at 1 5) (at 1 9) (more (plain 1 7 (codes "b") (no_selection_set (at 1 7))) none))) none)) ∷ []
 
 -- a selection set of one field
 abbrev alone : ℕ → ℕ → List ℕ → DefinitionTree
 alone line column name = short
-    (set (at line column) (at line (column + 4)) (more (plain line (column + 2) name (no_selection_set (at line (column + 2)))) none))
+    (set (at line column) (at line (column + 4))
+    (more (plain line (column + 2) name (no_selection_set (at line (column + 2)))) none))
 
 abbrev pub Nested : Type 0
 Nested = IsDocumentOf (codes "{ a { b } }") nested
@@ -50,18 +52,22 @@ named = operation (record {
   variables = [];
   directives = [];
   selected = set (at 1 9) (at 1 21)
-      (more (field (at 1 11) (Some (codes "b")) (codes "c") [] [] (no_selection_set (at 1 11))) (more (spread (at 1 19) (codes "G") []) none));
+      (more (field (at 1 11) (Some (codes "b")) (codes "c") [] [] (no_selection_set (at 1 11)))
+      (more (spread (at 1 19) (codes "G") []) none));
 }) ∷ []
 
 abbrev pub Named : Type 0
 Named = IsDocumentOf (codes "query Q { b: c ...G }") named
 
 abbrev pub NestedLayout : Type 0
-NestedLayout = layout default_style nested ≡ codes "{" ++ 10 ∷ codes "  a {" ++ 10 ∷ codes "    b" ++ 10 ∷ codes "  }" ++ 10 ∷ codes "}" ++ 10 ∷ []
+NestedLayout = layout default_style nested ≡ codes "{" ++ 10 ∷ codes "  a {" ++ 10 ∷ codes "    b" ++ 10 ∷ codes "  }"
+    ++ 10 ∷ codes "}" ++ 10 ∷ []
 
 abbrev pub TwoDefinitionsLayout : Type 0
 TwoDefinitionsLayout = layout default_style (alone 1 1 (codes "a") ∷ alone 1 7 (codes "b") ∷ [])
-    ≡ codes "{" ++ 10 ∷ codes "  a" ++ 10 ∷ codes "}" ++ 10 ∷ 10 ∷ codes "{" ++ 10 ∷ codes "  b" ++ 10 ∷ codes "}" ++ 10 ∷ []
+    ≡ codes "{" ++ 10 ∷ codes "  a" ++ 10 ∷ codes "}" ++ 10 ∷ 10 ∷ codes "{" ++ 10 ∷ codes "  b"
+    ++ 10 ∷ codes "}" ++ 10 ∷ []
 
 abbrev pub NamedLayout : Type 0
-NamedLayout = layout default_style named ≡ codes "query Q {" ++ 10 ∷ codes "  b: c" ++ 10 ∷ codes "  ...G" ++ 10 ∷ codes "}" ++ 10 ∷ []
+NamedLayout = layout default_style named ≡ codes "query Q {" ++ 10 ∷ codes "  b: c" ++ 10 ∷ codes "  ...G"
+    ++ 10 ∷ codes "}" ++ 10 ∷ []

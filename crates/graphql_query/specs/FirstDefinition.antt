@@ -35,7 +35,8 @@ module _ (l : Language DefinitionTree) where
   -- The tokens of the source begin with a definition that denotes d. The rest begins at the token after the definition.
   abbrev pub IsFirstIn : List ℕ → DefinitionTree × List ℕ → Type 0
   IsFirstIn text (d, rest) =
-      (items : List Item) × HasItems text items × (x : ParseTree) × (others : List Token) × BeginsWithIn (split items).tokens x others
+      (items : List Item) × HasItems text items × (x : ParseTree) × (others : List Token)
+      × BeginsWithIn (split items).tokens x others
       × (d ≡ l.means x) × (rest ≡ text_after (length (leaves x)) items text)
 
 abbrev pub BeginsWith : List Token → ParseTree → List Token → Type 0
@@ -67,8 +68,8 @@ BeginsWithParseTree text x = (rest : List ℕ) × IsFirstParseTree text (x, rest
 -- Integers, floats and strings without a value are accepted here.
 abbrev pub NoneBeginsAnother : Type 0
 NoneBeginsAnother =
-    (x y : ParseTree) (us vs : List Token) → Fits (lax query) (Sym definition_symbol) x → Fits (lax query) (Sym definition_symbol) y
-    → leaves x ++ us ≡ leaves y ++ vs → (x ≡ y) × (us ≡ vs)
+    (x y : ParseTree) (us vs : List Token) → Fits (lax query) (Sym definition_symbol) x
+    → Fits (lax query) (Sym definition_symbol) y → leaves x ++ us ≡ leaves y ++ vs → (x ≡ y) × (us ≡ vs)
 
 -- the rest parses to these definitions, ignoring positions; if there are none, the rest is empty
 abbrev pub HasDefinitions : List ℕ → List DefinitionTree → Type 0

@@ -78,11 +78,13 @@ operation_rule =
 
 -- OperationBody = Name? VariableDefinitions? Directives SelectionSet
 abbrev pub operation_body_rule : Expr
-operation_body_rule = Then (optional name) (Then (optional (Sym variable_definitions_symbol)) (Then (Sym directives_symbol) (Sym selection_set_symbol)))
+operation_body_rule = Then (optional name)
+    (Then (optional (Sym variable_definitions_symbol)) (Then (Sym directives_symbol) (Sym selection_set_symbol)))
 
 -- VariableDefinitions = "(" VariableDefinition+ ")"
 abbrev pub variable_definitions_rule : Expr
-variable_definitions_rule = Then (punctuator (codes "(")) (Then (some_of (Sym variable_definition_symbol)) (punctuator (codes ")")))
+variable_definitions_rule =
+    Then (punctuator (codes "(")) (Then (some_of (Sym variable_definition_symbol)) (punctuator (codes ")")))
 
 -- VariableDefinition = "$" Name ":" Type Default? Directives
 abbrev pub variable_definition_rule : Expr
@@ -123,7 +125,8 @@ spread_name_rule = One spread_class
 
 -- TypeCondition? Directives SelectionSet
 abbrev pub inline_fragment_rest : Expr
-inline_fragment_rest = Then (optional (Sym type_condition_symbol)) (Then (Sym directives_symbol) (Sym selection_set_symbol))
+inline_fragment_rest =
+    Then (optional (Sym type_condition_symbol)) (Then (Sym directives_symbol) (Sym selection_set_symbol))
 
 -- InlineFragment = "..." TypeCondition? Directives SelectionSet
 abbrev pub inline_fragment_rule : Expr
@@ -140,15 +143,15 @@ fragment_definition_rule = Then (word (codes "fragment"))
 
 abbrev pub rules : List Expr
 rules =
-    document_rule ∷ definition_rule ∷ operation_rule ∷ operation_body_rule ∷ variable_definitions_rule ∷ variable_definition_rule ∷ selection_set_rule
-    ∷ selection_rule ∷ field_rule
-    ∷ alias_rule ∷ fragment_spread_rule ∷ spread_name_rule ∷ inline_fragment_rule ∷ type_condition_rule ∷ fragment_definition_rule ∷ []
+    document_rule ∷ definition_rule ∷ operation_rule ∷ operation_body_rule ∷ variable_definitions_rule
+    ∷ variable_definition_rule ∷ selection_set_rule ∷ selection_rule ∷ field_rule ∷ alias_rule ∷ fragment_spread_rule
+    ∷ spread_name_rule ∷ inline_fragment_rule ∷ type_condition_rule ∷ fragment_definition_rule ∷ []
 
 abbrev pub samples : List Token
 samples =
     shared.samples
-    ++ sample Name (codes "query") ∷ sample Name (codes "mutation") ∷ sample Name (codes "subscription") ∷ sample Name (codes "fragment")
-    ∷ sample Name (codes "on") ∷ sample Punctuator (codes "...") ∷ []
+    ++ sample Name (codes "query") ∷ sample Name (codes "mutation") ∷ sample Name (codes "subscription")
+    ∷ sample Name (codes "fragment") ∷ sample Name (codes "on") ∷ sample Punctuator (codes "...") ∷ []
 
 -- the written grammar: every literal has a value, and no node is rejected
 abbrev pub query : Grammar
@@ -158,7 +161,8 @@ query = record { rows = shared.rows ++ with_tables rules []; good = is_good; che
 
 -- a field, or "..." and then the rest of a spread or of an inline fragment
 abbrev pub selection_second : Expr
-selection_second = Either (Sym field_symbol) (Then (punctuator (codes "...")) (Either fragment_spread_rest inline_fragment_rest))
+selection_second =
+    Either (Sym field_symbol) (Then (punctuator (codes "...")) (Either fragment_spread_rest inline_fragment_rest))
 
 -- a name, optionally a colon and another name, and the rest of a field
 abbrev pub field_second : Expr
@@ -166,9 +170,10 @@ field_second = Then name (Then (optional (Then (punctuator (codes ":")) name)) f
 
 abbrev pub second_rules : List Expr
 second_rules =
-    document_rule ∷ definition_rule ∷ operation_rule ∷ operation_body_rule ∷ variable_definitions_rule ∷ variable_definition_rule ∷ selection_set_rule
-    ∷ selection_second ∷ field_second
-    ∷ alias_rule ∷ fragment_spread_rule ∷ spread_name_rule ∷ inline_fragment_rule ∷ type_condition_rule ∷ fragment_definition_rule ∷ []
+    document_rule ∷ definition_rule ∷ operation_rule ∷ operation_body_rule
+    ∷ variable_definitions_rule ∷ variable_definition_rule ∷ selection_set_rule ∷ selection_second ∷ field_second
+    ∷ alias_rule ∷ fragment_spread_rule ∷ spread_name_rule ∷ inline_fragment_rule ∷ type_condition_rule
+    ∷ fragment_definition_rule ∷ []
 
 unfoldable pub tables : List Row
 tables = drop shared_symbols (solve matches samples 9 (shared.rules ++ second_rules))

@@ -34,17 +34,21 @@ abbrev mutual
   pub selection_layout : Layout → ℕ → SelectionTree → List Part
   selection_layout style margin (field p alias n arguments ds s) =
       gap (spaces margin) ++
-      (alias_layout alias ++ (name_part n ++ (arguments_layout style margin arguments ++ (directives_layout style margin ds ++ selected_layout style margin s))))
+      (alias_layout alias ++ (name_part n ++ (arguments_layout style margin arguments
+      ++ (directives_layout style margin ds ++ selected_layout style margin s))))
   selection_layout style margin (spread p n ds) =
-      gap (spaces margin) ++ (punctuator_part (codes "...") ++ (name_part n ++ (directives_layout style margin ds ++ gap (codes "\n"))))
+      gap (spaces margin)
+      ++ (punctuator_part (codes "...") ++ (name_part n ++ (directives_layout style margin ds ++ gap (codes "\n"))))
   selection_layout style margin (inline p condition ds s) =
       gap (spaces margin) ++
-      (punctuator_part (codes "...") ++ (on_layout condition ++ (directives_layout style margin ds ++ (gap (codes " ") ++ selection_set_layout style margin s))))
+      (punctuator_part (codes "...") ++ (on_layout condition
+      ++ (directives_layout style margin ds ++ (gap (codes " ") ++ selection_set_layout style margin s))))
 
   -- the selection set of a field; without selections it has no braces
   pub selected_layout : Layout → ℕ → SelectionSetTree → List Part
   selected_layout style margin (set o c none) = gap (codes "\n")
-  selected_layout style margin (set o c (more s ss)) = gap (codes " ") ++ in_braces margin (selections_layout style (margin + style.indent) (more s ss))
+  selected_layout style margin (set o c (more s ss)) =
+      gap (codes " ") ++ in_braces margin (selections_layout style (margin + style.indent) (more s ss))
 
   -- a selection set in braces, its selections one level deeper
   pub selection_set_layout : Layout → ℕ → SelectionSetTree → List Part
@@ -81,7 +85,8 @@ operation_layout style o = name_part (keyword o.kind)
 
 abbrev pub fragment_definition_layout : Layout → FragmentDefinitionTree → List Part
 fragment_definition_layout style f =
-    name_part (codes "fragment") ++ (gap (codes " ") ++ (name_part f.name ++ (gap (codes " ") ++ (type_condition_layout f.condition
+    name_part (codes "fragment")
+    ++ (gap (codes " ") ++ (name_part f.name ++ (gap (codes " ") ++ (type_condition_layout f.condition
     ++ (directives_layout style 0 f.directives ++ (gap (codes " ") ++ selection_set_layout style 0 f.selected))))))
 
 abbrev pub definition_layout : Layout → DefinitionTree → List Part

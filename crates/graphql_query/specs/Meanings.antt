@@ -38,8 +38,8 @@ abbrev mutual
   -- the position of a field is that of its first token
   pub field_of : ParseTree → SelectionTree
   field_of (Node k (Both a (Both n (Both arguments (Both ds s))))) =
-      field (first_place (leaves (Both a n))) (alias_of a) (spelling_at n) (optional_arguments_of arguments) (directives_of ds)
-      (selected_of (first_place (leaves (Both a n))) s)
+      field (first_place (leaves (Both a n))) (alias_of a) (spelling_at n) (optional_arguments_of arguments)
+      (directives_of ds) (selected_of (first_place (leaves (Both a n))) s)
   field_of _ = spread nowhere [] []
 
   -- without braces: the position of the field twice, and no selections
@@ -49,8 +49,9 @@ abbrev mutual
 
   -- what follows the `...` of an inline fragment; the position of the fragment is that of the first token there
   pub inline_fragment_rest_of : ParseTree → SelectionTree
-  inline_fragment_rest_of (Both c (Both ds s)) = inline (first_place (leaves (Both c (Both ds s)))) (optional_of type_condition_of c) (directives_of ds)
-      (selection_set_of s)
+  inline_fragment_rest_of (Both c (Both ds s)) =
+      inline (first_place (leaves (Both c (Both ds s)))) (optional_of type_condition_of c)
+      (directives_of ds) (selection_set_of s)
   inline_fragment_rest_of _ = spread nowhere [] []
 
   pub inline_fragment_of : ParseTree → SelectionTree
@@ -78,11 +79,24 @@ abbrev mutual
 -- the position of a variable is that of its `$`
 abbrev pub variable_definition_of : ParseTree → VariableDefinitionTree
 variable_definition_of (Node k (Both d (Both n (Both c (Both t (Both v ds)))))) =
-    record { position = place_at d; name = spelling_at n; var_type = type_of t; default_value = optional_default_of v; directives = directives_of ds }
+    record {
+      position = place_at d;
+      name = spelling_at n;
+      var_type = type_of t;
+      default_value = optional_default_of v;
+      directives = directives_of ds;
+    }
 -- in version 0.4.1, without directives
 variable_definition_of (Node k (Both d (Both n (Both c (Both t v))))) =
-    record { position = place_at d; name = spelling_at n; var_type = type_of t; default_value = optional_default_of v; directives = [] }
-variable_definition_of _ = record { position = nowhere; name = []; var_type = named []; default_value = None; directives = [] }
+    record {
+      position = place_at d;
+      name = spelling_at n;
+      var_type = type_of t;
+      default_value = optional_default_of v;
+      directives = [];
+    }
+variable_definition_of _ =
+    record { position = nowhere; name = []; var_type = named []; default_value = None; directives = [] }
 
 abbrev pub operation_body_of : ParseTree → OperationBodyTree
 operation_body_of (Node k (Both n (Both vs (Both ds s)))) =
@@ -97,7 +111,8 @@ operation_body_of _ = record { name = None; variables = []; directives = []; sel
 -- the position of an operation is that of its keyword
 abbrev pub keyword_of : OperationKind → ParseTree → OperationTree
 keyword_of kind (Both w c) = with_body kind (place_at w) (operation_body_of c)
-keyword_of kind _ = with_body kind nowhere (record { name = None; variables = []; directives = []; selected = no_selection_set nowhere })
+keyword_of kind _ = with_body kind nowhere
+    (record { name = None; variables = []; directives = []; selected = no_selection_set nowhere })
 
 abbrev pub operation_of : ParseTree → DefinitionTree
 operation_of (Node k (First s)) = short (selection_set_of s)
@@ -109,8 +124,15 @@ operation_of _ = short (no_selection_set nowhere)
 -- the position of a fragment is that of its keyword
 abbrev pub fragment_definition_of : ParseTree → FragmentDefinitionTree
 fragment_definition_of (Node k (Both w (Both n (Both c (Both ds s))))) =
-    record { position = place_at w; name = spelling_at n; condition = type_condition_of c; directives = directives_of ds; selected = selection_set_of s }
-fragment_definition_of _ = record { position = nowhere; name = []; condition = []; directives = []; selected = no_selection_set nowhere }
+    record {
+      position = place_at w;
+      name = spelling_at n;
+      condition = type_condition_of c;
+      directives = directives_of ds;
+      selected = selection_set_of s;
+    }
+fragment_definition_of _ =
+    record { position = nowhere; name = []; condition = []; directives = []; selected = no_selection_set nowhere }
 
 abbrev pub definition_of : ParseTree → DefinitionTree
 definition_of (Node k (First o)) = operation_of o

@@ -8,8 +8,8 @@ use Rattle.std.specs.Global.{Global}
 pub data IsMinifyRefusalOf (text : List ℕ) : Refusal → Type 0 where
   ran_out : IsMinifyRefusalOf text no_memory
   past_bound : max_length < length text → IsMinifyRefusalOf text too_long
-  bad_place : {items : List Item} {p : Place} {c : CauseText} → length text ≤ max_length → HasItems text items → (split items).last ≡ LastIsError p c
-      → IsMinifyRefusalOf text (record { cause = c; place = Some p })
+  bad_place : {items : List Item} {p : Place} {c : CauseText} → length text ≤ max_length → HasItems text items
+      → (split items).last ≡ LastIsError p c → IsMinifyRefusalOf text (record { cause = c; place = Some p })
 
 -- the output is this one, unless an allocation failed
 abbrev pub TellsUnlessMemory : List ℕ → Result (String Global) Refusal → Type 0

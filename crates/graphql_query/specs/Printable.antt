@@ -15,10 +15,12 @@ use Rattle.graphql_query.specs.TreeDepth.{variable_definition_depth, variable_de
 
 abbrev mutual
   pub IsPrintableSelection : SelectionTree → Type 0
-  IsPrintableSelection (field p alias n arguments ds s) = IfSome alias IsName × IsName n × AllByRecursion IsPrintableArgument arguments
+  IsPrintableSelection (field p alias n arguments ds s) =
+      IfSome alias IsName × IsName n × AllByRecursion IsPrintableArgument arguments
       × AllByRecursion IsPrintableDirective ds × IsPrintableSet s
   IsPrintableSelection (spread p n ds) = IsNameBut (codes "on" ∷ []) n × AllByRecursion IsPrintableDirective ds
-  IsPrintableSelection (inline p condition ds s) = IfSome condition IsName × AllByRecursion IsPrintableDirective ds × IsPrintableSet s
+  IsPrintableSelection (inline p condition ds s) =
+      IfSome condition IsName × AllByRecursion IsPrintableDirective ds × IsPrintableSet s
 
   pub IsPrintableSet : SelectionSetTree → Type 0
   IsPrintableSet (set o c ss) = ArePrintableSelections ss
@@ -32,11 +34,12 @@ IsPrintableVariable v = IsName v.name × IsPrintableType v.var_type × IfSome v.
     × AllByRecursion IsPrintableDirective v.directives
 
 abbrev pub IsPrintableOperation : OperationTree → Type 0
-IsPrintableOperation o = IfSome o.name IsName × AllByRecursion IsPrintableVariable o.variables × AllByRecursion IsPrintableDirective o.directives
-    × IsPrintableSet o.selected
+IsPrintableOperation o = IfSome o.name IsName × AllByRecursion IsPrintableVariable o.variables
+    × AllByRecursion IsPrintableDirective o.directives × IsPrintableSet o.selected
 
 abbrev pub IsPrintableFragment : FragmentDefinitionTree → Type 0
-IsPrintableFragment f = IsName f.name × IsName f.condition × AllByRecursion IsPrintableDirective f.directives × IsPrintableSet f.selected
+IsPrintableFragment f =
+    IsName f.name × IsName f.condition × AllByRecursion IsPrintableDirective f.directives × IsPrintableSet f.selected
 
 abbrev pub IsPrintableDefinition : DefinitionTree → Type 0
 IsPrintableDefinition (short s) = IsPrintableSet s

@@ -32,10 +32,13 @@ Arguments = List (List ℕ × ValueTree)
 mutual
   -- a field, a fragment spread or an inline fragment
   pub data SelectionTree : Type 0 where
-    field : (position : Place) (alias : Option (List ℕ)) (name : List ℕ) (arguments : Arguments) (directives : List DirectiveTree)
-        (selected : SelectionSetTree) → SelectionTree
+    field : (position : Place) (alias : Option (List ℕ)) (name : List ℕ) (arguments : Arguments)
+        (directives : List DirectiveTree) (selected : SelectionSetTree)
+        → SelectionTree
     spread : (position : Place) (name : List ℕ) (directives : List DirectiveTree) → SelectionTree
-    inline : (position : Place) (condition : Option (List ℕ)) (directives : List DirectiveTree) (selected : SelectionSetTree) → SelectionTree
+    inline : (position : Place) (condition : Option (List ℕ)) (directives : List DirectiveTree)
+        (selected : SelectionSetTree)
+        → SelectionTree
 
   -- a selection set: its span and its selections
   pub data SelectionSetTree : Type 0 where
@@ -117,13 +120,16 @@ module _ {N T : Type 0} (bytes : T → List ℕ) where
   type_condition_view (On n) = bytes n
 
   abbrev pub field_step : Field-F N T SelectionTree SelectionTree SelectionTree SelectionSetTree → SelectionTree
-  field_step f = field (place_of f.position) (option_map bytes f.alias) (bytes f.name) (arguments_view bytes f.arguments.items)
+  field_step f =
+      field (place_of f.position) (option_map bytes f.alias) (bytes f.name) (arguments_view bytes f.arguments.items)
       (directives_view bytes f.directives.items) f.selection_set
 
   abbrev pub fragment_spread_view : FragmentSpread N T → SelectionTree
-  fragment_spread_view f = spread (place_of f.position) (bytes f.fragment_name) (directives_view bytes f.directives.items)
+  fragment_spread_view f =
+      spread (place_of f.position) (bytes f.fragment_name) (directives_view bytes f.directives.items)
 
-  abbrev pub inline_fragment_step : InlineFragment-F N T SelectionTree SelectionTree SelectionTree SelectionSetTree → SelectionTree
+  abbrev pub inline_fragment_step : InlineFragment-F N T SelectionTree SelectionTree SelectionTree SelectionSetTree
+      → SelectionTree
   inline_fragment_step f = inline (place_of f.position) (option_map type_condition_view f.type_condition)
       (directives_view bytes f.directives.items) f.selection_set
 
@@ -132,23 +138,26 @@ module _ {N T : Type 0} (bytes : T → List ℕ) where
   selection_step (Selection-F.FragmentSpread f) = fragment_spread_view f
   selection_step (Selection-F.InlineFragment f) = f
 
-  abbrev pub selection_set_step : SelectionSet-F N T SelectionTree SelectionTree SelectionTree SelectionSetTree → SelectionSetTree
+  abbrev pub selection_set_step : SelectionSet-F N T SelectionTree SelectionTree SelectionTree SelectionSetTree
+      → SelectionSetTree
   selection_set_step s = set (place_of s.span.0) (place_of s.span.1) (trees_of s.items.items)
 
   abbrev pub field_view : Field N T → SelectionTree
-  field_view = fold-Field N T SelectionTree SelectionTree SelectionTree SelectionSetTree selection_step field_step inline_fragment_step selection_set_step
+  field_view = fold-Field N T SelectionTree SelectionTree SelectionTree SelectionSetTree selection_step field_step
+      inline_fragment_step selection_set_step
 
   abbrev pub inline_fragment_view : InlineFragment N T → SelectionTree
-  inline_fragment_view = fold-InlineFragment N T SelectionTree SelectionTree SelectionTree SelectionSetTree selection_step field_step inline_fragment_step
-      selection_set_step
+  inline_fragment_view =
+      fold-InlineFragment N T SelectionTree SelectionTree SelectionTree SelectionSetTree selection_step field_step
+      inline_fragment_step selection_set_step
 
   abbrev pub selection_view : Selection N T → SelectionTree
-  selection_view = fold-Selection N T SelectionTree SelectionTree SelectionTree SelectionSetTree selection_step field_step inline_fragment_step
-      selection_set_step
+  selection_view = fold-Selection N T SelectionTree SelectionTree SelectionTree SelectionSetTree selection_step
+      field_step inline_fragment_step selection_set_step
 
   abbrev pub selection_set_view : SelectionSet N T → SelectionSetTree
-  selection_set_view = fold-SelectionSet N T SelectionTree SelectionTree SelectionTree SelectionSetTree selection_step field_step inline_fragment_step
-      selection_set_step
+  selection_set_view = fold-SelectionSet N T SelectionTree SelectionTree SelectionTree SelectionSetTree selection_step
+      field_step inline_fragment_step selection_set_step
 
   abbrev pub selections_view : List (Selection N T) → SelectionTrees
   selections_view ss = trees_of (map selection_view ss)
@@ -165,7 +174,8 @@ module _ {N T : Type 0} (bytes : T → List ℕ) where
   abbrev pub variable_definitions_view : List (VariableDefinition N T) → List VariableDefinitionTree
   variable_definitions_view = map variable_definition_view
 
-  abbrev pub body_view : Option T → List (VariableDefinition N T) → List (Directive N T) → SelectionSet N T → OperationBodyTree
+  abbrev pub body_view : Option T → List (VariableDefinition N T) → List (Directive N T)
+      → SelectionSet N T → OperationBodyTree
   body_view name variables directives selected = record {
     name = option_map bytes name;
     variables = variable_definitions_view variables;
@@ -174,13 +184,16 @@ module _ {N T : Type 0} (bytes : T → List ℕ) where
   }
 
   abbrev pub query_view : Query N T → OperationTree
-  query_view o = with_body query_kind (place_of o.position) (body_view o.name o.variable_definitions.items o.directives.items o.selection_set)
+  query_view o = with_body query_kind (place_of o.position)
+      (body_view o.name o.variable_definitions.items o.directives.items o.selection_set)
 
   abbrev pub mutation_view : Mutation N T → OperationTree
-  mutation_view o = with_body mutation_kind (place_of o.position) (body_view o.name o.variable_definitions.items o.directives.items o.selection_set)
+  mutation_view o = with_body mutation_kind (place_of o.position)
+      (body_view o.name o.variable_definitions.items o.directives.items o.selection_set)
 
   abbrev pub subscription_view : Subscription N T → OperationTree
-  subscription_view o = with_body subscription_kind (place_of o.position) (body_view o.name o.variable_definitions.items o.directives.items o.selection_set)
+  subscription_view o = with_body subscription_kind (place_of o.position)
+      (body_view o.name o.variable_definitions.items o.directives.items o.selection_set)
 
   abbrev pub fragment_definition_view : FragmentDefinition N T → FragmentDefinitionTree
   fragment_definition_view f = record {

@@ -10,7 +10,8 @@ use Rattle.graphql_query.specs.Tree.{FragmentDefinitionTree, DefinitionTree, sho
 
 abbrev mutual
   pub selection_depth : Weights → SelectionTree → ℕ
-  selection_depth w (field p alias n arguments ds s) = max (arguments_depth w arguments) (max (directives_depth w ds) (selected_depth w s))
+  selection_depth w (field p alias n arguments ds s) =
+      max (arguments_depth w arguments) (max (directives_depth w ds) (selected_depth w s))
   selection_depth w (spread p n ds) = directives_depth w ds
   selection_depth w (inline p condition ds s) = max (directives_depth w ds) (selection_set_depth w s)
 
@@ -30,14 +31,16 @@ abbrev mutual
 -- ---- definitions
 
 abbrev pub variable_definition_depth : Weights → VariableDefinitionTree → ℕ
-variable_definition_depth w v = max (w.of_type v.var_type) (max (default_depth w v.default_value) (directives_depth w v.directives))
+variable_definition_depth w v =
+    max (w.of_type v.var_type) (max (default_depth w v.default_value) (directives_depth w v.directives))
 
 abbrev pub variable_definitions_depth : Weights → List VariableDefinitionTree → ℕ
 variable_definitions_depth w = most_around w.around_definitions (variable_definition_depth w)
 
 abbrev pub operation_depth : Weights → OperationTree → ℕ
 operation_depth w o =
-    max (variable_definitions_depth w o.variables) (max (directives_depth w o.directives) (selection_set_depth w o.selected))
+    max (variable_definitions_depth w o.variables)
+    (max (directives_depth w o.directives) (selection_set_depth w o.selected))
 
 abbrev pub fragment_definition_depth : Weights → FragmentDefinitionTree → ℕ
 fragment_definition_depth w f = max (directives_depth w f.directives) (selection_set_depth w f.selected)

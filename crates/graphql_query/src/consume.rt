@@ -22,8 +22,10 @@ fn first_definition<S: TokenSource>(
     source: &mut S,
     scratch: &mut Vec<Selection<S::Names>>,
 ) -> Result<Definition<S::Names>, Fault>
-    ensures takes { IfOk result (λ d. TakesDefinition (S.items source.old) (S.items source.new) (definition_view S.Names.bytes d)) }
-    ensures complete { (x : ParseTree) (others : List Token) → BeginsWith (S.items source.old).tokens x others → IfErr result (λ e. e ≡ no_memory) }
+    ensures takes { IfOk result
+        (λ d. TakesDefinition (S.items source.old) (S.items source.new) (definition_view S.Names.bytes d)) }
+    ensures complete { (x : ParseTree) (others : List Token) → BeginsWith (S.items source.old).tokens x others
+        → IfErr result (λ e. e ≡ no_memory) }
     ensures first_error { IfErr result (IsRefusalFor one_definition (S.items source.old)) }
 {
     match definition(alloc, source, scratch) {
@@ -35,8 +37,8 @@ fn first_definition<S: TokenSource>(
 /// The source from the token at this position on; empty if no token is at this position.
 fn text_from(source: &str, position: Pos) -> &str
     requires { length source.now ≤ usize.MAX / 16 }
-    ensures { (items : List Item) (n : ℕ) → HasItems source.now items → n < length items → (next_place (drop n items)).position ≡ position
-        → result.now ≡ text_after n items source.now }
+    ensures { (items : List Item) (n : ℕ) → HasItems source.now items → n < length items
+        → (next_place (drop n items)).position ≡ position → result.now ≡ text_after n items source.now }
 {
     let mut stream = TokenStream::new(source);
     'items: while stream.position() != position {
@@ -67,11 +69,13 @@ pub fn consume_definition<'a, S: Text<'a>>(
 
     // In a source of at most `MAX_LENGTH` bytes, the first definition of version 0.4.1 is returned as it was there,
     // with the same rest, or the call returns `OutOfMemory`. The definition has no part that was added since.
-    ensures earlier { (r : DefinitionTree × List ℕ) → length source.now ≤ max_length → IsFirstDefinition_0_4_1 source.now r
+    ensures earlier { (r : DefinitionTree × List ℕ) → length source.now ≤ max_length
+        → IsFirstDefinition_0_4_1 source.now r
         → HasNoNewPart r.0 × AnswersUnlessMemory (λ a. (definition_view S.Names.bytes a.0, a.1.now)) r result }
 
     // A source has at most one first definition, and one rest after it.
-    ensures one { (q r : DefinitionTree × List ℕ) → IsFirstDefinition source.now q → IsFirstDefinition source.now r → q ≡ r }
+    ensures one { (q r : DefinitionTree × List ℕ) → IsFirstDefinition source.now q
+        → IsFirstDefinition source.now r → q ≡ r }
 
     // If the source is a document, its first definition is that of the document, and the rest parses to the other
     // definitions, ignoring positions. If there are no others, the rest is empty.
@@ -79,12 +83,12 @@ pub fn consume_definition<'a, S: Text<'a>>(
         → (rest : List ℕ) × IsFirstDefinition source.now (d, rest) × HasDefinitions rest ds }
 
     // The rest never changes the definition: before any other rest it is the same, positions included.
-    ensures other_rest { (d : DefinitionTree) (rest taken other : List ℕ) → IsFirstDefinition source.now (d, rest) → source.now ≡ taken ++ rest
-        → BeginsWithDefinition (taken ++ other) d }
+    ensures other_rest { (d : DefinitionTree) (rest taken other : List ℕ) → IsFirstDefinition source.now (d, rest)
+        → source.now ≡ taken ++ rest → BeginsWithDefinition (taken ++ other) d }
 
     // Before any other rest the source also begins with the tokens of the definition, at the same positions.
-    ensures other_tokens { (x : ParseTree) (rest taken other : List ℕ) → IsFirstParseTree source.now (x, rest) → source.now ≡ taken ++ rest
-        → BeginsWithParseTree (taken ++ other) x }
+    ensures other_tokens { (x : ParseTree) (rest taken other : List ℕ) → IsFirstParseTree source.now (x, rest)
+        → source.now ≡ taken ++ rest → BeginsWithParseTree (taken ++ other) x }
 
     // No definition is a proper prefix of another, even if literals without a value are accepted.
     ensures one_beginning { NoneBeginsAnother }

@@ -42,7 +42,8 @@ fn read_spans<'a, S: Text<'a>, W: Width>(
 ) -> Result<Document<S>, Fault>
     requires small { length source.now ≤ usize.MAX / 16 }
     requires narrow { 8 * length source.now < W.most }
-    ensures { (items : List Item) → HasItems source.now items → ReadsDocument queries (document_view S.Names.bytes) (split items) result }
+    ensures { (items : List Item) → HasItems source.now items
+        → ReadsDocument queries (document_view S.Names.bytes) (split items) result }
 {
     let mut tokens: SpanSource<'a, S, W> = SpanSource::new(alloc, source)?;
     read_document(alloc, &mut tokens)
@@ -51,7 +52,8 @@ fn read_spans<'a, S: Text<'a>, W: Width>(
 /// Parses an input of at most `usize::MAX / 16` bytes.
 fn read_text<'a, S: Text<'a>>(alloc: Global, source: &'a str) -> Result<Document<S>, Fault>
     requires { length source.now ≤ usize.MAX / 16 }
-    ensures { (items : List Item) → HasItems source.now items → ReadsDocument queries (document_view S.Names.bytes) (split items) result }
+    ensures { (items : List Item) → HasItems source.now items
+        → ReadsDocument queries (document_view S.Names.bytes) (split items) result }
 {
     if source.len() < WIDE_TEXT {
         read_spans::<S, u32>(alloc, source)

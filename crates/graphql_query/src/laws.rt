@@ -18,24 +18,26 @@ pub fn least_faults_are_first()
 /// grammar accepts. With the offending token or end they are not. The plain grammar also accepts literals without a
 /// value. The theorem holds for an input and for the rest of a stream.
 pub fn none_goes_on_with_an_unexpected_item()
-    ensures documents { (items : List Item) (f : FaultText) → IsLeastFault queries (split items) f → is_unexpected f.cause ≡ true
-        → NoneGoesOn queries (split items) f }
-    ensures definitions { (items : List Item) (f : FaultText) → IsLeastFault one_definition (split items) f → is_unexpected f.cause ≡ true
-        → NoneGoesOn one_definition (split items) f }
+    ensures documents { (items : List Item) (f : FaultText) → IsLeastFault queries (split items) f
+        → is_unexpected f.cause ≡ true → NoneGoesOn queries (split items) f }
+    ensures definitions { (items : List Item) (f : FaultText) → IsLeastFault one_definition (split items) f
+        → is_unexpected f.cause ≡ true → NoneGoesOn one_definition (split items) f }
 {}
 
 /// A minified source parses as its original does, ignoring positions: both to equal documents, or both to an error.
 pub fn minified_texts_are_parsed_alike()
-    ensures alike { (source text : List ℕ) (r s : Result DocumentTree Refusal) → IsMinified source text → IsParsed source r → IsParsed text s → AreAlike r s }
+    ensures alike { (source text : List ℕ) (r s : Result DocumentTree Refusal) → IsMinified source text
+        → IsParsed source r → IsParsed text s → AreAlike r s }
     // The two errors have the same cause.
-    ensures one_cause { (source text : List ℕ) (f g : FaultText) → IsMinified source text → IsLeastFaultOf source f → IsLeastFaultOf text g
-        → f.cause ≡ g.cause }
+    ensures one_cause { (source text : List ℕ) (f g : FaultText) → IsMinified source text → IsLeastFaultOf source f
+        → IsLeastFaultOf text g → f.cause ≡ g.cause }
 {}
 
 /// What a reader of a symbol promises by the factored rules implies what is said by the written grammar alone. A
 /// returned value is what a parse tree denotes, and the symbol derives exactly the tokens taken by that tree. No list
 /// that the symbol derives begins with these tokens and the next. Or the error is the first error for the symbol.
 pub fn readers_return_what_is_derived<V, M>()
-    ensures { (k : ℕ) (old new : Items) (view : V → M) (means : ParseTree → M) (r : Result V ReadError) → k < length second_rows
-        → Reads (Sym k) old new (λ v x. view v ≡ means x) r → ReturnsDerived queries.grammar (Sym k) old new reason_of (λ v x. view v ≡ means x) r }
+    ensures { (k : ℕ) (old new : Items) (view : V → M) (means : ParseTree → M) (r : Result V ReadError)
+        → k < length second_rows → Reads (Sym k) old new (λ v x. view v ≡ means x) r
+        → ReturnsDerived queries.grammar (Sym k) old new reason_of (λ v x. view v ≡ means x) r }
 {}

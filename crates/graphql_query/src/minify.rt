@@ -22,16 +22,20 @@ pub fn minify_query(alloc: Global, source: String) -> Result<String, MinifyError
     ensures minified { IfOk result (λ text. IsMinified (string_bytes source) (string_bytes text)) }
 
     // The output has the tokens of the source, ignoring positions. Minifying is idempotent.
-    ensures tokens { (items : List Item) → HasItems (string_bytes source) items → IfOk result (λ text. HasTokens (string_bytes text) (split items).tokens) }
+    ensures tokens { (items : List Item) → HasItems (string_bytes source) items
+        → IfOk result (λ text. HasTokens (string_bytes text) (split items).tokens) }
     ensures again { IfOk result (λ text. IsMinified (string_bytes text) (string_bytes text)) }
 
     // The source and the output parse to the same document, ignoring positions, or both are no document.
-    ensures document { IfOk result (λ text. (d : DocumentTree) → IsDocumentOf (string_bytes source) d → IsReadBack (string_bytes text) d) }
-    ensures no_other { IfOk result (λ text. (d : DocumentTree) → IsDocumentOf (string_bytes text) d → IsReadBack (string_bytes source) d) }
+    ensures document { IfOk result
+        (λ text. (d : DocumentTree) → IsDocumentOf (string_bytes source) d → IsReadBack (string_bytes text) d) }
+    ensures no_other { IfOk result
+        (λ text. (d : DocumentTree) → IsDocumentOf (string_bytes text) d → IsReadBack (string_bytes source) d) }
 
     // Every source of at most `MAX_LENGTH` bytes without a lexical error is minified, or the call returns
     // `OutOfMemory`.
-    ensures complete { (text : List ℕ) → length (string_bytes source) ≤ max_length → IsMinified (string_bytes source) text → TellsUnlessMemory text result }
+    ensures complete { (text : List ℕ) → length (string_bytes source) ≤ max_length
+        → IsMinified (string_bytes source) text → TellsUnlessMemory text result }
 
     // An error is the lexical error of the source, `TextTooLong` or `OutOfMemory`. A source that is too long is
     // rejected before any allocation.

@@ -23,7 +23,12 @@ rules_0_4_1 = take 1 rules ++ item_rule_0_4_1 ∷ take 2 (drop 2 rules) ++ exten
 
 abbrev pub schema_0_4_1 : Grammar
 schema_0_4_1 =
-    record { rows = shared.rows ++ with_tables rules_0_4_1 []; good = schema_grammar.good; check = schema_grammar.check; samples = schema_grammar.samples }
+    record {
+      rows = shared.rows ++ with_tables rules_0_4_1 [];
+      good = schema_grammar.good;
+      check = schema_grammar.check;
+      samples = schema_grammar.samples;
+    }
 
 -- no input is parsed by this grammar, so the second rules are ignored
 abbrev pub schemas_0_4_1 : Language DocumentTree

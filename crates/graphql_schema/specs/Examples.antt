@@ -17,10 +17,12 @@ at line column = record { line = line; column = column }
 
 -- a type with this name at the start of the input, without description and directives
 abbrev first_type : List ℕ → PartsTree → DocumentTree
-first_type name parts = type_definition None (record { position = at 1 1; name = name; directives = []; parts = parts }) ∷ []
+first_type name parts =
+    type_definition None (record { position = at 1 1; name = name; directives = []; parts = parts }) ∷ []
 
 abbrev operations : Place → (query mutation : Option (List ℕ)) → SchemaTree
-operations place query mutation = record { position = place; directives = []; query = query; mutation = mutation; subscription = None }
+operations place query mutation =
+    record { position = place; directives = []; query = query; mutation = mutation; subscription = None }
 
 abbrev plain_value : ℕ → List ℕ → EnumValueTree
 plain_value column name = record { position = at 1 column; description = None; name = name; directives = [] }
@@ -44,27 +46,34 @@ pub record WorkedMeanings : Type 0 where
     directives = [];
   } ∷ [])))
   -- a `|` before the first member is ignored
-  pub leading_bar : IsDocumentOf (codes "union U = | A | B") (first_type (codes "U") (union (codes "A" ∷ codes "B" ∷ [])))
+  pub leading_bar : IsDocumentOf (codes "union U = | A | B")
+      (first_type (codes "U") (union (codes "A" ∷ codes "B" ∷ [])))
   -- the braces of a schema can be empty
   pub empty_schema : IsDocumentOf (codes "schema {}") (schema None (operations (at 1 1) None None) ∷ [])
   -- a schema is at its keyword, not at its description
-  pub described_schema : IsDocumentOf (codes "\"d\" schema { query: Q }") (schema (Some (codes "d")) (operations (at 1 5) (Some (codes "Q")) None) ∷ [])
+  pub described_schema : IsDocumentOf (codes "\"d\" schema { query: Q }")
+      (schema (Some (codes "d")) (operations (at 1 5) (Some (codes "Q")) None) ∷ [])
   -- an extension of the schema is at the keyword after `extend`
-  pub schema_extension : IsDocumentOf (codes "extend schema { mutation: M }") (schema_extension (operations (at 1 8) None (Some (codes "M"))) ∷ [])
+  pub schema_extension : IsDocumentOf (codes "extend schema { mutation: M }")
+      (schema_extension (operations (at 1 8) None (Some (codes "M"))) ∷ [])
   -- a value of an enum can have any name
-  pub any_name : IsDocumentOf (codes "enum E { on true }") (first_type (codes "E") (enum (plain_value 10 (codes "on") ∷ plain_value 13 (codes "true") ∷ [])))
+  pub any_name : IsDocumentOf (codes "enum E { on true }")
+      (first_type (codes "E") (enum (plain_value 10 (codes "on") ∷ plain_value 13 (codes "true") ∷ [])))
   -- an argument of a directive can be a variable
-  pub variable_argument : IsDocumentOf (codes "type A { f: Int @d(x: $y) }") (first_type (codes "A") (object [] (record {
-    position = at 1 10;
-    description = None;
-    name = codes "f";
-    arguments = [];
-    field_type = named (codes "Int");
-    directives = record { position = at 1 17; name = codes "d"; arguments = (codes "x", variable (codes "y")) ∷ [] } ∷ [];
-  } ∷ [])))
+  pub variable_argument : IsDocumentOf (codes "type A { f: Int @d(x: $y) }")
+      (first_type (codes "A") (object [] (record {
+        position = at 1 10;
+        description = None;
+        name = codes "f";
+        arguments = [];
+        field_type = named (codes "Int");
+        directives =
+            record { position = at 1 17; name = codes "d"; arguments = (codes "x", variable (codes "y")) ∷ [] } ∷ [];
+      } ∷ [])))
   -- an extension is at the keyword after `extend`
   pub extension : IsDocumentOf (codes "extend type A implements B")
-      (extension (record { position = at 1 8; name = codes "A"; directives = []; parts = object (codes "B" ∷ []) [] }) ∷ [])
+      (extension (record { position = at 1 8; name = codes "A"; directives = []; parts = object (codes "B" ∷ []) [] })
+      ∷ [])
 
 -- ---- layouts of documents
 
@@ -78,23 +87,29 @@ Shows = IsShown default_style
 
 -- how the documents of some small inputs are formatted
 pub record WorkedLayouts : Type 0 where
-  pub positions_layout : Shows (codes "type A {\n  \"d\" f(x: Int): B\n}") (codes "type A {\n  \"d\"\n  f(x: Int): B\n}\n")
+  pub positions_layout : Shows (codes "type A {\n  \"d\" f(x: Int): B\n}")
+      (codes "type A {\n  \"d\"\n  f(x: Int): B\n}\n")
   pub directive_layout : Shows (codes "directive @d(\"x\" a: Int = 1, b: [B!]) repeatable on FIELD | QUERY")
       (codes "directive @d(\"x\" a: Int = 1, b: [B!]) repeatable on FIELD | QUERY\n")
   -- arguments of a definition are on one line, also in multi-line style
-  pub directive_in_lines : IsShown (with_multiline default_style true) (codes "directive @d(\"x\" a: Int = 1, b: [B!]) repeatable on FIELD | QUERY")
+  pub directive_in_lines : IsShown (with_multiline default_style true)
+      (codes "directive @d(\"x\" a: Int = 1, b: [B!]) repeatable on FIELD | QUERY")
       (codes "directive @d(\"x\" a: Int = 1, b: [B!]) repeatable on FIELD | QUERY\n")
-  pub enum_layout : Shows (codes "\"\"\"d\"\"\" enum E { \"v\" A @x B }") (codes "\"d\"\nenum E {\n  \"v\" A @x\n  B\n}\n")
+  pub enum_layout : Shows (codes "\"\"\"d\"\"\" enum E { \"v\" A @x B }")
+      (codes "\"d\"\nenum E {\n  \"v\" A @x\n  B\n}\n")
   pub union_layout : Shows (codes "union U @d = | A | B") (codes "union U @d = A | B\n")
   -- operations are sorted: query, mutation, subscription
-  pub schema_layout : Shows (codes "schema @x { mutation: M query: Q }") (codes "schema @x {\n  query: Q\n  mutation: M\n}\n")
+  pub schema_layout : Shows (codes "schema @x { mutation: M query: Q }")
+      (codes "schema @x {\n  query: Q\n  mutation: M\n}\n")
   pub empty_schema_layout : Shows (codes "schema {}") (codes "schema {\n}\n")
   -- a description is above its schema
   pub described_schema_layout : Shows (codes "\"d\" schema { query: Q }") (codes "\"d\"\nschema {\n  query: Q\n}\n")
-  pub schema_extension_layout : Shows (codes "extend schema @a { mutation: M }") (codes "extend schema @a {\n  mutation: M\n}\n")
+  pub schema_extension_layout : Shows (codes "extend schema @a { mutation: M }")
+      (codes "extend schema @a {\n  mutation: M\n}\n")
   -- an extension of the schema without operations has no braces
   pub directives_alone : Shows (codes "extend schema @a") (codes "extend schema @a\n")
-  pub empty_schema_extension_layout : layout default_style (schema_extension empty_schema ∷ []) ≡ codes "extend schema\n"
+  pub empty_schema_extension_layout : layout default_style (schema_extension empty_schema ∷ [])
+      ≡ codes "extend schema\n"
   -- only one level is open, so no indentation is too wide
   pub empty_schema_fits : IsTooWide (with_indent default_style 4294967295) (schema None empty_schema ∷ []) → ⊥
   pub input_layout : Shows (codes "input I { a: Int = 1 @d }") (codes "input I {\n  a: Int = 1 @d\n}\n")
@@ -108,7 +123,8 @@ pub record WorkedLayouts : Type 0 where
 
 -- the first error has this reason and this index
 abbrev pub IsLeastAt : List ℕ → Reason → ℕ → Type 0
-IsLeastAt text why n = (items : List Item) × HasItems text items × IsLeast schema_grammar (Sym document_symbol) (numbered (split items)) why n
+IsLeastAt text why n = (items : List Item) × HasItems text items
+    × IsLeast schema_grammar (Sym document_symbol) (numbered (split items)) why n
 
 -- where some small inputs are rejected
 pub record WorkedRefusals : Type 0 where

@@ -1,5 +1,6 @@
 -- The grammar of schema documents, as written, and the equivalent rules that the parser follows.
-use Rattle.std.specs.Prelude.{ℕ, zero, suc, ◌+◌, Bool, true, not, ◌&&◌, ◌==◌, if◌then◌else◌, codes, List, [], ◌∷◌, ◌++◌, drop, replicate, is_some}
+use Rattle.std.specs.Prelude.{ℕ, zero, suc, ◌+◌, Bool, true, not, ◌&&◌, ◌==◌, if◌then◌else◌, codes, List, [], ◌∷◌, ◌++◌}
+use Rattle.std.specs.Prelude.{drop, replicate, is_some}
 use Rattle.graphql_core.specs.{is_row, out_of_head, out_of_sides, Token, Class, Except, matches, Expr, One, Then}
 use Rattle.graphql_core.specs.{Either, Many, Sym, ParseTree, Nothing, Leaf, Both, First, Second, Stop, More, Node, Row}
 use Rattle.graphql_core.specs.{optional, some_of, solve, with_tables, Change, unchanged, type_symbol}
@@ -114,12 +115,14 @@ document_rule = some_of (Sym item_symbol)
 
 -- SchemaItem = Description? Schema | Extension | Described
 abbrev pub item_rule : Expr
-item_rule = Either (Then (optional (Sym description_symbol)) (Sym schema_symbol)) (Either (Sym extension_symbol) (Sym described_symbol))
+item_rule = Either (Then (optional (Sym description_symbol)) (Sym schema_symbol))
+    (Either (Sym extension_symbol) (Sym described_symbol))
 
 -- Schema = "schema" Directives "{" RootType* "}"
 abbrev pub schema_rule : Expr
 schema_rule =
-    Then (word (codes "schema")) (Then (Sym directives_symbol) (Then (punctuator (codes "{")) (Then (Many (Sym root_type_symbol)) (punctuator (codes "}")))))
+    Then (word (codes "schema")) (Then (Sym directives_symbol)
+    (Then (punctuator (codes "{")) (Then (Many (Sym root_type_symbol)) (punctuator (codes "}")))))
 
 -- RootType = Name ":" Name
 abbrev pub root_type_rule : Expr
@@ -127,7 +130,8 @@ root_type_rule = Then name (Then (punctuator (codes ":")) name)
 
 -- Extension = "extend" TypeBody | "extend" SchemaExt
 abbrev pub extension_rule : Expr
-extension_rule = Either (Then (word (codes "extend")) (Sym type_body_symbol)) (Then (word (codes "extend")) (Sym schema_extension_symbol))
+extension_rule = Either (Then (word (codes "extend")) (Sym type_body_symbol))
+    (Then (word (codes "extend")) (Sym schema_extension_symbol))
 
 -- SchemaExt = "schema" Directives Roots?
 abbrev pub schema_extension_rule : Expr
@@ -159,12 +163,14 @@ scalar_rule = Then (word (codes "scalar")) (Then name (Sym directives_symbol))
 
 -- Object = "type" Name Implements? Directives Fields?
 abbrev pub object_rule : Expr
-object_rule = Then (word (codes "type")) (Then name (Then (optional (Sym implements_symbol)) (Then (Sym directives_symbol) (optional (Sym fields_symbol)))))
+object_rule = Then (word (codes "type"))
+    (Then name (Then (optional (Sym implements_symbol)) (Then (Sym directives_symbol) (optional (Sym fields_symbol)))))
 
 -- Interface = "interface" Name Implements? Directives Fields?
 abbrev pub interface_rule : Expr
 interface_rule =
-    Then (word (codes "interface")) (Then name (Then (optional (Sym implements_symbol)) (Then (Sym directives_symbol) (optional (Sym fields_symbol)))))
+    Then (word (codes "interface"))
+    (Then name (Then (optional (Sym implements_symbol)) (Then (Sym directives_symbol) (optional (Sym fields_symbol)))))
 
 -- an expression, once or more, separated by a punctuator, which can also precede the first
 abbrev pub joined_by : List ℕ → Expr → Expr
@@ -186,7 +192,8 @@ field_rule =
 
 -- ArgumentDefs = "(" InputValue+ ")"
 abbrev pub argument_definitions_rule : Expr
-argument_definitions_rule = Then (punctuator (codes "(")) (Then (some_of (Sym input_value_symbol)) (punctuator (codes ")")))
+argument_definitions_rule =
+    Then (punctuator (codes "(")) (Then (some_of (Sym input_value_symbol)) (punctuator (codes ")")))
 
 -- InputValue = Description? Name ":" Type Default? Directives
 abbrev pub input_value_rule : Expr
@@ -225,7 +232,8 @@ input_fields_rule = Then (punctuator (codes "{")) (Then (some_of (Sym input_valu
 -- DirectiveDef = "directive" "@" Name ArgumentDefs? "repeatable"? "on" Locations
 abbrev pub directive_definition_rule : Expr
 directive_definition_rule =
-    Then (word (codes "directive")) (Then (punctuator (codes "@")) (Then name (Then (optional (Sym argument_definitions_symbol))
+    Then (word (codes "directive"))
+    (Then (punctuator (codes "@")) (Then name (Then (optional (Sym argument_definitions_symbol))
     (Then (optional (word (codes "repeatable"))) (Then (word (codes "on")) (Sym locations_symbol))))))
 
 -- Locations = "|"? Location ("|" Location)*
@@ -238,8 +246,9 @@ location_rule = One location_class
 
 abbrev pub rules : List Expr
 rules =
-    document_rule ∷ item_rule ∷ schema_rule ∷ root_type_rule ∷ extension_rule ∷ described_rule ∷ description_rule ∷ type_body_rule
-    ∷ scalar_rule ∷ object_rule ∷ interface_rule ∷ implements_rule ∷ fields_rule ∷ field_rule ∷ argument_definitions_rule ∷ input_value_rule
+    document_rule ∷ item_rule ∷ schema_rule ∷ root_type_rule ∷ extension_rule
+    ∷ described_rule ∷ description_rule ∷ type_body_rule ∷ scalar_rule ∷ object_rule ∷ interface_rule
+    ∷ implements_rule ∷ fields_rule ∷ field_rule ∷ argument_definitions_rule ∷ input_value_rule
     ∷ union_rule ∷ members_rule ∷ enum_rule ∷ enum_values_rule ∷ enum_value_rule ∷ input_rule ∷ input_fields_rule
     ∷ directive_definition_rule ∷ locations_rule ∷ location_rule ∷ schema_extension_rule ∷ roots_rule ∷ []
 
@@ -258,22 +267,24 @@ passes k x =
 abbrev pub samples : List Token
 samples =
     shared.samples
-    ++ sample Name (codes "schema") ∷ sample Name (codes "extend") ∷ sample Name (codes "scalar") ∷ sample Name (codes "type")
-    ∷ sample Name (codes "interface") ∷ sample Name (codes "implements") ∷ sample Name (codes "union") ∷ sample Name (codes "enum")
-    ∷ sample Name (codes "input") ∷ sample Name (codes "directive") ∷ sample Name (codes "repeatable") ∷ sample Name (codes "on")
+    ++ sample Name (codes "schema") ∷ sample Name (codes "extend") ∷ sample Name (codes "scalar")
+    ∷ sample Name (codes "type") ∷ sample Name (codes "interface") ∷ sample Name (codes "implements")
+    ∷ sample Name (codes "union") ∷ sample Name (codes "enum") ∷ sample Name (codes "input")
+    ∷ sample Name (codes "directive") ∷ sample Name (codes "repeatable") ∷ sample Name (codes "on")
     ∷ sample Name (codes "FIELD") ∷ sample Punctuator (codes "&") ∷ sample Punctuator (codes "|") ∷ []
 
 -- the written grammar
 abbrev pub schema_grammar : Grammar
-schema_grammar = record { rows = shared.rows ++ with_tables rules []; good = is_good; check = passes; samples = samples }
+schema_grammar =
+    record { rows = shared.rows ++ with_tables rules []; good = is_good; check = passes; samples = samples }
 
 -- ---- second rules, for a parser with one token of lookahead
 
 -- an optional description and then a schema, a type or a directive definition; or an extension
 abbrev pub item_second : Expr
 item_second =
-    Either (Then (optional (Sym description_symbol)) (Either (Sym schema_symbol) (Either (Sym type_body_symbol) (Sym directive_definition_symbol))))
-    (Sym extension_symbol)
+    Either (Then (optional (Sym description_symbol)) (Either (Sym schema_symbol)
+    (Either (Sym type_body_symbol) (Sym directive_definition_symbol)))) (Sym extension_symbol)
 
 -- `extend`, and then a type or an extension of the schema
 abbrev pub extension_second : Expr
@@ -281,12 +292,14 @@ extension_second = Then (word (codes "extend")) (Either (Sym type_body_symbol) (
 
 -- an optional description, and then a type or a directive definition
 abbrev pub described_second : Expr
-described_second = Then (optional (Sym description_symbol)) (Either (Sym type_body_symbol) (Sym directive_definition_symbol))
+described_second =
+    Then (optional (Sym description_symbol)) (Either (Sym type_body_symbol) (Sym directive_definition_symbol))
 
 abbrev pub second_rules : List Expr
 second_rules =
-    document_rule ∷ item_second ∷ schema_rule ∷ root_type_rule ∷ extension_second ∷ described_second ∷ description_rule ∷ type_body_rule
-    ∷ scalar_rule ∷ object_rule ∷ interface_rule ∷ implements_rule ∷ fields_rule ∷ field_rule ∷ argument_definitions_rule ∷ input_value_rule
+    document_rule ∷ item_second ∷ schema_rule ∷ root_type_rule ∷ extension_second ∷ described_second ∷ description_rule
+    ∷ type_body_rule ∷ scalar_rule ∷ object_rule ∷ interface_rule ∷ implements_rule ∷ fields_rule ∷ field_rule
+    ∷ argument_definitions_rule ∷ input_value_rule
     ∷ union_rule ∷ members_rule ∷ enum_rule ∷ enum_values_rule ∷ enum_value_rule ∷ input_rule ∷ input_fields_rule
     ∷ directive_definition_rule ∷ locations_rule ∷ location_rule ∷ schema_extension_rule ∷ roots_rule ∷ []
 
@@ -294,18 +307,21 @@ second_rules =
 abbrev pub least_extension : ParseTree
 least_extension =
     Both (Leaf (sample Name (codes "extend")))
-    (First (Node type_body_symbol (First (Node scalar_symbol (Both (Leaf (sample Name (codes "scalar"))) (Both (Leaf (sample Name (codes "a")))
+    (First (Node type_body_symbol
+    (First (Node scalar_symbol (Both (Leaf (sample Name (codes "scalar"))) (Both (Leaf (sample Name (codes "a")))
     (Node directives_symbol (More (Node directive_symbol (Both (Leaf (sample Punctuator (codes "@")))
     (Both (Leaf (sample Name (codes "a"))) (Second Nothing)))) Stop))))))))
 
 -- `schema`: the parse tree of what follows `extend`, without operations
 abbrev pub least_schema_extension : ParseTree
-least_schema_extension = Both (Leaf (sample Name (codes "schema"))) (Both (Node directives_symbol Stop) (Second Nothing))
+least_schema_extension =
+    Both (Leaf (sample Name (codes "schema"))) (Both (Node directives_symbol Stop) (Second Nothing))
 
 -- the rows, with another least tree for the n-th symbol
 abbrev pub with_least : ℕ → ParseTree → List Row → List Row
 with_least n x [] = []
-with_least zero x (r ∷ rs) = record { rule = r.rule; nullable = r.nullable; first = r.first; cont = r.cont; rank = r.rank; least = x } ∷ rs
+with_least zero x (r ∷ rs) =
+    record { rule = r.rule; nullable = r.nullable; first = r.first; cont = r.cont; rank = r.rank; least = x } ∷ rs
 with_least (suc n) x (r ∷ rs) = r ∷ with_least n x rs
 
 -- the test of leaves with which the tables are computed
@@ -314,7 +330,8 @@ takes c t = matches c t && is_good c t
 
 unfoldable pub tables : List Row
 tables =
-    with_least 4 least_extension (with_least 26 least_schema_extension (drop shared_symbols (solve takes samples 12 (shared.rules ++ second_rules))))
+    with_least 4 least_extension
+    (with_least 26 least_schema_extension (drop shared_symbols (solve takes samples 12 (shared.rules ++ second_rules))))
 
 abbrev pub second_rows : List Row
 second_rows = shared.rows ++ with_tables second_rules tables
@@ -323,7 +340,8 @@ second_rows = shared.rows ++ with_tables second_rules tables
 abbrev pub changes : List Change
 changes =
     replicate shared_symbols unchanged
-    ++ unchanged ∷ out_of_sides described_symbol ∷ unchanged ∷ unchanged ∷ out_of_head ∷ out_of_head ∷ replicate 22 unchanged
+    ++ unchanged ∷ out_of_sides described_symbol ∷ unchanged ∷ unchanged ∷ out_of_head ∷ out_of_head
+    ∷ replicate 22 unchanged
 
 -- ---- why there are second rules
 

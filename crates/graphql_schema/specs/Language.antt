@@ -31,7 +31,8 @@ keyword_of _ = no_schema.position
 abbrev pub said_of : ParseTree → Option FaultText
 said_of (Node k x) =
     if k == schema_symbol then option_map (said_at (schema_of (Node k x))) (root_fault_of x)
-    else if k == schema_extension_symbol then option_map (said_at (schema_extension_of (Node k x))) (extension_fault_of x)
+    else if k == schema_extension_symbol
+    then option_map (said_at (schema_extension_of (Node k x))) (extension_fault_of x)
     else Some (record { cause = empty_extension; place = keyword_of (extension_of (Node k x)) })
 said_of _ = None
 

@@ -19,7 +19,8 @@ use Rattle.graphql_core.specs.layouts.ValueLayout as values
 -- above what it describes
 abbrev pub description_layout : Layout → ℕ → Option (List ℕ) → List Part
 description_layout style margin None = []
-description_layout style margin (Some text) = gap (spaces margin) ++ (string_layout style margin text ++ gap (codes "\n"))
+description_layout style margin (Some text) =
+    gap (spaces margin) ++ (string_layout style margin text ++ gap (codes "\n"))
 
 -- on the line of what it describes
 abbrev pub inline_layout : Layout → ℕ → Option (List ℕ) → List Part
@@ -52,7 +53,8 @@ members_layout (n ∷ ns) = between (codes "=") ++ joined_names (codes "|") (n �
 
 abbrev pub locations_layout : List DirectiveLocation → List Part
 locations_layout [] = []
-locations_layout (l ∷ ls) = gap (codes " ") ++ (name_part (codes "on") ++ (gap (codes " ") ++ joined_names (codes "|") (map word_of (l ∷ ls))))
+locations_layout (l ∷ ls) =
+    gap (codes " ") ++ (name_part (codes "on") ++ (gap (codes " ") ++ joined_names (codes "|") (map word_of (l ∷ ls))))
 
 -- the lines of some parts in braces; without parts only the end of the line
 abbrev pub block_layout : {A : Type 0} → ℕ → (A → List Part) → List A → List Part
@@ -64,7 +66,8 @@ block_layout margin lines (x ∷ xs) = gap (codes " ") ++ in_braces margin (flat
 abbrev pub input_value_layout : Layout → ℕ → InputValueTree → List Part
 input_value_layout style margin v =
     inline_layout style margin v.description ++ (name_part v.name ++ (punctuator_part (codes ":") ++ (gap (codes " ")
-    ++ (type_layout v.value_type ++ (default_layout style margin v.default_value ++ directives_layout style margin v.directives)))))
+    ++ (type_layout v.value_type
+    ++ (default_layout style margin v.default_value ++ directives_layout style margin v.directives)))))
 
 abbrev pub arguments_layout : Layout → ℕ → List InputValueTree → List Part
 arguments_layout style margin = in_parentheses (input_value_layout style margin)
@@ -75,19 +78,23 @@ input_field_layout style margin v = gap (spaces margin) ++ (input_value_layout s
 
 abbrev pub field_layout : Layout → ℕ → FieldTree → List Part
 field_layout style margin f =
-    description_layout style margin f.description ++ (gap (spaces margin) ++ (name_part f.name ++ (arguments_layout style margin f.arguments
-    ++ (punctuator_part (codes ":") ++ (gap (codes " ") ++ (type_layout f.field_type ++ (directives_layout style margin f.directives ++ gap (codes "\n"))))))))
+    description_layout style margin f.description
+    ++ (gap (spaces margin) ++ (name_part f.name ++ (arguments_layout style margin f.arguments
+    ++ (punctuator_part (codes ":") ++ (gap (codes " ")
+    ++ (type_layout f.field_type ++ (directives_layout style margin f.directives ++ gap (codes "\n"))))))))
 
 abbrev pub enum_value_layout : Layout → ℕ → EnumValueTree → List Part
 enum_value_layout style margin v =
-    gap (spaces margin) ++ (inline_layout style margin v.description ++ (name_part v.name ++ (directives_layout style margin v.directives ++ gap (codes "\n"))))
+    gap (spaces margin) ++ (inline_layout style margin v.description
+    ++ (name_part v.name ++ (directives_layout style margin v.directives ++ gap (codes "\n"))))
 
 -- ---- definitions, which have no margin
 
 -- the line of an operation, if the operation has a type
 abbrev pub root_layout : ℕ → List ℕ → Option (List ℕ) → List Part
 root_layout margin word None = []
-root_layout margin word (Some n) = gap (spaces margin) ++ (name_part word ++ (punctuator_part (codes ":") ++ (gap (codes " ") ++ (name_part n ++ gap (codes "\n")))))
+root_layout margin word (Some n) = gap (spaces margin)
+    ++ (name_part word ++ (punctuator_part (codes ":") ++ (gap (codes " ") ++ (name_part n ++ gap (codes "\n")))))
 
 -- the lines of the operations, in braces
 abbrev pub roots_layout : Layout → (query mutation subscription : Option (List ℕ)) → List Part
@@ -97,12 +104,14 @@ roots_layout style q m s =
 
 -- a schema always has braces
 abbrev pub schema_layout : Layout → SchemaTree → List Part
-schema_layout style s = name_part (codes "schema") ++ (directives_layout style 0 s.directives ++ roots_layout style s.query s.mutation s.subscription)
+schema_layout style s = name_part (codes "schema")
+    ++ (directives_layout style 0 s.directives ++ roots_layout style s.query s.mutation s.subscription)
 
 -- an extension of the schema has braces only if it names an operation
 abbrev pub schema_extension_layout : Layout → SchemaTree → List Part
 schema_extension_layout style s =
-    name_part (codes "extend") ++ (gap (codes " ") ++ (name_part (codes "schema") ++ (directives_layout style 0 s.directives
+    name_part (codes "extend")
+    ++ (gap (codes " ") ++ (name_part (codes "schema") ++ (directives_layout style 0 s.directives
     ++ cond (has_operation s) (roots_layout style s.query s.mutation s.subscription) (gap (codes "\n")))))
 
 -- the keyword of a type
@@ -140,8 +149,10 @@ repeatable_layout true = gap (codes " ") ++ name_part (codes "repeatable")
 
 abbrev pub directive_definition_layout : Layout → DirectiveDefinitionTree → List Part
 directive_definition_layout style d =
-    description_layout style 0 d.description ++ (name_part (codes "directive") ++ (gap (codes " ") ++ (punctuator_part (codes "@") ++ (name_part d.name
-    ++ (arguments_layout style 0 d.arguments ++ (repeatable_layout d.repeatable ++ (locations_layout d.locations ++ gap (codes "\n"))))))))
+    description_layout style 0 d.description
+    ++ (name_part (codes "directive") ++ (gap (codes " ") ++ (punctuator_part (codes "@") ++ (name_part d.name
+    ++ (arguments_layout style 0 d.arguments
+    ++ (repeatable_layout d.repeatable ++ (locations_layout d.locations ++ gap (codes "\n"))))))))
 
 abbrev pub definition_layout : Layout → DefinitionTree → List Part
 definition_layout style (schema d s) = description_layout style 0 d ++ schema_layout style s

@@ -1,5 +1,6 @@
 -- Directive locations, and the words that name them.
-use Rattle.std.specs.Prelude.{◌≡◌, ℕ, Bool, true, false, List, [], ◌∷◌, Option, Some, None, cond, codes, is_some, Result, Ok, IsErr}
+use Rattle.std.specs.Prelude.{◌≡◌, ℕ, Bool, true, false, List, [], ◌∷◌, Option, Some, None, cond, codes, is_some}
+use Rattle.std.specs.Prelude.{Result, Ok, IsErr}
 use Rattle.graphql_core.specs.{same_spelling}
 use Rattle.graphql_schema.specs.declared.location.DirectiveLocation.{DirectiveLocation}
 use Rattle.graphql_schema.specs.declared.location.DirectiveLocation.TheVariants.{Query, Mutation, Subscription}
@@ -47,8 +48,8 @@ is_in_queries _ = false
 abbrev pub all : List DirectiveLocation
 all =
     Query ∷ Mutation ∷ Subscription ∷ Field ∷ FragmentDefinition ∷ FragmentSpread ∷ InlineFragment
-    ∷ Schema ∷ Scalar ∷ Object ∷ FieldDefinition ∷ ArgumentDefinition ∷ Interface ∷ Union ∷ Enum ∷ EnumValue ∷ InputObject
-    ∷ InputFieldDefinition ∷ VariableDefinition ∷ []
+    ∷ Schema ∷ Scalar ∷ Object ∷ FieldDefinition ∷ ArgumentDefinition ∷ Interface ∷ Union ∷ Enum ∷ EnumValue
+    ∷ InputObject ∷ InputFieldDefinition ∷ VariableDefinition ∷ []
 
 -- the location in a list that has this word
 abbrev pub found : List ℕ → List DirectiveLocation → Option DirectiveLocation

@@ -31,7 +31,14 @@ input_value_of (Node k (Both d (Both n (Both c (Both t (Both v ds)))))) = record
   directives = directives_of ds;
 }
 input_value_of _ =
-    record { position = nowhere; description = None; name = []; value_type = named []; default_value = None; directives = [] }
+    record {
+      position = nowhere;
+      description = None;
+      name = [];
+      value_type = named [];
+      default_value = None;
+      directives = [];
+    }
 
 -- the position of a field is also that of its first token
 abbrev pub field_of : ParseTree → FieldTree
@@ -43,7 +50,8 @@ field_of (Node k (Both d (Both n (Both arguments (Both c (Both t ds)))))) = reco
   field_type = type_of t;
   directives = directives_of ds;
 }
-field_of _ = record { position = nowhere; description = None; name = []; arguments = []; field_type = named []; directives = [] }
+field_of _ =
+    record { position = nowhere; description = None; name = []; arguments = []; field_type = named []; directives = [] }
 
 -- and so is the position of a value of an enum
 abbrev pub enum_value_of : ParseTree → EnumValueTree
@@ -93,7 +101,8 @@ schema_extension_of _ = no_schema
 -- ---- types; the position of a type is that of its keyword
 
 abbrev pub body_by : ParseTree → ParseTree → ParseTree → PartsTree → BodyTree
-body_by w n ds parts = record { position = place_at w; name = spelling_at n; directives = directives_of ds; parts = parts }
+body_by w n ds parts =
+    record { position = place_at w; name = spelling_at n; directives = directives_of ds; parts = parts }
 
 abbrev pub no_body : BodyTree
 no_body = record { position = nowhere; name = []; directives = []; parts = scalar }
@@ -117,11 +126,13 @@ union_of (Node k (Both w (Both n (Both ds ms)))) = body_by w n ds (union (option
 union_of _ = no_body
 
 abbrev pub enum_of : ParseTree → BodyTree
-enum_of (Node k (Both w (Both n (Both ds vs)))) = body_by w n ds (enum (optional_list_of (enclosed_of enum_value_of) vs))
+enum_of (Node k (Both w (Both n (Both ds vs)))) =
+    body_by w n ds (enum (optional_list_of (enclosed_of enum_value_of) vs))
 enum_of _ = no_body
 
 abbrev pub input_of : ParseTree → BodyTree
-input_of (Node k (Both w (Both n (Both ds fs)))) = body_by w n ds (input (optional_list_of (enclosed_of input_value_of) fs))
+input_of (Node k (Both w (Both n (Both ds fs)))) =
+    body_by w n ds (input (optional_list_of (enclosed_of input_value_of) fs))
 input_of _ = no_body
 
 abbrev pub body_of : ParseTree → BodyTree

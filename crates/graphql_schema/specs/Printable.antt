@@ -15,18 +15,21 @@ use Rattle.graphql_schema.specs.TreeDepth.{definition_depth}
 
 abbrev pub IsPrintableInputValue : InputValueTree → Type 0
 IsPrintableInputValue v =
-    IsName v.name × IsPrintableType v.value_type × IfSome v.default_value IsPrintableDefault × AllByRecursion IsPrintableDirective v.directives
+    IsName v.name × IsPrintableType v.value_type × IfSome v.default_value IsPrintableDefault
+    × AllByRecursion IsPrintableDirective v.directives
 
 abbrev pub IsPrintableField : FieldTree → Type 0
 IsPrintableField f =
-    IsName f.name × AllByRecursion IsPrintableInputValue f.arguments × IsPrintableType f.field_type × AllByRecursion IsPrintableDirective f.directives
+    IsName f.name × AllByRecursion IsPrintableInputValue f.arguments × IsPrintableType f.field_type
+    × AllByRecursion IsPrintableDirective f.directives
 
 abbrev pub IsPrintableEnumValue : EnumValueTree → Type 0
 IsPrintableEnumValue v = IsName v.name × AllByRecursion IsPrintableDirective v.directives
 
 abbrev pub IsPrintableSchema : SchemaTree → Type 0
 IsPrintableSchema s =
-    AllByRecursion IsPrintableDirective s.directives × IfSome s.query IsName × IfSome s.mutation IsName × IfSome s.subscription IsName
+    AllByRecursion IsPrintableDirective s.directives × IfSome s.query IsName × IfSome s.mutation IsName
+    × IfSome s.subscription IsName
 
 abbrev pub ArePrintableParts : PartsTree → Type 0
 ArePrintableParts scalar = Unit {0}

@@ -141,7 +141,8 @@ erase_field f = record {
 }
 
 abbrev pub erase_enum_value : EnumValueTree → EnumValueTree
-erase_enum_value v = record { position = no_place; description = v.description; name = v.name; directives = erase_all v.directives }
+erase_enum_value v =
+    record { position = no_place; description = v.description; name = v.name; directives = erase_all v.directives }
 
 abbrev pub erase_schema : SchemaTree → SchemaTree
 erase_schema s = record {
@@ -161,7 +162,8 @@ erase_parts (enum vs) = enum (map erase_enum_value vs)
 erase_parts (input fs) = input (map erase_input_value fs)
 
 abbrev pub erase_body : BodyTree → BodyTree
-erase_body b = record { position = no_place; name = b.name; directives = erase_all b.directives; parts = erase_parts b.parts }
+erase_body b =
+    record { position = no_place; name = b.name; directives = erase_all b.directives; parts = erase_parts b.parts }
 
 abbrev pub erase_directive : DirectiveDefinitionTree → DirectiveDefinitionTree
 erase_directive d = record {

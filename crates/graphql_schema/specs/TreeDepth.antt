@@ -7,12 +7,14 @@ use Rattle.graphql_schema.specs.Tree.{type_definition, extension, schema_extensi
 
 abbrev pub input_value_depth : Weights → InputValueTree → ℕ
 input_value_depth w v =
-    max (w.of_description v.description) (max (w.of_type v.value_type) (max (default_depth w v.default_value) (directives_depth w v.directives)))
+    max (w.of_description v.description)
+    (max (w.of_type v.value_type) (max (default_depth w v.default_value) (directives_depth w v.directives)))
 
 abbrev pub field_depth : Weights → FieldTree → ℕ
 field_depth w f =
     max (w.of_description f.description)
-    (max (most_around w.around_definitions (input_value_depth w) f.arguments) (max (w.of_type f.field_type) (directives_depth w f.directives)))
+    (max (most_around w.around_definitions (input_value_depth w) f.arguments)
+    (max (w.of_type f.field_type) (directives_depth w f.directives)))
 
 abbrev pub enum_value_depth : Weights → EnumValueTree → ℕ
 enum_value_depth w v = max (w.of_description v.description) (directives_depth w v.directives)
@@ -42,4 +44,5 @@ definition_depth w (schema d s) = max (w.of_description d) (schema_depth w s)
 definition_depth w (type_definition d b) = max (w.of_description d) (body_depth w b)
 definition_depth w (extension b) = body_depth w b
 definition_depth w (schema_extension s) = schema_extension_depth w s
-definition_depth w (directive d) = max (w.of_description d.description) (most_around w.around_definitions (input_value_depth w) d.arguments)
+definition_depth w (directive d) =
+    max (w.of_description d.description) (most_around w.around_definitions (input_value_depth w) d.arguments)

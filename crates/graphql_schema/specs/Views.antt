@@ -67,7 +67,8 @@ module _ {N T : Type 0} (bytes : T → List ℕ) where
   -- ---- types; a definition and an extension of the same kind have the same body
 
   abbrev pub body_view : Pos → T → List (Directive N T) → PartsTree → BodyTree
-  body_view p n ds parts = record { position = place_of p; name = bytes n; directives = directives_view bytes ds; parts = parts }
+  body_view p n ds parts =
+      record { position = place_of p; name = bytes n; directives = directives_view bytes ds; parts = parts }
 
   abbrev pub object_parts : List T → List (Field N T) → PartsTree
   object_parts is fs = object (map bytes is) (map field_view fs)
@@ -82,7 +83,8 @@ module _ {N T : Type 0} (bytes : T → List ℕ) where
   input_parts fs = input (map input_value_view fs)
 
   abbrev pub scalar_view : ScalarType N T → DefinitionTree
-  scalar_view t = type_definition (option_map string_bytes t.description) (body_view t.position t.name t.directives.items scalar)
+  scalar_view t =
+      type_definition (option_map string_bytes t.description) (body_view t.position t.name t.directives.items scalar)
 
   abbrev pub object_view : ObjectType N T → DefinitionTree
   object_view t =
@@ -95,13 +97,16 @@ module _ {N T : Type 0} (bytes : T → List ℕ) where
       (body_view t.position t.name t.directives.items (interface_parts t.implements_interfaces.items t.fields.items))
 
   abbrev pub union_view : UnionType N T → DefinitionTree
-  union_view t = type_definition (option_map string_bytes t.description) (body_view t.position t.name t.directives.items (union (map bytes t.types.items)))
+  union_view t = type_definition (option_map string_bytes t.description)
+      (body_view t.position t.name t.directives.items (union (map bytes t.types.items)))
 
   abbrev pub enum_view : EnumType N T → DefinitionTree
-  enum_view t = type_definition (option_map string_bytes t.description) (body_view t.position t.name t.directives.items (enum_parts t.values.items))
+  enum_view t = type_definition (option_map string_bytes t.description)
+      (body_view t.position t.name t.directives.items (enum_parts t.values.items))
 
   abbrev pub input_view : InputObjectType N T → DefinitionTree
-  input_view t = type_definition (option_map string_bytes t.description) (body_view t.position t.name t.directives.items (input_parts t.fields.items))
+  input_view t = type_definition (option_map string_bytes t.description)
+      (body_view t.position t.name t.directives.items (input_parts t.fields.items))
 
   abbrev pub type_definition_view : TypeDefinition N T → DefinitionTree
   type_definition_view (types.Scalar t) = scalar_view t
@@ -117,10 +122,12 @@ module _ {N T : Type 0} (bytes : T → List ℕ) where
   scalar_extension_view t = extension (body_view t.position t.name t.directives.items scalar)
 
   abbrev pub object_extension_view : ObjectTypeExtension N T → DefinitionTree
-  object_extension_view t = extension (body_view t.position t.name t.directives.items (object_parts t.implements_interfaces.items t.fields.items))
+  object_extension_view t = extension
+      (body_view t.position t.name t.directives.items (object_parts t.implements_interfaces.items t.fields.items))
 
   abbrev pub interface_extension_view : InterfaceTypeExtension N T → DefinitionTree
-  interface_extension_view t = extension (body_view t.position t.name t.directives.items (interface_parts t.implements_interfaces.items t.fields.items))
+  interface_extension_view t = extension
+      (body_view t.position t.name t.directives.items (interface_parts t.implements_interfaces.items t.fields.items))
 
   abbrev pub union_extension_view : UnionTypeExtension N T → DefinitionTree
   union_extension_view t = extension (body_view t.position t.name t.directives.items (union (map bytes t.types.items)))

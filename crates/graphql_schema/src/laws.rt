@@ -16,19 +16,22 @@ ghost use Rattle.graphql_schema.specs.{Reads, ReadsNode, refusals, second_rows};
 /// grammar accepts. With the offending token or end they are not. The plain grammar also accepts literals without a
 /// value and nodes that are rejected. The theorem holds for an input and for the rest of a stream.
 pub fn none_goes_on_with_an_unexpected_item()
-    ensures { (items : List Item) (f : FaultText) → IsLeastFault schemas (split items) f → is_unexpected f.cause ≡ true → NoneGoesOn schemas (split items) f }
+    ensures { (items : List Item) (f : FaultText) → IsLeastFault schemas (split items) f → is_unexpected f.cause ≡ true
+        → NoneGoesOn schemas (split items) f }
 {}
 
 /// Schemas can also be minified. A minified source parses as its original does, ignoring positions: both to equal
 /// documents, or both to an error.
 pub fn minified_texts_are_parsed_alike()
-    ensures document { (source text : List ℕ) (d : DocumentTree) → IsMinified source text → IsDocumentOf source d → IsReadBack text d }
-    ensures no_other { (source text : List ℕ) (d : DocumentTree) → IsMinified source text → IsDocumentOf text d → IsReadBack source d }
-    ensures alike { (source text : List ℕ) (r s : Result DocumentTree Refusal) → IsMinified source text → IsParsed schemas source r → IsParsed schemas text s
-        → AreAlike schemas r s }
+    ensures document { (source text : List ℕ) (d : DocumentTree) → IsMinified source text
+        → IsDocumentOf source d → IsReadBack text d }
+    ensures no_other { (source text : List ℕ) (d : DocumentTree) → IsMinified source text
+        → IsDocumentOf text d → IsReadBack source d }
+    ensures alike { (source text : List ℕ) (r s : Result DocumentTree Refusal) → IsMinified source text
+        → IsParsed schemas source r → IsParsed schemas text s → AreAlike schemas r s }
     // The two errors have the same cause.
-    ensures one_cause { (source text : List ℕ) (f g : FaultText) → IsMinified source text → IsLeastFaultOf source f → IsLeastFaultOf text g
-        → f.cause ≡ g.cause }
+    ensures one_cause { (source text : List ℕ) (f g : FaultText) → IsMinified source text → IsLeastFaultOf source f
+        → IsLeastFaultOf text g → f.cause ≡ g.cause }
 {}
 
 /// What the error of a rejected node says is in the input, at the error's position. For an unknown or a repeated
@@ -36,7 +39,8 @@ pub fn minified_texts_are_parsed_alike()
 /// that adds nothing, a name is there, and the token before it is `extend`.
 pub fn rejected_nodes_are_in_the_input()
     // of each error, with its index
-    ensures each { (items : List Item) (f : FaultText) (n : ℕ) → IsFaultAt schemas (split items) f n → RefersTo (split items).tokens n f }
+    ensures each { (items : List Item) (f : FaultText) (n : ℕ) → IsFaultAt schemas (split items) f n
+        → RefersTo (split items).tokens n f }
     // of the error with which an input is rejected
     ensures first { (text : List ℕ) (items : List Item) (r : Refusal) → HasItems text items → IsRefusalOf schemas text r
         → Tells (λ f. (n : ℕ) × RefersTo (split items).tokens n f) r }
@@ -46,10 +50,12 @@ pub fn rejected_nodes_are_in_the_input()
 /// returned value is what a parse tree denotes, and the symbol derives exactly the tokens taken by that tree. No list
 /// that the symbol derives begins with these tokens and the next. Or the error is the first error for the symbol.
 pub fn readers_return_what_is_derived<V, M>()
-    ensures plain { (k : ℕ) (old new : Items) (view : V → M) (means : ParseTree → M) (r : Result V ReadError) → k < length second_rows
-        → Reads (Sym k) old new (λ v x. view v ≡ means x) r → ReturnsDerived schemas.grammar (Sym k) old new reason_of (λ v x. view v ≡ means x) r }
+    ensures plain { (k : ℕ) (old new : Items) (view : V → M) (means : ParseTree → M) (r : Result V ReadError)
+        → k < length second_rows → Reads (Sym k) old new (λ v x. view v ≡ means x) r
+        → ReturnsDerived schemas.grammar (Sym k) old new reason_of (λ v x. view v ≡ means x) r }
     // of readers that can reject a node
-    ensures nodes { (k : ℕ) (old new : Items) (view : V → M) (means : ParseTree → M) (r : Result V (NodeError InvalidNode)) → k < length second_rows
-        → ReadsNode (Sym k) old new (λ v x. view v ≡ means x) r
+    ensures nodes { (k : ℕ) (old new : Items) (view : V → M) (means : ParseTree → M)
+        (r : Result V (NodeError InvalidNode))
+        → k < length second_rows → ReadsNode (Sym k) old new (λ v x. view v ≡ means x) r
         → ReturnsDerived schemas.grammar (Sym k) old new (halt_reason refusals) (λ v x. view v ≡ means x) r }
 {}

@@ -108,7 +108,8 @@ module _ (g : Grammar) (good : (c : Class) (t u : Token) → SameLeaf c t u → 
   -- a node that is rejected between the tokens, and the same node of the other tokens
   abbrev RefusedAlike : List Token → ℕ → ParseTree → ℕ → Type 0
   RefusedAlike ts k x n =
-      (before us : List Token) × (s : SameTrees) × (left_tree s ≡ x) × IsRefused g e ts k (right_tree s) before us × (length (before ++ leaves (right_tree s)) ≡ n)
+      (before us : List Token) × (s : SameTrees) × (left_tree s ≡ x) × IsRefused g e ts k (right_tree s) before us
+      × (length (before ++ leaves (right_tree s)) ≡ n)
 
   pub refused_alike : (ts others : List Token) → Alike others ts → (k : ℕ) (x : ParseTree) (before us : List Token) → IsRefused g e ts k x before us
       → RefusedAlike others k x (length (before ++ leaves x))

@@ -51,8 +51,9 @@ module _ {D R : Type 0} (l : Language D) (w : Refusals R) where
   }
 
   -- so is an error of a first part, if some list matches what comes after it
-  pub halts_before : {A B : Type 0} {a b : Expr} (y : ParseTree) (old new : Items) (P : A → ParseTree → Type 0) (Q : B → ParseTree → Type 0) (r : Result B (NodeError R))
-      (d : NodeError R) → Fits (lax (reading l)) b y → Reads l w a old new P (Err d) → IsErrAnd r (λ x. x ≡ d) → Reads l w (Then a b) old new Q r
+  pub halts_before : {A B : Type 0} {a b : Expr} (y : ParseTree) (old new : Items) (P : A → ParseTree → Type 0) (Q : B → ParseTree → Type 0)
+      (r : Result B (NodeError R)) (d : NodeError R)
+      → Fits (lax (reading l)) b y → Reads l w a old new P (Err d) → IsErrAnd r (λ x. x ≡ d) → Reads l w (Then a b) old new Q r
   halts_before {a = a} {b = b} y old new P Q r d fits h up = record {
     gives = gives_error_by (halt_reason w) (reading l) (Then a b) old new _ r d
         (Stops-before (reading l) a b old.tokens new.tokens (halt_reason w d) h.gives) up;
@@ -60,8 +61,9 @@ module _ {D R : Type 0} (l : Language D) (w : Refusals R) where
   }
 
   -- so is an error of a part that rejects no node
-  pub stops_led : {A : Type 0} {e f : Expr} {inside : ParseTree → ParseTree} {us : List Token} (old new : Items) (P : A → ParseTree → Type 0) (r : Result A (NodeError R))
-      (d : ReadError) → steps.Leads (reading l) e f inside old.tokens us → Stops (reading l) f us new.tokens (reason_of d)
+  pub stops_led : {A : Type 0} {e f : Expr} {inside : ParseTree → ParseTree}
+      {us : List Token} (old new : Items) (P : A → ParseTree → Type 0) (r : Result A (NodeError R)) (d : ReadError)
+      → steps.Leads (reading l) e f inside old.tokens us → Stops (reading l) f us new.tokens (reason_of d)
       → IsErrAnd r (λ x. x ≡ Stopped d) → Reads l w e old new P r
   stops_led {e = e} old new P r d led stops up = record {
     gives = gives_error_by (halt_reason w) (reading l) e old new _ r (Stopped d) (led.stops new.tokens (reason_of d) stops) up;

@@ -76,7 +76,8 @@ module _ (g : Grammar) (ok : is_ll1 g.rows ≡ true) where
   -- what comes before in the plain grammar is what the reader takes
   pub same_rest : (a : Expr) → decides g.rows a ≡ true → (ts us w : List Token) (x y : ParseTree) → Takes g a ts x us → Fits (lax g) a y → ts ≡ leaves y ++ w
       → sees (cont g.rows a) (peek w) ≡ false → us ≡ w
-  same_rest a d ts us w x y p f e n = (same-take (lax g) (takes-lax g p) (subst (λ (l : List Token). Takes (lax g) a l y w) (sym e) (complete (lax g) ok f d w n))).1
+  same_rest a d ts us w x y p f e n =
+      (same-take (lax g) (takes-lax g p) (subst (λ (l : List Token). Takes (lax g) a l y w) (sym e) (complete (lax g) ok f d w n))).1
 
   pub goes-left : (a b : Expr) (item : Option Token) → sees (first g.rows a) item ≡ true → choose g.rows a b item ≡ Left
   goes-left a b item h = rw h refl

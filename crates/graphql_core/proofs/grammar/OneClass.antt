@@ -160,7 +160,8 @@ classes_alike g (takes_stop c) q (t ∷ ks) r s h k = absurd cc
 classes_alike g (takes_more c p q) (takes_stop d) (t ∷ ks) r s h k = absurd cc
 classes_alike g (takes_more {a = a} {vs = vs} {x = x} {y = y} c p q) (takes_more {vs = vs'} {x = x'} {y = y'} d p' q') (t ∷ ks) r s h k =
     elim (parts g p p' (leaves y) (leaves y') vs vs' (t ∷ ks) r s (takes-leaves g q) (takes-leaves g q') h k) [
-      | inl i ↦ alike-more (classes g a x) (classes g a x') (classes g (Many a) y) (classes g (Many a) y') (t ∷ ks) (classes_alike g p p' (t ∷ ks) i.0 i.1 i.2 i.3)
+      | inl i ↦
+          alike-more (classes g a x) (classes g a x') (classes g (Many a) y) (classes g (Many a) y') (t ∷ ks) (classes_alike g p p' (t ∷ ks) i.0 i.1 i.2 i.3)
       | inr i ↦ subst (λ (z : ParseTree). Alike (classes g a x ++ classes g (Many a) y) (classes g a z ++ classes g (Many a) y') (t ∷ ks)) i.1
           (alike-after (classes g a x) (classes g (Many a) y) (classes g (Many a) y') (leaves x) i.0 (t ∷ ks) (classes-length g (takes-fits g p)) i.2
           (classes_alike g q q' i.0 r s i.3 i.4))

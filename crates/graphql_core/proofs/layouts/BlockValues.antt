@@ -389,8 +389,8 @@ joined_lines l (m ∷ ls) = ap₂ (λ (x y : List ℕ). x ++ 10 ∷ y) (unescape
 
 abbrev HasForm : List ℕ → List (List ℕ) → Type 0
 HasForm text ls =
-    (is_blank_line (first_line ls) ≡ false) × (is_blank_line (last_line ls) ≡ false) × (list_all IsNeat ls ≡ true) × (list_all (λ l. not (ends_in_return l)) ls ≡ true)
-    × (list_any is_sharp ls ≡ true)
+    (is_blank_line (first_line ls) ≡ false) × (is_blank_line (last_line ls) ≡ false) × (list_all IsNeat ls ≡ true)
+    × (list_all (λ l. not (ends_in_return l)) ls ≡ true) × (list_any is_sharp ls ≡ true)
 
 lines_value : (n margin : ℕ) (text : List ℕ) (ls : List (List ℕ)) → lines_of text ≡ ls → HasForm text ls
     → value_of_lines ([] ∷ (map (indented n) ls ++ tail (spaces margin))) ≡ text
@@ -405,7 +405,8 @@ has_form text h =
     let ls = lines_of text in
     let (first, h3) = and_parts (not (is_blank_line (first_line ls)))
     (not (is_blank_line (last_line ls)) && (list_all IsNeat ls && (list_all (λ l. not (ends_in_return l)) ls && list_any is_sharp ls))) h in
-    let (last, h4) = and_parts (not (is_blank_line (last_line ls))) (list_all IsNeat ls && (list_all (λ l. not (ends_in_return l)) ls && list_any is_sharp ls)) h3 in
+    let (last, h4) =
+    and_parts (not (is_blank_line (last_line ls))) (list_all IsNeat ls && (list_all (λ l. not (ends_in_return l)) ls && list_any is_sharp ls)) h3 in
     let (neat, h5) = and_parts (list_all IsNeat ls) (list_all (λ l. not (ends_in_return l)) ls && list_any is_sharp ls) h4 in
     let (no_return, sharp) = and_parts (list_all (λ l. not (ends_in_return l)) ls) (list_any is_sharp ls) h5 in
     (negated _ first, negated _ last, neat, no_return, sharp)

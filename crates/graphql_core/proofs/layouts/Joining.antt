@@ -118,7 +118,8 @@ cut_blank (b ∷ text) h ps d k w deep =
       | inr n ↦ elim (cases_eq b 10) [
         | inl e ↦ subst (λ (c : ℕ). IsCut w (ignored (c ∷ text) ∷ ps)) (sym e) (cut_one (10 ∷ []) Down text ps w ignored_line_feed (more _ deep))
         | inr m ↦ let e : b ≡ 44 =
-            grind (arith, nat_tests) in subst (λ (c : ℕ). IsCut w (ignored (c ∷ text) ∷ ps)) (sym e) (cut_one (44 ∷ []) (Over 1) text ps w ignored_comma (more _ deep))
+            grind (arith, nat_tests) in
+            subst (λ (c : ℕ). IsCut w (ignored (c ∷ text) ∷ ps)) (sym e) (cut_one (44 ∷ []) (Over 1) text ps w ignored_comma (more _ deep))
       ]
     ]
 

@@ -14,7 +14,8 @@ module _ {A : Type 0} (erased : A → A) (lines : A → List Part) (same : (x : 
 
   pub in_parentheses_alike : (xs : List A) → in_parentheses lines (map erased xs) ≡ in_parentheses lines xs
   in_parentheses_alike [] = refl
-  in_parentheses_alike (x ∷ xs) = ap₂ (λ a b. punctuator_part (codes "(") ++ (a ++ (b ++ punctuator_part (codes ")")))) (same x) (each_after_alike (codes ", ") xs)
+  in_parentheses_alike (x ∷ xs) =
+      ap₂ (λ a b. punctuator_part (codes "(") ++ (a ++ (b ++ punctuator_part (codes ")")))) (same x) (each_after_alike (codes ", ") xs)
 
 pub directives_alike : (style : Layout) (margin : ℕ) (ds : List DirectiveTree)
     → directives_layout style margin (erase_all ds) ≡ directives_layout style margin ds

@@ -79,7 +79,8 @@ punctuator_no_digit b h = grind (arith, nat_tests)
 exponent_no_digit : (xs : List ℕ) → is_exponent xs ≡ true → NoDigit xs
 exponent_no_digit [] h = absurd cc
 exponent_no_digit (b ∷ []) h = absurd cc
-exponent_no_digit (b ∷ c ∷ cs) h = punctuator_no_digit b (and_parts (b == 101 || b == 69) ((c == 43 || c == 45 || is_in 49 56 c) && list_all is_ascii_digit cs) h).0
+exponent_no_digit (b ∷ c ∷ cs) h =
+    punctuator_no_digit b (and_parts (b == 101 || b == 69) ((c == 43 || c == 45 || is_in 49 56 c) && list_all is_ascii_digit cs) h).0
 
 no_dot : (b : ℕ) → (b == 101 || b == 69) ≡ true → (b == 46) ≡ false
 no_dot b h = grind (arith, nat_tests)

@@ -132,12 +132,14 @@ takes_none g a ts n unseen = takes_second (picks_none g.rows a (trees.peek ts) n
 -- ---- errors
 
 -- an error of any type is returned, with the reason of that error
-pub answered_error : {A E : Type 0} (reason : E → Option Reason) (g : Grammar) (e : Expr) (ts us : List Token) (P : A → ParseTree → Type 0) (r : Result A E) (d : E)
+pub answered_error : {A E : Type 0} (reason : E → Option Reason) (g : Grammar) (e : Expr) (ts us : List Token) (P : A → ParseTree → Type 0)
+    (r : Result A E) (d : E)
     → Stops g e ts us (reason d) → IsErrAnd r (λ x. x ≡ d) → Answered reason g e ts us P r
 answered_error reason g e ts us P (Ok v) d stops h = absurd h
 answered_error reason g e ts us P (Err x) d stops h = rw h stops
 
-pub gives_error_by : {A E : Type 0} (reason : E → Option Reason) (g : Grammar) (e : Expr) (old new : Items) (P : A → ParseTree → Type 0) (r : Result A E) (d : E)
+pub gives_error_by : {A E : Type 0} (reason : E → Option Reason) (g : Grammar) (e : Expr) (old new : Items) (P : A → ParseTree → Type 0)
+    (r : Result A E) (d : E)
     → Stops g e old.tokens new.tokens (reason d) → IsErrAnd r (λ x. x ≡ d) → GivesBy reason g e old new P r
 gives_error_by reason g e old new P r d stops h = answered_error reason g e old.tokens new.tokens P r d stops h
 

@@ -106,11 +106,13 @@ gives_led vs P Q (Err d) l means h = l.stops vs (reason_of d) h
 
 -- An error is returned: in the last part, in a part before others, or for a missing token.
 module _ {A : Type 0} {g : Grammar} {e : Expr} where
-  pub fails_last : {f : Expr} {inside : ParseTree → ParseTree} {ts us : List Token} (vs : List Token) (P : A → ParseTree → Type 0) (r : Result A ReadError) (d : ReadError)
+  pub fails_last : {f : Expr} {inside : ParseTree → ParseTree} {ts us : List Token} (vs : List Token) (P : A → ParseTree → Type 0)
+      (r : Result A ReadError) (d : ReadError)
       → Leads g e f inside ts us → Stops g f us vs (reason_of d) → IsErrAnd r (λ x. x ≡ d) → Answered reason_of g e ts vs P r
   fails_last vs P r d l h up = answered_error reason_of g e _ vs P r d (l.stops vs (reason_of d) h) up
 
-  pub fails : {a b : Expr} {inside : ParseTree → ParseTree} {ts us : List Token} (vs : List Token) (P : A → ParseTree → Type 0) (r : Result A ReadError) (d : ReadError)
+  pub fails : {a b : Expr} {inside : ParseTree → ParseTree} {ts us : List Token} (vs : List Token) (P : A → ParseTree → Type 0)
+      (r : Result A ReadError) (d : ReadError)
       → Leads g e (Then a b) inside ts us → Stops g a us vs (reason_of d) → IsErrAnd r (λ x. x ≡ d) → Answered reason_of g e ts vs P r
   fails vs P r d l h up = answered_error reason_of g e _ vs P r d (before l vs (reason_of d) h) up
 
@@ -119,7 +121,8 @@ module _ {A : Type 0} {g : Grammar} {e : Expr} where
       → Leads g e (Then (One c) b) inside ts mid.tokens → TakesNone c mid new d → IsErrAnd r (λ x. x ≡ d) → Answered reason_of g e ts new.tokens P r
   lacks {c = c} mid new P r d l h up = fails new.tokens P r d l (stops_one g c mid new d h) up
 
-  pub lacks_last : {c : Class} {inside : ParseTree → ParseTree} {ts : List Token} (mid new : Items) (P : A → ParseTree → Type 0) (r : Result A ReadError) (d : ReadError)
+  pub lacks_last : {c : Class} {inside : ParseTree → ParseTree} {ts : List Token} (mid new : Items) (P : A → ParseTree → Type 0)
+      (r : Result A ReadError) (d : ReadError)
       → Leads g e (One c) inside ts mid.tokens → TakesNone c mid new d → IsErrAnd r (λ x. x ≡ d) → Answered reason_of g e ts new.tokens P r
   lacks_last {c = c} mid new P r d l h up = fails_last new.tokens P r d l (stops_one g c mid new d h) up
 

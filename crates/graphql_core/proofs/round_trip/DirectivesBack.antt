@@ -60,7 +60,8 @@ module _ (style : Layout) where
 
   -- what comes after the first space of an optional default
   pub default_back : (margin : ℕ) (v : ValueTree) (d : ℕ) → IsPrintableDefault v → IsLawful v → d + value_brackets v ≤ 50
-      → Back shared (Sym default_symbol) false d (punctuator_part (codes "=") ++ (gap (codes " ") ++ value_layout style margin v)) true d (λ x. default_of x ≡ v)
+      → Back shared (Sym default_symbol) false d (punctuator_part (codes "=") ++ (gap (codes " ") ++ value_layout style margin v)) true
+      d (λ x. default_of x ≡ v)
   default_back margin v d (is, constant) lawful deep =
       node_back (λ x. refl) (both_back (punctuator_back (codes "=") (refl, refl) (λ p. refl))
       (gap_back refl (value_back style Constant margin v d is lawful constant deep)) (λ e x he hx. hx))

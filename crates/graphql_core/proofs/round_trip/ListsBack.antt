@@ -40,12 +40,12 @@ pub in_parentheses_back : {A : Type 0} {g : Grammar} {one : Expr} {k : ℕ} (f :
 in_parentheses_back f erase lines P Q brackets rule passes opens closes each [] d is law deep = second_back (nothing_back refl)
 in_parentheses_back {g = g} {k = k} f erase lines P Q brackets rule passes opens closes each (x ∷ xs) d is law deep =
     let ps : List Part = punctuator_part (codes "(") ++ ((lines x ++ after_commas lines xs) ++ punctuator_part (codes ")")) in
-    same_parts ps _ (ap (λ (l : List Part). punctuator_part (codes "(") ++ l) (sym (append_assoc (lines x) (after_commas lines xs) (punctuator_part (codes ")")))))
+    same_parts ps _
+    (ap (λ (l : List Part). punctuator_part (codes "(") ++ l) (sym (append_assoc (lines x) (after_commas lines xs) (punctuator_part (codes ")")))))
     (first_back (node_back passes (subst (λ (e : Expr). Back g e true d ps true d (λ y. map erase (enclosed_of f (Node k y)) ≡ map erase (x ∷ xs))) (sym rule)
     (as_word_back (three_back {Q = λ y. map erase (each_of f y) ≡ map erase (x ∷ xs)} (open_back (codes "(") (refl, refl) (omega arith) opens)
     (some_back (d + 1) f erase lines P Q brackets (λ a p q b. each a (d + 1) p q b) 44 (32 ∷ []) refl x xs is law (omega arith))
-    (close_back (codes ")") (refl, refl) closes)
-    (λ o y c ho hy hc. hy))))))
+    (close_back (codes ")") (refl, refl) closes) (λ o y c ho hy hc. hy))))))
 
 -- a layout that the grammar derives as a document parses back to that document, ignoring positions
 pub document_back : {D : Type 0} (l : Language D) {q : Bool} {f : ℕ} {ps : List Part} (t : D)

@@ -185,11 +185,12 @@ pub five_back : {g : Grammar} {a b c n m : Expr} {p q r s u v : Bool} {d e f h i
     → ((x y z w k : ParseTree) → P x → Q y → R z → S w → T k → V (Both x (Both y (Both z (Both w k)))))
     → Back g (Then a (Then b (Then c (Then n m)))) p d (ps ++ (qs ++ (rs ++ (ss ++ us)))) v j V
 five_back {Q = Q} {R = R} {S = S} {T = T} {V = V} k l m o t all =
-    both_back k (four_back {T = λ (v : ParseTree). (y : ParseTree) × (z : ParseTree) × (w : ParseTree) × (u : ParseTree) × (v ≡ Both y (Both z (Both w u))) × Q y × R z × S w
-    × T u} l m o t (λ y z w u hy hz hw hu. (y, z, w, u, refl, hy, hz, hw, hu)))
+    both_back k (four_back {T = λ (v : ParseTree). (y : ParseTree) × (z : ParseTree) × (w : ParseTree) × (u : ParseTree) × (v ≡ Both y (Both z (Both w u)))
+    × Q y × R z × S w × T u} l m o t (λ y z w u hy hz hw hu. (y, z, w, u, refl, hy, hz, hw, hu)))
     (λ x v hx j. subst (λ (v : ParseTree). V (Both x v)) (sym j.4) (all x j.0 j.1 j.2 j.3 hx j.5 j.6 j.7 j.8))
 
-pub six_back : {g : Grammar} {a b c n m l : Expr} {p q r s u v w : Bool} {d e f h i j k : ℕ} {ps qs rs ss us vs : List Part} {P Q R S T V W : ParseTree → Type 0}
+pub six_back : {g : Grammar} {a b c n m l : Expr} {p q r s u v w : Bool} {d e f h i j k : ℕ}
+    {ps qs rs ss us vs : List Part} {P Q R S T V W : ParseTree → Type 0}
     → Back g a p d ps q e P → Back g b q e qs r f Q → Back g c r f rs s h R → Back g n s h ss u i S → Back g m u i us v j T → Back g l v j vs w k V
     → ((x y z t o c : ParseTree) → P x → Q y → R z → S t → T o → V c → W (Both x (Both y (Both z (Both t (Both o c))))))
     → Back g (Then a (Then b (Then c (Then n (Then m l))))) p d (ps ++ (qs ++ (rs ++ (ss ++ (us ++ vs))))) w k W

@@ -89,7 +89,8 @@ module _ (g : Grammar) (rs : List Row) (cs : List Change) (k : ℕ) (d s a p q :
   fit_back _ (fits_second (fits_first h)) = fits_second h
   fit_back _ (fits_second (fits_second {y = z} h)) =
       let i = in_node z h in
-      subst (λ (y : ParseTree). Fits (with_rows g rs cs) second (the_change.to_second (Second (Second y)))) (sym i.2) (fits_first (fits_both i.3 (fits_second i.4)))
+      subst (λ (y : ParseTree). Fits (with_rows g rs cs) second (the_change.to_second (Second (Second y)))) (sym i.2)
+      (fits_first (fits_both i.3 (fits_second i.4)))
 
   again : (y : ParseTree) → Fits (with_rows g rs cs) rule y → the_change.to_written (written cs (the_change.to_second y)) ≡ written cs y
   again _ (fits_first (fits_both f h)) = refl

@@ -163,9 +163,9 @@ module _ (qs : List Piece) (stop rest : List ℕ) (others : List Token) where
 
   word_kept : (b : Bool) (kind : Kind) (t : Nesting) (bytes text : List ℕ) (w : Where) (front : List Token) → is_too_deep t w ≡ b
       → text ≡ bytes ++ rest → Stands bytes (Word kind t) rest
-      → (split (token_then b (item_at (LexicalError too_deep) w) (item_at (TokenContent kind bytes) w) (items_of (past_token t bytes w) qs stop))).tokens ≡ front ++ others
-      → EndsInMark front → KeptLater
-      → TokensKept w text (token_then b (item_at (LexicalError too_deep) w) (item_at (TokenContent kind bytes) w) (items_of (past_token t bytes w) qs stop)) front
+      → (split (token_then b (item_at (LexicalError too_deep) w) (item_at (TokenContent kind bytes) w) (items_of (past_token t bytes w) qs stop))).tokens
+      ≡ front ++ others → EndsInMark front → KeptLater → TokensKept w text
+      (token_then b (item_at (LexicalError too_deep) w) (item_at (TokenContent kind bytes) w) (items_of (past_token t bytes w) qs stop)) front
   word_kept b kind t bytes text w [] deep e st is ends f = absurd ends
   word_kept true kind t bytes text w (u ∷ us) deep e st is ends f = absurd cc
   word_kept false kind t bytes text w (u ∷ []) deep e st is ends f =

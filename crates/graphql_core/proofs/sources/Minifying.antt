@@ -22,7 +22,8 @@ use Rattle.graphql_core.specs.declared.tokenizer.piece.Nesting.TheVariants.{Leve
 -- ---- what can follow a token
 
 -- if a token is found before one input, it is found before any other input that can follow it
-pub stands_before : {s : List ℕ} {k : Kind} {n : Nesting} {rest : List ℕ} → Stands s (Word k n) rest → (more : List ℕ) → MayFollow k more → Stands s (Word k n) more
+pub stands_before : {s : List ℕ} {k : Kind} {n : Nesting} {rest : List ℕ} → Stands s (Word k n) rest → (more : List ℕ) → MayFollow k more
+    → Stands s (Word k n) more
 stands_before (name_token first continues ends) more f = name_token first continues f
 stands_before (punctuator_token m) more f = punctuator_token m
 stands_before spread_token more f = spread_token

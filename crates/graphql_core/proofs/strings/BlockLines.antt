@@ -104,14 +104,16 @@ pub through_text : (ls : List (List ℕ)) (k n : ℕ) (l : List ℕ) → k < len
     → k + 1 ≡ n - suffix_len is_blank_line (take n ls)
 through_text ls k n l h e step blank =
     let before : n - 1 ≡ k = omega arith in
-    let none = suffix_len-take_no is_blank_line ls n l (omega arith) (omega arith) (ap (λ j. is_blank_line (get_or ls j l)) before ∙ ap is_blank_line (sym e) ∙ blank) in
+    let none =
+    suffix_len-take_no is_blank_line ls n l (omega arith) (omega arith) (ap (λ j. is_blank_line (get_or ls j l)) before ∙ ap is_blank_line (sym e) ∙ blank) in
     omega (arith, none)
 
 pub through_blank : (ls : List (List ℕ)) (k n : ℕ) (l : List ℕ) → k < length ls → l ≡ get_or ls k l → n ≡ k + 1 → is_blank_line l ≡ true
     → k - suffix_len is_blank_line (take k ls) ≡ n - suffix_len is_blank_line (take n ls)
 through_blank ls k n l h e step blank =
     let before : n - 1 ≡ k = omega arith in
-    let one = suffix_len-take_yes is_blank_line ls n l (omega arith) (omega arith) (ap (λ j. is_blank_line (get_or ls j l)) before ∙ ap is_blank_line (sym e) ∙ blank) in
+    let one =
+    suffix_len-take_yes is_blank_line ls n l (omega arith) (omega arith) (ap (λ j. is_blank_line (get_or ls j l)) before ∙ ap is_blank_line (sym e) ∙ blank) in
     let same = ap (λ j. suffix_len is_blank_line (take j ls)) before in
     omega (arith, one, same)
 

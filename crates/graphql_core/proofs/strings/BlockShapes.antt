@@ -139,7 +139,8 @@ least_text xs l h =
     ap (λ ys. reduce min (map indent ys)) (filter-append has_text xs (l ∷ []) ∙ ap (λ ys. filter has_text xs ++ ys) one)
     ∙ ap (reduce min) (map-append indent (filter has_text xs) (l ∷ [])) ∙ reduce_more (map indent (filter has_text xs)) (indent l)
 
-indent_blank : (ls : List (List ℕ)) (k : ℕ) → k < length ls → is_blank_line (get_or ls k []) ≡ true → least (drop 1 (take (k + 1) ls)) ≡ least (drop 1 (take k ls))
+indent_blank : (ls : List (List ℕ)) (k : ℕ) → k < length ls → is_blank_line (get_or ls k []) ≡ true
+    → least (drop 1 (take (k + 1) ls)) ≡ least (drop 1 (take k ls))
 indent_blank ls zero h b = ap least (none_after_first ls)
 indent_blank ls (suc k) h b = ap least (one_more ls (suc k) h (omega arith)) ∙ least_blank (drop 1 (take (suc k) ls)) (get_or ls (suc k) []) b
 
@@ -148,7 +149,8 @@ first_more : (ls : List (List ℕ)) (k : ℕ) → k < length ls → prefix_len i
 first_more ls k h =
     let long : length (take k ls) ≡ k = length-take-le k ls (omega arith) in
     ap (prefix_len is_blank_line) (take_more ls k [] h) ∙ prefix_len-append is_blank_line (take k ls) (get_or ls k [] ∷ [])
-    ∙ ap (λ n. if prefix_len is_blank_line (take k ls) == n then n + prefix_len is_blank_line (get_or ls k [] ∷ []) else prefix_len is_blank_line (take k ls)) long
+    ∙ ap
+    (λ n. if prefix_len is_blank_line (take k ls) == n then n + prefix_len is_blank_line (get_or ls k [] ∷ []) else prefix_len is_blank_line (take k ls)) long
 
 first_text : (p k n : ℕ) → n ≡ 0 → (if p == k then k + n else p) ≡ p
 first_text p k n none = elim (cases_Bool (p == k)) [

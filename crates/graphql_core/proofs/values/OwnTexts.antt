@@ -32,7 +32,8 @@ abbrev pub AreCutAlike : List Item → List Item → Type 0
 AreCutAlike is js = Alike (split is).tokens (split js).tokens × (IsEnd (split js).last → IsEnd (split is).last)
 
 token_alike : (b : Bool) (k : Kind) (bytes : List ℕ) (v w : Where) (is js : List Item) → AreCutAlike is js
-    → AreCutAlike (token_then b (item_at (LexicalError too_deep) v) (item_at (TokenContent k bytes) v) is) (token_then b (item_at (LexicalError too_deep) w) (item_at (TokenContent k bytes) w) js)
+    → AreCutAlike (token_then b (item_at (LexicalError too_deep) v) (item_at (TokenContent k bytes) v) is)
+    (token_then b (item_at (LexicalError too_deep) w) (item_at (TokenContent k bytes) w) js)
 token_alike true k bytes v w is js h = (refl, λ e. e)
 token_alike false k bytes v w is js (same, end) = (ap (λ (ts : List Token). unplaced (token_of w.position k bytes) ∷ ts) same, end)
 

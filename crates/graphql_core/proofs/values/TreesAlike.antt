@@ -117,7 +117,8 @@ has_value_same k t u e m = elim ((same_value t u e).1) [
 
 pub accepted_same : (c : Class) (t u : Token) → SameLeaf c t u → (matches c u && is_good c u) ≡ (matches c t && is_good c t)
 accepted_same (AnyOf k) t u e =
-    and_same (matches (AnyOf k) t) (matches (AnyOf k) u) (has_value k t.spelling) (has_value k u.spelling) (matches_same (AnyOf k) t u e) (has_value_same k t u e)
+    and_same (matches (AnyOf k) t) (matches (AnyOf k) u) (has_value k t.spelling) (has_value k u.spelling) (matches_same (AnyOf k) t u e)
+    (has_value_same k t u e)
 accepted_same (Spelled k s) t u e = ap (λ (b : Bool). b && true) (matches_same (Spelled k s) t u e)
 accepted_same (Except k ss) t u e = ap (λ (b : Bool). b && true) (matches_same (Except k ss) t u e)
 

@@ -27,18 +27,21 @@ module _ {D : Type 0} (l : Language D) where
   -- the tokens of the input have at most one parse tree, even in the plain grammar (`lax`)
   abbrev pub IsUnambiguous : List ℕ → Type 0
   IsUnambiguous text = (items : List Item) (x y : ParseTree) → HasItems text items
-      → Derives (lax l.grammar) (Sym l.document) (split items).tokens x → Derives (lax l.grammar) (Sym l.document) (split items).tokens y → x ≡ y
+      → Derives (lax l.grammar) (Sym l.document) (split items).tokens x
+      → Derives (lax l.grammar) (Sym l.document) (split items).tokens y → x ≡ y
 
   -- the same for the tokens of `i`
   abbrev pub AreUnambiguous : Items → Type 0
   AreUnambiguous i =
-      (x y : ParseTree) → Derives (lax l.grammar) (Sym l.document) i.tokens x → Derives (lax l.grammar) (Sym l.document) i.tokens y → x ≡ y
+      (x y : ParseTree) → Derives (lax l.grammar) (Sym l.document) i.tokens x
+      → Derives (lax l.grammar) (Sym l.document) i.tokens y → x ≡ y
 
   -- ---- results of a parser
 
   -- the contract of a parser for its result on an input of at most `max_length` bytes
   abbrev pub IsParsed : List ℕ → Result D Refusal → Type 0
-  IsParsed text r = IfOk r (IsDocumentOf text) × ((d : D) → IsDocumentOf text d → AnswersUnlessMemory (λ (e : D). e) d r)
+  IsParsed text r =
+      IfOk r (IsDocumentOf text) × ((d : D) → IsDocumentOf text d → AnswersUnlessMemory (λ (e : D). e) d r)
 
   -- Both results are documents that are equal, ignoring positions, or both are errors.
   -- If only one result is an error, that error is out of memory.
@@ -49,13 +52,16 @@ module _ {D : Type 0} (l : Language D) where
   AreAlike (Err f) (Err g) = Unit {0}
 
 -- Round trip: the output of a document, in any style, parses back to the same document, ignoring positions.
-pub record AreReadBack {D : Type 0} (l : Language D) (layout : Layout → D → List ℕ) (IsPrinted : D → Type 0) : Type 0 where
+pub record AreReadBack {D : Type 0} (l : Language D) (layout : Layout → D → List ℕ)
+    (IsPrinted : D → Type 0) : Type 0 where
   -- the output in any style parses back to the document
   pub read_back : (style : Layout) (d : D) → IsPrinted d → IsReadBack l (layout style d) d
   -- a document parsed from the output is the same, and has the same output in that style (formatting is idempotent)
-  pub printed_again : (style : Layout) (d e : D) → IsPrinted d → IsDocumentOf l (layout style d) e → (l.erase e ≡ l.erase d) × (layout style e ≡ layout style d)
+  pub printed_again : (style : Layout) (d e : D) → IsPrinted d → IsDocumentOf l (layout style d) e
+      → (l.erase e ≡ l.erase d) × (layout style e ≡ layout style d)
   -- documents parsed from the outputs in two styles are the same
-  pub styles_agree : (style other : Layout) (d e f : D) → IsPrinted d → IsDocumentOf l (layout style d) e → IsDocumentOf l (layout other d) f
-      → l.erase e ≡ l.erase f
+  pub styles_agree : (style other : Layout) (d e f : D) → IsPrinted d → IsDocumentOf l (layout style d) e
+      → IsDocumentOf l (layout other d) f → l.erase e ≡ l.erase f
   -- documents with the same output are the same
-  pub one_text : (style : Layout) (d e : D) → IsPrinted d → IsPrinted e → layout style d ≡ layout style e → l.erase d ≡ l.erase e
+  pub one_text : (style : Layout) (d e : D) → IsPrinted d → IsPrinted e
+      → layout style d ≡ layout style e → l.erase d ≡ l.erase e

@@ -34,12 +34,14 @@ from_item (suc n) ts = drop n ts
 -- the token is a literal without a value, for this cause
 pub data HasNoValue : Token → CauseText → Type 0 where
   -- an integer outside the range of `i64`
-  out_of_range : {t : Token} → t.kind ≡ kind_number IntValue → (FitsSigned w64 (int_of t.spelling) → ⊥) → HasNoValue t int_out_of_range
+  out_of_range : {t : Token} → t.kind ≡ kind_number IntValue → (FitsSigned w64 (int_of t.spelling) → ⊥)
+      → HasNoValue t int_out_of_range
   -- a float whose exponent has no digit
-  malformed : {t : Token} → t.kind ≡ kind_number FloatValue → (IsFloatLiteral t.spelling → ⊥) → HasNoValue t malformed_float
+  malformed : {t : Token} → t.kind ≡ kind_number FloatValue → (IsFloatLiteral t.spelling → ⊥)
+      → HasNoValue t malformed_float
   -- a string with an invalid escape, so that the bytes between its quotes have no value
-  escaped_badly : {t : Token} → t.kind ≡ kind_number StringValue → ((body : List ℕ) → IsInQuotes t.spelling body → strings.HasNoStringValue body)
-      → HasNoValue t bad_escape
+  escaped_badly : {t : Token} → t.kind ≡ kind_number StringValue
+      → ((body : List ℕ) → IsInQuotes t.spelling body → strings.HasNoStringValue body) → HasNoValue t bad_escape
 
 module _ {D : Type 0} (l : Language D) where
   -- ---- errors by index
@@ -48,10 +50,11 @@ module _ {D : Type 0} (l : Language D) where
   -- rejected as a leaf of its class, or the last token of a rejected node.
   abbrev pub Says : Reason → Items → ℕ → FaultText → Type 0
   Says Unexpected i n f = f ≡ fault_by (from_item n i.tokens) i.last
-  Says (Improper c) i n f = (t : Token) × (rest : List Token) × (from_item n i.tokens ≡ t ∷ rest) × l.lacks c t f.cause × (f.place ≡ t.place)
+  Says (Improper c) i n f =
+      (t : Token) × (rest : List Token) × (from_item n i.tokens ≡ t ∷ rest) × l.lacks c t f.cause × (f.place ≡ t.place)
   Says (Refused k) i n f =
-      (before us : List Token) × (x : ParseTree) × IsRefused l.grammar (Sym l.document) i.tokens k x before us × (n ≡ length (before ++ leaves x))
-      × l.refuses (Node k x) f
+      (before us : List Token) × (x : ParseTree) × IsRefused l.grammar (Sym l.document) i.tokens k x before us
+      × (n ≡ length (before ++ leaves x)) × l.refuses (Node k x) f
 
   -- the items have an error at index `n`, which is reported as `f`
   abbrev pub IsFaultAt : Items → FaultText → ℕ → Type 0
@@ -101,7 +104,8 @@ module _ {D : Type 0} (l : Language D) where
   -- Why no document begins with `front` and continues with the next token or end of input.
   pub data IsFaultAfter (front : List Token) : List Token → Last → FaultText → Type 0 where
     -- the token or end of input is not allowed here, even if no leaf is rejected
-    unexpected : {after : List Token} {last : Last} → texts.EndsAt (lax l.grammar) (Sym l.document) front after (ending_of last)
+    unexpected : {after : List Token} {last : Last}
+        → texts.EndsAt (lax l.grammar) (Sym l.document) front after (ending_of last)
         → IsFaultAfter front after last (fault_by after last)
     -- the token is allowed here, but rejected as a leaf of its class
     no_value : {t : Token} {after : List Token} {last : Last} {leaf : Class} {c : CauseText} → l.lacks leaf t c

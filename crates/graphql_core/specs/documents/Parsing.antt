@@ -9,7 +9,8 @@ use Rattle.graphql_core.specs.documents.Faults.{IsFaultAt, IsRefusalFor, IsRefus
 use Rattle.graphql_core.specs.documents.Faults.{HasNoFault}
 
 -- The result for the items of a source. `view v` is the document that a returned value `v` stands for.
-pub record ReadsDocument {D V : Type 0} (l : Language D) (view : V → D) (i : Items) (r : Result V Refusal) : Type 0 where
+pub record ReadsDocument {D V : Type 0} (l : Language D) (view : V → D) (i : Items)
+    (r : Result V Refusal) : Type 0 where
   -- Sound: a returned value is the document that the grammar derives from all of the tokens.
   pub sound : IfOk r (λ v. IsDocument l i (view v))
   -- Complete: if the items parse to a document, the result is that document or out of memory.
@@ -18,7 +19,8 @@ pub record ReadsDocument {D V : Type 0} (l : Language D) (view : V → D) (i : I
   pub first_error : IfErr r (IsRefusalFor l i)
 
 -- The result for an input.
-pub record ParsesDocument {D V : Type 0} (l : Language D) (view : V → D) (text : List ℕ) (r : Result V Refusal) : Type 0 where
+pub record ParsesDocument {D V : Type 0} (l : Language D) (view : V → D) (text : List ℕ)
+    (r : Result V Refusal) : Type 0 where
   -- Sound: a returned value is the document that the grammar derives from all tokens of the input, with positions.
   pub sound : IfOk r (λ v. IsDocumentOf l text (view v))
   -- Complete: if an input of at most `max_length` bytes parses to a document, the result is it or out of memory.
@@ -35,7 +37,8 @@ pub record ParsesDocument {D V : Type 0} (l : Language D) (view : V → D) (text
   pub no_error : (d : D) → HasNoFault l text d
 
 -- The result for the remaining items of a stream: `old` is the stream before the call, `new` the stream after it.
-pub record ParsesStream {D V : Type 0} (l : Language D) (view : V → D) (old new : Stream) (r : Result V Refusal) : Type 0 where
+pub record ParsesStream {D V : Type 0} (l : Language D) (view : V → D) (old new : Stream)
+    (r : Result V Refusal) : Type 0 where
   -- Sound: a returned value is the document that the grammar derives from all remaining tokens.
   pub sound : IfOk r (λ v. IsDocument l (split old.items) (view v))
   -- Complete: if the remaining items parse to a document, the result is that document or out of memory.
@@ -47,7 +50,8 @@ pub record ParsesStream {D V : Type 0} (l : Language D) (view : V → D) (old ne
   -- No two errors of the items have the same index.
   pub one_error : HasOneFaultAt l (split old.items)
   -- Items that parse to a document have no error.
-  pub no_error : (d : D) → IsDocument l (split old.items) d → (f : FaultText) (n : ℕ) → IsFaultAt l (split old.items) f n → ⊥
+  pub no_error : (d : D) → IsDocument l (split old.items) d → (f : FaultText) (n : ℕ)
+      → IsFaultAt l (split old.items) f n → ⊥
   -- `cuts`, the number of items requested, is never less than before.
   pub cut_more : old.cuts ≤ new.cuts
   -- It grew by at most the number of remaining items, including the last.

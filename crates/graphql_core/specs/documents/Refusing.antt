@@ -27,6 +27,7 @@ module _ {D R : Type 0} (l : Language D) (w : Refusals R) where
 
   -- The reader follows the factored rules. `P` relates a returned value to the parse tree by the written rules.
   -- An error reports why the reader stopped.
-  pub record Reads {A : Type 0} (e : Expr) (old new : Items) (P : A → ParseTree → Type 0) (r : Result A (NodeError R)) : Type 0 where
+  pub record Reads {A : Type 0} (e : Expr) (old new : Items) (P : A → ParseTree → Type 0)
+      (r : Result A (NodeError R)) : Type 0 where
     pub gives : GivesBy (halt_reason w) (reading l) e old new (λ v x. P v (written l.changes x)) r
     pub says : IfErr r (SaysNode e old new)

@@ -27,7 +27,12 @@ written cs = with_nodes (λ k x y. (change_at cs k).to_written y)
 
 -- the grammar with the factored rules
 abbrev pub with_rows : Grammar → List Row → List Change → Grammar
-with_rows g rs cs = record { rows = rs; good = g.good; check = λ k x. g.check k ((change_at cs k).to_written (written cs x)); samples = g.samples }
+with_rows g rs cs = record {
+  rows = rs;
+  good = g.good;
+  check = λ k x. g.check k ((change_at cs k).to_written (written cs x));
+  samples = g.samples;
+}
 
 -- The factored rule `q` has the same parse trees as the written rule `e`, converted by `c`. The conversion keeps
 -- the tokens and their classes. Tested leaves and nodes come after the same tokens.
@@ -37,7 +42,8 @@ pub record IsSecond (g : Grammar) (rs : List Row) (cs : List Change) (e q : Expr
   pub classes : (x : ParseTree) → Fits g q x → classes g e (c.to_written x) ≡ classes g q x
   pub fits_back : (y : ParseTree) → Fits (with_rows g rs cs) e y → Fits (with_rows g rs cs) q (c.to_second y)
   pub leads : (ts : List Token) (d : Expr) → IsTested g d → Leads (lax g) q ts d → Leads (lax g) e ts d
-  pub leads_back : (ts : List Token) (d : Expr) → IsTested g d → Leads (lax (with_rows g rs cs)) e ts d → Leads (lax (with_rows g rs cs)) q ts d
+  pub leads_back : (ts : List Token) (d : Expr) → IsTested g d → Leads (lax (with_rows g rs cs)) e ts d
+      → Leads (lax (with_rows g rs cs)) q ts d
   pub back : (y : ParseTree) → Fits (with_rows g rs cs) e y → c.to_written (written cs (c.to_second y)) ≡ written cs y
 
 -- the same for lists of rules
@@ -129,16 +135,19 @@ pub record IsFirstFaultFor (g : Grammar) (e : Expr) (ts : List Token) (why : Rea
 
 -- The reader of the factored grammar returns what the written grammar `g` derives.
 pub record IsExactFor (g : Grammar) (rs : List Row) (cs : List Change) (e : Expr) : Type 0 where
-  pub sound : (ts us : List Token) (x : ParseTree) → Takes (with_rows g rs cs) e ts x us → Derives g e (leaves x) (written cs x) × (ts ≡ leaves x ++ us)
-  pub complete : (ts rest : List Token) (y : ParseTree) → Derives g e ts y → sees (cont rs e) (peek rest) ≡ false → (x : ParseTree)
-      × Takes (with_rows g rs cs) e (ts ++ rest) x rest × (written cs x ≡ y)
+  pub sound : (ts us : List Token) (x : ParseTree) → Takes (with_rows g rs cs) e ts x us
+      → Derives g e (leaves x) (written cs x) × (ts ≡ leaves x ++ us)
+  pub complete : (ts rest : List Token) (y : ParseTree) → Derives g e ts y → sees (cont rs e) (peek rest) ≡ false
+      → (x : ParseTree) × Takes (with_rows g rs cs) e (ts ++ rest) x rest × (written cs x ≡ y)
   -- even in the plain grammar, no other list begins with the taken tokens and the next
   pub longest : (ts us : List Token) (x : ParseTree) → Takes (with_rows g rs cs) e ts x us
       → (y : ParseTree) (more : List Token) → Derives (lax g) e (leaves x ++ more) y → peek more ≡ peek us
       → (y ≡ written cs x) × (more ≡ [])
   pub unambiguous : (ts : List Token) (x y : ParseTree) → Derives g e ts x → Derives g e ts y → x ≡ y
-  pub one_split : (ts us vs ws : List Token) (x y : ParseTree) → Derives g e ts x → Derives g e us y → ts ++ vs ≡ us ++ ws
-      → sees (cont rs e) (peek vs) ≡ false → sees (cont rs e) (peek ws) ≡ false → (x ≡ y) × (ts ≡ us) × (vs ≡ ws)
+  pub one_split : (ts us vs ws : List Token) (x y : ParseTree) → Derives g e ts x → Derives g e us y
+      → ts ++ vs ≡ us ++ ws → sees (cont rs e) (peek vs) ≡ false → sees (cont rs e) (peek ws) ≡ false
+      → (x ≡ y) × (ts ≡ us) × (vs ≡ ws)
   pub alike : ReadsAlike g e
   pub alike_lax : ReadsAlike (lax g) e
-  pub earliest : (ts us : List Token) (why : Reason) → Fails (with_rows g rs cs) e ts why us → IsFirstFaultFor g e ts why us
+  pub earliest : (ts us : List Token) (why : Reason) → Fails (with_rows g rs cs) e ts why us
+      → IsFirstFaultFor g e ts why us

@@ -22,12 +22,11 @@ pub data IsFault (g : Grammar) (e : Expr) (t : Text) : Reason → ℕ → Type 0
   -- the invalid token after the other tokens; a reader that stops there returns `Unexpected`
   bad_place : t.ending ≡ InvalidToken → IsFault g e t Unexpected (suc (length t.tokens))
   -- the first token or end of input that the plain grammar does not allow
-  unexpected_item : (front us : List Token) → t.tokens ≡ front ++ us → (us ≡ [] → t.ending ≡ InputEnds) → Begins (lax g) e front
-      → Ends (lax g) e front (peek us)
-      → IsFault g e t Unexpected (suc (length front))
+  unexpected_item : (front us : List Token) → t.tokens ≡ front ++ us → (us ≡ [] → t.ending ≡ InputEnds)
+      → Begins (lax g) e front → Ends (lax g) e front (peek us) → IsFault g e t Unexpected (suc (length front))
   -- a token that the plain grammar allows, but that is rejected as a leaf of its class
-  leaf_refused : (front us : List Token) (u : Token) (c : Class) → t.tokens ≡ front ++ u ∷ us → Leads (lax g) e front (One c)
-      → matches c u ≡ true → g.good c u ≡ false
+  leaf_refused : (front us : List Token) (u : Token) (c : Class) → t.tokens ≡ front ++ u ∷ us
+      → Leads (lax g) e front (One c) → matches c u ≡ true → g.good c u ≡ false
       → IsFault g e t (Improper c) (suc (length front))
   -- the last token of a rejected node
   node_refused : (before us : List Token) (k : ℕ) (x : ParseTree) → IsRefused g e t.tokens k x before us
@@ -46,11 +45,13 @@ index_of why place = suc place
 pub record AnswersLeast (g h : Grammar) (e : Expr) : Type 0 where
   -- a parse tree only if there is no error
   pub tree : (t : Text) (x : ParseTree) → Answers h e t (Tree x) → (why : Reason) (n : ℕ) → IsFault g e t why n → ⊥
-  pub wrong : (t : Text) (why : Reason) (place : ℕ) → Answers h e t (Rejected why place) → IsLeast g e t why (index_of why place)
+  pub wrong : (t : Text) (why : Reason) (place : ℕ) → Answers h e t (Rejected why place)
+      → IsLeast g e t why (index_of why place)
   -- no two errors have the same index
   pub one_index : (t : Text) (why other : Reason) (n : ℕ) → IsFault g e t why n → IsFault g e t other n → why ≡ other
   -- so the first error is unique
-  pub one : (t : Text) (why other : Reason) (m n : ℕ) → IsLeast g e t why m → IsLeast g e t other n → (why ≡ other) × (m ≡ n)
+  pub one : (t : Text) (why other : Reason) (m n : ℕ) → IsLeast g e t why m → IsLeast g e t other n
+      → (why ≡ other) × (m ≡ n)
 
 -- no node without tokens is rejected
 abbrev pub RefusesTokens : Grammar → Type 0

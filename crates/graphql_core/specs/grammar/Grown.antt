@@ -1,6 +1,7 @@
 -- A grammar that grows: the later grammar derives what the earlier one derives.
 -- The parse trees are the same, except for new parts, which are empty.
-use Rattle.std.specs.Prelude.{◌≡◌, ℕ, zero, suc, Bool, true, false, ◌&&◌, ◌==◌, List, [], ◌∷◌, length, Option, Some, None}
+use Rattle.std.specs.Prelude.{◌≡◌, ℕ, zero, suc, Bool, true, false, ◌&&◌, ◌==◌, List, [], ◌∷◌, length, Option, Some}
+use Rattle.std.specs.Prelude.{None}
 use Rattle.graphql_core.specs.grammar.Tokens.{Token, Class, Spelled, AnyOf, Except, same_spelling, same_spellings}
 use Rattle.graphql_core.specs.grammar.Trees.{Expr, Empty, One, Then, Either, Many, Sym, ParseTree, Both, First, Second}
 use Rattle.graphql_core.specs.grammar.Trees.{More, Grammar, row, Fits, Derives, leaves, with_nodes}
@@ -104,14 +105,16 @@ rule_grows ps h (Some p) e f = grows h p e f
 abbrev pub rules_grow : List (Option Growth) → Grammar → Grammar → ℕ → Bool
 rules_grow ps g h zero = true
 rules_grow ps g h (suc k) =
-    (is_below (length g.rows) (row g k).rule && rule_grows ps h (growth_at ps k) (row g k).rule (row h k).rule) && rules_grow ps g h k
+    (is_below (length g.rows) (row g k).rule && rule_grows ps h (growth_at ps k) (row g k).rule (row h k).rule)
+    && rules_grow ps g h k
 
 -- The later grammar `h` is the earlier grammar `g` with these new parts. The test of the rules is computed.
 -- A leaf or a node that `g` accepts is also accepted by `h`.
 pub record Grows (ps : List (Option Growth)) (g h : Grammar) : Type 0 where
   pub rules : rules_grow ps g h (length g.rows) ≡ true
   pub good : (c : Class) (t : Token) → g.good c t ≡ true → h.good c t ≡ true
-  pub check : (k : ℕ) (x : ParseTree) → Fits g (row g k).rule x → g.check k x ≡ true → h.check k (either_way (growth_at ps k) x (grown ps x)) ≡ true
+  pub check : (k : ℕ) (x : ParseTree) → Fits g (row g k).rule x → g.check k x ≡ true
+      → h.check k (either_way (growth_at ps k) x (grown ps x)) ≡ true
 
 -- the later grammar derives what the earlier one derives, with the new parts empty
 abbrev pub DerivesOn : List (Option Growth) → Grammar → Grammar → Expr → Type 0

@@ -20,7 +20,8 @@ turn_values f _ = []
 
 -- A loop over `Many a` began at `start` and has reached `now`: the whole takes what the rest takes.
 -- `f` is the value of one repetition, and `items` the values so far.
-pub record Turns {A : Type 0} (g : Grammar) (a : Expr) (f : ParseTree → List A) (start now : List Token) (items : List A) : Type 0 where
+pub record Turns {A : Type 0} (g : Grammar) (a : Expr) (f : ParseTree → List A) (start now : List Token)
+    (items : List A) : Type 0 where
   pub takes : (y : ParseTree) (us : List Token) → Takes g (Many a) now y us
       → (x : ParseTree) × Takes g (Many a) start x us × (turn_values f x ≡ items ++ turn_values f y)
   pub fails : (why : Reason) (us : List Token) → Fails g (Many a) now why us → Fails g (Many a) start why us

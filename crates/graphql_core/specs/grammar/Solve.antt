@@ -69,9 +69,11 @@ some_tree takes samples ts (Sym k) = with_tree (Node k) (tree_at ts k)
 abbrev pub no_tree : Expr → Option ParseTree
 no_tree e = None
 
-abbrev pub better_trees : (Class → Token → Bool) → List Token → List Expr → ℕ → List (Option ParseTree) → List (Option ParseTree)
+abbrev pub better_trees : (Class → Token → Bool) → List Token → List Expr → ℕ → List (Option ParseTree)
+    → List (Option ParseTree)
 better_trees takes samples rules zero ts = ts
-better_trees takes samples rules (suc n) ts = better_trees takes samples rules n (map (some_tree takes samples ts) rules)
+better_trees takes samples rules (suc n) ts =
+    better_trees takes samples rules n (map (some_tree takes samples ts) rules)
 
 abbrev pub read_tree : Option ParseTree → ParseTree
 read_tree None = Nothing
@@ -79,8 +81,10 @@ read_tree (Some x) = x
 
 abbrev pub start_rows : List Expr → List (Option ParseTree) → List Row
 start_rows [] ts = []
-start_rows (e ∷ es) [] = record { rule = e; nullable = false; first = []; cont = []; rank = 0; least = Nothing } ∷ start_rows es []
-start_rows (e ∷ es) (t ∷ ts) = record { rule = e; nullable = false; first = []; cont = []; rank = 0; least = read_tree t } ∷ start_rows es ts
+start_rows (e ∷ es) [] =
+    record { rule = e; nullable = false; first = []; cont = []; rank = 0; least = Nothing } ∷ start_rows es []
+start_rows (e ∷ es) (t ∷ ts) =
+    record { rule = e; nullable = false; first = []; cont = []; rank = 0; least = read_tree t } ∷ start_rows es ts
 
 abbrev pub solve : (Class → Token → Bool) → List Token → ℕ → List Expr → List Row
 solve takes samples n rules = better_rows n (start_rows rules (better_trees takes samples rules n (map no_tree rules)))

@@ -31,7 +31,8 @@ abbrev pub cont : List Row → Expr → List Class
 cont rs Empty = []
 cont rs (One c) = []
 cont rs (Then a b) = cont rs b ++ only_if (nullable rs b) (first rs b ++ cont rs a)
-cont rs (Either a b) = (cont rs a ++ cont rs b) ++ (only_if (nullable rs a) (first rs b) ++ only_if (nullable rs b) (first rs a))
+cont rs (Either a b) =
+    (cont rs a ++ cont rs b) ++ (only_if (nullable rs a) (first rs b) ++ only_if (nullable rs b) (first rs a))
 cont rs (Many a) = first rs a ++ cont rs a
 cont rs (Sym k) = (row_at rs k).cont
 
@@ -40,7 +41,8 @@ abbrev pub decides : List Row → Expr → Bool
 decides rs Empty = true
 decides rs (One c) = true
 decides rs (Then a b) = (decides rs a && decides rs b) && all_apart (cont rs a) (first rs b)
-decides rs (Either a b) = ((decides rs a && decides rs b) && all_apart (first rs a) (first rs b)) && not (nullable rs a && nullable rs b)
+decides rs (Either a b) =
+    ((decides rs a && decides rs b) && all_apart (first rs a) (first rs b)) && not (nullable rs a && nullable rs b)
 decides rs (Many a) = (decides rs a && not (nullable rs a)) && all_apart (cont rs a) (first rs a)
 decides rs (Sym k) = true
 
@@ -70,7 +72,8 @@ is_ll1 rs = are_rows rs rs
 -- and its first set has only classes that can begin its rule.
 abbrev pub are_tight : List Row → List Row → Bool
 are_tight rs [] = true
-are_tight rs (r ∷ more) = ((not r.nullable || nullable rs r.rule) && all_within r.first (first rs r.rule)) && are_tight rs more
+are_tight rs (r ∷ more) =
+    ((not r.nullable || nullable rs r.rule) && all_within r.first (first rs r.rule)) && are_tight rs more
 
 abbrev pub is_tight : List Row → Bool
 is_tight rs = are_tight rs rs

@@ -51,14 +51,17 @@ pub record IsWhole (g : Grammar) (e : Expr) : Type 0 where
   -- a parse tree is returned exactly if the grammar derives it from the whole input
   pub tree : (t : Text) (x : ParseTree) → Answers g e t (Tree x) ↔ (Derives g e t.tokens x × (t.ending ≡ InputEnds))
   -- an error is at the first place where no derived list continues
-  pub wrong : (t : Text) (why : Reason) (place : ℕ) → Answers g e t (Rejected why place) → IsGrammarFaultAt g e t why place
+  pub wrong : (t : Text) (why : Reason) (place : ℕ) → Answers g e t (Rejected why place)
+      → IsGrammarFaultAt g e t why place
   -- there is exactly one result
   pub answer : (t : Text) → (a : Answer) × Answers g e t a
   pub one : (t : Text) (a b : Answer) → Answers g e t a → Answers g e t b → a ≡ b
 
 -- the same for a written grammar `g` that is read by its factored rules
 pub record IsWholeFor (g : Grammar) (rs : List Row) (cs : List Change) (e : Expr) : Type 0 where
-  pub sound : (t : Text) (x : ParseTree) → Answers (with_rows g rs cs) e t (Tree x) → Derives g e t.tokens (written cs x) × (t.ending ≡ InputEnds)
+  pub sound : (t : Text) (x : ParseTree) → Answers (with_rows g rs cs) e t (Tree x)
+      → Derives g e t.tokens (written cs x) × (t.ending ≡ InputEnds)
   pub complete : (t : Text) (y : ParseTree) → Derives g e t.tokens y → t.ending ≡ InputEnds
       → (x : ParseTree) × Answers (with_rows g rs cs) e t (Tree x) × (written cs x ≡ y)
-  pub wrong : (t : Text) (why : Reason) (place : ℕ) → Answers (with_rows g rs cs) e t (Rejected why place) → IsGrammarFaultAt g e t why place
+  pub wrong : (t : Text) (why : Reason) (place : ℕ) → Answers (with_rows g rs cs) e t (Rejected why place)
+      → IsGrammarFaultAt g e t why place

@@ -37,17 +37,20 @@ pub record IsFirstStop (g : Grammar) (e : Expr) (ts : List Token) (why : Reason)
 -- the reader returns what the grammar derives
 pub record IsExact (g : Grammar) (e : Expr) : Type 0 where
   -- a taken parse tree is derived, and its tokens come first
-  pub sound : (ts us : List Token) (x : ParseTree) → Takes g e ts x us → Derives g e (leaves x) x × (ts ≡ leaves x ++ us)
+  pub sound : (ts us : List Token) (x : ParseTree) → Takes g e ts x us
+      → Derives g e (leaves x) x × (ts ≡ leaves x ++ us)
   -- even in the plain grammar (`lax g`), no other list begins with the taken tokens and the next
-  pub longest : (ts us : List Token) (x : ParseTree) → Takes g e ts x us → (y : ParseTree) (more : List Token) → Derives (lax g) e (leaves x ++ more) y
-      → peek more ≡ peek us → (y ≡ x) × (more ≡ [])
+  pub longest : (ts us : List Token) (x : ParseTree) → Takes g e ts x us → (y : ParseTree) (more : List Token)
+      → Derives (lax g) e (leaves x ++ more) y → peek more ≡ peek us → (y ≡ x) × (more ≡ [])
   -- a derived list is taken, if the next token cannot continue the list
-  pub complete : (ts rest : List Token) (x : ParseTree) → Derives g e ts x → sees (cont g.rows e) (peek rest) ≡ false → Takes g e (ts ++ rest) x rest
+  pub complete : (ts rest : List Token) (x : ParseTree) → Derives g e ts x → sees (cont g.rows e) (peek rest) ≡ false
+      → Takes g e (ts ++ rest) x rest
   -- a list has at most one parse tree
   pub unambiguous : (ts : List Token) (x y : ParseTree) → Derives g e ts x → Derives g e ts y → x ≡ y
   -- a list has at most one derived prefix that the next token cannot continue
-  pub one_split : (ts us vs ws : List Token) (x y : ParseTree) → Derives g e ts x → Derives g e us y → ts ++ vs ≡ us ++ ws
-      → sees (cont g.rows e) (peek vs) ≡ false → sees (cont g.rows e) (peek ws) ≡ false → (x ≡ y) × (ts ≡ us) × (vs ≡ ws)
+  pub one_split : (ts us vs ws : List Token) (x y : ParseTree) → Derives g e ts x → Derives g e us y
+      → ts ++ vs ≡ us ++ ws → sees (cont g.rows e) (peek vs) ≡ false → sees (cont g.rows e) (peek ws) ≡ false
+      → (x ≡ y) × (ts ≡ us) × (vs ≡ ws)
   -- a reported error is the first error
   pub earliest : (ts us : List Token) (why : Reason) → Fails g e ts why us → IsFirstStop g e ts why us
   -- the reader has at most one outcome
@@ -68,4 +71,5 @@ classes g _ _ = []
 -- Parse trees whose tokens have a common prefix agree on its classes: later tokens never change a class.
 abbrev pub ReadsAlike : Grammar → Expr → Type 0
 ReadsAlike g e = (ts us vs : List Token) (x y : ParseTree) → Derives g e (ts ++ us) x → Derives g e (ts ++ vs) y
-    → (cs : List Class) × (ds : List Class) × (es : List Class) × (classes g e x ≡ cs ++ ds) × (classes g e y ≡ cs ++ es) × (length cs ≡ length ts)
+    → (cs : List Class) × (ds : List Class) × (es : List Class) × (classes g e x ≡ cs ++ ds)
+    × (classes g e y ≡ cs ++ es) × (length cs ≡ length ts)

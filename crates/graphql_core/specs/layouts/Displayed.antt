@@ -20,4 +20,5 @@ pub record HasDisplayed {W : Type 0} (took : W → List ℕ → W → Type 0) (f
 -- the same of a tree's layout in the default style
 abbrev pub Displays : {W T : Type 0} → (W → List ℕ → W → Type 0) → Formatter W → Result (Unit {0}) Error
     → (Layout → T → List Part) → (Layout → T → ℕ) → T → Formatter W → Type 0
-Displays took f r lines levels tree g = HasDisplayed took f r (text_of (lines default_style tree)) (levels default_style tree) g
+Displays took f r lines levels tree g =
+    HasDisplayed took f r (text_of (lines default_style tree)) (levels default_style tree) g

@@ -31,7 +31,8 @@ BlankLine = shown (string (codes "a" ++ 10 ∷ 32 ∷ 10 ∷ codes "b")) ≡ quo
 
 -- U+1F600
 abbrev pub PastThePlane : Type 0
-PastThePlane = shown (string (240 ∷ 159 ∷ 152 ∷ 128 ∷ 10 ∷ codes "a")) ≡ quote ++ 240 ∷ 159 ∷ 152 ∷ 128 ∷ codes "\\na" ++ quote
+PastThePlane =
+    shown (string (240 ∷ 159 ∷ 152 ∷ 128 ∷ 10 ∷ codes "a")) ≡ quote ++ 240 ∷ 159 ∷ 152 ∷ 128 ∷ codes "\\na" ++ quote
 
 abbrev pub FourQuotes : Type 0
 FourQuotes = shown (string (codes "a\"\"\"\"" ++ 10 ∷ codes "b"))

@@ -5,7 +5,8 @@ use Rattle.graphql_core.specs.layouts.TextParts.{Part, punctuator_part, gap}
 
 -- lines in braces, with the closing brace at the margin
 abbrev pub in_braces : ℕ → List Part → List Part
-in_braces margin lines = punctuator_part (codes "{") ++ (gap (codes "\n") ++ (lines ++ (gap (spaces margin) ++ (punctuator_part (codes "}") ++ gap (codes "\n")))))
+in_braces margin lines = punctuator_part (codes "{")
+    ++ (gap (codes "\n") ++ (lines ++ (gap (spaces margin) ++ (punctuator_part (codes "}") ++ gap (codes "\n")))))
 
 -- each element, with this white space before it
 abbrev pub each_after : {A : Type 0} → List ℕ → (A → List Part) → List A → List Part
@@ -28,4 +29,5 @@ after_commas = each_after (codes ", ")
 -- the elements in parentheses, with a comma and a space between two, in every style
 abbrev pub in_parentheses : {A : Type 0} → (A → List Part) → List A → List Part
 in_parentheses lines [] = []
-in_parentheses lines (x ∷ xs) = punctuator_part (codes "(") ++ (lines x ++ (after_commas lines xs ++ punctuator_part (codes ")")))
+in_parentheses lines (x ∷ xs) =
+    punctuator_part (codes "(") ++ (lines x ++ (after_commas lines xs ++ punctuator_part (codes ")")))

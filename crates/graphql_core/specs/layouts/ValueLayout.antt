@@ -1,6 +1,6 @@
 -- The layouts of values, types, arguments and directives, in lines that begin with `margin` spaces.
-use Rattle.std.specs.Prelude.{ℕ, ◌+◌, ◌-◌, ◌*◌, ◌^◌, ◌≤◌, Bool, true, false, not, ◌&&◌, ◌||◌, ◌==◌, nat_lt, nat_le, if◌then◌else◌, List, [], ◌∷◌, ◌++◌}
-use Rattle.std.specs.Prelude.{Option, codes, map, Some, None}
+use Rattle.std.specs.Prelude.{ℕ, ◌+◌, ◌-◌, ◌*◌, ◌^◌, ◌≤◌, Bool, true, false, not, ◌&&◌, ◌||◌, ◌==◌, nat_lt, nat_le}
+use Rattle.std.specs.Prelude.{if◌then◌else◌, List, [], ◌∷◌, ◌++◌, Option, codes, map, Some, None}
 use Rattle.std.specs.Fmt.{signed_decimal}
 use Rattle.std.specs.List.{slice_split, list_all, list_any, flat_map}
 use Rattle.std.specs.Option.{option_map_or}
@@ -26,7 +26,8 @@ hexadecimal_digit n = if nat_lt n 10 then 48 + n else 55 + n
 
 -- `\u` and four digits, for a character below U+0020
 abbrev pub unicode_escape : ℕ → List ℕ
-unicode_escape b = 92 ∷ 117 ∷ 48 ∷ 48 ∷ (if nat_lt b 16 then 48 else 49) ∷ hexadecimal_digit (if nat_lt b 16 then b else b - 16) ∷ []
+unicode_escape b =
+    92 ∷ 117 ∷ 48 ∷ 48 ∷ (if nat_lt b 16 then 48 else 49) ∷ hexadecimal_digit (if nat_lt b 16 then b else b - 16) ∷ []
 
 abbrev pub quoted_byte : ℕ → List ℕ
 quoted_byte b =
@@ -89,7 +90,8 @@ has_block_form text = list_any (λ b. b == 10) text && (list_all is_block_charac
 
 -- the string with a backslash before each three quotes, from the left
 abbrev pub escaped_quotes : List ℕ → List ℕ
-escaped_quotes (a ∷ b ∷ c ∷ more) = if begins_quotes (a ∷ b ∷ c ∷ []) then 92 ∷ 34 ∷ 34 ∷ 34 ∷ escaped_quotes more else a ∷ escaped_quotes (b ∷ c ∷ more)
+escaped_quotes (a ∷ b ∷ c ∷ more) = if begins_quotes (a ∷ b ∷ c ∷ []) then 92 ∷ 34 ∷ 34 ∷ 34 ∷ escaped_quotes more
+    else a ∷ escaped_quotes (b ∷ c ∷ more)
 escaped_quotes text = text
 
 -- a line with its margin, or LF alone if the line is empty
@@ -99,7 +101,8 @@ block_line margin (b ∷ bs) = spaces margin ++ (escaped_quotes (b ∷ bs) ++ 10
 
 -- a string in triple quotes, with its lines at the margin `inside` and the closing quotes at `margin`
 abbrev pub in_block_form : ℕ → ℕ → List ℕ → List ℕ
-in_block_form inside margin text = codes "\"\"\"\n" ++ (flat_map (block_line inside) (lines_of text) ++ (spaces margin ++ codes "\"\"\""))
+in_block_form inside margin text =
+    codes "\"\"\"\n" ++ (flat_map (block_line inside) (lines_of text) ++ (spaces margin ++ codes "\"\"\""))
 
 abbrev pub string_layout : Layout → ℕ → List ℕ → List Part
 string_layout style margin text =
@@ -127,7 +130,8 @@ abbrev pub after_parts : Layout → ℕ → List Part
 after_parts style margin = if style.multiline then new_line margin else []
 
 abbrev pub enclosed : Layout → ℕ → List ℕ → List ℕ → List (List Part) → List Part
-enclosed style margin opener closer ps = punctuator_part opener ++ (parts style (inside style margin) false ps ++ (after_parts style margin ++ punctuator_part closer))
+enclosed style margin opener closer ps = punctuator_part opener
+    ++ (parts style (inside style margin) false ps ++ (after_parts style margin ++ punctuator_part closer))
 
 -- ---- values
 
@@ -148,8 +152,10 @@ abbrev mutual
   value_layout style margin (boolean b) = name_part (boolean_name b)
   value_layout style margin null = name_part (codes "null")
   value_layout style margin (enum n) = name_part n
-  value_layout style margin (list vs) = enclosed style margin (codes "[") (codes "]") (items_layout style (inside style margin) vs)
-  value_layout style margin (object ms) = enclosed style margin (codes "{") (codes "}") (members_layout style (inside style margin) ms)
+  value_layout style margin (list vs) =
+      enclosed style margin (codes "[") (codes "]") (items_layout style (inside style margin) vs)
+  value_layout style margin (object ms) =
+      enclosed style margin (codes "{") (codes "}") (members_layout style (inside style margin) ms)
 
   pub items_layout : Layout → ℕ → ValueItems → List (List Part)
   items_layout style margin no_items = []
@@ -157,7 +163,8 @@ abbrev mutual
 
   pub members_layout : Layout → ℕ → ValueMembers → List (List Part)
   members_layout style margin no_members = []
-  members_layout style margin (member n v ms) = pair_layout n (value_layout style margin v) ∷ members_layout style margin ms
+  members_layout style margin (member n v ms) =
+      pair_layout n (value_layout style margin v) ∷ members_layout style margin ms
 
 -- ---- types
 
@@ -173,10 +180,12 @@ each_argument style margin arguments = map (λ a. pair_layout a.0 (value_layout 
 
 abbrev pub arguments_layout : Layout → ℕ → List (List ℕ × ValueTree) → List Part
 arguments_layout style margin [] = []
-arguments_layout style margin (a ∷ more) = enclosed style margin (codes "(") (codes ")") (each_argument style (inside style margin) (a ∷ more))
+arguments_layout style margin (a ∷ more) =
+    enclosed style margin (codes "(") (codes ")") (each_argument style (inside style margin) (a ∷ more))
 
 abbrev pub directive_layout : Layout → ℕ → DirectiveTree → List Part
-directive_layout style margin d = punctuator_part (codes "@") ++ (name_part d.name ++ arguments_layout style margin d.arguments)
+directive_layout style margin d =
+    punctuator_part (codes "@") ++ (name_part d.name ++ arguments_layout style margin d.arguments)
 
 -- the directives, with a space before each
 abbrev pub directives_layout : Layout → ℕ → List DirectiveTree → List Part
@@ -184,7 +193,8 @@ directives_layout style margin = each_after (codes " ") (directive_layout style 
 
 abbrev pub default_layout : Layout → ℕ → Option ValueTree → List Part
 default_layout style margin None = []
-default_layout style margin (Some v) = gap (codes " ") ++ (punctuator_part (codes "=") ++ (gap (codes " ") ++ value_layout style margin v))
+default_layout style margin (Some v) =
+    gap (codes " ") ++ (punctuator_part (codes "=") ++ (gap (codes " ") ++ value_layout style margin v))
 
 -- ---- levels that are open at once
 

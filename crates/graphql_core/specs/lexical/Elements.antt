@@ -18,4 +18,5 @@ element_kind bytes (Word k n) = element.Token k
 
 -- the input is a lexical element of this kind, and then the rest
 abbrev pub BeginsWithElement : (text : List ℕ) → ElementKind → (bytes rest : List ℕ) → Type 0
-BeginsWithElement text kind bytes rest = (m : Meaning) × (text ≡ bytes ++ rest) × Stands bytes m rest × (element_kind bytes m ≡ kind)
+BeginsWithElement text kind bytes rest =
+    (m : Meaning) × (text ≡ bytes ++ rest) × Stands bytes m rest × (element_kind bytes m ≡ kind)

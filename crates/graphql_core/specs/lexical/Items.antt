@@ -1,5 +1,6 @@
 -- The items of an input: its tokens in order, and then the end of the input or the first lexical error.
-use Rattle.std.specs.Prelude.{◌≡◌, ℕ, ◌+◌, Bool, true, false, ◌||◌, ◌==◌, if◌then◌else◌, List, [], ◌∷◌, ◌++◌, length, take, slice_index, ℤ, pos, ◌-ℤ◌}
+use Rattle.std.specs.Prelude.{◌≡◌, ℕ, ◌+◌, Bool, true, false, ◌||◌, ◌==◌, if◌then◌else◌, List, [], ◌∷◌, ◌++◌, length}
+use Rattle.std.specs.Prelude.{take, slice_index, ℤ, pos, ◌-ℤ◌}
 use Rattle.std.specs.Str.{chars}
 use Rattle.std.specs.List.{prefix_len, list_all, list_any}
 use Rattle.std.specs.Char.{is_ascii_digit}
@@ -41,11 +42,13 @@ moved Down p = record { line = p.line + 1; column = 1 }
 
 -- the place after ignored text of `n` bytes
 abbrev pub past_ignored : Move → ℕ → Where → Where
-past_ignored m n w = record { position = moved m w.position; offset = w.offset + n; openers = w.openers; closers = w.closers }
+past_ignored m n w =
+    record { position = moved m w.position; offset = w.offset + n; openers = w.openers; closers = w.closers }
 
 -- the position after a character of a token: LF ends a line, any other takes a column
 abbrev pub past_character : ℕ → Pos → Pos
-past_character c p = if c == 10 then record { line = p.line + 1; column = 1 } else record { line = p.line; column = p.column + 1 }
+past_character c p = if c == 10 then record { line = p.line + 1; column = 1 }
+    else record { line = p.line; column = p.column + 1 }
 
 abbrev pub past_characters : List ℕ → Pos → Pos
 past_characters [] p = p
@@ -125,7 +128,8 @@ token_then false bad token more = token ∷ more
 abbrev pub piece_then : Meaning → (Where → List Item) → Where → List ℕ → List Item
 piece_then (Ignored m) more w bytes = more (past_ignored m (length bytes) w)
 piece_then (Word k t) more w bytes =
-    token_then (is_too_deep t w) (item_at (LexicalError too_deep) w) (item_at (TokenContent k bytes) w) (more (past_token t bytes w))
+    token_then (is_too_deep t w) (item_at (LexicalError too_deep) w) (item_at (TokenContent k bytes) w)
+    (more (past_token t bytes w))
 
 -- the tokens among the lexical elements, each with its place, and the last item
 unfoldable pub items_of : Where → List Piece → List ℕ → List Item
@@ -147,7 +151,8 @@ pub record EndsOnce (items : List Item) : Type 0 where
 
 -- these are the items of an input that begins at the place `w`
 abbrev pub HasItemsFrom : Where → List ℕ → List Item → Type 0
-HasItemsFrom w text items = (pieces : List Piece) × (stop : List ℕ) × IsCutInto text pieces stop × (items ≡ items_of w pieces stop)
+HasItemsFrom w text items =
+    (pieces : List Piece) × (stop : List ℕ) × IsCutInto text pieces stop × (items ≡ items_of w pieces stop)
 
 abbrev pub HasItems : List ℕ → List Item → Type 0
 HasItems text items = HasItemsFrom start text items

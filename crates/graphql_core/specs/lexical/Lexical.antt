@@ -1,6 +1,7 @@
 -- The lexical grammar (GraphQL, October 2021, section 2.1): an input is a sequence of lexical elements.
 -- Each is as long as possible, except strings and block strings, which end at the first quotes that close them.
-use Rattle.std.specs.Prelude.{◌≡◌, ◌≢◌, ℕ, true, false, Bool, not, ◌&&◌, ◌||◌, ◌==◌, if◌then◌else◌, nat_le, List, [], ◌∷◌, ◌++◌, slice_index}
+use Rattle.std.specs.Prelude.{◌≡◌, ◌≢◌, ℕ, true, false, Bool, not, ◌&&◌, ◌||◌, ◌==◌, if◌then◌else◌, nat_le, List, []}
+use Rattle.std.specs.Prelude.{◌∷◌, ◌++◌, slice_index}
 use Rattle.std.specs.List.{list_all}
 use Rattle.std.specs.Char.{is_ascii_alphabetic, is_ascii_alphanumeric, is_ascii_digit}
 use Rattle.graphql_core.specs.declared.tokenizer.token.Kind.{Kind}
@@ -39,7 +40,8 @@ is_closer b = b == 41 || b == 93 || b == 125
 
 -- a punctuator of one character: a bracket, or `!`, `$`, `&`, `:`, `=`, `@` or a vertical bar
 abbrev pub is_punctuator_byte : ℕ → Bool
-is_punctuator_byte b = is_opener b || is_closer b || b == 33 || b == 36 || b == 38 || b == 58 || b == 61 || b == 64 || b == 124
+is_punctuator_byte b =
+    is_opener b || is_closer b || b == 33 || b == 36 || b == 38 || b == 58 || b == 61 || b == 64 || b == 124
 
 abbrev pub nesting_of : ℕ → Nesting
 nesting_of b = if is_opener b then Opens else if is_closer b then Closes else Level
@@ -78,15 +80,18 @@ is_fraction _ = false
 
 -- ExponentPart: `e` or `E`, and then a sign and any digits, even none, or a digit 1 to 8 and any digits
 abbrev pub is_exponent : List ℕ → Bool
-is_exponent (b ∷ c ∷ cs) = (b == 101 || b == 69) && ((c == 43 || c == 45 || is_in 49 56 c) && list_all is_ascii_digit cs)
+is_exponent (b ∷ c ∷ cs) =
+    (b == 101 || b == 69) && ((c == 43 || c == 45 || is_in 49 56 c) && list_all is_ascii_digit cs)
 is_exponent _ = false
 
 -- an integer with a fraction, an exponent, or both
 pub data IsFloat : List ℕ → Type 0 where
-  with_fraction : (integer fraction : List ℕ) → is_integer integer ≡ true → is_fraction fraction ≡ true → IsFloat (integer ++ fraction)
-  with_exponent : (integer exponent : List ℕ) → is_integer integer ≡ true → is_exponent exponent ≡ true → IsFloat (integer ++ exponent)
-  with_both : (integer fraction exponent : List ℕ) → is_integer integer ≡ true → is_fraction fraction ≡ true → is_exponent exponent ≡ true
-      → IsFloat (integer ++ (fraction ++ exponent))
+  with_fraction : (integer fraction : List ℕ) → is_integer integer ≡ true → is_fraction fraction ≡ true
+      → IsFloat (integer ++ fraction)
+  with_exponent : (integer exponent : List ℕ) → is_integer integer ≡ true → is_exponent exponent ≡ true
+      → IsFloat (integer ++ exponent)
+  with_both : (integer fraction exponent : List ℕ) → is_integer integer ≡ true → is_fraction fraction ≡ true
+      → is_exponent exponent ≡ true → IsFloat (integer ++ (fraction ++ exponent))
 
 -- ---- strings (section 2.9.4)
 
@@ -111,7 +116,8 @@ begins_escape (b ∷ more) = b == 92 && begins_quotes more
 pub data ClosesBlock : List ℕ → Type 0 where
   closing : ClosesBlock (34 ∷ 34 ∷ 34 ∷ [])
   escape : {more : List ℕ} → ClosesBlock more → ClosesBlock (92 ∷ 34 ∷ 34 ∷ 34 ∷ more)
-  unit : {b : ℕ} {more : List ℕ} → begins_quotes (b ∷ more) ≡ false → begins_escape (b ∷ more) ≡ false → ClosesBlock more → ClosesBlock (b ∷ more)
+  unit : {b : ℕ} {more : List ℕ} → begins_quotes (b ∷ more) ≡ false → begins_escape (b ∷ more) ≡ false
+      → ClosesBlock more → ClosesBlock (b ∷ more)
 
 -- ---- lexical elements
 
@@ -136,14 +142,17 @@ pub data Stands : List ℕ → Meaning → List ℕ → Type 0 where
   ignored_byte_order_mark : {rest : List ℕ} → Stands (239 ∷ 187 ∷ 191 ∷ []) (Ignored Stay) rest
   -- a comment runs to the end of the input, or through its line end: LF, CR LF, or CR without LF after it
   comment_at_end : (line : List ℕ) → list_all is_in_line line ≡ true → Stands (35 ∷ line) (Ignored Stay) []
-  comment_feed : (line : List ℕ) {rest : List ℕ} → list_all is_in_line line ≡ true → Stands (35 ∷ (line ++ 10 ∷ [])) (Ignored Down) rest
-  comment_return_feed : (line : List ℕ) {rest : List ℕ} → list_all is_in_line line ≡ true → Stands (35 ∷ (line ++ 13 ∷ 10 ∷ [])) (Ignored Down) rest
+  comment_feed : (line : List ℕ) {rest : List ℕ} → list_all is_in_line line ≡ true
+      → Stands (35 ∷ (line ++ 10 ∷ [])) (Ignored Down) rest
+  comment_return_feed : (line : List ℕ) {rest : List ℕ} → list_all is_in_line line ≡ true
+      → Stands (35 ∷ (line ++ 13 ∷ 10 ∷ [])) (Ignored Down) rest
   comment_return : (line : List ℕ) {rest : List ℕ} → list_all is_in_line line ≡ true → slice_index rest 0 ≢ 10
       → Stands (35 ∷ (line ++ 13 ∷ [])) (Ignored Down) rest
   -- a name is as long as possible
-  name_token : {b : ℕ} {bs rest : List ℕ} → is_name_start b ≡ true → list_all is_name_continue bs ≡ true → is_name_continue (slice_index rest 0) ≡ false
-      → Stands (b ∷ bs) (Word Name Level) rest
-  punctuator_token : {b : ℕ} {rest : List ℕ} → is_punctuator_byte b ≡ true → Stands (b ∷ []) (Word Punctuator (nesting_of b)) rest
+  name_token : {b : ℕ} {bs rest : List ℕ} → is_name_start b ≡ true → list_all is_name_continue bs ≡ true
+      → is_name_continue (slice_index rest 0) ≡ false → Stands (b ∷ bs) (Word Name Level) rest
+  punctuator_token : {b : ℕ} {rest : List ℕ} → is_punctuator_byte b ≡ true
+      → Stands (b ∷ []) (Word Punctuator (nesting_of b)) rest
   spread_token : {rest : List ℕ} → Stands (46 ∷ 46 ∷ 46 ∷ []) (Word Punctuator Level) rest
   -- a number takes its whole run
   integer_token : {run rest : List ℕ} → is_integer run ≡ true → EndsRun rest → Stands run (Word IntValue Level) rest
@@ -151,7 +160,8 @@ pub data Stands : List ℕ → Meaning → List ℕ → Type 0 where
   -- a string; an empty string only if no other quote follows
   string_token : (body : List ℕ) {rest : List ℕ} → IsStringBody body → (body ≡ [] → slice_index rest 0 ≢ 34)
       → Stands (34 ∷ (body ++ 34 ∷ [])) (Word StringValue Level) rest
-  block_string_token : {body rest : List ℕ} → ClosesBlock body → Stands (34 ∷ 34 ∷ 34 ∷ body) (Word BlockString Level) rest
+  block_string_token : {body rest : List ℕ} → ClosesBlock body
+      → Stands (34 ∷ 34 ∷ 34 ∷ body) (Word BlockString Level) rest
 
 -- no lexical element begins this input
 abbrev pub BeginsNone : List ℕ → Type 0
@@ -164,4 +174,5 @@ pub record Piece : Type 0 where
 -- the input is these lexical elements, and then `stop`, which no lexical element begins
 abbrev pub IsCutInto : List ℕ → List Piece → List ℕ → Type 0
 IsCutInto text [] stop = (text ≡ stop) × BeginsNone stop
-IsCutInto text (p ∷ ps) stop = (rest : List ℕ) × (text ≡ p.bytes ++ rest) × Stands p.bytes p.meaning rest × IsCutInto rest ps stop
+IsCutInto text (p ∷ ps) stop =
+    (rest : List ℕ) × (text ≡ p.bytes ++ rest) × Stands p.bytes p.meaning rest × IsCutInto rest ps stop

@@ -12,7 +12,12 @@ use Rattle.graphql_core.specs.lexical.Items.{is_token, HasItems}
 -- an item on this line, in this column, after this many bytes, opening and closing brackets
 abbrev at : Content → ℕ → ℕ → ℕ → ℕ → ℕ → Item
 at c line column offset openers closers = item_at c
-    (record { position = record { line = line; column = column }; offset = offset; openers = openers; closers = closers })
+    (record {
+      position = record { line = line; column = column };
+      offset = offset;
+      openers = openers;
+      closers = closers;
+    })
 
 abbrev open_brace : Content
 open_brace = TokenContent Punctuator (codes "{")
@@ -25,7 +30,8 @@ name_a = TokenContent Name (codes "a")
 
 -- the items of the input are `n` tokens, and then this last item
 abbrev EndsAfter : List ℕ → ℕ → Item → Type 0
-EndsAfter text n last = (tokens : List Item) × (length tokens ≡ n) × (list_all (λ i. is_token i.content) tokens ≡ true) × HasItems text (tokens ++ last ∷ [])
+EndsAfter text n last = (tokens : List Item) × (length tokens ≡ n) × (list_all (λ i. is_token i.content) tokens ≡ true)
+    × HasItems text (tokens ++ last ∷ [])
 
 abbrev pub EmptyInput : Type 0
 EmptyInput = HasItems [] (at EndOfInput 1 1 0 0 0 ∷ [])
@@ -69,7 +75,8 @@ ClosedFirst = EndsAfter (125 ∷ replicate 51 123) 52 (at EndOfInput 1 53 52 51 
 
 -- the input is one token of this kind
 abbrev IsOneToken : Kind → List ℕ → Type 0
-IsOneToken k text = HasItems text (at (TokenContent k text) 1 1 0 0 0 ∷ at EndOfInput 1 (length text + 1) (length text) 0 0 ∷ [])
+IsOneToken k text =
+    HasItems text (at (TokenContent k text) 1 1 0 0 0 ∷ at EndOfInput 1 (length text + 1) (length text) 0 0 ∷ [])
 
 -- the input begins with a lexical error
 abbrev BeginsBad : BadText → List ℕ → Type 0
@@ -83,7 +90,8 @@ BadIntegers = BeginsBad (bad_integer (codes "-")) (codes "-") × BeginsBad (bad_
 
 -- After the sign of an exponent, digits are optional. Without a sign, the first digit is 1 to 8.
 abbrev pub Floats : Type 0
-Floats = IsOneToken FloatValue (codes "1E8") × IsOneToken FloatValue (codes "-0.0e+0") × IsOneToken FloatValue (codes "1e+")
+Floats =
+    IsOneToken FloatValue (codes "1E8") × IsOneToken FloatValue (codes "-0.0e+0") × IsOneToken FloatValue (codes "1e+")
 
 abbrev pub BadFloats : Type 0
 BadFloats = BeginsBad (bad_float (codes "1.")) (codes "1.") × BeginsBad (bad_float (codes "1e9")) (codes "1e9")
@@ -102,7 +110,8 @@ BareDot = BeginsBad bare_dot (codes ".5")
 
 -- U+00A0 after a name
 abbrev pub NoBreakSpace : Type 0
-NoBreakSpace = HasItems (97 ∷ 194 ∷ 160 ∷ 98 ∷ []) (at name_a 1 1 0 0 0 ∷ at (LexicalError (bad_character 160)) 1 2 1 0 0 ∷ [])
+NoBreakSpace =
+    HasItems (97 ∷ 194 ∷ 160 ∷ 98 ∷ []) (at name_a 1 1 0 0 0 ∷ at (LexicalError (bad_character 160)) 1 2 1 0 0 ∷ [])
 
 abbrev name_b : Content
 name_b = TokenContent Name (codes "b")
@@ -110,7 +119,8 @@ name_b = TokenContent Name (codes "b")
 -- a string with the two bytes of one character, and a name
 abbrev pub CharacterInString : Type 0
 CharacterInString =
-    HasItems (34 ∷ 195 ∷ 169 ∷ 34 ∷ codes " b") (at (TokenContent StringValue (34 ∷ 195 ∷ 169 ∷ 34 ∷ [])) 1 1 0 0 0 ∷ at name_b 1 5 5 0 0 ∷ at EndOfInput 1 6 6 0 0 ∷ [])
+    HasItems (34 ∷ 195 ∷ 169 ∷ 34 ∷ codes " b") (at (TokenContent StringValue (34 ∷ 195 ∷ 169 ∷ 34 ∷ [])) 1 1 0 0 0
+    ∷ at name_b 1 5 5 0 0 ∷ at EndOfInput 1 6 6 0 0 ∷ [])
 
 -- ---- strings
 
@@ -130,13 +140,15 @@ QuoteInBlock = IsOneToken BlockString (quotes ++ 34 ∷ 97 ∷ quotes)
 -- the first three quotes end a block string
 abbrev pub QuoteAfterBlock : Type 0
 QuoteAfterBlock =
-    HasItems (quotes ++ 97 ∷ (quotes ++ 34 ∷ [])) (at (TokenContent BlockString (quotes ++ 97 ∷ quotes)) 1 1 0 0 0 ∷ at (LexicalError unterminated_string) 1 8 7 0 0 ∷ [])
+    HasItems (quotes ++ 97 ∷ (quotes ++ 34 ∷ [])) (at (TokenContent BlockString (quotes ++ 97 ∷ quotes)) 1 1 0 0 0
+    ∷ at (LexicalError unterminated_string) 1 8 7 0 0 ∷ [])
 
 -- a block string of two lines, and a name
 abbrev pub LinesInBlock : Type 0
 LinesInBlock =
     HasItems (quotes ++ 120 ∷ 10 ∷ 195 ∷ 169 ∷ (quotes ++ codes " b"))
-    (at (TokenContent BlockString (quotes ++ 120 ∷ 10 ∷ 195 ∷ 169 ∷ quotes)) 1 1 0 0 0 ∷ at name_b 2 6 11 0 0 ∷ at EndOfInput 2 7 12 0 0 ∷ [])
+    (at (TokenContent BlockString (quotes ++ 120 ∷ 10 ∷ 195 ∷ 169 ∷ quotes)) 1 1 0 0 0 ∷ at name_b 2 6 11 0 0
+    ∷ at EndOfInput 2 7 12 0 0 ∷ [])
 
 -- ---- punctuators
 
@@ -147,6 +159,6 @@ punctuator b = TokenContent Punctuator (b ∷ [])
 abbrev pub Punctuators : Type 0
 Punctuators =
     HasItems (codes "([&|...])")
-    (at (punctuator 40) 1 1 0 0 0 ∷ at (punctuator 91) 1 2 1 1 0 ∷ at (punctuator 38) 1 3 2 2 0 ∷ at (punctuator 124) 1 4 3 2 0
-    ∷ at (TokenContent Punctuator (codes "...")) 1 5 4 2 0
+    (at (punctuator 40) 1 1 0 0 0 ∷ at (punctuator 91) 1 2 1 1 0 ∷ at (punctuator 38) 1 3 2 2 0
+    ∷ at (punctuator 124) 1 4 3 2 0 ∷ at (TokenContent Punctuator (codes "...")) 1 5 4 2 0
     ∷ at (punctuator 93) 1 8 7 2 0 ∷ at (punctuator 41) 1 9 8 2 1 ∷ at EndOfInput 1 10 9 2 2 ∷ [])

@@ -1,5 +1,6 @@
 -- What the calls of a token stream return.
-use Rattle.std.specs.Prelude.{◌≡◌, ℕ, ◌+◌, ◌-◌, ◌≤◌, ◌^◌, min, if◌then◌else◌, List, [], ◌∷◌, length, take, Option, Some, None, Result, Ok, Err}
+use Rattle.std.specs.Prelude.{◌≡◌, ℕ, ◌+◌, ◌-◌, ◌≤◌, ◌^◌, min, if◌then◌else◌, List, [], ◌∷◌, length, take, Option, Some}
+use Rattle.std.specs.Prelude.{None, Result, Ok, Err}
 use Rattle.graphql_core.specs.declared.position.Pos.{Pos}
 use Rattle.graphql_core.specs.declared.tokenizer.token.Kind.{Kind}
 use Rattle.graphql_core.specs.declared.tokenizer.token.Token.{Token}
@@ -29,12 +30,14 @@ NextItem old (Err bad) new = (w : Where) × (old ≡ item_at (LexicalError (bad_
 -- If the next item is a token, the input begins with the spelling of the token.
 abbrev pub BeginsWithNext : List Item → List ℕ → Type 0
 BeginsWithNext items text =
-    (k : Kind) (value : List ℕ) (w : Where) (more : List Item) → items ≡ item_at (TokenContent k value) w ∷ more → take (length value) text ≡ value
+    (k : Kind) (value : List ℕ) (w : Where) (more : List Item) → items ≡ item_at (TokenContent k value) w ∷ more
+    → take (length value) text ≡ value
 
 -- The items are those of the input `text`, which begins at the place of the first item.
 -- At most 50 brackets are open there.
 abbrev pub AreItemsOfRest : List Item → List ℕ → Type 0
-AreItemsOfRest items text = HasItemsFrom (next_place items) text items × ((next_place items).openers ≤ (next_place items).closers + 50)
+AreItemsOfRest items text =
+    HasItemsFrom (next_place items) text items × ((next_place items).openers ≤ (next_place items).closers + 50)
 
 -- the last item alone, without the tokens before it
 abbrev pub last_alone : List Item → List Item

@@ -45,14 +45,16 @@ spaced (t ∷ ts) = t.spelling ++ spaced_after t.kind ts
 
 -- the output is the tokens of the source, spaced; the source has no lexical error
 abbrev pub IsMinified : (source text : List ℕ) → Type 0
-IsMinified source text = (items : List Item) × HasItems source items × IsEnd (split items).last × (text ≡ spaced (split items).tokens)
+IsMinified source text =
+    (items : List Item) × HasItems source items × IsEnd (split items).last × (text ≡ spaced (split items).tokens)
 
 abbrev pub unplaced : Token → Token
 unplaced t = record { kind = t.kind; spelling = t.spelling; place = nowhere }
 
 -- the input has tokens of these kinds and spellings, and then its end
 abbrev pub HasTokens : (text : List ℕ) → List Token → Type 0
-HasTokens text ts = (items : List Item) × HasItems text items × (map unplaced (split items).tokens ≡ map unplaced ts) × IsEnd (split items).last
+HasTokens text ts = (items : List Item) × HasItems text items × (map unplaced (split items).tokens ≡ map unplaced ts)
+    × IsEnd (split items).last
 
 -- ---- tokens that are lexical elements
 
@@ -65,7 +67,8 @@ is_past Closes o c = false
 -- Each token is a lexical element before some input. At most 50 brackets are open, counting those before the tokens.
 abbrev pub AreLexemes : (openers closers : ℕ) → List Token → Type 0
 AreLexemes o c [] = Unit {0}
-AreLexemes o c (t ∷ ts) = (k : Kind) × (n : Nesting) × (rest : List ℕ) × (t.kind ≡ kind_number k) × Stands t.spelling (Word k n) rest
+AreLexemes o c (t ∷ ts) =
+    (k : Kind) × (n : Nesting) × (rest : List ℕ) × (t.kind ≡ kind_number k) × Stands t.spelling (Word k n) rest
     × (is_past n o c ≡ false) × AreLexemes (openers_after n o) (closers_after n c) ts
 
 -- ---- errors

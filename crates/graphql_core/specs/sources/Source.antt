@@ -39,7 +39,8 @@ then_items t i = record { tokens = t ∷ i.tokens; last = i.last; spent = i.spen
 
 -- these tokens and this last item, which come from no stream
 abbrev pub tokens_then : List Token → Last → Items
-tokens_then ts l = record { tokens = ts; last = l; spent = record { first_cuts = 0; stream = record { items = []; cuts = 0 } } }
+tokens_then ts l =
+    record { tokens = ts; last = l; spent = record { first_cuts = 0; stream = record { items = []; cuts = 0 } } }
 
 abbrev pub only_last : Last → Items
 only_last l = tokens_then [] l
@@ -98,11 +99,13 @@ IsEnd (LastIsError p b) = ⊥
 abbrev pub IsAtEnd : Items → Type 0
 IsAtEnd i = (i.tokens ≡ []) × IsEnd i.last
 
--- the items of a source, after a call of its stream returned this result and left the stream `s`; its `cuts` was `n` at first
+-- the items of a source, after a call of its stream returned this result and left the stream `s`; its `cuts` was `n`
+-- at first
 abbrev pub held : ℕ → Pos → Result (Option Cut) Bad → Stream → Items
 held n p (Ok (Some t)) s = then_items (token_of p t.kind t.value.now) (items_since n s)
 held n p (Ok None) s = spending (record { first_cuts = n; stream = s }) (only_last (LastIsEnd (place_of p)))
-held n p (Err b) s = spending (record { first_cuts = n; stream = s }) (only_last (LastIsError (place_of p) (no_token (bad_text b))))
+held n p (Err b) s =
+    spending (record { first_cuts = n; stream = s }) (only_last (LastIsError (place_of p) (no_token (bad_text b))))
 
 -- ---- errors
 

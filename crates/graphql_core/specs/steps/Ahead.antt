@@ -1,6 +1,6 @@
 -- What the fast paths of the tokenizer test for.
-use Rattle.std.specs.Prelude.{◌≡◌, ℕ, ◌+◌, ◌-◌, ◌*◌, ◌^◌, ◌<◌, ◌≤◌, Bool, not, nat_le, nat_lt, ◌==◌, ◌&&◌, ◌||◌, if◌then◌else◌, List, ◌∷◌, length, map, slice_index, Option}
-use Rattle.std.specs.Prelude.{Some, None}
+use Rattle.std.specs.Prelude.{◌≡◌, ℕ, ◌+◌, ◌-◌, ◌*◌, ◌^◌, ◌<◌, ◌≤◌, Bool, not, nat_le, nat_lt, ◌==◌, ◌&&◌, ◌||◌}
+use Rattle.std.specs.Prelude.{if◌then◌else◌, List, ◌∷◌, length, map, slice_index, Option, Some, None}
 use Rattle.std.specs.Int.{w64, trailing_zeros}
 use Rattle.graphql_core.specs.steps.Front.{Cuts, is_flat}
 use Rattle.graphql_core.specs.lexical.{steps_over, Where, Item, Content, item_at, TokenContent, further}
@@ -101,8 +101,10 @@ HasRoom text at = (length text < 2 ^ 62) × (at.line + length text < 2 ^ 62) × 
 -- Between `text` at `at` and `rest` at `place` there is only ignored text.
 -- Each byte of the ignored text moves the position by at most one line or eight columns.
 abbrev pub SkipsTo : List ℕ → Pos → List ℕ → Pos → Type 0
-SkipsTo text at rest place = ((w : Where) → w.position ≡ at → items (further place (length text - length rest) w) rest ≡ items w text)
-    × (length rest ≤ length text) × (place.line + length rest ≤ at.line + length text) × (place.column + 8 * length rest ≤ at.column + 8 * length text)
+SkipsTo text at rest place =
+    ((w : Where) → w.position ≡ at → items (further place (length text - length rest) w) rest ≡ items w text)
+    × (length rest ≤ length text) × (place.line + length rest ≤ at.line + length text)
+    × (place.column + 8 * length rest ≤ at.column + 8 * length text)
 
 -- the contents of items, without their places
 abbrev pub contents : List Item → List Content
@@ -110,7 +112,8 @@ contents is = map (λ i. i.content) is
 
 -- `t` is the next token, and `new` has the contents of the items after the token
 abbrev pub NextLexeme : List Item → Token → List Item → Type 0
-NextLexeme old t new = (w : Where) × (more : List Item) × (old ≡ item_at (TokenContent t.kind t.value.now) w ∷ more) × (contents new ≡ contents more)
+NextLexeme old t new = (w : Where) × (more : List Item) × (old ≡ item_at (TokenContent t.kind t.value.now) w ∷ more)
+    × (contents new ≡ contents more)
 
 -- both inputs have the same items, ignoring places, whatever brackets are open before them
 abbrev pub HasContentsOf : List ℕ → List ℕ → Type 0

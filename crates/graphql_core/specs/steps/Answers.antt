@@ -19,15 +19,18 @@ reason_of Location = Some (Improper location_class)
 
 -- The reader takes a parse tree of which `P` holds with the returned value.
 -- Or the reader fails for the reason of the error, if the error has a reason.
-abbrev pub Answered : {A E : Type 0} → (E → Option Reason) → Grammar → Expr → List Token → List Token → (A → ParseTree → Type 0) → Result A E → Type 0
+abbrev pub Answered : {A E : Type 0} → (E → Option Reason) → Grammar → Expr → List Token → List Token
+    → (A → ParseTree → Type 0) → Result A E → Type 0
 Answered reason g e ts us P (Ok v) = TakesSome g e ts us (P v)
 Answered reason g e ts us P (Err s) = Stops g e ts us (reason s)
 
-abbrev pub GivesBy : {A E : Type 0} → (E → Option Reason) → Grammar → Expr → Items → Items → (A → ParseTree → Type 0) → Result A E → Type 0
+abbrev pub GivesBy : {A E : Type 0} → (E → Option Reason) → Grammar → Expr → Items → Items
+    → (A → ParseTree → Type 0) → Result A E → Type 0
 GivesBy reason g e old new P r = Answered reason g e old.tokens new.tokens P r
 
 -- the same for a reader whose errors are `ReadError`s
-abbrev pub Gives : {A : Type 0} → Grammar → Expr → Items → Items → (A → ParseTree → Type 0) → Result A ReadError → Type 0
+abbrev pub Gives : {A : Type 0} → Grammar → Expr → Items → Items → (A → ParseTree → Type 0)
+    → Result A ReadError → Type 0
 Gives g e old new P r = GivesBy reason_of g e old new P r
 
 -- the new list is the old list and then `xs`, seen through `f`

@@ -12,7 +12,8 @@ items_by more w bytes AtEnd = item_at EndOfInput w ∷ []
 items_by more w bytes Stops = last_item w bytes ∷ []
 items_by more w bytes (Skips n m) = more (past_ignored m n w) (drop n bytes)
 items_by more w bytes (Takes n k t) =
-    token_then (is_too_deep t w) (item_at (LexicalError too_deep) w) (item_at (TokenContent k (take n bytes)) w) (more (past_token t (take n bytes) w) (drop n bytes))
+    token_then (is_too_deep t w) (item_at (LexicalError too_deep) w) (item_at (TokenContent k (take n bytes)) w)
+    (more (past_token t (take n bytes) w) (drop n bytes))
 
 -- the same, for at most this many lexical elements
 unfoldable pub items_in : ℕ → Where → List ℕ → List Item

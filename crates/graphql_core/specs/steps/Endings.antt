@@ -8,8 +8,10 @@ use Rattle.graphql_core.specs.sources.{no_token, Items, LastIsEnd, LastIsError, 
 use Rattle.graphql_core.specs.sources.{spending, items_since, place_of}
 use Rattle.graphql_core.specs.declared.helpers.cursor.Ending.TheVariants as ending
 
--- the items of a source where this token or this ending is next, the stream is after it, and its `cuts` was `n` at first
+-- the items of a source where this token or this ending is next, the stream is after it, and its `cuts` was `n`
+-- at first
 abbrev pub shown : ℕ → Pos → Token → Ending → Stream → Items
 shown n p t ending.Open s = then_items (token_of p t.kind t.value.now) (items_since n s)
 shown n p t ending.End s = spending (record { first_cuts = n; stream = s }) (only_last (LastIsEnd (place_of p)))
-shown n p t (ending.Wrong b) s = spending (record { first_cuts = n; stream = s }) (only_last (LastIsError (place_of p) (no_token (bad_text b))))
+shown n p t (ending.Wrong b) s =
+    spending (record { first_cuts = n; stream = s }) (only_last (LastIsError (place_of p) (no_token (bad_text b))))

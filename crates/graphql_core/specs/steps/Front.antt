@@ -1,10 +1,11 @@
 -- The lexical element at the front of an input: how many bytes it takes, and how it moves the position.
-use Rattle.std.specs.Prelude.{◌≡◌, ℕ, ◌+◌, ◌<◌, ◌≤◌, length, Bool, true, false, not, nat_lt, ◌&&◌, ◌||◌, ◌==◌, if◌then◌else◌, List, [], ◌∷◌, drop}
-use Rattle.std.specs.Prelude.{slice_index}
+use Rattle.std.specs.Prelude.{◌≡◌, ℕ, ◌+◌, ◌<◌, ◌≤◌, length, Bool, true, false, not, nat_lt, ◌&&◌, ◌||◌, ◌==◌}
+use Rattle.std.specs.Prelude.{if◌then◌else◌, List, [], ◌∷◌, drop, slice_index}
 use Rattle.std.specs.Char.{is_ascii_digit}
 use Rattle.std.specs.List.{prefix_len, list_all}
 use Rattle.std.specs.Str.{IsCharBoundary}
-use Rattle.graphql_core.specs.lexical.{is_name_start, is_name_continue, is_in_line, is_punctuator_byte, nesting_of, steps_over}
+use Rattle.graphql_core.specs.lexical.{is_name_start, is_name_continue, is_in_line, is_punctuator_byte, nesting_of}
+use Rattle.graphql_core.specs.lexical.{steps_over}
 use Rattle.graphql_core.specs.steps.Numbers.{number}
 use Rattle.graphql_core.specs.steps.Quoted.{quoted_front}
 use Rattle.graphql_core.specs.declared.tokenizer.token.Kind.{Kind}

@@ -9,7 +9,8 @@ each f = turn_values (λ x. f x ∷ [])
 
 -- The symbol `k` is a non-empty list between an opener and a closer. None of its nodes is rejected.
 -- `m` is what a node denotes, and `f` what an element denotes.
-pub record IsList {A : Type 0} (g : Grammar) (o c : Class) (a : Expr) (f : ParseTree → A) (k : ℕ) (m : ParseTree → List A) : Type 0 where
+pub record IsList {A : Type 0} (g : Grammar) (o c : Class) (a : Expr) (f : ParseTree → A) (k : ℕ)
+    (m : ParseTree → List A) : Type 0 where
   pub rule : (row g k).rule ≡ Then (One o) (Then (some_of a) (One c))
   pub passes : (x : ParseTree) → g.check k x ≡ true
   pub opens : (t : Token) → g.good o t ≡ true

@@ -39,7 +39,8 @@ is_float (b ∷ bs) = if b == 45 then is_unsigned bs else is_unsigned (b ∷ bs)
 
 -- a run of `n` bytes
 abbrev pub number_of : ℕ → List ℕ → Piece
-number_of n run = if is_integer run then Takes n IntValue Level else if is_float run then Takes n FloatValue Level else Stops
+number_of n run = if is_integer run then Takes n IntValue Level
+    else if is_float run then Takes n FloatValue Level else Stops
 
 unfoldable pub number : List ℕ → Piece
 number bytes = number_of (prefix_len is_in_run bytes) (run_at bytes)

@@ -1,5 +1,6 @@
 -- The tokens of an input, as spans of the input.
-use Rattle.std.specs.Prelude.{◌≡◌, ℕ, ◌-◌, ◌*◌, ◌<◌, ◌≤◌, List, [], ◌∷◌, ◌++◌, All, length, take, drop, map, Option, Some, None}
+use Rattle.std.specs.Prelude.{◌≡◌, ℕ, ◌-◌, ◌*◌, ◌<◌, ◌≤◌, List, [], ◌∷◌, ◌++◌, All, length, take, drop, map, Option}
+use Rattle.std.specs.Prelude.{Some, None}
 use Rattle.std.specs.Str.{IsCharBoundary, IsUtf8}
 use Rattle.graphql_core.specs.grammar.{Token}
 use Rattle.graphql_core.specs.declared.position.Pos.{Pos}
@@ -27,7 +28,8 @@ pub record Marks {W : Type 0} (number : W → ℕ) (text : List ℕ) (s : Span W
 
 -- the tokens of the spans, then the items `i`
 abbrev pub then_left : {W : Type 0} → (W → ℕ) → List ℕ → List (Span W) → Items → Items
-then_left number text spans i = record { tokens = map (span_token number text) spans ++ i.tokens; last = i.last; spent = i.spent }
+then_left number text spans i =
+    record { tokens = map (span_token number text) spans ++ i.tokens; last = i.last; spent = i.spent }
 
 -- after the last token: the end of the input or this lexical error, at this position
 abbrev pub last_at : Pos → Option Bad → Last
@@ -52,13 +54,15 @@ IsLast items None = (w : Where) × (items ≡ item_at lexer.EndOfInput w ∷ [])
 IsLast items (Some bad) = (w : Where) × (items ≡ item_at (lexer.LexicalError (bad_text bad)) w ∷ [])
 
 -- From the items `old` some tokens were appended to the spans, and the items `new` are left.
-pub record AreAppended {W : Type 0} (number : W → ℕ) (most : ℕ) (text : List ℕ) (old : List Item) (spans more : List (Span W)) (new : List Item)
+pub record AreAppended {W : Type 0} (number : W → ℕ) (most : ℕ) (text : List ℕ) (old : List Item)
+    (spans more : List (Span W)) (new : List Item)
     : Type 0 where
   pub marks : All (Marks number text) spans → All (Marks number text) more
   pub left : IsLeft most text new
   pub items : then_left number text spans (split old) ≡ then_left number text more (split new)
 
 -- the items `all` are the tokens of the spans, then the end or this lexical error at the position `end`
-pub record IsCut {W : Type 0} (number : W → ℕ) (text : List ℕ) (all : Items) (spans : List (Span W)) (end : Pos) (bad : Option Bad) : Type 0 where
+pub record IsCut {W : Type 0} (number : W → ℕ) (text : List ℕ) (all : Items) (spans : List (Span W)) (end : Pos)
+    (bad : Option Bad) : Type 0 where
   pub marks : All (Marks number text) spans
   pub items : all ≡ span_items number text spans (last_at end bad)

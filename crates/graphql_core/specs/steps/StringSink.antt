@@ -6,7 +6,8 @@ use Rattle.std.proofs.Common.{sym, ◌∙◌, ap, append_assoc, append-nil}
 pub string_nil : (s : String Global) → string_bytes s ≡ string_bytes s ++ []
 string_nil s = sym (append-nil (string_bytes s))
 
-pub string_more : (s : String Global) (a : List ℕ) (t : String Global) (b : List ℕ) (u : String Global) → string_bytes t ≡ string_bytes s ++ a
+pub string_more : (s : String Global) (a : List ℕ) (t : String Global) (b : List ℕ) (u : String Global)
+    → string_bytes t ≡ string_bytes s ++ a
     → string_bytes u ≡ string_bytes t ++ b → string_bytes u ≡ string_bytes s ++ (a ++ b)
 string_more s a t b u p q = q ∙ ap (λ r. r ++ b) p ∙ append_assoc (string_bytes s) a b
 

@@ -1,5 +1,6 @@
 -- The value of a block string (GraphQL, October 2021, section 2.9.4, Block Strings).
-use Rattle.std.specs.Prelude.{◌≡◌, ℕ, Bool, not, ◌-◌, ◌||◌, ◌==◌, if◌then◌else◌, length, map, min, take, drop, List, [], ◌∷◌, ◌++◌}
+use Rattle.std.specs.Prelude.{◌≡◌, ℕ, Bool, not, ◌-◌, ◌||◌, ◌==◌, if◌then◌else◌, length, map, min, take, drop, List, []}
+use Rattle.std.specs.Prelude.{◌∷◌, ◌++◌}
 use Rattle.std.specs.List.{list_all, filter, prefix_len, suffix_len, reduce, join_by}
 use Rattle.std.specs.Option.{unwrap_or}
 use Rattle.std.specs.Str.Lines.{lines}

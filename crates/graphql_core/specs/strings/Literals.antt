@@ -12,8 +12,10 @@ is_whole_exponent e = is_exponent e && list_any is_ascii_digit e
 pub data EndsFloat : List ℕ → Type 0 where
   fraction : (fraction : List ℕ) → is_fraction fraction ≡ true → EndsFloat fraction
   exponent : (exponent : List ℕ) → is_whole_exponent exponent ≡ true → EndsFloat exponent
-  both : (fraction exponent : List ℕ) → is_fraction fraction ≡ true → is_whole_exponent exponent ≡ true → EndsFloat (fraction ++ exponent)
+  both : (fraction exponent : List ℕ) → is_fraction fraction ≡ true → is_whole_exponent exponent ≡ true
+      → EndsFloat (fraction ++ exponent)
 
 -- a float run whose exponent, if any, has a digit
 abbrev pub IsFloatLiteral : List ℕ → Type 0
-IsFloatLiteral text = (integer : List ℕ) × (ending : List ℕ) × (text ≡ integer ++ ending) × (is_integer integer ≡ true) × EndsFloat ending
+IsFloatLiteral text =
+    (integer : List ℕ) × (ending : List ℕ) × (text ≡ integer ++ ending) × (is_integer integer ≡ true) × EndsFloat ending

@@ -38,8 +38,8 @@ BlockValue content value = block_value (in_lines content) ≡ in_lines value
 abbrev pub Unindented : Type 0
 Unindented =
     BlockValue
-    (codes "   " ∷ [] ∷ codes "  Hello," ∷ codes "    World!" ∷ [] ∷ codes "  Yours," ∷ codes "    GraphQL." ∷ [] ∷ [] ∷ [] ∷ [])
-    (codes "Hello," ∷ codes "  World!" ∷ [] ∷ codes "Yours," ∷ codes "  GraphQL." ∷ [])
+    (codes "   " ∷ [] ∷ codes "  Hello," ∷ codes "    World!" ∷ [] ∷ codes "  Yours," ∷ codes "    GraphQL." ∷ [] ∷ []
+    ∷ [] ∷ []) (codes "Hello," ∷ codes "  World!" ∷ [] ∷ codes "Yours," ∷ codes "  GraphQL." ∷ [])
 
 -- the first line keeps its indent and its spaces
 abbrev pub FirstLine : Type 0
@@ -53,7 +53,8 @@ Blank = BlockValue (codes "   " ∷ (9 ∷ []) ∷ [] ∷ []) []
 
 -- CR LF ends a line
 abbrev pub ReturnFeed : Type 0
-ReturnFeed = block_value (13 ∷ 10 ∷ codes "  x" ++ 13 ∷ 10 ∷ codes "  y" ++ 13 ∷ 10 ∷ []) ≡ in_lines (codes "x" ∷ codes "y" ∷ [])
+ReturnFeed =
+    block_value (13 ∷ 10 ∷ codes "  x" ++ 13 ∷ 10 ∷ codes "  y" ++ 13 ∷ 10 ∷ []) ≡ in_lines (codes "x" ∷ codes "y" ∷ [])
 
 -- CR alone does not end a line
 abbrev pub ReturnInLine : Type 0

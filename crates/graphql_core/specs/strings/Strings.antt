@@ -27,7 +27,8 @@ pub data StandsFor : List ℕ → List ℕ → Type 0 where
 -- The body of a string is a sequence of units. Its value is what the units stand for, concatenated.
 pub data HasValue : List ℕ → List ℕ → Type 0 where
   no_units : HasValue [] []
-  unit_then : (unit bytes body value : List ℕ) → StandsFor unit bytes → HasValue body value → HasValue (unit ++ body) (bytes ++ value)
+  unit_then : (unit bytes body value : List ℕ) → StandsFor unit bytes → HasValue body value
+      → HasValue (unit ++ body) (bytes ++ value)
 
 -- the body has no value, because some escape is invalid
 abbrev pub HasNoStringValue : List ℕ → Type 0

@@ -99,8 +99,9 @@ const_pair_rule = Then name (Then (punctuator (codes ":")) (Sym const_symbol))
 -- Plain = "true" | "false" | "null" | EnumName | Int | Float | String | Block
 abbrev pub plain_rule : Expr
 plain_rule =
-    Either (word (codes "true")) (Either (word (codes "false")) (Either (word (codes "null")) (Either (Sym enum_name_symbol)
-    (Either (One (any IntValue)) (Either (One (any FloatValue)) (Either (One (any StringValue)) (One (any BlockString))))))))
+    Either (word (codes "true"))
+    (Either (word (codes "false")) (Either (word (codes "null")) (Either (Sym enum_name_symbol) (Either
+    (One (any IntValue)) (Either (One (any FloatValue)) (Either (One (any StringValue)) (One (any BlockString))))))))
 
 -- EnumName = Name other than "true", "false", "null"
 abbrev pub enum_name_rule : Expr
@@ -110,7 +111,8 @@ enum_name_rule = One enum_class
 abbrev pub type_rule : Expr
 type_rule =
     Either (Then name (optional (punctuator (codes "!"))))
-    (Then (punctuator (codes "[")) (Then (Sym type_symbol) (Then (punctuator (codes "]")) (optional (punctuator (codes "!"))))))
+    (Then (punctuator (codes "["))
+    (Then (Sym type_symbol) (Then (punctuator (codes "]")) (optional (punctuator (codes "!"))))))
 
 -- Arguments = "(" Argument+ ")"
 abbrev pub arguments_rule : Expr

@@ -1,6 +1,6 @@
 -- Which leaves of a parse tree have a value, and the values of these leaves.
-use Rattle.std.specs.Prelude.{ℕ, ℤ, ◌+◌, ◌-◌, ◌^◌, Bool, true, not, ◌&&◌, ◌||◌, ◌==◌, nat_lt, nat_le, if◌then◌else◌, is_some, List, [], ◌∷◌, ◌++◌, length}
-use Rattle.std.specs.Prelude.{take, drop, Option, Some, None}
+use Rattle.std.specs.Prelude.{ℕ, ℤ, ◌+◌, ◌-◌, ◌^◌, Bool, true, not, ◌&&◌, ◌||◌, ◌==◌, nat_lt, nat_le, if◌then◌else◌}
+use Rattle.std.specs.Prelude.{is_some, List, [], ◌∷◌, ◌++◌, length, take, drop, Option, Some, None}
 use Rattle.std.specs.Str.Parse.{signed_digits_value, starts_with_minus, without_leading_sign, digits_value}
 use Rattle.std.specs.List.{list_any, list_all}
 use Rattle.std.specs.Option.{unwrap_or}
@@ -60,7 +60,8 @@ is_surrogate c = nat_le 55296 c && nat_le c 57343
 
 -- the character that four hexadecimal digits name
 abbrev pub named_by : List ℕ → Option (List ℕ)
-named_by digits = if list_all is_ascii_hexdigit digits && not (is_surrogate (digits_value 16 digits)) then Some (encode_utf8 (digits_value 16 digits)) else None
+named_by digits = if list_all is_ascii_hexdigit digits && not (is_surrogate (digits_value 16 digits))
+    then Some (encode_utf8 (digits_value 16 digits)) else None
 
 -- the body of a string with each escape replaced by what it stands for; `None` if an escape is invalid
 unfoldable mutual

@@ -33,7 +33,8 @@ plain_of (Node k (Second (Second (Second (First (Node j t)))))) = enum (spelling
 plain_of (Node k (Second (Second (Second (Second (First t)))))) = int (int_of (spelling_at t))
 plain_of (Node k (Second (Second (Second (Second (Second (First t))))))) = float (spelling_at t)
 plain_of (Node k (Second (Second (Second (Second (Second (Second (First t)))))))) = string (string_of (spelling_at t))
-plain_of (Node k (Second (Second (Second (Second (Second (Second (Second t)))))))) = string (block_string_of (spelling_at t))
+plain_of (Node k (Second (Second (Second (Second (Second (Second (Second t)))))))) =
+    string (block_string_of (spelling_at t))
 plain_of _ = null
 
 abbrev pub enum_name_of : ParseTree → List ℕ
@@ -118,7 +119,8 @@ optional_arguments_of = optional_list_of arguments_of
 
 -- the position of a directive is that of its `@`
 abbrev pub directive_of : ParseTree → DirectiveTree
-directive_of (Node k (Both a (Both n o))) = record { position = place_at a; name = spelling_at n; arguments = optional_arguments_of o }
+directive_of (Node k (Both a (Both n o))) =
+    record { position = place_at a; name = spelling_at n; arguments = optional_arguments_of o }
 directive_of _ = record { position = nowhere; name = []; arguments = [] }
 
 abbrev pub directives_of : ParseTree → List DirectiveTree

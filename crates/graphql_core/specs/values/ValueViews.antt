@@ -56,7 +56,8 @@ module _ {N V : Type 0} (bytes : V → List ℕ) where
   arguments_view = map argument_view
 
   abbrev pub directive_view : Directive N V → DirectiveTree
-  directive_view d = record { position = place_of d.position; name = bytes d.name; arguments = arguments_view d.arguments.items }
+  directive_view d =
+      record { position = place_of d.position; name = bytes d.name; arguments = arguments_view d.arguments.items }
 
   abbrev pub directives_view : List (Directive N V) → List DirectiveTree
   directives_view = map directive_view

@@ -30,7 +30,8 @@ mutual
 -- the members with the value `v` at the key `k`: a new key comes before the greater ones, an equal key is replaced
 abbrev pub put : List ℕ → ValueTree → ValueMembers → ValueMembers
 put k v no_members = member k v no_members
-put k v (member l w ms) = match_ordering (slice_cmp nat_cmp k l) (member k v (member l w ms)) (member l v ms) (member l w (put k v ms))
+put k v (member l w ms) =
+    match_ordering (slice_cmp nat_cmp k l) (member k v (member l w ms)) (member l v ms) (member l w (put k v ms))
 
 abbrev pub keys : ValueMembers → List (List ℕ)
 keys no_members = []

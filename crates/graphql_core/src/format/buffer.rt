@@ -65,7 +65,8 @@ fn append_bytes(bytes: &mut Vec<u8>, len: usize, more: &[u8]) -> Result<usize, A
     requires { len ≤ vec_len bytes.old }
     ensures text { IfOk result (λ end. take end bytes.new.items ≡ take len bytes.old.items ++ more.now) }
     ensures within { IfOk result (λ end. end ≤ length bytes.new.items) }
-    ensures kept { OnErr result ((take len bytes.new.items ≡ take len bytes.old.items) × (len ≤ length bytes.new.items)) }
+    ensures kept { OnErr result
+        ((take len bytes.new.items ≡ take len bytes.old.items) × (len ≤ length bytes.new.items)) }
 {
     let end = len + more.len();
     if end > bytes.len() {
@@ -81,7 +82,8 @@ fn append(bytes: &mut Vec<u8>, len: usize, text: &str) -> Result<usize, AllocErr
     ensures text { IfOk result (λ end. take end bytes.new.items ≡ take len bytes.old.items ++ text.now) }
     ensures within { IfOk result (λ end. end ≤ length bytes.new.items) }
     ensures utf8 { IfOk result (λ end. IsUtf8 (take len bytes.old.items) → IsUtf8 (take end bytes.new.items)) }
-    ensures kept { OnErr result ((take len bytes.new.items ≡ take len bytes.old.items) × (len ≤ length bytes.new.items)) }
+    ensures kept { OnErr result
+        ((take len bytes.new.items ≡ take len bytes.old.items) × (len ≤ length bytes.new.items)) }
 {
     let end = append_bytes(bytes, len, text.as_bytes())?;
     Ok(end)
@@ -97,9 +99,11 @@ fn append_slow(
     more: &[u8],
 ) -> Result<usize, AllocError>
     requires { len ≤ vec_len bytes.old }
-    ensures text { IfOk result (λ end. take end bytes.new.items ≡ take len bytes.old.items ++ (space_if is_spaced ++ more.now)) }
+    ensures text { IfOk result
+        (λ end. take end bytes.new.items ≡ take len bytes.old.items ++ (space_if is_spaced ++ more.now)) }
     ensures within { IfOk result (λ end. end ≤ length bytes.new.items) }
-    ensures kept { OnErr result ((take len bytes.new.items ≡ take len bytes.old.items) × (len ≤ length bytes.new.items)) }
+    ensures kept { OnErr result
+        ((take len bytes.new.items ≡ take len bytes.old.items) × (len ≤ length bytes.new.items)) }
 {
     let most = len + more.len() + 1;
     if most > bytes.len() {
@@ -121,9 +125,11 @@ fn append_spaced_bytes(
 ) -> Result<usize, AllocError>
     requires within { len ≤ vec_len bytes.old }
     requires begins { take (length more.now) from.now ≡ more.now }
-    ensures text { IfOk result (λ end. take end bytes.new.items ≡ take len bytes.old.items ++ (space_if is_spaced ++ more.now)) }
+    ensures text { IfOk result
+        (λ end. take end bytes.new.items ≡ take len bytes.old.items ++ (space_if is_spaced ++ more.now)) }
     ensures within { IfOk result (λ end. end ≤ length bytes.new.items) }
-    ensures kept { OnErr result ((take len bytes.new.items ≡ take len bytes.old.items) × (len ≤ length bytes.new.items)) }
+    ensures kept { OnErr result
+        ((take len bytes.new.items ≡ take len bytes.old.items) × (len ≤ length bytes.new.items)) }
 {
     if more.len() > LOAD || from.len() < LOAD || bytes.len() - len <= LOAD {
         return append_slow(bytes, len, is_spaced, more);
@@ -143,10 +149,12 @@ fn append_spaced(
 ) -> Result<usize, AllocError>
     requires within { len ≤ vec_len bytes.old }
     requires begins { take (length text.now) from.now ≡ text.now }
-    ensures text { IfOk result (λ end. take end bytes.new.items ≡ take len bytes.old.items ++ (space_if is_spaced ++ text.now)) }
+    ensures text { IfOk result
+        (λ end. take end bytes.new.items ≡ take len bytes.old.items ++ (space_if is_spaced ++ text.now)) }
     ensures within { IfOk result (λ end. end ≤ length bytes.new.items) }
     ensures utf8 { IfOk result (λ end. IsUtf8 (take len bytes.old.items) → IsUtf8 (take end bytes.new.items)) }
-    ensures kept { OnErr result ((take len bytes.new.items ≡ take len bytes.old.items) × (len ≤ length bytes.new.items)) }
+    ensures kept { OnErr result
+        ((take len bytes.new.items ≡ take len bytes.old.items) × (len ≤ length bytes.new.items)) }
 {
     let end = append_spaced_bytes(bytes, len, is_spaced, text.as_bytes(), from.as_bytes())?;
     Ok(end)

@@ -31,7 +31,8 @@ pub trait Sink {
 
     ghost took_nil: { (s : Self) → took s [] s };
 
-    ghost took_more: { (s : Self) (a : List ℕ) (t : Self) (b : List ℕ) (u : Self) → took s a t → took t b u → took s (a ++ b) u };
+    ghost took_more: { (s : Self) (a : List ℕ) (t : Self) (b : List ℕ) (u : Self) → took s a t
+        → took t b u → took s (a ++ b) u };
 }
 
 impl Sink for String {

@@ -60,8 +60,10 @@ impl<'a, T: Text<'a>> Model for Cursor<'a, T> {
 
     ghost view = { λ c. shown c.first_cuts c.position c.token c.ending (record { items = c.tokens; cuts = c.cuts }) };
 
-    ghost invariant = { λ c. All IsLexeme (shown c.first_cuts c.position c.token c.ending (record { items = c.tokens; cuts = c.cuts })).tokens
-        × (c.front ≡ front_byte (shown c.first_cuts c.position c.token c.ending (record { items = c.tokens; cuts = c.cuts })).tokens)
+    ghost invariant = { λ c. All IsLexeme
+        (shown c.first_cuts c.position c.token c.ending (record { items = c.tokens; cuts = c.cuts })).tokens
+        × (c.front ≡ front_byte
+        (shown c.first_cuts c.position c.token c.ending (record { items = c.tokens; cuts = c.cuts })).tokens)
         × (c.first_cuts ≤ c.cuts) × (c.cuts ≤ 2 ^ 64 - 1) };
 }
 
@@ -79,8 +81,10 @@ pub fn first_byte(text: &str) -> u8
 /// What a cursor keeps of a result of its stream.
 #[inline(always)]
 fn kept_of<'a>(answer: Result<Option<Token<'a>>, Bad<'a>>) -> (Token<'a>, Ending<'a>)
-    ensures items { (n : ℕ) (place : Pos) (left : Stream) → shown n place result.0 result.1 left ≡ held n place answer.entry left }
-    ensures front { (n : ℕ) (place : Pos) (left : Stream) → first_byte result.0.value.now ≡ front_byte (held n place answer.entry left).tokens }
+    ensures items { (n : ℕ) (place : Pos) (left : Stream)
+        → shown n place result.0 result.1 left ≡ held n place answer.entry left }
+    ensures front { (n : ℕ) (place : Pos) (left : Stream)
+        → first_byte result.0.value.now ≡ front_byte (held n place answer.entry left).tokens }
 {
     let none = Token {
         kind: Kind::Punctuator,
@@ -152,7 +156,8 @@ impl<'a, T: Text<'a>> Cursor<'a, T> {
 
 /// The `Fault` for a token that is not allowed at its position, or for `OutOfMemory`.
 pub fn unexpected(alloc: Global, token: Token<'_>, position: Pos) -> Fault
-    ensures { (after : Items) → IsNextFault (then_items (token_of position token.entry.kind token.entry.value.now) after) result }
+    ensures { (after : Items)
+        → IsNextFault (then_items (token_of position token.entry.kind token.entry.value.now) after) result }
 {
     match String::from_str(alloc, token.value) {
         Ok(text) => Fault::at(

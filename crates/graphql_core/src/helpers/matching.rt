@@ -60,7 +60,8 @@ pub fn expect_punctuator<S: TokenSource>(
     source: &mut S,
     punctuator: Punctuator,
 ) -> Result<Pos, ReadError>
-    ensures { TakesOne (class_of punctuator) (S.items source.old) (S.items source.new) (λ p t. t.place ≡ place_of p) result }
+    ensures { TakesOne (class_of punctuator) (S.items source.old) (S.items source.new)
+        (λ p t. t.place ≡ place_of p) result }
 {
     if !source.sees_punctuator(punctuator) {
         return Err(ReadError::Item);

@@ -85,7 +85,8 @@ pub fn minified(alloc: Global, source: &str) -> Result<String, Fault>
     requires { length source.now ≤ usize.MAX / 16 }
     ensures minified { IfOk result (λ text. IsMinified source.now (string_bytes text)) }
     // The tokens of the output are those of the input, ignoring positions.
-    ensures tokens { (items : List Item) → HasItems source.now items → IfOk result (λ text. HasTokens (string_bytes text) (split items).tokens) }
+    ensures tokens { (items : List Item) → HasItems source.now items
+        → IfOk result (λ text. HasTokens (string_bytes text) (split items).tokens) }
     // Minifying is idempotent.
     ensures again { IfOk result (λ text. IsMinified (string_bytes text) (string_bytes text)) }
     // An error is the lexical error that ends the tokens, or `OutOfMemory`.
@@ -99,7 +100,8 @@ pub fn spaced_tokens_are_cut()
     // Any valid tokens with at most 50 brackets open.
     ensures any { (ts : List Token) → AreLexemes 0 0 ts → HasTokens (spaced ts) ts }
     // Hence the tokens of an input up to its end or its first lexical error.
-    ensures of_a_text { (source : List ℕ) (items : List Item) → HasItems source items → HasTokens (spaced (split items).tokens) (split items).tokens }
+    ensures of_a_text { (source : List ℕ) (items : List Item) → HasItems source items
+        → HasTokens (spaced (split items).tokens) (split items).tokens }
     // An input has at most one minified output. Minifying is idempotent.
     ensures one { (source text other : List ℕ) → IsMinified source text → IsMinified source other → text ≡ other }
     ensures again { (source text : List ℕ) → IsMinified source text → IsMinified text text }

@@ -1,5 +1,6 @@
 //! A `TokenSource` that tokenizes the whole input before the first token is read.
-ghost use Rattle.std.specs.Prelude.{◌≡◌, ℕ, ◌+◌, ◌≤◌, ◌<◌, ◌*◌, ◌/◌, ◌^◌, List, All, IfOk, length, map, drop, vec_len, vec_capacity};
+ghost use Rattle.std.specs.Prelude.{◌≡◌, ℕ, ◌+◌, ◌≤◌, ◌<◌, ◌*◌, ◌/◌, ◌^◌, List, All, IfOk, length, map, drop, vec_len};
+ghost use Rattle.std.specs.Prelude.{vec_capacity};
 ghost use Rattle.graphql_core.specs.lexical.Items.{HasItems, Item};
 ghost use Rattle.graphql_core.specs.sources.Source.{split, after};
 ghost use Rattle.graphql_core.specs.steps.Punctuators.{first_byte, front_byte};
@@ -45,7 +46,8 @@ impl<'a, T: Text<'a>, W: Width> Model for SpanSource<'a, T, W> {
 
     ghost Value = { Items };
 
-    ghost view = { λ s. span_items W.number s.text.now (drop s.taken s.spans.tokens.items) (last_at s.spans.end s.spans.bad) };
+    ghost view = { λ s. span_items W.number s.text.now (drop s.taken s.spans.tokens.items)
+        (last_at s.spans.end s.spans.bad) };
 
     ghost invariant = { λ s. All (Marks W.number s.text.now) s.spans.tokens.items
         × (s.front ≡ front_byte (map (span_token W.number s.text.now) (drop s.taken s.spans.tokens.items)))
@@ -112,7 +114,8 @@ fn append<'a, W: Width>(
 fn cut<W: Width>(alloc: Global, text: &str) -> Result<Spans<'_, W>, AllocError>
     requires small { length text.now ≤ usize.MAX / 16 }
     requires narrow { 8 * length text.now < W.most }
-    ensures { (items : List Item) → HasItems text.now items → IfOk result (λ s. IsCut W.number text.now (split items) s.tokens.items s.end s.bad) }
+    ensures { (items : List Item) → HasItems text.now items
+        → IfOk result (λ s. IsCut W.number text.now (split items) s.tokens.items s.end s.bad) }
 {
     let mut spans = Vec::with_capacity(alloc, text.len() / 4 + 1)?;
     let mut tokens = Tokens::new(text);

@@ -38,13 +38,14 @@ fn ignored_kind(ignored: &str) -> ElementKind
     }
 }
 
-/// The lexical element at the start of the input, which must have at most `usize::MAX / 16` bytes. Open brackets are not
-/// counted.
+/// The lexical element at the start of the input, which must have at most `usize::MAX / 16` bytes. Open brackets are
+/// not counted.
 ///
 /// `None` if there is none: the input is empty, or it begins with a lexical error.
 pub fn first_element(source: &str) -> Option<Element<'_>>
     requires { length source.now ≤ usize.MAX / 16 }
-    ensures first { MatchOption result (BeginsNone source.now) (λ e. BeginsWithElement source.now e.kind e.text.now e.rest.now) }
+    ensures first { MatchOption result (BeginsNone source.now)
+        (λ e. BeginsWithElement source.now e.kind e.text.now e.rest.now) }
     ensures shorter { IfSome result (λ e. length e.rest.now < length source.now) }
 {
     if let Some((len, _)) = ignored_of(source) {

@@ -66,7 +66,8 @@ fn skip_common(text: &str, at: Pos) -> (&str, Pos, bool)
     }
 }
 
-/// Skips spaces, commas, tabs and line ends, without a position. Returns `None` where the flag of `skip_common` is false.
+/// Skips spaces, commas, tabs and line ends, without a position. Returns `None` where the flag of `skip_common`
+/// is false.
 #[inline(always)]
 pub fn after_common(text: &str) -> Option<&str>
     ensures skips { IfSome result (λ rest. HasContentsOf rest.now text.now × (length rest.now ≤ length text.now)) }

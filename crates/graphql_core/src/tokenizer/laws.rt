@@ -6,7 +6,8 @@ ghost use Rattle.graphql_core.specs.lexical.LexicalExamples as example;
 /// Each input has exactly one list of items: its tokens, then its end or its first lexical error.
 pub fn one_list_of_items()
     ensures some { (text : List ℕ) → (items : List Item) × HasItems text items }
-    ensures one { (text : List ℕ) (items others : List Item) → HasItems text items → HasItems text others → items ≡ others }
+    ensures one { (text : List ℕ) (items others : List Item) → HasItems text items
+        → HasItems text others → items ≡ others }
     ensures last { (text : List ℕ) (items : List Item) → HasItems text items → EndsOnce items }
 {}
 

@@ -23,7 +23,8 @@ pub fn line_len(text: &str) -> usize
 #[inline(always)]
 pub fn split_line(text: &str) -> (&str, Option<&str>)
     ensures shorter { IfSome result.1 (λ rest. length rest.now < length text.now) }
-    ensures lines { MatchOption result.1 (lines_of text.now ≡ result.0.now ∷ []) (λ rest. lines_of text.now ≡ result.0.now ∷ lines_of rest.now) }
+    ensures lines { MatchOption result.1 (lines_of text.now ≡ result.0.now ∷ [])
+        (λ rest. lines_of text.now ≡ result.0.now ∷ lines_of rest.now) }
 {
     let (line, rest) = text.split_at(line_len(text));
     (line, rest.strip_prefix('\n'))

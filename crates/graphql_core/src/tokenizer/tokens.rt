@@ -94,8 +94,8 @@ impl<'a> Tokens<'a> {
         }))
     }
 
-    /// The result of `next_token`, and the tokens after it: the slow path. A loop need not keep the tokens in memory for
-    /// this call, because they are passed by value.
+    /// The result of `next_token`, and the tokens after it: the slow path. A loop need not keep the tokens in memory
+    /// for this call, because they are passed by value.
     #[inline(never)]
     pub fn slow_token(mut self) -> (Result<Option<Token<'a>>, Bad<'a>>, Self)
         ensures { NextItem self.entry result.0 result.1 }

@@ -206,7 +206,8 @@ pub fn first_value<'a, T: Text<'a>>(
 
 /// The formatted source; `None` if it cannot be parsed or formatted.
 fn laid_out(alloc: Global, source: &str, style: &Style) -> Option<String>
-    ensures { IfSome result (λ text. (d : DocumentTree) × IsDocumentOf source.now d × (string_bytes text ≡ layout style.now d)) }
+    ensures { IfSome result
+        (λ text. (d : DocumentTree) × IsDocumentOf source.now d × (string_bytes text ≡ layout style.now d)) }
 {
     let document: Document<'_, &str> = parse_query(alloc, source).ok()?;
     document.format(alloc, style).ok()
@@ -255,15 +256,16 @@ enum Lost {
     Parse(ParseError),
 }
 
-/// A document formatted and parsed: the same, ignoring positions. It fails only if the document is too wide, the output is
-/// too long, or an allocation fails.
+/// A document formatted and parsed: the same, ignoring positions. It fails only if the document is too wide, the output
+/// is too long, or an allocation fails.
 fn formatted_and_parsed<N: Names>(
     alloc: Global,
     document: &Document<'_, N>,
     style: &Style,
 ) -> Result<Document<'static, String>, Lost>
     requires { IsPrintable (document_view N.bytes document.now) }
-    ensures same { IfOk result (λ d. erase (document_view string_bytes d) ≡ erase (document_view N.bytes document.now)) }
+    ensures same { IfOk result
+        (λ d. erase (document_view string_bytes d) ≡ erase (document_view N.bytes document.now)) }
     ensures formatted { (e : FormatError) → result ≡ Err (Lost.Format e)
         → (e ≡ FormatError.OutOfMemory) ⊎ IsTooWide style.now (document_view N.bytes document.now) }
     ensures parsed { (e : Refusal) → result ≡ Err (Lost.Parse e)
@@ -274,14 +276,14 @@ fn formatted_and_parsed<N: Names>(
     parse_query::<String>(alloc, &text).map_err(Lost::Parse)
 }
 
-/// A source minified and parsed: its own document, ignoring positions. For a valid source it fails only if the source or the
-/// output is too long, or an allocation fails.
+/// A source minified and parsed: its own document, ignoring positions. For a valid source it fails only if the source
+/// or the output is too long, or an allocation fails.
 fn minified_and_parsed(alloc: Global, source: String) -> Result<Document<'static, String>, Lost>
     ensures same { (d : DocumentTree) → IsDocumentOf (string_bytes source) d
         → IfOk result (λ e. erase (document_view string_bytes e) ≡ erase d) }
     ensures no_other { IfOk result (λ d. IsReadBack (string_bytes source) (document_view string_bytes d)) }
-    ensures parsed { (d : DocumentTree) (e : Refusal) → IsDocumentOf (string_bytes source) d → result ≡ Err (Lost.Parse e)
-        → (e ≡ no_memory) ⊎ (e ≡ too_long) }
+    ensures parsed { (d : DocumentTree) (e : Refusal) → IsDocumentOf (string_bytes source) d
+        → result ≡ Err (Lost.Parse e) → (e ≡ no_memory) ⊎ (e ≡ too_long) }
 {
     let text = minify_query(alloc, source).map_err(Lost::Minify)?;
     parse_query::<String>(alloc, &text).map_err(Lost::Parse)

@@ -37,14 +37,16 @@ enum Lost {
     Parse(ParseError),
 }
 
-/// A schema formatted and parsed: the same but for positions, unless an allocation fails, or it is too wide or its text too long.
+/// A schema formatted and parsed: the same but for positions, unless an allocation fails, or it is too wide or its text
+/// too long.
 fn formatted_and_parsed<N: Names>(
     alloc: Global,
     document: &Document<'_, N>,
     style: &Style,
 ) -> Result<Document<'static, String>, Lost>
     requires { IsPrintable (document_view N.bytes document.now) }
-    ensures same { IfOk result (λ d. erase (document_view string_bytes d) ≡ erase (document_view N.bytes document.now)) }
+    ensures same { IfOk result
+        (λ d. erase (document_view string_bytes d) ≡ erase (document_view N.bytes document.now)) }
     ensures formatted { (e : FormatError) → result ≡ Err (Lost.Format e)
         → (e ≡ FormatError.OutOfMemory) ⊎ IsTooWide style.now (document_view N.bytes document.now) }
     ensures parsed { (e : Refusal) → result ≡ Err (Lost.Parse e)

@@ -17,8 +17,8 @@ fn rest_of<'a>(alloc: Global, stream: &mut TokenStream<'a>) -> Option<query::Doc
     parse_query_from::<String>(alloc, stream).ok()
 }
 
-/// The same, where no bracket was closed that was not opened. After a document the stream stands at its end, and was asked
-/// for each item once.
+/// The same, where no bracket was closed that was not opened. After a document the stream stands at its end, and was
+/// asked for each item once.
 fn rest_read_once<'a>(
     alloc: Global,
     stream: &mut TokenStream<'a>,

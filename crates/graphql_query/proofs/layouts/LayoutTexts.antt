@@ -101,5 +101,6 @@ variable_definition_text n declared default directives = simp (text_append, appe
 
 pub fragment_definition_text : (n : List ℕ) (condition directives selected : List Part)
     → (((((codes "fragment " ++ n) ++ codes " ") ++ text_of condition) ++ text_of directives) ++ codes " ") ++ text_of selected
-    ≡ text_of (name_part (codes "fragment") ++ (gap (codes " ") ++ (name_part n ++ (gap (codes " ") ++ (condition ++ (directives ++ (gap (codes " ") ++ selected)))))))
+    ≡ text_of (name_part (codes "fragment")
+    ++ (gap (codes " ") ++ (name_part n ++ (gap (codes " ") ++ (condition ++ (directives ++ (gap (codes " ") ++ selected)))))))
 fragment_definition_text n condition directives selected = simp (text_append, append_assoc)

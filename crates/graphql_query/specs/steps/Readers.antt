@@ -21,9 +21,11 @@ abbrev pub read_variable_definition : ParseTree → VariableDefinitionTree
 read_variable_definition x = variable_definition_of (written changes x)
 
 -- selections were appended, and with this span they are the selection set
-abbrev pub AddsSet : {N T : Type 0} → (T → List ℕ) → List (Selection N T) → List (Selection N T) → Pos × Pos → SelectionSetTree → Type 0
+abbrev pub AddsSet : {N T : Type 0} → (T → List ℕ) → List (Selection N T) → List (Selection N T) → Pos × Pos
+    → SelectionSetTree → Type 0
 AddsSet bytes old new span tree =
-    (ss : List SelectionTree) × Adds (selection_view bytes) old new ss × (set (place_of span.0) (place_of span.1) (trees_of ss) ≡ tree)
+    (ss : List SelectionTree) × Adds (selection_view bytes) old new ss
+    × (set (place_of span.0) (place_of span.1) (trees_of ss) ≡ tree)
 
 -- a name, and optionally a colon and another name
 abbrev pub first_names : Expr
@@ -44,10 +46,12 @@ after_dots_of _ = spread nowhere [] []
 -- the next token can begin a definition
 abbrev pub sees_definition : Items → Bool
 sees_definition i =
-    sees_class (punctuator_class (codes "{")) i || sees_class (keyword (codes "query")) i || sees_class (keyword (codes "mutation")) i
+    sees_class (punctuator_class (codes "{")) i || sees_class (keyword (codes "query")) i
+    || sees_class (keyword (codes "mutation")) i
     || sees_class (keyword (codes "subscription")) i || sees_class (keyword (codes "fragment")) i
 
 -- a definition that denotes d was read by the second rules, and the other state of the source is unchanged
 abbrev pub TakesDefinition : Items → Items → DefinitionTree → Type 0
 TakesDefinition old new d =
-    (x : ParseTree) × Takes reading (Sym definition_symbol) old.tokens x new.tokens × (d ≡ definition_of (written changes x)) × (kept new ≡ kept old)
+    (x : ParseTree) × Takes reading (Sym definition_symbol) old.tokens x new.tokens
+    × (d ≡ definition_of (written changes x)) × (kept new ≡ kept old)

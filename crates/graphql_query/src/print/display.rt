@@ -25,7 +25,8 @@ impl<N: Names> fmt::Display for Document<N> {
     ghost styled_output = { λ t spec. Some (layout default_style (document_view N.bytes t)) };
 
     fn fmt<W: fmt::Write>(&self, f: &mut fmt::Formatter<W>) -> fmt::Result
-        ensures { Displays W.write_str_gives f.old result document_layout levels (document_view N.bytes self.now) f.new }
+        ensures { Displays W.write_str_gives f.old result document_layout levels
+            (document_view N.bytes self.now) f.new }
     {
         fmt_in_default_style(self, f)
     }
@@ -37,7 +38,8 @@ impl<N: Names> fmt::Display for Definition<N> {
     ghost styled_output = { λ t spec. Some (text_of (definition_layout default_style (definition_view N.bytes t))) };
 
     fn fmt<W: fmt::Write>(&self, f: &mut fmt::Formatter<W>) -> fmt::Result
-        ensures { Displays W.write_str_gives f.old result definition_layout definition_levels (definition_view N.bytes self.now) f.new }
+        ensures { Displays W.write_str_gives f.old result definition_layout definition_levels
+            (definition_view N.bytes self.now) f.new }
     {
         fmt_in_default_style(self, f)
     }
@@ -49,16 +51,19 @@ impl<N: Names> fmt::Display for OperationDefinition<N> {
     ghost styled_output = { λ t spec. Some (text_of (definition_layout default_style (operation_view N.bytes t))) };
 
     fn fmt<W: fmt::Write>(&self, f: &mut fmt::Formatter<W>) -> fmt::Result
-        ensures { Displays W.write_str_gives f.old result definition_layout definition_levels (operation_view N.bytes self.now) f.new }
+        ensures { Displays W.write_str_gives f.old result definition_layout definition_levels
+            (operation_view N.bytes self.now) f.new }
     {
         fmt_in_default_style(self, f)
     }
 }
 
 impl<N: Names> fmt::Display for FragmentDefinition<N> {
-    ghost output = { λ t. Some (text_of (fragment_definition_layout default_style (fragment_definition_view N.bytes t))) };
+    ghost output = { λ t. Some
+        (text_of (fragment_definition_layout default_style (fragment_definition_view N.bytes t))) };
 
-    ghost styled_output = { λ t spec. Some (text_of (fragment_definition_layout default_style (fragment_definition_view N.bytes t))) };
+    ghost styled_output = { λ t spec. Some
+        (text_of (fragment_definition_layout default_style (fragment_definition_view N.bytes t))) };
 
     fn fmt<W: fmt::Write>(&self, f: &mut fmt::Formatter<W>) -> fmt::Result
         ensures { Displays W.write_str_gives f.old result fragment_definition_layout fragment_definition_levels
@@ -74,7 +79,8 @@ impl<N: Names> fmt::Display for Query<N> {
     ghost styled_output = { λ t spec. Some (text_of (operation_layout default_style (query_view N.bytes t))) };
 
     fn fmt<W: fmt::Write>(&self, f: &mut fmt::Formatter<W>) -> fmt::Result
-        ensures { Displays W.write_str_gives f.old result operation_layout operation_levels (query_view N.bytes self.now) f.new }
+        ensures { Displays W.write_str_gives f.old result operation_layout operation_levels
+            (query_view N.bytes self.now) f.new }
     {
         fmt_in_default_style(&self.parts(), f)
     }
@@ -86,7 +92,8 @@ impl<N: Names> fmt::Display for Mutation<N> {
     ghost styled_output = { λ t spec. Some (text_of (operation_layout default_style (mutation_view N.bytes t))) };
 
     fn fmt<W: fmt::Write>(&self, f: &mut fmt::Formatter<W>) -> fmt::Result
-        ensures { Displays W.write_str_gives f.old result operation_layout operation_levels (mutation_view N.bytes self.now) f.new }
+        ensures { Displays W.write_str_gives f.old result operation_layout operation_levels
+            (mutation_view N.bytes self.now) f.new }
     {
         fmt_in_default_style(&self.parts(), f)
     }
@@ -98,16 +105,19 @@ impl<N: Names> fmt::Display for Subscription<N> {
     ghost styled_output = { λ t spec. Some (text_of (operation_layout default_style (subscription_view N.bytes t))) };
 
     fn fmt<W: fmt::Write>(&self, f: &mut fmt::Formatter<W>) -> fmt::Result
-        ensures { Displays W.write_str_gives f.old result operation_layout operation_levels (subscription_view N.bytes self.now) f.new }
+        ensures { Displays W.write_str_gives f.old result operation_layout operation_levels
+            (subscription_view N.bytes self.now) f.new }
     {
         fmt_in_default_style(&self.parts(), f)
     }
 }
 
 impl<N: Names> fmt::Display for VariableDefinition<N> {
-    ghost output = { λ t. Some (text_of (variable_definition_layout default_style (variable_definition_view N.bytes t))) };
+    ghost output = { λ t. Some
+        (text_of (variable_definition_layout default_style (variable_definition_view N.bytes t))) };
 
-    ghost styled_output = { λ t spec. Some (text_of (variable_definition_layout default_style (variable_definition_view N.bytes t))) };
+    ghost styled_output = { λ t spec. Some
+        (text_of (variable_definition_layout default_style (variable_definition_view N.bytes t))) };
 
     fn fmt<W: fmt::Write>(&self, f: &mut fmt::Formatter<W>) -> fmt::Result
         ensures { Displays W.write_str_gives f.old result variable_definition_layout variable_definition_levels
@@ -120,10 +130,12 @@ impl<N: Names> fmt::Display for VariableDefinition<N> {
 impl<N: Names> fmt::Display for SelectionSet<N> {
     ghost output = { λ t. Some (text_of (selection_set_layout default_style 0 (selection_set_view N.bytes t))) };
 
-    ghost styled_output = { λ t spec. Some (text_of (selection_set_layout default_style 0 (selection_set_view N.bytes t))) };
+    ghost styled_output = { λ t spec. Some
+        (text_of (selection_set_layout default_style 0 (selection_set_view N.bytes t))) };
 
     fn fmt<W: fmt::Write>(&self, f: &mut fmt::Formatter<W>) -> fmt::Result
-        ensures { Displays W.write_str_gives f.old result (λ s. selection_set_layout s 0) selection_set_levels (selection_set_view N.bytes self.now) f.new }
+        ensures { Displays W.write_str_gives f.old result (λ s. selection_set_layout s 0) selection_set_levels
+            (selection_set_view N.bytes self.now) f.new }
     {
         fmt_in_default_style(self, f)
     }
@@ -135,7 +147,8 @@ impl<N: Names> fmt::Display for Field<N> {
     ghost styled_output = { λ t spec. Some (text_of (selection_layout default_style 0 (field_view N.bytes t))) };
 
     fn fmt<W: fmt::Write>(&self, f: &mut fmt::Formatter<W>) -> fmt::Result
-        ensures { Displays W.write_str_gives f.old result (λ s. selection_layout s 0) selection_levels (field_view N.bytes self.now) f.new }
+        ensures { Displays W.write_str_gives f.old result (λ s. selection_layout s 0) selection_levels
+            (field_view N.bytes self.now) f.new }
     {
         fmt_in_default_style(self, f)
     }
@@ -144,10 +157,12 @@ impl<N: Names> fmt::Display for Field<N> {
 impl<N: Names> fmt::Display for FragmentSpread<N> {
     ghost output = { λ t. Some (text_of (selection_layout default_style 0 (fragment_spread_view N.bytes t))) };
 
-    ghost styled_output = { λ t spec. Some (text_of (selection_layout default_style 0 (fragment_spread_view N.bytes t))) };
+    ghost styled_output = { λ t spec. Some
+        (text_of (selection_layout default_style 0 (fragment_spread_view N.bytes t))) };
 
     fn fmt<W: fmt::Write>(&self, f: &mut fmt::Formatter<W>) -> fmt::Result
-        ensures { Displays W.write_str_gives f.old result (λ s. selection_layout s 0) selection_levels (fragment_spread_view N.bytes self.now) f.new }
+        ensures { Displays W.write_str_gives f.old result (λ s. selection_layout s 0) selection_levels
+            (fragment_spread_view N.bytes self.now) f.new }
     {
         fmt_in_default_style(self, f)
     }
@@ -156,10 +171,12 @@ impl<N: Names> fmt::Display for FragmentSpread<N> {
 impl<N: Names> fmt::Display for InlineFragment<N> {
     ghost output = { λ t. Some (text_of (selection_layout default_style 0 (inline_fragment_view N.bytes t))) };
 
-    ghost styled_output = { λ t spec. Some (text_of (selection_layout default_style 0 (inline_fragment_view N.bytes t))) };
+    ghost styled_output = { λ t spec. Some
+        (text_of (selection_layout default_style 0 (inline_fragment_view N.bytes t))) };
 
     fn fmt<W: fmt::Write>(&self, f: &mut fmt::Formatter<W>) -> fmt::Result
-        ensures { Displays W.write_str_gives f.old result (λ s. selection_layout s 0) selection_levels (inline_fragment_view N.bytes self.now) f.new }
+        ensures { Displays W.write_str_gives f.old result (λ s. selection_layout s 0) selection_levels
+            (inline_fragment_view N.bytes self.now) f.new }
     {
         fmt_in_default_style(self, f)
     }

@@ -17,7 +17,8 @@ fn levels_in_counted_arguments<N: Names, const ALL: bool>(
     arguments: &[(N::Value, Value<N>)],
     style: &Style,
 ) -> usize
-    ensures { result ≡ min (arguments_depth (counted ALL style.now) (arguments_view N.bytes arguments.now)) (2 ^ 64 - 1) }
+    ensures { result
+        ≡ min (arguments_depth (counted ALL style.now) (arguments_view N.bytes arguments.now)) (2 ^ 64 - 1) }
 {
     if !ALL {
         return 0;
@@ -30,7 +31,8 @@ fn levels_in_counted_directives<N: Names, const ALL: bool>(
     directives: &[Directive<N>],
     style: &Style,
 ) -> usize
-    ensures { result ≡ min (directives_depth (counted ALL style.now) (directives_view N.bytes directives.now)) (2 ^ 64 - 1) }
+    ensures { result
+        ≡ min (directives_depth (counted ALL style.now) (directives_view N.bytes directives.now)) (2 ^ 64 - 1) }
 {
     if !ALL {
         return 0;
@@ -43,7 +45,8 @@ pub fn levels_in_fragment_spread<N: Names, const ALL: bool>(
     spread: &FragmentSpread<N>,
     style: &Style,
 ) -> usize
-    ensures { result ≡ min (selection_depth (counted ALL style.now) (fragment_spread_view N.bytes spread.now)) (2 ^ 64 - 1) }
+    ensures { result
+        ≡ min (selection_depth (counted ALL style.now) (fragment_spread_view N.bytes spread.now)) (2 ^ 64 - 1) }
 {
     levels_in_counted_directives::<N, ALL>(&spread.directives, style)
 }
@@ -54,7 +57,8 @@ pub fn levels_in_selection_set<N: Names, const ALL: bool>(
     set: &SelectionSet<N>,
     style: &Style,
 ) -> usize
-    ensures { result ≡ min (selection_set_depth (counted ALL style.now) (selection_set_view N.bytes set.now)) (2 ^ 64 - 1) }
+    ensures { result
+        ≡ min (selection_set_depth (counted ALL style.now) (selection_set_view N.bytes set.now)) (2 ^ 64 - 1) }
 {
     levels_in_selections::<N, ALL>(&set.items, style).saturating_add(1)
 }
@@ -74,7 +78,8 @@ fn levels_in_selections<N: Names, const ALL: bool>(items: &[Selection<N>], style
 #[cycle(levels)]
 #[inline(always)]
 fn levels_in_selection<N: Names, const ALL: bool>(selection: &Selection<N>, style: &Style) -> usize
-    ensures { result ≡ min (selection_depth (counted ALL style.now) (selection_view N.bytes selection.now)) (2 ^ 64 - 1) }
+    ensures { result
+        ≡ min (selection_depth (counted ALL style.now) (selection_view N.bytes selection.now)) (2 ^ 64 - 1) }
 {
     match selection {
         Selection::Field(field) => levels_in_field::<N, ALL>(field, style),
@@ -113,7 +118,8 @@ pub fn levels_in_inline_fragment<N: Names, const ALL: bool>(
     fragment: &InlineFragment<N>,
     style: &Style,
 ) -> usize
-    ensures { result ≡ min (selection_depth (counted ALL style.now) (inline_fragment_view N.bytes fragment.now)) (2 ^ 64 - 1) }
+    ensures { result
+        ≡ min (selection_depth (counted ALL style.now) (inline_fragment_view N.bytes fragment.now)) (2 ^ 64 - 1) }
 {
     let selected = levels_in_selection_set::<N, ALL>(&fragment.selection_set, style);
     levels_in_counted_directives::<N, ALL>(&fragment.directives, style).max(selected)

@@ -61,7 +61,8 @@ fn write_variable_definitions<S: Sink, N: Names>(
     variables: &[VariableDefinition<N>],
     style: &Style,
 ) -> Result<(), S::Error>
-    requires { variable_definitions_levels style.now (variable_definitions_view N.bytes variables.now) * style.now.indent < 2 ^ 32 }
+    requires { variable_definitions_levels style.now (variable_definitions_view N.bytes variables.now)
+        * style.now.indent < 2 ^ 32 }
     ensures text { OnOk result (S.took out.old
         (text_of (variable_definitions_layout style.now (variable_definitions_view N.bytes variables.now))) out.new) }
     ensures lawful { OnOk result (AreLawfulVariables (variable_definitions_view N.bytes variables.now)) }

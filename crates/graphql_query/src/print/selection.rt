@@ -32,7 +32,8 @@ pub fn write_type_condition<S: Sink, N: Names>(
     out: &mut S,
     condition: &TypeCondition<N>,
 ) -> Result<(), S::Error>
-    ensures { OnOk result (S.took out.old (text_of (type_condition_layout (type_condition_view N.bytes condition.now))) out.new) }
+    ensures { OnOk result
+        (S.took out.old (text_of (type_condition_layout (type_condition_view N.bytes condition.now))) out.new) }
 {
     match condition {
         TypeCondition::On(name) => {
@@ -47,7 +48,8 @@ fn write_optional_type_condition<S: Sink, N: Names>(
     out: &mut S,
     condition: &Option<TypeCondition<N>>,
 ) -> Result<(), S::Error>
-    ensures { OnOk result (S.took out.old (text_of (on_layout (option_map (type_condition_view N.bytes) condition.now))) out.new) }
+    ensures { OnOk result
+        (S.took out.old (text_of (on_layout (option_map (type_condition_view N.bytes) condition.now))) out.new) }
 {
     let Some(condition) = condition else {
         return Ok(());
@@ -63,8 +65,10 @@ fn write_fragment_spread<S: Sink, N: Names>(
     style: &Style,
     margin: usize,
 ) -> Result<(), S::Error>
-    requires { margin + selection_levels style.now (fragment_spread_view N.bytes spread.now) * style.now.indent < 2 ^ 32 }
-    ensures text { OnOk result (S.took out.old (text_of (selection_layout style.now margin (fragment_spread_view N.bytes spread.now))) out.new) }
+    requires { margin + selection_levels style.now (fragment_spread_view N.bytes spread.now) * style.now.indent
+        < 2 ^ 32 }
+    ensures text { OnOk result (S.took out.old
+        (text_of (selection_layout style.now margin (fragment_spread_view N.bytes spread.now))) out.new) }
     ensures lawful { OnOk result (IsLawfulSelection (fragment_spread_view N.bytes spread.now)) }
 {
     write_spaces(out, margin)?;
@@ -82,8 +86,10 @@ pub fn write_selection_set<S: Sink, N: Names>(
     style: &Style,
     margin: usize,
 ) -> Result<(), S::Error>
-    requires { margin + selection_set_levels style.now (selection_set_view N.bytes set.now) * style.now.indent < 2 ^ 32 }
-    ensures text { OnOk result (S.took out.old (text_of (selection_set_layout style.now margin (selection_set_view N.bytes set.now))) out.new) }
+    requires { margin + selection_set_levels style.now (selection_set_view N.bytes set.now) * style.now.indent
+        < 2 ^ 32 }
+    ensures text { OnOk result (S.took out.old
+        (text_of (selection_set_layout style.now margin (selection_set_view N.bytes set.now))) out.new) }
     ensures lawful { OnOk result (IsLawfulSet (selection_set_view N.bytes set.now)) }
 {
     out.push_str("{\n")?;
@@ -102,7 +108,8 @@ fn write_selections<S: Sink, N: Names>(
     margin: usize,
 ) -> Result<(), S::Error>
     requires { margin + selections_levels style.now (selections_view N.bytes items.now) * style.now.indent < 2 ^ 32 }
-    ensures text { OnOk result (S.took out.old (text_of (selections_layout style.now margin (selections_view N.bytes items.now))) out.new) }
+    ensures text { OnOk result
+        (S.took out.old (text_of (selections_layout style.now margin (selections_view N.bytes items.now))) out.new) }
     ensures lawful { OnOk result (AreLawfulSelections (selections_view N.bytes items.now)) }
 {
     'items: for item in items {
@@ -120,7 +127,8 @@ fn write_selection<S: Sink, N: Names>(
     margin: usize,
 ) -> Result<(), S::Error>
     requires { margin + selection_levels style.now (selection_view N.bytes selection.now) * style.now.indent < 2 ^ 32 }
-    ensures text { OnOk result (S.took out.old (text_of (selection_layout style.now margin (selection_view N.bytes selection.now))) out.new) }
+    ensures text { OnOk result
+        (S.took out.old (text_of (selection_layout style.now margin (selection_view N.bytes selection.now))) out.new) }
     ensures lawful { OnOk result (IsLawfulSelection (selection_view N.bytes selection.now)) }
 {
     match selection {
@@ -139,7 +147,8 @@ fn write_field<S: Sink, N: Names>(
     margin: usize,
 ) -> Result<(), S::Error>
     requires { margin + selection_levels style.now (field_view N.bytes field.now) * style.now.indent < 2 ^ 32 }
-    ensures text { OnOk result (S.took out.old (text_of (selection_layout style.now margin (field_view N.bytes field.now))) out.new) }
+    ensures text { OnOk result
+        (S.took out.old (text_of (selection_layout style.now margin (field_view N.bytes field.now))) out.new) }
     ensures lawful { OnOk result (IsLawfulSelection (field_view N.bytes field.now)) }
 {
     write_spaces(out, margin)?;
@@ -159,7 +168,8 @@ fn write_optional_selection_set<S: Sink, N: Names>(
     margin: usize,
 ) -> Result<(), S::Error>
     requires { margin + selected_levels style.now (selection_set_view N.bytes set.now) * style.now.indent < 2 ^ 32 }
-    ensures text { OnOk result (S.took out.old (text_of (selected_layout style.now margin (selection_set_view N.bytes set.now))) out.new) }
+    ensures text { OnOk result
+        (S.took out.old (text_of (selected_layout style.now margin (selection_set_view N.bytes set.now))) out.new) }
     ensures lawful { OnOk result (IsLawfulSet (selection_set_view N.bytes set.now)) }
 {
     if set.items.is_empty() {
@@ -176,8 +186,10 @@ fn write_inline_fragment<S: Sink, N: Names>(
     style: &Style,
     margin: usize,
 ) -> Result<(), S::Error>
-    requires { margin + selection_levels style.now (inline_fragment_view N.bytes fragment.now) * style.now.indent < 2 ^ 32 }
-    ensures text { OnOk result (S.took out.old (text_of (selection_layout style.now margin (inline_fragment_view N.bytes fragment.now))) out.new) }
+    requires { margin + selection_levels style.now (inline_fragment_view N.bytes fragment.now) * style.now.indent
+        < 2 ^ 32 }
+    ensures text { OnOk result (S.took out.old
+        (text_of (selection_layout style.now margin (inline_fragment_view N.bytes fragment.now))) out.new) }
     ensures lawful { OnOk result (IsLawfulSelection (inline_fragment_view N.bytes fragment.now)) }
 {
     write_spaces(out, margin)?;

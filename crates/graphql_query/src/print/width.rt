@@ -11,7 +11,8 @@ use graphql_core::format::Style;
 use graphql_core::format::print::{Pretty, is_too_wide};
 
 fn selection_set_of<N: Names>(definition: &Definition<N>) -> &SelectionSet<N>
-    ensures { selection_set_view N.bytes result.now ≡ selection_set_of_definition (definition_view N.bytes definition.now) }
+    ensures { selection_set_view N.bytes result.now
+        ≡ selection_set_of_definition (definition_view N.bytes definition.now) }
 {
     match definition {
         Definition::Operation(operation) => match operation {

@@ -75,7 +75,8 @@ pub fn fragment_spread<S: TokenSource>(
     items: &mut Vec<Selection<S::Names>>,
 ) -> Result<(), ReadError>
     ensures reads { Reads fragment_spread_rest (S.items source.old) (S.items source.new)
-        (λ v x. Adds (selection_view S.Names.bytes) items.old.items items.new.items (fragment_spread_rest_of x ∷ [])) result }
+        (λ v x. Adds (selection_view S.Names.bytes) items.old.items items.new.items
+        (fragment_spread_rest_of x ∷ [])) result }
     ensures kept { kept (S.items source.new) ≡ kept (S.items source.old) }
     ensures shorter { Shortens (S.items source.old) (S.items source.new) result }
 {

@@ -48,7 +48,8 @@ macro_rules! operation {
 impl<N: Names> OperationBody<N> {
     /// The operation with this body; `position` is that of the keyword.
     fn into_operation(self, keyword: Keyword, position: Pos) -> OperationDefinition<N>
-        ensures { operation_view N.bytes result ≡ operation (with_body (kind_of keyword) (place_of position) (operation_body_view N.bytes self)) }
+        ensures { operation_view N.bytes result
+            ≡ operation (with_body (kind_of keyword) (place_of position) (operation_body_view N.bytes self)) }
     {
         match keyword {
             Keyword::Query => operation!(Query, position, self),
@@ -183,7 +184,8 @@ fn keyword_operation<S: TokenSource>(
     Ok(body.into_operation(keyword, position))
 }
 
-/// `OperationDefinition = SelectionSet | "query" OperationBody | "mutation" OperationBody | "subscription" OperationBody`
+/// `OperationDefinition = SelectionSet | "query" OperationBody | "mutation" OperationBody
+/// | "subscription" OperationBody`
 #[tactic(auto, using(graphql_core::proofs::readers::Reading::reading))]
 pub fn operation_definition<S: TokenSource>(
     alloc: Global,

@@ -83,7 +83,8 @@ fn inline_fragment<S: TokenSource>(
     items: &mut Vec<Selection<S::Names>>,
 ) -> Result<(), ReadError>
     ensures reads { Reads inline_fragment_rest (S.items source.old) (S.items source.new)
-        (λ v x. Adds (selection_view S.Names.bytes) items.old.items items.new.items (inline_fragment_rest_of x ∷ [])) result }
+        (λ v x. Adds (selection_view S.Names.bytes) items.old.items items.new.items
+        (inline_fragment_rest_of x ∷ [])) result }
     ensures kept { kept (S.items source.new) ≡ kept (S.items source.old) }
     ensures shorter { Shortens (S.items source.old) (S.items source.new) result }
 {
@@ -111,7 +112,8 @@ fn fragment_selection<S: TokenSource>(
     source: &mut S,
     items: &mut Vec<Selection<S::Names>>,
 ) -> Result<(), ReadError>
-    ensures reads { Reads (Then (punctuator (codes "...")) (Either fragment_spread_rest inline_fragment_rest)) (S.items source.old) (S.items source.new)
+    ensures reads { Reads (Then (punctuator (codes "...")) (Either fragment_spread_rest inline_fragment_rest))
+        (S.items source.old) (S.items source.new)
         (λ v x. Adds (selection_view S.Names.bytes) items.old.items items.new.items (after_dots_of x ∷ [])) result }
     ensures kept { kept (S.items source.new) ≡ kept (S.items source.old) }
     ensures shorter { Shortens (S.items source.old) (S.items source.new) result }
@@ -144,7 +146,8 @@ fn selection<S: TokenSource>(
 
 /// Whether the next token can begin a selection.
 fn sees_selection<S: TokenSource>(source: &S) -> bool
-    ensures { result ≡ (sees_class (any Name) (S.items source.now) || sees_class (punctuator_class (codes "...")) (S.items source.now)) }
+    ensures { result ≡ (sees_class (any Name) (S.items source.now)
+        || sees_class (punctuator_class (codes "...")) (S.items source.now)) }
 {
     source.sees_name() || source.sees_punctuator(Punctuator::Spread)
 }

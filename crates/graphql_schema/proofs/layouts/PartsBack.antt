@@ -45,7 +45,8 @@ pub named_back : (n : List ℕ) (d : ℕ) → IsName n → Back schema_grammar n
 named_back n d is = word_back (name_word n is) (λ p. refl) (λ t e. e)
 
 -- words separated by a punctuator, each of which parses back
-module _ {A : Type 0} (s : List ℕ) (is : IsMark Level s) (takes : Takes schema_grammar (punctuator_class s) Punctuator s) (one : Expr) (f : ParseTree → A) (none : A)
+module _ {A : Type 0} (s : List ℕ) (is : IsMark Level s) (takes : Takes schema_grammar (punctuator_class s) Punctuator s)
+    (one : Expr) (f : ParseTree → A) (none : A)
     (g : List ℕ → A) (P : List ℕ → Type 0) (each : (n : List ℕ) (d : ℕ) → P n → Back schema_grammar one false d (name_part n) true d (λ x. f x ≡ g n)) where
   later_names_back : (ns : List (List ℕ)) (d : ℕ) → AllByRecursion P ns
       → Back schema_grammar (Many (Then (punctuator s) one)) true d (later_names s ns) true d (λ x. each_of (separated_of f none) x ≡ map g ns)
@@ -101,7 +102,8 @@ module _ {A : Type 0} {one : Expr} (f : ParseTree → A) (erase : A → A) (line
   block_back : {k : ℕ} → (row schema_grammar k).rule ≡ Then (punctuator (codes "{")) (Then (some_of one) (punctuator (codes "}")))
       → ((x : ParseTree) → schema_grammar.check k x ≡ true)
       → (margin : ℕ) (vs : List A) (d : ℕ) → AllByRecursion P vs → AllByRecursion Q vs → d + most_enclosed brackets vs ≤ 50
-      → Back schema_grammar (optional (Sym k)) true d (block_layout margin lines vs) false d (λ x. map erase (optional_list_of (enclosed_of f) x) ≡ map erase vs)
+      → Back schema_grammar (optional (Sym k)) true d (block_layout margin lines vs) false d
+      (λ x. map erase (optional_list_of (enclosed_of f) x) ≡ map erase vs)
   block_back rule passes margin [] d is law deep = gap_back refl (second_back (nothing_back refl))
   block_back {k} rule passes margin (v ∷ vs) d (is, are) (law, laws) deep =
       gap_back refl (first_back (node_back passes (subst (λ (e : Expr). Back schema_grammar e false d (in_braces margin (flat_map lines (v ∷ vs))) false d
@@ -182,7 +184,8 @@ module _ (style : Layout) where
       record { position = no_place; description = hx i; name = hy i; arguments = hz i; field_type = hk i; directives = hl i }))
 
   enum_value_back : (margin : ℕ) (v : EnumValueTree) (d : ℕ) → IsPrintableEnumValue v → IsLawfulEnumValue v → d + enum_value_brackets v ≤ 50
-      → Back schema_grammar (Sym enum_value_symbol) false d (enum_value_layout style margin v) false d (λ x. erase_enum_value (enum_value_of x) ≡ erase_enum_value v)
+      → Back schema_grammar (Sym enum_value_symbol) false d (enum_value_layout style margin v) false d
+      (λ x. erase_enum_value (enum_value_of x) ≡ erase_enum_value v)
   enum_value_back margin v d (is, dir) dirlaw deep =
       margin_back (spaces_blank margin) (node_back (λ x. refl) (three_back
       (inline_back margin v.description d) (named_back v.name d is) (then_gap 10 [] refl (directives_in margin v.directives d dir dirlaw (omega arith)))
@@ -199,8 +202,8 @@ module _ (style : Layout) where
 
   parts_back : (n : List ℕ) (ds : List DirectiveTree) (parts : PartsTree) (d : ℕ) → IsName n → AllByRecursion IsPrintableDirective ds
       → ArePrintableParts parts → AreLawfulDirectives ds → AreLawfulParts parts → d + directives_brackets ds ≤ 50 → d + parts_brackets parts ≤ 50
-      → Back schema_grammar (Sym type_body_symbol) false d (body_layout style (record { position = no_place; name = n; directives = ds; parts = parts })) false d
-      (λ x. erase_body (body_of x) ≡ record { position = no_place; name = n; directives = erase_all ds; parts = erase_parts parts })
+      → Back schema_grammar (Sym type_body_symbol) false d (body_layout style (record { position = no_place; name = n; directives = ds; parts = parts })) false
+      d (λ x. erase_body (body_of x) ≡ record { position = no_place; name = n; directives = erase_all ds; parts = erase_parts parts })
   parts_back n ds scalar d is dir are dirlaw law deep inside =
       node_back (λ x. refl) (first_back (node_back (λ x. refl) (three_back {P = Any}
       (word_back (name_word (codes "scalar") (refl, refl)) (λ p. refl) (λ t e. tt)) (gap_back refl (named_back n d is))

@@ -151,8 +151,9 @@ module _ {R : Type 0} (w : Refusals R) where
   node_says k old new (Stopped s) said = tt
   node_says k old new (Refused n) (before, x, (p, ne, led, fits, bad, stops), said) = (before, x, (p, ne, leads_node led, fits, bad, stops), said)
 
-  pub node_halts : {A B : Type 0} {f : Expr} {inside : ParseTree → ParseTree} (k : ℕ) (old mid new : Items) (P : A → ParseTree → Type 0) (Q : B → ParseTree → Type 0)
-      (r : Result B (NodeError R)) (d : NodeError R) → Leads reading (row reading k).rule f inside old.tokens mid.tokens → Reads schemas w f mid new P (Err d)
+  pub node_halts : {A B : Type 0} {f : Expr} {inside : ParseTree → ParseTree} (k : ℕ) (old mid new : Items) (P : A → ParseTree → Type 0)
+      (Q : B → ParseTree → Type 0) (r : Result B (NodeError R)) (d : NodeError R)
+      → Leads reading (row reading k).rule f inside old.tokens mid.tokens → Reads schemas w f mid new P (Err d)
       → IsErrAnd r (λ e. e ≡ d) → Reads schemas w (Sym k) old new Q r
   node_halts k old mid new P Q r d led h up =
       let rule = halts_led schemas w old mid new P (λ (v : Unit {0}) y. ⊥) (Err d) d led h refl in

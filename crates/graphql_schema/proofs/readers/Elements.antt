@@ -45,8 +45,8 @@ pub fields_list : IsList reading (punctuator_class (codes "{")) (punctuator_clas
 unfolding tables
 fields_list = is_list (as_written (each_of field_of)) refl (λ x. refl) (λ t. refl) (λ t. refl) refl refl refl (λ x y. refl) (λ t u x xs. refl)
 
-pub argument_definitions_list : IsList reading (punctuator_class (codes "(")) (punctuator_class (codes ")")) (Sym input_value_symbol) (as_written input_value_of)
-    argument_definitions_symbol (as_written (enclosed_of input_value_of))
+pub argument_definitions_list : IsList reading (punctuator_class (codes "(")) (punctuator_class (codes ")")) (Sym input_value_symbol)
+    (as_written input_value_of) argument_definitions_symbol (as_written (enclosed_of input_value_of))
 unfolding tables
 argument_definitions_list =
     is_list (as_written (each_of input_value_of)) refl (λ x. refl) (λ t. refl) (λ t. refl) refl refl refl (λ x y. refl) (λ t u x xs. refl)

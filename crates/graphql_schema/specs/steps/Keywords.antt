@@ -29,8 +29,8 @@ class_of Directive = keyword (codes "directive")
 -- all of these keywords
 abbrev pub keywords : List Class
 keywords =
-    keyword (codes "schema") ∷ keyword (codes "scalar") ∷ keyword (codes "type") ∷ keyword (codes "interface") ∷ keyword (codes "union")
-    ∷ keyword (codes "enum") ∷ keyword (codes "input") ∷ keyword (codes "directive") ∷ []
+    keyword (codes "schema") ∷ keyword (codes "scalar") ∷ keyword (codes "type") ∷ keyword (codes "interface")
+    ∷ keyword (codes "union") ∷ keyword (codes "enum") ∷ keyword (codes "input") ∷ keyword (codes "directive") ∷ []
 
 -- the token is this keyword, or none of them
 abbrev pub TellsToken : Token → Option Keyword → Type 0

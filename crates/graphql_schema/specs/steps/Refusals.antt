@@ -25,5 +25,6 @@ refusals = record { symbol = refused_symbol; fault = fault_said }
 
 -- The reader follows the second rules, and its result is what the written parse tree denotes. Or it stops, or it
 -- rejects a node with the error of that node.
-abbrev pub ReadsNode : {A : Type 0} → Expr → Items → Items → (A → ParseTree → Type 0) → Result A (NodeError InvalidNode) → Type 0
+abbrev pub ReadsNode : {A : Type 0} → Expr → Items → Items → (A → ParseTree → Type 0)
+    → Result A (NodeError InvalidNode) → Type 0
 ReadsNode = refusing.Reads schemas refusals

@@ -25,7 +25,8 @@ pub fn write_block<S: Sink, P: Pretty>(
     margin: usize,
 ) -> Result<(), S::Error>
     requires { margin + most_enclosed (P.opens style.now) parts.now * style.now.indent < 2 ^ 32 }
-    ensures text { OnOk result (S.took out.old (text_of (block_layout margin (P.lines style.now (margin + style.now.indent)) parts.now)) out.new) }
+    ensures text { OnOk result (S.took out.old
+        (text_of (block_layout margin (P.lines style.now (margin + style.now.indent)) parts.now)) out.new) }
     ensures lawful { OnOk result (AllByRecursion P.lawful parts.now) }
 {
     if parts.is_empty() {

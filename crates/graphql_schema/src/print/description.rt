@@ -24,7 +24,8 @@ pub fn write_description<S: Sink>(
     margin: usize,
 ) -> Result<(), S::Error>
     requires { margin + description_levels (option_map string_bytes description.now) * style.now.indent < 2 ^ 32 }
-    ensures { OnOk result (S.took out.old (text_of (description_layout style.now margin (option_map string_bytes description.now))) out.new) }
+    ensures { OnOk result (S.took out.old
+        (text_of (description_layout style.now margin (option_map string_bytes description.now))) out.new) }
 {
     let Some(text) = description else {
         return Ok(());
@@ -42,7 +43,8 @@ pub fn write_inline_description<S: Sink>(
     margin: usize,
 ) -> Result<(), S::Error>
     requires { margin + description_levels (option_map string_bytes description.now) * style.now.indent < 2 ^ 32 }
-    ensures { OnOk result (S.took out.old (text_of (inline_layout style.now margin (option_map string_bytes description.now))) out.new) }
+    ensures { OnOk result
+        (S.took out.old (text_of (inline_layout style.now margin (option_map string_bytes description.now))) out.new) }
 {
     let Some(text) = description else {
         return Ok(());

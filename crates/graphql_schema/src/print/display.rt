@@ -23,7 +23,8 @@ impl<N: Names> fmt::Display for Document<N> {
     ghost styled_output = { λ t _. Some (layout default_style (document_view N.bytes t)) };
 
     fn fmt<W: fmt::Write>(&self, f: &mut fmt::Formatter<W>) -> fmt::Result
-        ensures { Displays W.write_str_gives f.old result document_layout levels (document_view N.bytes self.now) f.new }
+        ensures { Displays W.write_str_gives f.old result document_layout levels
+            (document_view N.bytes self.now) f.new }
     {
         // No document is too wide in this style.
         let style = Style::default();
@@ -37,7 +38,8 @@ impl<N: Names> fmt::Display for Definition<N> {
     ghost styled_output = { λ t _. shown (definition_view N.bytes t) };
 
     fn fmt<W: fmt::Write>(&self, f: &mut fmt::Formatter<W>) -> fmt::Result
-        ensures { Displays W.write_str_gives f.old result definition_layout definition_levels (definition_view N.bytes self.now) f.new }
+        ensures { Displays W.write_str_gives f.old result definition_layout definition_levels
+            (definition_view N.bytes self.now) f.new }
     {
         fmt_in_default_style(self, f)
     }
@@ -49,7 +51,8 @@ impl<N: Names> fmt::Display for SchemaDefinition<N> {
     ghost styled_output = { λ t _. shown (schema_definition_view N.bytes t) };
 
     fn fmt<W: fmt::Write>(&self, f: &mut fmt::Formatter<W>) -> fmt::Result
-        ensures { Displays W.write_str_gives f.old result definition_layout definition_levels (schema_definition_view N.bytes self.now) f.new }
+        ensures { Displays W.write_str_gives f.old result definition_layout definition_levels
+            (schema_definition_view N.bytes self.now) f.new }
     {
         fmt_in_default_style(self, f)
     }
@@ -61,7 +64,8 @@ impl<N: Names> fmt::Display for TypeDefinition<N> {
     ghost styled_output = { λ t _. shown (type_definition_view N.bytes t) };
 
     fn fmt<W: fmt::Write>(&self, f: &mut fmt::Formatter<W>) -> fmt::Result
-        ensures { Displays W.write_str_gives f.old result definition_layout definition_levels (type_definition_view N.bytes self.now) f.new }
+        ensures { Displays W.write_str_gives f.old result definition_layout definition_levels
+            (type_definition_view N.bytes self.now) f.new }
     {
         fmt_in_default_style(&self.outline(), f)
     }
@@ -73,7 +77,8 @@ impl<N: Names> fmt::Display for ScalarType<N> {
     ghost styled_output = { λ t _. shown (scalar_view N.bytes t) };
 
     fn fmt<W: fmt::Write>(&self, f: &mut fmt::Formatter<W>) -> fmt::Result
-        ensures { Displays W.write_str_gives f.old result definition_layout definition_levels (scalar_view N.bytes self.now) f.new }
+        ensures { Displays W.write_str_gives f.old result definition_layout definition_levels
+            (scalar_view N.bytes self.now) f.new }
     {
         fmt_in_default_style(&self.outline(), f)
     }
@@ -85,7 +90,8 @@ impl<N: Names> fmt::Display for ObjectType<N> {
     ghost styled_output = { λ t _. shown (object_view N.bytes t) };
 
     fn fmt<W: fmt::Write>(&self, f: &mut fmt::Formatter<W>) -> fmt::Result
-        ensures { Displays W.write_str_gives f.old result definition_layout definition_levels (object_view N.bytes self.now) f.new }
+        ensures { Displays W.write_str_gives f.old result definition_layout definition_levels
+            (object_view N.bytes self.now) f.new }
     {
         fmt_in_default_style(&self.outline(), f)
     }
@@ -97,7 +103,8 @@ impl<N: Names> fmt::Display for InterfaceType<N> {
     ghost styled_output = { λ t _. shown (interface_view N.bytes t) };
 
     fn fmt<W: fmt::Write>(&self, f: &mut fmt::Formatter<W>) -> fmt::Result
-        ensures { Displays W.write_str_gives f.old result definition_layout definition_levels (interface_view N.bytes self.now) f.new }
+        ensures { Displays W.write_str_gives f.old result definition_layout definition_levels
+            (interface_view N.bytes self.now) f.new }
     {
         fmt_in_default_style(&self.outline(), f)
     }
@@ -109,7 +116,8 @@ impl<N: Names> fmt::Display for UnionType<N> {
     ghost styled_output = { λ t _. shown (union_view N.bytes t) };
 
     fn fmt<W: fmt::Write>(&self, f: &mut fmt::Formatter<W>) -> fmt::Result
-        ensures { Displays W.write_str_gives f.old result definition_layout definition_levels (union_view N.bytes self.now) f.new }
+        ensures { Displays W.write_str_gives f.old result definition_layout definition_levels
+            (union_view N.bytes self.now) f.new }
     {
         fmt_in_default_style(&self.outline(), f)
     }
@@ -121,7 +129,8 @@ impl<N: Names> fmt::Display for EnumType<N> {
     ghost styled_output = { λ t _. shown (enum_view N.bytes t) };
 
     fn fmt<W: fmt::Write>(&self, f: &mut fmt::Formatter<W>) -> fmt::Result
-        ensures { Displays W.write_str_gives f.old result definition_layout definition_levels (enum_view N.bytes self.now) f.new }
+        ensures { Displays W.write_str_gives f.old result definition_layout definition_levels
+            (enum_view N.bytes self.now) f.new }
     {
         fmt_in_default_style(&self.outline(), f)
     }
@@ -133,7 +142,8 @@ impl<N: Names> fmt::Display for InputObjectType<N> {
     ghost styled_output = { λ t _. shown (input_view N.bytes t) };
 
     fn fmt<W: fmt::Write>(&self, f: &mut fmt::Formatter<W>) -> fmt::Result
-        ensures { Displays W.write_str_gives f.old result definition_layout definition_levels (input_view N.bytes self.now) f.new }
+        ensures { Displays W.write_str_gives f.old result definition_layout definition_levels
+            (input_view N.bytes self.now) f.new }
     {
         fmt_in_default_style(&self.outline(), f)
     }

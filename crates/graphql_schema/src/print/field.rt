@@ -50,8 +50,11 @@ pub fn write_arguments<S: Sink, N: Names>(
     style: &Style,
     margin: usize,
 ) -> Result<(), S::Error>
-    requires { margin + most (input_value_levels style.now) (map (input_value_view N.bytes) arguments.now) * style.now.indent < 2 ^ 32 }
-    ensures text { OnOk result (S.took out.old (text_of (arguments_layout style.now margin (map (input_value_view N.bytes) arguments.now))) out.new) }
+    requires { margin
+        + most (input_value_levels style.now) (map (input_value_view N.bytes) arguments.now) * style.now.indent
+        < 2 ^ 32 }
+    ensures text { OnOk result (S.took out.old
+        (text_of (arguments_layout style.now margin (map (input_value_view N.bytes) arguments.now))) out.new) }
     ensures lawful { OnOk result (AllByRecursion IsLawfulInputValue (map (input_value_view N.bytes) arguments.now)) }
 {
     if arguments.is_empty() {

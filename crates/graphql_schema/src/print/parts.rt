@@ -62,7 +62,8 @@ fn write_input_fields<S: Sink, N: Names>(
     style: &Style,
     margin: usize,
 ) -> Result<(), S::Error>
-    requires { margin + most (input_value_levels style.now) (map (input_value_view N.bytes) fields.now) * style.now.indent < 2 ^ 32 }
+    requires { margin
+        + most (input_value_levels style.now) (map (input_value_view N.bytes) fields.now) * style.now.indent < 2 ^ 32 }
     ensures text { OnOk result (S.took out.old (text_of
         (flat_map (input_field_layout style.now margin) (map (input_value_view N.bytes) fields.now))) out.new) }
     ensures lawful { OnOk result (AllByRecursion IsLawfulInputValue (map (input_value_view N.bytes) fields.now)) }
@@ -81,9 +82,11 @@ fn write_input_block<S: Sink, N: Names>(
     fields: &[InputValue<N>],
     style: &Style,
 ) -> Result<(), S::Error>
-    requires { most_enclosed (input_value_levels style.now) (map (input_value_view N.bytes) fields.now) * style.now.indent < 2 ^ 32 }
+    requires { most_enclosed (input_value_levels style.now) (map (input_value_view N.bytes) fields.now)
+        * style.now.indent < 2 ^ 32 }
     ensures text { OnOk result (S.took out.old (text_of
-        (block_layout 0 (input_field_layout style.now style.now.indent) (map (input_value_view N.bytes) fields.now))) out.new) }
+        (block_layout 0 (input_field_layout style.now style.now.indent) (map (input_value_view N.bytes) fields.now)))
+        out.new) }
     ensures lawful { OnOk result (AllByRecursion IsLawfulInputValue (map (input_value_view N.bytes) fields.now)) }
 {
     if fields.is_empty() {

@@ -18,7 +18,8 @@ fn write_root<S: Sink, N: Names>(
     name: &Option<N::Value>,
     margin: usize,
 ) -> Result<(), S::Error>
-    ensures { OnOk result (S.took out.old (text_of (root_layout margin word.now (option_map N.bytes name.now))) out.new) }
+    ensures { OnOk result
+        (S.took out.old (text_of (root_layout margin word.now (option_map N.bytes name.now))) out.new) }
 {
     let Some(name) = name else {
         return Ok(());
@@ -38,7 +39,8 @@ fn write_roots<S: Sink, N: Names>(
     subscription: &Option<N::Value>,
     style: &Style,
 ) -> Result<(), S::Error>
-    ensures { OnOk result (S.took out.old (text_of (roots_layout style.now (option_map N.bytes query.now) (option_map N.bytes mutation.now)
+    ensures { OnOk result (S.took out.old
+        (text_of (roots_layout style.now (option_map N.bytes query.now) (option_map N.bytes mutation.now)
         (option_map N.bytes subscription.now))) out.new) }
 {
     out.push_str(" {\n")?;

@@ -39,7 +39,8 @@ fn separated_location<S: TokenSource>(
     source: &mut S,
     locations: &mut Vec<DirectiveLocation>,
 ) -> Result<(), ReadError>
-    ensures reads { Reads (Then (punctuator (codes "|")) (Sym location_symbol)) (S.items source.old) (S.items source.new)
+    ensures reads { Reads (Then (punctuator (codes "|")) (Sym location_symbol))
+        (S.items source.old) (S.items source.new)
         (λ v x. Adds Some locations.old.items locations.new.items (separated_of location_at None x ∷ [])) result }
     ensures kept { kept (S.items source.new) ≡ kept (S.items source.old) }
     ensures shorter { Shortens (S.items source.old) (S.items source.new) result }

@@ -72,7 +72,8 @@ pub fn optional_argument_definitions<S: TokenSource>(
     values: &mut Vec<InputValue<S::Names>>,
 ) -> Result<(), ReadError>
     ensures reads { Reads (optional (Sym argument_definitions_symbol)) (S.items source.old) (S.items source.new)
-        (λ v x. Adds (input_value_view S.Names.bytes) values.old.items values.new.items (optional_list_of (enclosed_of input_value_of) x)) result }
+        (λ v x. Adds (input_value_view S.Names.bytes) values.old.items values.new.items
+        (optional_list_of (enclosed_of input_value_of) x)) result }
     ensures kept { kept (S.items source.new) ≡ kept (S.items source.old) }
     ensures within { OnOk result (length (S.items source.new).tokens ≤ length (S.items source.old).tokens) }
 {

@@ -38,7 +38,8 @@ fn separated_name<S: TokenSource>(
     separator: Punctuator,
     names: &mut Vec<<S::Names as Names>::Value>,
 ) -> Result<(), ReadError>
-    ensures reads { Reads (Then (punctuator (spelling_of separator)) shared.name) (S.items source.old) (S.items source.new)
+    ensures reads { Reads (Then (punctuator (spelling_of separator)) shared.name)
+        (S.items source.old) (S.items source.new)
         (λ v x. Adds S.Names.bytes names.old.items names.new.items (separated_of spelling_at [] x ∷ [])) result }
     ensures kept { kept (S.items source.new) ≡ kept (S.items source.old) }
     ensures shorter { Shortens (S.items source.old) (S.items source.new) result }

@@ -68,7 +68,8 @@ fn add_root<N: Names>(
     type_name: N::Value,
 ) -> Result<(), AllocError>
     ensures { (rs : List Root) → HasRoots N.bytes roots.old rs
-        → IfOk result (λ u. HasRoots N.bytes roots.new (rs ++ record { name = operation.now; type_name = N.bytes type_name } ∷ [])) }
+        → IfOk result
+        (λ u. HasRoots N.bytes roots.new (rs ++ record { name = operation.now; type_name = N.bytes type_name } ∷ [])) }
 {
     let fault = &mut roots.fault;
     if fault.is_some() {
@@ -95,7 +96,8 @@ fn root_type<S: TokenSource>(
     roots: &mut Roots<S::Names>,
 ) -> Result<(), ReadError>
     ensures reads { Reads (Sym root_type_symbol) (S.items source.old) (S.items source.new)
-        (λ v x. (rs : List Root) → HasRoots S.Names.bytes roots.old rs → HasRoots S.Names.bytes roots.new (rs ++ root_at x ∷ [])) result }
+        (λ v x. (rs : List Root) → HasRoots S.Names.bytes roots.old rs
+        → HasRoots S.Names.bytes roots.new (rs ++ root_at x ∷ [])) result }
     ensures kept { kept (S.items source.new) ≡ kept (S.items source.old) }
     ensures shorter { Shortens (S.items source.old) (S.items source.new) result }
 {
@@ -114,7 +116,8 @@ fn root_types<S: TokenSource>(
     roots: &mut Roots<S::Names>,
 ) -> Result<(), ReadError>
     ensures reads { Reads (Many (Sym root_type_symbol)) (S.items source.old) (S.items source.new)
-        (λ v x. (rs : List Root) → HasRoots S.Names.bytes roots.old rs → HasRoots S.Names.bytes roots.new (rs ++ roots_of x)) result }
+        (λ v x. (rs : List Root) → HasRoots S.Names.bytes roots.old rs
+        → HasRoots S.Names.bytes roots.new (rs ++ roots_of x)) result }
     ensures kept { kept (S.items source.new) ≡ kept (S.items source.old) }
     ensures within { OnOk result (length (S.items source.new).tokens ≤ length (S.items source.old).tokens) }
 {

@@ -48,7 +48,8 @@ macro_rules! typed {
 impl<N: Names> TypeBody<N> {
     /// The type definition with this body.
     pub fn into_definition(self, description: Option<String>) -> TypeDefinition<N>
-        ensures { type_definition_view N.bytes result ≡ type_definition (option_map string_bytes description) (type_body_view N.bytes self) }
+        ensures { type_definition_view N.bytes result
+            ≡ type_definition (option_map string_bytes description) (type_body_view N.bytes self) }
     {
         let head = (self.position, self.name, self.directives);
         match self.parts {

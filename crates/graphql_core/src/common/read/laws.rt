@@ -16,8 +16,9 @@ pub fn shared_is_readable()
 /// A returned value is what a parse tree denotes, and the symbol derives exactly the tokens taken by that tree. No list
 /// that the symbol derives begins with these tokens and the next. Or the error is the first error for the symbol.
 pub fn readers_return_what_is_derived<V, M>()
-    ensures { (k : ℕ) (old new : Items) (view : V → M) (means : ParseTree → M) (r : Result V ReadError) → k < shared_symbols
-        → Gives shared (Sym k) old new (λ v x. view v ≡ means x) r → ReturnsDerived shared (Sym k) old new reason_of (λ v x. view v ≡ means x) r }
+    ensures { (k : ℕ) (old new : Items) (view : V → M) (means : ParseTree → M) (r : Result V ReadError)
+        → k < shared_symbols → Gives shared (Sym k) old new (λ v x. view v ≡ means x) r
+        → ReturnsDerived shared (Sym k) old new reason_of (λ v x. view v ≡ means x) r }
 {}
 
 /// The values that some small parse trees denote.

@@ -77,8 +77,10 @@ pub fn read_enclosed<S: TokenSource, E: Elements<S>>(
     closer: Punctuator,
     items: &mut Vec<E::Item>,
 ) -> Result<(), ReadError>
-    ensures reads { (k : ℕ) (m : ParseTree → List E.Tree) → IsList E.grammar (class_of opener) (class_of closer) E.production E.means k m
-        → Gives E.grammar (Sym k) (S.items source.old) (S.items source.new) (λ v x. Adds E.view items.old.items items.new.items (m x)) result }
+    ensures reads { (k : ℕ) (m : ParseTree → List E.Tree)
+        → IsList E.grammar (class_of opener) (class_of closer) E.production E.means k m
+        → Gives E.grammar (Sym k) (S.items source.old) (S.items source.new)
+        (λ v x. Adds E.view items.old.items items.new.items (m x)) result }
     ensures kept { kept (S.items source.new) ≡ kept (S.items source.old) }
     ensures grows { OnOk result (length items.old.items ≤ length items.new.items) }
     ensures shorter { Shortens (S.items source.old) (S.items source.new) result }
@@ -90,8 +92,8 @@ pub fn read_enclosed<S: TokenSource, E: Elements<S>>(
     Ok(())
 }
 
-/// Reads what `read_enclosed` reads, or nothing if `opener` does not come next. The elements are collected at the end of
-/// `others` and then split off, so their list is allocated once.
+/// Reads what `read_enclosed` reads, or nothing if `opener` does not come next. The elements are collected at the end
+/// of `others` and then split off, so their list is allocated once.
 #[inline(always)]
 #[tactic(auto, using(crate::proofs::readers::Reading::reading))]
 pub fn optional_split_list<S: TokenSource, E: Elements<S>>(
@@ -101,8 +103,10 @@ pub fn optional_split_list<S: TokenSource, E: Elements<S>>(
     closer: Punctuator,
     others: &mut Vec<E::Item>,
 ) -> Result<Vec<E::Item>, ReadError>
-    ensures reads { (k : ℕ) (m n : ParseTree → List E.Tree) → IsList E.grammar (class_of opener) (class_of closer) E.production E.means k m → IsOption m n
-        → Gives E.grammar (optional (Sym k)) (S.items source.old) (S.items source.new) (λ v x. map E.view v.items ≡ n x) result }
+    ensures reads { (k : ℕ) (m n : ParseTree → List E.Tree)
+        → IsList E.grammar (class_of opener) (class_of closer) E.production E.means k m → IsOption m n
+        → Gives E.grammar (optional (Sym k)) (S.items source.old) (S.items source.new)
+        (λ v x. map E.view v.items ≡ n x) result }
     ensures kept { kept (S.items source.new) ≡ kept (S.items source.old) }
     ensures within { OnOk result (length (S.items source.new).tokens ≤ length (S.items source.old).tokens) }
 {
@@ -125,8 +129,10 @@ pub fn optional_list<S: TokenSource, E: Elements<S>>(
     closer: Punctuator,
     items: &mut Vec<E::Item>,
 ) -> Result<(), ReadError>
-    ensures reads { (k : ℕ) (m n : ParseTree → List E.Tree) → IsList E.grammar (class_of opener) (class_of closer) E.production E.means k m → IsOption m n
-        → Gives E.grammar (optional (Sym k)) (S.items source.old) (S.items source.new) (λ v x. Adds E.view items.old.items items.new.items (n x)) result }
+    ensures reads { (k : ℕ) (m n : ParseTree → List E.Tree)
+        → IsList E.grammar (class_of opener) (class_of closer) E.production E.means k m → IsOption m n
+        → Gives E.grammar (optional (Sym k)) (S.items source.old) (S.items source.new)
+        (λ v x. Adds E.view items.old.items items.new.items (n x)) result }
     ensures kept { kept (S.items source.new) ≡ kept (S.items source.old) }
     ensures within { OnOk result (length (S.items source.new).tokens ≤ length (S.items source.old).tokens) }
 {

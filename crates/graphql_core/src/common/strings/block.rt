@@ -1,5 +1,6 @@
 //! Values of block strings (GraphQL, October 2021, section 2.9.4).
-ghost use Rattle.std.specs.Prelude.{◌≡◌, ℕ, List, [], ◌∷◌, ◌++◌, ◌+◌, ◌^◌, ◌<◌, ◌≤◌, ◌==◌, if◌then◌else◌, true, false, length, min, drop, slice_index_or, IfOk, OnOk, string_bytes};
+ghost use Rattle.std.specs.Prelude.{◌≡◌, ℕ, List, [], ◌∷◌, ◌++◌, ◌+◌, ◌^◌, ◌<◌, ◌≤◌, ◌==◌, if◌then◌else◌, true, false};
+ghost use Rattle.std.specs.Prelude.{length, min, drop, slice_index_or, IfOk, OnOk, string_bytes};
 ghost use Rattle.std.specs.Str.Lines.{lines};
 ghost use Rattle.graphql_core.specs.steps.BlockShape as steps;
 ghost use Rattle.graphql_core.specs.strings.BlockStrings as spec;
@@ -100,7 +101,8 @@ impl BlockShape {
     fn with_text_line(self, index: usize, spaces: usize) -> BlockShape
         requires { index + 1 < 2 ^ 64 }
         ensures { (ls : List (List ℕ)) → index < length ls → spec.is_blank_line (slice_index_or ls index []) ≡ false
-            → spaces ≡ spec.indent (slice_index_or ls index []) → steps.IsShape self index ls → steps.IsShape result (index + 1) ls }
+            → spaces ≡ spec.indent (slice_index_or ls index []) → steps.IsShape self index ls
+            → steps.IsShape result (index + 1) ls }
     {
         if index == 0 {
             return BlockShape {
@@ -223,7 +225,8 @@ fn content_value(alloc: Global, content: &str) -> Result<String, AllocError>
 /// `text` must be the spelling of the token, with both delimiters. An error means that an allocation failed.
 pub fn unquote_block_string(alloc: Global, text: &str) -> Result<String, AllocError>
     requires { (content : List ℕ) × spec.IsInTripleQuotes text.now content }
-    ensures { (content : List ℕ) → spec.IsInTripleQuotes text.now content → IfOk result (λ s. string_bytes s ≡ spec.block_value content) }
+    ensures { (content : List ℕ) → spec.IsInTripleQuotes text.now content
+        → IfOk result (λ s. string_bytes s ≡ spec.block_value content) }
 {
     content_value(alloc, &text[3..text.len() - 3])
 }

@@ -1,5 +1,6 @@
 //! Values of strings in quotes (GraphQL, October 2021, section 2.9.4).
-ghost use Rattle.std.specs.Prelude.{◌≡◌, ◌≢◌, ◌<◌, ℕ, List, slice_index, true, length, IfOk, IfSome, IfNone, SomeIff, IsErrOf, string_bytes};
+ghost use Rattle.std.specs.Prelude.{◌≡◌, ◌≢◌, ◌<◌, ℕ, List, slice_index, true, length, IfOk, IfSome, IfNone, SomeIff};
+ghost use Rattle.std.specs.Prelude.{IsErrOf, string_bytes};
 ghost use Rattle.std.specs.Char.{is_ascii_hexdigit};
 ghost use Rattle.std.specs.List.{list_all};
 ghost use Rattle.std.specs.Str.Parse.{digits_value};
@@ -76,7 +77,8 @@ pub fn unquote_string(alloc: Global, text: &str) -> Result<String, UnquoteError>
     requires { (body : List ℕ) × IsInQuotes text.now body }
     ensures value { (body : List ℕ) → IsInQuotes text.now body → IfOk result (λ s. HasValue body (string_bytes s)) }
     // A string has at most one value.
-    ensures only { (body v : List ℕ) → IsInQuotes text.now body → HasValue body v → IfOk result (λ s. v ≡ string_bytes s) }
+    ensures only { (body v : List ℕ) → IsInQuotes text.now body → HasValue body v
+        → IfOk result (λ s. v ≡ string_bytes s) }
     ensures bad_escape { (body : List ℕ) → IsInQuotes text.now body → IsErrOf result BadEscape → HasNoStringValue body }
 {
     let mut rest = &text[1..text.len() - 1];

@@ -94,7 +94,8 @@ fn ends_in_a_line(text: &str) -> bool
 
 /// Whether a line passes `is_empty_or_text` and does not end in a carriage return.
 fn is_whole_line(line: &str) -> bool
-    ensures { result ≡ ((not (is_blank_line line.now) || spec.is_empty line.now) && not (spec.ends_in_return line.now)) }
+    ensures { result
+        ≡ ((not (is_blank_line line.now) || spec.is_empty line.now) && not (spec.ends_in_return line.now)) }
 {
     is_empty_or_text(line) && ends_in_no_return(line)
 }
@@ -126,7 +127,8 @@ fn has_line_without_indent(text: &str) -> bool
 
 /// Whether neither the first nor the last line is empty, each line is whole, and some line has no indent.
 fn has_whole_lines_around(text: &str) -> bool
-    ensures { result ≡ (not (spec.is_empty (spec.first_line (spec.lines_of text.now))) && (not (spec.is_empty (spec.last_line (spec.lines_of text.now)))
+    ensures { result ≡ (not (spec.is_empty (spec.first_line (spec.lines_of text.now)))
+        && (not (spec.is_empty (spec.last_line (spec.lines_of text.now)))
         && ((list_all (λ l. not (is_blank_line l) || spec.is_empty l) (spec.lines_of text.now)
         && list_all (λ l. not (spec.ends_in_return l)) (spec.lines_of text.now))
         && list_any (λ l. not (is_blank_line l) && not (spec.begins_white l)) (spec.lines_of text.now)))) }
@@ -137,8 +139,8 @@ fn has_whole_lines_around(text: &str) -> bool
         && has_line_without_indent(text)
 }
 
-/// Whether a string is the value of its block form: its first and last lines are not blank, each blank line is empty, no
-/// line ends in CR, and some line has no indent.
+/// Whether a string is the value of its block form: its first and last lines are not blank, each blank line is empty,
+/// no line ends in CR, and some line has no indent.
 pub fn has_block_lines(text: &str) -> bool
     ensures { result ≡ spec.has_block_lines text.now }
 {

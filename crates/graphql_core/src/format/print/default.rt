@@ -26,8 +26,10 @@ pub fn write_default<S: Sink, N: Names>(
     style: &Style,
     margin: usize,
 ) -> Result<(), S::Error>
-    requires { margin + default_levels style.now (option_map (value_view N.bytes) value.now) * style.now.indent < 2 ^ 32 }
-    ensures text { OnOk result (S.took out.old (text_of (default_layout style.now margin (option_map (value_view N.bytes) value.now))) out.new) }
+    requires { margin + default_levels style.now (option_map (value_view N.bytes) value.now) * style.now.indent
+        < 2 ^ 32 }
+    ensures text { OnOk result (S.took out.old
+        (text_of (default_layout style.now margin (option_map (value_view N.bytes) value.now))) out.new) }
     ensures lawful { OnOk result (IfSome (option_map (value_view N.bytes) value.now) IsLawful) }
 {
     let Some(value) = value else {

@@ -19,7 +19,8 @@ pub fn write_arguments<S: Sink, N: Names>(
     margin: usize,
 ) -> Result<(), S::Error>
     requires { margin + arguments_levels style.now (arguments_view N.bytes arguments.now) * style.now.indent < 2 ^ 32 }
-    ensures text { OnOk result (S.took out.old (text_of (arguments_layout style.now margin (arguments_view N.bytes arguments.now))) out.new) }
+    ensures text { OnOk result
+        (S.took out.old (text_of (arguments_layout style.now margin (arguments_view N.bytes arguments.now))) out.new) }
     ensures lawful { OnOk result (AreLawfulArguments (arguments_view N.bytes arguments.now)) }
 {
     if arguments.is_empty() {
@@ -45,8 +46,10 @@ pub fn write_directive<S: Sink, N: Names>(
     style: &Style,
     margin: usize,
 ) -> Result<(), S::Error>
-    requires { margin + arguments_levels style.now (directive_view N.bytes directive.now).arguments * style.now.indent < 2 ^ 32 }
-    ensures text { OnOk result (S.took out.old (text_of (directive_layout style.now margin (directive_view N.bytes directive.now))) out.new) }
+    requires { margin + arguments_levels style.now (directive_view N.bytes directive.now).arguments * style.now.indent
+        < 2 ^ 32 }
+    ensures text { OnOk result
+        (S.took out.old (text_of (directive_layout style.now margin (directive_view N.bytes directive.now))) out.new) }
     ensures lawful { OnOk result (AreLawfulArguments (directive_view N.bytes directive.now).arguments) }
 {
     out.push_str("@")?;
@@ -62,8 +65,10 @@ pub fn write_directives<S: Sink, N: Names>(
     style: &Style,
     margin: usize,
 ) -> Result<(), S::Error>
-    requires { margin + directives_levels style.now (directives_view N.bytes directives.now) * style.now.indent < 2 ^ 32 }
-    ensures text { OnOk result (S.took out.old (text_of (directives_layout style.now margin (directives_view N.bytes directives.now))) out.new) }
+    requires { margin + directives_levels style.now (directives_view N.bytes directives.now) * style.now.indent
+        < 2 ^ 32 }
+    ensures text { OnOk result (S.took out.old
+        (text_of (directives_layout style.now margin (directives_view N.bytes directives.now))) out.new) }
     ensures lawful { OnOk result (AreLawfulDirectives (directives_view N.bytes directives.now)) }
 {
     'directives: for directive in directives {

@@ -19,7 +19,8 @@ impl<N: Names> fmt::Display for Value<N> {
     ghost styled_output = { λ v spec. Some (text_of (value_layout default_style 0 (value_view N.bytes v))) };
 
     fn fmt<W: fmt::Write>(&self, f: &mut fmt::Formatter<W>) -> fmt::Result
-        ensures { Displays W.write_str_gives f.old result (λ s. value_layout s 0) value_levels (value_view N.bytes self.now) f.new }
+        ensures { Displays W.write_str_gives f.old result (λ s. value_layout s 0) value_levels
+            (value_view N.bytes self.now) f.new }
     {
         let style = Style::default();
         check_width(levels_in_value(self, &style), &style)?;
@@ -45,8 +46,8 @@ impl<N: Names> fmt::Display for Directive<N> {
     ghost styled_output = { λ d spec. Some (text_of (directive_layout default_style 0 (directive_view N.bytes d))) };
 
     fn fmt<W: fmt::Write>(&self, f: &mut fmt::Formatter<W>) -> fmt::Result
-        ensures { Displays W.write_str_gives f.old result (λ s. directive_layout s 0) (λ s d. arguments_levels s d.arguments)
-            (directive_view N.bytes self.now) f.new }
+        ensures { Displays W.write_str_gives f.old result (λ s. directive_layout s 0)
+            (λ s d. arguments_levels s d.arguments) (directive_view N.bytes self.now) f.new }
     {
         let style = Style::default();
         check_width(levels_in_arguments(&self.arguments, &style), &style)?;

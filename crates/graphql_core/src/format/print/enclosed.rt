@@ -45,7 +45,8 @@ pub fn write_closer<S: Sink>(
     margin: usize,
     closer: &str,
 ) -> Result<(), S::Error>
-    ensures { OnOk result (S.took out.old (text_of (spec.after_parts style.now margin ++ punctuator_part closer.now)) out.new) }
+    ensures { OnOk result
+        (S.took out.old (text_of (spec.after_parts style.now margin ++ punctuator_part closer.now)) out.new) }
 {
     if style.has_multiline_arguments() {
         write_new_line(out, margin)?;

@@ -6,7 +6,8 @@ ghost use Rattle.graphql_core.specs.layouts.LayoutExamples as example;
 
 /// The brackets counted on a tree are the most that are open at once in its layout, in each style.
 pub fn brackets_are_those_of_layouts()
-    ensures values { (style : Layout) (margin : ℕ) (v : ValueTree) → deepest (value_layout style margin v) ≡ value_brackets v }
+    ensures values { (style : Layout) (margin : ℕ) (v : ValueTree)
+        → deepest (value_layout style margin v) ≡ value_brackets v }
     ensures types { (t : TypeTree) → deepest (type_layout t) ≡ type_brackets t }
     ensures directives { (style : Layout) (margin : ℕ) (d : DirectiveTree)
         → deepest (directive_layout style margin d) ≡ directive_brackets d }

@@ -82,7 +82,8 @@ pub fn write_joined<S: Sink, P: Pretty>(
     margin: usize,
 ) -> Result<(), S::Error>
     requires { margin + most (P.opens style.now) parts.now * style.now.indent < 2 ^ 32 }
-    ensures text { OnOk result (S.took out.old (joined separator.now (map (λ p. text_of (P.lines style.now margin p)) parts.now)) out.new) }
+    ensures text { OnOk result
+        (S.took out.old (joined separator.now (map (λ p. text_of (P.lines style.now margin p)) parts.now)) out.new) }
     ensures lawful { OnOk result (AllByRecursion P.lawful parts.now) }
 {
     let Some((first, others)) = parts.split_first() else {

@@ -20,7 +20,8 @@ pub fn write_value<S: Sink, N: Names>(
     margin: usize,
 ) -> Result<(), S::Error>
     requires { margin + value_levels style.now (value_view N.bytes value.now) * style.now.indent < 2 ^ 32 }
-    ensures text { OnOk result (S.took out.old (text_of (value_layout style.now margin (value_view N.bytes value.now))) out.new) }
+    ensures text { OnOk result
+        (S.took out.old (text_of (value_layout style.now margin (value_view N.bytes value.now))) out.new) }
     ensures lawful { OnOk result (IsLawful (value_view N.bytes value.now)) }
 {
     match value {
@@ -48,7 +49,8 @@ fn write_list<S: Sink, N: Names>(
     margin: usize,
 ) -> Result<(), S::Error>
     requires { margin + value_levels style.now (list (items_view N.bytes items.now)) * style.now.indent < 2 ^ 32 }
-    ensures text { OnOk result (S.took out.old (text_of (value_layout style.now margin (list (items_view N.bytes items.now)))) out.new) }
+    ensures text { OnOk result
+        (S.took out.old (text_of (value_layout style.now margin (list (items_view N.bytes items.now)))) out.new) }
     ensures lawful { OnOk result (AreLawful (items_view N.bytes items.now)) }
 {
     out.push_str("[")?;
@@ -70,8 +72,10 @@ fn write_object<S: Sink, N: Names>(
     style: &Style,
     margin: usize,
 ) -> Result<(), S::Error>
-    requires { margin + value_levels style.now (object (members_view N.bytes members.now.entries)) * style.now.indent < 2 ^ 32 }
-    ensures text { OnOk result (S.took out.old (text_of (value_layout style.now margin (object (members_view N.bytes members.now.entries)))) out.new) }
+    requires { margin + value_levels style.now (object (members_view N.bytes members.now.entries)) * style.now.indent
+        < 2 ^ 32 }
+    ensures text { OnOk result (S.took out.old
+        (text_of (value_layout style.now margin (object (members_view N.bytes members.now.entries)))) out.new) }
     ensures lawful { OnOk result (IsLawful (object (members_view N.bytes members.now.entries))) }
 {
     out.push_str("{")?;

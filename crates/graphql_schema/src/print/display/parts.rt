@@ -23,7 +23,8 @@ impl<N: Names> fmt::Display for Field<N> {
     ghost styled_output = { λ t _. Some (text_of (field_layout default_style 0 (field_view N.bytes t))) };
 
     fn fmt<W: fmt::Write>(&self, f: &mut fmt::Formatter<W>) -> fmt::Result
-        ensures { Displays W.write_str_gives f.old result (λ s. field_layout s 0) field_levels (field_view N.bytes self.now) f.new }
+        ensures { Displays W.write_str_gives f.old result (λ s. field_layout s 0) field_levels
+            (field_view N.bytes self.now) f.new }
     {
         fmt_in_default_style(self, f)
     }
@@ -35,7 +36,8 @@ impl<N: Names> fmt::Display for InputValue<N> {
     ghost styled_output = { λ t _. Some (text_of (input_value_layout default_style 0 (input_value_view N.bytes t))) };
 
     fn fmt<W: fmt::Write>(&self, f: &mut fmt::Formatter<W>) -> fmt::Result
-        ensures { Displays W.write_str_gives f.old result (λ s. input_value_layout s 0) input_value_levels (input_value_view N.bytes self.now) f.new }
+        ensures { Displays W.write_str_gives f.old result (λ s. input_value_layout s 0) input_value_levels
+            (input_value_view N.bytes self.now) f.new }
     {
         fmt_in_default_style(self, f)
     }
@@ -47,7 +49,8 @@ impl<N: Names> fmt::Display for TypeExtension<N> {
     ghost styled_output = { λ t _. shown (type_extension_view N.bytes t) };
 
     fn fmt<W: fmt::Write>(&self, f: &mut fmt::Formatter<W>) -> fmt::Result
-        ensures { Displays W.write_str_gives f.old result definition_layout definition_levels (type_extension_view N.bytes self.now) f.new }
+        ensures { Displays W.write_str_gives f.old result definition_layout definition_levels
+            (type_extension_view N.bytes self.now) f.new }
     {
         fmt_in_default_style(&self.outline(), f)
     }
@@ -59,7 +62,8 @@ impl<N: Names> fmt::Display for ScalarTypeExtension<N> {
     ghost styled_output = { λ t _. shown (scalar_extension_view N.bytes t) };
 
     fn fmt<W: fmt::Write>(&self, f: &mut fmt::Formatter<W>) -> fmt::Result
-        ensures { Displays W.write_str_gives f.old result definition_layout definition_levels (scalar_extension_view N.bytes self.now) f.new }
+        ensures { Displays W.write_str_gives f.old result definition_layout definition_levels
+            (scalar_extension_view N.bytes self.now) f.new }
     {
         fmt_in_default_style(&self.outline(), f)
     }
@@ -71,7 +75,8 @@ impl<N: Names> fmt::Display for ObjectTypeExtension<N> {
     ghost styled_output = { λ t _. shown (object_extension_view N.bytes t) };
 
     fn fmt<W: fmt::Write>(&self, f: &mut fmt::Formatter<W>) -> fmt::Result
-        ensures { Displays W.write_str_gives f.old result definition_layout definition_levels (object_extension_view N.bytes self.now) f.new }
+        ensures { Displays W.write_str_gives f.old result definition_layout definition_levels
+            (object_extension_view N.bytes self.now) f.new }
     {
         fmt_in_default_style(&self.outline(), f)
     }
@@ -83,7 +88,8 @@ impl<N: Names> fmt::Display for InterfaceTypeExtension<N> {
     ghost styled_output = { λ t _. shown (interface_extension_view N.bytes t) };
 
     fn fmt<W: fmt::Write>(&self, f: &mut fmt::Formatter<W>) -> fmt::Result
-        ensures { Displays W.write_str_gives f.old result definition_layout definition_levels (interface_extension_view N.bytes self.now) f.new }
+        ensures { Displays W.write_str_gives f.old result definition_layout definition_levels
+            (interface_extension_view N.bytes self.now) f.new }
     {
         fmt_in_default_style(&self.outline(), f)
     }
@@ -95,7 +101,8 @@ impl<N: Names> fmt::Display for UnionTypeExtension<N> {
     ghost styled_output = { λ t _. shown (union_extension_view N.bytes t) };
 
     fn fmt<W: fmt::Write>(&self, f: &mut fmt::Formatter<W>) -> fmt::Result
-        ensures { Displays W.write_str_gives f.old result definition_layout definition_levels (union_extension_view N.bytes self.now) f.new }
+        ensures { Displays W.write_str_gives f.old result definition_layout definition_levels
+            (union_extension_view N.bytes self.now) f.new }
     {
         fmt_in_default_style(&self.outline(), f)
     }
@@ -107,7 +114,8 @@ impl<N: Names> fmt::Display for EnumTypeExtension<N> {
     ghost styled_output = { λ t _. shown (enum_extension_view N.bytes t) };
 
     fn fmt<W: fmt::Write>(&self, f: &mut fmt::Formatter<W>) -> fmt::Result
-        ensures { Displays W.write_str_gives f.old result definition_layout definition_levels (enum_extension_view N.bytes self.now) f.new }
+        ensures { Displays W.write_str_gives f.old result definition_layout definition_levels
+            (enum_extension_view N.bytes self.now) f.new }
     {
         fmt_in_default_style(&self.outline(), f)
     }
@@ -119,7 +127,8 @@ impl<N: Names> fmt::Display for InputObjectTypeExtension<N> {
     ghost styled_output = { λ t _. shown (input_extension_view N.bytes t) };
 
     fn fmt<W: fmt::Write>(&self, f: &mut fmt::Formatter<W>) -> fmt::Result
-        ensures { Displays W.write_str_gives f.old result definition_layout definition_levels (input_extension_view N.bytes self.now) f.new }
+        ensures { Displays W.write_str_gives f.old result definition_layout definition_levels
+            (input_extension_view N.bytes self.now) f.new }
     {
         fmt_in_default_style(&self.outline(), f)
     }
@@ -131,7 +140,8 @@ impl<N: Names> fmt::Display for DirectiveDefinition<N> {
     ghost styled_output = { λ t _. shown (directive (directive_definition_view N.bytes t)) };
 
     fn fmt<W: fmt::Write>(&self, f: &mut fmt::Formatter<W>) -> fmt::Result
-        ensures { Displays W.write_str_gives f.old result definition_layout definition_levels (directive (directive_definition_view N.bytes self.now)) f.new }
+        ensures { Displays W.write_str_gives f.old result definition_layout definition_levels
+            (directive (directive_definition_view N.bytes self.now)) f.new }
     {
         fmt_in_default_style(self, f)
     }

@@ -33,8 +33,10 @@ unfolding common_indent encode
 returns c = record {
   letters = unit_then (92 ∷ 47 ∷ []) (47 ∷ []) _ _ escaped_slash (unit_then (92 ∷ 98 ∷ []) (8 ∷ []) _ _ escaped_backspace no_units);
   digits = (
-    one_unit (117 ∷ codes "00e9") (195 ∷ 169 ∷ []) (escaped_unicode (codes "00e9") 233 (record { four = refl; hexadecimal = refl; value = refl; exists = refl })),
-    one_unit (117 ∷ codes "00E9") (195 ∷ 169 ∷ []) (escaped_unicode (codes "00E9") 233 (record { four = refl; hexadecimal = refl; value = refl; exists = refl })),
+    one_unit (117 ∷ codes "00e9") (195 ∷ 169 ∷ [])
+        (escaped_unicode (codes "00e9") 233 (record { four = refl; hexadecimal = refl; value = refl; exists = refl })),
+    one_unit (117 ∷ codes "00E9") (195 ∷ 169 ∷ [])
+        (escaped_unicode (codes "00E9") 233 (record { four = refl; hexadecimal = refl; value = refl; exists = refl })),
   );
   bad_escapes = (
     none (117 ∷ codes "12") (no_escape_named (117 ∷ codes "12") (codes "12") refl too_few),

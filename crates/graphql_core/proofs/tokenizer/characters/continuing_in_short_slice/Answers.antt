@@ -11,5 +11,6 @@ returns c =
     let block : List ℕ = replicate 16 0 in
     let zeros = drop (length bytes) block in
     let all = take_all 16 (bytes ++ zeros) (omega (arith, length-append bytes zeros, length-drop (length bytes) block)) in
-    let count : c.continuing_lanes.result ≡ count_by continues_character (bytes ++ zeros) = rw (c.copy_from_slice.ensures.after, all) at c.continuing_lanes.ensures in
+    let count : c.continuing_lanes.result ≡ count_by continues_character (bytes ++ zeros) =
+    rw (c.copy_from_slice.ensures.after, all) at c.continuing_lanes.ensures in
     count ∙ ap (λ z. count_by continues_character (bytes ++ z)) (drop-replicate (length bytes) 16 0) ∙ padded_count bytes (16 - length bytes)

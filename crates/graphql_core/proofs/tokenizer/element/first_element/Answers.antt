@@ -8,7 +8,8 @@ returns-in-Some-clause-first c =
     ignored_element _ _ _ _ c.split_at.ensures.front c.split_at.ensures.back _ _ (sym c.ignored_of.ensures.is ∙ c.in-Some.is) c.ignored_kind-kind.ensures
 
 pub returns-in_default-token_at-clause-first : goal.returns-in_default-token_at-clause-first
-returns-in_default-token_at-clause-first c = begins_none _ (sym c.ignored_of.ensures.is ∙ c.in_default.is) (sym c.token_at.ensures.is ∙ ap without_flat c.in_default-token_at.is)
+returns-in_default-token_at-clause-first c =
+    begins_none _ (sym c.ignored_of.ensures.is ∙ c.in_default.is) (sym c.token_at.ensures.is ∙ ap without_flat c.in_default-token_at.is)
 
 pub returns-clause-first : goal.returns-clause-first
 returns-clause-first c =

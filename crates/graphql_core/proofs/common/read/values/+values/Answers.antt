@@ -29,7 +29,8 @@ value_by_constness-returns-then-sees_punctuator-2-clause-reads g t c =
 pub value_by_constness-returns-clause-reads : goal.value_by_constness-returns-clause-reads
 value_by_constness-returns-clause-reads g t c =
     let old = g.S.TokenSource.items c.args.source.now in
-    let side = plain_side c.args.constness old (sym c.sees_variable.ensures ∙ c.if-sees_variable.false) (sym c.sees_punctuator.ensures ∙ c.if-sees_punctuator.false)
+    let side =
+    plain_side c.args.constness old (sym c.sees_variable.ensures ∙ c.if-sees_variable.false) (sym c.sees_punctuator.ensures ∙ c.if-sees_punctuator.false)
     (sym c.sees_punctuator-2.ensures ∙ c.if-sees_punctuator-2.false) in
     gives_led _ _ _ _ (leads_in side) (λ v x h is. is ∙ sym (plain_means c.args.constness x)) c.plain_value.ensures.reads
 
@@ -110,7 +111,8 @@ object-returns-in_err-member-clause-reads g t c =
 pub object-returns-in_err-expect_punctuator-2-clause-reads : goal.object-returns-in_err-expect_punctuator-2-clause-reads
 object-returns-in_err-expect_punctuator-2-clause-reads g t c =
     let (pairs, turns, views) = c.more.invariant.turns in
-    let r = Turns-stop shared _ (one_of (pair_of c.args.constness)) _ _ pairs turns (begins_pair c.args.constness _ ∙ sym c.sees_name.ensures ∙ c.more-test.false) in
+    let r =
+    Turns-stop shared _ (one_of (pair_of c.args.constness)) _ _ pairs turns (begins_pair c.args.constness _ ∙ sym c.sees_name.ensures ∙ c.more-test.false) in
     lacks_last _ _ _ _ _ (past (past here (took c.in_ok-expect_punctuator.ensures.1 refl)) r.1) c.in_err-expect_punctuator-2.ensures
     c.from_residual-in_err-expect_punctuator-2.ensures.1
 
