@@ -1,4 +1,4 @@
-use Rattle.std.proofs.Common.{◌∙◌, ◌++◌, ap, refl, sym, arith, append_assoc, append-nil}
+use Rattle.std.proofs.Common.{codes, ◌∙◌, ◌++◌, ap, refl, sym, arith, append_assoc, append-nil}
 use Rattle.graphql_query.specs.declared.tree.SelectionSet.{the_lemmas}
 use Rattle.graphql_query.specs.Tree.{selections_view}
 use Rattle.graphql_query.proofs.layouts.LayoutTexts.{selection_set_parts, field_parts, inline_fragment_parts, selection_here}
@@ -34,8 +34,8 @@ write_selections-items-preserved g t c =
 pub write_selections-returns : goal.write_selections-returns
 write_selections-returns g t c =
     let l = c.items in
-    let items = list_appended (λ xs. selections_json (selections_view g.N.Names.bytes xs)) c.args.items.now l.item-index l.is_later _ _ _
-    (omega arith) refl l.invariant in
+    let items = list_appended (λ xs. selections_json (selections_view g.N.Names.bytes xs)) c.args.items.now l.item-index l.is_later _ _
+    (codes "[") (omega arith) refl l.invariant in
     then_last _ _ _ items c.write_text-2.ensures
     (sym (text-array _))
 

@@ -28,7 +28,7 @@ write_items-items-preserved g t c =
 pub write_items-returns : goal.write_items-returns
 write_items-returns g t c =
     let l = c.items in
-    let items = list_appended (λ xs. items_json (items_view g.N.Names.bytes xs)) c.args.items.now l.item-index l.is_later _ _ _
+    let items = list_appended (λ xs. items_json (items_view g.N.Names.bytes xs)) c.args.items.now l.item-index l.is_later _ _ (codes "[")
     (omega arith) refl l.invariant in
     then_last _ _ _ items c.write_text-2.ensures
     (sym (text-array _))
