@@ -104,3 +104,8 @@ pub fragment_definition_text : (n : List ℕ) (condition directives selected : L
     ≡ text_of (name_part (codes "fragment")
     ++ (gap (codes " ") ++ (name_part n ++ (gap (codes " ") ++ (condition ++ (directives ++ (gap (codes " ") ++ selected)))))))
 fragment_definition_text n condition directives selected = simp (text_append, append_assoc)
+
+pub operation_text : (word : List ℕ) (name variables directives selected : List Part)
+    → ((((word ++ text_of name) ++ text_of variables) ++ text_of directives) ++ codes " ") ++ text_of selected
+    ≡ text_of (name_part word ++ (name ++ (variables ++ (directives ++ (gap (codes " ") ++ selected)))))
+operation_text word name variables directives selected = simp (text_append, append_assoc)

@@ -35,4 +35,4 @@ operation_body_view bytes c = body_view bytes c.name c.variable_definitions.item
 -- the model of references to the parts of an operation
 abbrev pub operation_seen : {N T : Type 0} → (T → List ℕ) → OperationParts N T → OperationTree
 operation_seen bytes o = with_body (kind_of o.keyword) (place_of o.position)
-    (body_view bytes o.name.now o.variables.now o.directives.now o.selected.now)
+    (body_view bytes o.name.now o.variables.now.items o.directives.now.items o.selected.now)

@@ -4,6 +4,7 @@ ghost use Rattle.graphql_query.specs.{fragment_definition_layout, definition_lay
 ghost use Rattle.graphql_query.specs.{fragment_definition_levels, definition_levels, levels};
 ghost use Rattle.graphql_query.specs.{fragment_definition_view, operation_view, definition_view, document_view};
 
+use crate::print::operation::parts;
 use crate::print::selection::{write_selection_set, write_type_condition};
 use crate::tree::{Definition, Document, FragmentDefinition, OperationDefinition};
 use graphql_core::common::Names;
@@ -23,19 +24,23 @@ impl<N: Names> Pretty for OperationDefinition<N> {
     fn levels(&self, style: &Style) -> usize {
         match self {
             OperationDefinition::SelectionSet(set) => set.levels(style),
-            OperationDefinition::Query(query) => query.parts().levels(style),
-            OperationDefinition::Mutation(mutation) => mutation.parts().levels(style),
-            OperationDefinition::Subscription(subscription) => subscription.parts().levels(style),
+            OperationDefinition::Query(query) => parts!(Query, query).levels(style),
+            OperationDefinition::Mutation(mutation) => parts!(Mutation, mutation).levels(style),
+            OperationDefinition::Subscription(subscription) => {
+                parts!(Subscription, subscription).levels(style)
+            }
         }
     }
 
     fn write<S: Sink>(&self, out: &mut S, style: &Style, _margin: usize) -> Result<(), S::Error> {
         match self {
             OperationDefinition::SelectionSet(set) => write_selection_set(out, set, style, 0),
-            OperationDefinition::Query(query) => query.parts().write(out, style, 0),
-            OperationDefinition::Mutation(mutation) => mutation.parts().write(out, style, 0),
+            OperationDefinition::Query(query) => parts!(Query, query).write(out, style, 0),
+            OperationDefinition::Mutation(mutation) => parts!(Mutation, mutation).write(
+                out, style, 0,
+            ),
             OperationDefinition::Subscription(subscription) => {
-                subscription.parts().write(out, style, 0)
+                parts!(Subscription, subscription).write(out, style, 0)
             }
         }
     }

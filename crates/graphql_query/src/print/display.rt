@@ -10,6 +10,7 @@ ghost use Rattle.graphql_query.specs.{definition_layout, document_layout, layout
 ghost use Rattle.graphql_query.specs.{selection_set_levels, variable_definition_levels, operation_levels};
 ghost use Rattle.graphql_query.specs.{fragment_definition_levels, definition_levels, levels};
 
+use crate::print::operation::parts;
 use crate::print::selection::write_type_condition;
 use crate::tree::{
     Definition, Document, Field, FragmentDefinition, FragmentSpread, InlineFragment, Mutation,
@@ -82,7 +83,7 @@ impl<N: Names> fmt::Display for Query<N> {
         ensures { Displays W.write_str_gives f.old result operation_layout operation_levels
             (query_view N.bytes self.now) f.new }
     {
-        fmt_in_default_style(&self.parts(), f)
+        fmt_in_default_style(&parts!(Query, self), f)
     }
 }
 
@@ -95,7 +96,7 @@ impl<N: Names> fmt::Display for Mutation<N> {
         ensures { Displays W.write_str_gives f.old result operation_layout operation_levels
             (mutation_view N.bytes self.now) f.new }
     {
-        fmt_in_default_style(&self.parts(), f)
+        fmt_in_default_style(&parts!(Mutation, self), f)
     }
 }
 
@@ -108,7 +109,7 @@ impl<N: Names> fmt::Display for Subscription<N> {
         ensures { Displays W.write_str_gives f.old result operation_layout operation_levels
             (subscription_view N.bytes self.now) f.new }
     {
-        fmt_in_default_style(&self.parts(), f)
+        fmt_in_default_style(&parts!(Subscription, self), f)
     }
 }
 

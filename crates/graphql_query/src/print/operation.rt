@@ -1,15 +1,15 @@
 //! Formatting operations with a keyword, and their variables.
-ghost use Rattle.std.specs.Prelude.{◌≡◌, ◌*◌, ◌^◌, ◌<◌, OnOk, option_map};
+ghost use Rattle.std.specs.Prelude.{◌*◌, ◌^◌, ◌<◌, OnOk, option_map};
 ghost use Rattle.graphql_core.specs.{text_of};
 ghost use Rattle.graphql_query.specs.{variable_definition_view, variable_definitions_view, operation_seen};
-ghost use Rattle.graphql_query.specs.{query_view, mutation_view, subscription_view, operation, IsLawfulVariable};
-ghost use Rattle.graphql_query.specs.{AreLawfulVariables, IsLawfulDefinition, operation_name_layout};
+ghost use Rattle.graphql_query.specs.{operation, IsLawfulVariable, AreLawfulVariables, IsLawfulDefinition};
+ghost use Rattle.graphql_query.specs.{operation_name_layout};
 ghost use Rattle.graphql_query.specs.{variable_definition_layout, variable_definitions_layout, operation_layout};
 ghost use Rattle.graphql_query.specs.{variable_definition_levels, variable_definitions_levels, operation_levels};
 
 use crate::print::selection::write_selection_set;
 use crate::read::keyword::Keyword;
-use crate::tree::{Mutation, Query, SelectionSet, Subscription, VariableDefinition};
+use crate::tree::{SelectionSet, VariableDefinition};
 use graphql_core::common::Names;
 use graphql_core::common::tree::Directive;
 use graphql_core::format::print::{
@@ -82,8 +82,8 @@ pub struct OperationParts<'a, N: Names> {
     /// The position of the keyword.
     pub position: Pos,
     pub name: &'a Option<N::Value>,
-    pub variables: &'a [VariableDefinition<N>],
-    pub directives: &'a [Directive<N>],
+    pub variables: &'a Vec<VariableDefinition<N>>,
+    pub directives: &'a Vec<Directive<N>>,
     pub selected: &'a SelectionSet<N>,
 }
 
@@ -111,11 +111,11 @@ impl<'a, N: Names> Pretty for OperationParts<'a, N> {
     }
 }
 
-// The parts of an operation with this keyword.
+// References to the parts of an operation with this keyword.
 macro_rules! parts {
-    ($of:expr, $keyword:expr) => {
-        OperationParts {
-            keyword: $keyword,
+    ($keyword:ident, $of:expr) => {
+        $crate::print::operation::OperationParts {
+            keyword: $crate::read::keyword::Keyword::$keyword,
             position: $of.position,
             name: &$of.name,
             variables: &$of.variable_definitions,
@@ -125,26 +125,4 @@ macro_rules! parts {
     };
 }
 
-impl<N: Names> Query<N> {
-    pub(crate) fn parts(&self) -> OperationParts<'_, N>
-        ensures { operation_seen N.bytes result ≡ query_view N.bytes self.now }
-    {
-        parts!(self, Keyword::Query)
-    }
-}
-
-impl<N: Names> Mutation<N> {
-    pub(crate) fn parts(&self) -> OperationParts<'_, N>
-        ensures { operation_seen N.bytes result ≡ mutation_view N.bytes self.now }
-    {
-        parts!(self, Keyword::Mutation)
-    }
-}
-
-impl<N: Names> Subscription<N> {
-    pub(crate) fn parts(&self) -> OperationParts<'_, N>
-        ensures { operation_seen N.bytes result ≡ subscription_view N.bytes self.now }
-    {
-        parts!(self, Keyword::Subscription)
-    }
-}
+pub(crate) use parts;

@@ -6,6 +6,7 @@ use Rattle.graphql_query.proofs.print.operation.OperationPartsPretty.levels.Goal
 pub returns : goal.returns
 returns g c =
     let view = variable_definition_view g.N.Names.bytes in
-    let same = most_seen view (variable_definition_levels c.args.style.now) c.args.self.now.variables.now in
-    let each = rw same at c.levels_in_each.ensures in
-    omega (arith, each, c.levels_in_directives.ensures, c.levels.ensures, c.max.ensures, c.max-around.ensures)
+    let same = most_seen view (variable_definition_levels c.args.style.now) c.args.self.now.variables.now.items in
+    let each = rw (c.deref.ensures.value, same) at c.levels_in_each-variables.ensures in
+    let directives = rw c.deref-2.ensures.value at c.levels_in_directives.ensures in
+    omega (arith, each, directives, c.levels.ensures, c.max.ensures, c.max-around.ensures)

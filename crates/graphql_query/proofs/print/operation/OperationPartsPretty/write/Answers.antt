@@ -1,32 +1,44 @@
-use Rattle.std.proofs.Common.{ℕ, ◌<◌, ◌*◌, ◌^◌, max, arith, append_assoc}
+use Rattle.std.proofs.Common.{◌^◌, arith}
 use Rattle.std.proofs.lemmas.Result.{on_ok_weaker}
-use Rattle.graphql_core.proofs.{text_append, and_last, both_fit}
+use Rattle.graphql_core.specs.{directives_layout}
+use Rattle.graphql_core.proofs.{and_last, narrower}
+use Rattle.graphql_query.specs.{keyword, operation_seen, operation_name_layout, variable_definitions_layout}
+use Rattle.graphql_query.specs.{selection_set_layout}
+use Rattle.graphql_query.proofs.{operation_text}
 use Rattle.graphql_query.proofs.print.operation.OperationPartsPretty.write.Goals as goal
 
--- the parts of an operation fit if the operation fits
-parts_fit : (a b c indent : ℕ) → max a (max b c) * indent < 2 ^ 32 → (a * indent < 2 ^ 32) × (b * indent < 2 ^ 32) × (c * indent < 2 ^ 32)
-parts_fit a b c indent h =
-    let (first, others) = both_fit a (max b c) indent (2 ^ 32) h in
-    let (second, third) = both_fit b c indent (2 ^ 32) others in
-    (first, second, third)
-
 pub write_variable_definitions-requires : goal.write_variable_definitions-requires
-write_variable_definitions-requires g c = (parts_fit _ _ _ c.args.style.now.indent c.requires).0
+write_variable_definitions-requires g c =
+    let fits = (narrower _ _ _ c.args.style.now.indent (2 ^ 32) c.requires).0 in
+    rw c.deref.ensures.value (omega (arith, fits))
 
 pub write_directives-requires : goal.write_directives-requires
-write_directives-requires g c = let fits = (parts_fit _ _ _ c.args.style.now.indent c.requires).1 in omega (arith, fits)
+write_directives-requires g c =
+    let later = (narrower _ _ _ c.args.style.now.indent (2 ^ 32) c.requires).1 in
+    let fits = (narrower _ _ _ c.args.style.now.indent (2 ^ 32) later).0 in
+    rw c.deref-2.ensures.value (omega (arith, fits))
 
 pub write_selection_set-requires : goal.write_selection_set-requires
-write_selection_set-requires g c = let fits = (parts_fit _ _ _ c.args.style.now.indent c.requires).2 in omega (arith, fits)
+write_selection_set-requires g c =
+    let later = (narrower _ _ _ c.args.style.now.indent (2 ^ 32) c.requires).1 in
+    let fits = (narrower _ _ _ c.args.style.now.indent (2 ^ 32) later).1 in
+    omega (arith, fits)
 
 pub returns-clause-text : goal.returns-clause-text
 returns-clause-text g c =
     let more = g.met.S.Sink.took_more in
-    let named = more _ _ _ _ _ (more _ _ _ _ _ c.in_ok-push_str.ensures c.in_ok-write_operation_name.ensures) c.in_ok-write_variable_definitions.ensures.text in
-    let written = more _ _ _ _ _ (more _ _ _ _ _ named c.in_ok-write_directives.ensures.text) c.in_ok-push_str-2.ensures in
-    and_last g.S.Sink.took more _ _ _ _ _ _ _ written c.write_selection_set.ensures.text (simp (text_append, append_assoc))
+    let style = c.args.style.now in
+    let o = operation_seen g.N.Names.bytes c.args.self.now in
+    let variables = rw c.deref.ensures.value at c.in_ok-write_variable_definitions.ensures.text in
+    let directives = rw c.deref-2.ensures.value at c.in_ok-write_directives.ensures.text in
+    let named = more _ _ _ _ _ (more _ _ _ _ _ c.in_ok-push_str.ensures c.in_ok-write_operation_name.ensures) variables in
+    let written = more _ _ _ _ _ (more _ _ _ _ _ named directives) c.in_ok-push_str-2.ensures in
+    and_last g.S.Sink.took more _ _ _ _ _ _ _ written c.write_selection_set.ensures.text
+    (rw c.word.ensures (operation_text (keyword o.kind) (operation_name_layout o.name) (variable_definitions_layout style o.variables)
+    (directives_layout style 0 o.directives) (selection_set_layout style 0 o.selected)))
 
 pub returns-clause-lawful : goal.returns-clause-lawful
 returns-clause-lawful g c =
-    on_ok_weaker c.write_selection_set.result
-    (λ set. (c.in_ok-write_variable_definitions.ensures.lawful, c.in_ok-write_directives.ensures.lawful, set)) c.write_selection_set.ensures.lawful
+    let variables = rw c.deref.ensures.value at c.in_ok-write_variable_definitions.ensures.lawful in
+    let directives = rw c.deref-2.ensures.value at c.in_ok-write_directives.ensures.lawful in
+    on_ok_weaker c.write_selection_set.result (λ set. (variables, directives, set)) c.write_selection_set.ensures.lawful
