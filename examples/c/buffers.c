@@ -39,7 +39,8 @@ struct wanted {
 
 #define QUERY_IN_JSON \
     "{\"kind\":\"Document\",\"definitions\":[{\"kind\":\"OperationDefinition\",\"loc\":{\"line\":1,\"column\":1}," \
-    "\"operation\":\"query\",\"variableDefinitions\":[],\"directives\":[],\"selectionSet\":{\"kind\":\"SelectionSet\"," \
+    "\"operation\":\"query\",\"variableDefinitions\":[],\"directives\":[]," \
+    "\"selectionSet\":{\"kind\":\"SelectionSet\"," \
     "\"loc\":{\"line\":1,\"column\":1,\"endLine\":1,\"endColumn\":3},\"selections\":[{\"kind\":\"Field\"," \
     "\"loc\":{\"line\":1,\"column\":2},\"name\":{\"kind\":\"Name\",\"value\":\"a\"},\"arguments\":[]," \
     "\"directives\":[]}]}}]}"
