@@ -6,8 +6,7 @@ use Rattle.std.proofs.Common.{sym, ap, subst, arith, append_assoc, length-append
 use Rattle.std.proofs.lemmas.Bool.{cases_Bool, and_parts, false≢true}
 use Rattle.std.proofs.lemmas.Str.{is_utf8-from_IsUtf8}
 use Rattle.std.proofs.Math.Seq.{drop-append-add}
-use Rattle.graphql_core.specs.declared.tokenizer.piece.Piece.{Piece as Ahead}
-use Rattle.graphql_core.specs.declared.tokenizer.piece.Piece.TheVariants.{AtEnd, Skips, Takes, Stops}
+use Rattle.graphql_core.specs.steps.Front.{FrontElement, AtEnd, Skips, Takes, Stops}
 use Rattle.graphql_core.specs.{front, line_end, comment, BeginsNone, is_in_line, items_of, Token, too_deep, Meaning}
 use Rattle.graphql_core.specs.{Ignored, Word, Piece, IsCutInto, Stands, Where, Item, past_ignored, past_token}
 use Rattle.graphql_core.specs.{is_too_deep, token_then, piece_then, next_place, split, ignored_front, LexicalError}
@@ -67,7 +66,7 @@ module _ (b : ℕ) (bs more : List ℕ) (none : ignored_front (front (b ∷ bs))
       (differs 35 (λ e. line_ignored (prefix_len is_in_line bs) (drop (prefix_len is_in_line bs) bs) e)) (no_mark utf8)
 
 -- a source that begins with no ignored token
-none_begins : (x : Ahead) (text : List ℕ) → Sees text x → BeginsNone text → ignored_front x ≡ None
+none_begins : (x : FrontElement) (text : List ℕ) → Sees text x → BeginsNone text → ignored_front x ≡ None
 none_begins AtEnd text s none = refl
 none_begins Stops text s none = refl
 none_begins (Skips n m) text s none = absurd (none s.0 s.1 s.2 s.4 s.3)

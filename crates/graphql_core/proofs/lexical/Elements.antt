@@ -1,18 +1,20 @@
 -- The front of an input as its first lexical element.
 use Rattle.std.proofs.Common.{◌≡◌, ℕ, List, ◌++◌, Some, None, length, take, drop, refl, sym, ap, ◌∙◌, subst}
 use Rattle.std.proofs.lemmas.List.{take_at, drop_at}
-use Rattle.std.proofs.lemmas.Option.{same_Some}
 use Rattle.graphql_core.specs.declared.tokenizer.element.ElementKind.{ElementKind}
 use Rattle.graphql_core.specs.declared.tokenizer.element.ElementKind.TheVariants as element
 use Rattle.graphql_core.specs.declared.tokenizer.piece.Move.{Move}
 use Rattle.graphql_core.specs.declared.tokenizer.piece.Nesting.{Nesting}
-use Rattle.graphql_core.specs.declared.tokenizer.piece.Piece.{Piece as Ahead}
-use Rattle.graphql_core.specs.declared.tokenizer.piece.Piece.TheVariants.{Skips, Takes}
+use Rattle.graphql_core.specs.declared.tokenizer.piece.Skipped.{Skipped}
+use Rattle.graphql_core.specs.declared.tokenizer.piece.Taken.{Taken}
+use Rattle.graphql_core.specs.steps.Front.{FrontElement, Skips, Takes}
 use Rattle.graphql_core.specs.declared.tokenizer.token.Kind.{Kind}
 use Rattle.graphql_core.specs.{front, ignored_front, taken, Meaning, Ignored, Word, Stands, BeginsNone}
 use Rattle.graphql_core.specs.lexical.Elements.{ignored_kind, element_kind, BeginsWithElement}
 use Rattle.graphql_core.proofs.lexical.FrontIsPiece.{ahead_of, stands_front}
 use Rattle.graphql_core.proofs.lexical.OneCut.{Sees, front_sees}
+use Rattle.graphql_core.proofs.lexical.Spaces.{skips_first}
+use Rattle.graphql_core.proofs.lexical.Tokens.{taken_front}
 
 -- the first `n` bytes are a lexical element of this meaning
 abbrev StandsFirst : List ℕ → ℕ → Meaning → Type 0
@@ -52,23 +54,18 @@ not_ahead (Word j t) n h k = absurd cc
 pub begins_none : (text : List ℕ) → ignored_front (front text) ≡ None → taken (front text) ≡ None → BeginsNone text
 begins_none text h k bytes m rest st e =
     let same : front text ≡ ahead_of m (length bytes) = ap front e ∙ stands_front st in
-    not_ahead m (length bytes) (subst (λ (x : Ahead). ignored_front x ≡ None) same h) (subst (λ (x : Ahead). taken x ≡ None) same k)
+    not_ahead m (length bytes) (subst (λ (x : FrontElement). ignored_front x ≡ None) same h) (subst (λ (x : FrontElement). taken x ≡ None) same k)
 
-is_skip : (x : Ahead) (n : ℕ) (m : Move) → ignored_front x ≡ Some (n, m) → x ≡ Skips n m
-is_skip (Skips i o) n m e = ap (λ (p : ℕ × Move). Skips p.0 p.1) (same_Some (i, o) (n, m) e)
-is_skip _ n m e = absurd cc
+as_element : (text first rest : List ℕ) (n : ℕ) (m : Meaning) (kind : ElementKind) → first ≡ take n text → rest ≡ drop n text → StandsFirst text n m
+    → element_kind first m ≡ kind → BeginsWithElement text kind first rest
+as_element text first rest n m kind e f (st, is) k = (m, rw (e, f) is, rw (e, f) st, k)
 
-is_take : (x : Ahead) (n : ℕ) (k : Kind) (t : Nesting) → taken x ≡ Some (n, k, t) → x ≡ Takes n k t
-is_take (Takes i j u) n k t e = ap (λ (p : ℕ × Kind × Nesting). Takes p.0 p.1 p.2) (same_Some (i, j, u) (n, k, t) e)
-is_take _ n k t e = absurd cc
+pub ignored_element : (text first rest : List ℕ) (s : Skipped) (kind : ElementKind) → first ≡ take s.len text → rest ≡ drop s.len text
+    → ignored_front (front text) ≡ Some s → kind ≡ ignored_kind first → BeginsWithElement text kind first rest
+ignored_element text first rest s kind e f h k =
+    as_element text first rest s.len (Ignored s.by) kind e f (skipped text s.len s.by (skips_first (front text) s h)) (sym k)
 
-module _ (text first rest : List ℕ) (n : ℕ) (e : first ≡ take n text) (f : rest ≡ drop n text) where
-  as_element : (m : Meaning) (kind : ElementKind) → StandsFirst text n m → element_kind first m ≡ kind → BeginsWithElement text kind first rest
-  as_element m kind (st, is) k = (m, rw (e, f) is, rw (e, f) st, k)
-
-  pub ignored_element : (m : Move) (kind : ElementKind) → ignored_front (front text) ≡ Some (n, m) → kind ≡ ignored_kind first
-      → BeginsWithElement text kind first rest
-  ignored_element m kind h k = as_element (Ignored m) kind (skipped text n m (is_skip (front text) n m h)) (sym k)
-
-  pub token_element : (k : Kind) (t : Nesting) → taken (front text) ≡ Some (n, k, t) → BeginsWithElement text (element.Token k) first rest
-  token_element k t h = as_element (Word k t) (element.Token k) (took text n k t (is_take (front text) n k t h)) refl
+pub token_element : (text first rest : List ℕ) (t : Taken) → first ≡ take t.len text → rest ≡ drop t.len text → taken (front text) ≡ Some t
+    → BeginsWithElement text (element.Token t.kind) first rest
+token_element text first rest t e f h =
+    as_element text first rest t.len (Word t.kind t.nesting) (element.Token t.kind) e f (took text t.len t.kind t.nesting (taken_front (front text) t h)) refl

@@ -13,8 +13,7 @@ use Rattle.std.proofs.lemmas.Str.{IsCharBoundary-end, IsCharBoundary-after_ascii
 use Rattle.graphql_core.specs.declared.position.Pos.{Pos}
 use Rattle.graphql_core.specs.declared.tokenizer.token.Kind.TheVariants.{StringValue, BlockString}
 use Rattle.graphql_core.specs.declared.tokenizer.piece.Move.{Move}
-use Rattle.graphql_core.specs.declared.tokenizer.piece.Piece.{Piece}
-use Rattle.graphql_core.specs.declared.tokenizer.piece.Piece.TheVariants.{AtEnd, Skips, Takes, Stops}
+use Rattle.graphql_core.specs.steps.Front.{FrontElement, AtEnd, Skips, Takes, Stops}
 use Rattle.graphql_core.specs.{too_deep, is_name_start, is_name_continue, is_in_line, is_punctuator_byte, is_in_run, is_integer}
 use Rattle.graphql_core.specs.{begins_quotes, steps_over, is_float, number, string_end, block_end, closed}
 use Rattle.graphql_core.specs.{quoted_front, front, comment, line_end, dots, other_token, FitsIn, IsItem, Where}
@@ -28,13 +27,13 @@ use Rattle.graphql_core.proofs.lexical.Strings.{string_found, block_found, block
 abbrev pub Part : List ℕ → ℕ → Type 0
 Part bytes n = (0 < n) × (n ≤ length bytes) × (IsUtf8 bytes → IsCharBoundary bytes n)
 
-abbrev pub PieceFits : List ℕ → Piece → Type 0
+abbrev pub PieceFits : List ℕ → FrontElement → Type 0
 PieceFits bytes AtEnd = length bytes ≡ 0
 PieceFits bytes Stops = 0 < length bytes
 PieceFits bytes (Skips n m) = Part bytes n × (steps_over m ≤ 8)
 PieceFits bytes (Takes n k t) = Part bytes n
 
-either : (bytes : List ℕ) (t : Bool) (x y : Piece) → (t ≡ true → PieceFits bytes x) → (t ≡ false → PieceFits bytes y) → PieceFits bytes (cond t x y)
+either : (bytes : List ℕ) (t : Bool) (x y : FrontElement) → (t ≡ true → PieceFits bytes x) → (t ≡ false → PieceFits bytes y) → PieceFits bytes (cond t x y)
 either bytes true x y f g = f refl
 either bytes false x y f g = g refl
 
@@ -201,13 +200,13 @@ front_within (b ∷ bs) =
     (λ _. either B (b == 239 && (get_or bs 0 0 == 187 && get_or bs 1 0 == 191)) _ _ (λ e. (bom b bs e, omega arith))
     (λ _. in_token b bs)))))))
 
-fits : (bytes : List ℕ) (x : Piece) → IsUtf8 bytes → PieceFits bytes x → FitsIn bytes x
+fits : (bytes : List ℕ) (x : FrontElement) → IsUtf8 bytes → PieceFits bytes x → FitsIn bytes x
 fits bytes AtEnd utf8 h = h
 fits bytes Stops utf8 h = h
 fits bytes (Skips n m) utf8 h = ((h.0.0, h.0.1, h.0.2 utf8), h.1)
 fits bytes (Takes n k t) utf8 h = (h.0, h.1, h.2 utf8)
 
-pub front_fits : (bytes : List ℕ) (x : Piece) → x ≡ front bytes → IsUtf8 bytes → FitsIn bytes x
+pub front_fits : (bytes : List ℕ) (x : FrontElement) → x ≡ front bytes → IsUtf8 bytes → FitsIn bytes x
 front_fits bytes x e utf8 = rw e (fits bytes (front bytes) utf8 (front_within bytes))
 
 -- ---- the fuel is enough
@@ -215,7 +214,7 @@ front_fits bytes x e utf8 = rw e (fits bytes (front bytes) utf8 (front_within by
 abbrev Same : (Where → List ℕ → List Item) → (Where → List ℕ → List Item) → ℕ → Type 0
 Same f g n = (w : Where) (bytes : List ℕ) → length bytes < n → f w bytes ≡ g w bytes
 
-by_same : (f g : Where → List ℕ → List Item) (w : Where) (bytes : List ℕ) (x : Piece) → PieceFits bytes x → Same f g (length bytes)
+by_same : (f g : Where → List ℕ → List Item) (w : Where) (bytes : List ℕ) (x : FrontElement) → PieceFits bytes x → Same f g (length bytes)
     → items_by f w bytes x ≡ items_by g w bytes x
 by_same f g w bytes AtEnd fits same = refl
 by_same f g w bytes Stops fits same = refl
@@ -241,7 +240,7 @@ items_unfold w (b ∷ bs) =
     by_same (items_in (length bs)) items w (b ∷ bs) (front (b ∷ bs)) (front_within (b ∷ bs))
     (λ v xs lt. fuel_same (length bs) (length xs) v xs (omega arith) (omega arith))
 
-pub items_at : (w : Where) (bytes : List ℕ) (x : Piece) → front bytes ≡ x → items w bytes ≡ items_by items w bytes x
+pub items_at : (w : Where) (bytes : List ℕ) (x : FrontElement) → front bytes ≡ x → items w bytes ≡ items_by items w bytes x
 items_at w bytes x e = items_unfold w bytes ∙ ap (items_by items w bytes) e
 
 -- ignored text has no item
@@ -262,7 +261,7 @@ last_place : (w : Where) (bytes : List ℕ) → (last_item w bytes).place ≡ w
 last_place w [] = refl
 last_place w (b ∷ bs) = refl
 
-place_by : (w : Where) (bytes : List ℕ) (x : Piece) → IsItem x → next_place (items_by items w bytes x) ≡ w
+place_by : (w : Where) (bytes : List ℕ) (x : FrontElement) → IsItem x → next_place (items_by items w bytes x) ≡ w
 place_by w bytes AtEnd h = refl
 place_by w bytes Stops h = last_place w bytes
 place_by w bytes (Skips n m) h = absurd h

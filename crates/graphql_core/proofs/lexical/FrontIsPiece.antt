@@ -6,8 +6,7 @@ use Rattle.std.proofs.lemmas.List.{drop_at, drop_all, append-nil}
 use Rattle.graphql_core.specs.declared.tokenizer.token.Kind.TheVariants.{Punctuator, Name, StringValue, BlockString}
 use Rattle.graphql_core.specs.declared.tokenizer.piece.Move.{Move}
 use Rattle.graphql_core.specs.declared.tokenizer.piece.Move.TheVariants.{Stay, Down}
-use Rattle.graphql_core.specs.declared.tokenizer.piece.Piece.{Piece as Ahead}
-use Rattle.graphql_core.specs.declared.tokenizer.piece.Piece.TheVariants.{Skips, Takes}
+use Rattle.graphql_core.specs.steps.Front.{FrontElement, Skips, Takes}
 use Rattle.graphql_core.specs.declared.tokenizer.piece.Nesting.TheVariants.{Level}
 use Rattle.graphql_core.specs.{front, front_of, other_token, comment, line_end, starts_number, number, is_name_start}
 use Rattle.graphql_core.specs.{is_name_continue, is_in_line, is_punctuator_byte, nesting_of, Meaning, Ignored, Word, Stands}
@@ -20,7 +19,7 @@ use Rattle.graphql_core.proofs.lexical.Numbers.{NumberRun, integer_run, float_ru
 use Rattle.graphql_core.proofs.lexical.Strings.{string_front, block_front}
 
 -- what the front is, if a lexical element with this `Meaning` has n bytes
-abbrev pub ahead_of : Meaning → ℕ → Ahead
+abbrev pub ahead_of : Meaning → ℕ → FrontElement
 ahead_of (Ignored m) n = Skips n m
 ahead_of (Word k t) n = Takes n k t
 

@@ -1,27 +1,15 @@
 -- From the mask of one load to the bytes that pass a test, and from one load to a run.
-use lib.Lanes.{zip2, mask_l, top}
+use lib.Lanes.{mask_l, top}
 use native.Mathlib.Numerals.{unary_clauses}
 use Rattle.std.specs.List.{prefix_len, count_by}
 use Rattle.std.proofs.Common.{◌≡◌, ℕ, zero, suc, ◌+◌, ◌-◌, ◌*◌, ◌/◌, ◌%◌, ◌^◌, ◌<◌, ◌≤◌, ◌≢◌, Bool, true, false, not, List, [], ◌∷◌, map, ◌++◌, take, drop}
-use Rattle.std.proofs.Common.{cond, count_ones, length, min, get_or, replicate, Fits, w8, refl, sym, ap, ap₂, ◌∙◌, arith, inl, inr, length-drop}
+use Rattle.std.proofs.Common.{cond, count_ones, length, min, get_or, Fits, w8, refl, sym, ap, ◌∙◌, arith, inl, inr, length-drop}
 use Rattle.std.proofs.lemmas.Bool.{cases_Bool, agree_below, agree_below_at, cases_eq, eq-eqb, ne_eqb, cond-true, cond-false}
 use Rattle.std.proofs.lemmas.Simd.{map-map, mask_l-mod, length-chunk, leading_from_mask_l, trailing_mask_l, ones-mask_l}
 use Rattle.std.proofs.lemmas.List.{length-map, length-take, drop-map, drop-take, get_or-drop}
 use Rattle.std.proofs.lemmas.List.Sums.{prefix_len-le-length, sum_by-cons}
 use Rattle.std.proofs.Math.Nat.{div-div-eq-div-mul, zero-div}
 use Rattle.graphql_core.specs.{first_set}
-
-zip2-map : (h : ℕ → ℕ → ℕ) (f g : ℕ → ℕ) (xs : List ℕ) → zip2 h (map f xs) (map g xs) ≡ map (λ x. h (f x) (g x)) xs
-zip2-map h f g [] = refl
-zip2-map h f g (x ∷ xs) = ap (λ r. h (f x) (g x) ∷ r) (zip2-map h f g xs)
-
--- an operation on two vectors that were computed lane by lane from v
-pub joined : (h : ℕ → ℕ → ℕ) (f g : ℕ → ℕ) (v : List ℕ) {a b : List ℕ} → a ≡ map f v → b ≡ map g v → zip2 h a b ≡ map (λ x. h (f x) (g x)) v
-joined h f g v p q = ap₂ (zip2 h) p q ∙ zip2-map h f g v
-
-pub splat_is : (v : List ℕ) (n y : ℕ) → length v ≡ n → replicate n y ≡ map (λ _. y) v
-splat_is [] n y e = ap (λ k. replicate k y) (sym e)
-splat_is (x ∷ xs) n y e = ap (λ k. replicate k y) (sym e) ∙ ap (λ r. y ∷ r) (splat_is xs (length xs) y refl)
 
 run_is : (p : ℕ → Bool) (v : List ℕ) (n : ℕ) → length v ≡ n → n ≤ 64 → first_set (mask_l (map p v)) n ≡ prefix_len (λ x. not (p x)) v
 run_is p v n long few =

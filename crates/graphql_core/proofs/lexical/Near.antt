@@ -5,7 +5,7 @@ use Rattle.std.proofs.lemmas.Bool.{not-true}
 use Rattle.graphql_core.specs.declared.tokenizer.token.Kind.{Kind}
 use Rattle.graphql_core.specs.declared.tokenizer.piece.Nesting.{Nesting}
 use Rattle.graphql_core.specs.declared.tokenizer.piece.Nesting.TheVariants.{Level}
-use Rattle.graphql_core.specs.declared.tokenizer.piece.Piece.TheVariants.{Takes}
+use Rattle.graphql_core.specs.steps.Front.{Takes}
 use Rattle.graphql_core.specs.{front, other_token, is_flat, is_quoted, starts_number, number, quoted_front}
 use Rattle.graphql_core.proofs.lexical.FrontIsPiece.{number_first}
 use Rattle.graphql_core.proofs.lexical.Positions.{token_flat}

@@ -11,7 +11,7 @@ use Rattle.std.proofs.lemmas.List.Sums.{prefix_len-le-length, prefix_len_stops}
 use Rattle.std.proofs.lemmas.Str.{IsCharBoundary-end, IsCharBoundary-before_ascii}
 use Rattle.graphql_core.specs.declared.tokenizer.token.Kind.TheVariants.{IntValue, FloatValue}
 use Rattle.graphql_core.specs.declared.tokenizer.piece.Nesting.TheVariants.{Level}
-use Rattle.graphql_core.specs.declared.tokenizer.piece.Piece.TheVariants.{Takes}
+use Rattle.graphql_core.specs.steps.Front.{Takes}
 use Rattle.graphql_core.specs.{is_in_run, is_delimiter, is_natural, is_integer, is_fraction, is_exponent, is_in}
 use Rattle.graphql_core.specs.{EndsRun, IsFloat, with_fraction, with_exponent, with_both, run_at, is_flat}
 use Rattle.graphql_core.specs.{starts_number, digits_len, is_exponent_or_none, is_after_dot, is_after_integer}

@@ -10,8 +10,7 @@ use Rattle.graphql_core.specs.declared.tokenizer.piece.Nesting.TheVariants.{Leve
 use Rattle.graphql_core.specs.declared.tokenizer.token.Kind.TheVariants.{Punctuator, Name, IntValue, FloatValue}
 use Rattle.graphql_core.specs.declared.tokenizer.token.Kind.TheVariants.{StringValue, BlockString}
 use Rattle.graphql_core.specs.declared.tokenizer.piece.Move.TheVariants.{Stay, Down}
-use Rattle.graphql_core.specs.declared.tokenizer.piece.Piece.{Piece as Ahead}
-use Rattle.graphql_core.specs.declared.tokenizer.piece.Piece.TheVariants.{AtEnd, Skips, Takes, Stops}
+use Rattle.graphql_core.specs.steps.Front.{FrontElement, AtEnd, Skips, Takes, Stops}
 use Rattle.graphql_core.specs.{front, other_token, comment, line_end, is_float, number, string_end, block_end}
 use Rattle.graphql_core.specs.{closed, quoted_front, Where, Item, HasItemsFrom, HasItems, start, past_ignored}
 use Rattle.graphql_core.specs.{past_token, last_item, piece_then, items_of, run_at, items_by, items, is_name_start}
@@ -30,13 +29,13 @@ use Rattle.graphql_core.proofs.lexical.FrontIsPiece.{ahead_of, stands_front}
 abbrev pub HasPiece : List ℕ → Type 0
 HasPiece text = (bytes : List ℕ) × (m : Meaning) × (rest : List ℕ) × (text ≡ bytes ++ rest) × Stands bytes m rest
 
-abbrev pub Sees : List ℕ → Ahead → Type 0
+abbrev pub Sees : List ℕ → FrontElement → Type 0
 Sees text AtEnd = Unit {0}
 Sees text Stops = Unit {0}
 Sees text (Skips n m) = HasPiece text
 Sees text (Takes n k t) = HasPiece text
 
-look : (text : List ℕ) (t : Bool) (x y : Ahead) → (t ≡ true → Sees text x) → (t ≡ false → Sees text y) → Sees text (cond t x y)
+look : (text : List ℕ) (t : Bool) (x y : FrontElement) → (t ≡ true → Sees text x) → (t ≡ false → Sees text y) → Sees text (cond t x y)
 look text true x y f g = f refl
 look text false x y f g = g refl
 
@@ -209,7 +208,7 @@ front_sees (b ∷ bs) =
 
 -- ---- the items
 
-last_by : (w : Where) (text : List ℕ) (x : Ahead) → PieceFits text x → Sees text x → BeginsNone text → items_by items w text x ≡ last_item w text ∷ []
+last_by : (w : Where) (text : List ℕ) (x : FrontElement) → PieceFits text x → Sees text x → BeginsNone text → items_by items w text x ≡ last_item w text ∷ []
 last_by w [] AtEnd f s none = refl
 last_by w (b ∷ bs) AtEnd f s none = absurd (omega arith)
 last_by w text Stops f s none = refl
@@ -251,7 +250,7 @@ some_bytes (float_token h ends) = omega (arith, ap length (float_run h).is)
 some_bytes (string_token body valid some) = omega arith
 some_bytes (block_string_token closes) = omega arith
 
-not_ahead : (m : Meaning) (n : ℕ) (x : Ahead) → x ≡ ahead_of m n → (x ≡ AtEnd) ⊎ (x ≡ Stops) → ⊥
+not_ahead : (m : Meaning) (n : ℕ) (x : FrontElement) → x ≡ ahead_of m n → (x ≡ AtEnd) ⊎ (x ≡ Stops) → ⊥
 not_ahead (Ignored m) n x e h = elim h [ inl a ↦ cc | inr b ↦ cc ]
 not_ahead (Word k t) n x e h = elim h [ inl a ↦ cc | inr b ↦ cc ]
 
@@ -261,7 +260,7 @@ begins_none text h bytes m rest st e = not_ahead m (length bytes) (front text) (
 abbrev pub Cut : List ℕ → Type 0
 Cut text = (ps : List Piece) × (stop : List ℕ) × IsCutInto text ps stop
 
-cut_by : (n : ℕ) (text : List ℕ) (x : Ahead) → front text ≡ x → Sees text x → length text ≤ n → Cut text
+cut_by : (n : ℕ) (text : List ℕ) (x : FrontElement) → front text ≡ x → Sees text x → length text ≤ n → Cut text
 cut_by n text AtEnd e s h = ([], text, (refl, begins_none text (inl e)))
 cut_by n text Stops e s h = ([], text, (refl, begins_none text (inr e)))
 cut_by zero text (Skips i m) e s h = absurd (omega (arith, some_bytes s.4, ap length s.3, length-append s.0 s.2))

@@ -8,7 +8,7 @@ use Rattle.std.proofs.lemmas.Bool.Decides.{nat_tests}
 use Rattle.std.proofs.lemmas.List.{take_at, take-append-drop, length-take, get_or_append_left}
 use Rattle.graphql_core.specs.declared.tokenizer.token.Kind.TheVariants.{IntValue, FloatValue}
 use Rattle.graphql_core.specs.declared.tokenizer.piece.Nesting.TheVariants.{Level}
-use Rattle.graphql_core.specs.declared.tokenizer.piece.Piece.TheVariants.{Takes}
+use Rattle.graphql_core.specs.steps.Front.{Takes}
 use Rattle.graphql_core.specs.{is_natural, is_integer, is_fraction, EndsRun, with_fraction, digits_len, number}
 use Rattle.graphql_core.proofs.lexical.Runs.{run_of}
 use Rattle.graphql_core.proofs.lexical.Numbers.{integer_front, float_front}

@@ -11,8 +11,7 @@ use Rattle.std.proofs.lemmas.Str.{chars-IsAscii, chars-append, chars_past_char, 
 use Rattle.graphql_core.specs.declared.position.Pos.{Pos}
 use Rattle.graphql_core.specs.declared.tokenizer.token.Kind.{Kind}
 use Rattle.graphql_core.specs.declared.tokenizer.piece.Nesting.{Nesting}
-use Rattle.graphql_core.specs.declared.tokenizer.piece.Piece.{Piece as Ahead}
-use Rattle.graphql_core.specs.declared.tokenizer.piece.Piece.TheVariants.{AtEnd, Skips, Takes, Stops}
+use Rattle.graphql_core.specs.steps.Front.{FrontElement, AtEnd, Skips, Takes, Stops}
 use Rattle.graphql_core.specs.{front, is_flat, is_no_line_feed, IsFlat, past, past_character, past_characters, is_name_start}
 use Rattle.graphql_core.specs.{is_name_continue, is_punctuator_byte, Meaning, Ignored, Word, Stands, ignored_tab}
 use Rattle.graphql_core.specs.{ignored_line_feed, ignored_carriage_return, ignored_space, ignored_comma}
@@ -73,11 +72,16 @@ past_more [] ds p = refl
 past_more (c ∷ cs) ds p = past_more cs ds (past_character c p)
 
 -- the position after an input whose front is whole characters
-pub past_front : (text : List ℕ) (n : ℕ) (p : Pos) → IsUtf8 text → IsCharBoundary text n → past text p ≡ past (drop n text) (past (take n text) p)
+past_front : (text : List ℕ) (n : ℕ) (p : Pos) → IsUtf8 text → IsCharBoundary text n → past text p ≡ past (drop n text) (past (take n text) p)
 past_front text n p utf8 cut =
     ap (λ l. past l p) (sym (take-append-drop n text))
     ∙ ap (λ cs. past_characters cs p) (chars-append (take n text) (drop n text) (IsUtf8-take text n utf8 cut))
     ∙ past_more (chars (take n text)) (chars (drop n text)) p
+
+-- past the first part of an input
+pub past_part : (text : List ℕ) (n : ℕ) (at place : Pos) {part after : List ℕ} → part ≡ take n text → after ≡ drop n text → IsUtf8 text
+    → IsCharBoundary text n → place ≡ past part at → past text at ≡ past after place
+past_part text n at place first rest utf8 cut is = rw (rest, is, first) (past_front text n at utf8 cut)
 
 -- the position after an input that begins with a character
 pub past_first : (text rest : List ℕ) (c : ℕ) (p : Pos) → IsUtf8 text → text ≡ encode_utf8 c ++ rest → past text p ≡ past rest (past_character c p)
@@ -121,7 +125,7 @@ same_word : (m : Meaning) (n i : ℕ) (k : Kind) (t : Nesting) (bytes : List ℕ
 same_word (Ignored m) n i k t bytes e h = absurd cc
 same_word (Word l u) n i k t bytes e h = (let same : l ≡ k = cc in subst (λ x. IsFlat x bytes) same h, cc)
 
-flat_by : (text : List ℕ) (n : ℕ) (k : Kind) (t : Nesting) (x : Ahead) → front text ≡ x → x ≡ Takes n k t → Sees text x → IsFlat k (take n text)
+flat_by : (text : List ℕ) (n : ℕ) (k : Kind) (t : Nesting) (x : FrontElement) → front text ≡ x → x ≡ Takes n k t → Sees text x → IsFlat k (take n text)
 flat_by text n k t AtEnd e f s = absurd cc
 flat_by text n k t Stops e f s = absurd cc
 flat_by text n k t (Skips i m) e f s = absurd cc
@@ -152,12 +156,13 @@ character_bounds c p =
 pub past_feed : (text rest : List ℕ) (p : Pos) → IsUtf8 text → text ≡ 10 ∷ rest → past text p ≡ past rest (record { line = p.line + 1; column = 1 })
 past_feed text rest p utf8 is = past_first text rest 10 p utf8 (is ∙ ap (λ l. l ++ rest) (sym (encode_ascii 10 (omega arith))))
 
-pub past_nothing : (bytes : List ℕ) (p : Pos) → bytes ≡ [] → past bytes p ≡ p
-past_nothing bytes p is = ap (λ l. past l p) is ∙ ap (λ cs. past_characters cs p) chars-nil
+pub past_nothing : (bytes : List ℕ) (p : Pos) → length bytes ≡ 0 → past bytes p ≡ p
+past_nothing [] p e = ap (λ cs. past_characters cs p) chars-nil
+past_nothing (b ∷ bs) p e = absurd (omega arith)
 
 -- a line that no line feed follows ends the input
-pub line_ends : (text : List ℕ) (n : ℕ) → n ≡ prefix_len is_no_line_feed text → ((rest : List ℕ) → drop n text ≢ 10 ∷ rest) → drop n text ≡ []
-line_ends [] n e none = drop_all n [] (omega arith)
+pub line_ends : (text : List ℕ) (n : ℕ) → n ≡ prefix_len is_no_line_feed text → ((rest : List ℕ) → drop n text ≢ 10 ∷ rest) → length (drop n text) ≡ 0
+line_ends [] n e none = ap length (drop_all n [] (omega arith))
 line_ends (b ∷ bs) zero e none = elim (cases_Bool (b == 10)) [
   | inl feed ↦ absurd (none bs (ap (λ c. c ∷ bs) (eqb-true b 10 feed)))
   | inr other ↦ absurd (omega (arith, rw other at e))

@@ -10,10 +10,9 @@ use Rattle.std.proofs.lemmas.List.Sums.{prefix_len-le-length, prefix_len_passes}
 use Rattle.std.proofs.lemmas.Str.{IsCharBoundary-start, IsCharBoundary-after_ascii}
 use Rattle.graphql_core.specs.declared.position.Pos.{Pos}
 use Rattle.graphql_core.specs.declared.tokenizer.token.Kind.{Kind}
-use Rattle.graphql_core.specs.declared.tokenizer.piece.Move.{Move}
 use Rattle.graphql_core.specs.declared.tokenizer.piece.Move.TheVariants.{Over}
-use Rattle.graphql_core.specs.declared.tokenizer.piece.Piece.{Piece}
-use Rattle.graphql_core.specs.declared.tokenizer.piece.Piece.TheVariants.{AtEnd, Skips, Takes, Stops}
+use Rattle.graphql_core.specs.declared.tokenizer.piece.Skipped.{Skipped}
+use Rattle.graphql_core.specs.steps.Front.{FrontElement, AtEnd, Skips, Takes, Stops}
 use Rattle.graphql_core.specs.{is_name_start, is_punctuator_byte, is_integer, begins_quotes, is_float, number, closed}
 use Rattle.graphql_core.specs.{quoted_front, front, other_token, FitsIn, IsItem, is_flat, Where, run_at, further}
 use Rattle.graphql_core.specs.{items, is_space, ignored_front, FitsIgnored}
@@ -69,24 +68,24 @@ flat_boundary bytes (suc n) utf8 e =
 
 -- ---- the quick test
 
-pub item_first : (x : Piece) → ignored_front x ≡ None → IsItem x
+pub item_first : (x : FrontElement) → ignored_front x ≡ None → IsItem x
 item_first AtEnd e = tt
 item_first Stops e = tt
 item_first (Skips n m) e = absurd cc
 item_first (Takes n k t) e = tt
 
-back : Option (ℕ × Move) → Piece
+back : Option Skipped → FrontElement
 back None = Stops
-back (Some (n, m)) = Skips n m
+back (Some s) = Skips s.len s.by
 
-pub skips_first : (x : Piece) (n : ℕ) (m : Move) → ignored_front x ≡ Some (n, m) → x ≡ Skips n m
+pub skips_first : (x : FrontElement) (s : Skipped) → ignored_front x ≡ Some s → x ≡ Skips s.len s.by
 unfolding back
-skips_first AtEnd n m e = absurd cc
-skips_first Stops n m e = absurd cc
-skips_first (Skips k l) n m e = ap back e
-skips_first (Takes i k t) n m e = absurd cc
+skips_first AtEnd s e = absurd cc
+skips_first Stops s e = absurd cc
+skips_first (Skips k l) s e = ap back e
+skips_first (Takes i k t) s e = absurd cc
 
-neither : (t : Bool) (x y : Piece) → ignored_front x ≡ None → ignored_front y ≡ None → ignored_front (cond t x y) ≡ None
+neither : (t : Bool) (x y : FrontElement) → ignored_front x ≡ None → ignored_front y ≡ None → ignored_front (cond t x y) ≡ None
 neither true x y p q = p
 neither false x y p q = q
 
@@ -118,11 +117,11 @@ unfolding front
 no_front b bs tab feed return blank number_sign order_mark =
     rw (tab, feed, return, blank, number_sign, order_mark) (neither (is_name_start b) _ _ refl (no_token b (b ∷ bs)))
 
-fits_parts : (bytes : List ℕ) (x : Piece) → FitsIn bytes x → FitsIgnored bytes (ignored_front x)
+fits_parts : (bytes : List ℕ) (x : FrontElement) → FitsIn bytes x → FitsIgnored bytes (ignored_front x)
 fits_parts bytes AtEnd h = tt
 fits_parts bytes Stops h = tt
 fits_parts bytes (Skips n m) h = h
 fits_parts bytes (Takes n k t) h = tt
 
-pub ignored_fits : (bytes : List ℕ) (x : Option (ℕ × Move)) → x ≡ ignored_front (front bytes) → IsUtf8 bytes → FitsIgnored bytes x
+pub ignored_fits : (bytes : List ℕ) (x : Option Skipped) → x ≡ ignored_front (front bytes) → IsUtf8 bytes → FitsIgnored bytes x
 ignored_fits bytes x e utf8 = rw e (fits_parts bytes (front bytes) (front_fits bytes (front bytes) refl utf8))

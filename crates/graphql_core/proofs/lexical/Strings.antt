@@ -10,7 +10,7 @@ use Rattle.graphql_core.specs.{ClosesBlock, closing, escape, unit, is_flat, is_p
 use Rattle.graphql_core.specs.{string_end, block_end, quoted_front}
 use Rattle.graphql_core.specs.declared.tokenizer.token.Kind.TheVariants.{StringValue, BlockString}
 use Rattle.graphql_core.specs.declared.tokenizer.piece.Nesting.TheVariants.{Level}
-use Rattle.graphql_core.specs.declared.tokenizer.piece.Piece.TheVariants.{Takes}
+use Rattle.graphql_core.specs.steps.Front.{Takes}
 use Rattle.graphql_core.proofs.lexical.Runs.{not_equal, run_of, all_weaken, all_append}
 
 -- ---- one byte or unit on

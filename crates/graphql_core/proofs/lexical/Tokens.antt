@@ -13,8 +13,8 @@ use Rattle.graphql_core.specs.declared.tokenizer.piece.Move.{Move}
 use Rattle.graphql_core.specs.declared.tokenizer.piece.Move.TheVariants.{Stay, Over, Down}
 use Rattle.graphql_core.specs.declared.tokenizer.piece.Nesting.{Nesting}
 use Rattle.graphql_core.specs.declared.tokenizer.piece.Nesting.TheVariants.{Level, Opens, Closes}
-use Rattle.graphql_core.specs.declared.tokenizer.piece.Piece.{Piece}
-use Rattle.graphql_core.specs.declared.tokenizer.piece.Piece.TheVariants.{AtEnd, Skips, Takes, Stops}
+use Rattle.graphql_core.specs.declared.tokenizer.piece.Taken.{Taken}
+use Rattle.graphql_core.specs.steps.Front.{FrontElement, AtEnd, Skips, Takes, Stops}
 use Rattle.graphql_core.specs.{is_name_start, is_name_continue, is_punctuator_byte, nesting_of, is_in_line, too_deep, Where}
 use Rattle.graphql_core.specs.{Item, Content, item_at, TokenContent, EndOfInput, LexicalError, is_token, is_too_deep}
 use Rattle.graphql_core.specs.{openers_after, closers_after, past_token, token_then, items, items_by, BeginsWithNext}
@@ -54,29 +54,29 @@ punctuator_front b bs h other =
       h,
     ) refl
 
-fits_parts : (bytes : List ℕ) (x : Piece) → FitsIn bytes x → FitsTaken bytes (taken x)
+fits_parts : (bytes : List ℕ) (x : FrontElement) → FitsIn bytes x → FitsTaken bytes (taken x)
 fits_parts bytes AtEnd h = tt
 fits_parts bytes Stops h = tt
 fits_parts bytes (Skips n m) h = tt
 fits_parts bytes (Takes n k t) h = h
 
-pub taken_fits : (bytes : List ℕ) (x : Option (ℕ × Kind × Nesting)) → x ≡ taken (front bytes) → IsUtf8 bytes → FitsTaken bytes x
+pub taken_fits : (bytes : List ℕ) (x : Option Taken) → x ≡ taken (front bytes) → IsUtf8 bytes → FitsTaken bytes x
 taken_fits bytes x e utf8 = rw e (fits_parts bytes (front bytes) (front_fits bytes (front bytes) refl utf8))
 
-pub some_fits : (bytes : List ℕ) (x : Option (ℕ × Kind × Nesting)) → IfSome x (λ t. Some t ≡ taken (front bytes)) → IsUtf8 bytes → FitsTaken bytes x
+pub some_fits : (bytes : List ℕ) (x : Option Taken) → IfSome x (λ t. Some t ≡ taken (front bytes)) → IsUtf8 bytes → FitsTaken bytes x
 some_fits bytes None e utf8 = tt
 some_fits bytes (Some t) e utf8 = taken_fits bytes (Some t) e utf8
 
-back : Option (ℕ × Kind × Nesting) → Piece
+back : Option Taken → FrontElement
 back None = Stops
-back (Some (n, k, t)) = Takes n k t
+back (Some t) = Takes t.len t.kind t.nesting
 
-pub taken_front : (x : Piece) (n : ℕ) (k : Kind) (t : Nesting) → taken x ≡ Some (n, k, t) → x ≡ Takes n k t
+pub taken_front : (x : FrontElement) (t : Taken) → taken x ≡ Some t → x ≡ Takes t.len t.kind t.nesting
 unfolding back
-taken_front AtEnd n k t e = absurd cc
-taken_front Stops n k t e = absurd cc
-taken_front (Skips i m) n k t e = absurd cc
-taken_front (Takes i j s) n k t e = ap back e
+taken_front AtEnd t e = absurd cc
+taken_front Stops t e = absurd cc
+taken_front (Skips i m) t e = absurd cc
+taken_front (Takes i j s) t e = ap back e
 
 no_token_in_line : (n : ℕ) (bytes : List ℕ) → taken (line_end n bytes) ≡ None
 no_token_in_line n [] = refl
@@ -86,7 +86,7 @@ no_token_in_line n (b ∷ bs) =
       | inr e ↦ rw e refl
     ]
 
-one_test : (t : Bool) (x y z : Piece) → (t ≡ true → taken x ≡ taken z) → (t ≡ false → taken y ≡ taken z) → taken (cond t x y) ≡ taken z
+one_test : (t : Bool) (x y z : FrontElement) → (t ≡ true → taken x ≡ taken z) → (t ≡ false → taken y ≡ taken z) → taken (cond t x y) ≡ taken z
 one_test true x y z h k = h refl
 one_test false x y z h k = k refl
 
@@ -117,7 +117,7 @@ unfolding front
 end_front [] e = refl
 end_front (b ∷ bs) e = absurd (omega arith)
 
-stops_by : (bytes : List ℕ) (x : Piece) → PieceFits bytes x → taken x ≡ None → IsItem x → 0 < length bytes → x ≡ Stops
+stops_by : (bytes : List ℕ) (x : FrontElement) → PieceFits bytes x → taken x ≡ None → IsItem x → 0 < length bytes → x ≡ Stops
 stops_by bytes AtEnd h e item some = absurd (omega arith)
 stops_by bytes Stops h e item some = refl
 stops_by bytes (Skips n m) h e item some = absurd item
@@ -156,7 +156,7 @@ begins_token w bytes n k t false next kind value place more e =
     let is : value ≡ take n bytes = sym (ap spelling e) in
     rw is (take_length_take n bytes)
 
-begins_by : (w : Where) (bytes : List ℕ) (x : Piece) → IsItem x → BeginsWithNext (items_by items w bytes x) bytes
+begins_by : (w : Where) (bytes : List ℕ) (x : FrontElement) → IsItem x → BeginsWithNext (items_by items w bytes x) bytes
 begins_by w bytes AtEnd h k value place more e = absurd (other_first _ k value place more refl e)
 begins_by w [] Stops h k value place more e = absurd (other_first _ k value place more refl e)
 begins_by w (b ∷ bs) Stops h k value place more e = absurd (other_first _ k value place more refl e)
@@ -186,14 +186,15 @@ few_open Opens w deep few = omega (arith, eqb-false w.openers (w.closers + 50) d
 few_open Closes w deep few = omega (arith, few)
 
 -- The next item is a token. The other items are those of the rest, which begins after ignored text, at this place.
-pub token_then_rest : (w : Where) (text value after rest : List ℕ) (size n : ℕ) (k : Kind) (t : Nesting) (place : Pos) → Some (n, k, t) ≡ taken (front text)
-    → is_too_deep t w ≡ false → value ≡ take n text → after ≡ drop n text
-    → items (further place (length after - length rest) (past_token t value w)) rest ≡ items (past_token t value w) after
+pub token_then_rest : (w : Where) (text value after rest : List ℕ) (size : ℕ) (t : Taken) (place : Pos) → Some t ≡ taken (front text)
+    → is_too_deep t.nesting w ≡ false → value ≡ take t.len text → after ≡ drop t.len text
+    → items (further place (length after - length rest) (past_token t.nesting value w)) rest ≡ items (past_token t.nesting value w) after
     → w.offset + length value + (length after - length rest) ≡ size - length rest
-    → items w text ≡ item_at (TokenContent k value) w
-    ∷ items (record { position = place; offset = size - length rest; openers = openers_after t w.openers; closers = closers_after t w.closers }) rest
-token_then_rest w text value after rest size n k t place is deep value_is after_is more offset =
-    let here = items_at w text (Takes n k t) (taken_front (front text) n k t (sym is)) in
+    → items w text ≡ item_at (TokenContent t.kind value) w
+    ∷ items (record { position = place; offset = size - length rest; openers = openers_after t.nesting w.openers; closers = closers_after t.nesting w.closers })
+    rest
+token_then_rest w text value after rest size t place is deep value_is after_is more offset =
+    let here = items_at w text (Takes t.len t.kind t.nesting) (taken_front (front text) t (sym is)) in
     rw (← offset, more, value_is, after_is) (rw deep at here)
 
 -- ---- plain ignored text
@@ -263,8 +264,14 @@ columns_most b =
     ]
 
 -- past one byte of ignored text
-pub ignored_boundary : (bytes : List ℕ) (m : Move) → IsUtf8 bytes → front bytes ≡ Skips 1 m → IsCharBoundary bytes 1
-ignored_boundary bytes m utf8 e = (front_fits bytes (Skips 1 m) (sym e) utf8).0.2
+past_byte : (bytes : List ℕ) (m : Move) → IsUtf8 bytes → front bytes ≡ Skips 1 m → IsCharBoundary bytes 1
+past_byte bytes m utf8 e = (front_fits bytes (Skips 1 m) (sym e) utf8).0.2
+
+pub spacing_boundary : (bytes : List ℕ) → is_spacing (get_or bytes 0 0) ≡ true → IsUtf8 bytes → IsCharBoundary bytes 1
+spacing_boundary bytes h utf8 = past_byte bytes _ utf8 (spacing_front bytes h)
+
+pub feed_boundary : (bytes : List ℕ) → is_line_feed (get_or bytes 0 0) ≡ true → IsUtf8 bytes → IsCharBoundary bytes 1
+feed_boundary bytes h utf8 = past_byte bytes _ utf8 (feed_front bytes h)
 
 -- a test of the first byte has the result that was found
 pub first_told : (p : ℕ → Bool) (bytes : List ℕ) {byte : ℕ} {found answer : Bool} → byte ≡ get_or bytes 0 0 → found ≡ p byte → found ≡ answer
@@ -286,3 +293,6 @@ item_front [] h = at_end
 item_front (b ∷ bs) h =
     let n = none_of b h in
     item_first (front (b ∷ bs)) (no_front b bs n.0 n.1 n.2 n.3 n.4 (rw n.5 refl))
+
+-- what a test of the first byte says
+pub ruleset first_bytes = (item_front, spacing_boundary, feed_boundary)

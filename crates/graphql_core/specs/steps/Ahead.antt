@@ -2,17 +2,13 @@
 use Rattle.std.specs.Prelude.{◌≡◌, ℕ, ◌+◌, ◌-◌, ◌*◌, ◌^◌, ◌<◌, ◌≤◌, Bool, not, nat_le, nat_lt, ◌==◌, ◌&&◌, ◌||◌}
 use Rattle.std.specs.Prelude.{if◌then◌else◌, List, ◌∷◌, length, map, slice_index, Option, Some, None}
 use Rattle.std.specs.Int.{w64, trailing_zeros}
-use Rattle.graphql_core.specs.steps.Front.{Cuts, is_flat}
+use Rattle.graphql_core.specs.steps.Front.{FrontElement, AtEnd, Skips, Takes, Stops, Cuts, is_flat}
 use Rattle.graphql_core.specs.lexical.{steps_over, Where, Item, Content, item_at, TokenContent, further}
 use Rattle.graphql_core.specs.steps.Cut.{items}
 use Rattle.graphql_core.specs.declared.position.Pos.{Pos}
-use Rattle.graphql_core.specs.declared.tokenizer.piece.Move.{Move}
-use Rattle.graphql_core.specs.declared.tokenizer.piece.Nesting.{Nesting}
-use Rattle.graphql_core.specs.declared.tokenizer.piece.Piece.{Piece}
+use Rattle.graphql_core.specs.declared.tokenizer.piece.Skipped.{Skipped}
 use Rattle.graphql_core.specs.declared.tokenizer.piece.Taken.{Taken}
-use Rattle.graphql_core.specs.declared.tokenizer.token.Kind.{Kind}
 use Rattle.graphql_core.specs.declared.tokenizer.token.Token.{Token}
-use Rattle.graphql_core.specs.declared.tokenizer.piece.Piece.TheVariants.{AtEnd, Skips, Takes, Stops}
 
 abbrev pub is_space : ℕ → Bool
 is_space b = b == 32
@@ -46,34 +42,34 @@ is_byte_order_mark b bs = b == 239 && (slice_index bs 0 == 187 && slice_index bs
 abbrev pub first_set : ℕ → ℕ → ℕ
 first_set mask n = if mask == 0 then n else trailing_zeros w64 mask
 
--- the length and the move of ignored text at the front, if there is any
-abbrev pub ignored_front : Piece → Option (ℕ × Move)
+-- the ignored text at the front, if there is any
+abbrev pub ignored_front : FrontElement → Option Skipped
 ignored_front AtEnd = None
 ignored_front Stops = None
-ignored_front (Skips n m) = Some (n, m)
+ignored_front (Skips n m) = Some (record { len = n; by = m })
 ignored_front (Takes n k t) = None
 
 -- ignored text is one or more whole characters, and moves over at most 8 columns
-abbrev pub FitsIgnored : List ℕ → Option (ℕ × Move) → Type 0
+abbrev pub FitsIgnored : List ℕ → Option Skipped → Type 0
 FitsIgnored bytes None = Unit {0}
-FitsIgnored bytes (Some (n, m)) = Cuts bytes n × (steps_over m ≤ 8)
+FitsIgnored bytes (Some s) = Cuts bytes s.len × (steps_over s.by ≤ 8)
 
--- the length, kind and nesting of a token at the front, if there is one
-abbrev pub taken : Piece → Option (ℕ × Kind × Nesting)
+-- the token at the front, if there is one
+abbrev pub taken : FrontElement → Option Taken
 taken AtEnd = None
 taken Stops = None
 taken (Skips n m) = None
-taken (Takes n k t) = Some (n, k, t)
+taken (Takes n k t) = Some (record { len = n; kind = k; nesting = t })
 
--- a token without the flag `is_flat`
-abbrev pub without_flat : Option Taken → Option (ℕ × Kind × Nesting)
+-- a token without its flag
+abbrev pub without_flat : Option (Taken × Bool) → Option Taken
 without_flat None = None
-without_flat (Some t) = Some (t.len, t.kind, t.nesting)
+without_flat (Some (t, f)) = Some t
 
 -- a token is one or more whole characters
-abbrev pub FitsTaken : List ℕ → Option (ℕ × Kind × Nesting) → Type 0
+abbrev pub FitsTaken : List ℕ → Option Taken → Type 0
 FitsTaken bytes None = Unit {0}
-FitsTaken bytes (Some (n, k, t)) = Cuts bytes n
+FitsTaken bytes (Some t) = Cuts bytes t.len
 
 abbrev pub is_line_feed : ℕ → Bool
 is_line_feed b = b == 10

@@ -2,12 +2,10 @@
 use Rattle.std.specs.Prelude.{ℕ, zero, suc, List, [], ◌∷◌, length, take, drop}
 use Rattle.graphql_core.specs.lexical.{too_deep, Where, Item, item_at, TokenContent, EndOfInput, LexicalError}
 use Rattle.graphql_core.specs.lexical.{past_ignored, past_token, is_too_deep, last_item, token_then}
-use Rattle.graphql_core.specs.declared.tokenizer.piece.Piece.{Piece}
-use Rattle.graphql_core.specs.declared.tokenizer.piece.Piece.TheVariants.{AtEnd, Skips, Takes, Stops}
-use Rattle.graphql_core.specs.steps.Front.{front}
+use Rattle.graphql_core.specs.steps.Front.{FrontElement, AtEnd, Skips, Takes, Stops, front}
 
 -- the lexical element at the front, and then `more`
-abbrev pub items_by : (Where → List ℕ → List Item) → Where → List ℕ → Piece → List Item
+abbrev pub items_by : (Where → List ℕ → List Item) → Where → List ℕ → FrontElement → List Item
 items_by more w bytes AtEnd = item_at EndOfInput w ∷ []
 items_by more w bytes Stops = last_item w bytes ∷ []
 items_by more w bytes (Skips n m) = more (past_ignored m n w) (drop n bytes)

@@ -1,12 +1,8 @@
--- A left-to-right test for floats, and the number at the front of an input. `IsFloat` specifies floats.
+-- A left-to-right test for floats. `IsFloat` specifies floats.
 use Rattle.std.specs.Prelude.{ℕ, Bool, true, false, not, ◌&&◌, ◌||◌, ◌==◌, if◌then◌else◌, List, [], ◌∷◌, take, drop}
 use Rattle.std.specs.List.{prefix_len}
 use Rattle.std.specs.Char.{is_ascii_digit}
-use Rattle.graphql_core.specs.declared.tokenizer.token.Kind.TheVariants.{IntValue, FloatValue}
-use Rattle.graphql_core.specs.declared.tokenizer.piece.Nesting.TheVariants.{Level}
-use Rattle.graphql_core.specs.declared.tokenizer.piece.Piece.{Piece}
-use Rattle.graphql_core.specs.declared.tokenizer.piece.Piece.TheVariants.{Takes, Stops}
-use Rattle.graphql_core.specs.lexical.{is_natural, is_integer, is_exponent, is_in_run, run_at}
+use Rattle.graphql_core.specs.lexical.{is_natural, is_exponent}
 
 -- a number begins with a digit or a sign
 abbrev pub starts_number : ℕ → Bool
@@ -36,11 +32,3 @@ is_unsigned bytes = is_natural (take (digits_len bytes) bytes) && is_after_integ
 unfoldable pub is_float : List ℕ → Bool
 is_float [] = false
 is_float (b ∷ bs) = if b == 45 then is_unsigned bs else is_unsigned (b ∷ bs)
-
--- a run of `n` bytes
-abbrev pub number_of : ℕ → List ℕ → Piece
-number_of n run = if is_integer run then Takes n IntValue Level
-    else if is_float run then Takes n FloatValue Level else Stops
-
-unfoldable pub number : List ℕ → Piece
-number bytes = number_of (prefix_len is_in_run bytes) (run_at bytes)

@@ -1,12 +1,6 @@
--- Where a string ends, byte by byte, and the string at the front of an input.
--- `IsStringBody` and `ClosesBlock` specify strings.
-use Rattle.std.specs.Prelude.{ℕ, zero, suc, ◌+◌, Bool, false, not, ◌&&◌, ◌==◌, if◌then◌else◌, List, [], ◌∷◌, drop}
+-- Where a string ends, byte by byte. `IsStringBody` and `ClosesBlock` specify strings.
+use Rattle.std.specs.Prelude.{ℕ, zero, suc, ◌+◌, Bool, not, ◌&&◌, ◌==◌, if◌then◌else◌, List, [], ◌∷◌}
 use Rattle.std.specs.Prelude.{Option, Some, None}
-use Rattle.graphql_core.specs.declared.tokenizer.token.Kind.{Kind}
-use Rattle.graphql_core.specs.declared.tokenizer.token.Kind.TheVariants.{StringValue, BlockString}
-use Rattle.graphql_core.specs.declared.tokenizer.piece.Nesting.TheVariants.{Level}
-use Rattle.graphql_core.specs.declared.tokenizer.piece.Piece.{Piece}
-use Rattle.graphql_core.specs.declared.tokenizer.piece.Piece.TheVariants.{Takes, Stops}
 use Rattle.graphql_core.specs.lexical.{begins_quotes, begins_escape}
 
 -- the bytes up to the closing quote, including it, after `n` bytes
@@ -27,13 +21,3 @@ block_end n zero (b ∷ bs) =
     else if begins_escape (b ∷ bs) then block_end (n + 1) 3 bs
     else block_end (n + 1) 0 bs
 block_end n (suc left) (b ∷ bs) = block_end (n + 1) left bs
-
--- a string of this kind, after this many opening quotes
-abbrev pub closed : Kind → ℕ → Option ℕ → Piece
-closed k quotes None = Stops
-closed k quotes (Some n) = Takes (n + quotes) k Level
-
-unfoldable pub quoted_front : List ℕ → Piece
-quoted_front bytes =
-    if begins_quotes bytes then closed BlockString 3 (block_end 0 0 (drop 3 bytes))
-    else closed StringValue 1 (string_end 0 false (drop 1 bytes))

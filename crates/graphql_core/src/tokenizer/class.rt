@@ -19,7 +19,7 @@ static CLASSES: [u8; 256] = *b"\
     ................................\
     ...............o................";
 
-// The columns that each byte takes in ignored text.
+// The columns that a space, a comma, a tab or a carriage return takes. The value of any other byte is 0.
 static COLUMNS: [u8; 256] = *b"\
     \0\0\0\0\0\0\0\0\0\x08\0\0\0\0\0\0\0\0\0\0\0\0\0\0\0\0\0\0\0\0\0\0\
     \x01\0\0\0\0\0\0\0\0\0\0\0\x01\0\0\0\0\0\0\0\0\0\0\0\0\0\0\0\0\0\0\0\

@@ -48,12 +48,12 @@ pub fn first_element(source: &str) -> Option<Element<'_>>
         (λ e. BeginsWithElement source.now e.kind e.text.now e.rest.now) }
     ensures shorter { IfSome result (λ e. length e.rest.now < length source.now) }
 {
-    if let Some((len, _)) = ignored_of(source) {
-        let (text, rest) = source.split_at(len);
+    if let Some(ignored) = ignored_of(source) {
+        let (text, rest) = source.split_at(ignored.len);
         let kind = ignored_kind(text);
         return Some(Element { kind, text, rest });
     }
-    let Some(taken) = token_at(source) else {
+    let Some((taken, _)) = token_at(source) else {
         return None;
     };
     let (text, rest) = source.split_at(taken.len);

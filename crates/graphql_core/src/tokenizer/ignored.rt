@@ -17,10 +17,10 @@ fn skip_rare(text: &str, at: Pos) -> (&str, Pos)
 {
     let mut rest = text;
     let mut place = at;
-    'skips: while let Some((len, by)) = ignored_of(rest) {
-        let after = rest.split_at(len).1;
+    'skips: while let Some(ignored) = ignored_of(rest) {
+        let after = rest.split_at(ignored.len).1;
         let spaces = spaces_of(after);
-        place = position_after_spaces(spaces, position_after_move(by, place));
+        place = position_after_spaces(spaces, position_after_move(ignored.by, place));
         rest = after.split_at(spaces).1;
     }
     (rest, place)
@@ -37,6 +37,7 @@ fn front_byte(text: &str) -> u8
 /// Skips spaces, commas, tabs and line ends. The flag is true only if all ignored text was skipped. The flag is false
 /// before other ignored text, and where one load does not show the end of the spaces after a line feed.
 #[inline(always)]
+#[tactic(auto, using(crate::proofs::lexical::Tokens::first_bytes))]
 fn skip_common(text: &str, at: Pos) -> (&str, Pos, bool)
     requires { HasRoom text.now at }
     ensures skips { SkipsTo text.now at result.0.now result.1 }
@@ -69,6 +70,7 @@ fn skip_common(text: &str, at: Pos) -> (&str, Pos, bool)
 /// Skips spaces, commas, tabs and line ends, without a position. Returns `None` where the flag of `skip_common`
 /// is false.
 #[inline(always)]
+#[tactic(auto, using(crate::proofs::lexical::Tokens::first_bytes))]
 pub fn after_common(text: &str) -> Option<&str>
     ensures skips { IfSome result (λ rest. HasContentsOf rest.now text.now × (length rest.now ≤ length text.now)) }
     ensures first { IfSome result (λ rest. IsItem (front rest.now)) }

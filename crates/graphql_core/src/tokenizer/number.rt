@@ -3,13 +3,14 @@ ghost use Rattle.std.specs.Prelude.{◌≡◌, ◌≤◌, ◌||◌, ◌==◌, tr
 ghost use Rattle.std.specs.List.{prefix_len, list_all};
 ghost use Rattle.graphql_core.specs.{is_quoted};
 ghost use Rattle.graphql_core.specs.declared.tokenizer.piece.Nesting.TheVariants.{Level};
-ghost use Rattle.graphql_core.specs.declared.tokenizer.piece.Piece.TheVariants.{Takes};
+ghost use Rattle.graphql_core.specs.steps.Front.{Takes, number};
+ghost use Rattle.graphql_core.specs.steps.Ahead.{taken};
 ghost use Rattle.std.specs.Char as char;
 ghost use Rattle.graphql_core.specs.lexical.Lexical as lexical;
 ghost use Rattle.graphql_core.specs.steps.Numbers as spec;
 
 use crate::tokenizer::class::is_punctuator_byte;
-use crate::tokenizer::piece::{Nesting, Piece, byte_at};
+use crate::tokenizer::piece::{Taken, byte_at, no_bracket};
 use crate::tokenizer::run::{Digit, class_prefix_len};
 use crate::tokenizer::token::Kind;
 
@@ -219,7 +220,7 @@ fn ends_run(bytes: &[u8]) -> bool
 /// The length and kind of the number at the start of `bytes`, if the number has no exponent.
 #[inline(never)]
 pub fn plain_number(bytes: &[u8]) -> Option<(usize, Kind)>
-    ensures is { IfSome result (λ t. spec.number bytes.now ≡ Takes t.0 t.1 Level) }
+    ensures is { IfSome result (λ t. number bytes.now ≡ Takes t.0 t.1 Level) }
     ensures kind { IfSome result (λ t. is_quoted t.1 ≡ false) }
 {
     let whole = integer_len(bytes)?;
@@ -235,40 +236,28 @@ pub fn plain_number(bytes: &[u8]) -> Option<(usize, Kind)>
 }
 
 /// The number at the start of `bytes`, if the whole run is a number.
-#[tactic(auto, unfolding(crate::specs::steps::Numbers::number))]
-fn number_of_run(bytes: &[u8]) -> Piece
-    ensures { result ≡ spec.number bytes.now }
+#[tactic(auto, unfolding(crate::specs::steps::Front::number))]
+fn number_of_run(bytes: &[u8]) -> Option<Taken>
+    ensures { result ≡ taken (number bytes.now) }
 {
     let len = run_len(bytes);
     let run = &bytes[..len];
     if is_integer(run) {
-        Piece::Takes {
-            len,
-            kind: Kind::IntValue,
-            nesting: Nesting::Level,
-        }
+        Some(no_bracket(len, Kind::IntValue))
     } else if is_float(run) {
-        Piece::Takes {
-            len,
-            kind: Kind::FloatValue,
-            nesting: Nesting::Level,
-        }
+        Some(no_bracket(len, Kind::FloatValue))
     } else {
-        Piece::Stops
+        None
     }
 }
 
-/// The number at the start of `bytes`, or `Piece::Stops`.
+/// The number at the start of `bytes`.
 #[inline(never)]
-pub fn number(bytes: &[u8]) -> Piece
-    ensures { result ≡ spec.number bytes.now }
+pub fn number(bytes: &[u8]) -> Option<Taken>
+    ensures { result ≡ taken (number bytes.now) }
 {
     match plain_number(bytes) {
-        Some((len, kind)) => Piece::Takes {
-            len,
-            kind,
-            nesting: Nesting::Level,
-        },
+        Some((len, kind)) => Some(no_bracket(len, kind)),
         None => number_of_run(bytes),
     }
 }

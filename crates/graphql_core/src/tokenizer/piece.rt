@@ -3,7 +3,7 @@ ghost use Rattle.std.specs.Prelude.{◌≡◌, ◌+◌, ◌<◌, ◌≤◌, ◌^
 ghost use Rattle.std.specs.List.{prefix_len, list_all};
 ghost use Rattle.std.specs.Str.{IsCharBoundary};
 ghost use Rattle.graphql_core.specs.declared.tokenizer.piece.Nesting.TheVariants.{Level};
-ghost use Rattle.graphql_core.specs.declared.tokenizer.piece.Piece.TheVariants.{Takes};
+ghost use Rattle.graphql_core.specs.steps.Front.{Takes};
 ghost use Rattle.graphql_core.specs.declared.tokenizer.token.Kind.TheVariants.{Name};
 ghost use Rattle.graphql_core.specs.steps.Ahead.{is_gap, is_space, is_byte_order_mark, ignored_front, FitsIgnored};
 ghost use Rattle.graphql_core.specs.steps.Ahead.{taken, without_flat, FitsTaken};
@@ -42,24 +42,12 @@ pub enum Nesting {
     Closes,
 }
 
-/// The lexical element at the start of the input. Lengths are in bytes.
+/// Ignored text at the start of the input.
 #[derive(Clone, Copy)]
-pub enum Piece {
-    /// The input is empty.
-    AtEnd,
-    /// Ignored text.
-    Skips {
-        len: usize,
-        by: Move,
-    },
-    /// A token.
-    Takes {
-        len: usize,
-        kind: Kind,
-        nesting: Nesting,
-    },
-    /// No lexical element.
-    Stops,
+pub struct Skipped {
+    /// The length in bytes.
+    pub len: usize,
+    pub by: Move,
 }
 
 /// The token at the start of the input.
@@ -69,8 +57,22 @@ pub struct Taken {
     pub len: usize,
     pub kind: Kind,
     pub nesting: Nesting,
-    /// True only if the token is ASCII without a line feed.
-    pub is_flat: bool,
+}
+
+#[inline(always)]
+fn skip(len: usize, by: Move) -> Skipped
+    ensures { result ≡ record { len = len; by = by } }
+{
+    Skipped { len, by }
+}
+
+/// A token that is no bracket.
+#[inline(always)]
+pub fn no_bracket(len: usize, kind: Kind) -> Taken
+    ensures { result ≡ record { len = len; kind = kind; nesting = Level } }
+{
+    let nesting = Nesting::Level;
+    Taken { len, kind, nesting }
 }
 
 /// The length in bytes of a comment up to its line end.
@@ -90,57 +92,52 @@ pub fn byte_at(bytes: &[u8], index: usize) -> u8
     bytes.get(index).copied().unwrap_or(0)
 }
 
-/// The length in bytes of a comment with its `#` and line end, and how the comment moves the position. `bytes` begin
-/// after the `#`.
+/// A comment with its `#` and line end. `bytes` begin after the `#`.
 #[inline(never)]
 #[tactic(auto, unfolding(crate::specs::steps::Front::comment))]
-fn comment(bytes: &[u8]) -> (usize, Move)
+fn comment(bytes: &[u8]) -> Skipped
     requires { length bytes.now < 2 ^ 62 }
     ensures { Some result ≡ ignored_front (spec.comment bytes.now) }
 {
     let len = line_len(bytes);
     match bytes[len..].split_first() {
-        None => (len + 1, Move::Stay),
+        None => skip(len + 1, Move::Stay),
         Some((byte, rest)) => {
             if *byte == b'\r' && byte_at(rest, 0) == b'\n' {
-                (len + 3, Move::Down)
+                skip(len + 3, Move::Down)
             } else {
-                (len + 2, Move::Down)
+                skip(len + 2, Move::Down)
             }
         }
     }
 }
 
-/// The lexical element that begins with a dot: `...` or none.
+/// The token that begins with a dot: `...` or none.
 #[inline]
-fn dots(bytes: &[u8]) -> Piece
-    ensures { result ≡ spec.dots bytes.now }
+fn dots(bytes: &[u8]) -> Option<Taken>
+    ensures { result ≡ taken (spec.dots bytes.now) }
 {
     if byte_at(bytes, 1) == b'.' && byte_at(bytes, 2) == b'.' {
-        Piece::Takes {
-            len: 3,
-            kind: Kind::Punctuator,
-            nesting: Nesting::Level,
-        }
+        Some(no_bracket(3, Kind::Punctuator))
     } else {
-        Piece::Stops
+        None
     }
 }
 
 /// The token that begins with `byte`, the first of `bytes`, which must not begin a name.
 #[tactic(auto, unfolding(crate::specs::steps::Front::other_token))]
 #[inline(always)]
-fn token_of(byte: u8, bytes: &[u8]) -> Piece
+fn token_of(byte: u8, bytes: &[u8]) -> Option<Taken>
     requires some { 0 < length bytes.now }
     requires small { length bytes.now < 2 ^ 62 }
-    ensures { result ≡ spec.other_token byte bytes.now }
+    ensures { result ≡ taken (spec.other_token byte bytes.now) }
 {
     if is_punctuator_byte(byte) {
-        Piece::Takes {
+        Some(Taken {
             len: 1,
             kind: Kind::Punctuator,
             nesting: nesting_of(byte),
-        }
+        })
     } else if byte == b'"' {
         quoted(bytes)
     } else if byte == b'.' {
@@ -148,14 +145,14 @@ fn token_of(byte: u8, bytes: &[u8]) -> Piece
     } else if starts_number(byte) {
         number(bytes)
     } else {
-        Piece::Stops
+        None
     }
 }
 
 /// The token at the start of `bytes`, of any kind: the slow path.
 #[inline(never)]
 #[tactic(auto, unfolding(crate::specs::steps::Front::front))]
-fn other_token_bytes(bytes: &[u8]) -> Option<(usize, Kind, Nesting)>
+fn other_token_bytes(bytes: &[u8]) -> Option<Taken>
     requires { length bytes.now < 2 ^ 62 }
     ensures { result ≡ taken (spec.front bytes.now) }
 {
@@ -164,12 +161,9 @@ fn other_token_bytes(bytes: &[u8]) -> Option<(usize, Kind, Nesting)>
         Some((byte, rest)) => {
             if is_name_start(*byte) {
                 let len = class_prefix_len::<NameContinue>(rest) + 1;
-                return Some((len, Kind::Name, Nesting::Level));
+                return Some(no_bracket(len, Kind::Name));
             }
-            match token_of(*byte, bytes) {
-                Piece::Takes { len, kind, nesting } => Some((len, kind, nesting)),
-                _ => None,
-            }
+            token_of(*byte, bytes)
         }
     }
 }
@@ -196,21 +190,25 @@ fn value_in_one_load(byte: u8, rest: &[u8], bytes: &[u8]) -> Option<(usize, Kind
 /// The token at the start of `bytes`, if the fast path recognizes it: a short name, a punctuator of one character, a
 /// nonempty ASCII string without escapes, or a number without an exponent. Each is ASCII without a line feed.
 #[inline(always)]
-fn token_bytes_in_one_load(bytes: &[u8]) -> Option<(usize, Kind, Nesting)>
+fn token_bytes_in_one_load(bytes: &[u8]) -> Option<Taken>
     requires { length bytes.now < 2 ^ 62 }
     ensures is { IfSome result (λ t. Some t ≡ taken (spec.front bytes.now)) }
-    ensures flat { IfSome result (λ t. list_all spec.is_flat (take t.0 bytes.now) ≡ true) }
+    ensures flat { IfSome result (λ t. list_all spec.is_flat (take t.len bytes.now) ≡ true) }
 {
     let (byte, rest) = bytes.split_first()?;
     if is_name_start(*byte) {
         let len = len_in_one_load::<NameContinue>(rest)?;
-        return Some((len + 1, Kind::Name, Nesting::Level));
+        return Some(no_bracket(len + 1, Kind::Name));
     }
     if is_punctuator_byte(*byte) {
-        return Some((1, Kind::Punctuator, nesting_of(*byte)));
+        return Some(Taken {
+            len: 1,
+            kind: Kind::Punctuator,
+            nesting: nesting_of(*byte),
+        });
     }
     let (len, kind) = value_in_one_load(*byte, rest, bytes)?;
-    Some((len, kind, Nesting::Level))
+    Some(no_bracket(len, kind))
 }
 
 /// Whether a token of this kind can contain line feeds or non-ASCII characters.
@@ -221,50 +219,40 @@ fn is_quoted(kind: Kind) -> bool
     matches!(kind, Kind::StringValue | Kind::BlockString)
 }
 
-/// The token at the start of `bytes`.
+/// The token at the start of `bytes`. The flag is true only if the token is ASCII without a line feed.
 #[inline(always)]
-fn token_bytes(bytes: &[u8]) -> Option<Taken>
+fn token_bytes(bytes: &[u8]) -> Option<(Taken, bool)>
     requires { length bytes.now < 2 ^ 62 }
     ensures is { without_flat result ≡ taken (spec.front bytes.now) }
-    ensures flat { IfSome result (λ t. t.is_flat ≡ true → list_all spec.is_flat (take t.len bytes.now) ≡ true) }
+    ensures flat { IfSome result (λ t. t.1 ≡ true → list_all spec.is_flat (take t.0.len bytes.now) ≡ true) }
 {
-    if let Some((len, kind, nesting)) = token_bytes_in_one_load(bytes) {
-        return Some(Taken {
-            len,
-            kind,
-            nesting,
-            is_flat: true,
-        });
+    if let Some(taken) = token_bytes_in_one_load(bytes) {
+        return Some((taken, true));
     }
-    let (len, kind, nesting) = other_token_bytes(bytes)?;
-    Some(Taken {
-        len,
-        kind,
-        nesting,
-        is_flat: !is_quoted(kind),
-    })
+    let taken = other_token_bytes(bytes)?;
+    Some((taken, !is_quoted(taken.kind)))
 }
 
-/// The token at the start of the input, if the fast path recognizes it: its length in bytes, its kind and its nesting.
+/// The token at the start of the input, if the fast path recognizes it.
 #[inline(always)]
 #[tactic(auto, using(crate::proofs::lexical::Tokens::some_fits))]
-pub fn token_in_one_load(text: &str) -> Option<(usize, Kind, Nesting)>
+pub fn token_in_one_load(text: &str) -> Option<Taken>
     requires { length text.now < 2 ^ 62 }
     ensures is { IfSome result (λ t. Some t ≡ taken (spec.front text.now)) }
     ensures fits { FitsTaken text.now result }
-    ensures flat { IfSome result (λ t. list_all spec.is_flat (take t.0 text.now) ≡ true) }
+    ensures flat { IfSome result (λ t. list_all spec.is_flat (take t.len text.now) ≡ true) }
 {
     token_bytes_in_one_load(text.as_bytes())
 }
 
-/// The token at the start of the input.
+/// The token at the start of the input. The flag is true only if the token is ASCII without a line feed.
 #[inline(always)]
 #[tactic(auto, using(crate::proofs::lexical::Tokens::taken_fits))]
-pub fn token_at(text: &str) -> Option<Taken>
+pub fn token_at(text: &str) -> Option<(Taken, bool)>
     requires { length text.now < 2 ^ 62 }
     ensures is { without_flat result ≡ taken (spec.front text.now) }
     ensures fits { FitsTaken text.now (without_flat result) }
-    ensures flat { IfSome result (λ t. t.is_flat ≡ true → list_all spec.is_flat (take t.len text.now) ≡ true) }
+    ensures flat { IfSome result (λ t. t.1 ≡ true → list_all spec.is_flat (take t.0.len text.now) ≡ true) }
 {
     token_bytes(text.as_bytes())
 }
@@ -276,10 +264,10 @@ fn is_byte_order_mark(byte: u8, rest: &[u8]) -> bool
     byte == 0xEF && (byte_at(rest, 0) == 0xBB && byte_at(rest, 1) == 0xBF)
 }
 
-/// The first lexical element if it is ignored text: its length in bytes, and how it moves the position.
+/// The first lexical element if it is ignored text.
 #[inline(always)]
 #[tactic(auto, unfolding(crate::specs::steps::Front::front))]
-fn ignored_bytes(bytes: &[u8]) -> Option<(usize, Move)>
+fn ignored_bytes(bytes: &[u8]) -> Option<Skipped>
     requires { length bytes.now < 2 ^ 62 }
     ensures { result ≡ ignored_front (spec.front bytes.now) }
 {
@@ -287,17 +275,17 @@ fn ignored_bytes(bytes: &[u8]) -> Option<(usize, Move)>
         None => None,
         Some((byte, rest)) => {
             if *byte == b'\t' {
-                Some((1, Move::Over(8)))
+                Some(skip(1, Move::Over(8)))
             } else if *byte == b'\n' {
-                Some((1, Move::Down))
+                Some(skip(1, Move::Down))
             } else if *byte == b'\r' {
-                Some((1, Move::Stay))
+                Some(skip(1, Move::Stay))
             } else if is_blank(*byte) {
-                Some((1, Move::Over(1)))
+                Some(skip(1, Move::Over(1)))
             } else if *byte == b'#' {
                 Some(comment(rest))
             } else if is_byte_order_mark(*byte, rest) {
-                Some((3, Move::Stay))
+                Some(skip(3, Move::Stay))
             } else {
                 None
             }
@@ -305,10 +293,10 @@ fn ignored_bytes(bytes: &[u8]) -> Option<(usize, Move)>
     }
 }
 
-/// The first lexical element if it is ignored text: its length in bytes, and how it moves the position.
+/// The first lexical element if it is ignored text.
 #[inline(always)]
 #[tactic(auto, using(crate::proofs::lexical::Spaces::ignored_fits))]
-pub fn ignored_of(text: &str) -> Option<(usize, Move)>
+pub fn ignored_of(text: &str) -> Option<Skipped>
     requires { length text.now < 2 ^ 62 }
     ensures is { result ≡ ignored_front (spec.front text.now) }
     ensures fits { FitsIgnored text.now result }
@@ -364,7 +352,7 @@ pub fn name_in_one_load(text: &str) -> Option<(usize, usize)>
     requires begins { is_name_start (slice_index text.now 0) ≡ true }
     requires long { 17 ≤ length text.now }
     requires small { length text.now < 2 ^ 62 }
-    ensures is { IfSome result (λ n. Some (n.0, Name, Level) ≡ taken (spec.front text.now)) }
+    ensures is { IfSome result (λ n. taken (Takes n.0 Name Level) ≡ taken (spec.front text.now)) }
     ensures gap { IfSome result (λ n. n.1 ≤ prefix_len is_gap (drop n.0 text.now)) }
     ensures cuts { IfSome result (λ n. IsCharBoundary text.now n.0) }
 {

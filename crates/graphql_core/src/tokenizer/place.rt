@@ -57,28 +57,6 @@ fn position_in_line(part: &str, at: Pos) -> Pos
     }
 }
 
-/// The position after the lines of a token that can contain non-ASCII characters.
-#[inline(never)]
-fn position_after_lines(value: &str, at: Pos) -> Pos
-    requires line { at.line + length value.now < 2 ^ 62 }
-    requires column { at.column + length value.now < 2 ^ 63 }
-    ensures is { result ≡ past value.now at }
-    ensures line { result.line ≤ at.line + length value.now }
-    ensures column { result.column ≤ at.column + length value.now }
-{
-    let mut rest = value;
-    let mut place = at;
-    'lines: loop {
-        let (part, after) = rest.split_at(line_len(rest));
-        place = position_in_line(part, place);
-        let Some(lines) = after.strip_prefix('\n') else {
-            return place;
-        };
-        place = position_after_line(place);
-        rest = lines;
-    }
-}
-
 /// The position after a token that can contain line feeds or non-ASCII characters. Most lines are ASCII.
 #[inline(never)]
 fn position_after_characters(value: &str, at: Pos) -> Pos
@@ -93,11 +71,20 @@ fn position_after_characters(value: &str, at: Pos) -> Pos
     'lines: loop {
         let (flat, other) = rest.split_at(flat_of(rest));
         place = position_after_flat(flat, place);
-        let Some(lines) = other.strip_prefix('\n') else {
-            return position_after_lines(other, place);
-        };
-        place = position_after_line(place);
-        rest = lines;
+        if let Some(lines) = other.strip_prefix('\n') {
+            place = position_after_line(place);
+            rest = lines;
+        } else if other.is_empty() {
+            return place;
+        } else {
+            let (part, after) = other.split_at(line_len(other));
+            place = position_in_line(part, place);
+            let Some(lines) = after.strip_prefix('\n') else {
+                return place;
+            };
+            place = position_after_line(place);
+            rest = lines;
+        }
     }
 }
 

@@ -4,11 +4,12 @@ ghost use Rattle.std.specs.List.{list_all};
 ghost use Rattle.graphql_core.specs.{is_flat};
 ghost use Rattle.graphql_core.specs.declared.tokenizer.token.Kind.TheVariants.{StringValue};
 ghost use Rattle.graphql_core.specs.declared.tokenizer.piece.Nesting.TheVariants.{Level};
-ghost use Rattle.graphql_core.specs.declared.tokenizer.piece.Piece.TheVariants.{Takes};
+ghost use Rattle.graphql_core.specs.steps.Front.{Takes, quoted_front};
+ghost use Rattle.graphql_core.specs.steps.Ahead.{taken};
 ghost use Rattle.graphql_core.specs.lexical.Lexical as lexical;
 ghost use Rattle.graphql_core.specs.steps.Quoted as spec;
 
-use crate::tokenizer::piece::{Nesting, Piece, byte_at};
+use crate::tokenizer::piece::{Taken, byte_at, no_bracket};
 use crate::tokenizer::run::{PlainInBlock, PlainInString, class_prefix_len};
 use crate::tokenizer::token::Kind;
 
@@ -87,31 +88,23 @@ fn block_len(bytes: &[u8]) -> Option<usize>
     None
 }
 
-/// The string or block string whose opening quote is the first byte, or `Piece::Stops` if it is unterminated.
-#[tactic(auto, unfolding(crate::specs::steps::Quoted::quoted_front))]
+/// The string or block string whose opening quote is the first byte. `None` if it is unterminated.
+#[tactic(auto, unfolding(crate::specs::steps::Front::quoted_front))]
 #[inline(never)]
-pub fn quoted(bytes: &[u8]) -> Piece
+pub fn quoted(bytes: &[u8]) -> Option<Taken>
     requires some { 0 < length bytes.now }
     requires small { length bytes.now < 2 ^ 62 }
-    ensures { result ≡ spec.quoted_front bytes.now }
+    ensures { result ≡ taken (quoted_front bytes.now) }
 {
     if begins_quotes(bytes) {
         match block_len(&bytes[3..]) {
-            Some(len) => Piece::Takes {
-                len: len + 3,
-                kind: Kind::BlockString,
-                nesting: Nesting::Level,
-            },
-            None => Piece::Stops,
+            Some(len) => Some(no_bracket(len + 3, Kind::BlockString)),
+            None => None,
         }
     } else {
         match string_len(&bytes[1..]) {
-            Some(len) => Piece::Takes {
-                len: len + 1,
-                kind: Kind::StringValue,
-                nesting: Nesting::Level,
-            },
-            None => Piece::Stops,
+            Some(len) => Some(no_bracket(len + 1, Kind::StringValue)),
+            None => None,
         }
     }
 }
@@ -121,7 +114,7 @@ pub fn quoted(bytes: &[u8]) -> Piece
 #[inline(never)]
 pub fn plain_string_len(bytes: &[u8]) -> Option<usize>
     requires { length bytes.now < 2 ^ 62 }
-    ensures is { IfSome result (λ n. spec.quoted_front (34 ∷ bytes.now) ≡ Takes (n + 1) StringValue Level) }
+    ensures is { IfSome result (λ n. quoted_front (34 ∷ bytes.now) ≡ Takes (n + 1) StringValue Level) }
     ensures flat { IfSome result (λ n. list_all is_flat (take n bytes.now) ≡ true) }
     ensures within { IfSome result (λ n. n ≤ length bytes.now) }
 {

@@ -1,5 +1,5 @@
 //! A stream of tokens that counts its calls.
-ghost use Rattle.std.specs.Prelude.{◌≡◌, List, ◌/◌, ◌≤◌, length};
+ghost use Rattle.std.specs.Prelude.{◌≡◌, List, ◌/◌, ◌≤◌, length, pos};
 ghost use Rattle.graphql_core.specs.lexical.Items.{Item, HasItems, depth_of};
 ghost use Rattle.graphql_core.specs.lexical.StreamCalls.{NextItem, next_place};
 ghost use Rattle.graphql_core.specs.lexical.StreamCalls.{one_more};
@@ -39,6 +39,8 @@ impl<'a> TokenStream<'a> {
         requires { length source.now ≤ usize.MAX / 16 }
         ensures items { HasItems source.now result.items }
         ensures only { (others : List Item) → HasItems source.now others → others ≡ result.items }
+        // no bracket is open
+        ensures level { depth_of (next_place result.items) ≡ pos 0 }
         ensures cuts { result.cuts ≡ 0 }
     {
         TokenStream {

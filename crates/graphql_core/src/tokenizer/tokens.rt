@@ -1,5 +1,6 @@
 //! The tokens of an input.
-ghost use Rattle.std.specs.Prelude.{◌≡◌, List, ◌+◌, ◌-◌, ◌*◌, ◌/◌, ◌<◌, ◌≤◌, ◌^◌, length, IfSome, Ok, Some, None};
+ghost use Rattle.std.specs.Prelude.{◌≡◌, List, ◌+◌, ◌-◌, ◌*◌, ◌/◌, ◌<◌, ◌≤◌, ◌^◌, length, pos, IfSome, Ok, Some};
+ghost use Rattle.std.specs.Prelude.{None};
 ghost use Rattle.graphql_core.specs.lexical.Items.{Item, HasItems, depth_of};
 ghost use Rattle.graphql_core.specs.lexical.StreamCalls.{NextItem, BeginsWithNext, AreItemsOfRest, next_place};
 ghost use Rattle.graphql_core.specs.steps.Ahead.{NextLexeme};
@@ -52,6 +53,7 @@ impl<'a> Tokens<'a> {
         requires { length source.now ≤ usize.MAX / 16 }
         ensures items { HasItems source.now result }
         ensures only { (others : List Item) → HasItems source.now others → others ≡ result }
+        ensures level { depth_of (next_place result) ≡ pos 0 }
     {
         let start = Pos { line: 1, column: 1 };
         let (rest, position) = skip_ignored(source, start);
@@ -73,7 +75,7 @@ impl<'a> Tokens<'a> {
     pub fn next_token(&mut self) -> Result<Option<Token<'a>>, Bad<'a>>
         ensures { NextItem self.old result self.new }
     {
-        let Some(taken) = token_at(self.rest) else {
+        let Some((taken, is_flat)) = token_at(self.rest) else {
             if self.rest.is_empty() {
                 return Ok(None);
             }
@@ -83,7 +85,7 @@ impl<'a> Tokens<'a> {
             return Err(Bad::TooDeep);
         }
         let (value, after) = self.rest.split_at(taken.len);
-        let end = position_after_token(taken.is_flat, value, self.position);
+        let end = position_after_token(is_flat, value, self.position);
         let (rest, position) = skip_ignored(after, end);
         self.rest = rest;
         self.position = position;
@@ -118,19 +120,20 @@ impl<'a> Tokens<'a> {
         if self.rest.len() <= LANES {
             return None;
         }
-        let Some((len, kind, nesting)) = token_in_one_load(self.rest) else {
-            return None;
-        };
-        if self.brackets.is_too_deep(nesting) {
+        let taken = token_in_one_load(self.rest)?;
+        if self.brackets.is_too_deep(taken.nesting) {
             return None;
         }
-        let (value, after) = self.rest.split_at(len);
+        let (value, after) = self.rest.split_at(taken.len);
         let end = position_after_flat(value, self.position);
         let (rest, position) = skip_ignored(after, end);
         self.rest = rest;
         self.position = position;
-        self.brackets = self.brackets.after(nesting);
-        Some(Token { kind, value })
+        self.brackets = self.brackets.after(taken.nesting);
+        Some(Token {
+            kind: taken.kind,
+            value,
+        })
     }
 
     /// Returns the next token, if the fast path recognizes it. This call is faster than `fast_token`, because
@@ -160,14 +163,17 @@ impl<'a> Tokens<'a> {
             self.rest = after_common(rest)?;
             return Some(name);
         }
-        let (len, kind, nesting) = token_in_one_load(self.rest)?;
-        if self.brackets.is_too_deep(nesting) {
+        let taken = token_in_one_load(self.rest)?;
+        if self.brackets.is_too_deep(taken.nesting) {
             return None;
         }
-        let (value, after) = self.rest.split_at(len);
+        let (value, after) = self.rest.split_at(taken.len);
         self.rest = after_common(after)?;
-        self.brackets = self.brackets.after(nesting);
-        Some(Token { kind, value })
+        self.brackets = self.brackets.after(taken.nesting);
+        Some(Token {
+            kind: taken.kind,
+            value,
+        })
     }
 
     /// The position of the next token, of the end of input, or of the lexical error. Ignored text before it is skipped.

@@ -5,7 +5,7 @@ use Rattle.graphql_core.proofs.tokenizer.element.first_element.Goals as goal
 
 pub returns-in-Some-clause-first : goal.returns-in-Some-clause-first
 returns-in-Some-clause-first c =
-    ignored_element _ _ _ _ c.split_at.ensures.front c.split_at.ensures.back _ _ (sym c.ignored_of.ensures.is ∙ c.in-Some.is) c.ignored_kind-kind.ensures
+    ignored_element _ _ _ _ _ c.split_at.ensures.front c.split_at.ensures.back (sym c.ignored_of.ensures.is ∙ c.in-Some.is) c.ignored_kind-kind.ensures
 
 pub returns-in_default-token_at-clause-first : goal.returns-in_default-token_at-clause-first
 returns-in_default-token_at-clause-first c =
@@ -13,4 +13,4 @@ returns-in_default-token_at-clause-first c =
 
 pub returns-clause-first : goal.returns-clause-first
 returns-clause-first c =
-    token_element _ _ _ _ c.split_at-2.ensures.front c.split_at-2.ensures.back _ _ (sym c.token_at.ensures.is ∙ ap without_flat c.in-Some-token_at.is)
+    token_element _ _ _ _ c.split_at-2.ensures.front c.split_at-2.ensures.back (sym c.token_at.ensures.is ∙ ap without_flat c.in-Some-token_at.is)

@@ -1,21 +1,9 @@
 use Rattle.std.proofs.Common.{◌≡◌, ◌∙◌, arith, rules}
 use Rattle.graphql_core.specs.declared.tokenizer.piece.Move.TheVariants.{Down}
-use Rattle.graphql_core.specs.{is_spacing, is_line_feed, is_ignored, contents, items}
-use Rattle.graphql_core.proofs.{skip_contents, gap_contents, spaces_gap, spacing_front, feed_front, ignored_boundary}
-use Rattle.graphql_core.proofs.{first_told, item_front}
+use Rattle.graphql_core.specs.{is_spacing, is_line_feed, contents, items}
+use Rattle.graphql_core.proofs.{skip_contents, gap_contents, spaces_gap, spacing_front, feed_front}
+use Rattle.graphql_core.proofs.{first_told}
 use Rattle.graphql_core.proofs.tokenizer.ignored.after_common.Goals as goal
-
-pub returns-then-not-is_ignored-clause-first : goal.returns-then-not-is_ignored-clause-first
-returns-then-not-is_ignored-clause-first c =
-    let rest = c.common.rest.now in
-    let other = first_told is_ignored rest c.front_byte-byte.ensures c.is_ignored.ensures c.if-not-is_ignored.true in
-    item_front rest other
-
-pub split_at-requires-then-is_spacing : goal.split_at-requires-then-is_spacing
-split_at-requires-then-is_spacing c =
-    let rest = c.common.rest.now in
-    let spacing = first_told is_spacing rest c.front_byte-byte.ensures c.is_spacing.ensures c.if-is_spacing.true in
-    ignored_boundary rest _ c.common.invariant.text (spacing_front rest spacing)
 
 pub common-preserved : goal.common-preserved
 common-preserved c =
@@ -26,12 +14,6 @@ common-preserved c =
       left = λ w. rw c.split_at-then-is_spacing.ensures.back (skip_contents rest 1 _ (spacing_front rest spacing) w) ∙ c.common.invariant.left w;
       within = omega arith;
     }
-
-pub split_at-requires : goal.split_at-requires
-split_at-requires c =
-    let rest = c.common.rest.now in
-    let feed = first_told is_line_feed rest c.front_byte-byte.ensures c.is_line_feed.ensures c.if-is_line_feed.true in
-    ignored_boundary rest Down c.common.invariant.text (feed_front rest feed)
 
 pub common-preserved-then-is_line_feed : goal.common-preserved-then-is_line_feed
 common-preserved-then-is_line_feed c =

@@ -1,21 +1,8 @@
 use Rattle.std.proofs.Common.{◌≡◌, ◌+◌, ◌-◌, length, ap, ◌∙◌, arith, rules}
 use Rattle.graphql_core.specs.declared.tokenizer.piece.Move.TheVariants.{Down}
-use Rattle.graphql_core.specs.{is_spacing, columns_of, is_line_feed, is_ignored}
-use Rattle.graphql_core.proofs.{further_skip, further_spaces, spacing_front, further_spacing, feed_front, ignored_boundary, first_told}
-use Rattle.graphql_core.proofs.{item_front}
+use Rattle.graphql_core.specs.{is_spacing, columns_of, is_line_feed}
+use Rattle.graphql_core.proofs.{further_skip, further_spaces, further_spacing, feed_front, first_told}
 use Rattle.graphql_core.proofs.tokenizer.ignored.skip_common.Goals as goal
-
-pub returns-then-not-is_ignored-clause-first : goal.returns-then-not-is_ignored-clause-first
-returns-then-not-is_ignored-clause-first c told =
-    let rest = c.common.rest.now in
-    let other = first_told is_ignored rest c.front_byte-byte.ensures c.is_ignored.ensures c.if-not-is_ignored.true in
-    item_front rest other
-
-pub split_at-requires-then-is_spacing : goal.split_at-requires-then-is_spacing
-split_at-requires-then-is_spacing c =
-    let rest = c.common.rest.now in
-    let spacing = first_told is_spacing rest c.front_byte-byte.ensures c.is_spacing.ensures c.if-is_spacing.true in
-    ignored_boundary rest _ c.common.invariant.text (spacing_front rest spacing)
 
 pub common-preserved : goal.common-preserved
 common-preserved c =
@@ -35,12 +22,6 @@ common-preserved c =
         search rules,
       );
     }
-
-pub split_at-requires : goal.split_at-requires
-split_at-requires c =
-    let rest = c.common.rest.now in
-    let feed = first_told is_line_feed rest c.front_byte-byte.ensures c.is_line_feed.ensures c.if-is_line_feed.true in
-    ignored_boundary rest Down c.common.invariant.text (feed_front rest feed)
 
 pub returns-in_default-clause-skips : goal.returns-in_default-clause-skips
 returns-in_default-clause-skips c =

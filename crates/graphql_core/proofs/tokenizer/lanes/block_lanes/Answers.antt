@@ -1,10 +1,10 @@
 use Rattle.std.proofs.Common.{ℕ, bit_or, refl, arith}
-use Rattle.std.proofs.lemmas.Simd.{zip2_splat}
+use Rattle.std.proofs.lemmas.Simd.{zip2_of_maps, zip2_splat}
 use Rattle.graphql_core.specs.{is_plain_in_block}
-use Rattle.graphql_core.proofs.{joined, lanes_run}
+use Rattle.graphql_core.proofs.{lanes_run}
 use Rattle.graphql_core.proofs.tokenizer.lanes.block_lanes.Goals as goal
 
 pub returns : goal.returns
 returns c =
     lanes_run is_plain_in_block c.args.bytes.now 16 _ _ c.requires (omega arith) c.type_inv.bytes c.first_set.ensures _
-    (λ long. joined bit_or _ _ _ (zip2_splat {Y = ℕ} _ _ 16 34 long) (zip2_splat {Y = ℕ} _ _ 16 92 long)) refl
+    (λ long. zip2_of_maps bit_or _ _ _ (zip2_splat {Y = ℕ} _ _ 16 34 long) (zip2_splat {Y = ℕ} _ _ 16 92 long)) refl

@@ -1,10 +1,10 @@
 use Rattle.std.proofs.Common.{ℕ, leb, cond, refl, arith}
-use Rattle.std.proofs.lemmas.Simd.{zip2_splat}
+use Rattle.std.proofs.lemmas.Simd.{zip2_of_maps, zip2_splat, splat_is_map}
 use Rattle.std.specs.Char.{is_ascii_digit}
-use Rattle.graphql_core.proofs.{joined, splat_is, lanes_run}
+use Rattle.graphql_core.proofs.{lanes_run}
 use Rattle.graphql_core.proofs.tokenizer.lanes.digit_lanes.Goals as goal
 
 pub returns : goal.returns
 returns c =
     lanes_run is_ascii_digit c.args.bytes.now 16 _ _ c.requires (omega arith) c.type_inv.bytes c.first_set.ensures _
-    (λ long. joined (λ a b. cond (leb a b) 255 0) _ _ _ (splat_is _ 16 10 long) (zip2_splat {Y = ℕ} _ _ 16 48 long)) refl
+    (λ long. zip2_of_maps (λ a b. cond (leb a b) 255 0) _ _ _ (splat_is_map _ 16 10 long) (zip2_splat {Y = ℕ} _ _ 16 48 long)) refl

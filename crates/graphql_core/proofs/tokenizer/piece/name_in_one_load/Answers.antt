@@ -1,9 +1,9 @@
 use Rattle.std.specs.List.{prefix_len}
-use Rattle.std.proofs.Common.{◌≡◌, ℕ, suc, ◌+◌, ◌-◌, ◌<◌, ◌≤◌, List, ◌∷◌, true, drop, take, length, get_or, sym, ap, ◌∙◌, arith, Some}
+use Rattle.std.proofs.Common.{◌≡◌, ℕ, suc, ◌+◌, ◌-◌, ◌<◌, ◌≤◌, List, ◌∷◌, true, drop, take, length, get_or, sym, ap, ◌∙◌, arith}
 use Rattle.graphql_core.specs.{front, taken, is_gap, is_name_start, is_name_continue}
 use Rattle.graphql_core.specs.declared.tokenizer.token.Kind.TheVariants.{Name}
 use Rattle.graphql_core.specs.declared.tokenizer.piece.Nesting.TheVariants.{Level}
-use Rattle.graphql_core.specs.declared.tokenizer.piece.Piece.TheVariants.{Takes}
+use Rattle.graphql_core.specs.steps.Front.{Takes}
 use Rattle.graphql_core.proofs.{name_front, some_fits, ends_short, ends_within, front_run}
 use Rattle.graphql_core.proofs.tokenizer.piece.name_in_one_load.Goals as goal
 
@@ -40,4 +40,4 @@ returns-clause-gap c =
 
 pub returns-clause-cuts : goal.returns-clause-cuts
 returns-clause-cuts c =
-    (some_fits c.args.text.now (Some (c.name_lanes-len.result + 1, Name, Level)) (returns-clause-is c) c.utf8.text).2
+    (some_fits c.args.text.now (taken (Takes (c.name_lanes-len.result + 1) Name Level)) (returns-clause-is c) c.utf8.text).2

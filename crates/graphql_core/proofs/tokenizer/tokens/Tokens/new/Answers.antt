@@ -1,6 +1,6 @@
-use Rattle.std.proofs.Common.{refl, sym, ◌∙◌, arith, zero-add}
-use Rattle.graphql_core.specs.{start}
-use Rattle.graphql_core.proofs.{has_items, items_only}
+use Rattle.std.proofs.Common.{refl, sym, ap, ◌∙◌, arith, zero-add}
+use Rattle.graphql_core.specs.{start, depth_of}
+use Rattle.graphql_core.proofs.{has_items, items_only, next_place_items}
 use Rattle.graphql_core.proofs.tokenizer.tokens.Tokens.new.Goals as goal
 
 pub invariant_of-result : goal.invariant_of-result
@@ -15,3 +15,6 @@ pub returns-clause-only : goal.returns-clause-only
 returns-clause-only c others h =
     let e = rw zero-add at (c.skip_ignored.ensures.skips.0 start refl) in
     items_only c.args.source.now others h ∙ sym e
+
+pub returns-clause-level : goal.returns-clause-level
+returns-clause-level c = ap depth_of (next_place_items _ _ c.skip_ignored.ensures.first)

@@ -1,7 +1,7 @@
 use Rattle.std.proofs.Common.{◌≡◌, ◌-◌, ◌<◌, ◌∷◌, [], true, false, length, take, refl, sym, ◌∙◌, ap, arith, eqb-true}
 use Rattle.std.proofs.lemmas.Bool.{eqb-false}
 use Rattle.graphql_core.specs.{front, Where, Item, is_too_deep, past, past_token}
-use Rattle.graphql_core.specs.declared.tokenizer.piece.Piece.TheVariants.{AtEnd, Takes, Stops}
+use Rattle.graphql_core.specs.steps.Front.{AtEnd, Takes, Stops}
 use Rattle.graphql_core.proofs.{items_at, last_some, taken_front, one_bracket, few_open, end_front, stops_front}
 use Rattle.graphql_core.proofs.{token_then_rest}
 use Rattle.graphql_core.proofs.tokenizer.tokens.Tokens.next_token.Goals as goal
@@ -47,7 +47,7 @@ returns-then-is_too_deep c =
     let s = c.self.inside in
     let w : Where = record { position = s.position; offset = s.size - length s.rest.now; openers = s.brackets.openers; closers = s.brackets.closers } in
     let t = c.in-Some.taken in
-    let e = items_at w s.rest.now (Takes t.len t.kind t.nesting) (taken_front (front s.rest.now) t.len t.kind t.nesting (sym c.in-Some.ensures.is)) in
+    let e = items_at w s.rest.now (Takes t.len t.kind t.nesting) (taken_front (front s.rest.now) t (sym c.in-Some.ensures.is)) in
     let deep : is_too_deep t.nesting w ≡ true = sym (c.is_too_deep.ensures w refl refl) ∙ c.if-is_too_deep.true in
     rw (← c.self.view_is) (w, rw deep at e, refl)
 
@@ -62,6 +62,6 @@ returns c =
     let len = ap length c.split_at.ensures.front in
     rw (← c.self.view_is, c.split_at.ensures.front, c.after-self-inside.ensures.openers, c.after-self-inside.ensures.closers) (
       w,
-      token_then_rest w s.rest.now _ _ c.skip_ignored.result.0.now s.size t.len t.kind t.nesting c.skip_ignored.result.1 c.in-Some.ensures.is deep refl
+      token_then_rest w s.rest.now _ _ c.skip_ignored.result.0.now s.size t c.skip_ignored.result.1 c.in-Some.ensures.is deep refl
           c.split_at.ensures.back more (omega arith),
     )
