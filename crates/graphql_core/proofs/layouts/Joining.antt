@@ -3,7 +3,7 @@ use Rattle.std.proofs.Common.{◌≡◌, ℕ, ◌+◌, ◌<◌, Bool, true, fals
 use Rattle.std.proofs.Common.{append_assoc}
 use Rattle.std.proofs.lemmas.Bool.{cases_eq, and_parts}
 use Rattle.std.proofs.lemmas.Bool.Decides.{nat_tests}
-use Rattle.graphql_core.specs.declared.tokenizer.piece.Piece.TheVariants.{AtEnd}
+use Rattle.graphql_core.specs.steps.Front.{AtEnd}
 use Rattle.graphql_core.specs.{is_delimiter, nesting_of, EndsRun, ignored_line_feed, ignored_comma, punctuator_token}
 use Rattle.graphql_core.specs.{BeginsNone, ignored_space, is_punctuator_byte, Ignored, Word, Stands, spread_token, Piece}
 use Rattle.graphql_core.specs.{IsCutInto, Token, kind_number, front, Where, Item, HasItems, start, past_ignored}

@@ -89,6 +89,35 @@ fn append(bytes: &mut Vec<u8>, len: usize, text: &str) -> Result<usize, AllocErr
     Ok(end)
 }
 
+/// Stores three strings after the first `len` bytes. Returns the new length of the output.
+#[inline(always)]
+fn append_three(
+    bytes: &mut Vec<u8>,
+    len: usize,
+    first: &str,
+    second: &str,
+    third: &str,
+) -> Result<usize, AllocError>
+    requires { len ≤ vec_len bytes.old }
+    ensures text { IfOk result
+        (λ end. take end bytes.new.items ≡ take len bytes.old.items ++ (first.now ++ (second.now ++ third.now))) }
+    ensures within { IfOk result (λ end. end ≤ length bytes.new.items) }
+    ensures utf8 { IfOk result (λ end. IsUtf8 (take len bytes.old.items) → IsUtf8 (take end bytes.new.items)) }
+    ensures kept { OnErr result
+        ((take len bytes.new.items ≡ take len bytes.old.items) × (len ≤ length bytes.new.items)) }
+{
+    let end = (len + first.len())
+        .saturating_add(second.len())
+        .saturating_add(third.len());
+    if end > bytes.len() {
+        make_room(bytes, end)?;
+    }
+    let to = bytes.as_mut_slice();
+    let after_first = copy_text(to, len, first.as_bytes());
+    let after_second = copy_text(to, after_first, second.as_bytes());
+    Ok(copy_text(to, after_second, third.as_bytes()))
+}
+
 /// Stores a space if `is_spaced`, then bytes, after the first `len` ones. Returns the new length of the output.
 #[cold]
 #[inline(never)]
@@ -160,6 +189,30 @@ fn append_spaced(
     Ok(end)
 }
 
+/// Does the same as `append`. `from` must begin with `text`. If both `from` and the vector are long enough, up to
+/// `LOAD` bytes are one load and one store.
+#[inline(always)]
+fn append_start(
+    bytes: &mut Vec<u8>,
+    len: usize,
+    text: &str,
+    from: &str,
+) -> Result<usize, AllocError>
+    requires within { len ≤ vec_len bytes.old }
+    requires begins { take (length text.now) from.now ≡ text.now }
+    ensures text { IfOk result (λ end. take end bytes.new.items ≡ take len bytes.old.items ++ text.now) }
+    ensures within { IfOk result (λ end. end ≤ length bytes.new.items) }
+    ensures utf8 { IfOk result (λ end. IsUtf8 (take len bytes.old.items) → IsUtf8 (take end bytes.new.items)) }
+    ensures kept { OnErr result
+        ((take len bytes.new.items ≡ take len bytes.old.items) × (len ≤ length bytes.new.items)) }
+{
+    if text.len() > LOAD || from.len() < LOAD || bytes.len() - len < LOAD {
+        let end = append_slow(bytes, len, false, text.as_bytes())?;
+        return Ok(end);
+    }
+    Ok(copy_prefix(bytes.as_mut_slice(), len, text.as_bytes(), from.as_bytes()))
+}
+
 impl Buffer {
     /// Returns the empty buffer.
     pub fn new(alloc: Global) -> Buffer
@@ -220,7 +273,19 @@ impl Sink for Buffer {
     }
 
     #[inline(always)]
+    fn push_two(&mut self, first: &str, second: &str) -> Result<(), AllocError> {
+        self.push_three(first, second, "")
+    }
+
+    #[inline(always)]
+    fn push_three(&mut self, first: &str, second: &str, third: &str) -> Result<(), AllocError> {
+        self.len = append_three(&mut self.bytes, self.len, first, second, third)?;
+        Ok(())
+    }
+
+    #[inline(always)]
     fn push_start(&mut self, text: &str, from: &str) -> Result<(), AllocError> {
-        self.push_spaced(false, text, from)
+        self.len = append_start(&mut self.bytes, self.len, text, from)?;
+        Ok(())
     }
 }

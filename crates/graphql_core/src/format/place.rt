@@ -4,7 +4,7 @@ ghost use Rattle.graphql_core.specs.{space_if, Placed};
 
 use std::simd::Simd;
 
-#[inline(always)]
+#[inline(never)]
 fn place_slice(buffer: &mut [u8], at: usize, text: &[u8]) -> usize
     requires { at + length text.now ≤ length buffer.old }
     ensures { Placed buffer.old buffer.new at text.now result }

@@ -29,6 +29,24 @@ pub trait Sink {
         self.push_str(text)
     }
 
+    /// Appends two strings, with the errors of `push_str`.
+    #[inline(always)]
+    fn push_two(&mut self, first: &str, second: &str) -> Result<(), Self::Error>
+        ensures { OnOk result (took self.old (first.now ++ second.now) self.new) }
+    {
+        self.push_str(first)?;
+        self.push_str(second)
+    }
+
+    /// Appends three strings, with the errors of `push_str`.
+    #[inline(always)]
+    fn push_three(&mut self, first: &str, second: &str, third: &str) -> Result<(), Self::Error>
+        ensures { OnOk result (took self.old (first.now ++ (second.now ++ third.now)) self.new) }
+    {
+        self.push_two(first, second)?;
+        self.push_str(third)
+    }
+
     ghost took_nil: { (s : Self) → took s [] s };
 
     ghost took_more: { (s : Self) (a : List ℕ) (t : Self) (b : List ℕ) (u : Self) → took s a t

@@ -7,15 +7,12 @@ use Rattle.graphql_core.specs.{name_part, punctuator_part, text_of, place_of, La
 use Rattle.graphql_core.specs.{directives_view, Weights}
 use Rattle.graphql_core.proofs.{text_append}
 use Rattle.graphql_query.specs.{more, field, inline, set, type_condition_view, selection_view, selections_view}
-use Rattle.graphql_query.specs.{field_view, fragment_spread_view, inline_fragment_view, selection_set_view}
-use Rattle.graphql_query.specs.{IsLawfulSet, selected_layout, selection_set_layout, selected_depth}
-use Rattle.graphql_query.specs.{selection_set_depth}
+use Rattle.graphql_query.specs.{field_view, inline_fragment_view, selection_set_view, IsLawfulSet, selected_layout}
+use Rattle.graphql_query.specs.{selection_set_layout, selected_depth, selection_set_depth}
 use Rattle.graphql_query.specs.declared.tree.Selection.{Selection}
 use Rattle.graphql_query.specs.declared.tree.Field.{Field}
-use Rattle.graphql_query.specs.declared.tree.FragmentSpread.{FragmentSpread}
 use Rattle.graphql_query.specs.declared.tree.InlineFragment.{InlineFragment}
 use Rattle.graphql_query.specs.declared.tree.SelectionSet.{SelectionSet, out-SelectionSet, the_lemmas}
-use Rattle.graphql_query.specs.declared.tree.Selection.TheVariants as selections
 
 -- ---- the parts of a tree
 
@@ -38,16 +35,6 @@ module _ {N T : Type 0} (bytes : T → List ℕ) where
       → inline_fragment_view bytes f ≡ inline (place_of f.position) (option_map (type_condition_view {N = N} bytes) f.type_condition)
       (directives_view bytes f.directives.items) (selection_set_view bytes f.selection_set)
   inline_fragment_parts f = search (rules, the_lemmas)
-
-  -- the model of a selection
-  pub seen_field : (f : Field N T) → selection_view bytes (selections.Field f) ≡ field_view bytes f
-  seen_field f = search (rules, the_lemmas)
-
-  pub seen_spread : (f : FragmentSpread N T) → selection_view bytes (selections.FragmentSpread f) ≡ fragment_spread_view bytes f
-  seen_spread f = search (rules, the_lemmas)
-
-  pub seen_inline_fragment : (f : InlineFragment N T) → selection_view bytes (selections.InlineFragment f) ≡ inline_fragment_view bytes f
-  seen_inline_fragment f = search (rules, the_lemmas)
 
   -- the selections from i on: the one at i, and those from i + 1 on
   pub selection_here : (xs : List (Selection N T)) (i : ℕ) (x : Selection N T) → i < length xs → x ≡ get_or xs i x
@@ -95,17 +82,17 @@ module _ {N T : Type 0} (bytes : T → List ℕ) where
 -- ---- layouts in the order in which they are written
 
 pub variable_definition_text : (n : List ℕ) (declared default directives : List Part)
-    → ((((codes "$" ++ n) ++ codes ": ") ++ text_of declared) ++ text_of default) ++ text_of directives
+    → (((codes "$" ++ (n ++ codes ": ")) ++ text_of declared) ++ text_of default) ++ text_of directives
     ≡ text_of (punctuator_part (codes "$") ++ (name_part n ++ (punctuator_part (codes ":") ++ (gap (codes " ") ++ (declared ++ (default ++ directives))))))
 variable_definition_text n declared default directives = simp (text_append, append_assoc)
 
 pub fragment_definition_text : (n : List ℕ) (condition directives selected : List Part)
-    → (((((codes "fragment " ++ n) ++ codes " ") ++ text_of condition) ++ text_of directives) ++ codes " ") ++ text_of selected
+    → (((codes "fragment " ++ (n ++ codes " ")) ++ text_of condition) ++ text_of directives) ++ (codes " " ++ text_of selected)
     ≡ text_of (name_part (codes "fragment")
     ++ (gap (codes " ") ++ (name_part n ++ (gap (codes " ") ++ (condition ++ (directives ++ (gap (codes " ") ++ selected)))))))
 fragment_definition_text n condition directives selected = simp (text_append, append_assoc)
 
 pub operation_text : (word : List ℕ) (name variables directives selected : List Part)
-    → ((((word ++ text_of name) ++ text_of variables) ++ text_of directives) ++ codes " ") ++ text_of selected
+    → (((word ++ text_of name) ++ text_of variables) ++ text_of directives) ++ (codes " " ++ text_of selected)
     ≡ text_of (name_part word ++ (name ++ (variables ++ (directives ++ (gap (codes " ") ++ selected)))))
 operation_text word name variables directives selected = simp (text_append, append_assoc)

@@ -2,12 +2,11 @@
 use Rattle.std.proofs.Common.{◌≡◌, ℕ, ◌+◌, ◌<◌, ◌≤◌, Bool, true, false, List, [], ◌∷◌, ◌++◌, Option, Some, None, codes, map, refl, ap, ap₂, arith}
 use Rattle.graphql_core.specs.{name_part, Place, Expr, Many, Sym, ParseTree, Both, leaves, optional, is_below, IsName}
 use Rattle.graphql_core.specs.{Layout, Part, gap, ValueTree, DirectiveTree, no_place, erase_all, arguments_layout}
-use Rattle.graphql_core.specs.{directives_layout, shared, arguments_symbol, directives_symbol, default_symbol}
-use Rattle.graphql_core.specs.{shared_symbols, place_at, first_place, optional_default_of, spelling_at}
-use Rattle.graphql_core.specs.{optional_arguments_of, directives_of, IsNameBut, IsPrintableArgument}
-use Rattle.graphql_core.specs.{IsPrintableDirective, IsPrintableDefault, arguments_brackets, directives_brackets}
-use Rattle.graphql_core.specs.{value_brackets, in_braces, IsLawful, AreLawfulArguments, AreLawfulDirectives}
-use Rattle.graphql_core.specs.{optional_of, optional_list_of, enclosed_of, AreReadBack, each_of, name}
+use Rattle.graphql_core.specs.{directives_layout, shared, arguments_symbol, directives_symbol, shared_symbols, place_at}
+use Rattle.graphql_core.specs.{first_place, spelling_at, optional_arguments_of, directives_of, IsNameBut}
+use Rattle.graphql_core.specs.{IsPrintableArgument, IsPrintableDirective, arguments_brackets, directives_brackets}
+use Rattle.graphql_core.specs.{in_braces, AreLawfulArguments, AreLawfulDirectives, optional_of, optional_list_of}
+use Rattle.graphql_core.specs.{enclosed_of, AreReadBack, name}
 use Rattle.graphql_core.proofs.{Takes, as_word_back, open_back, close_back, dots_back, four_back, five_back}
 use Rattle.graphql_core.proofs.{six_back, lift_back, name_word, not_listed, type_back, Any, means, margin_back}
 use Rattle.graphql_core.proofs.{gap_back, then_gap, word_back, punctuator_back, nothing_back, both_back, first_back}
@@ -15,7 +14,7 @@ use Rattle.graphql_core.proofs.{second_back, node_back, stop_back, more_back, th
 use Rattle.graphql_core.proofs.{some_back, in_parentheses_back, document_back, arguments_back, directives_back}
 use Rattle.graphql_core.proofs.{optional_default_back, Back}
 use Rattle.std.specs.List.{AllByRecursion}
-use Rattle.std.specs.Option.{IfSome, option_map_or}
+use Rattle.std.specs.Option.{IfSome}
 use Rattle.graphql_core.specs.declared.tokenizer.token.Kind.TheVariants.{Name}
 use Rattle.graphql_query.specs.{spread, more, SelectionTree, SelectionSetTree, SelectionTrees, OperationKind}
 use Rattle.graphql_query.specs.{query_kind, mutation_kind, subscription_kind, VariableDefinitionTree, OperationTree}
@@ -24,7 +23,7 @@ use Rattle.graphql_query.specs.{erase_selection_set, erase_selections, erase_var
 use Rattle.graphql_query.specs.{erase_definition, field, inline, set, none, query, spread_class, definition_symbol}
 use Rattle.graphql_query.specs.{operation_symbol, operation_body_symbol, variable_definitions_symbol}
 use Rattle.graphql_query.specs.{variable_definition_symbol, selection_set_symbol, selection_symbol, alias_symbol}
-use Rattle.graphql_query.specs.{type_condition_symbol, spread_name_of, alias_of, type_condition_of, selected_of}
+use Rattle.graphql_query.specs.{type_condition_symbol, spread_name_of, alias_of, type_condition_of, optional_selection_set_of}
 use Rattle.graphql_query.specs.{selection_of, selection_set_of, selections_of, variable_definition_of}
 use Rattle.graphql_query.specs.{operation_body_of, operation_of, definition_of, alias_layout, type_condition_layout}
 use Rattle.graphql_query.specs.{on_layout, selection_layout, selected_layout, selection_set_layout}
@@ -121,7 +120,7 @@ module _ (style : Layout) where
 
     selected_back : (margin : ℕ) (s : SelectionSetTree) (d : ℕ) → IsPrintableSet s → SelectInside s → IsLawfulSet s → d + selected_brackets s ≤ 50
         → Back query (optional (Sym selection_set_symbol)) true d (selected_layout style margin s) false d
-        (λ x. (p : Place) → erase_selection_set (selected_of p x) ≡ erase_selection_set s)
+        (λ x. (p : Place) → erase_selection_set (optional_selection_set_of p x) ≡ erase_selection_set s)
     selected_back margin (set o c none) d is inside law deep = gap_back refl (second_back (nothing_back (λ p. refl)))
     selected_back margin (set o c (more s ss)) d (is, are) (one, others) (law, laws) deep =
         gap_back refl (first_back (means (λ x h p. h) (braces_back margin o c s ss d (omega arith)

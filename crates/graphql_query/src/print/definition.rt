@@ -34,7 +34,7 @@ impl<N: Names> Pretty for OperationDefinition<N> {
 
     fn write<S: Sink>(&self, out: &mut S, style: &Style, _margin: usize) -> Result<(), S::Error> {
         match self {
-            OperationDefinition::SelectionSet(set) => write_selection_set(out, set, style, 0),
+            OperationDefinition::SelectionSet(set) => write_selection_set(out, "", set, style, 0),
             OperationDefinition::Query(query) => parts!(Query, query).write(out, style, 0),
             OperationDefinition::Mutation(mutation) => parts!(Mutation, mutation).write(
                 out, style, 0,
@@ -58,13 +58,10 @@ impl<N: Names> Pretty for FragmentDefinition<N> {
     }
 
     fn write<S: Sink>(&self, out: &mut S, style: &Style, _margin: usize) -> Result<(), S::Error> {
-        out.push_str("fragment ")?;
-        out.push_str(N::view(&self.name))?;
-        out.push_str(" ")?;
+        out.push_three("fragment ", N::view(&self.name), " ")?;
         write_type_condition(out, &self.type_condition)?;
         write_directives(out, &self.directives, style, 0)?;
-        out.push_str(" ")?;
-        write_selection_set(out, &self.selection_set, style, 0)
+        write_selection_set(out, " ", &self.selection_set, style, 0)
     }
 }
 

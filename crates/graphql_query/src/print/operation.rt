@@ -29,8 +29,7 @@ fn write_operation_name<S: Sink, N: Names>(
     let Some(name) = name else {
         return Ok(());
     };
-    out.push_str(" ")?;
-    out.push_str(N::view(name))
+    out.push_two(" ", N::view(name))
 }
 
 impl<N: Names> Pretty for VariableDefinition<N> {
@@ -46,9 +45,7 @@ impl<N: Names> Pretty for VariableDefinition<N> {
     }
 
     fn write<S: Sink>(&self, out: &mut S, style: &Style, _margin: usize) -> Result<(), S::Error> {
-        out.push_str("$")?;
-        out.push_str(N::view(&self.name))?;
-        out.push_str(": ")?;
+        out.push_three("$", N::view(&self.name), ": ")?;
         write_type(out, &self.var_type)?;
         write_default(out, &self.default_value, style, 0)?;
         write_directives(out, &self.directives, style, 0)
@@ -106,8 +103,7 @@ impl<'a, N: Names> Pretty for OperationParts<'a, N> {
         write_operation_name::<S, N>(out, self.name)?;
         write_variable_definitions(out, self.variables, style)?;
         write_directives(out, self.directives, style, 0)?;
-        out.push_str(" ")?;
-        write_selection_set(out, self.selected, style, 0)
+        write_selection_set(out, " ", self.selected, style, 0)
     }
 }
 

@@ -1,5 +1,5 @@
 //! Formatting selections. A line begins with `margin` spaces.
-ghost use Rattle.std.specs.Prelude.{◌≡◌, ◌+◌, ◌*◌, ◌^◌, ◌<◌, OnOk, option_map};
+ghost use Rattle.std.specs.Prelude.{◌+◌, ◌*◌, ◌^◌, ◌<◌, ◌++◌, OnOk, option_map};
 ghost use Rattle.graphql_core.specs.{text_of};
 ghost use Rattle.graphql_query.specs.{type_condition_view, fragment_spread_view, field_view, inline_fragment_view};
 ghost use Rattle.graphql_query.specs.{selection_view, selections_view, selection_set_view, IsLawfulSelection};
@@ -23,8 +23,7 @@ fn write_alias<S: Sink, N: Names>(out: &mut S, alias: &Option<N::Value>) -> Resu
     let Some(name) = alias else {
         return Ok(());
     };
-    out.push_str(N::view(name))?;
-    out.push_str(": ")
+    out.push_two(N::view(name), ": ")
 }
 
 /// Appends `on` and the name of the type.
@@ -36,10 +35,7 @@ pub fn write_type_condition<S: Sink, N: Names>(
         (S.took out.old (text_of (type_condition_layout (type_condition_view N.bytes condition.now))) out.new) }
 {
     match condition {
-        TypeCondition::On(name) => {
-            out.push_str("on ")?;
-            out.push_str(N::view(name))
-        }
+        TypeCondition::On(name) => out.push_two("on ", N::view(name)),
     }
 }
 
@@ -72,16 +68,16 @@ fn write_fragment_spread<S: Sink, N: Names>(
     ensures lawful { OnOk result (IsLawfulSelection (fragment_spread_view N.bytes spread.now)) }
 {
     write_spaces(out, margin)?;
-    out.push_str("...")?;
-    out.push_str(N::view(&spread.fragment_name))?;
+    out.push_two("...", N::view(&spread.fragment_name))?;
     write_directives(out, &spread.directives, style, margin)?;
     out.push_str("\n")
 }
 
-/// Appends a selection set in braces. The closing brace is at the margin.
+/// Appends `before` and a selection set in braces. The closing brace is at the margin.
 #[cycle(print)]
 pub fn write_selection_set<S: Sink, N: Names>(
     out: &mut S,
+    before: &str,
     set: &SelectionSet<N>,
     style: &Style,
     margin: usize,
@@ -89,10 +85,10 @@ pub fn write_selection_set<S: Sink, N: Names>(
     requires { margin + selection_set_levels style.now (selection_set_view N.bytes set.now) * style.now.indent
         < 2 ^ 32 }
     ensures text { OnOk result (S.took out.old
-        (text_of (selection_set_layout style.now margin (selection_set_view N.bytes set.now))) out.new) }
+        (before.now ++ text_of (selection_set_layout style.now margin (selection_set_view N.bytes set.now))) out.new) }
     ensures lawful { OnOk result (IsLawfulSet (selection_set_view N.bytes set.now)) }
 {
-    out.push_str("{\n")?;
+    out.push_two(before, "{\n")?;
     let inside = margin + style.indentation() as usize;
     write_selections(out, &set.items, style, inside)?;
     write_spaces(out, margin)?;
@@ -175,8 +171,7 @@ fn write_optional_selection_set<S: Sink, N: Names>(
     if set.items.is_empty() {
         return out.push_str("\n");
     }
-    out.push_str(" ")?;
-    write_selection_set(out, set, style, margin)
+    write_selection_set(out, " ", set, style, margin)
 }
 
 #[cycle(print)]
@@ -196,8 +191,7 @@ fn write_inline_fragment<S: Sink, N: Names>(
     out.push_str("...")?;
     write_optional_type_condition(out, &fragment.type_condition)?;
     write_directives(out, &fragment.directives, style, margin)?;
-    out.push_str(" ")?;
-    write_selection_set(out, &fragment.selection_set, style, margin)
+    write_selection_set(out, " ", &fragment.selection_set, style, margin)
 }
 
 impl<N: Names> Pretty for SelectionSet<N> {
@@ -212,7 +206,7 @@ impl<N: Names> Pretty for SelectionSet<N> {
     }
 
     fn write<S: Sink>(&self, out: &mut S, style: &Style, margin: usize) -> Result<(), S::Error> {
-        write_selection_set(out, self, style, margin)
+        write_selection_set(out, "", self, style, margin)
     }
 }
 

@@ -52,8 +52,7 @@ pub fn write_directive<S: Sink, N: Names>(
         (S.took out.old (text_of (directive_layout style.now margin (directive_view N.bytes directive.now))) out.new) }
     ensures lawful { OnOk result (AreLawfulArguments (directive_view N.bytes directive.now).arguments) }
 {
-    out.push_str("@")?;
-    out.push_str(N::view(&directive.name))?;
+    out.push_two("@", N::view(&directive.name))?;
     write_arguments(out, &directive.arguments, style, margin)
 }
 

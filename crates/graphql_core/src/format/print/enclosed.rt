@@ -59,6 +59,5 @@ pub fn write_closer<S: Sink>(
 pub fn write_label<S: Sink>(out: &mut S, name: &str) -> Result<(), S::Error>
     ensures { OnOk result (S.took out.old (name.now ++ codes ": ") out.new) }
 {
-    out.push_str(name)?;
-    out.push_str(": ")
+    out.push_two(name, ": ")
 }

@@ -86,6 +86,17 @@ fn write_escape<S: Sink>(out: &mut S, byte: u8) -> Result<(), S::Error>
 pub fn write_quoted<S: Sink>(out: &mut S, text: &str) -> Result<(), S::Error>
     ensures { OnOk result (S.took out.old (spec.quoted text.now) out.new) }
 {
+    if unescaped_len(text) == text.len() {
+        return out.push_three("\"", text, "\"");
+    }
+    write_escaped(out, text)
+}
+
+/// Appends a string in quotes, run by run between the bytes that need an escape.
+#[inline(never)]
+fn write_escaped<S: Sink>(out: &mut S, text: &str) -> Result<(), S::Error>
+    ensures { OnOk result (S.took out.old (spec.quoted text.now) out.new) }
+{
     out.push_str("\"")?;
     let mut rest = text;
     'runs: loop {

@@ -3,6 +3,7 @@ ghost use Rattle.std.specs.Prelude.{OnOk};
 ghost use Rattle.graphql_core.specs.{text_of, new_line, spaces};
 
 use crate::format::Sink;
+use crate::format::place::LOAD;
 
 /// A line end and the longest margin that is appended at once.
 const LINE: &str =
@@ -22,13 +23,25 @@ fn write_many_spaces<S: Sink>(out: &mut S, count: usize) -> Result<(), S::Error>
     Ok(())
 }
 
-/// Appends `count` spaces.
-#[inline]
-pub fn write_spaces<S: Sink>(out: &mut S, count: usize) -> Result<(), S::Error>
+/// Appends `count` spaces. `write_spaces` appends at most `LOAD` itself.
+#[cold]
+#[inline(never)]
+fn write_wide_margin<S: Sink>(out: &mut S, count: usize) -> Result<(), S::Error>
     ensures { OnOk result (S.took out.old (spaces count) out.new) }
 {
     if count > MOST {
         return write_many_spaces(out, count);
+    }
+    out.push_start(&LINE[1..count + 1], &LINE[1..])
+}
+
+/// Appends `count` spaces.
+#[inline(always)]
+pub fn write_spaces<S: Sink>(out: &mut S, count: usize) -> Result<(), S::Error>
+    ensures { OnOk result (S.took out.old (spaces count) out.new) }
+{
+    if count > LOAD {
+        return write_wide_margin(out, count);
     }
     out.push_start(&LINE[1..count + 1], &LINE[1..])
 }

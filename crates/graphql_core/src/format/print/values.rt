@@ -25,10 +25,7 @@ pub fn write_value<S: Sink, N: Names>(
     ensures lawful { OnOk result (IsLawful (value_view N.bytes value.now)) }
 {
     match value {
-        Value::Variable(name) => {
-            out.push_str("$")?;
-            out.push_str(N::view(name))
-        }
+        Value::Variable(name) => out.push_two("$", N::view(name)),
         Value::Int(number) => write_integer(out, number.as_i64().unwrap()),
         Value::Float(literal) => out.push_str(literal.as_str()),
         Value::String(text) => write_string(out, text.as_str(), style, margin),

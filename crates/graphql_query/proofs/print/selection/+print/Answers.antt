@@ -1,11 +1,11 @@
 use Rattle.std.proofs.Common.{rules, arith, ◌∙◌, ◌+◌, ◌*◌, ◌++◌, ◌<◌, ◌^◌, append_assoc, ap, sym, refl, []}
 use Rattle.graphql_core.specs.{text_of, in_levels}
 use Rattle.std.proofs.lemmas.Result.{on_ok_weaker}
-use Rattle.graphql_core.proofs.{narrower, braces_text, text_append, and_last, and_part, on_ok, all_hold}
+use Rattle.graphql_core.proofs.{narrower, text_append, and_alone, and_last, and_part, on_ok, all_hold}
 use Rattle.graphql_query.specs.declared.tree.SelectionSet.{the_lemmas}
 use Rattle.graphql_query.specs.{selection_set_view, selection_view, selections_view, AreLawfulSelections}
 use Rattle.graphql_query.specs.{selection_layout, selections_layout, selection_set_levels}
-use Rattle.graphql_query.proofs.{items_of, selection_set_parts, field_parts, inline_fragment_parts, selection_here}
+use Rattle.graphql_query.proofs.{selection_set_parts, field_parts, inline_fragment_parts, selection_here}
 use Rattle.graphql_query.proofs.{no_items, some_items, nothing_layout, nothing_lawful, some_levels, some_layout}
 use Rattle.graphql_query.proofs.print.selection.+print.Goals as goal
 
@@ -19,16 +19,15 @@ write_selection_set-returns-clause-text g t c =
     let bytes = g.N.Names.bytes in
     let more = g.met.S.Sink.took_more in
     let selections = rw c.deref.ensures.value at c.in_ok-write_selections.ensures.text in
-    let written = more _ _ _ _ _ (more _ _ _ _ _ c.in_ok-push_str.ensures selections) c.in_ok-write_spaces.ensures in
-    and_last g.S.Sink.took more _ _ _ _ _ _ _ written c.push_str-2.ensures
+    let written = more _ _ _ _ _ (more _ _ _ _ _ c.in_ok-push_two.ensures selections) c.in_ok-write_spaces.ensures in
+    and_last g.S.Sink.took more _ _ _ _ _ _ _ written c.push_str.ensures
     (rw (selection_set_parts bytes c.args.set.now, c.indentation.ensures)
-    (braces_text c.args.margin
-    (selections_layout c.args.style.now (c.args.margin + c.args.style.now.indent) (selections_view bytes (items_of bytes c.args.set.now)))))
+    (simp (text_append, append_assoc)))
 
 pub write_selection_set-returns-clause-lawful : goal.write_selection_set-returns-clause-lawful
 write_selection_set-returns-clause-lawful g t c =
     let selections = rw c.deref.ensures.value at c.in_ok-write_selections.ensures.lawful in
-    on_ok c.push_str-2.result (rw (selection_set_parts g.N.Names.bytes c.args.set.now) selections)
+    on_ok c.push_str.result (rw (selection_set_parts g.N.Names.bytes c.args.set.now) selections)
 
 pub write_selections-write_selection-requires : goal.write_selections-write_selection-requires
 write_selections-write_selection-requires g t c κs within = (
@@ -115,8 +114,7 @@ write_inline_fragment-returns-clause-text g t c =
     let more = g.met.S.Sink.took_more in
     let on = more _ _ _ _ _ (more _ _ _ _ _ c.in_ok-write_spaces.ensures c.in_ok-push_str.ensures) c.in_ok-write_optional_type_condition.ensures in
     let directives = rw c.deref.ensures.value at c.in_ok-write_directives.ensures.text in
-    let written = more _ _ _ _ _ (more _ _ _ _ _ on directives) c.in_ok-push_str-2.ensures in
-    and_last g.S.Sink.took more _ _ _ _ _ _ _ written c.write_selection_set.ensures.text
+    and_last g.S.Sink.took more _ _ _ _ _ _ _ (more _ _ _ _ _ on directives) c.write_selection_set.ensures.text
     (rw (inline_fragment_parts bytes c.args.fragment.now) (simp (text_append, append_assoc)))
 
 pub write_inline_fragment-returns-clause-lawful : goal.write_inline_fragment-returns-clause-lawful
@@ -138,7 +136,7 @@ write_optional_selection_set-returns-clause-text g t c =
     let bytes = g.N.Names.bytes in
     let s = c.args.set.now in
     let some = some_layout bytes s c.args.style.now c.args.margin (some_items bytes s (sym c.is_empty.ensures ∙ c.if-is_empty.false)) in
-    and_last g.S.Sink.took g.met.S.Sink.took_more _ _ _ _ _ _ _ c.in_ok-push_str.ensures c.write_selection_set.ensures.text (sym (ap text_of some))
+    and_alone g.S.Sink.took g.met.S.Sink.took_more _ _ _ _ _ c.write_selection_set.ensures.text (sym (ap text_of some))
 
 pub write_optional_selection_set-returns-then-is_empty-clause-text : goal.write_optional_selection_set-returns-then-is_empty-clause-text
 write_optional_selection_set-returns-then-is_empty-clause-text g t c =

@@ -1,5 +1,5 @@
 use Rattle.std.proofs.Common.{rules, ◌≡◌, ◌++◌, append-nil, sym, ap, ◌∙◌, codes}
-use Rattle.graphql_core.proofs.{and_last}
+use Rattle.graphql_core.proofs.{and_alone}
 use Rattle.graphql_query.specs.{type_condition_view}
 use Rattle.graphql_query.proofs.print.selection.write_type_condition.Goals as goal
 
@@ -7,4 +7,4 @@ pub returns : goal.returns
 returns g c =
     let is : c.view.result.now ≡ type_condition_view g.N.Names.bytes c.args.condition.now = search rules in
     let named = is ∙ sym (append-nil (type_condition_view g.N.Names.bytes c.args.condition.now)) in
-    and_last g.S.Sink.took g.met.S.Sink.took_more _ _ _ _ _ _ _ c.in_ok-push_str.ensures c.push_str-2.ensures (ap (λ n. codes "on " ++ n) named)
+    and_alone g.S.Sink.took g.met.S.Sink.took_more _ _ _ _ _ c.push_two.ensures (ap (λ n. codes "on " ++ n) named)

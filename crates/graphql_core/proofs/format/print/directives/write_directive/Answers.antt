@@ -9,7 +9,6 @@ returns-clause-text g c =
     let style = c.args.style.now in
     let margin = c.args.margin in
     let arguments = rw c.deref.ensures.value at c.write_arguments.ensures.text in
-    and_last g.S.Sink.took g.met.S.Sink.took_more _ _ _ _ _ _ _
-    (g.met.S.Sink.took_more _ _ _ _ _ c.in_ok-push_str.ensures c.in_ok-push_str-2.ensures) arguments
+    and_last g.S.Sink.took g.met.S.Sink.took_more _ _ _ _ _ _ _ c.in_ok-push_two.ensures arguments
     (ap (λ n. (codes "@" ++ n) ++ text_of (arguments_layout style margin (arguments_view bytes c.args.directive.now.arguments.items))) c.view.ensures
     ∙ directive_text style margin (directive_view bytes c.args.directive.now))

@@ -3,7 +3,7 @@ use Rattle.std.proofs.lemmas.List.{at_drop_all}
 use Rattle.graphql_core.specs.{text_of, variable, AreLawful, value_view, items_view, members_view, parts}
 use Rattle.graphql_core.specs.{value_layout, items_layout, members_layout, items_levels, members_levels, pair_layout}
 use Rattle.graphql_core.specs.declared.common.tree.Value.{the_lemmas}
-use Rattle.graphql_core.proofs.{items_here, alike, and_last, all_done, on_ok, all_hold, inside_fits, narrower}
+use Rattle.graphql_core.proofs.{items_here, alike, and_alone, and_last, all_done, on_ok, all_hold, inside_fits, narrower}
 use Rattle.graphql_core.proofs.{pair_text, enclosed_text, and_next, in_key_order}
 use Rattle.graphql_core.proofs.format.print.values.+value.Goals as goal
 
@@ -138,8 +138,8 @@ write_object-returns-clause-lawful g t c =
 
 -- ---- values
 
-pub write_value-returns-in_ok-push_str-in-Variable-clause-text : goal.write_value-returns-in_ok-push_str-in-Variable-clause-text
-write_value-returns-in_ok-push_str-in-Variable-clause-text g t c =
+pub write_value-returns-in-Variable-clause-text : goal.write_value-returns-in-Variable-clause-text
+write_value-returns-in-Variable-clause-text g t c =
     let seen : variable c.view.result.now ≡ value_view g.N.Names.bytes c.args.value.now = search (rules, the_lemmas) in
-    and_last g.S.Sink.took g.met.S.Sink.took_more _ _ _ _ _ c.view.result.now _ c.in_ok-push_str-in-Variable.ensures c.push_str-in-Variable.ensures
+    and_alone g.S.Sink.took g.met.S.Sink.took_more _ _ _ _ _ c.push_two.ensures
     (ap (λ r. codes "$" ++ r) (sym (append-nil c.view.result.now)) ∙ ap (λ v. text_of (value_layout c.args.style.now c.args.margin v)) seen)

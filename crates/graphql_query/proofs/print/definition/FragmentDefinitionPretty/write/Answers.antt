@@ -11,12 +11,11 @@ returns-clause-text g c =
     let more = g.met.S.Sink.took_more in
     let f = c.args.self.now in
     let style = c.args.style.now in
-    let named = more _ _ _ _ _ (more _ _ _ _ _ c.in_ok-push_str.ensures c.in_ok-push_str-2.ensures) c.in_ok-push_str-3.ensures in
     let directives = rw c.deref.ensures.value at c.in_ok-write_directives.ensures.text in
-    let on = more _ _ _ _ _ (more _ _ _ _ _ named c.in_ok-write_type_condition.ensures) directives in
+    let on = more _ _ _ _ _ (more _ _ _ _ _ c.in_ok-push_three.ensures c.in_ok-write_type_condition.ensures) directives in
     let text = fragment_definition_text (bytes f.name) (type_condition_layout (type_condition_view bytes f.type_condition))
     (directives_layout style 0 (directives_view bytes f.directives.items)) (selection_set_layout style 0 (selection_set_view bytes f.selection_set)) in
-    and_last g.S.Sink.took more _ _ _ _ _ _ _ (more _ _ _ _ _ on c.in_ok-push_str-4.ensures) c.write_selection_set.ensures.text (rw c.view.ensures text)
+    and_last g.S.Sink.took more _ _ _ _ _ _ _ on c.write_selection_set.ensures.text (rw c.view.ensures text)
 
 pub returns-clause-lawful : goal.returns-clause-lawful
 returns-clause-lawful g c =

@@ -32,8 +32,7 @@ returns-clause-text g c =
     let variables = rw c.deref.ensures.value at c.in_ok-write_variable_definitions.ensures.text in
     let directives = rw c.deref-2.ensures.value at c.in_ok-write_directives.ensures.text in
     let named = more _ _ _ _ _ (more _ _ _ _ _ c.in_ok-push_str.ensures c.in_ok-write_operation_name.ensures) variables in
-    let written = more _ _ _ _ _ (more _ _ _ _ _ named directives) c.in_ok-push_str-2.ensures in
-    and_last g.S.Sink.took more _ _ _ _ _ _ _ written c.write_selection_set.ensures.text
+    and_last g.S.Sink.took more _ _ _ _ _ _ _ (more _ _ _ _ _ named directives) c.write_selection_set.ensures.text
     (rw c.word.ensures (operation_text (keyword o.kind) (operation_name_layout o.name) (variable_definitions_layout style o.variables)
     (directives_layout style 0 o.directives) (selection_set_layout style 0 o.selected)))
 

@@ -22,8 +22,7 @@ returns-clause-text g c =
     let bytes = g.N.Names.bytes in
     let more = g.met.S.Sink.took_more in
     let v = c.args.self.now in
-    let named = more _ _ _ _ _ (more _ _ _ _ _ c.in_ok-push_str.ensures c.in_ok-push_str-2.ensures) c.in_ok-push_str-3.ensures in
-    let written = more _ _ _ _ _ named c.in_ok-write_type.ensures in
+    let written = more _ _ _ _ _ c.in_ok-push_three.ensures c.in_ok-write_type.ensures in
     let directives = rw c.deref.ensures.value at c.write_directives.ensures.text in
     and_last g.S.Sink.took more _ _ _ _ _ _ _ (more _ _ _ _ _ written c.in_ok-write_default.ensures.text) directives
     (rw c.view.ensures (variable_definition_text (bytes v.name) (type_layout (type_view bytes v.var_type))

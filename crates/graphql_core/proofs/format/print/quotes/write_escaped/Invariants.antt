@@ -3,7 +3,7 @@ use denote.Text.{Utf8}
 use Rattle.std.proofs.Common.{◌≡◌, ℕ, List, ◌∷◌, ◌++◌, length}
 use Rattle.std.specs.List.{flat_map}
 use Rattle.graphql_core.specs.{quoted_byte}
-use Rattle.graphql_core.proofs.format.print.quotes.write_quoted.Given as goal
+use Rattle.graphql_core.proofs.format.print.quotes.write_escaped.Given as goal
 
 -- what is written and what is left together give the whole
 abbrev pub invariant-runs : goal.invariant-runs
