@@ -38,7 +38,7 @@ pub use grammar.{fits_nothing, fits_second, fits_stop, grown, growth_at, in_any,
 pub use grammar.{is_row, lax, leads_node, leaves, matches, nowhere, optional, out_of_head, out_of_prefix}
 pub use grammar.{out_of_sides, out_of_symbols, peek, row, row_at, same_spelling, sees, solve, some_of, takes_both}
 pub use grammar.{takes_first, takes_leaf, takes_node, takes_nothing, takes_second, takes_stop, turn_values}
-pub use grammar.{unchanged, with_rows, with_tables, written}
+pub use grammar.{replaced, unchanged, with_rows, with_tables, written}
 pub use lexical.{BeginsNone, BeginsWithElement, HasItems, Ignored, IsCutInto, IsName, Item, LexicalError, Meaning}
 pub use lexical.{Piece, Stands, Stream, TokenContent, Where, Word, depth_of, is_in_line, is_too_deep, item_at}
 pub use lexical.{next_place, past_ignored, past_token, piece_then, start, token_then, too_deep}
@@ -58,7 +58,7 @@ pub use values.{first_place, has_any, in_brackets, is_there, joined_of, keyword,
 pub use values.{most_enclosed, name, named, no_place, optional_arguments_of, optional_default_of, optional_list_of}
 pub use values.{optional_of, place_at, punctuator, punctuator_class, sample, separated_of, shared, shared_symbols}
 pub use values.{spelling_at, token_value, type_of, type_symbol, type_view, value_brackets, value_view, valued}
-pub use values.{variable, word}
+pub use values.{variable, with_rule, word}
 unfoldable pub use values.{block_string_of, is_good, string_of, tables, unquoted}
 pub use layouts.{Displays, HasDisplayed, IsNarrow, Layout, Part, arguments_layout, bracket_of, deepest, default_layout}
 pub use layouts.{default_style, description_levels, directives_layout, gap, has_block_form, has_block_lines}

@@ -1,9 +1,9 @@
 -- The language of queries of version 0.4.1: variable definitions have no directives.
-use Rattle.std.specs.Prelude.{◌≡◌, ℕ, List, [], ◌∷◌, ◌++◌, codes, take, drop}
+use Rattle.std.specs.Prelude.{◌≡◌, ℕ, List, [], ◌++◌, codes}
 use Rattle.graphql_core.specs.{Grammar, Expr, Then, Sym, optional, with_tables, type_symbol, default_symbol}
-use Rattle.graphql_core.specs.{punctuator, name, Language}
+use Rattle.graphql_core.specs.{punctuator, name, with_rule, Language}
 use Rattle.std.specs.List.{AllByRecursion}
-use Rattle.graphql_query.specs.Grammar.{query, rules}
+use Rattle.graphql_query.specs.Grammar.{query, rules, variable_definition_symbol}
 use Rattle.graphql_query.specs.Tree.{VariableDefinitionTree, DefinitionTree, operation, DocumentTree}
 use Rattle.graphql_query.specs.Document.{queries}
 use Rattle.graphql_core.specs.values.Grammar as shared
@@ -17,7 +17,7 @@ variable_definition_rule_0_4_1 =
 
 -- all other productions are the same
 abbrev pub rules_0_4_1 : List Expr
-rules_0_4_1 = take 5 rules ++ variable_definition_rule_0_4_1 ∷ drop 6 rules
+rules_0_4_1 = with_rule variable_definition_symbol variable_definition_rule_0_4_1 rules
 
 abbrev pub query_0_4_1 : Grammar
 query_0_4_1 = record {

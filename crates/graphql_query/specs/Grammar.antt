@@ -1,9 +1,10 @@
 -- The grammar of query documents, as written, and the equivalent rules that the parser follows.
-use Rattle.std.specs.Prelude.{ℕ, true, List, [], ◌∷◌, ◌++◌, codes, drop, replicate}
+use Rattle.std.specs.Prelude.{ℕ, ◌+◌, true, List, [], ◌∷◌, ◌++◌, codes, length, drop, replicate}
 use Rattle.graphql_core.specs.{in_second, out_of_symbols, out_of_prefix, with_rows, Token, Class, Except, matches}
 use Rattle.graphql_core.specs.{Expr, One, Then, Either, Sym, Row, optional, some_of, solve, with_tables, Change}
-use Rattle.graphql_core.specs.{unchanged, kind_number, is_good, type_symbol, arguments_symbol, directives_symbol}
-use Rattle.graphql_core.specs.{default_symbol, shared_symbols, punctuator, word, sample, Grammar, name}
+use Rattle.graphql_core.specs.{unchanged, replaced, kind_number, is_good, type_symbol, arguments_symbol}
+use Rattle.graphql_core.specs.{directives_symbol, default_symbol, shared_symbols, with_rule, punctuator, word}
+use Rattle.graphql_core.specs.{sample, Grammar, name}
 use Rattle.graphql_core.specs.declared.tokenizer.token.Kind.TheVariants.{Punctuator, Name}
 use Rattle.graphql_core.specs.values.Grammar as shared
 
@@ -13,46 +14,46 @@ abbrev pub document_symbol : ℕ
 document_symbol = shared_symbols
 
 abbrev pub definition_symbol : ℕ
-definition_symbol = 12
+definition_symbol = document_symbol + 1
 
 abbrev pub operation_symbol : ℕ
-operation_symbol = 13
+operation_symbol = definition_symbol + 1
 
 abbrev pub operation_body_symbol : ℕ
-operation_body_symbol = 14
+operation_body_symbol = operation_symbol + 1
 
 abbrev pub variable_definitions_symbol : ℕ
-variable_definitions_symbol = 15
+variable_definitions_symbol = operation_body_symbol + 1
 
 abbrev pub variable_definition_symbol : ℕ
-variable_definition_symbol = 16
+variable_definition_symbol = variable_definitions_symbol + 1
 
 abbrev pub selection_set_symbol : ℕ
-selection_set_symbol = 17
+selection_set_symbol = variable_definition_symbol + 1
 
 abbrev pub selection_symbol : ℕ
-selection_symbol = 18
+selection_symbol = selection_set_symbol + 1
 
 abbrev pub field_symbol : ℕ
-field_symbol = 19
+field_symbol = selection_symbol + 1
 
 abbrev pub alias_symbol : ℕ
-alias_symbol = 20
+alias_symbol = field_symbol + 1
 
 abbrev pub fragment_spread_symbol : ℕ
-fragment_spread_symbol = 21
+fragment_spread_symbol = alias_symbol + 1
 
 abbrev pub spread_name_symbol : ℕ
-spread_name_symbol = 22
+spread_name_symbol = fragment_spread_symbol + 1
 
 abbrev pub inline_fragment_symbol : ℕ
-inline_fragment_symbol = 23
+inline_fragment_symbol = spread_name_symbol + 1
 
 abbrev pub type_condition_symbol : ℕ
-type_condition_symbol = 24
+type_condition_symbol = inline_fragment_symbol + 1
 
 abbrev pub fragment_definition_symbol : ℕ
-fragment_definition_symbol = 25
+fragment_definition_symbol = type_condition_symbol + 1
 
 -- a name other than `on`
 abbrev pub spread_class : Class
@@ -169,11 +170,7 @@ abbrev pub field_second : Expr
 field_second = Then name (Then (optional (Then (punctuator (codes ":")) name)) field_rest)
 
 abbrev pub second_rules : List Expr
-second_rules =
-    document_rule ∷ definition_rule ∷ operation_rule ∷ operation_body_rule
-    ∷ variable_definitions_rule ∷ variable_definition_rule ∷ selection_set_rule ∷ selection_second ∷ field_second
-    ∷ alias_rule ∷ fragment_spread_rule ∷ spread_name_rule ∷ inline_fragment_rule ∷ type_condition_rule
-    ∷ fragment_definition_rule ∷ []
+second_rules = with_rule selection_symbol selection_second (with_rule field_symbol field_second rules)
 
 unfoldable pub tables : List Row
 tables = drop shared_symbols (solve matches samples 9 (shared.rules ++ second_rules))
@@ -184,9 +181,8 @@ second_rows = shared.rows ++ with_tables second_rules tables
 -- how parse trees of the second rules become parse trees of the written ones
 abbrev pub changes : List Change
 changes =
-    replicate 18 unchanged
-    ++ in_second (out_of_symbols fragment_spread_symbol inline_fragment_symbol) ∷ out_of_prefix alias_symbol
-    ∷ replicate 6 unchanged
+    replaced selection_symbol (in_second (out_of_symbols fragment_spread_symbol inline_fragment_symbol))
+    (replaced field_symbol (out_of_prefix alias_symbol) (replicate (shared_symbols + length rules) unchanged))
 
 -- the grammar that the parser follows
 abbrev pub reading : Grammar

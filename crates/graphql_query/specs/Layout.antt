@@ -1,8 +1,8 @@
 -- The layout of a document in a style. A line begins with a margin, a number of spaces.
 use Rattle.std.specs.Prelude.{ℕ, ◌+◌, List, [], ◌++◌, Option, Some, None, codes}
-use Rattle.graphql_core.specs.{name_part, punctuator_part, text_of, Layout, spaces, Part, gap, ValueTree}
-use Rattle.graphql_core.specs.{type_layout, arguments_layout, directives_layout, in_levels, in_braces}
-use Rattle.graphql_core.specs.{most, default_layout, in_parentheses, separated}
+use Rattle.graphql_core.specs.{name_part, punctuator_part, text_of, Layout, spaces, Part, gap, type_layout}
+use Rattle.graphql_core.specs.{arguments_layout, directives_layout, in_levels, in_braces, most, default_layout}
+use Rattle.graphql_core.specs.{in_parentheses, separated}
 use Rattle.graphql_query.specs.Tree.{spread, more, SelectionTree, field, inline, SelectionSetTree, set}
 use Rattle.graphql_query.specs.Tree.{SelectionTrees, none, OperationKind, query_kind, mutation_kind}
 use Rattle.graphql_query.specs.Tree.{subscription_kind, VariableDefinitionTree, OperationTree}

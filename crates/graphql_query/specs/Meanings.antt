@@ -39,13 +39,13 @@ abbrev mutual
   pub field_of : ParseTree → SelectionTree
   field_of (Node k (Both a (Both n (Both arguments (Both ds s))))) =
       field (first_place (leaves (Both a n))) (alias_of a) (spelling_at n) (optional_arguments_of arguments)
-      (directives_of ds) (selected_of (first_place (leaves (Both a n))) s)
+      (directives_of ds) (optional_selection_set_of (first_place (leaves (Both a n))) s)
   field_of _ = spread nowhere [] []
 
   -- without braces: the position of the field twice, and no selections
-  pub selected_of : Place → ParseTree → SelectionSetTree
-  selected_of p (First s) = selection_set_of s
-  selected_of p _ = no_selection_set p
+  pub optional_selection_set_of : Place → ParseTree → SelectionSetTree
+  optional_selection_set_of p (First s) = selection_set_of s
+  optional_selection_set_of p _ = no_selection_set p
 
   -- what follows the `...` of an inline fragment; the position of the fragment is that of the first token there
   pub inline_fragment_rest_of : ParseTree → SelectionTree

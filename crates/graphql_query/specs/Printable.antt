@@ -1,7 +1,7 @@
 -- Printable documents: those whose layouts parse back to them.
-use Rattle.std.specs.Prelude.{ℕ, ◌+◌, ◌≤◌, max, List, [], ◌∷◌, codes}
+use Rattle.std.specs.Prelude.{ℕ, ◌≤◌, List, [], ◌∷◌, codes}
 use Rattle.std.specs.List.{AllByRecursion}
-use Rattle.std.specs.Option.{IfSome, option_map_or}
+use Rattle.std.specs.Option.{IfSome}
 use Rattle.graphql_core.specs.{IsName, IsNameBut, IsPrintableArgument, IsPrintableDirective, IsPrintableType}
 use Rattle.graphql_core.specs.{IsPrintableDefault, in_brackets, most}
 use Rattle.graphql_query.specs.Tree.{spread, more, SelectionTree, field, inline, SelectionSetTree, set}

@@ -1,9 +1,9 @@
 -- The language of schemas of version 0.4.1: schemas have no descriptions and no extensions.
-use Rattle.std.specs.Prelude.{◌≡◌, ℕ, List, [], ◌∷◌, ◌++◌, codes, take, drop, None}
-use Rattle.graphql_core.specs.{Grammar, Expr, Then, Either, Sym, with_tables, word, Language}
+use Rattle.std.specs.Prelude.{◌≡◌, ◌-◌, ℕ, List, [], ◌++◌, codes, take, None}
+use Rattle.graphql_core.specs.{Grammar, Expr, Then, Either, Sym, with_rule, with_tables, shared_symbols, word, Language}
 use Rattle.std.specs.List.{AllByRecursion}
-use Rattle.graphql_schema.specs.Grammar.{schema_grammar, rules, schema_symbol, extension_symbol, described_symbol}
-use Rattle.graphql_schema.specs.Grammar.{type_body_symbol}
+use Rattle.graphql_schema.specs.Grammar.{schema_grammar, rules, item_symbol, schema_symbol, extension_symbol}
+use Rattle.graphql_schema.specs.Grammar.{described_symbol, type_body_symbol, schema_extension_symbol}
 use Rattle.graphql_schema.specs.Tree.{DefinitionTree, schema, schema_extension, DocumentTree}
 use Rattle.graphql_schema.specs.Language.{schemas}
 use Rattle.graphql_core.specs.values.Grammar as shared
@@ -19,7 +19,9 @@ extension_rule_0_4_1 = Then (word (codes "extend")) (Sym type_body_symbol)
 
 -- The other productions are the same. The last two are left out: only extensions of the schema use them.
 abbrev pub rules_0_4_1 : List Expr
-rules_0_4_1 = take 1 rules ++ item_rule_0_4_1 ∷ take 2 (drop 2 rules) ++ extension_rule_0_4_1 ∷ take 21 (drop 5 rules)
+rules_0_4_1 =
+    take (schema_extension_symbol - shared_symbols)
+    (with_rule item_symbol item_rule_0_4_1 (with_rule extension_symbol extension_rule_0_4_1 rules))
 
 abbrev pub schema_0_4_1 : Grammar
 schema_0_4_1 =

@@ -1,11 +1,11 @@
 -- The grammar of schema documents, as written, and the equivalent rules that the parser follows.
 use Rattle.std.specs.Prelude.{ℕ, zero, suc, ◌+◌, Bool, true, not, ◌&&◌, ◌==◌, if◌then◌else◌, codes, List, [], ◌∷◌, ◌++◌}
-use Rattle.std.specs.Prelude.{drop, replicate, is_some}
+use Rattle.std.specs.Prelude.{drop, length, replicate, is_some}
 use Rattle.graphql_core.specs.{is_row, out_of_head, out_of_sides, Token, Class, Except, matches, Expr, One, Then}
 use Rattle.graphql_core.specs.{Either, Many, Sym, ParseTree, Nothing, Leaf, Both, First, Second, Stop, More, Node, Row}
-use Rattle.graphql_core.specs.{optional, some_of, solve, with_tables, Change, unchanged, type_symbol}
-use Rattle.graphql_core.specs.{directives_symbol, directive_symbol, default_symbol, shared_symbols, punctuator, word}
-use Rattle.graphql_core.specs.{any, location_class, sample, Grammar, name}
+use Rattle.graphql_core.specs.{optional, some_of, solve, with_tables, Change, replaced, unchanged, with_rule}
+use Rattle.graphql_core.specs.{type_symbol, directives_symbol, directive_symbol, default_symbol, shared_symbols}
+use Rattle.graphql_core.specs.{punctuator, word, any, location_class, sample, Grammar, name}
 use Rattle.graphql_core.specs.declared.tokenizer.token.Kind.TheVariants.{Punctuator, Name, StringValue, BlockString}
 use Rattle.graphql_schema.specs.Locations.{is_location}
 use Rattle.graphql_schema.specs.Tree.{extends}
@@ -20,85 +20,85 @@ abbrev pub document_symbol : ℕ
 document_symbol = shared_symbols
 
 abbrev pub item_symbol : ℕ
-item_symbol = 12
+item_symbol = document_symbol + 1
 
 abbrev pub schema_symbol : ℕ
-schema_symbol = 13
+schema_symbol = item_symbol + 1
 
 abbrev pub root_type_symbol : ℕ
-root_type_symbol = 14
+root_type_symbol = schema_symbol + 1
 
 abbrev pub extension_symbol : ℕ
-extension_symbol = 15
+extension_symbol = root_type_symbol + 1
 
 abbrev pub described_symbol : ℕ
-described_symbol = 16
+described_symbol = extension_symbol + 1
 
 abbrev pub description_symbol : ℕ
-description_symbol = 17
+description_symbol = described_symbol + 1
 
 abbrev pub type_body_symbol : ℕ
-type_body_symbol = 18
+type_body_symbol = description_symbol + 1
 
 abbrev pub scalar_symbol : ℕ
-scalar_symbol = 19
+scalar_symbol = type_body_symbol + 1
 
 abbrev pub object_symbol : ℕ
-object_symbol = 20
+object_symbol = scalar_symbol + 1
 
 abbrev pub interface_symbol : ℕ
-interface_symbol = 21
+interface_symbol = object_symbol + 1
 
 abbrev pub implements_symbol : ℕ
-implements_symbol = 22
+implements_symbol = interface_symbol + 1
 
 abbrev pub fields_symbol : ℕ
-fields_symbol = 23
+fields_symbol = implements_symbol + 1
 
 abbrev pub field_symbol : ℕ
-field_symbol = 24
+field_symbol = fields_symbol + 1
 
 abbrev pub argument_definitions_symbol : ℕ
-argument_definitions_symbol = 25
+argument_definitions_symbol = field_symbol + 1
 
 abbrev pub input_value_symbol : ℕ
-input_value_symbol = 26
+input_value_symbol = argument_definitions_symbol + 1
 
 abbrev pub union_symbol : ℕ
-union_symbol = 27
+union_symbol = input_value_symbol + 1
 
 abbrev pub members_symbol : ℕ
-members_symbol = 28
+members_symbol = union_symbol + 1
 
 abbrev pub enum_symbol : ℕ
-enum_symbol = 29
+enum_symbol = members_symbol + 1
 
 abbrev pub enum_values_symbol : ℕ
-enum_values_symbol = 30
+enum_values_symbol = enum_symbol + 1
 
 abbrev pub enum_value_symbol : ℕ
-enum_value_symbol = 31
+enum_value_symbol = enum_values_symbol + 1
 
 abbrev pub input_symbol : ℕ
-input_symbol = 32
+input_symbol = enum_value_symbol + 1
 
 abbrev pub input_fields_symbol : ℕ
-input_fields_symbol = 33
+input_fields_symbol = input_symbol + 1
 
 abbrev pub directive_definition_symbol : ℕ
-directive_definition_symbol = 34
+directive_definition_symbol = input_fields_symbol + 1
 
 abbrev pub locations_symbol : ℕ
-locations_symbol = 35
+locations_symbol = directive_definition_symbol + 1
 
 abbrev pub location_symbol : ℕ
-location_symbol = 36
+location_symbol = locations_symbol + 1
 
 abbrev pub schema_extension_symbol : ℕ
-schema_extension_symbol = 37
+schema_extension_symbol = location_symbol + 1
 
 abbrev pub roots_symbol : ℕ
-roots_symbol = 38
+roots_symbol = schema_extension_symbol + 1
 
 -- ---- single tokens
 
@@ -297,11 +297,8 @@ described_second =
 
 abbrev pub second_rules : List Expr
 second_rules =
-    document_rule ∷ item_second ∷ schema_rule ∷ root_type_rule ∷ extension_second ∷ described_second ∷ description_rule
-    ∷ type_body_rule ∷ scalar_rule ∷ object_rule ∷ interface_rule ∷ implements_rule ∷ fields_rule ∷ field_rule
-    ∷ argument_definitions_rule ∷ input_value_rule
-    ∷ union_rule ∷ members_rule ∷ enum_rule ∷ enum_values_rule ∷ enum_value_rule ∷ input_rule ∷ input_fields_rule
-    ∷ directive_definition_rule ∷ locations_rule ∷ location_rule ∷ schema_extension_rule ∷ roots_rule ∷ []
+    with_rule item_symbol item_second
+    (with_rule extension_symbol extension_second (with_rule described_symbol described_second rules))
 
 -- `extend scalar a @a`: the parse tree of an accepted extension
 abbrev pub least_extension : ParseTree
@@ -330,8 +327,8 @@ takes c t = matches c t && is_good c t
 
 unfoldable pub tables : List Row
 tables =
-    with_least 4 least_extension
-    (with_least 26 least_schema_extension (drop shared_symbols (solve takes samples 12 (shared.rules ++ second_rules))))
+    drop shared_symbols (with_least extension_symbol least_extension
+    (with_least schema_extension_symbol least_schema_extension (solve takes samples 12 (shared.rules ++ second_rules))))
 
 abbrev pub second_rows : List Row
 second_rows = shared.rows ++ with_tables second_rules tables
@@ -339,9 +336,9 @@ second_rows = shared.rows ++ with_tables second_rules tables
 -- how parse trees of the second rules become parse trees of the written ones
 abbrev pub changes : List Change
 changes =
-    replicate shared_symbols unchanged
-    ++ unchanged ∷ out_of_sides described_symbol ∷ unchanged ∷ unchanged ∷ out_of_head ∷ out_of_head
-    ∷ replicate 22 unchanged
+    replaced item_symbol (out_of_sides described_symbol)
+    (replaced extension_symbol out_of_head
+    (replaced described_symbol out_of_head (replicate (shared_symbols + length rules) unchanged)))
 
 -- ---- why there are second rules
 

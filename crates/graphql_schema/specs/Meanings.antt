@@ -1,16 +1,14 @@
 -- The documents that parse trees of schemas denote, a line or two for each production.
-use Rattle.std.specs.Prelude.{ℕ, false, List, [], ◌∷◌, Option, Some, None, codes, cond}
+use Rattle.std.specs.Prelude.{ℕ, false, List, [], ◌∷◌, Option, Some, None, codes}
 use Rattle.graphql_core.specs.{nowhere, ParseTree, Both, First, Second, Node, leaves, string_of, block_string_of, named}
 use Rattle.graphql_core.specs.{place_at, first_place, spelling_at, type_of, optional_default_of, directives_of}
 use Rattle.graphql_core.specs.{optional_of, optional_list_of, each_of, enclosed_of, is_there, joined_of}
-use Rattle.graphql_core.specs.{same_spelling, More}
 use Rattle.graphql_schema.specs.Roots.{Root, roots_of, roots_in, type_in}
 use Rattle.graphql_schema.specs.declared.location.DirectiveLocation.{DirectiveLocation}
 use Rattle.graphql_schema.specs.Locations.{location_of}
-use Rattle.graphql_schema.specs.Tree.{InputValueTree, FieldTree, EnumValueTree, SchemaTree, PartsTree, scalar}
-use Rattle.graphql_schema.specs.Tree.{object, interface, union, enum, input, BodyTree, DirectiveDefinitionTree}
-use Rattle.graphql_schema.specs.Tree.{DefinitionTree, schema, type_definition, extension, schema_extension}
-use Rattle.graphql_schema.specs.Tree.{directive, DocumentTree}
+use Rattle.graphql_schema.specs.Tree.{InputValueTree, FieldTree, EnumValueTree, SchemaTree, PartsTree, scalar, object}
+use Rattle.graphql_schema.specs.Tree.{interface, union, enum, input, BodyTree, DirectiveDefinitionTree, DefinitionTree}
+use Rattle.graphql_schema.specs.Tree.{schema, type_definition, extension, schema_extension, directive, DocumentTree}
 
 -- ---- parts of definitions
 

@@ -12,8 +12,8 @@ use Rattle.graphql_core.specs.declared.tokenizer.piece.Move.{Move}
 use Rattle.graphql_core.specs.declared.tokenizer.piece.Move.TheVariants.{Over, Down}
 use Rattle.graphql_core.specs.declared.tokenizer.piece.Nesting.{Nesting}
 use Rattle.graphql_core.specs.declared.tokenizer.piece.Nesting.TheVariants.{Level, Opens, Closes}
-use Rattle.graphql_core.specs.declared.tokenizer.piece.Piece.{Piece}
-use Rattle.graphql_core.specs.declared.tokenizer.piece.Piece.TheVariants.{AtEnd, Skips, Takes, Stops}
+use Rattle.graphql_core.specs.declared.tokenizer.piece.Taken.{Taken}
+use Rattle.graphql_core.specs.steps.Front.{FrontElement, AtEnd, Skips, Takes, Stops}
 use Rattle.graphql_core.specs.{Where, Item, Content, item_at, TokenContent, LexicalError, is_too_deep, openers_after}
 use Rattle.graphql_core.specs.{closers_after, past_token, past_ignored, last_item, token_then, contents, taken}
 use Rattle.graphql_core.specs.{is_space, is_blank, is_gap, HasContentsOf, too_deep, items, items_in, items_by, front}
@@ -39,7 +39,7 @@ same_last w v [] = refl
 same_last w v (b ∷ bs) = refl
 
 same_by : (f : Where → List ℕ → List Item) → ((w v : Where) (bytes : List ℕ) → SameBrackets w v → contents (f w bytes) ≡ contents (f v bytes))
-    → (w v : Where) (bytes : List ℕ) (x : Piece) → SameBrackets w v → contents (items_by f w bytes x) ≡ contents (items_by f v bytes x)
+    → (w v : Where) (bytes : List ℕ) (x : FrontElement) → SameBrackets w v → contents (items_by f w bytes x) ≡ contents (items_by f v bytes x)
 same_by f same w v bytes AtEnd e = refl
 same_by f same w v bytes Stops e = same_last w v bytes
 same_by f same w v bytes (Skips n m) e = same (past_ignored m n w) (past_ignored m n v) (drop n bytes) e
@@ -104,11 +104,11 @@ pub past_gap : (text : List ℕ) (len : ℕ) {after rest : List ℕ} {gap : ℕ}
 past_gap text len after_is within rest_is w = rw (rest_is, after_is) (gap_contents _ (drop len text) within w)
 
 -- the next item is a token; the others are those of the rest, ignoring positions
-pub lexeme_then_rest : (w v : Where) (text value after rest : List ℕ) (n : ℕ) (k : Kind) (t : Nesting) → Some (n, k, t) ≡ taken (front text)
-    → is_too_deep t w ≡ false → value ≡ take n text → after ≡ drop n text → HasContentsOf rest after
-    → v.openers ≡ openers_after t w.openers → v.closers ≡ closers_after t w.closers
-    → (x : Where) × (more : List Item) × (items w text ≡ item_at (TokenContent k value) x ∷ more) × (contents (items v rest) ≡ contents more)
-lexeme_then_rest w v text value after rest n k t is deep value_is after_is left openers closers =
-    let here = items_at w text (Takes n k t) (taken_front (front text) n k t (sym is)) in
-    let next = past_token t value w in
+pub lexeme_then_rest : (w v : Where) (text value after rest : List ℕ) (t : Taken) → Some t ≡ taken (front text)
+    → is_too_deep t.nesting w ≡ false → value ≡ take t.len text → after ≡ drop t.len text → HasContentsOf rest after
+    → v.openers ≡ openers_after t.nesting w.openers → v.closers ≡ closers_after t.nesting w.closers
+    → (x : Where) × (more : List Item) × (items w text ≡ item_at (TokenContent t.kind value) x ∷ more) × (contents (items v rest) ≡ contents more)
+lexeme_then_rest w v text value after rest t is deep value_is after_is left openers closers =
+    let here = items_at w text (Takes t.len t.kind t.nesting) (taken_front (front text) t (sym is)) in
+    let next = past_token t.nesting value w in
     (w, items next after, rw (value_is, after_is) (rw deep at here), left v ∙ same_contents v next after (openers, closers))

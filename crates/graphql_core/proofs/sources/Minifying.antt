@@ -1,7 +1,7 @@
 -- Spaced tokens are tokenized into exactly these tokens.
 use Rattle.std.proofs.Common.{◌≡◌, ℕ, Bool, true, false, not, ◌&&◌, ◌||◌, List, [], ◌∷◌, ◌++◌, length, map, refl, sym, ap, ◌∙◌, subst, arith}
 use Rattle.std.proofs.lemmas.Bool.Decides.{nat_tests}
-use Rattle.graphql_core.specs.declared.tokenizer.piece.Piece.TheVariants.{AtEnd}
+use Rattle.graphql_core.specs.steps.Front.{AtEnd}
 use Rattle.graphql_core.specs.{name_token, punctuator_token, BeginsNone, ignored_space}
 use Rattle.graphql_core.specs.{is_punctuator_byte, Meaning, Ignored, Word, Stands, spread_token, integer_token, float_token}
 use Rattle.graphql_core.specs.{string_token, block_string_token, Piece, IsCutInto, LexicalError, openers_after}

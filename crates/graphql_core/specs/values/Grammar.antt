@@ -1,51 +1,55 @@
 -- The productions that queries and schemas share, as they are written.
-use Rattle.std.specs.Prelude.{ℕ, true, List, [], ◌∷◌, codes}
+use Rattle.std.specs.Prelude.{ℕ, ◌+◌, ◌-◌, true, List, [], ◌∷◌, codes}
 use Rattle.graphql_core.specs.grammar.{Except, Token, Class, Spelled, AnyOf, nowhere, matches, optional, Expr, One}
-use Rattle.graphql_core.specs.grammar.{Then, Either, Many, Sym, Row, Grammar, some_of, solve, with_tables}
+use Rattle.graphql_core.specs.grammar.{Then, Either, Many, Sym, Row, Grammar, some_of, solve, with_tables, replaced}
 use Rattle.graphql_core.specs.sources.{kind_number}
 use Rattle.graphql_core.specs.declared.tokenizer.token.Kind.{Kind}
 use Rattle.graphql_core.specs.declared.tokenizer.token.Kind.TheVariants.{Punctuator, Name, IntValue, FloatValue}
 use Rattle.graphql_core.specs.declared.tokenizer.token.Kind.TheVariants.{StringValue, BlockString}
 use Rattle.graphql_core.specs.values.Leaves.{is_good}
 
--- ---- the symbols
+-- ---- the symbols, by their index in the list of rules
 
 abbrev pub value_symbol : ℕ
 value_symbol = 0
 
 abbrev pub const_symbol : ℕ
-const_symbol = 1
+const_symbol = value_symbol + 1
 
 abbrev pub const_pair_symbol : ℕ
-const_pair_symbol = 2
+const_pair_symbol = const_symbol + 1
 
 abbrev pub plain_symbol : ℕ
-plain_symbol = 3
+plain_symbol = const_pair_symbol + 1
 
 abbrev pub enum_name_symbol : ℕ
-enum_name_symbol = 4
+enum_name_symbol = plain_symbol + 1
 
 abbrev pub type_symbol : ℕ
-type_symbol = 5
+type_symbol = enum_name_symbol + 1
 
 abbrev pub arguments_symbol : ℕ
-arguments_symbol = 6
+arguments_symbol = type_symbol + 1
 
 abbrev pub argument_symbol : ℕ
-argument_symbol = 7
+argument_symbol = arguments_symbol + 1
 
 abbrev pub directives_symbol : ℕ
-directives_symbol = 8
+directives_symbol = argument_symbol + 1
 
 abbrev pub directive_symbol : ℕ
-directive_symbol = 9
+directive_symbol = directives_symbol + 1
 
 abbrev pub default_symbol : ℕ
-default_symbol = 10
+default_symbol = directive_symbol + 1
 
 -- the number of symbols
 abbrev pub shared_symbols : ℕ
-shared_symbols = 11
+shared_symbols = default_symbol + 1
+
+-- the rules of a language, with another one for a symbol that is not shared
+abbrev pub with_rule : ℕ → Expr → List Expr → List Expr
+with_rule k rule rules = replaced (k - shared_symbols) rule rules
 
 -- ---- single tokens
 

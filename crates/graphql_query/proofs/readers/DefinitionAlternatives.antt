@@ -1,11 +1,9 @@
 -- The next token decides which operation or definition is read.
-use Rattle.std.proofs.Common.{◌≡◌, Bool, true, false, ◌||◌, List, [], ◌∷◌, Option, Some, None, codes, refl, ap, ◌∙◌}
-use Rattle.graphql_core.specs.{Token, Class, matches, Expr, Either, Many, Sym, ParseTree, First, Second, Node, peek}
-use Rattle.graphql_core.specs.{first, written, sees, Takes, turn_values, keyword, tables as shared_tables, each_of}
-use Rattle.graphql_core.specs.{Items, punctuator_class}
-use Rattle.graphql_core.proofs.{FailsUnseen, unseen_one, unseen_then, unseen_either, one_of, many_means, IsSide}
-use Rattle.graphql_core.proofs.{through, side_node, side_first, side_second, side_left, unseen_symbol, side_in}
-use Rattle.graphql_core.proofs.{side_nth, sees_both, sees_neither}
+use Rattle.std.proofs.Common.{◌≡◌, true, false, ◌||◌, List, [], ◌∷◌, None, codes, refl, ap, ◌∙◌}
+use Rattle.graphql_core.specs.{Token, Class, Expr, Either, Sym, ParseTree, First, Second, Node, peek, first, written}
+use Rattle.graphql_core.specs.{sees, keyword, tables as shared_tables, Items, punctuator_class}
+use Rattle.graphql_core.proofs.{FailsUnseen, unseen_one, unseen_then, unseen_either, IsSide, side_left, unseen_symbol}
+use Rattle.graphql_core.proofs.{side_in, side_nth, sees_both, sees_neither}
 use Rattle.graphql_query.specs.{DefinitionTree, operation, OperationKind, query_kind, mutation_kind}
 use Rattle.graphql_query.specs.{subscription_kind, reading, changes, second_rows, tables, definition_symbol}
 use Rattle.graphql_query.specs.{operation_symbol, selection_set_symbol, fragment_definition_symbol, keyword_of}

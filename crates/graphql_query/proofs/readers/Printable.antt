@@ -1,23 +1,20 @@
 -- What the grammar derives from an input is printable.
-use Rattle.std.proofs.Common.{◌≡◌, ◌≤◌, ◌-◌, ℕ, true, List, ◌∷◌, codes, refl, sym, subst, arith}
-use Rattle.graphql_core.proofs.{Nests, Anything, nests, HasRoom, room_nothing, room_leaf, room_both, room_first}
-use Rattle.graphql_core.proofs.{room_second, room_stop, room_more, room_node, has_room, room_back, all_turns}
-use Rattle.graphql_core.proofs.{nests_tree, leaf_name, leaf_except, all_within, optional_arguments_printable}
-use Rattle.graphql_core.proofs.{directives_printable, type_printable, some_printable, enclosed_printable}
-use Rattle.graphql_core.proofs.{each_of_both, optional_default_printable, part_printable, Within}
+use Rattle.std.proofs.Common.{◌≡◌, ◌≤◌, ℕ, true, List, ◌∷◌, codes, refl, arith}
+use Rattle.graphql_core.proofs.{Nests, Anything, HasRoom, room_nothing, room_leaf, room_both, room_first, room_second}
+use Rattle.graphql_core.proofs.{room_stop, room_more, room_node, room_back, leaf_name, leaf_except}
+use Rattle.graphql_core.proofs.{optional_arguments_printable, directives_printable, type_printable, some_printable}
+use Rattle.graphql_core.proofs.{enclosed_printable, each_of_both, optional_default_printable, part_printable, Within}
 use Rattle.std.specs.List.{AllByRecursion}
-use Rattle.std.specs.Option.{IfSome, option_map_or}
-use Rattle.graphql_core.specs.{Token, Place, Expr, Many, Sym, ParseTree, Both, leaves, optional, is_below, IsName, split}
-use Rattle.graphql_core.specs.{shared, default_symbol, shared_symbols, first_place, optional_default_of}
-use Rattle.graphql_core.specs.{IsPrintableDefault, value_brackets, optional_of, optional_list_of, enclosed_of}
-use Rattle.graphql_core.specs.{each_of, spelling_at, Items, name}
+use Rattle.std.specs.Option.{IfSome}
+use Rattle.graphql_core.specs.{Place, Expr, Many, Sym, ParseTree, Both, leaves, optional, is_below, IsName, shared}
+use Rattle.graphql_core.specs.{shared_symbols, first_place, optional_list_of, enclosed_of, each_of, spelling_at, Items}
 use Rattle.graphql_query.specs.{more, SelectionTree, SelectionSetTree, OperationKind, query_kind, mutation_kind}
 use Rattle.graphql_query.specs.{subscription_kind, DefinitionTree, operation, DocumentTree, set, none, query}
 use Rattle.graphql_query.specs.{document_symbol, definition_symbol, operation_symbol, operation_body_symbol}
 use Rattle.graphql_query.specs.{variable_definitions_symbol, variable_definition_symbol, selection_set_symbol}
 use Rattle.graphql_query.specs.{selection_symbol, field_symbol, alias_symbol, fragment_spread_symbol}
 use Rattle.graphql_query.specs.{inline_fragment_symbol, type_condition_symbol, alias_of, type_condition_of}
-use Rattle.graphql_query.specs.{fragment_spread_of, field_of, selected_of, inline_fragment_of, selection_of}
+use Rattle.graphql_query.specs.{fragment_spread_of, field_of, optional_selection_set_of, inline_fragment_of, selection_of}
 use Rattle.graphql_query.specs.{selection_set_of, selections_of, variable_definition_of, keyword_of, operation_of}
 use Rattle.graphql_query.specs.{definition_of, document_of, IsDocument, IsDocumentOf, queries, IsPrintable}
 use Rattle.graphql_query.specs.{IsPrintableSelection, IsPrintableSet, ArePrintableSelections, IsPrintableVariable}
@@ -66,8 +63,9 @@ mutual
       let (is, inside, e) = selected_printable (first_place (leaves (Both a m))) s in
       ((alias_printable alias, leaf_name refl called, values, are, is), inside, omega arith)
 
-  selected_printable : {n : ℕ} {x : ParseTree} (p : Place) → HasRoom query n (optional (Sym selection_set_symbol)) x → IsPrintableSet (selected_of p x)
-      × SelectInside (selected_of p x) × (selected_brackets (selected_of p x) ≤ n)
+  selected_printable : {n : ℕ} {x : ParseTree} (p : Place) → HasRoom query n (optional (Sym selection_set_symbol)) x
+      → IsPrintableSet (optional_selection_set_of p x) × SelectInside (optional_selection_set_of p x)
+      × (selected_brackets (optional_selection_set_of p x) ≤ n)
   selected_printable {n} p (room_first {x = s} f) =
       let (is, selects, inside, b) = selection_set_printable f in
       (is, inside, selected_within (selection_set_of s) n b)

@@ -1,12 +1,12 @@
 -- The grammar of queries is parsed exactly, and extends that of values, types and directives.
-use Rattle.std.proofs.Common.{Bool, true, List, [], drop, refl}
+use Rattle.std.proofs.Common.{◌+◌, Bool, true, List, [], length, drop, refl}
 use Rattle.graphql_core.proofs.{each_is_second, IsSecond-second, IsSecond-symbols, IsSecond-prefix, unchanged_then}
 use Rattle.graphql_core.proofs.{tests_alike, with_more, alone_before, IsReadable, one_cause}
-use Rattle.graphql_core.specs.{Grammar, Token, Class, Expr, row_at, Change, EachIsSecond, RefusesTokens, Extends}
+use Rattle.graphql_core.specs.{Grammar, Token, Class, Expr, Row, row_at, EachIsSecond, RefusesTokens, Extends}
 use Rattle.graphql_core.specs.{TestsAlike, shared, tables as shared_tables, shared_symbols, unquoted, name}
 use Rattle.graphql_query.specs.{queries, query, second_rows, changes, reading, tables, samples}
-use Rattle.graphql_query.specs.{fragment_spread_symbol, inline_fragment_symbol, alias_symbol, fragment_spread_rest}
-use Rattle.graphql_query.specs.{inline_fragment_rest, field_rest}
+use Rattle.graphql_query.specs.{selection_symbol, field_symbol, fragment_spread_symbol, inline_fragment_symbol}
+use Rattle.graphql_query.specs.{alias_symbol, fragment_spread_rest, inline_fragment_rest, field_rest}
 
 -- the written grammar with another test of leaves
 abbrev tested : (Class → Token → Bool) → Grammar
@@ -14,13 +14,13 @@ tested good = record { rows = query.rows; good = good; check = λ k x. true; sam
 
 each : (good : Class → Token → Bool) → EachIsSecond (tested good) second_rows changes
 each good = each_is_second g second_rows changes (
-    unchanged_then g second_rows changes 18 g.rows second_rows others refl (
+    unchanged_then g second_rows changes selection_symbol g.rows second_rows (drop selection_symbol changes) refl (
       IsSecond-second g second_rows changes _ _ _ _
           (IsSecond-symbols g second_rows changes fragment_spread_symbol inline_fragment_symbol _ fragment_spread_rest inline_fragment_rest refl refl refl refl
           (λ x. refl) (λ x. refl) (λ x. refl) (λ x. refl)),
       (
         IsSecond-prefix g second_rows changes alias_symbol name _ field_rest refl refl (λ x. refl) (λ x. refl),
-        unchanged_then g second_rows changes 6 (drop 20 g.rows) (drop 20 second_rows) [] refl tt,
+        unchanged_then g second_rows changes (length after) (drop (field_symbol + 1) g.rows) after [] refl tt,
       ),
     )
     )
@@ -28,8 +28,8 @@ each good = each_is_second g second_rows changes (
     g : Grammar
     g = tested good
 
-    others : List Change
-    others = drop 18 changes
+    after : List Row
+    after = drop (field_symbol + 1) second_rows
 
 -- no node is rejected
 none_refused : RefusesTokens query

@@ -1,25 +1,22 @@
 -- Which alternative of each choice in selections is read, and what it denotes.
 use Rattle.std.proofs.Common.{◌≡◌, ◌||◌, ℕ, true, false, List, [], ◌∷◌, Result, Ok, Err, Option, Some, None, refl, sym, ap, ◌∙◌, codes}
 use Rattle.std.proofs.Math.Bool.{or-false}
-use Rattle.graphql_core.specs.{takes_leaf, takes_stop, TakesOne, Token, Place, Class, matches, Expr, Empty, One}
-use Rattle.graphql_core.specs.{Then, Either, Many, Sym, ParseTree, Leaf, Both, First, Second, Nothing, Node, optional}
-use Rattle.graphql_core.specs.{peek, leaves, first, sees, Takes, takes_nothing, takes_both, takes_first}
-use Rattle.graphql_core.specs.{takes_second, takes_node, fails_one, fails_before, fails_after, fails_node, Reason}
-use Rattle.graphql_core.specs.{turn_values, Stops, written, TakesToken, sees_class, Gives, tables as shared_tables}
-use Rattle.graphql_core.specs.{any, keyword, directive_symbol, first_place, optional_arguments_of, directives_of}
-use Rattle.graphql_core.specs.{DirectiveTree, Grammar, Items, punctuator_class, name}
+use Rattle.graphql_core.specs.{takes_leaf, takes_stop, TakesOne, Token, Place, Class, matches, Expr, One, Then, Either}
+use Rattle.graphql_core.specs.{Many, Sym, ParseTree, Leaf, Both, First, Second, Node, peek, leaves, first}
+use Rattle.graphql_core.specs.{sees, Takes, takes_nothing, takes_both, takes_first, takes_second, takes_node, fails_one}
+use Rattle.graphql_core.specs.{fails_before, fails_after, fails_node, Reason, turn_values, Stops, written, TakesToken}
+use Rattle.graphql_core.specs.{sees_class, Gives, tables as shared_tables, any, keyword, directive_symbol, first_place}
+use Rattle.graphql_core.specs.{optional_arguments_of, directives_of, DirectiveTree, Grammar, Items, punctuator_class}
+use Rattle.graphql_core.specs.{name}
 use Rattle.graphql_core.specs.declared.helpers.read_error.ReadError.{ReadError}
-use Rattle.graphql_core.specs.declared.helpers.read_error.ReadError.TheVariants.{Memory, Integer, Float, Escape}
-use Rattle.graphql_core.specs.declared.helpers.read_error.ReadError.TheVariants.{Location, Item}
 use Rattle.graphql_core.specs.declared.tokenizer.token.Kind.TheVariants.{Name}
 use Rattle.graphql_core.proofs.{sees-within, FailsUnseen, unseen_one, unseen_then, takes_one, stops_one, takes_none}
-use Rattle.graphql_core.proofs.{one_of, many_means, IsSide, through, side_node, side_first, side_second, side_left}
-use Rattle.graphql_core.proofs.{side_right, unseen_symbol, Leads, past, none_within, side_in, side_nth, sees_both}
-use Rattle.graphql_core.proofs.{BegunBy}
+use Rattle.graphql_core.proofs.{one_of, many_means, IsSide, side_first, side_left, side_right, unseen_symbol, Leads}
+use Rattle.graphql_core.proofs.{past, none_within, side_in, side_nth, sees_both, BegunBy}
 use Rattle.graphql_query.specs.{more, Arguments, SelectionTree, SelectionSetTree, trees_of, field, inline, reading}
 use Rattle.graphql_query.specs.{changes, tables, spread_class, type_condition_symbol, selection_set_symbol}
 use Rattle.graphql_query.specs.{field_symbol, selection_symbol, field_rest, fragment_spread_rest}
-use Rattle.graphql_query.specs.{inline_fragment_rest, field_of, selected_of, selection_of, selections_of}
+use Rattle.graphql_query.specs.{inline_fragment_rest, field_of, optional_selection_set_of, selection_of, selections_of}
 use Rattle.graphql_query.specs.{first_names, alias_and_name_of, after_dots_of}
 use Rattle.graphql_query.proofs.readers.Lifted.{begun}
 
@@ -130,7 +127,7 @@ pub field_means : {ts us : List Token} (x y z s : ParseTree) → Takes reading f
     → (p : Place) (named : Option (List ℕ) × List ℕ) (arguments : Arguments) (directives : List DirectiveTree) (selected : SelectionSetTree)
     → first_place (leaves (written changes x)) ≡ p → named ≡ alias_and_name_of (written changes x) → arguments ≡ optional_arguments_of (written changes y)
     → directives ≡ directives_of (written changes z)
-    → selected ≡ selected_of p (written changes s)
+    → selected ≡ optional_selection_set_of p (written changes s)
     → field p named.0 named.1 arguments directives selected ≡ field_of (written changes (field_parse_tree x (Both y (Both z s))))
 field_means _ y z s (takes_both (takes_leaf i) (takes_first c (takes_both (takes_leaf h) (takes_leaf k)))) _ _ _ _ _ at names given listed selects = rw
     (at, names, given, listed, selects) refl

@@ -1,5 +1,5 @@
 //! Definitions.
-ghost use Rattle.std.specs.Prelude.{◌≡◌, map};
+ghost use Rattle.std.specs.Prelude.{◌≡◌};
 ghost use Rattle.graphql_core.specs.{Sym, some_of, kept, Shortens, each_of};
 ghost use Rattle.graphql_query.specs.{fragment_definition_view, definition_view, definitions_view};
 ghost use Rattle.graphql_query.specs.{fragment_definition_symbol, definition_symbol, fragment_definition_of};
@@ -31,8 +31,7 @@ fn fragment_definition<S: TokenSource>(
     let position = expect_keyword(source, "fragment")?;
     let name = expect_name(alloc, source)?;
     let type_condition = type_condition(alloc, source)?;
-    let mut directives = Vec::new(alloc);
-    directives::directives(alloc, source, &mut directives)?;
+    let directives = directives::directives(alloc, source)?;
     let selection_set = selection_set(alloc, source, scratch)?;
     Ok(FragmentDefinition {
         position,

@@ -67,25 +67,24 @@ fn spread_name<S: TokenSource>(
     expect_name(alloc, source)
 }
 
-/// `SpreadName Directives`: what follows the `...` of a spread. Appends the spread to `items`.
+/// `SpreadName Directives`: what follows the `...` of a spread. Appends the spread to `selections`.
 #[tactic(auto, using(graphql_core::proofs::readers::Reading::reading))]
-pub fn fragment_spread<S: TokenSource>(
+pub fn fragment_spread_after_dots<S: TokenSource>(
     alloc: Global,
     source: &mut S,
-    items: &mut Vec<Selection<S::Names>>,
+    selections: &mut Vec<Selection<S::Names>>,
 ) -> Result<(), ReadError>
     ensures reads { Reads fragment_spread_rest (S.items source.old) (S.items source.new)
-        (λ v x. Adds (selection_view S.Names.bytes) items.old.items items.new.items
+        (λ v x. Adds (selection_view S.Names.bytes) selections.old.items selections.new.items
         (fragment_spread_rest_of x ∷ [])) result }
     ensures kept { kept (S.items source.new) ≡ kept (S.items source.old) }
     ensures shorter { Shortens (S.items source.old) (S.items source.new) result }
 {
     let position = source.position();
     let fragment_name = spread_name(alloc, source)?;
-    let mut directives = Vec::new(alloc);
-    directives::directives(alloc, source, &mut directives)?;
-    items.reserve(1)?;
-    items.push_reserved(Selection::FragmentSpread(FragmentSpread {
+    let directives = directives::directives(alloc, source)?;
+    selections.reserve(1)?;
+    selections.push_reserved(Selection::FragmentSpread(FragmentSpread {
         position,
         fragment_name,
         directives,

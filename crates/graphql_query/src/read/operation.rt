@@ -1,6 +1,6 @@
 //! Operations and their variables.
-ghost use Rattle.std.specs.Prelude.{◌≡◌, ◌≤◌, OnOk, [], ◌∷◌, length, option_map};
-ghost use Rattle.graphql_core.specs.{Sym, optional, kept, place_of, Adds, Shortens, spelling_at, optional_of};
+ghost use Rattle.std.specs.Prelude.{◌≡◌, ◌≤◌, OnOk, length, map, option_map};
+ghost use Rattle.graphql_core.specs.{Sym, optional, kept, place_of, Shortens, spelling_at, optional_of};
 ghost use Rattle.graphql_core.specs.{optional_list_of, enclosed_of};
 ghost use Rattle.graphql_query.specs.Tree.{variable_definition_view, operation_view, operation, with_body};
 ghost use Rattle.graphql_query.specs.Tree.{VariableDefinitionTree};
@@ -109,8 +109,7 @@ impl<S: TokenSource> Elements<S> for VariableDefinitionList {
         expect_punctuator(source, Punctuator::Colon)?;
         let var_type = type_reference(alloc, source)?;
         let default_value = optional_default(alloc, source)?;
-        let mut directives = Vec::new(alloc);
-        directives::directives(alloc, source, &mut directives)?;
+        let directives = directives::directives(alloc, source)?;
         definitions.reserve(1)?;
         definitions.push_reserved(VariableDefinition {
             position,
@@ -127,16 +126,15 @@ impl<S: TokenSource> Elements<S> for VariableDefinitionList {
 fn optional_variable_definitions<S: TokenSource>(
     alloc: Global,
     source: &mut S,
-    definitions: &mut Vec<VariableDefinition<S::Names>>,
-) -> Result<(), ReadError>
+) -> Result<Vec<VariableDefinition<S::Names>>, ReadError>
     ensures reads { Reads (optional (Sym variable_definitions_symbol)) (S.items source.old) (S.items source.new)
-        (λ v x. Adds (variable_definition_view S.Names.bytes) definitions.old.items definitions.new.items
-        (optional_list_of (enclosed_of variable_definition_of) x)) result }
+        (λ v x. map (variable_definition_view S.Names.bytes) v.items
+        ≡ optional_list_of (enclosed_of variable_definition_of) x) result }
     ensures kept { kept (S.items source.new) ≡ kept (S.items source.old) }
     ensures within { OnOk result (length (S.items source.new).tokens ≤ length (S.items source.old).tokens) }
 {
     let (open, close) = (Punctuator::OpenParen, Punctuator::CloseParen);
-    optional_list::<S, VariableDefinitionList>(alloc, source, open, close, definitions)
+    optional_list::<S, VariableDefinitionList>(alloc, source, open, close, 0)
 }
 
 /// `OperationBody = Name? VariableDefinitions? Directives SelectionSet`.
@@ -153,10 +151,8 @@ fn operation_body<S: TokenSource>(
     ensures shorter { Shortens (S.items source.old) (S.items source.new) result }
 {
     let name = optional_name(alloc, source)?;
-    let mut variable_definitions = Vec::new(alloc);
-    optional_variable_definitions(alloc, source, &mut variable_definitions)?;
-    let mut directives = Vec::new(alloc);
-    directives::directives(alloc, source, &mut directives)?;
+    let variable_definitions = optional_variable_definitions(alloc, source)?;
+    let directives = directives::directives(alloc, source)?;
     let selection_set = selection_set(alloc, source, scratch)?;
     Ok(OperationBody {
         name,

@@ -1,43 +1,64 @@
-//! Selections.
+//! Readers of selections.
+//!
+//! A reader parses one production from `source` with one token of lookahead. `S.items source` is what is left of the
+//! source: its tokens, and then the end of the input or a lexical error. `source.old` is the source before the call,
+//! and `source.new` after it.
+//!
+//! `Reads e before after (λ value tree. ..) result` says of the production `e`:
+//!
+//! - `Ok(value)`: the consumed tokens have a parse tree `tree` of `e`, and the relation holds.
+//! - `Err(error)`: the error is the first one of `e`, and `after` begins at its token. Out of memory says nothing.
+//!
+//! `kept` says that the end of the input, or the lexical error in its place, is as before, also after an error. By
+//! `shorter` a reader that succeeds consumes a token. By `within` it does not go back.
+//!
+//! A function `.._view` maps a value of Rust to its model, and a function `.._of` maps a parse tree to the model that
+//! it denotes. `Adds view old new models` says that the list `new` is `old` and then elements with these models.
+//!
+//! All open selection sets share one list, `selections`. `{ a { b } c }` puts `b` on the list and takes it off at the
+//! inner `}`. Then it puts `a`, with its set, and `c` on the list, and takes both off at the outer `}`. So the list of
+//! a set is allocated once. After an error `selections` can also hold selections of sets that are still open.
 ghost use Rattle.std.specs.Prelude.{◌≡◌, ◌≤◌, ◌||◌, OnOk, [], ◌∷◌, length, codes};
 ghost use Rattle.graphql_core.specs.{Then, Sym, Either, optional, kept, place_of, sees_class, punctuator, any, Adds};
 ghost use Rattle.graphql_core.specs.{Shortens, punctuator_class};
 ghost use Rattle.graphql_core.specs.declared.tokenizer.token.Kind.TheVariants.{Name};
 ghost use Rattle.graphql_query.specs.{selection_view, selection_set_view, field_symbol, selection_set_symbol};
 ghost use Rattle.graphql_query.specs.{selection_symbol, fragment_spread_rest, inline_fragment_rest, field_of};
-ghost use Rattle.graphql_query.specs.{selected_of, inline_fragment_rest_of, selection_of, selection_set_of, Reads};
-ghost use Rattle.graphql_query.specs.{AddsSet, after_dots_of};
+ghost use Rattle.graphql_query.specs.{optional_selection_set_of, inline_fragment_rest_of, selection_of};
+ghost use Rattle.graphql_query.specs.{selection_set_of, Reads, AddsSet, after_dots_of};
 
 use crate::read::alias::alias_and_name;
-use crate::read::fragment::{fragment_spread, optional_type_condition, sees_spread_name};
+use crate::read::fragment::{
+    fragment_spread_after_dots, optional_type_condition, sees_spread_name,
+};
 use crate::tree::{Field, InlineFragment, Selection, SelectionSet};
 use graphql_core::common::read::directives::{self, optional_arguments};
 use graphql_core::helpers::{Punctuator, ReadError, TokenSource, expect_punctuator, split_list};
 use graphql_core::position::Pos;
 use std::alloc::Global;
 
-/// `Field = Alias? Name Arguments? Directives SelectionSet?`, where `Alias = Name ":"`. Appends the field to `items`.
+/// `Field = Alias? Name Arguments? Directives SelectionSet?`, where `Alias = Name ":"`.
+/// Appends the field to `selections`.
 #[cycle(reading)]
 #[tactic(auto, using(graphql_core::proofs::readers::Reading::reading))]
 fn field<S: TokenSource>(
     alloc: Global,
     source: &mut S,
-    items: &mut Vec<Selection<S::Names>>,
+    selections: &mut Vec<Selection<S::Names>>,
 ) -> Result<(), ReadError>
     ensures reads { Reads (Sym field_symbol) (S.items source.old) (S.items source.new)
-        (λ v x. Adds (selection_view S.Names.bytes) items.old.items items.new.items (field_of x ∷ [])) result }
+        (λ v x. Adds (selection_view S.Names.bytes) selections.old.items selections.new.items
+        (field_of x ∷ [])) result }
     ensures kept { kept (S.items source.new) ≡ kept (S.items source.old) }
     ensures shorter { Shortens (S.items source.old) (S.items source.new) result }
 {
     let position = source.position();
     let (alias, name) = alias_and_name(alloc, source)?;
-    let mut arguments = Vec::new(alloc);
-    optional_arguments(alloc, source, &mut arguments)?;
-    let mut directives = Vec::new(alloc);
-    directives::directives(alloc, source, &mut directives)?;
-    let selection_set = optional_selection_set(alloc, source, position, items)?;
-    items.reserve(1)?;
-    items.push_reserved(Selection::Field(Field {
+    let arguments = optional_arguments(alloc, source)?;
+    let directives = directives::directives(alloc, source)?;
+    let selection_set = optional_selection_set(alloc, source, position, selections)?;
+    selections.reserve(1)?;
+    selections.push_reserved(Selection::Field(Field {
         position,
         alias,
         name,
@@ -48,7 +69,7 @@ fn field<S: TokenSource>(
     Ok(())
 }
 
-/// `SelectionSet?` of the field at `position`. Selections are collected at the end of `others` and removed again.
+/// `SelectionSet?` of the field at `position`; without braces, an empty set there.
 #[cycle(reading)]
 #[inline(always)]
 #[tactic(auto, using(graphql_core::proofs::readers::Reading::reading))]
@@ -56,11 +77,12 @@ fn optional_selection_set<S: TokenSource>(
     alloc: Global,
     source: &mut S,
     position: Pos,
-    others: &mut Vec<Selection<S::Names>>,
+    selections: &mut Vec<Selection<S::Names>>,
 ) -> Result<SelectionSet<S::Names>, ReadError>
     ensures reads { Reads (optional (Sym selection_set_symbol)) (S.items source.old) (S.items source.new)
-        (λ v x. selection_set_view S.Names.bytes v ≡ selected_of (place_of position) x) result }
-    ensures others { OnOk result (Adds (selection_view S.Names.bytes) others.old.items others.new.items []) }
+        (λ v x. selection_set_view S.Names.bytes v ≡ optional_selection_set_of (place_of position) x) result }
+    ensures restored { OnOk result
+        (Adds (selection_view S.Names.bytes) selections.old.items selections.new.items []) }
     ensures kept { kept (S.items source.new) ≡ kept (S.items source.old) }
     ensures within { OnOk result (length (S.items source.new).tokens ≤ length (S.items source.old).tokens) }
 {
@@ -70,31 +92,30 @@ fn optional_selection_set<S: TokenSource>(
             items: Vec::new(alloc),
         });
     }
-    selection_set(alloc, source, others)
+    selection_set(alloc, source, selections)
 }
 
-/// `TypeCondition? Directives SelectionSet`: what follows the `...` of an inline fragment.
-/// Appends the fragment to `items`.
+/// `TypeCondition? Directives SelectionSet`: what follows the `...` of an inline fragment. Appends the fragment to
+/// `selections`; its position is that of the token after the dots.
 #[cycle(reading)]
 #[tactic(auto, using(graphql_core::proofs::readers::Reading::reading))]
-fn inline_fragment<S: TokenSource>(
+fn inline_fragment_after_dots<S: TokenSource>(
     alloc: Global,
     source: &mut S,
-    items: &mut Vec<Selection<S::Names>>,
+    selections: &mut Vec<Selection<S::Names>>,
 ) -> Result<(), ReadError>
     ensures reads { Reads inline_fragment_rest (S.items source.old) (S.items source.new)
-        (λ v x. Adds (selection_view S.Names.bytes) items.old.items items.new.items
+        (λ v x. Adds (selection_view S.Names.bytes) selections.old.items selections.new.items
         (inline_fragment_rest_of x ∷ [])) result }
     ensures kept { kept (S.items source.new) ≡ kept (S.items source.old) }
     ensures shorter { Shortens (S.items source.old) (S.items source.new) result }
 {
     let position = source.position();
     let type_condition = optional_type_condition(alloc, source)?;
-    let mut directives = Vec::new(alloc);
-    directives::directives(alloc, source, &mut directives)?;
-    let selection_set = selection_set(alloc, source, items)?;
-    items.reserve(1)?;
-    items.push_reserved(Selection::InlineFragment(InlineFragment {
+    let directives = directives::directives(alloc, source)?;
+    let selection_set = selection_set(alloc, source, selections)?;
+    selections.reserve(1)?;
+    selections.push_reserved(Selection::InlineFragment(InlineFragment {
         position,
         type_condition,
         directives,
@@ -104,44 +125,46 @@ fn inline_fragment<S: TokenSource>(
 }
 
 /// `FragmentSpread = "..." SpreadName Directives`, `InlineFragment = "..." TypeCondition? Directives SelectionSet`.
-/// Appends the selection to `items`.
+/// Appends the selection to `selections`.
 #[cycle(reading)]
 #[tactic(auto, using(graphql_core::proofs::readers::Reading::reading))]
 fn fragment_selection<S: TokenSource>(
     alloc: Global,
     source: &mut S,
-    items: &mut Vec<Selection<S::Names>>,
+    selections: &mut Vec<Selection<S::Names>>,
 ) -> Result<(), ReadError>
     ensures reads { Reads (Then (punctuator (codes "...")) (Either fragment_spread_rest inline_fragment_rest))
         (S.items source.old) (S.items source.new)
-        (λ v x. Adds (selection_view S.Names.bytes) items.old.items items.new.items (after_dots_of x ∷ [])) result }
+        (λ v x. Adds (selection_view S.Names.bytes) selections.old.items selections.new.items
+        (after_dots_of x ∷ [])) result }
     ensures kept { kept (S.items source.new) ≡ kept (S.items source.old) }
     ensures shorter { Shortens (S.items source.old) (S.items source.new) result }
 {
     expect_punctuator(source, Punctuator::Spread)?;
     if sees_spread_name(source) {
-        return fragment_spread(alloc, source, items);
+        return fragment_spread_after_dots(alloc, source, selections);
     }
-    inline_fragment(alloc, source, items)
+    inline_fragment_after_dots(alloc, source, selections)
 }
 
-/// `Selection = Field | FragmentSpread | InlineFragment`. Appends the selection to `items`.
+/// `Selection = Field | FragmentSpread | InlineFragment`. Appends the selection to `selections`.
 #[cycle(reading)]
 #[tactic(auto, using(graphql_core::proofs::readers::Reading::reading))]
 fn selection<S: TokenSource>(
     alloc: Global,
     source: &mut S,
-    items: &mut Vec<Selection<S::Names>>,
+    selections: &mut Vec<Selection<S::Names>>,
 ) -> Result<(), ReadError>
     ensures reads { Reads (Sym selection_symbol) (S.items source.old) (S.items source.new)
-        (λ v x. Adds (selection_view S.Names.bytes) items.old.items items.new.items (selection_of x ∷ [])) result }
+        (λ v x. Adds (selection_view S.Names.bytes) selections.old.items selections.new.items
+        (selection_of x ∷ [])) result }
     ensures kept { kept (S.items source.new) ≡ kept (S.items source.old) }
     ensures shorter { Shortens (S.items source.old) (S.items source.new) result }
 {
     if source.sees_punctuator(Punctuator::Spread) {
-        return fragment_selection(alloc, source, items);
+        return fragment_selection(alloc, source, selections);
     }
-    field(alloc, source, items)
+    field(alloc, source, selections)
 }
 
 /// Whether the next token can begin a selection.
@@ -152,46 +175,46 @@ fn sees_selection<S: TokenSource>(source: &S) -> bool
     source.sees_name() || source.sees_punctuator(Punctuator::Spread)
 }
 
-/// `"{" Selection+ "}"`. Returns the positions of the braces, and appends the selections to `items`.
+/// `"{" Selection+ "}"`. Returns the positions of the braces, and appends the selections to `selections`.
 #[cycle(reading)]
 #[tactic(auto, using(graphql_core::proofs::readers::Reading::reading))]
-fn selections<S: TokenSource>(
+fn selections_in_braces<S: TokenSource>(
     alloc: Global,
     source: &mut S,
-    items: &mut Vec<Selection<S::Names>>,
+    selections: &mut Vec<Selection<S::Names>>,
 ) -> Result<(Pos, Pos), ReadError>
     ensures reads { Reads (Sym selection_set_symbol) (S.items source.old) (S.items source.new)
-        (λ v x. AddsSet S.Names.bytes items.old.items items.new.items v (selection_set_of x)) result }
+        (λ v x. AddsSet S.Names.bytes selections.old.items selections.new.items v (selection_set_of x)) result }
     ensures kept { kept (S.items source.new) ≡ kept (S.items source.old) }
     ensures shorter { Shortens (S.items source.old) (S.items source.new) result }
 {
     let start = expect_punctuator(source, Punctuator::OpenBrace)?;
-    selection(alloc, source, items)?;
+    selection(alloc, source, selections)?;
     'more: while sees_selection(source) {
-        selection(alloc, source, items)?;
+        selection(alloc, source, selections)?;
     }
     let end = expect_punctuator(source, Punctuator::CloseBrace)?;
     Ok((start, end))
 }
 
-/// `SelectionSet = "{" Selection+ "}"`. Selections are collected at the end of `others` and then split off,
-/// so the list of a set is allocated once.
+/// `SelectionSet = "{" Selection+ "}"`. The selections are appended to `selections` and then split off.
 #[cycle(reading)]
 #[inline(always)]
 #[tactic(auto, using(graphql_core::proofs::readers::Reading::reading))]
 pub fn selection_set<S: TokenSource>(
     alloc: Global,
     source: &mut S,
-    others: &mut Vec<Selection<S::Names>>,
+    selections: &mut Vec<Selection<S::Names>>,
 ) -> Result<SelectionSet<S::Names>, ReadError>
     ensures reads { Reads (Sym selection_set_symbol) (S.items source.old) (S.items source.new)
         (λ v x. selection_set_view S.Names.bytes v ≡ selection_set_of x) result }
-    ensures others { OnOk result (Adds (selection_view S.Names.bytes) others.old.items others.new.items []) }
+    ensures restored { OnOk result
+        (Adds (selection_view S.Names.bytes) selections.old.items selections.new.items []) }
     ensures kept { kept (S.items source.new) ≡ kept (S.items source.old) }
     ensures shorter { Shortens (S.items source.old) (S.items source.new) result }
 {
-    let count = others.len();
-    let span = selections(alloc, source, others)?;
-    let items = split_list(alloc, others, count)?;
+    let start = selections.len();
+    let span = selections_in_braces(alloc, source, selections)?;
+    let items = split_list(alloc, selections, start)?;
     Ok(SelectionSet { span, items })
 }

@@ -17,20 +17,18 @@ use Rattle.graphql_core.proofs.{in_parentheses_back, type_back, directives_back,
 use Rattle.std.specs.List.{AllByRecursion, flat_map}
 use Rattle.graphql_core.specs.declared.tokenizer.token.Kind.TheVariants.{Punctuator, StringValue, BlockString}
 use Rattle.graphql_core.specs.declared.tokenizer.piece.Nesting.TheVariants.{Level}
-use Rattle.graphql_schema.specs.{InputValueTree, FieldTree, EnumValueTree, PartsTree, scalar, object, interface}
-use Rattle.graphql_schema.specs.{union, enum, input, BodyTree, erase_input_value, erase_field, erase_enum_value}
-use Rattle.graphql_schema.specs.{erase_parts, erase_body, joined_by, description_symbol, type_body_symbol}
-use Rattle.graphql_schema.specs.{implements_symbol, fields_symbol, field_symbol, argument_definitions_symbol}
-use Rattle.graphql_schema.specs.{input_value_symbol, members_symbol, enum_value_symbol, enum_values_symbol}
-use Rattle.graphql_schema.specs.{input_fields_symbol, schema_grammar, description_of, input_value_of, field_of}
-use Rattle.graphql_schema.specs.{enum_value_of, interfaces_of, members_of, body_of, description_layout}
+use Rattle.graphql_schema.specs.{InputValueTree, FieldTree, EnumValueTree, PartsTree, scalar, object, interface, union}
+use Rattle.graphql_schema.specs.{enum, input, BodyTree, erase_input_value, erase_field, erase_enum_value, erase_parts}
+use Rattle.graphql_schema.specs.{erase_body, joined_by, description_symbol, type_body_symbol, implements_symbol}
+use Rattle.graphql_schema.specs.{fields_symbol, field_symbol, argument_definitions_symbol, input_value_symbol}
+use Rattle.graphql_schema.specs.{members_symbol, enum_value_symbol, schema_grammar, description_of, input_value_of}
+use Rattle.graphql_schema.specs.{field_of, enum_value_of, interfaces_of, members_of, body_of, description_layout}
 use Rattle.graphql_schema.specs.{inline_layout, later_names, joined_names, interfaces_layout, members_layout}
-use Rattle.graphql_schema.specs.{block_layout, input_value_layout, arguments_layout, input_field_layout}
-use Rattle.graphql_schema.specs.{field_layout, enum_value_layout, body_layout, IsPrintableInputValue}
-use Rattle.graphql_schema.specs.{IsPrintableField, IsPrintableEnumValue, ArePrintableParts, IsPrintableBody}
-use Rattle.graphql_schema.specs.{input_value_brackets, field_brackets, enum_value_brackets, parts_brackets}
-use Rattle.graphql_schema.specs.{body_brackets, IsLawfulInputValue, IsLawfulField, IsLawfulEnumValue, AreLawfulParts}
-use Rattle.graphql_schema.specs.{IsLawfulBody}
+use Rattle.graphql_schema.specs.{block_layout, input_value_layout, arguments_layout, input_field_layout, field_layout}
+use Rattle.graphql_schema.specs.{enum_value_layout, body_layout, IsPrintableInputValue, IsPrintableField}
+use Rattle.graphql_schema.specs.{IsPrintableEnumValue, ArePrintableParts, IsPrintableBody, input_value_brackets}
+use Rattle.graphql_schema.specs.{field_brackets, enum_value_brackets, parts_brackets, body_brackets, IsLawfulInputValue}
+use Rattle.graphql_schema.specs.{IsLawfulField, IsLawfulEnumValue, AreLawfulParts, IsLawfulBody}
 use Rattle.graphql_schema.proofs.readers.{shares, tested_alike, written_goes_on}
 
 -- what parses back in the shared grammar also parses back in schemas

@@ -1,10 +1,9 @@
 -- The layouts of schema documents parse back to them, ignoring positions.
 use Rattle.std.proofs.Common.{◌≡◌, ℕ, ◌≤◌, Bool, true, false, not, ◌||◌, cond, List, [], ◌∷◌, ◌++◌, Option, Some, None, is_some, codes, map, refl, sym, ap}
 use Rattle.std.proofs.Common.{ap₂, subst, ◌∙◌, arith, append-nil}
-use Rattle.graphql_core.specs.{name_part, Many, Sym, ParseTree, Both, Node, optional, some_of, row, IsName, Layout, Part}
-use Rattle.graphql_core.specs.{gap, word, directives_of, most_enclosed, no_place, erase_all, AreLawfulDirectives}
-use Rattle.graphql_core.specs.{directives_brackets, directives_layout, has_any, is_there, each_of, same_spelling}
-use Rattle.graphql_core.specs.{First, Stop, More, spelling_at, AreReadBack}
+use Rattle.graphql_core.specs.{name_part, Many, Sym, ParseTree, Both, Node, optional, some_of, row, IsName, Layout}
+use Rattle.graphql_core.specs.{Part, gap, word, directives_of, most_enclosed, no_place, erase_all, AreLawfulDirectives}
+use Rattle.graphql_core.specs.{directives_brackets, directives_layout, has_any, is_there, AreReadBack}
 use Rattle.graphql_core.proofs.{same_parts, checked_back, seven_back, Any, means, margin_back, gap_back, then_gap}
 use Rattle.graphql_core.proofs.{word_back, punctuator_back, nothing_back, both_back, first_back, second_back, node_back}
 use Rattle.graphql_core.proofs.{stop_back, more_back, three_back, name_word, spaces_blank, both_of_each, some_back}
@@ -21,11 +20,10 @@ use Rattle.graphql_schema.specs.{IsLawfulDefinition, IsLawfulDocument, joined_na
 use Rattle.graphql_schema.specs.{schema_layout, repeatable_layout, directive_definition_layout, definition_layout}
 use Rattle.graphql_schema.specs.{layout, word_of, location_of, is_location, IsPrintable, IsPrintableSchema}
 use Rattle.graphql_schema.specs.{IsPrintableBody, IsPrintableDefinition, IsWholeDefinition, IsPrintableInputValue}
-use Rattle.graphql_schema.specs.{input_value_brackets, body_brackets, definition_brackets, InputValueTree}
-use Rattle.graphql_schema.specs.{SchemaTree, BodyTree, DirectiveDefinitionTree, DefinitionTree, schema}
-use Rattle.graphql_schema.specs.{type_definition, extension, schema_extension, directive, DocumentTree, adds}
-use Rattle.graphql_schema.specs.{has_operation, adds_to_schema, extends, erase_schema, erase_body, erase_directive}
-use Rattle.graphql_schema.specs.{erase_definition}
+use Rattle.graphql_schema.specs.{input_value_brackets, body_brackets, definition_brackets, InputValueTree, SchemaTree}
+use Rattle.graphql_schema.specs.{BodyTree, DirectiveDefinitionTree, DefinitionTree, schema, type_definition, extension}
+use Rattle.graphql_schema.specs.{schema_extension, directive, DocumentTree, adds, has_operation, adds_to_schema}
+use Rattle.graphql_schema.specs.{extends, erase_schema, erase_body, erase_directive, erase_definition}
 use Rattle.graphql_schema.specs.declared.location.DirectiveLocation.{DirectiveLocation}
 use Rattle.graphql_schema.proofs.readers.{extends_alike, location_named, location_name, readable}
 use Rattle.graphql_schema.proofs.layouts.PartsBack.{named_back, joined_back, braces_back, directives_in}

@@ -1,8 +1,7 @@
 -- Directive locations and directive definitions.
-use Rattle.std.proofs.Common.{◌≡◌, ℕ, Bool, true, false, List, [], ◌∷◌, ◌++◌, map, Result, Ok, Err, Option, Some, None, IsErrAnd, refl, sym, ap, subst, ◌∙◌}
-use Rattle.graphql_core.specs.{fails_value, Token, Place, Sym, ParseTree, Leaf, Node, peek, sees, Takes, Improper, Fails}
-use Rattle.graphql_core.specs.{fails_node, after, lexeme_token, any, location_class, Gives, Adds, IsNext, Shows}
-use Rattle.graphql_core.specs.{Items}
+use Rattle.std.proofs.Common.{◌≡◌, ℕ, Bool, true, false, List, [], ◌∷◌, map, Result, Ok, Err, Option, Some, None, IsErrAnd, refl, sym, ap, subst, ◌∙◌}
+use Rattle.graphql_core.specs.{fails_value, Token, Place, Sym, ParseTree, Leaf, Node, peek, sees, Takes, Improper}
+use Rattle.graphql_core.specs.{Fails, fails_node, after, lexeme_token, any, location_class, Gives, IsNext, Shows, Items}
 use Rattle.graphql_core.specs.declared.helpers.read_error.ReadError.{ReadError}
 use Rattle.graphql_core.specs.declared.tokenizer.token.Kind.TheVariants.{Name}
 use Rattle.graphql_core.proofs.{takes_token, next_matches, TakesNone, none_within, begun, took, lacks_last}
@@ -65,19 +64,9 @@ module _ {A : Type 0} where
   present_each [] = refl
   present_each (x ∷ xs) = ap (λ l. x ∷ l) (present_each xs)
 
-  present_more : (xs ys : List (Option A)) → present (xs ++ ys) ≡ present xs ++ present ys
-  present_more [] ys = refl
-  present_more (None ∷ xs) ys = present_more xs ys
-  present_more (Some x ∷ xs) ys = ap (λ l. x ∷ l) (present_more xs ys)
-
   -- if each option has a value
-  pub adds_present : (old new : List A) (os : List (Option A)) → Adds Some old new os → new ≡ old ++ present os
-  adds_present old new os adds =
-      sym (present_each new) ∙ ap present adds ∙ present_more (map Some old) os ∙ ap (λ (l : List A). l ++ present os) (present_each old)
-
-  -- what is appended to an empty list is the whole list
-  pub after_none : (old new more : List A) → old ≡ [] → new ≡ old ++ more → new ≡ more
-  after_none old new more none is = is ∙ ap (λ (l : List A). l ++ more) none
+  pub all_present : (xs : List A) (os : List (Option A)) → map Some xs ≡ os → xs ≡ present os
+  all_present xs os are = sym (present_each xs) ∙ ap present are
 
 -- ---- definitions
 

@@ -1,14 +1,12 @@
 -- Fields, arguments and values of enums: their parts, and lists of them in brackets.
 use Rattle.std.proofs.Common.{◌≡◌, ℕ, List, Option, codes, refl}
-use Rattle.graphql_core.specs.{Place, Sym, peek, first, sees, ValueTree, TypeTree, DirectiveTree, IsList, each_of}
-use Rattle.graphql_core.specs.{enclosed_of, Items, punctuator_class}
+use Rattle.graphql_core.specs.{Place, Sym, ValueTree, TypeTree, DirectiveTree, IsList, each_of}
+use Rattle.graphql_core.specs.{enclosed_of, punctuator_class}
 use Rattle.graphql_core.proofs.{is_list}
-use Rattle.graphql_schema.specs.{enum_value_of, field_of, input_value_of, tables, enum_values_symbol}
-use Rattle.graphql_schema.specs.{enum_value_symbol, fields_symbol, field_symbol, input_value_symbol}
-use Rattle.graphql_schema.specs.{argument_definitions_symbol, input_fields_symbol, InputValueTree, EnumValueTree}
-use Rattle.graphql_schema.specs.{FieldTree, as_written, sees_described_name}
+use Rattle.graphql_schema.specs.{enum_value_of, field_of, input_value_of, tables, enum_values_symbol, enum_value_symbol}
+use Rattle.graphql_schema.specs.{fields_symbol, field_symbol, input_value_symbol, argument_definitions_symbol}
+use Rattle.graphql_schema.specs.{input_fields_symbol, InputValueTree, EnumValueTree, FieldTree, as_written}
 use Rattle.graphql_schema.proofs.readers.Lifted.{reading}
-use Rattle.graphql_schema.proofs.readers.Lists.{begins_described_name}
 
 -- ---- trees with equal parts are equal
 
@@ -55,17 +53,3 @@ pub input_fields_list : IsList reading (punctuator_class (codes "{")) (punctuato
     input_fields_symbol (as_written (enclosed_of input_value_of))
 unfolding tables
 input_fields_list = is_list (as_written (each_of input_value_of)) refl (λ x. refl) (λ t. refl) (λ t. refl) refl refl refl (λ x y. refl) (λ t u x xs. refl)
-
--- ---- what can begin each
-
-pub enum_value_begins : (i : Items) → sees (first reading.rows (Sym enum_value_symbol)) (peek i.tokens) ≡ sees_described_name i
-unfolding tables
-enum_value_begins i = begins_described_name i
-
-pub field_begins : (i : Items) → sees (first reading.rows (Sym field_symbol)) (peek i.tokens) ≡ sees_described_name i
-unfolding tables
-field_begins i = begins_described_name i
-
-pub input_value_begins : (i : Items) → sees (first reading.rows (Sym input_value_symbol)) (peek i.tokens) ≡ sees_described_name i
-unfolding tables
-input_value_begins i = begins_described_name i

@@ -1,15 +1,14 @@
 -- What the grammar derives from an input is printable.
-use Rattle.std.proofs.Common.{◌≡◌, ◌≤◌, ℕ, max, Bool, true, false, cond, List, [], ◌∷◌, Option, Some, None, is_some, codes, refl, arith, sym, subst}
+use Rattle.std.proofs.Common.{◌≡◌, ◌≤◌, ℕ, max, Bool, true, false, cond, List, [], ◌∷◌, Option, Some, None, is_some, codes, refl, arith}
 use Rattle.graphql_core.proofs.{Nests, Anything, HasRoom, room_nothing, room_leaf, room_both, room_first}
-use Rattle.graphql_core.proofs.{room_second, room_stop, room_more, room_node, room_back, all_turns, nests, has_room}
-use Rattle.graphql_core.proofs.{nests_tree, leaf_name, all_within, directives_printable, type_printable}
+use Rattle.graphql_core.proofs.{room_second, room_stop, room_more, room_node, room_back, all_turns}
+use Rattle.graphql_core.proofs.{leaf_name, directives_printable, type_printable}
 use Rattle.graphql_core.proofs.{some_printable, enclosed_printable, each_of_both, optional_default_printable, Within}
 use Rattle.std.specs.List.{AllByRecursion}
-use Rattle.std.specs.Option.{IfSome, option_map_or}
+use Rattle.std.specs.Option.{IfSome}
 use Rattle.graphql_core.specs.{matches, Expr, Then, Many, Sym, ParseTree, optional, is_below, IsName, shared, punctuator}
 use Rattle.graphql_core.specs.{location_class, shared_symbols, spelling_at, most_enclosed, has_any, IsDocument}
-use Rattle.graphql_core.specs.{each_of, enclosed_of, optional_list_of, separated_of, joined_of, Token, some_of, split}
-use Rattle.graphql_core.specs.{default_symbol, optional_default_of, IsPrintableDefault, value_brackets, most}
+use Rattle.graphql_core.specs.{each_of, enclosed_of, optional_list_of, separated_of, joined_of, some_of}
 use Rattle.graphql_core.specs.{same_spelling, Items, name}
 use Rattle.std.proofs.lemmas.Bool.{and_parts}
 use Rattle.graphql_schema.specs.{Root, root_at, roots_of, type_in, is_good, document_symbol, item_symbol}

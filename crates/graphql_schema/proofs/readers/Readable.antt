@@ -1,5 +1,5 @@
 -- The grammar of schemas is parsed exactly, and extends that of values, types and directives.
-use Rattle.std.proofs.Common.{codes, ◌≡◌, ◌<◌, ◌==◌, ◌&&◌, ℕ, zero, suc, Bool, true, false, List, [], ◌∷◌, length, drop, Option, Some, inl, inr, refl, sym}
+use Rattle.std.proofs.Common.{codes, ◌≡◌, ◌<◌, ◌-◌, ◌==◌, ◌&&◌, ℕ, zero, suc, Bool, true, false, List, [], ◌∷◌, length, drop, Option, Some, inl, inr, refl, sym}
 use Rattle.std.proofs.Common.{subst, ◌∙◌, arith}
 use Rattle.std.proofs.lemmas.Bool.{both_ways, cases_Bool, and_parts}
 use Rattle.graphql_core.proofs.{each_is_second, IsSecond-head, unchanged_then, with_more, alone_before}
@@ -11,11 +11,15 @@ use Rattle.graphql_core.specs.{Extends, TestsAlike, CauseText, FaultText, shared
 use Rattle.graphql_core.specs.{shared_symbols, word, unquoted, is_good as leaves_good, reading}
 use Rattle.std.proofs.lemmas.Bool.Decides.{nat_tests}
 use Rattle.graphql_schema.specs.{location_of, is_good, rules, second_rules, second_rows, tables, changes, passes}
-use Rattle.graphql_schema.specs.{schema_symbol, extension_symbol, described_symbol, description_symbol}
+use Rattle.graphql_schema.specs.{document_symbol, item_symbol, schema_symbol, extension_symbol, described_symbol, description_symbol}
 use Rattle.graphql_schema.specs.{type_body_symbol, directive_definition_symbol, schema_extension_symbol}
 use Rattle.graphql_schema.specs.{schema_grammar, schemas, Lacks, said_of}
 
 -- ---- the second rules have the trees of the written ones, for any test of leaves and nodes
+
+-- the rules from this symbol on
+abbrev from : ℕ → List Row → List Row
+from k rs = drop (k - shared_symbols) rs
 
 -- if every node with an optional description is accepted
 each : (good : Class → Token → Bool) (check : ℕ → ParseTree → Bool) → ((x : ParseTree) → check described_symbol x ≡ true)
@@ -26,16 +30,17 @@ each good check pass =
     let qs : List Row = with_tables second_rules tables in
     let described : Expr = optional (Sym description_symbol) in
     each_is_second g second_rows changes (shared_rows g second_rows changes shared.rows ws qs (drop shared_symbols changes)
-    (unchanged_then g second_rows changes 1 ws qs (drop 12 changes) refl (
+    (unchanged_then g second_rows changes (item_symbol - document_symbol) ws qs (drop item_symbol changes) refl (
       IsSecond-sides g second_rows changes described_symbol described (Sym schema_symbol) (Sym extension_symbol) (Sym type_body_symbol)
           (Sym directive_definition_symbol) refl refl (λ x. refl) pass,
-      unchanged_then g second_rows changes 2 (drop 2 ws) (drop 2 qs) (drop 15 changes) refl (
-        IsSecond-head g second_rows changes (word (codes "extend")) (Sym type_body_symbol) (Sym schema_extension_symbol),
-        (
-          IsSecond-head g second_rows changes described (Sym type_body_symbol) (Sym directive_definition_symbol),
-          unchanged_then g second_rows changes 22 (drop 6 ws) (drop 6 qs) [] refl tt,
-        ),
-      ),
+      unchanged_then g second_rows changes (extension_symbol - schema_symbol) (from schema_symbol ws) (from schema_symbol qs)
+          (drop extension_symbol changes) refl (
+            IsSecond-head g second_rows changes (word (codes "extend")) (Sym type_body_symbol) (Sym schema_extension_symbol),
+            (
+              IsSecond-head g second_rows changes described (Sym type_body_symbol) (Sym directive_definition_symbol),
+              unchanged_then g second_rows changes (length (from description_symbol ws)) (from description_symbol ws) (from description_symbol qs) [] refl tt,
+            ),
+          ),
     )))
 
 -- ---- the grammar extends that of values, types and directives

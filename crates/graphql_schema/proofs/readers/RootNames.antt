@@ -2,12 +2,11 @@
 use Rattle.std.specs.Option.{option_or}
 use Rattle.std.proofs.Common.{append-nil, append_assoc, ◌≡◌, ℕ, Bool, true, false, not, if◌then◌else◌, cond, List, [], ◌∷◌, ◌++◌, Option, Some, None}
 use Rattle.std.proofs.Common.{option_map, is_some, codes, nat_eq, inl, inr, refl, sym, ap, subst, ◌∙◌}
-use Rattle.graphql_core.proofs.{same_spelling-true, same_text_spelling, BegunBy, there, Leads, into, side_node}
+use Rattle.graphql_core.proofs.{same_spelling-true, same_text_spelling, BegunBy}
 use Rattle.std.specs.Cmp.Lexicographic.{pointwise}
 use Rattle.graphql_core.specs.declared.common.cause.Cause.{Cause}
 use Rattle.graphql_core.specs.{Place, same_spelling, is_listed, ParseTree, written, CauseText, cause_text}
-use Rattle.graphql_core.specs.{unknown_operation, FaultText, tables as shared_tables, Token, Sym, First, Node}
-use Rattle.graphql_core.specs.{optional, row, peek, sees, punctuator_class}
+use Rattle.graphql_core.specs.{unknown_operation, FaultText, tables as shared_tables, punctuator_class}
 use Rattle.std.proofs.lemmas.Bool.{cases_Bool, false≢true}
 use Rattle.graphql_schema.specs.{fault_after, Root, root_at, type_in, RootFault, unknown, duplicate, root_names}
 use Rattle.graphql_schema.specs.{root_fault, root_cause, tables, changes, roots_symbol, HasRoots, Fills}
@@ -49,10 +48,14 @@ type_last : (rs : List Root) (r : Root) (w : List ℕ)
 type_last [] r w = refl
 type_last (q ∷ rs) r w = cond_last (same_spelling w q.name) q.type_name (type_in rs w) _ _ (type_last rs r w)
 
+stays : (rs : List Root) (r : Root) (w : List ℕ) → same_spelling w r.name ≡ false → type_in (rs ++ r ∷ []) w ≡ type_in rs w
+stays rs r w other =
+    type_last rs r w ∙ ap (λ b. option_or (type_in rs w) (cond b (Some r.type_name) None)) other ∙ or_none (type_in rs w)
+
 -- ---- what was read so far
 
 -- equal strings, and different strings
-pub is_text : (xs ys : List ℕ) → pointwise nat_eq xs ys ≡ true → xs ≡ ys
+is_text : (xs ys : List ℕ) → pointwise nat_eq xs ys ≡ true → xs ≡ ys
 is_text xs ys h = sym (same_spelling-true ys xs (sym (same_text_spelling xs ys) ∙ h))
 
 other_text : (n w : List ℕ) → pointwise nat_eq w w ≡ true → pointwise nat_eq n w ≡ false → same_spelling n w ≡ false
@@ -83,7 +86,7 @@ IsAdded bytes w is new rs = (option_map cause_text is ≡ option_map root_cause 
 
 module _ {N T : Type 0} (bytes : T → List ℕ) where
   -- no operation is wrong
-  pub faultless : (v : Roots N T) (rs : List Root) → is_some v.fault ≡ false → HasRoots bytes v rs → root_fault [] rs ≡ None
+  faultless : (v : Roots N T) (rs : List Root) → is_some v.fault ≡ false → HasRoots bytes v rs → root_fault [] rs ≡ None
   faultless v rs h k = no_error v.fault (root_fault [] rs) h k.fault
 
   -- then the first error with one more operation is that of this operation
@@ -141,20 +144,20 @@ module _ {N T : Type 0} (bytes : T → List ℕ) where
         ap (option_map bytes) stays ∙ sym (last ∙ ap (λ (o : Option (List ℕ)). option_or o (Some (bytes t))) (sym types)),
       )
 
-  -- the same for an equal name
-  pub filled_same : (n w : List ℕ) (v : Roots N T) (is : Option Cause) (old new : Option T) (t : T) (rs : List Root) → n ≡ w → same_spelling w w ≡ true
-      → is_listed w root_names ≡ true → is_some v.fault ≡ false → HasRoots bytes v rs → option_map bytes old ≡ type_in rs w → Fills n t old new v.fault is
+  -- the same for an equal name; the other operations stay
+  pub filled_same : (n w : List ℕ) (v : Roots N T) (is : Option Cause) (old new : Option T) (t : T) (rs : List Root)
+      → pointwise nat_eq n w ≡ true → same_spelling w w ≡ true → is_listed w root_names ≡ true → is_some v.fault ≡ false → HasRoots bytes v rs
+      → (root_fault [] rs ≡ None → option_map bytes old ≡ type_in rs w) → Fills n t old new v.fault is
       → IsAdded bytes w is new (rs ++ record { name = n; type_name = bytes t } ∷ [])
-  filled_same n w v is old new t rs same self known h k types =
-      subst (λ (m : List ℕ). Fills m t old new v.fault is
-      → IsAdded bytes w is new (rs ++ record { name = m; type_name = bytes t } ∷ []))
-      (sym same) (filled w v is old new t rs self known h k types)
-
--- the other operations stay
-pub stays : {T : Type 0} (bytes : T → List ℕ) (w : List ℕ) (rs : List Root) (r : Root) (s : Option T) → same_spelling w r.name ≡ false
-    → option_map bytes s ≡ type_in rs w → option_map bytes s ≡ type_in (rs ++ r ∷ []) w
-stays bytes w rs r s other h =
-    h ∙ sym (or_none (type_in rs w)) ∙ ap (λ (b : Bool). option_or (type_in rs w) (cond b (Some r.type_name) None)) (sym other) ∙ sym (type_last rs r w)
+      × ((u : List ℕ) (s : Option T) → same_spelling u w ≡ false → (root_fault [] rs ≡ None → option_map bytes s ≡ type_in rs u)
+      → option_map bytes s ≡ type_in (rs ++ record { name = n; type_name = bytes t } ∷ []) u)
+  filled_same n w v is old new t rs same self known h k types fills =
+      let good = faultless v rs h k in
+      let equal = is_text n w same in (
+        subst (λ (m : List ℕ). Fills m t old new v.fault is → IsAdded bytes w is new (rs ++ record { name = m; type_name = bytes t } ∷ []))
+            (sym equal) (filled w v is old new t rs self known h k (types good)) fills,
+        λ u s other stay. stay good ∙ sym (stays rs (record { name = n; type_name = bytes t }) u (ap (same_spelling u) equal ∙ other)),
+      )
 
 -- ---- the contents of the braces
 
@@ -167,24 +170,25 @@ pub roots_begin : BegunBy reading roots_symbol (punctuator_class (codes "{") ∷
 unfolding tables shared_tables
 roots_begin = record { something = refl; first = refl }
 
-pub roots_there : {ts : List Token} → sees (punctuator_class (codes "{") ∷ []) (peek ts) ≡ true
-    → Leads reading (optional (Sym roots_symbol)) (row reading roots_symbol).rule (λ x. First (Node roots_symbol x)) ts ts
-roots_there seen = into (there roots_begin seen) (side_node reading roots_symbol _ (λ x. refl))
-
 -- ---- the whole schema, or the extension
 
 -- an error with this cause at this position
-abbrev pub told_at : CauseText → Place → FaultText
+abbrev told_at : CauseText → Place → FaultText
 told_at c p = record { cause = c; place = p }
 
 -- if an operation is wrong, its error is reported
-pub fault_told : (u : Cause) (o : Option RootFault) (p : Place) → option_map cause_text (Some u) ≡ option_map root_cause o
+pub fault_told : (w : Option Cause) (u : Cause) (o : Option RootFault) (p q : Place) → w ≡ Some u → p ≡ q
+    → option_map cause_text w ≡ option_map root_cause o
     → (not (is_some o) ≡ false)
-    × (option_map (λ (f : RootFault). told_at (root_cause f) p) o ≡ Some (told_at (cause_text u) p))
-fault_told u None p e = none_some _ (sym e)
-fault_told u (Some f) p e = (refl, ap (option_map (λ (c : CauseText). told_at c p)) (sym e))
+    × (option_map (λ (f : RootFault). told_at (root_cause f) p) o ≡ Some (told_at (cause_text u) q))
+fault_told w u None p q is at e = none_some _ (sym e ∙ ap (option_map cause_text) is)
+fault_told w u (Some f) p q is at e = (
+  refl,
+  ap (option_map (λ (c : CauseText). told_at c p)) (sym e ∙ ap (option_map cause_text) is) ∙ ap (λ r. Some (told_at (cause_text u) r)) at,
+)
 
 -- if no operation is wrong, no error is reported
-pub none_told : (o : Option RootFault) → None ≡ option_map root_cause o → (not (is_some o) ≡ true) × (o ≡ None)
-none_told None e = (refl, refl)
-none_told (Some f) e = none_some _ e
+pub none_told : (w : Option Cause) (o : Option RootFault) → w ≡ None → option_map cause_text w ≡ option_map root_cause o
+    → (not (is_some o) ≡ true) × (o ≡ None)
+none_told w None is e = (refl, refl)
+none_told w (Some f) is e = none_some _ (sym (ap (option_map cause_text) is) ∙ e)

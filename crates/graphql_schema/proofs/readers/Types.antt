@@ -1,13 +1,12 @@
 -- Types by their kinds: the rule of a kind and what it denotes, and the alternative of a kind in a type body.
 use Rattle.std.proofs.Common.{◌≡◌, ℕ, true, false, List, [], ◌∷◌, Result, Ok, Err, Option, Some, None, codes, refl, ◌∙◌}
-use Rattle.graphql_core.specs.{all_apart, first, decides, Token, Place, Class, all_within, Expr, Empty, Then, Either}
+use Rattle.graphql_core.specs.{all_apart, Token, Place, Expr, Empty, Then}
 use Rattle.graphql_core.specs.{Sym, ParseTree, Both, First, Second, Node, peek, written, sees, Takes, takes_nothing}
 use Rattle.graphql_core.specs.{takes_both, takes_node, Reason, Fails, fails_before, fails_after, fails_node}
 use Rattle.graphql_core.specs.{TakesSome, Stops, keyword, word, directives_symbol, tables as shared_tables}
 use Rattle.graphql_core.specs.{DirectiveTree, Answered, reason_of, optional_list_of}
 use Rattle.graphql_core.specs.declared.helpers.read_error.ReadError.{ReadError}
-use Rattle.graphql_core.proofs.{sees-apart, sees-parts, IsSide, through, side_node, side_first, side_second, Leads}
-use Rattle.graphql_core.proofs.{into, side_in, side_nth}
+use Rattle.graphql_core.proofs.{sees-apart, sees-parts, IsSide, Leads, into, side_in, side_nth}
 use Rattle.graphql_schema.specs.{changes, tables, type_body_symbol, type_body_rule, body_by, no_body, body_of}
 use Rattle.graphql_schema.specs.{interfaces_of, PartsTree, BodyTree, kind_word, has_interfaces, symbol_of, means}
 use Rattle.graphql_schema.specs.{interfaces_rule, parts_rule, parts_of}

@@ -1,9 +1,7 @@
 //! The common part of a type definition and a type extension: keyword, name, directives and parts.
-ghost use Rattle.std.specs.Prelude.{◌≡◌};
 ghost use Rattle.graphql_schema.specs.Lawful.{IsLawfulBody, IsLawfulDefinition};
 ghost use Rattle.graphql_schema.specs.Layout.{body_layout, body_levels, definition_layout, definition_levels};
-ghost use Rattle.graphql_schema.specs.Views.{body_view};
-ghost use Rattle.graphql_schema.specs.steps.Body.{parts_seen, body_seen, outline_seen};
+ghost use Rattle.graphql_schema.specs.steps.Body.{body_seen, outline_seen};
 
 use crate::print::description::{levels_in_description, write_description};
 use crate::print::names::write_interfaces;

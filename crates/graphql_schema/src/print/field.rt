@@ -1,11 +1,10 @@
 //! Formatting fields, arguments, and the values of enums.
-ghost use Rattle.std.specs.Prelude.{◌≡◌, ◌+◌, ◌*◌, ◌^◌, ◌<◌, OnOk, map};
+ghost use Rattle.std.specs.Prelude.{◌+◌, ◌*◌, ◌^◌, ◌<◌, OnOk, map};
 ghost use Rattle.graphql_core.specs.{text_of, most};
 ghost use Rattle.std.specs.List.{AllByRecursion};
 ghost use Rattle.graphql_schema.specs.{IsLawfulInputValue, IsLawfulField, IsLawfulEnumValue, arguments_layout};
 ghost use Rattle.graphql_schema.specs.{input_value_layout, field_layout, enum_value_layout, input_value_levels};
-ghost use Rattle.graphql_schema.specs.{field_levels, enum_value_levels, input_value_view, field_view};
-ghost use Rattle.graphql_schema.specs.{enum_value_view};
+ghost use Rattle.graphql_schema.specs.{field_levels, enum_value_levels, input_value_view, field_view, enum_value_view};
 
 use crate::print::description::{
     levels_in_description, write_description, write_inline_description,

@@ -1,8 +1,8 @@
 //! Formatting lists of names: interfaces, members of unions, locations.
-ghost use Rattle.std.specs.Prelude.{◌≡◌, OnOk, List, map};
+ghost use Rattle.std.specs.Prelude.{OnOk, map};
 ghost use Rattle.graphql_core.specs.{text_of};
 ghost use Rattle.graphql_schema.specs.{between, joined_names, interfaces_layout, members_layout, locations_layout};
-ghost use Rattle.graphql_schema.specs.{repeatable_layout, word_of};
+ghost use Rattle.graphql_schema.specs.{repeatable_layout};
 
 use crate::location::DirectiveLocation;
 use graphql_core::common::Names;
@@ -17,7 +17,6 @@ fn write_between<S: Sink>(out: &mut S, separator: &str) -> Result<(), S::Error>
     out.push_str(" ")
 }
 
-/// Appends names separated by a punctuator.
 fn write_joined_names<S: Sink, N: Names>(
     out: &mut S,
     separator: &str,

@@ -71,7 +71,6 @@ impl<N: Names> Pretty for SchemaDefinition<N> {
     }
 }
 
-/// Whether an extension of the schema has an operation.
 fn has_operation<N: Names>(extension: &SchemaExtension<N>) -> bool
     ensures { result ≡ has_operation (schema_extension_view N.bytes extension.now) }
 {

@@ -1,5 +1,5 @@
 //! Directive definitions.
-ghost use Rattle.std.specs.Prelude.{◌≡◌, ◌≤◌, OnOk, None, Some, [], ◌∷◌, ◌++◌, length, codes};
+ghost use Rattle.std.specs.Prelude.{◌≡◌, ◌≤◌, OnOk, None, Some, [], ◌∷◌, length, codes};
 ghost use Rattle.graphql_core.specs.{Then, Sym, optional, kept, punctuator, word, Adds, Shortens, is_there};
 ghost use Rattle.graphql_core.specs.{separated_of};
 ghost use Rattle.graphql_schema.specs.{location_symbol, locations_symbol, directive_definition_symbol, location_at};
@@ -50,24 +50,25 @@ fn separated_location<S: TokenSource>(
     Ok(())
 }
 
-/// `Locations = "|"? Location ("|" Location)*`. Appends the locations to `locations`.
+/// `Locations = "|"? Location ("|" Location)*`
 #[tactic(auto, using(graphql_core::proofs::readers::Reading::reading))]
 fn locations<S: TokenSource>(
+    alloc: Global,
     source: &mut S,
-    locations: &mut Vec<DirectiveLocation>,
-) -> Result<(), ReadError>
+) -> Result<Vec<DirectiveLocation>, ReadError>
     ensures reads { Reads (Sym locations_symbol) (S.items source.old) (S.items source.new)
-        (λ v x. locations.new.items ≡ locations.old.items ++ locations_of x) result }
+        (λ v x. v.items ≡ locations_of x) result }
     ensures kept { kept (S.items source.new) ≡ kept (S.items source.old) }
     ensures shorter { Shortens (S.items source.old) (S.items source.new) result }
 {
+    let mut locations = Vec::new(alloc);
     optional_punctuator(source, Punctuator::Pipe)?;
     locations.push(location(source)?)?;
     'more: while source.sees_punctuator(Punctuator::Pipe) {
-        separated_location(source, locations)?;
+        separated_location(source, &mut locations)?;
     }
-    shrink_list(source, locations);
-    Ok(())
+    shrink_list(source, &mut locations);
+    Ok(locations)
 }
 
 /// `"repeatable"?`
@@ -99,12 +100,10 @@ pub fn directive_definition<S: TokenSource>(
     let position = expect_keyword(source, "directive")?;
     expect_punctuator(source, Punctuator::At)?;
     let name = expect_name(alloc, source)?;
-    let mut arguments = Vec::new(alloc);
-    optional_argument_definitions(alloc, source, &mut arguments)?;
+    let arguments = optional_argument_definitions(alloc, source)?;
     let repeatable = repeatable(source)?;
     expect_keyword(source, "on")?;
-    let mut locations = Vec::new(alloc);
-    self::locations(source, &mut locations)?;
+    let locations = locations(alloc, source)?;
     Ok(DirectiveDefinition {
         position,
         description: None,

@@ -32,6 +32,7 @@ impl<S: TokenSource> Elements<S> for EnumValueList {
 
     ghost view = { enum_value_view S.Names.bytes };
 
+    #[tactic(auto, using(crate::proofs::begins_described_name), unfolding(crate::specs::Grammar::tables))]
     fn comes_next(source: &S) -> bool {
         sees_described_name(source)
     }
@@ -45,8 +46,7 @@ impl<S: TokenSource> Elements<S> for EnumValueList {
         let position = source.position();
         let description = optional_description(alloc, source)?;
         let name = expect_name(alloc, source)?;
-        let mut directives = Vec::new(alloc);
-        directives::directives(alloc, source, &mut directives)?;
+        let directives = directives::directives(alloc, source)?;
         values.reserve(1)?;
         values.push_reserved(EnumValue {
             position,

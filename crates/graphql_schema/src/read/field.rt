@@ -34,6 +34,7 @@ impl<S: TokenSource> Elements<S> for FieldList {
 
     ghost view = { field_view S.Names.bytes };
 
+    #[tactic(auto, using(crate::proofs::begins_described_name), unfolding(crate::specs::Grammar::tables))]
     fn comes_next(source: &S) -> bool {
         sees_described_name(source)
     }
@@ -47,12 +48,10 @@ impl<S: TokenSource> Elements<S> for FieldList {
         let position = source.position();
         let description = optional_description(alloc, source)?;
         let name = expect_name(alloc, source)?;
-        let mut arguments = Vec::new(alloc);
-        optional_argument_definitions(alloc, source, &mut arguments)?;
+        let arguments = optional_argument_definitions(alloc, source)?;
         expect_punctuator(source, Punctuator::Colon)?;
         let field_type = type_reference(alloc, source)?;
-        let mut directives = Vec::new(alloc);
-        directives::directives(alloc, source, &mut directives)?;
+        let directives = directives::directives(alloc, source)?;
         fields.reserve(1)?;
         fields.push_reserved(Field {
             position,

@@ -1,6 +1,6 @@
 //! Arguments of fields and of directives, and fields of input objects.
 ghost use Rattle.std.specs.Prelude.{◌≡◌, ◌≤◌, OnOk, length, map};
-ghost use Rattle.graphql_core.specs.{Sym, optional, kept, Adds, reading, enclosed_of, optional_list_of};
+ghost use Rattle.graphql_core.specs.{Sym, optional, kept, reading, enclosed_of, optional_list_of};
 ghost use Rattle.graphql_schema.specs.Grammar.{input_value_symbol, argument_definitions_symbol, input_fields_symbol};
 ghost use Rattle.graphql_schema.specs.Meanings.{input_value_of};
 ghost use Rattle.graphql_schema.specs.Views.{input_value_view};
@@ -15,6 +15,9 @@ use graphql_core::common::read::lists::{Elements, optional_list, optional_split_
 use graphql_core::common::read::types::type_reference;
 use graphql_core::helpers::{Punctuator, ReadError, TokenSource, expect_name, expect_punctuator};
 use std::alloc::Global;
+
+/// The capacity that a list of argument definitions starts with.
+const FEW_ARGUMENTS: usize = 2;
 
 // The arguments between parentheses, or the fields between the braces of an input object.
 struct InputValueList;
@@ -33,6 +36,7 @@ impl<S: TokenSource> Elements<S> for InputValueList {
 
     ghost view = { input_value_view S.Names.bytes };
 
+    #[tactic(auto, using(crate::proofs::begins_described_name), unfolding(crate::specs::Grammar::tables))]
     fn comes_next(source: &S) -> bool {
         sees_described_name(source)
     }
@@ -49,8 +53,7 @@ impl<S: TokenSource> Elements<S> for InputValueList {
         expect_punctuator(source, Punctuator::Colon)?;
         let value_type = type_reference(alloc, source)?;
         let default_value = optional_default(alloc, source)?;
-        let mut directives = Vec::new(alloc);
-        directives::directives(alloc, source, &mut directives)?;
+        let directives = directives::directives(alloc, source)?;
         values.reserve(1)?;
         values.push_reserved(InputValue {
             position,
@@ -69,19 +72,14 @@ impl<S: TokenSource> Elements<S> for InputValueList {
 pub fn optional_argument_definitions<S: TokenSource>(
     alloc: Global,
     source: &mut S,
-    values: &mut Vec<InputValue<S::Names>>,
-) -> Result<(), ReadError>
+) -> Result<Vec<InputValue<S::Names>>, ReadError>
     ensures reads { Reads (optional (Sym argument_definitions_symbol)) (S.items source.old) (S.items source.new)
-        (λ v x. Adds (input_value_view S.Names.bytes) values.old.items values.new.items
-        (optional_list_of (enclosed_of input_value_of) x)) result }
+        (λ v x. map (input_value_view S.Names.bytes) v.items ≡ optional_list_of (enclosed_of input_value_of) x) result }
     ensures kept { kept (S.items source.new) ≡ kept (S.items source.old) }
     ensures within { OnOk result (length (S.items source.new).tokens ≤ length (S.items source.old).tokens) }
 {
-    if source.sees_punctuator(Punctuator::OpenParen) {
-        values.reserve_exact(2)?;
-    }
     let (open, close) = (Punctuator::OpenParen, Punctuator::CloseParen);
-    optional_list::<S, InputValueList>(alloc, source, open, close, values)
+    optional_list::<S, InputValueList>(alloc, source, open, close, FEW_ARGUMENTS)
 }
 
 /// `InputFields?`, `InputFields = "{" InputValue+ "}"`. Elements are collected at the end of `others`, and split off.

@@ -1,9 +1,8 @@
 //! Names separated by a punctuator: the interfaces of a type, and the members of a union.
-ghost use Rattle.std.specs.Prelude.{◌≡◌, ◌≤◌, OnOk, [], ◌∷◌, length, codes};
+ghost use Rattle.std.specs.Prelude.{◌≡◌, ◌≤◌, OnOk, [], ◌∷◌, length, map};
 ghost use Rattle.graphql_core.specs.{Then, Sym, optional, kept, spelling_of, punctuator, spelling_at, Adds, Shortens};
 ghost use Rattle.graphql_core.specs.{joined_of, separated_of, optional_list_of};
-ghost use Rattle.graphql_schema.specs.{joined_by, implements_symbol, members_symbol, interfaces_of, members_of};
-ghost use Rattle.graphql_schema.specs.{Reads};
+ghost use Rattle.graphql_schema.specs.{joined_by, implements_symbol, members_symbol, interfaces_of, members_of, Reads};
 ghost use Rattle.graphql_core.specs.values.Grammar as shared;
 
 use graphql_core::common::Names;
@@ -49,26 +48,26 @@ fn separated_name<S: TokenSource>(
     Ok(())
 }
 
-/// Names separated by a punctuator, which can also precede the first. Appends the names to `names`.
+/// Names separated by a punctuator, which can also precede the first.
 #[tactic(auto, using(graphql_core::proofs::readers::Reading::reading))]
 fn joined_names<S: TokenSource>(
     alloc: Global,
     source: &mut S,
     separator: Punctuator,
-    names: &mut Vec<<S::Names as Names>::Value>,
-) -> Result<(), ReadError>
+) -> Result<Vec<<S::Names as Names>::Value>, ReadError>
     ensures reads { Reads (joined_by (spelling_of separator) shared.name) (S.items source.old) (S.items source.new)
-        (λ v x. Adds S.Names.bytes names.old.items names.new.items (joined_of spelling_at [] x)) result }
+        (λ v x. map S.Names.bytes v.items ≡ joined_of spelling_at [] x) result }
     ensures kept { kept (S.items source.new) ≡ kept (S.items source.old) }
     ensures shorter { Shortens (S.items source.old) (S.items source.new) result }
 {
+    let mut names = Vec::new(alloc);
     optional_punctuator(source, separator)?;
     names.push(expect_name(alloc, source)?)?;
     'more: while source.sees_punctuator(separator) {
-        separated_name(alloc, source, separator, names)?;
+        separated_name(alloc, source, separator, &mut names)?;
     }
-    shrink_list(source, names);
-    Ok(())
+    shrink_list(source, &mut names);
+    Ok(names)
 }
 
 /// `Implements?`, `Implements = "implements" "&"? Name ("&" Name)*`
@@ -76,18 +75,17 @@ fn joined_names<S: TokenSource>(
 pub fn optional_implements<S: TokenSource>(
     alloc: Global,
     source: &mut S,
-    names: &mut Vec<<S::Names as Names>::Value>,
-) -> Result<(), ReadError>
+) -> Result<Vec<<S::Names as Names>::Value>, ReadError>
     ensures reads { Reads (optional (Sym implements_symbol)) (S.items source.old) (S.items source.new)
-        (λ v x. Adds S.Names.bytes names.old.items names.new.items (optional_list_of interfaces_of x)) result }
+        (λ v x. map S.Names.bytes v.items ≡ optional_list_of interfaces_of x) result }
     ensures kept { kept (S.items source.new) ≡ kept (S.items source.old) }
     ensures within { OnOk result (length (S.items source.new).tokens ≤ length (S.items source.old).tokens) }
 {
     if !sees_keyword(source, "implements") {
-        return Ok(());
+        return Ok(Vec::new(alloc));
     }
     expect_keyword(source, "implements")?;
-    joined_names(alloc, source, Punctuator::Ampersand, names)
+    joined_names(alloc, source, Punctuator::Ampersand)
 }
 
 /// `Members?`, `Members = "=" "|"? Name ("|" Name)*`
@@ -95,16 +93,15 @@ pub fn optional_implements<S: TokenSource>(
 pub fn optional_members<S: TokenSource>(
     alloc: Global,
     source: &mut S,
-    names: &mut Vec<<S::Names as Names>::Value>,
-) -> Result<(), ReadError>
+) -> Result<Vec<<S::Names as Names>::Value>, ReadError>
     ensures reads { Reads (optional (Sym members_symbol)) (S.items source.old) (S.items source.new)
-        (λ v x. Adds S.Names.bytes names.old.items names.new.items (optional_list_of members_of x)) result }
+        (λ v x. map S.Names.bytes v.items ≡ optional_list_of members_of x) result }
     ensures kept { kept (S.items source.new) ≡ kept (S.items source.old) }
     ensures within { OnOk result (length (S.items source.new).tokens ≤ length (S.items source.old).tokens) }
 {
     if !source.sees_punctuator(Punctuator::Equals) {
-        return Ok(());
+        return Ok(Vec::new(alloc));
     }
     expect_punctuator(source, Punctuator::Equals)?;
-    joined_names(alloc, source, Punctuator::Pipe, names)
+    joined_names(alloc, source, Punctuator::Pipe)
 }

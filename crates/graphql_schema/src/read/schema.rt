@@ -1,9 +1,8 @@
 //! Schema definitions and extensions of the schema: the root operation types.
 ghost use Rattle.std.specs.Prelude.{◌≡◌, ◌≤◌, IfOk, OnOk, List, [], ◌∷◌, ◌++◌, length};
-ghost use Rattle.graphql_core.specs.{enclosed_of, Sym, Many, optional, kept, Shortens, each_of};
+ghost use Rattle.graphql_core.specs.{Sym, Many, optional, kept, Shortens};
 ghost use Rattle.graphql_schema.specs.Roots.{Root, root_at, roots_of, roots_in};
-ghost use Rattle.graphql_schema.specs.Grammar.{schema_symbol, root_type_symbol, schema_extension_symbol};
-ghost use Rattle.graphql_schema.specs.Grammar.{roots_symbol};
+ghost use Rattle.graphql_schema.specs.Grammar.{schema_symbol, root_type_symbol, schema_extension_symbol, roots_symbol};
 ghost use Rattle.graphql_schema.specs.Meanings.{schema_of, schema_extension_of};
 ghost use Rattle.graphql_schema.specs.Views.{schema_view, schema_extension_view};
 ghost use Rattle.graphql_schema.specs.steps.Readers.{Reads};
@@ -140,8 +139,7 @@ pub fn schema_definition<S: TokenSource>(
     ensures shorter { Shortens (S.items source.old) (S.items source.new) result }
 {
     let position = expect_keyword(source, "schema")?;
-    let mut directives = Vec::new(alloc);
-    directives::directives(alloc, source, &mut directives)?;
+    let directives = directives::directives(alloc, source)?;
     expect_punctuator(source, Punctuator::OpenBrace)?;
     let mut roots = no_roots::<S::Names>();
     root_types(alloc, source, &mut roots)?;
@@ -199,8 +197,7 @@ pub fn schema_extension<S: TokenSource>(
     ensures shorter { Shortens (S.items source.old) (S.items source.new) result }
 {
     let position = expect_keyword(source, "schema")?;
-    let mut directives = Vec::new(alloc);
-    directives::directives(alloc, source, &mut directives)?;
+    let directives = directives::directives(alloc, source)?;
     let Roots {
         query,
         mutation,

@@ -1,6 +1,6 @@
 //! The bodies of types: what follows `extend` or a description.
 ghost use Rattle.std.specs.Prelude.{◌≡◌, ◌≤◌, OnOk, length, map};
-ghost use Rattle.graphql_core.specs.{Sym, kept, Adds, Shortens, optional_list_of};
+ghost use Rattle.graphql_core.specs.{Sym, kept, Shortens, optional_list_of};
 ghost use Rattle.graphql_schema.specs.{interfaces_of, has_interfaces, Reads, symbol_of, means, interfaces_rule};
 ghost use Rattle.graphql_schema.specs.{parts_rule, parts_of, parts_view, type_body_view};
 
@@ -35,23 +35,22 @@ impl<N: Names> Scratch<N> {
     }
 }
 
-/// `Implements?` if the kind can have it. Appends the interfaces to `names`.
+/// `Implements?` if the kind can have it.
 #[tactic(auto, using(graphql_core::proofs::readers::Reading::reading))]
 fn interfaces<S: TokenSource>(
     alloc: Global,
     source: &mut S,
     kind: TypeKind,
-    names: &mut Vec<<S::Names as Names>::Value>,
-) -> Result<(), ReadError>
+) -> Result<Vec<<S::Names as Names>::Value>, ReadError>
     ensures reads { Reads (interfaces_rule (has_interfaces kind)) (S.items source.old) (S.items source.new)
-        (λ v x. Adds S.Names.bytes names.old.items names.new.items (optional_list_of interfaces_of x)) result }
+        (λ v x. map S.Names.bytes v.items ≡ optional_list_of interfaces_of x) result }
     ensures kept { kept (S.items source.new) ≡ kept (S.items source.old) }
     ensures within { OnOk result (length (S.items source.new).tokens ≤ length (S.items source.old).tokens) }
 {
     if !kind.has_interfaces() {
-        return Ok(());
+        return Ok(Vec::new(alloc));
     }
-    optional_implements(alloc, source, names)
+    optional_implements(alloc, source)
 }
 
 /// `Fields?`, `Members?`, `EnumValues?` or `InputFields?`, as `kind` says. The result also holds `interfaces`.
@@ -80,8 +79,7 @@ fn parts<S: TokenSource>(
             Ok(TypeParts::Interface(interfaces, fields))
         }
         TypeKind::Union => {
-            let mut types = Vec::new(alloc);
-            optional_members(alloc, source, &mut types)?;
+            let types = optional_members(alloc, source)?;
             Ok(TypeParts::Union(types))
         }
         TypeKind::Enum => {
@@ -112,11 +110,9 @@ pub fn type_body<S: TokenSource>(
 {
     let position = expect_keyword(source, kind.word())?;
     let name = expect_name(alloc, source)?;
-    let mut implements = Vec::new(alloc);
-    interfaces(alloc, source, kind, &mut implements)?;
-    let mut directives = Vec::new(alloc);
-    directives::directives(alloc, source, &mut directives)?;
-    let parts = parts(alloc, source, kind, implements, scratch)?;
+    let interfaces = interfaces(alloc, source, kind)?;
+    let directives = directives::directives(alloc, source)?;
+    let parts = parts(alloc, source, kind, interfaces, scratch)?;
     Ok(TypeBody {
         position,
         name,

@@ -1,5 +1,5 @@
 //! Trees with a name and nothing else, and empty trees.
-ghost use Rattle.std.specs.Prelude.{◌≡◌, [], ◌∷◌, None};
+ghost use Rattle.std.specs.Prelude.{◌≡◌, [], None};
 ghost use Rattle.graphql_schema.specs.{object, interface, union, enum, input, scalar, bare, bare_enum_value};
 ghost use Rattle.graphql_schema.specs.{bare_directive, empty_schema, schema, type_definition, extension, scalar_view};
 ghost use Rattle.graphql_schema.specs.{object_view, interface_view, union_view, enum_view, input_view};

@@ -10,7 +10,7 @@ use graphql_core::position::Pos;
 pub struct ScalarTypeExtension<N: Names> {
     /// The position of the keyword after `extend`.
     pub position: Pos,
-    /// The name of the type.
+    /// The name of the extended type.
     pub name: N::Value,
     /// The directives in source order.
     pub directives: Vec<Directive<N>>,
@@ -22,7 +22,7 @@ pub struct ScalarTypeExtension<N: Names> {
 pub struct ObjectTypeExtension<N: Names> {
     /// The position of the keyword after `extend`.
     pub position: Pos,
-    /// The name of the type.
+    /// The name of the extended type.
     pub name: N::Value,
     /// The names of the implemented interfaces, in source order.
     pub implements_interfaces: Vec<N::Value>,
@@ -38,7 +38,7 @@ pub struct ObjectTypeExtension<N: Names> {
 pub struct InterfaceTypeExtension<N: Names> {
     /// The position of the keyword after `extend`.
     pub position: Pos,
-    /// The name of the type.
+    /// The name of the extended type.
     pub name: N::Value,
     /// The names of the implemented interfaces, in source order.
     pub implements_interfaces: Vec<N::Value>,
@@ -54,7 +54,7 @@ pub struct InterfaceTypeExtension<N: Names> {
 pub struct UnionTypeExtension<N: Names> {
     /// The position of the keyword after `extend`.
     pub position: Pos,
-    /// The name of the type.
+    /// The name of the extended type.
     pub name: N::Value,
     /// The directives in source order.
     pub directives: Vec<Directive<N>>,
@@ -68,7 +68,7 @@ pub struct UnionTypeExtension<N: Names> {
 pub struct EnumTypeExtension<N: Names> {
     /// The position of the keyword after `extend`.
     pub position: Pos,
-    /// The name of the type.
+    /// The name of the extended type.
     pub name: N::Value,
     /// The directives in source order.
     pub directives: Vec<Directive<N>>,
@@ -82,7 +82,7 @@ pub struct EnumTypeExtension<N: Names> {
 pub struct InputObjectTypeExtension<N: Names> {
     /// The position of the keyword after `extend`.
     pub position: Pos,
-    /// The name of the type.
+    /// The name of the extended type.
     pub name: N::Value,
     /// The directives in source order.
     pub directives: Vec<Directive<N>>,

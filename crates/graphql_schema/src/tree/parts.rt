@@ -11,7 +11,7 @@ pub struct Field<N: Names> {
     pub position: Pos,
     /// The value of the description string; `None` without a description.
     pub description: Option<String>,
-    /// The name.
+    /// The name (section 2.1.9).
     pub name: N::Value,
     /// The arguments in source order; empty without parentheses.
     pub arguments: Vec<InputValue<N>>,
@@ -29,7 +29,7 @@ pub struct InputValue<N: Names> {
     pub position: Pos,
     /// The value of the description string; `None` without a description.
     pub description: Option<String>,
-    /// The name.
+    /// The name (section 2.1.9).
     pub name: N::Value,
     /// The type (section 2.11).
     pub value_type: Type<N>,

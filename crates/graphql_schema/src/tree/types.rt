@@ -12,7 +12,7 @@ pub struct ScalarType<N: Names> {
     pub position: Pos,
     /// The value of the description string; `None` without a description.
     pub description: Option<String>,
-    /// The name.
+    /// The name (section 2.1.9).
     pub name: N::Value,
     /// The directives in source order.
     pub directives: Vec<Directive<N>>,
@@ -26,7 +26,7 @@ pub struct ObjectType<N: Names> {
     pub position: Pos,
     /// The value of the description string; `None` without a description.
     pub description: Option<String>,
-    /// The name.
+    /// The name (section 2.1.9).
     pub name: N::Value,
     /// The names of the implemented interfaces, in source order.
     pub implements_interfaces: Vec<N::Value>,
@@ -44,7 +44,7 @@ pub struct InterfaceType<N: Names> {
     pub position: Pos,
     /// The value of the description string; `None` without a description.
     pub description: Option<String>,
-    /// The name.
+    /// The name (section 2.1.9).
     pub name: N::Value,
     /// The names of the implemented interfaces, in source order.
     pub implements_interfaces: Vec<N::Value>,
@@ -62,7 +62,7 @@ pub struct UnionType<N: Names> {
     pub position: Pos,
     /// The value of the description string; `None` without a description.
     pub description: Option<String>,
-    /// The name.
+    /// The name (section 2.1.9).
     pub name: N::Value,
     /// The directives in source order.
     pub directives: Vec<Directive<N>>,
@@ -78,7 +78,7 @@ pub struct EnumType<N: Names> {
     pub position: Pos,
     /// The value of the description string; `None` without a description.
     pub description: Option<String>,
-    /// The name.
+    /// The name (section 2.1.9).
     pub name: N::Value,
     /// The directives in source order.
     pub directives: Vec<Directive<N>>,
@@ -94,7 +94,7 @@ pub struct InputObjectType<N: Names> {
     pub position: Pos,
     /// The value of the description string; `None` without a description.
     pub description: Option<String>,
-    /// The name.
+    /// The name (section 2.1.9).
     pub name: N::Value,
     /// The directives in source order.
     pub directives: Vec<Directive<N>>,

@@ -6,9 +6,10 @@ ghost use Rattle.graphql_core.specs.values.Grammar.{directives_symbol, default_s
 ghost use Rattle.graphql_core.specs.values.Meanings.{argument_of, optional_arguments_of, directive_of, directives_of};
 ghost use Rattle.graphql_core.specs.values.Meanings.{default_of, optional_default_of};
 ghost use Rattle.graphql_core.specs.values.Values.{ValueTree, DirectiveTree};
-ghost use Rattle.graphql_core.specs.values.ValueViews.{value_view, argument_view, directive_view};
+ghost use Rattle.graphql_core.specs.values.ValueViews.{value_view, argument_view, arguments_view, directive_view};
+ghost use Rattle.graphql_core.specs.values.ValueViews.{directives_view};
 ghost use Rattle.graphql_core.specs.sources.Source.{kept};
-ghost use Rattle.graphql_core.specs.steps.Answers.{Gives, Adds, Shortens};
+ghost use Rattle.graphql_core.specs.steps.Answers.{Gives, Shortens};
 
 use crate::common::Names;
 use crate::common::read::lists::{Elements, read_enclosed, read_many};
@@ -56,30 +57,26 @@ impl<S: TokenSource> Elements<S> for ArgumentList {
     }
 }
 
-/// `Arguments?`, `Arguments = "(" Argument+ ")"`: appends nothing if they are missing.
+/// `Arguments?`, `Arguments = "(" Argument+ ")"`: an empty list if they are missing.
 #[inline(always)]
 #[tactic(auto, using(crate::proofs::readers::Reading::reading))]
 pub fn optional_arguments<S: TokenSource>(
     alloc: Global,
     source: &mut S,
-    items: &mut Vec<(<S::Names as Names>::Value, Value<S::Names>)>,
-) -> Result<(), ReadError>
+) -> Result<Vec<(<S::Names as Names>::Value, Value<S::Names>)>, ReadError>
     ensures reads { Gives shared (optional (Sym arguments_symbol)) (S.items source.old) (S.items source.new)
-        (λ v x. Adds (argument_view S.Names.bytes) items.old.items items.new.items (optional_arguments_of x)) result }
+        (λ v x. arguments_view S.Names.bytes v.items ≡ optional_arguments_of x) result }
     ensures kept { kept (S.items source.new) ≡ kept (S.items source.old) }
     ensures within { OnOk result (length (S.items source.new).tokens ≤ length (S.items source.old).tokens) }
 {
-    if source.sees_punctuator(Punctuator::OpenParen) {
-        items.reserve_exact(FEW_ARGUMENTS)?;
-        return read_enclosed::<S, ArgumentList>(
-            alloc,
-            source,
-            Punctuator::OpenParen,
-            Punctuator::CloseParen,
-            items,
-        );
+    let (open, close) = (Punctuator::OpenParen, Punctuator::CloseParen);
+    if !source.sees_punctuator(open) {
+        return Ok(Vec::new(alloc));
     }
-    Ok(())
+    let mut arguments = Vec::new(alloc);
+    arguments.reserve_exact(FEW_ARGUMENTS)?;
+    read_enclosed::<S, ArgumentList>(alloc, source, open, close, &mut arguments)?;
+    Ok(arguments)
 }
 
 struct DirectiveList;
@@ -112,8 +109,7 @@ impl<S: TokenSource> Elements<S> for DirectiveList {
     ) -> Result<(), ReadError> {
         let position = expect_punctuator(source, Punctuator::At)?;
         let name = expect_name(alloc, source)?;
-        let mut arguments = Vec::new(alloc);
-        optional_arguments(alloc, source, &mut arguments)?;
+        let arguments = optional_arguments(alloc, source)?;
         items.reserve(1)?;
         items.push_reserved(Directive {
             position,
@@ -130,17 +126,18 @@ impl<S: TokenSource> Elements<S> for DirectiveList {
 pub fn directives<S: TokenSource>(
     alloc: Global,
     source: &mut S,
-    items: &mut Vec<Directive<S::Names>>,
-) -> Result<(), ReadError>
+) -> Result<Vec<Directive<S::Names>>, ReadError>
     ensures reads { Gives shared (Sym directives_symbol) (S.items source.old) (S.items source.new)
-        (λ v x. Adds (directive_view S.Names.bytes) items.old.items items.new.items (directives_of x)) result }
+        (λ v x. directives_view S.Names.bytes v.items ≡ directives_of x) result }
     ensures kept { kept (S.items source.new) ≡ kept (S.items source.old) }
     ensures within { OnOk result (length (S.items source.new).tokens ≤ length (S.items source.old).tokens) }
 {
+    let mut directives = Vec::new(alloc);
     if source.sees_punctuator(Punctuator::At) {
-        items.reserve_exact(1)?;
+        directives.reserve_exact(1)?;
     }
-    read_many::<S, DirectiveList>(alloc, source, items)
+    read_many::<S, DirectiveList>(alloc, source, &mut directives)?;
+    Ok(directives)
 }
 
 /// `Default = "=" Const`

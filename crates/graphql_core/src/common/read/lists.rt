@@ -118,8 +118,8 @@ pub fn optional_split_list<S: TokenSource, E: Elements<S>>(
     Ok(split_list(alloc, others, count)?)
 }
 
-/// Reads what `read_enclosed` reads, or nothing if `opener` does not come next. For a long source it gives back the
-/// unused capacity of `items`.
+/// Reads what `read_enclosed` reads, or nothing if `opener` does not come next. The list starts with this capacity. For
+/// a long source its unused capacity is given back.
 #[inline(always)]
 #[tactic(auto, using(crate::proofs::readers::Reading::reading))]
 pub fn optional_list<S: TokenSource, E: Elements<S>>(
@@ -127,19 +127,21 @@ pub fn optional_list<S: TokenSource, E: Elements<S>>(
     source: &mut S,
     opener: Punctuator,
     closer: Punctuator,
-    items: &mut Vec<E::Item>,
-) -> Result<(), ReadError>
+    capacity: usize,
+) -> Result<Vec<E::Item>, ReadError>
     ensures reads { (k : ℕ) (m n : ParseTree → List E.Tree)
         → IsList E.grammar (class_of opener) (class_of closer) E.production E.means k m → IsOption m n
         → Gives E.grammar (optional (Sym k)) (S.items source.old) (S.items source.new)
-        (λ v x. Adds E.view items.old.items items.new.items (n x)) result }
+        (λ v x. map E.view v.items ≡ n x) result }
     ensures kept { kept (S.items source.new) ≡ kept (S.items source.old) }
     ensures within { OnOk result (length (S.items source.new).tokens ≤ length (S.items source.old).tokens) }
 {
     if !source.sees_punctuator(opener) {
-        return Ok(());
+        return Ok(Vec::new(alloc));
     }
-    read_enclosed::<S, E>(alloc, source, opener, closer, items)?;
-    shrink_list(source, items);
-    Ok(())
+    let mut items = Vec::new(alloc);
+    items.reserve_exact(capacity)?;
+    read_enclosed::<S, E>(alloc, source, opener, closer, &mut items)?;
+    shrink_list(source, &mut items);
+    Ok(items)
 }

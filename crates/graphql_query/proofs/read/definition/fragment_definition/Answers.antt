@@ -1,6 +1,5 @@
 use Rattle.std.proofs.Common.{refl, ◌∙◌}
-use Rattle.graphql_core.specs.{directive_view}
-use Rattle.graphql_core.proofs.{fills, took, past, after, fails, fails_last, lacks, whole}
+use Rattle.graphql_core.proofs.{took, past, after, fails, fails_last, lacks, whole}
 use Rattle.graphql_query.specs.{fragment_definition_symbol}
 use Rattle.graphql_query.proofs.{begun, lifted, stops_lifted, same_fragment_definition}
 use Rattle.graphql_query.proofs.read.definition.fragment_definition.Goals as goal
@@ -39,7 +38,7 @@ returns-clause-reads g c =
     let (d, directed, directs) = lifted refl c.in_ok-directives.ensures.reads in
     let (s, selected, selects) = c.in_ok-selection_set.ensures.reads in
     whole (past (past (past (past (begun fragment_definition_symbol) (took begins refl)) (took named refl)) on) directed) selected
-    (same_fragment_definition at spelled applies (fills (directive_view g.S.Names.Names.bytes) _ _ _ c.new-directives.ensures.items directs) selects)
+    (same_fragment_definition at spelled applies directs selects)
 
 pub returns-clause-kept : goal.returns-clause-kept
 returns-clause-kept g c =

@@ -12,8 +12,8 @@ decreases-field g l = 3 * length (g.S.TokenSource.items l.source.now).tokens
 abbrev pub decreases-fragment_selection : goal.decreases-fragment_selection
 decreases-fragment_selection g l = 3 * length (g.S.TokenSource.items l.source.now).tokens
 
-abbrev pub decreases-selections : goal.decreases-selections
-decreases-selections g l = 3 * length (g.S.TokenSource.items l.source.now).tokens
+abbrev pub decreases-selections_in_braces : goal.decreases-selections_in_braces
+decreases-selections_in_braces g l = 3 * length (g.S.TokenSource.items l.source.now).tokens
 
 abbrev pub decreases-selection : goal.decreases-selection
 decreases-selection g l = 3 * length (g.S.TokenSource.items l.source.now).tokens + 1
@@ -24,16 +24,16 @@ decreases-selection_set g l = 3 * length (g.S.TokenSource.items l.source.now).to
 abbrev pub decreases-optional_selection_set : goal.decreases-optional_selection_set
 decreases-optional_selection_set g l = 3 * length (g.S.TokenSource.items l.source.now).tokens + 2
 
-abbrev pub decreases-inline_fragment : goal.decreases-inline_fragment
-decreases-inline_fragment g l = 3 * length (g.S.TokenSource.items l.source.now).tokens + 2
+abbrev pub decreases-inline_fragment_after_dots : goal.decreases-inline_fragment_after_dots
+decreases-inline_fragment_after_dots g l = 3 * length (g.S.TokenSource.items l.source.now).tokens + 2
 
-abbrev pub invariant-selections-more : goal.invariant-selections-more
-invariant-selections-more g l = record {
+abbrev pub invariant-selections_in_braces-more : goal.invariant-selections_in_braces-more
+invariant-selections_in_braces-more g l = record {
   pushes : Pushes reading (Sym selection_symbol) selection_at (selection_view g.S.Names.Names.bytes) (g.S.TokenSource.items l.initial.source)
-      (g.S.TokenSource.items l.source) l.initial.items.items l.items.items;
+      (g.S.TokenSource.items l.source) l.initial.selections.items l.selections.items;
   kept : kept (g.S.TokenSource.items l.source) ≡ kept (g.S.TokenSource.items l.initial.source);
   within : length (g.S.TokenSource.items l.source).tokens ≤ length (g.S.TokenSource.items l.initial.source).tokens;
 }
 
-abbrev pub decreases-selections-more : goal.decreases-selections-more
-decreases-selections-more g l = length (g.S.TokenSource.items l.source).tokens
+abbrev pub decreases-selections_in_braces-more : goal.decreases-selections_in_braces-more
+decreases-selections_in_braces-more g l = length (g.S.TokenSource.items l.source).tokens

@@ -1,7 +1,7 @@
 use Rattle.std.proofs.Common.{refl}
-use Rattle.graphql_core.proofs.{fills, begun, took, past, after, fails, fails_last, lacks, whole}
-use Rattle.graphql_schema.specs.{directive_definition_symbol, input_value_view}
-use Rattle.graphql_schema.proofs.{after_none, same_definition}
+use Rattle.graphql_core.proofs.{begun, took, past, after, fails, fails_last, lacks, whole}
+use Rattle.graphql_schema.specs.{directive_definition_symbol}
+use Rattle.graphql_schema.proofs.{same_definition}
 use Rattle.graphql_schema.proofs.read.directive.directive_definition.Goals as goal
 
 pub returns-in_err-position-clause-reads : goal.returns-in_err-position-clause-reads
@@ -18,31 +18,31 @@ returns-in_err-name-clause-reads g c =
     let keyword = past (begun directive_definition_symbol (λ x. refl)) (took c.in_ok-position.ensures.1 refl) in
     lacks _ _ _ _ _ (past keyword (took c.in_ok-expect_punctuator.ensures.1 refl)) c.in_err-name.ensures c.from_residual-in_err-name.ensures.1
 
-pub returns-in_err-optional_argument_definitions-clause-reads : goal.returns-in_err-optional_argument_definitions-clause-reads
-returns-in_err-optional_argument_definitions-clause-reads g c =
+pub returns-in_err-arguments-clause-reads : goal.returns-in_err-arguments-clause-reads
+returns-in_err-arguments-clause-reads g c =
     let keyword = past (begun directive_definition_symbol (λ x. refl)) (took c.in_ok-position.ensures.1 refl) in
     let named = past (past keyword (took c.in_ok-expect_punctuator.ensures.1 refl)) (took c.in_ok-name.ensures.1 refl) in
-    fails _ _ _ _ named c.in_err-optional_argument_definitions.ensures.reads c.from_residual-in_err-optional_argument_definitions.ensures.1
+    fails _ _ _ _ named c.in_err-arguments.ensures.reads c.from_residual-in_err-arguments.ensures.1
 
 pub returns-in_err-repeatable-clause-reads : goal.returns-in_err-repeatable-clause-reads
 returns-in_err-repeatable-clause-reads g c =
     let keyword = past (begun directive_definition_symbol (λ x. refl)) (took c.in_ok-position.ensures.1 refl) in
     let named = past (past keyword (took c.in_ok-expect_punctuator.ensures.1 refl)) (took c.in_ok-name.ensures.1 refl) in
-    let defined = after named c.in_ok-optional_argument_definitions.ensures.reads in
+    let defined = after named c.in_ok-arguments.ensures.reads in
     fails _ _ _ _ defined c.in_err-repeatable.ensures.reads c.from_residual-in_err-repeatable.ensures.1
 
 pub returns-in_err-expect_keyword-clause-reads : goal.returns-in_err-expect_keyword-clause-reads
 returns-in_err-expect_keyword-clause-reads g c =
     let keyword = past (begun directive_definition_symbol (λ x. refl)) (took c.in_ok-position.ensures.1 refl) in
     let named = past (past keyword (took c.in_ok-expect_punctuator.ensures.1 refl)) (took c.in_ok-name.ensures.1 refl) in
-    let repeats = after (after named c.in_ok-optional_argument_definitions.ensures.reads) c.in_ok-repeatable.ensures.reads in
+    let repeats = after (after named c.in_ok-arguments.ensures.reads) c.in_ok-repeatable.ensures.reads in
     lacks _ _ _ _ _ repeats c.in_err-expect_keyword.ensures c.from_residual-in_err-expect_keyword.ensures.1
 
 pub returns-in_err-locations-clause-reads : goal.returns-in_err-locations-clause-reads
 returns-in_err-locations-clause-reads g c =
     let keyword = past (begun directive_definition_symbol (λ x. refl)) (took c.in_ok-position.ensures.1 refl) in
     let named = past (past keyword (took c.in_ok-expect_punctuator.ensures.1 refl)) (took c.in_ok-name.ensures.1 refl) in
-    let repeats = after (after named c.in_ok-optional_argument_definitions.ensures.reads) c.in_ok-repeatable.ensures.reads in
+    let repeats = after (after named c.in_ok-arguments.ensures.reads) c.in_ok-repeatable.ensures.reads in
     let on = past repeats (took c.in_ok-expect_keyword.ensures.1 refl) in
     fails_last _ _ _ _ on c.in_err-locations.ensures.reads c.from_residual-in_err-locations.ensures.1
 
@@ -50,10 +50,9 @@ pub returns-clause-reads : goal.returns-clause-reads
 returns-clause-reads g c =
     let (w, begins, at) = c.in_ok-position.ensures in
     let (n, named, spelled) = c.in_ok-name.ensures in
-    let (vs, valued, view) = c.in_ok-optional_argument_definitions.ensures.reads in
+    let (vs, valued, view) = c.in_ok-arguments.ensures.reads in
     let (r, repeats, is) = c.in_ok-repeatable.ensures.reads in
     let (ls, located, are) = c.in_ok-locations.ensures.reads in
     let sign = past (past (begun directive_definition_symbol (λ x. refl)) (took begins refl)) (took c.in_ok-expect_punctuator.ensures.1 refl) in
     let on = past (past (past (past sign (took named refl)) valued) repeats) (took c.in_ok-expect_keyword.ensures.1 refl) in
-    whole on located (same_definition at spelled (fills (input_value_view g.S.Names.Names.bytes) _ _ _ c.new-arguments.ensures.items view) is
-    (after_none c.new-locations.result.items _ _ c.new-locations.ensures.items are))
+    whole on located (same_definition at spelled view is are)

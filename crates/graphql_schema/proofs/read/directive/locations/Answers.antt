@@ -1,9 +1,8 @@
 use Rattle.std.proofs.Common.{refl, sym, ◌∙◌, codes, Some, None, arith}
-use Rattle.graphql_core.specs.{Then, Sym, written, punctuator, separated_of, joined_of}
-use Rattle.graphql_core.proofs.{adds_one, begun, after, fails, fails_last, pushes_none, turn_fails, turn_appends}
-use Rattle.graphql_core.proofs.{whole}
-use Rattle.graphql_schema.specs.{changes, location_symbol, locations_symbol, location_at, as_written}
-use Rattle.graphql_schema.proofs.{reading, adds_present, joined_taken}
+use Rattle.graphql_core.specs.{Then, Sym, punctuator, separated_of}
+use Rattle.graphql_core.proofs.{adds_one, begun, after, fails, fails_last, pushes_none, turn_fails, turn_appends, whole}
+use Rattle.graphql_schema.specs.{location_symbol, locations_symbol, location_at, as_written}
+use Rattle.graphql_schema.proofs.{reading, all_present, joined_taken}
 use Rattle.graphql_schema.proofs.read.directive.locations.Goals as goal
 
 pub returns-in_err-location-clause-reads : goal.returns-in_err-location-clause-reads
@@ -40,10 +39,10 @@ returns-in_err-separated_location-clause-kept g c =
 pub returns-clause-reads : goal.returns-clause-reads
 returns-clause-reads g c =
     let (x, takes, is) = c.in_ok-location.ensures.reads in
-    let (xs, joined, adds) = joined_taken (codes "|") (Sym location_symbol) location_at None Some _ c.in_ok-optional_punctuator.ensures.reads
-    (x, takes, adds_one Some _ _ _ _ c.in_ok-push.ensures.items is) c.more.invariant.comes (sym c.sees_punctuator.ensures ∙ c.more-test.false) in
-    whole (begun locations_symbol (λ x. refl)) joined
-    (c.shrink_list.ensures ∙ adds_present _ c.more.locations.items (joined_of location_at None (written changes xs)) adds)
+    let (xs, joined, are) = joined_taken (codes "|") (Sym location_symbol) location_at None Some _ c.new-locations.ensures.items
+    c.in_ok-optional_punctuator.ensures.reads (x, takes, adds_one Some _ _ _ _ c.in_ok-push.ensures.items is) c.more.invariant.comes
+    (sym c.sees_punctuator.ensures ∙ c.more-test.false) in
+    whole (begun locations_symbol (λ x. refl)) joined (c.shrink_list.ensures ∙ all_present _ _ are)
 
 pub returns-clause-kept : goal.returns-clause-kept
 returns-clause-kept g c = c.more.invariant.kept ∙ c.in_ok-location.ensures.kept ∙ c.in_ok-optional_punctuator.ensures.kept

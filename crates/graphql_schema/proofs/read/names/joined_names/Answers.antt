@@ -41,8 +41,8 @@ pub returns-clause-reads : goal.returns-clause-reads
 returns-clause-reads g c =
     let bytes = g.S.Names.Names.bytes in
     let (t, named, spelled) = c.in_ok-expect_name.ensures in
-    rw c.shrink_list.ensures (joined_taken (spelling_of c.args.separator) shared.name spelling_at [] bytes _ c.in_ok-optional_punctuator.ensures.reads
-    (Leaf t, took named refl, adds_one bytes _ _ _ t.spelling c.in_ok-push.ensures.items (sym spelled))
+    rw c.shrink_list.ensures (joined_taken (spelling_of c.args.separator) shared.name spelling_at [] bytes _ c.new-names.ensures.items
+    c.in_ok-optional_punctuator.ensures.reads (Leaf t, took named refl, adds_one bytes _ _ _ t.spelling c.in_ok-push.ensures.items (sym spelled))
     c.more.invariant.comes (sym c.sees_punctuator.ensures ∙ c.more-test.false))
 
 pub returns-clause-kept : goal.returns-clause-kept

@@ -1,19 +1,18 @@
-use Rattle.std.proofs.Common.{refl, sym, ◌∙◌}
-use Rattle.graphql_core.proofs.{adds_none, side_node, took, past, into, there, none_given, gives_led, lacks}
-use Rattle.graphql_schema.specs.{implements_symbol}
-use Rattle.graphql_schema.proofs.{reading, implements_begins}
+use Rattle.std.proofs.Common.{refl, sym, ap, ◌∙◌, map}
+use Rattle.graphql_core.proofs.{took, past, none_given, gives_led, lacks}
+use Rattle.graphql_schema.proofs.{implements_begins, opens}
 use Rattle.graphql_schema.proofs.read.names.optional_implements.Goals as goal
 
 pub returns-then-not-sees_keyword-clause-reads : goal.returns-then-not-sees_keyword-clause-reads
 returns-then-not-sees_keyword-clause-reads g c =
-    none_given implements_begins (sym c.sees_keyword.ensures ∙ c.if-not-sees_keyword.true) (adds_none g.S.Names.Names.bytes _)
+    none_given implements_begins (sym c.sees_keyword.ensures ∙ c.if-not-sees_keyword.true) (ap (map g.S.Names.Names.bytes) c.new.ensures.items)
 
 pub returns-in_err-expect_keyword-clause-reads : goal.returns-in_err-expect_keyword-clause-reads
 returns-in_err-expect_keyword-clause-reads g c =
-    let lead = into (there implements_begins (sym c.sees_keyword.ensures ∙ c.if-not-sees_keyword.false)) (side_node reading implements_symbol _ (λ x. refl)) in
+    let lead = opens implements_begins (λ x. refl) (sym c.sees_keyword.ensures ∙ c.if-not-sees_keyword.false) in
     lacks _ _ _ _ _ lead c.in_err-expect_keyword.ensures c.from_residual.ensures.1
 
 pub returns-clause-reads : goal.returns-clause-reads
 returns-clause-reads g c =
-    let lead = into (there implements_begins (sym c.sees_keyword.ensures ∙ c.if-not-sees_keyword.false)) (side_node reading implements_symbol _ (λ x. refl)) in
+    let lead = opens implements_begins (λ x. refl) (sym c.sees_keyword.ensures ∙ c.if-not-sees_keyword.false) in
     gives_led _ _ _ _ (past lead (took c.in_ok-expect_keyword.ensures.1 refl)) (λ v x h is. is) c.joined_names.ensures.reads

@@ -1,9 +1,7 @@
-use Rattle.std.proofs.Common.{[], ◌∙◌, Some, option_map, ap, refl, sym}
-use Rattle.graphql_core.specs.{Place, written, cause_text, directive_view}
-use Rattle.graphql_core.proofs.{fills, node_stops, node_lacks, node_passes, node_refused, here, before, took, past}
-use Rattle.graphql_core.proofs.{after}
-use Rattle.graphql_schema.specs.{changes, schemas, root_fault, roots_of, refusals}
-use Rattle.graphql_schema.proofs.{readable, lifted, stops_lifted, told_at, fault_told, none_told}
+use Rattle.std.proofs.Common.{[], refl, sym}
+use Rattle.graphql_core.proofs.{node_stops, node_lacks, node_passes, node_refused, here, before, took, past, after}
+use Rattle.graphql_schema.specs.{schemas, refusals}
+use Rattle.graphql_schema.proofs.{readable, lifted, stops_lifted, fault_told, none_told}
 use Rattle.graphql_schema.proofs.read.schema.schema_definition.Goals as goal
 
 pub returns-in_err-position-clause-reads : goal.returns-in_err-position-clause-reads
@@ -40,10 +38,8 @@ returns-in-Some-clause-reads g c =
     let directed = after (past here (took taken refl)) (lifted refl refl c.in_ok-directives.ensures.reads) in
     let lead = past (past directed (took c.in_ok-expect_punctuator.ensures.1 refl)) rooted in
     let are = has [] c.no_roots-roots.ensures in
-    let (bad, said) = fault_told c.in-Some.cause (root_fault [] (roots_of (written changes rs))) t.place
-    (ap (option_map cause_text) (sym c.in-Some.is) ∙ are.fault) in
-    node_refused schemas refusals readable _ _ _ _ _ (lead.takes _ _ (took c.in_ok-expect_punctuator-2.ensures.1 refl)) bad
-    (said ∙ ap (λ (p : Place). Some (told_at (cause_text c.in-Some.cause) p)) at)
+    let (bad, said) = fault_told _ _ _ _ _ c.in-Some.is at are.fault in
+    node_refused schemas refusals readable _ _ _ _ _ (lead.takes _ _ (took c.in_ok-expect_punctuator-2.ensures.1 refl)) bad said
 
 pub returns-in-None-clause-reads : goal.returns-in-None-clause-reads
 returns-in-None-clause-reads g c =
@@ -52,12 +48,11 @@ returns-in-None-clause-reads g c =
     let (rs, rooted, has) = c.in_ok-root_types.ensures.reads in
     let lead = past (past (past (past here (took taken refl)) directed) (took c.in_ok-expect_punctuator.ensures.1 refl)) rooted in
     let are = has [] c.no_roots-roots.ensures in
-    let (good, none) = none_told (root_fault [] (roots_of (written changes rs))) (ap (option_map cause_text) (sym c.in-None.is) ∙ are.fault) in
-    let all = fills (directive_view g.S.Names.Names.bytes) _ _ _ c.new-directives.ensures.items added in
+    let (good, none) = none_told _ _ c.in-None.is are.fault in
     node_passes schemas refusals _ _ _ _ _ _ (lead.takes _ _ (took c.in_ok-expect_punctuator-2.ensures.1 refl)) good
     (λ k. record {
       position = sym at k;
-      directives = all k;
+      directives = added k;
       query = are.query none k;
       mutation = are.mutation none k;
       subscription = are.subscription none k;

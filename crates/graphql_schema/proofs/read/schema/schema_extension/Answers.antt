@@ -1,9 +1,7 @@
-use Rattle.std.proofs.Common.{[], ◌∙◌, Some, option_map, ap, refl, sym}
-use Rattle.graphql_core.specs.{Place, written, cause_text, directive_view}
-use Rattle.graphql_core.proofs.{fills, node_stops, node_lacks, node_passes, node_refused, here, before, took, past}
-use Rattle.graphql_core.proofs.{after}
-use Rattle.graphql_schema.specs.{changes, schemas, root_fault, roots_in, refusals}
-use Rattle.graphql_schema.proofs.{readable, lifted, stops_lifted, told_at, fault_told, none_told}
+use Rattle.std.proofs.Common.{refl, sym}
+use Rattle.graphql_core.proofs.{node_stops, node_lacks, node_passes, node_refused, here, before, took, past, after}
+use Rattle.graphql_schema.specs.{schemas, refusals}
+use Rattle.graphql_schema.proofs.{readable, lifted, stops_lifted, fault_told, none_told}
 use Rattle.graphql_schema.proofs.read.schema.schema_extension.Goals as goal
 
 pub returns-in_err-position-clause-reads : goal.returns-in_err-position-clause-reads
@@ -26,10 +24,8 @@ returns-in-Some-clause-reads g c =
     let (t, taken, at) = c.in_ok-position.ensures in
     let (rs, rooted, has) = c.in_ok-query.ensures.reads in
     let directed = after (past here (took taken refl)) (lifted refl refl c.in_ok-directives.ensures.reads) in
-    let (bad, said) = fault_told c.in-Some.cause (root_fault [] (roots_in (written changes rs))) t.place
-    (ap (option_map cause_text) (sym c.in-Some.is) ∙ has.fault) in
-    node_refused schemas refusals readable _ _ _ _ _ (directed.takes _ rs rooted) bad
-    (said ∙ ap (λ (p : Place). Some (told_at (cause_text c.in-Some.cause) p)) at)
+    let (bad, said) = fault_told _ _ _ _ _ c.in-Some.is at has.fault in
+    node_refused schemas refusals readable _ _ _ _ _ (directed.takes _ rs rooted) bad said
 
 pub returns-in-None-clause-reads : goal.returns-in-None-clause-reads
 returns-in-None-clause-reads g c =
@@ -37,12 +33,11 @@ returns-in-None-clause-reads g c =
     let (ds, directed, added) = lifted refl refl c.in_ok-directives.ensures.reads in
     let (rs, rooted, has) = c.in_ok-query.ensures.reads in
     let lead = past (past here (took taken refl)) directed in
-    let (good, none) = none_told (root_fault [] (roots_in (written changes rs))) (ap (option_map cause_text) (sym c.in-None.is) ∙ has.fault) in
-    let all = fills (directive_view g.S.Names.Names.bytes) _ _ _ c.new-directives.ensures.items added in
+    let (good, none) = none_told _ _ c.in-None.is has.fault in
     node_passes schemas refusals _ _ _ _ _ _ (lead.takes _ rs rooted) good
     (λ k. record {
       position = sym at k;
-      directives = all k;
+      directives = added k;
       query = has.query none k;
       mutation = has.mutation none k;
       subscription = has.subscription none k;

@@ -1,6 +1,6 @@
 use Rattle.std.proofs.Common.{ℕ, List, refl, ap, subst, ◌∙◌}
-use Rattle.graphql_core.specs.{written, keyword, directive_view}
-use Rattle.graphql_core.proofs.{TakesNone, fills, here, took, past, after, fails, fails_last, lacks, whole}
+use Rattle.graphql_core.specs.{written, keyword}
+use Rattle.graphql_core.proofs.{TakesNone, here, took, past, after, fails, fails_last, lacks, whole}
 use Rattle.graphql_schema.specs.{changes, parts_of}
 use Rattle.graphql_schema.proofs.{lifted, stops_lifted, of_kind, kind_taken, same_body}
 use Rattle.graphql_schema.proofs.read.types.type_body.Goals as goal
@@ -37,7 +37,6 @@ returns-in_err-parts-clause-reads g c =
 
 pub returns-clause-reads : goal.returns-clause-reads
 returns-clause-reads g c =
-    let bytes = g.S.Names.Names.bytes in
     let (w, begins, at) = c.in_ok-position.ensures in
     let (n, called, spelled) = c.in_ok-name.ensures in
     let (i, implements, names) = c.in_ok-interfaces.ensures.reads in
@@ -45,5 +44,5 @@ returns-clause-reads g c =
     let (x, takes, views) = c.in_ok-parts.ensures.reads in
     let named = past (past here (took (rw c.word.ensures at begins) refl)) (took called refl) in
     kind_taken c.args.kind (whole (past (past named implements) directed) takes
-    (same_body at spelled (fills (directive_view bytes) _ _ _ c.new-directives.ensures.items directs)
-    (views ∙ ap (λ is. parts_of c.args.kind is (written changes x)) (fills bytes _ _ _ c.new-implements.ensures.items names))))
+    (same_body at spelled directs
+    (views ∙ ap (λ is. parts_of c.args.kind is (written changes x)) names)))

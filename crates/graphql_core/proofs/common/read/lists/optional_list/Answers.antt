@@ -1,20 +1,20 @@
-use Rattle.std.proofs.Common.{sym, ap, ◌∙◌, ◌++◌, map}
-use Rattle.graphql_core.proofs.{begun_by, there, none_given, adds_none, whole, fails_last}
+use Rattle.std.proofs.Common.{sym, ap, ◌∙◌, map}
+use Rattle.graphql_core.proofs.{begun_by, there, none_given, whole, fails_last, fills}
 use Rattle.graphql_core.proofs.common.read.lists.optional_list.Goals as goal
 
 pub returns-then-not-sees_punctuator-clause-reads : goal.returns-then-not-sees_punctuator-clause-reads
 returns-then-not-sees_punctuator-clause-reads g c k m n s o =
-    let items = c.args.items.now.items in
     none_given (begun_by s) (sym c.sees_punctuator.ensures ∙ c.if-not-sees_punctuator.true)
-    (adds_none g.E.Elements.view items ∙ ap (λ l. map g.E.Elements.view items ++ l) (sym o.none))
+    (ap (map g.E.Elements.view) c.new.ensures.items ∙ sym o.none)
 
 pub returns-in_err-read_enclosed-clause-reads : goal.returns-in_err-read_enclosed-clause-reads
 returns-in_err-read_enclosed-clause-reads g c k m n s o =
     let lead = there (begun_by s) (sym c.sees_punctuator.ensures ∙ c.if-not-sees_punctuator.false) in
-    fails_last _ _ _ _ lead (c.in_err-read_enclosed.ensures.reads k m s) c.from_residual.ensures.1
+    fails_last _ _ _ _ lead (c.in_err-read_enclosed.ensures.reads k m s) c.from_residual-in_err-read_enclosed.ensures.1
 
 pub returns-clause-reads : goal.returns-clause-reads
 returns-clause-reads g c k m n s o =
     let (x, takes, adds) = c.in_ok-read_enclosed.ensures.reads k m s in
+    let none = c.in_ok-reserve_exact.ensures.items ∙ c.new-items.ensures.items in
     whole (there (begun_by s) (sym c.sees_punctuator.ensures ∙ c.if-not-sees_punctuator.false)) takes
-    (rw c.shrink_list.ensures (adds ∙ ap (λ l. map g.E.Elements.view c.args.items.now.items ++ l) (sym (o.some x))))
+    (rw c.shrink_list.ensures (fills g.E.Elements.view _ _ _ none adds ∙ sym (o.some x)))

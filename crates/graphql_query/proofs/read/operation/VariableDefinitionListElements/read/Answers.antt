@@ -1,6 +1,5 @@
 use Rattle.std.proofs.Common.{refl}
-use Rattle.graphql_core.specs.{directive_view}
-use Rattle.graphql_core.proofs.{adds_reserved, fills, took, past, after, fails, fails_last, lacks, whole}
+use Rattle.graphql_core.proofs.{adds_reserved, took, past, after, fails, fails_last, lacks, whole}
 use Rattle.graphql_query.specs.{variable_definition_symbol, variable_definition_view}
 use Rattle.graphql_query.proofs.{same_variable_definition, begun, lifted, stops_lifted}
 use Rattle.graphql_query.proofs.read.operation.VariableDefinitionListElements.read.Goals as goal
@@ -49,4 +48,4 @@ returns-clause-reads g c =
     let colon = past (past (past (begun variable_definition_symbol) (took dollar refl)) (took named refl)) (took colon refl) in
     whole (past (past colon typed) valued) directed
     (adds_reserved (variable_definition_view g.S.Names.Names.bytes) _ _ _ _ _ c.in_ok-reserve.ensures.items c.push_reserved.ensures.items
-    (same_variable_definition at spelled seen view (fills (directive_view g.S.Names.Names.bytes) _ _ _ c.new-directives.ensures.items directs)))
+    (same_variable_definition at spelled seen view directs))

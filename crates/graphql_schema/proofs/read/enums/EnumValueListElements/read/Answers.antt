@@ -1,6 +1,5 @@
 use Rattle.std.proofs.Common.{refl, sym, ◌∙◌}
-use Rattle.graphql_core.specs.{directive_view}
-use Rattle.graphql_core.proofs.{adds_reserved, fills, begun, took, past, after, fails_last, lacks, whole}
+use Rattle.graphql_core.proofs.{adds_reserved, begun, took, past, after, fails_last, lacks, whole}
 use Rattle.graphql_schema.specs.{enum_value_symbol, enum_value_view}
 use Rattle.graphql_schema.proofs.{lifted, stops_lifted, described_at, same_enum_value}
 use Rattle.graphql_schema.proofs.read.enums.EnumValueListElements.read.Goals as goal
@@ -25,4 +24,4 @@ returns-clause-reads g c =
     whole (past (past (begun enum_value_symbol (λ x. refl)) described) (took named refl)) directed
     (adds_reserved (enum_value_view bytes) _ _ _ _ _ c.in_ok-reserve.ensures.items c.push_reserved.ensures.items
     (same_enum_value (c.position-position.ensures ∙ sym (described_at old _ _ d n described c.in_ok-description.ensures.within named)) tells spelled
-    (fills (directive_view bytes) _ _ _ c.new-directives.ensures.items directs)))
+    directs))

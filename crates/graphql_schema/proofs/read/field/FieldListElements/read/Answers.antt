@@ -1,7 +1,6 @@
 use Rattle.std.proofs.Common.{refl, sym, ◌∙◌}
-use Rattle.graphql_core.specs.{directive_view}
-use Rattle.graphql_core.proofs.{adds_reserved, fills, begun, took, past, after, fails, fails_last, lacks, whole}
-use Rattle.graphql_schema.specs.{field_symbol, input_value_view, field_view}
+use Rattle.graphql_core.proofs.{adds_reserved, begun, took, past, after, fails, fails_last, lacks, whole}
+use Rattle.graphql_schema.specs.{field_symbol, field_view}
 use Rattle.graphql_schema.proofs.{lifted, stops_lifted, described_at, same_field}
 use Rattle.graphql_schema.proofs.read.field.FieldListElements.read.Goals as goal
 
@@ -10,27 +9,27 @@ returns-in_err-name-clause-reads g c =
     let described = after (begun field_symbol (λ x. refl)) c.in_ok-description.ensures.reads in
     lacks _ _ _ _ _ described c.in_err-name.ensures c.from_residual-in_err-name.ensures.1
 
-pub returns-in_err-optional_argument_definitions-clause-reads : goal.returns-in_err-optional_argument_definitions-clause-reads
-returns-in_err-optional_argument_definitions-clause-reads g c =
+pub returns-in_err-arguments-clause-reads : goal.returns-in_err-arguments-clause-reads
+returns-in_err-arguments-clause-reads g c =
     let named = past (after (begun field_symbol (λ x. refl)) c.in_ok-description.ensures.reads) (took c.in_ok-name.ensures.1 refl) in
-    fails _ _ _ _ named c.in_err-optional_argument_definitions.ensures.reads c.from_residual-in_err-optional_argument_definitions.ensures.1
+    fails _ _ _ _ named c.in_err-arguments.ensures.reads c.from_residual-in_err-arguments.ensures.1
 
 pub returns-in_err-expect_punctuator-clause-reads : goal.returns-in_err-expect_punctuator-clause-reads
 returns-in_err-expect_punctuator-clause-reads g c =
     let named = past (after (begun field_symbol (λ x. refl)) c.in_ok-description.ensures.reads) (took c.in_ok-name.ensures.1 refl) in
-    let defined = after named c.in_ok-optional_argument_definitions.ensures.reads in
+    let defined = after named c.in_ok-arguments.ensures.reads in
     lacks _ _ _ _ _ defined c.in_err-expect_punctuator.ensures c.from_residual-in_err-expect_punctuator.ensures.1
 
 pub returns-in_err-field_type-clause-reads : goal.returns-in_err-field_type-clause-reads
 returns-in_err-field_type-clause-reads g c =
     let named = past (after (begun field_symbol (λ x. refl)) c.in_ok-description.ensures.reads) (took c.in_ok-name.ensures.1 refl) in
-    let colon = past (after named c.in_ok-optional_argument_definitions.ensures.reads) (took c.in_ok-expect_punctuator.ensures.1 refl) in
+    let colon = past (after named c.in_ok-arguments.ensures.reads) (took c.in_ok-expect_punctuator.ensures.1 refl) in
     fails _ _ _ _ colon (stops_lifted _ refl refl _ _ _ c.in_err-field_type.ensures.reads) c.from_residual-in_err-field_type.ensures.1
 
 pub returns-in_err-directives-clause-reads : goal.returns-in_err-directives-clause-reads
 returns-in_err-directives-clause-reads g c =
     let named = past (after (begun field_symbol (λ x. refl)) c.in_ok-description.ensures.reads) (took c.in_ok-name.ensures.1 refl) in
-    let colon = past (after named c.in_ok-optional_argument_definitions.ensures.reads) (took c.in_ok-expect_punctuator.ensures.1 refl) in
+    let colon = past (after named c.in_ok-arguments.ensures.reads) (took c.in_ok-expect_punctuator.ensures.1 refl) in
     let typed = after colon (lifted refl refl c.in_ok-field_type.ensures.reads) in
     fails_last _ _ _ _ typed (stops_lifted _ refl refl _ _ _ c.in_err-directives.ensures.reads) c.from_residual-in_err-directives.ensures.1
 
@@ -40,12 +39,11 @@ returns-clause-reads g c =
     let old = g.S.TokenSource.items c.args.source.now in
     let (d, described, tells) = c.in_ok-description.ensures.reads in
     let (n, named, spelled) = c.in_ok-name.ensures in
-    let (vs, defined, defines) = c.in_ok-optional_argument_definitions.ensures.reads in
+    let (vs, defined, defines) = c.in_ok-arguments.ensures.reads in
     let (t, typed, seen) = lifted refl refl c.in_ok-field_type.ensures.reads in
     let (ds, directed, directs) = lifted refl refl c.in_ok-directives.ensures.reads in
     let before = past (past (past (begun field_symbol (λ x. refl)) described) (took named refl)) defined in
     whole (past (past before (took c.in_ok-expect_punctuator.ensures.1 refl)) typed) directed
     (adds_reserved (field_view bytes) _ _ _ _ _ c.in_ok-reserve.ensures.items c.push_reserved.ensures.items
     (same_field (c.position-position.ensures ∙ sym (described_at old _ _ d n described c.in_ok-description.ensures.within named)) tells spelled
-    (fills (input_value_view bytes) _ _ _ c.new-arguments.ensures.items defines) seen
-    (fills (directive_view bytes) _ _ _ c.new-directives.ensures.items directs)))
+    defines seen directs))

@@ -1,6 +1,5 @@
 use Rattle.std.proofs.Common.{refl, sym, ◌∙◌}
-use Rattle.graphql_core.specs.{directive_view}
-use Rattle.graphql_core.proofs.{adds_reserved, fills, begun, took, past, after, fails, fails_last, lacks, whole}
+use Rattle.graphql_core.proofs.{adds_reserved, begun, took, past, after, fails, fails_last, lacks, whole}
 use Rattle.graphql_schema.specs.{input_value_symbol, input_value_view}
 use Rattle.graphql_schema.proofs.{lifted, stops_lifted, described_at, same_input_value}
 use Rattle.graphql_schema.proofs.read.input.InputValueListElements.read.Goals as goal
@@ -47,4 +46,4 @@ returns-clause-reads g c =
     whole (past (past colon typed) valued) directed
     (adds_reserved (input_value_view bytes) _ _ _ _ _ c.in_ok-reserve.ensures.items c.push_reserved.ensures.items
     (same_input_value (c.position-position.ensures ∙ sym (described_at old _ _ d n described c.in_ok-description.ensures.within named)) says spelled
-    seen view (fills (directive_view bytes) _ _ _ c.new-directives.ensures.items directs)))
+    seen view directs))
