@@ -1,11 +1,11 @@
 //! Parsing the first definition of a source.
 ghost use Rattle.std.specs.Prelude.{◌≡◌, ◌<◌, ◌≤◌, ◌/◌, ℕ, List, ◌∷◌, ◌++◌, length, drop, IfOk, IfErr, IsErrOf};
 ghost use Rattle.graphql_core.specs.{Token, ParseTree, no_memory, max_length, too_long, Item, HasItems, next_place};
-ghost use Rattle.graphql_core.specs.{AnswersUnlessMemory, IsRefusalFor, IsRefusalOf, HasOneFaultEach};
-ghost use Rattle.graphql_query.specs.{IsDocumentOf, HasNoNewPart, DefinitionTree, definition_view, one_definition};
-ghost use Rattle.graphql_query.specs.{text_after, BeginsWith, IsFirstDefinition, BeginsWithDefinition};
-ghost use Rattle.graphql_query.specs.{IsFirstDefinition_0_4_1, HasDefinitions, IsFirstParseTree, BeginsWithParseTree};
-ghost use Rattle.graphql_query.specs.{NoneBeginsAnother, TakesDefinition};
+ghost use Rattle.graphql_core.specs.{AnswersUnlessMemory, IsRefusalFor, IsRefusalOf};
+ghost use Rattle.graphql_query.specs.{HasNoNewPart, DefinitionTree, definition_view, one_definition, text_after};
+ghost use Rattle.graphql_query.specs.{BeginsWith, IsFirstDefinition, IsFirstDefinition_0_4_1, TakesDefinition};
+ghost use Rattle.graphql_query.specs.{BeginsWithDefinition, IsFirstParseTree, BeginsWithParseTree, IsDocumentOf};
+ghost use Rattle.graphql_query.specs.{HasDefinitions};
 
 use crate::error::ParseError;
 use crate::read::definition::definition;
@@ -58,14 +58,30 @@ pub fn consume_definition<'a, S: Text<'a>>(
     alloc: Global,
     source: &'a str,
 ) -> Result<(Definition<S>, &'a str), ParseError>
-    // The result is the first definition, positions included, and exactly the rest.
+    // The result is the first definition, positions included, and exactly the rest. There is only one
+    // (`first_definition_is_unique` and `no_definition_begins_another` in `laws.rt`).
     ensures first { IfOk result (λ r. IsFirstDefinition source.now (definition_view S.Names.bytes r.0, r.1.now)) }
     ensures shorter { IfOk result (λ r. length r.1.now < length source.now) }
+
+    // The rest never changes the definition: before any other rest it is the same, and so are its tokens, positions
+    // included.
+    ensures other_rest { IfOk result (λ r. (taken other : List ℕ) → source.now ≡ taken ++ r.1.now
+        → BeginsWithDefinition (taken ++ other) (definition_view S.Names.bytes r.0)) }
+    ensures other_tokens { IfOk result (λ r. (x : ParseTree) (taken other : List ℕ)
+        → IsFirstParseTree source.now (x, r.1.now) → source.now ≡ taken ++ r.1.now
+        → BeginsWithParseTree (taken ++ other) x) }
 
     // Every source of at most `MAX_LENGTH` bytes that begins with a definition is accepted, or the call returns
     // `OutOfMemory`.
     ensures complete { (r : DefinitionTree × List ℕ) → length source.now ≤ max_length → IsFirstDefinition source.now r
         → AnswersUnlessMemory (λ a. (definition_view S.Names.bytes a.0, a.1.now)) r result }
+
+    // If such a source is a document, the result is its first definition, and the rest parses to the other definitions,
+    // ignoring positions. If there are no others, the rest is empty.
+    ensures document { (d : DefinitionTree) (ds : List DefinitionTree) → length source.now ≤ max_length
+        → IsDocumentOf source.now (d ∷ ds) → (rest : List ℕ) × HasDefinitions rest ds
+        × AnswersUnlessMemory {D = DefinitionTree × List ℕ}
+        (λ a. (definition_view S.Names.bytes a.0, a.1.now)) (d, rest) result }
 
     // In a source of at most `MAX_LENGTH` bytes, the first definition of version 0.4.1 is returned as it was there,
     // with the same rest, or the call returns `OutOfMemory`. The definition has no part that was added since.
@@ -73,30 +89,11 @@ pub fn consume_definition<'a, S: Text<'a>>(
         → IsFirstDefinition_0_4_1 source.now r
         → HasNoNewPart r.0 × AnswersUnlessMemory (λ a. (definition_view S.Names.bytes a.0, a.1.now)) r result }
 
-    // A source has at most one first definition, and one rest after it.
-    ensures one { (q r : DefinitionTree × List ℕ) → IsFirstDefinition source.now q
-        → IsFirstDefinition source.now r → q ≡ r }
-
-    // If the source is a document, its first definition is that of the document, and the rest parses to the other
-    // definitions, ignoring positions. If there are no others, the rest is empty.
-    ensures others { (d : DefinitionTree) (ds : List DefinitionTree) → IsDocumentOf source.now (d ∷ ds)
-        → (rest : List ℕ) × IsFirstDefinition source.now (d, rest) × HasDefinitions rest ds }
-
-    // The rest never changes the definition: before any other rest it is the same, positions included.
-    ensures other_rest { (d : DefinitionTree) (rest taken other : List ℕ) → IsFirstDefinition source.now (d, rest)
-        → source.now ≡ taken ++ rest → BeginsWithDefinition (taken ++ other) d }
-
-    // Before any other rest the source also begins with the tokens of the definition, at the same positions.
-    ensures other_tokens { (x : ParseTree) (rest taken other : List ℕ) → IsFirstParseTree source.now (x, rest)
-        → source.now ≡ taken ++ rest → BeginsWithParseTree (taken ++ other) x }
-
-    // No definition is a proper prefix of another, even if literals without a value are accepted.
-    ensures one_beginning { NoneBeginsAnother }
-
-    // An error is the first error of a source that must begin with a definition. Each token index has at most one
-    // error. A source that is too long is rejected before any allocation.
+    // An error is the first error of a source that must begin with a definition. Errors of one source have different
+    // indexes (`definition_errors_have_different_indexes`).
+    //
+    // A source that is too long is rejected before any allocation.
     ensures first_error { IfErr result (IsRefusalOf one_definition source.now) }
-    ensures one_error { HasOneFaultEach one_definition source.now }
     ensures too_long { max_length < length source.now → IsErrOf result too_long }
 {
     if source.len() > MAX_LENGTH {

@@ -1,11 +1,13 @@
-//! Theorems about the specification of errors, of minifying and of readers.
-ghost use Rattle.std.specs.Prelude.{◌≡◌, ◌<◌, ℕ, true, List, length, Result};
+//! Theorems about the specification of errors, of minifying, of readers and of first definitions.
+ghost use Rattle.std.specs.Prelude.{◌≡◌, ◌<◌, ℕ, true, List, ◌∷◌, ◌++◌, length, Result};
 ghost use Rattle.graphql_core.specs.{Item, is_unexpected, IsMinified, FaultText, split, IsLeastFault, NoneGoesOn};
-ghost use Rattle.graphql_core.specs.{Refusal, Sym, ParseTree, Items, reason_of};
+ghost use Rattle.graphql_core.specs.{Refusal, Sym, ParseTree, Items, reason_of, HasOneFaultEach};
 ghost use Rattle.graphql_core.specs.documents.ByGrammar.{ReturnsDerived};
 ghost use Rattle.graphql_core.specs.declared.helpers.read_error.ReadError.{ReadError};
 ghost use Rattle.graphql_query.specs.{DocumentTree, queries, IsParsed, AreAlike, IsFirstFaultOf, IsLeastFaultOf};
-ghost use Rattle.graphql_query.specs.{one_definition, Reads, second_rows};
+ghost use Rattle.graphql_query.specs.{one_definition, Reads, second_rows, DefinitionTree, IsDocumentOf};
+ghost use Rattle.graphql_query.specs.{IsFirstDefinition, HasDefinitions, BeginsWithDefinition, IsFirstParseTree};
+ghost use Rattle.graphql_query.specs.{BeginsWithParseTree, NoneBeginsAnother};
 
 /// An input has at most one first error (the one at the lowest token index). The tokens before it are a prefix of some
 /// document. With the offending token, or the end of the input, they are not.
@@ -40,4 +42,20 @@ pub fn readers_return_what_is_derived<V, M>()
     ensures { (k : ℕ) (old new : Items) (view : V → M) (means : ParseTree → M) (r : Result V ReadError)
         → k < length second_rows → Reads (Sym k) old new (λ v x. view v ≡ means x) r
         → ReturnsDerived queries.grammar (Sym k) old new reason_of (λ v x. view v ≡ means x) r }
+{}
+
+/// An input has at most one first definition, and one rest after it.
+pub fn first_definition_is_unique()
+    ensures { (text : List ℕ) (q r : DefinitionTree × List ℕ) → IsFirstDefinition text q → IsFirstDefinition text r
+        → q ≡ r }
+{}
+
+/// No definition is a proper prefix of another, even if literals without a value are accepted.
+pub fn no_definition_begins_another()
+    ensures { NoneBeginsAnother }
+{}
+
+/// An input that must begin with a definition has at most one error at each token index.
+pub fn definition_errors_have_different_indexes()
+    ensures { (text : List ℕ) → HasOneFaultEach one_definition text }
 {}

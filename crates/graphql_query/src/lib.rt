@@ -16,8 +16,9 @@ pub use document::{parse_query, parse_query_from};
 pub use error::ParseError;
 pub use graphql_core::common::{Names, Text};
 pub use laws::{
-    least_faults_are_first, minified_texts_are_parsed_alike, none_goes_on_with_an_unexpected_item,
-    readers_return_what_is_derived,
+    definition_errors_have_different_indexes, first_definition_is_unique, least_faults_are_first,
+    minified_texts_are_parsed_alike, no_definition_begins_another,
+    none_goes_on_with_an_unexpected_item, readers_return_what_is_derived,
 };
 pub use minify::{MinifyError, minify_query};
 pub use text_laws::{

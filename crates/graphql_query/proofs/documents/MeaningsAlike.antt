@@ -11,7 +11,7 @@ use Rattle.graphql_query.specs.{short, operation, fragment, erase_selection, era
 use Rattle.graphql_query.specs.{erase_variable_definition, erase_operation, erase_fragment_definition}
 use Rattle.graphql_query.specs.{erase_definition, erase, field, inline, set, queries, alias_of}
 use Rattle.graphql_query.specs.{type_condition_of, spread_name_of, fragment_spread_rest_of, fragment_spread_of}
-use Rattle.graphql_query.specs.{field_of, selected_of, inline_fragment_rest_of, inline_fragment_of, selection_of}
+use Rattle.graphql_query.specs.{field_of, optional_selection_set_of, inline_fragment_rest_of, inline_fragment_of, selection_of}
 use Rattle.graphql_query.specs.{selection_set_of, selections_of, variable_definition_of, operation_body_of}
 use Rattle.graphql_query.specs.{keyword_of, operation_of, fragment_definition_of, definition_of, document_of}
 
@@ -45,7 +45,7 @@ mutual
   field_same _ = refl
 
   selected_same : (p q : Place) (s : SameTrees)
-      → erase_selection_set (selected_of p (right_tree s)) ≡ erase_selection_set (selected_of q (left_tree s))
+      → erase_selection_set (optional_selection_set_of p (right_tree s)) ≡ erase_selection_set (optional_selection_set_of q (left_tree s))
   selected_same p q (same_first s) = selection_set_same s
   selected_same p q _ = refl
 

@@ -1,5 +1,5 @@
 -- If a source is a document, the rest after its first definition parses to the other definitions.
-use Rattle.std.proofs.Common.{◌≡◌, ℕ, ◌+◌, List, ◌∷◌, ◌++◌, length, drop, refl, sym, subst, arith}
+use Rattle.std.proofs.Common.{◌≡◌, ℕ, List, ◌∷◌, ◌++◌, length, drop, refl, sym, subst, arith}
 use Rattle.graphql_core.proofs.{Left, nests_before, past_tree, nests_tree, document_alike, OfItsOwn, own_text}
 use Rattle.graphql_core.specs.{Token, Sym, Many, ParseTree, Both, More, Node, leaves, Fits, fits_both, fits_stop}
 use Rattle.graphql_core.specs.{fits_more, fits_node, Item, HasItems, split, IsEnd, each_of}

@@ -1,5 +1,5 @@
 -- Before any other rest, the source begins with the same tokens at the same positions.
-use Rattle.std.proofs.Common.{◌≡◌, ℕ, ◌+◌, ◌<◌, true, ◌==◌, List, [], ◌∷◌, ◌++◌, length, drop, refl, sym, ap, subst, ◌∙◌, arith, length-append, length-drop}
+use Rattle.std.proofs.Common.{◌≡◌, ℕ, ◌<◌, true, ◌==◌, List, [], ◌∷◌, ◌++◌, length, drop, refl, sym, ap, subst, ◌∙◌, arith, length-append, length-drop}
 use Rattle.std.proofs.Common.{append_assoc, eqb-true, codes}
 use Rattle.graphql_core.specs.{items_of, IsCutInto, Token, Spelled, matches, Sym, ParseTree, leaves, accepts, Fits}
 use Rattle.graphql_core.specs.{fits_leaf, fits_both, fits_first, fits_second, fits_node, Item, HasItems, start}
