@@ -3,15 +3,22 @@ ghost use Rattle.std.specs.Prelude.{◌≡◌, ◌≢◌, ◌++◌, List, [], �
 ghost use Rattle.std.specs.Prelude.{IfErr, IfSome};
 ghost use Rattle.std.specs.Str.{IsUtf8};
 ghost use Rattle.std.specs.Io.KnownBytes.{Keeps, Appends, Consumes, IsAtEnd};
-ghost use Rattle.graphql_core.specs.{Refusal};
+ghost use Rattle.graphql_core.specs.{Refusal, ParsesDocument};
+ghost use Rattle.graphql_query.specs.{queries};
+ghost use Rattle.graphql_schema.specs.{schemas};
 ghost use Rattle.gql.specs.{HasFault, IsOutputOf, HasNoQuery, HasNoSchema, HasBadPlace, RefusesLayout, ReadsAll};
 ghost use Rattle.gql.specs.{EndsReading, EndsEngine, WritesPart};
+ghost use Rattle.graphql_query.specs as query_specs;
+ghost use Rattle.graphql_schema.specs as schema_specs;
 
 use crate::command::Command;
 use crate::counted::Counted;
 use crate::error::RunError;
-use graphql_parser::query::consume_definition;
-use graphql_parser::{FormatError, Style, minify_query, parse_query, parse_schema, query};
+use graphql_parser::common::MAX_LENGTH;
+use graphql_parser::query::{consume_definition, parse_query_from};
+use graphql_parser::schema::parse_schema_from;
+use graphql_parser::tokenizer::TokenStream;
+use graphql_parser::{FormatError, Style, minify_query, parse_query, parse_schema, query, schema};
 use std::alloc::Global;
 use std::io::{Read, Write};
 use std::mem::forget;
@@ -55,13 +62,39 @@ fn write_all<W: Write>(writer: &mut Counted<W>, bytes: &[u8]) -> Result<(), RunE
     unreachable!()
 }
 
+/// Parses an input as a query document. The tokens come from a stream, which keeps none of them. A list of the tokens
+/// of a large input takes more time and memory.
+fn parsed_query(alloc: Global, text: &str) -> Result<query::Document<'_, &str>, query::ParseError>
+    ensures parses { ParsesDocument queries (query_specs.document_view (λ name. name.now)) text.now result }
+{
+    if text.len() > MAX_LENGTH {
+        return parse_query(alloc, text);
+    }
+    let mut stream = TokenStream::new(text);
+    parse_query_from(alloc, &mut stream)
+}
+
+/// Parses an input as a schema document, in the same way.
+fn parsed_schema(
+    alloc: Global,
+    text: &str,
+) -> Result<schema::Document<'_, &str>, schema::ParseError>
+    ensures parses { ParsesDocument schemas (schema_specs.document_view (λ name. name.now)) text.now result }
+{
+    if text.len() > MAX_LENGTH {
+        return parse_schema(alloc, text);
+    }
+    let mut stream = TokenStream::new(text);
+    parse_schema_from(alloc, &mut stream)
+}
+
 /// Parses an input as a query document, and formats it. The document is not dropped, because the program ends soon and
 /// the drop takes a quarter of its time.
 fn query_laid_out(alloc: Global, style: &Style, text: &str) -> Result<String, RunError>
     ensures { MatchResult result (λ s. IsOutputOf Command.Query style.now text.now (string_bytes s))
         (EndsEngine Command.Query style.now text.now) }
 {
-    match parse_query::<&str>(alloc, text) {
+    match parsed_query(alloc, text) {
         Ok(document) => {
             let output = document.format(alloc, style).map_err(RunError::Format);
             forget(document);
@@ -76,7 +109,7 @@ fn schema_laid_out(alloc: Global, style: &Style, text: &str) -> Result<String, R
     ensures { MatchResult result (λ s. IsOutputOf Command.Schema style.now text.now (string_bytes s))
         (EndsEngine Command.Schema style.now text.now) }
 {
-    match parse_schema::<&str>(alloc, text) {
+    match parsed_schema(alloc, text) {
         Ok(document) => {
             let output = document.format(alloc, style).map_err(RunError::Format);
             forget(document);
