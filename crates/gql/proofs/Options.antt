@@ -32,15 +32,6 @@ pub said_indent : {m : Bool} {w n : List ℕ} {ws : List (List ℕ)} {s : Layout
 said_indent {w = w} h (says_multiline k more) = absurd (both_words w k h)
 said_indent h (says_indent k number more) = (number, more)
 
-pub said_no_number : {m : Bool} {w : List ℕ} {s : Layout} → is_indent w ≡ true → Says None m (w ∷ []) s → ⊥
-said_no_number {w = w} h (says_multiline k more) = both_words w k h
-
--- a word that is no option, or an option that was already read, is invalid
-pub said_no_more : {i : Option ℕ} {m : Bool} {w : List ℕ} {ws : List (List ℕ)} {s : Layout} → (is_multiline w ≡ true → m ≡ false → ⊥)
-    → (is_indent w ≡ true → i ≡ None → ⊥) → Says i m (w ∷ ws) s → ⊥
-said_no_more lines spaces (says_multiline k more) = lines k refl
-said_no_more lines spaces (says_indent k number more) = spaces k refl
-
 -- ---- iterations of the loop over options
 
 -- with the options already read, the remaining words have the same style as all options

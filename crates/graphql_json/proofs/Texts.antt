@@ -46,10 +46,6 @@ text-node_one kind name v = simp (text-node, later-one, append_assoc)
 
 -- ---- strings and lists
 
-pub text-string : (text : List ℕ) → json_text (json.string text) ≡ quoted text
-unfolding json_text
-text-string text = refl
-
 pub text-array : (vs : Elements) → json_text (json.array vs) ≡ (codes "[" ++ elements_text false vs) ++ codes "]"
 unfolding json_text
 text-array vs = refl

@@ -2,7 +2,7 @@
 use Rattle.std.proofs.Common.{◌≡◌, ◌<◌, ◌≤◌, ◌⊎◌, length, List, ℕ, inl, inr, sym, ap, ◌∙◌, subst}
 use Rattle.std.proofs.lemmas.Bool.{cases_lt}
 use Rattle.graphql_core.proofs.lexical.{items_unique}
-use Rattle.graphql_core.specs.{Layout, Item, split, Refusal, no_memory, max_length, IsDocument, IsDocumentOf}
+use Rattle.graphql_core.specs.{Layout, Item, split, max_length, IsDocument, IsDocumentOf}
 use Rattle.graphql_core.specs.{IsReadBack, AreReadBack, Language}
 use Rattle.graphql_core.proofs.documents.Readable.{IsReadable}
 use Rattle.graphql_core.proofs.documents.Whole.{one_document}
@@ -13,13 +13,6 @@ module _ {D : Type 0} (l : Language D) where
       → (max_length < length text → ⊥) → IsReadBack l text d → l.erase v ≡ l.erase d
   same_document text d v complete past (e, has, same) =
       elim (cases_lt max_length (length text)) [ inl long ↦ absurd (past long) | inr within ↦ ap l.erase (complete e within has) ∙ same ]
-
-  -- the error for an input that parses back is `OutOfMemory`, or the input has more than `MAX_LENGTH` bytes
-  pub memory_or_length : (text : List ℕ) (d : D) (f : Refusal) → ((e : D) → length text ≤ max_length → IsDocumentOf l text e → f ≡ no_memory)
-      → IsReadBack l text d
-      → (f ≡ no_memory) ⊎ (max_length < length text)
-  memory_or_length text d f complete (e, has, same) =
-      elim (cases_lt max_length (length text)) [ inl long ↦ inr long | inr within ↦ inl (complete e within has) ]
 
 -- An output without positions for each of some documents in each style. Each output parses back.
 module _

@@ -21,9 +21,6 @@ use Rattle.graphql_core.proofs.sources.TokenPlaces.{IsToken, StandsIn, part, tok
 some_bytes : (t : Token) → IsLexeme t → 0 < length t.spelling
 some_bytes t (k, s, rest, kind, stands) = (part (Word k s) t.spelling rest stands).0
 
-pub token_some : {text : List ℕ} {w : Where} {k : Kind} {bytes : List ℕ} → IsToken text w k bytes → 0 < length bytes
-token_some {text} {w} {k} {bytes} t = some_bytes (token_of w.position k bytes) t.lexeme
-
 first_taken : (n : ℕ) (bytes : List ℕ) → 0 < length (take n bytes) → get_or bytes 0 0 ≡ first_byte (take n bytes)
 first_taken zero bytes some = absurd (omega arith)
 first_taken (suc n) [] some = absurd (omega arith)

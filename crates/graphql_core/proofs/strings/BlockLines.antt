@@ -2,12 +2,12 @@
 use Rattle.std.specs.List.{filter, reduce, fold, enumerate_from, prefix_len, suffix_len, join_by, flat_map}
 use Rattle.std.specs.Result.{is_ok, OnOk}
 use Rattle.std.proofs.Common.{◌≡◌, ◌≢◌, ◌&&◌, ℕ, zero, suc, ◌+◌, ◌-◌, ◌<◌, ◌≤◌, ◌⊎◌, min, Bool, true, false, not, ◌==◌, if◌then◌else◌, List, [], ◌∷◌, ◌++◌}
-use Rattle.std.proofs.Common.{length, map, get_or, take, drop, Result, Ok, Err, refl, sym, ap, ◌∙◌, inl, inr, arith, append_assoc, zero-add}
+use Rattle.std.proofs.Common.{length, map, get_or, take, drop, Result, Ok, Err, refl, sym, ap, ◌∙◌, inl, inr, arith, append_assoc}
 use Rattle.std.proofs.Math.Nat.{min-le_left, min-le_right, min-zero}
 use Rattle.std.proofs.lemmas.Bool.{and_parts, cases_Bool, eqb-true, false_from_ne_true, false≢true, ne_eqb}
 use Rattle.std.proofs.lemmas.Bool.Decides.{nat_tests}
-use Rattle.std.proofs.lemmas.List.{drop_min, take_all, drop_all, take-map, drop-map, append-nil, flat_map_more, take_more, get_or-take, get_or-drop}
-use Rattle.std.proofs.lemmas.List.{length-take, length-take-le, length-drop}
+use Rattle.std.proofs.lemmas.List.{drop_min, take_all, drop_all, take-map, drop-map, append-nil, flat_map_more, take_more}
+use Rattle.std.proofs.lemmas.List.{length-take-le}
 use Rattle.std.proofs.lemmas.List.Folds.{flat_map-map}
 use Rattle.std.proofs.lemmas.List.Sums.{prefix_len-le-length, prefix_len_passes, suffix_len-take_no, suffix_len-take_yes}
 use Rattle.std.proofs.lemmas.List.FromFn.{length-enumerate_from, get_or-enumerate_from}
@@ -235,22 +235,5 @@ later_written n zs k p h e more =
     ap (join_by (piece n) (10 ∷ [])) (one_more zs k p h e)
     ∙ join_push (piece n) (10 ∷ []) (take k zs) p (omega arith)
     ∙ sym (append_assoc (join_by (piece n) (10 ∷ []) (take k zs)) (10 ∷ []) (piece n p))
-
--- the index of the next of the lines that are kept
-pub kept_at : (first through : ℕ) (ls : List (List ℕ)) (k i : ℕ) (l : List ℕ) → k < length (kept first through ls)
-    → (i, l) ≡ get_or (kept first through ls) k (i, l) → i ≡ first + k
-kept_at first through ls k i l h e =
-    let numbers = enumerate_from 0 ls in
-    let dropped = length-drop first (take through numbers) in
-    let taken = length-take through numbers in
-    let all = length-enumerate_from 0 ls in
-    let within : first + k < through = omega arith in
-    let inside : first + k < length ls = omega arith in
-    let at : (i, l) ≡ (0 + (first + k), get_or ls (first + k) l) =
-    e ∙ get_or-drop first (take through numbers) k (i, l) ∙ get_or-take through numbers (first + k) (i, l) within
-    ∙ get_or-enumerate_from 0 ls (first + k) (i, l) inside
-    in
-    let place : i ≡ 0 + (first + k) = ap (λ (q : ℕ × List ℕ). q.0) at in
-    place ∙ zero-add (first + k)
 
 -- ---- tokens
