@@ -5,7 +5,7 @@ use Rattle.std.proofs.lemmas.Bool.{cases_Bool, and_parts}
 use Rattle.std.proofs.lemmas.Bool.Decides.{nat_tests}
 use Rattle.graphql_core.specs.{Token, Expr, Sym, ParseTree, Grammar, leaves, peek, Derives, lax, decides, is_ll1, is_tight}
 use Rattle.graphql_core.specs.{is_productive, has_samples, Takes, Fails, Fault, Reason, StopsBefore, index_of, IsLeast}
-use Rattle.graphql_core.specs.{IsExact, IsExactFor, AnswersLeast, RefusesTokens, written, Stops, GivesBy, Items, reading}
+use Rattle.graphql_core.specs.{IsExact, IsExactFor, AnswersLeast, RefusesTokens, written, StopsFor, GivesBy, Items, reading}
 use Rattle.graphql_core.specs.{Language, numbered, TakesExactly, StopsAtFirst, HaltsAtFirst, ReturnsDerived}
 use Rattle.graphql_core.proofs.grammar.{grammar_exact}
 use Rattle.graphql_core.proofs.rules.{exact_for}
@@ -37,14 +37,14 @@ module _ (g h : Grammar) (to : ParseTree → ParseTree) (e : Expr) (reads : Read
       let first = reads.least.wrong (numbered old) why (length old.tokens - length new.tokens) (Fault why new.tokens, fails, refl) in
       (front, (parts, subst (λ (n : ℕ). IsLeast g e (numbered old) why (index_of why n)) count first))
 
-  halts_at_first : (why : Option Reason) → Stops h e old.tokens new.tokens why → HaltsAtFirst g e old new why
-  halts_at_first None fails = tt
-  halts_at_first (Some why) fails = stops_at_first why fails
+  halts_at_first : (why : Option Reason) → StopsFor h e old new why → HaltsAtFirst g e old new why
+  halts_at_first None same = tt
+  halts_at_first (Some why) (fails, same) = stops_at_first why fails
 
   -- `P` relates a returned value to the written parse tree
   pub returns_derived : {A E : Type 0} (reason : E → Option Reason) (P : A → ParseTree → Type 0) (v : Result A E)
       → GivesBy reason h e old new (λ a x. P a (to x)) v → ReturnsDerived g e old new reason P v
-  returns_derived reason P (Ok a) (x, takes, is) = (leaves x, to x, takes_exactly x takes, is)
+  returns_derived reason P (Ok a) (x, (takes, same), is) = (leaves x, to x, takes_exactly x takes, is)
   returns_derived reason P (Err f) fails = halts_at_first (reason f) fails
 
 -- ---- each symbol has a sample

@@ -40,12 +40,12 @@ pub use sources.{EndsInMark, HasItemAt, Rise, TokensKept, boundary, ends_after, 
 pub use sources.{more_items, one_minified, one_position, other_position, place_after, prefix, rise_on, same_position}
 pub use sources.{stands_before_same, token_next, tokens_kept}
 pub use readers.{BegunBy, FailsUnseen, IsSide, Leads, Pushes, Stops-after, Stops-before, Stops-node, Stops-turn}
-pub use readers.{TakesNone, Turns-more, Turns-start, Turns-stop, adds_more, adds_none, adds_one, adds_reserved}
-pub use readers.{after, answered_error, before, begun, each_means, fails, fails_last, fills, gives_error_by}
-pub use readers.{gives_led, here, into, is_list, lacks, lacks_last, leads_in, many_means, next_matches, none_given}
-pub use readers.{none_within, one_of, past, placed, pushes_none, same_text_spelling, sees_both, sees_neither}
+pub use readers.{TakesNone, Turns, Turns-more, Turns-start, Turns-stop, adds_more, adds_none, adds_one, adds_reserved}
+pub use readers.{after, before, begun, consumed, each_means, fails, fails_last, fewer, fills, gives_error_by}
+pub use readers.{gives_kept, gives_led, halts, here, into, is_list, lacks, lacks_last, leads_in, many_means, next_matches, none_given}
+pub use readers.{no_more, none_within, past, placed, pushed, pushes_none, rest_stops, same_text_spelling, sees_both, sees_neither}
 pub use readers.{side_first, side_in, side_left, side_node, side_nth, side_right, side_second, some_given}
-pub use readers.{some_taken, spelling_differs, stops_one, takes_none, takes_one, takes_some, takes_token, there}
+pub use readers.{some_taken, spelling_differs, stops_one, taken_both, takes_none, takes_one, takes_some, takes_token, there}
 pub use readers.{through, took, turn_appends, turn_fails, unseen_either, unseen_one, unseen_symbol, unseen_then}
 pub use readers.{whole}
 pub use values.{Anything, ByValues, DependsOnValues, HasRoom, IsSame, Left, Nests, OfItsOwn, SameLeaf, SameTrees}

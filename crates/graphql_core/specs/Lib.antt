@@ -31,13 +31,13 @@ unfoldable pub use documents.*
 pub use grammar.{After, AnyOf, AsFirst, Before, Both, Change, Class, EachIsSecond, Either, Empty, Except, Expr}
 pub use grammar.{Extends, Fails, First, Fits, Grammar, Growth, Improper, InParts, InSides, IsLeast, Leaf, Many, More}
 pub use grammar.{Node, Nothing, One, ParseTree, Place, Reason, Refused, RefusesTokens, Row, Same, Second, Spelled}
-pub use grammar.{Stop, Stops, Sym, Takes, TakesSome, TestsAlike, Then, Token, Turns, Unexpected, accepts, all_apart}
+pub use grammar.{Stop, Sym, Takes, TestsAlike, Then, Token, Unexpected, accepts, all_apart}
 pub use grammar.{all_within, change_at, cont, decides, either_way, fails_after, fails_before, fails_check}
 pub use grammar.{fails_node, fails_one, fails_value, first, fits_both, fits_first, fits_leaf, fits_more, fits_node}
 pub use grammar.{fits_nothing, fits_second, fits_stop, grown, growth_at, in_any, in_second, is_below, is_listed}
 pub use grammar.{is_row, lax, leads_node, leaves, matches, nowhere, optional, out_of_head, out_of_prefix}
 pub use grammar.{out_of_sides, out_of_symbols, peek, row, row_at, same_spelling, sees, solve, some_of, takes_both}
-pub use grammar.{takes_first, takes_leaf, takes_node, takes_nothing, takes_second, takes_stop, turn_values}
+pub use grammar.{takes_first, takes_leaf, takes_node, takes_nothing, takes_second, takes_stop}
 pub use grammar.{replaced, unchanged, with_rows, with_tables, written}
 pub use lexical.{BeginsNone, BeginsWithElement, HasItems, Ignored, IsCutInto, IsName, Item, LexicalError, Meaning}
 pub use lexical.{Piece, Stands, Stream, TokenContent, Where, Word, depth_of, is_in_line, is_too_deep, item_at}
@@ -64,7 +64,8 @@ pub use layouts.{Displays, HasDisplayed, IsNarrow, Layout, Part, arguments_layou
 pub use layouts.{default_style, description_levels, directives_layout, gap, has_block_form, has_block_lines}
 pub use layouts.{in_block_form, in_braces, in_levels, in_parentheses, name_part, punctuator_part, quoted, separated}
 pub use layouts.{spaces, string_layout, text_of, token, type_layout, with_indent, with_multiline}
-pub use steps.{Adds, Answered, Gives, IsFaultFor, IsList, IsNext, MayFollow, Shortens, Shows, TakesOne, TakesToken}
+pub use steps.{Adds, Consumes, Gives, IsFaultFor, IsList, IsNext, MayFollow, Shows, StopsFor, TakesOne, TakesSome}
+pub use steps.{TakesToken}
 pub use steps.{ignored_front, line_end, reason_of, sees_class, spelling_of}
 unfoldable pub use steps.{block_end, comment, front, items, items_in, number, other_token, quoted_front, string_end}
 pub use documents.{AnswersUnlessMemory, AreAlike, AreReadBack, HasNoValue, HasNone, HasOneFaultEach, IsDocument}

@@ -4,7 +4,6 @@ pub mod NextPlaces
 pub mod Tables
 pub mod Reading
 pub mod Solve
-pub mod ReaderWords
 pub mod Theorems
 pub mod Factored
 pub mod Extended
@@ -17,7 +16,6 @@ unfoldable pub use NextPlaces.*
 unfoldable pub use Tables.*
 unfoldable pub use Reading.*
 unfoldable pub use Solve.*
-unfoldable pub use ReaderWords.*
 unfoldable pub use Theorems.*
 unfoldable pub use Factored.*
 unfoldable pub use Extended.*

@@ -5,7 +5,7 @@ use Rattle.std.proofs.lemmas.Result.{IfOk-weaker, IfErr-weaker}
 use Rattle.graphql_core.specs.{EndOfInput, Content, LexicalError, Stream, TokenContent, item_at, Where, Item}
 use Rattle.graphql_core.specs.{last_alone, asked_once, only_last, Items, Last, Spent, IsEnd, IsAtEnd, split}
 use Rattle.graphql_core.specs.{items_of_stream, kept, IsNextFault, Refusal, at, max_length, too_long, past_bound}
-use Rattle.graphql_core.specs.{IsRefusalFor, IsRefusalOf, ParseTree, Node, written, TakesSome, Stops, IsFaultFor}
+use Rattle.graphql_core.specs.{IsRefusalFor, IsRefusalOf, ParseTree, Node, written, TakesSome, StopsFor, IsFaultFor}
 use Rattle.graphql_core.specs.{reason_of, reading, document_rule, Language, IsDocument, ReadsDocument}
 use Rattle.graphql_core.specs.{ParsesDocument, ParsesStream, Refusals, Reads}
 use Rattle.std.proofs.lemmas.Bool.{false≢true}
@@ -122,18 +122,18 @@ module _
 
 -- ---- a source that a reader left at j
 
-module _ {D V : Type 0} (l : Language D) (r : IsReadable l) (view : V → D) (i j : Items) (last : kept j ≡ kept i) where
+module _ {D V : Type 0} (l : Language D) (r : IsReadable l) (view : V → D) (i j : Items) where
   -- what a reader took denotes this document
   abbrev pub TakesAll : D → Type 0
-  TakesAll d = TakesSome (reading l) (document_rule l) i.tokens j.tokens (λ x. d ≡ l.means (written l.changes (Node l.document x)))
+  TakesAll d = TakesSome (reading l) (document_rule l) i j (λ x. d ≡ l.means (written l.changes (Node l.document x)))
 
   pub read_whole : (v : V) (b : Bool) → TakesAll (view v) → IsTrue b ↔ IsAtEnd j → b ≡ true → ReadsDocument l view i (Ok v)
-  read_whole v b (x, takes, is) at_end ended =
+  read_whole v b (x, (takes, last), is) at_end ended =
       let derived : IsDocument l i (view v) = found l r i j (view v) x takes last (at_end.0 ended) is in
       record { sound = derived; complete = λ d k. one_document l r i (view v) d derived k; first_error = tt }
 
   pub read_left : (d : D) (e : Refusal) (b : Bool) → TakesAll d → IsTrue b ↔ IsAtEnd j → b ≡ false → IsNextFault j e → ReadsDocument l view i (Err e)
-  read_left d e b (x, takes, means) at_end before is =
+  read_left d e b (x, (takes, last), means) at_end before is =
       let other : IsAtEnd j → ⊥ = λ end. false≢true (sym before ∙ at_end.1 end) in
       record {
         sound = tt;
@@ -141,18 +141,18 @@ module _ {D V : Type 0} (l : Language D) (r : IsReadable l) (view : V → D) (i 
         first_error = least_left l r i j e x takes last other is;
       }
 
-  pub read_stopped : (s : ReadError) (e : Refusal) → Stops (reading l) (document_rule l) i.tokens j.tokens (reason_of s) → IsFaultFor s j e
+  pub read_stopped : (s : ReadError) (e : Refusal) → StopsFor (reading l) (document_rule l) i j (reason_of s) → IsFaultFor s j e
       → ReadsDocument l view i (Err e)
   read_stopped s e stops is =
-      record { sound = tt; complete = λ d k. memory_only l r i j s e d stops is k; first_error = least_stop l r i j s e stops is last }
+      record { sound = tt; complete = λ d k. memory_only l r i j s e d stops is k; first_error = least_stop l r i j s e stops is }
 
   -- or rejected a node
   pub read_refused : {A R : Type 0} (w : Refusals R) (P : A → ParseTree → Type 0) (n : R) (e : Refusal)
       → Reads l w (document_rule l) i j P (Err (Refused n)) → e ≡ at (w.fault n) → ReadsDocument l view i (Err e)
   read_refused w P n e h is = record {
     sound = tt;
-    complete = λ d k. absurd (none_refused l r i j (w.symbol n) d h.gives k);
+    complete = λ d k. absurd (none_refused l r i j (w.symbol n) d h.gives.0 k);
     first_error =
         let (before, x, refused, said) = h.says in
-        subst (IsRefusalFor l i) (sym is) (least_refused l r i j (w.symbol n) (w.fault n) before x h.gives refused said);
+        subst (IsRefusalFor l i) (sym is) (least_refused l r i j (w.symbol n) (w.fault n) before x h.gives.0 refused said);
   }

@@ -5,7 +5,7 @@ use Rattle.graphql_core.specs.{Done, Fault as Stopped, Takes, takes_node, Reason
 use Rattle.graphql_core.specs.{Fails, fails_node, IsRefused, Answers, asked_once, fault_at, items_of_text, spending}
 use Rattle.graphql_core.specs.{tokens_then, LastIsError, Items, Last, LastIsEnd, IsEnd, IsAtEnd, FaultText, kept}
 use Rattle.graphql_core.specs.{place_next, split, here, IsFaultFor, IsNextFault, Refusal, at, no_memory, max_length}
-use Rattle.graphql_core.specs.{Token, Class, AnyOf, Sym, ParseTree, Node, leaves, written, change_at, Stops, CauseText}
+use Rattle.graphql_core.specs.{Token, Class, AnyOf, Sym, ParseTree, Node, leaves, written, change_at, StopsFor, CauseText}
 use Rattle.graphql_core.specs.{HasItems, start, items, reason_of, reading, document_rule, Language, IsDocument}
 use Rattle.graphql_core.specs.{IsDocumentOf, IsUnambiguous, AreUnambiguous, ending_of, numbered, Says, IsLeastFault}
 use Rattle.graphql_core.specs.{IsRefusalFor, IsRefusalOf, ran_out, faulty, Spent}
@@ -104,14 +104,14 @@ module _ {D : Type 0} (l : Language D) (r : IsReadable l) where
 
   -- ---- what a reader's exits state
 
-  pub memory_only : (i j : Items) (s : ReadError) (e : Refusal) (d : D) → Stops (reading l) (document_rule l) i.tokens j.tokens (reason_of s)
+  pub memory_only : (i j : Items) (s : ReadError) (e : Refusal) (d : D) → StopsFor (reading l) (document_rule l) i j (reason_of s)
       → IsFaultFor s j e → IsDocument l i d → e ≡ no_memory
   memory_only i j Memory e d h f k = f
-  memory_only i j Item e d h f k = absurd (none_wrong Unexpected i j d (at_fault Unexpected i j h) k)
-  memory_only i j Integer e d h f k = absurd (none_wrong _ i j d (at_fault _ i j h) k)
-  memory_only i j Float e d h f k = absurd (none_wrong _ i j d (at_fault _ i j h) k)
-  memory_only i j Escape e d h f k = absurd (none_wrong _ i j d (at_fault _ i j h) k)
-  memory_only i j Location e d h f k = absurd (none_wrong _ i j d (at_fault _ i j h) k)
+  memory_only i j Item e d (h, same) f k = absurd (none_wrong Unexpected i j d (at_fault Unexpected i j h) k)
+  memory_only i j Integer e d (h, same) f k = absurd (none_wrong _ i j d (at_fault _ i j h) k)
+  memory_only i j Float e d (h, same) f k = absurd (none_wrong _ i j d (at_fault _ i j h) k)
+  memory_only i j Escape e d (h, same) f k = absurd (none_wrong _ i j d (at_fault _ i j h) k)
+  memory_only i j Location e d (h, same) f k = absurd (none_wrong _ i j d (at_fault _ i j h) k)
 
   -- a token of a kind has no value if it has none as a leaf of a value
   lacks_here : (k : ℕ) (c : CauseText) → Lacks (AnyOf k) c → Misses l r (AnyOf k) c
@@ -132,14 +132,14 @@ module _ {D : Type 0} (l : Language D) (r : IsReadable l) where
       let first = (exact_reading l r).earliest i.tokens j.tokens _ (fails_node h) in
       tells_weaker (λ k. k ≡ fault_at j) (IsLeastFault l i) (λ k is. unexpected_left i j _ first.parts last k (at_fault _ i j h) is) e f
 
-  pub least_stop : (i j : Items) (s : ReadError) (e : Refusal) → Stops (reading l) (document_rule l) i.tokens j.tokens (reason_of s) → IsFaultFor s j e
-      → kept j ≡ kept i → IsRefusalFor l i e
-  least_stop i j Memory e h f last = subst (IsRefusalFor l i) (sym f) refl
-  least_stop i j Item e h f last = misplaced i j e h f last
-  least_stop i j Integer e h f last = valueless i j _ _ e (lacks_here _ _ no_integer) h f last
-  least_stop i j Float e h f last = valueless i j _ _ e (lacks_here _ _ no_float) h f last
-  least_stop i j Escape e h f last = valueless i j _ _ e (lacks_here _ _ no_string) h f last
-  least_stop i j Location e h f last = valueless i j _ _ e (λ t m none. r.location t none) h f last
+  pub least_stop : (i j : Items) (s : ReadError) (e : Refusal) → StopsFor (reading l) (document_rule l) i j (reason_of s) → IsFaultFor s j e
+      → IsRefusalFor l i e
+  least_stop i j Memory e last f = subst (IsRefusalFor l i) (sym f) refl
+  least_stop i j Item e (h, last) f = misplaced i j e h f last
+  least_stop i j Integer e (h, last) f = valueless i j _ _ e (lacks_here _ _ no_integer) h f last
+  least_stop i j Float e (h, last) f = valueless i j _ _ e (lacks_here _ _ no_float) h f last
+  least_stop i j Escape e (h, last) f = valueless i j _ _ e (lacks_here _ _ no_string) h f last
+  least_stop i j Location e (h, last) f = valueless i j _ _ e (λ t m none. r.location t none) h f last
 
   -- a reader that stops after a node that is rejected
   pub none_refused : (i j : Items) (k : ℕ) (d : D) → Fails (reading l) (document_rule l) i.tokens (Refused k) j.tokens → IsDocument l i d → ⊥

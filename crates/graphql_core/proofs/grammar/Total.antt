@@ -71,7 +71,7 @@ either_answer g a b ts p q = go (choose g.rows a b (peek ts)) refl
 -- ---- all steps
 
 -- if the expression is not nullable, what is taken is not empty
-shorter : (g : Grammar) → is_ll1 g.rows ≡ true → (a : Expr) (ts us : List Token) (x : ParseTree) → not (nullable g.rows a) ≡ true → Takes g a ts x us
+pub shorter : (g : Grammar) → is_ll1 g.rows ≡ true → (a : Expr) (ts us : List Token) (x : ParseTree) → not (nullable g.rows a) ≡ true → Takes g a ts x us
     → length us < length ts
 shorter g ok a ts us x n p = go (leaves x) refl
   where
@@ -80,7 +80,7 @@ shorter g ok a ts us x n p = go (leaves x) refl
     go (t ∷ xs) h = let e : length ts ≡ length (t ∷ (xs ++ us)) = ap length (takes-leaves g p ∙ ap (λ (l : List Token). l ++ us) h) in omega
         (arith, e, length-append xs us)
 
-no_longer : (g : Grammar) (a : Expr) (ts us : List Token) (x : ParseTree) → Takes g a ts x us → length us ≤ length ts
+pub no_longer : (g : Grammar) (a : Expr) (ts us : List Token) (x : ParseTree) → Takes g a ts x us → length us ≤ length ts
 no_longer g a ts us x p = omega (arith, ap length (takes-leaves g p), length-append (leaves x) us)
 
 abbrev Shorter : Grammar → ℕ → Type 0

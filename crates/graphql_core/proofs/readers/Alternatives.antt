@@ -1,20 +1,21 @@
--- An alternative of a rule that is read: what it takes and how it stops holds for the rule.
+-- An alternative of a rule that is read: what it takes and how it fails holds for the rule.
 use Rattle.std.proofs.Common.{◌≡◌, ℕ, zero, suc, Bool, true, false, ◌&&◌, ◌||◌, List, [], ◌∷◌, ◌++◌, Option, Some, None, refl, sym, ap, ◌∙◌}
 use Rattle.std.proofs.Math.Bool.{or_assoc}
 use Rattle.graphql_core.specs.{leads_second, leads_first, Leads, leads_node, in_any, Token, Class, all_within}
 use Rattle.graphql_core.specs.{matches, Grammar, Expr, Empty, One, Then, Either, Many, Sym, ParseTree, First, Second}
 use Rattle.graphql_core.specs.{Node, Row, row, nullable, first, decides, sees, choose, Left, Right, Takes}
-use Rattle.graphql_core.specs.{takes_node, takes_first, takes_second, Reason, fails_node, lax, Stops}
+use Rattle.graphql_core.specs.{takes_node, takes_first, takes_second, Reason, Fails, fails_node, fails_first, fails_second}
+use Rattle.graphql_core.specs.{lax}
 use Rattle.graphql_core.proofs.grammar.{all_within-sound, sees-within}
-use Rattle.graphql_core.proofs.readers.ReaderSteps.{Stops-first, Stops-second, picks-second, Stops-node, picks-first}
+use Rattle.graphql_core.proofs.readers.ReaderSteps.{picks-second, picks-first}
 use Rattle.std.proofs.lemmas.Bool.{and_parts}
-use Rattle.graphql_core.proofs.readers.Reading.{FailsUnseen, takes_left, stops_left, takes_right, stops_right}
+use Rattle.graphql_core.proofs.readers.Reading.{FailsUnseen, takes_left, fails_left, takes_right, fails_right}
 use Rattle.graphql_core.specs.grammar.Trees as trees
 
 -- e is read here by its alternative f; the trees of f are inside those of e
 pub record IsSide (g : Grammar) (e f : Expr) (inside : ParseTree → ParseTree) (ts : List Token) : Type 0 where
   pub takes : (us : List Token) (x : ParseTree) → Takes g f ts x us → Takes g e ts (inside x) us
-  pub stops : (us : List Token) (o : Option Reason) → Stops g f ts us o → Stops g e ts us o
+  pub fails : (us : List Token) (why : Reason) → Fails g f ts why us → Fails g e ts why us
   -- what f leads to, e leads to
   pub leads : (us : List Token) (d : Expr) → Leads (lax g) f us d → Leads (lax g) e us d
 
@@ -22,13 +23,13 @@ pub through : (g : Grammar) (e f h : Expr) (i j : ParseTree → ParseTree) (ts :
     → IsSide g e h (λ x. i (j x)) ts
 through g e f h i j ts outer inner = record {
   takes = λ us x t. outer.takes us (j x) (inner.takes us x t);
-  stops = λ us o s. outer.stops us o (inner.stops us o s);
+  fails = λ us why s. outer.fails us why (inner.fails us why s);
   leads = λ us d l. outer.leads us d (inner.leads us d l);
 }
 
 pub side_node : (g : Grammar) (k : ℕ) (ts : List Token) → ((x : ParseTree) → g.check k x ≡ true) → IsSide g (Sym k) (row g k).rule (Node k) ts
 side_node g k ts passes =
-    record { takes = λ us x t. takes_node t (passes x); stops = λ us o s. Stops-node g k ts us o s; leads = λ us d l. leads_node l }
+    record { takes = λ us x t. takes_node t (passes x); fails = λ us why s. fails_node s; leads = λ us d l. leads_node l }
 
 -- an alternative of the rule is one of the symbol
 pub side_in : {g : Grammar} {f : Expr} {inside : ParseTree → ParseTree} {ts : List Token} (k : ℕ) → ((x : ParseTree) → g.check k x ≡ true)
@@ -37,11 +38,11 @@ side_in {g} {f} {inside} {ts} k passes side = through g _ _ f (Node k) inside ts
 
 pub side_chosen_first : (g : Grammar) (a b : Expr) (ts : List Token) → choose g.rows a b (trees.peek ts) ≡ Left → IsSide g (Either a b) a First ts
 side_chosen_first g a b ts h =
-    record { takes = λ us x t. takes_first h t; stops = λ us o s. Stops-first g a b ts us o h s; leads = λ us d l. leads_first l }
+    record { takes = λ us x t. takes_first h t; fails = λ us why s. fails_first h s; leads = λ us d l. leads_first l }
 
 pub side_chosen_second : (g : Grammar) (a b : Expr) (ts : List Token) → choose g.rows a b (trees.peek ts) ≡ Right → IsSide g (Either a b) b Second ts
 side_chosen_second g a b ts h =
-    record { takes = λ us x t. takes_second h t; stops = λ us o s. Stops-second g a b ts us o h s; leads = λ us d l. leads_second l }
+    record { takes = λ us x t. takes_second h t; fails = λ us why s. fails_second h s; leads = λ us d l. leads_second l }
 
 -- ---- alternatives that begin with a token that is seen
 
@@ -75,7 +76,7 @@ tells_nth rs c (Either a b) (suc n) = (decides rs (Either a b) && all_within (c 
 tells_nth rs c e n = true
 
 side_whole : (g : Grammar) (e : Expr) (ts : List Token) → IsSide g e e (λ x. x) ts
-side_whole g e ts = record { takes = λ us x t. t; stops = λ us o s. s; leads = λ us d l. l }
+side_whole g e ts = record { takes = λ us x t. t; fails = λ us why s. s; leads = λ us d l. l }
 
 pub side_nth : {g : Grammar} {ts : List Token} (c : Class) (e : Expr) (n : ℕ) → tells_nth g.rows c e n ≡ true → sees (c ∷ []) (trees.peek ts) ≡ true
     → IsSide g e (nth_side e n) (λ x. in_nth e n x) ts
@@ -96,7 +97,7 @@ pub side_left : (g : Grammar) (a b : Expr) (ts : List Token) → nullable g.rows
     → sees (first g.rows b) (trees.peek ts) ≡ false → IsSide g (Either a b) a First ts
 side_left g a b ts n m f h = record {
   takes = λ us x t. takes_first (takes_left g a b ts us x f t) t;
-  stops = λ us o s. stops_left g a b ts us o n m f h s;
+  fails = λ us why s. fails_left g a b ts us why n m f h s;
   leads = λ us d l. leads_first l;
 }
 
@@ -104,7 +105,7 @@ pub side_right : (g : Grammar) (a b : Expr) (ts : List Token) → nullable g.row
     → sees (first g.rows a) (trees.peek ts) ≡ false → IsSide g (Either a b) b Second ts
 side_right g a b ts n m f h = record {
   takes = λ us x t. takes_second (takes_right g a b ts us x f h t) t;
-  stops = λ us o s. stops_right g a b ts us o n m f h s;
+  fails = λ us why s. fails_right g a b ts us why n m f h s;
   leads = λ us d l. leads_second l;
 }
 

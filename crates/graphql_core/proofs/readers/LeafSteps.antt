@@ -1,7 +1,7 @@
 -- The next token as a leaf with a value, or without one.
-use Rattle.std.proofs.Common.{◌≡◌, ℕ, true, false, List, Result, Ok, Err, refl, sym, ap, subst}
+use Rattle.std.proofs.Common.{◌≡◌, ℕ, true, false, List, Result, Ok, Err, Some, refl, sym, ap, subst}
 use Rattle.std.proofs.lemmas.Bool.{eq-eqb, and_from}
-use Rattle.graphql_core.specs.{fails_value, Takes, Improper, Fails, matches, One, ParseTree, Leaf, kind_number, Items}
+use Rattle.graphql_core.specs.{fails_value, Consumes, Improper, StopsFor, Fails, matches, One, ParseTree, Leaf, kind_number, Items}
 use Rattle.graphql_core.specs.{after, lexeme_token, shared, any, Gives, IsNext, Shows, has_value}
 use Rattle.graphql_core.proofs.readers.Matches.{takes_token}
 use Rattle.graphql_core.specs.declared.helpers.source.Lexeme.{Lexeme}
@@ -29,9 +29,9 @@ module _ {T : Type 0} (bytes : T → List ℕ) (k : Kind) (i : Items) (t : Lexem
   next_spelled = lexeme_spelled k (lexeme_token bytes t) next_kind n.lexeme
 
   pub next_taken : (new : Items) → has_value (kind_number k) (bytes t.text) ≡ true → new ≡ after i
-      → Takes shared (One (any k)) i.tokens (Leaf (lexeme_token bytes t)) new.tokens
+      → Consumes shared (One (any k)) i (Leaf (lexeme_token bytes t)) new
   next_taken new good e = takes_one shared (any k) i new (lexeme_token bytes t) good (takes_token (any k) i new (lexeme_token bytes t) n.first e next_matches)
 
   -- the token has no value
-  pub next_refused : has_value (kind_number k) (bytes t.text) ≡ false → Fails shared (One (any k)) i.tokens (Improper (any k)) i.tokens
-  next_refused bad = subst (λ ts. Fails shared (One (any k)) ts (Improper (any k)) ts) (sym n.first) (fails_value next_matches bad)
+  pub next_refused : has_value (kind_number k) (bytes t.text) ≡ false → StopsFor shared (One (any k)) i i (Some (Improper (any k)))
+  next_refused bad = (subst (λ ts. Fails shared (One (any k)) ts (Improper (any k)) ts) (sym n.first) (fails_value next_matches bad), refl)

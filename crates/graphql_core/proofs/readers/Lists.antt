@@ -23,13 +23,13 @@ is_list {f = f} n rule passes opens closes begins is_more stop more means = reco
 
 module _ {A : Type 0} {g : Grammar} {o c : Class} {a : Expr} {f : ParseTree → A} {k : ℕ} {m : ParseTree → List A} (s : IsList g o c a f k m) where
   -- the opener is next, so the list begins
-  pub list_begun : {ts : List Token} → Leads g (Sym k) (Then (One o) (Then (some_of a) (One c))) (Node k) ts ts
-  list_begun {ts} = subst (λ e. Leads g (Sym k) e (Node k) ts ts) s.rule (begun k s.passes)
+  pub list_begun : {old : Items} → Leads g (Sym k) (Then (One o) (Then (some_of a) (One c))) (Node k) old old
+  list_begun {old} = subst (λ e. Leads g (Sym k) e (Node k) old old) s.rule (begun k s.passes)
 
   pub begun_by : BegunBy g k (o ∷ [])
   begun_by = record { something = s.is_more; first = s.begins }
 
   -- the opener is taken
   pub opened : {old mid : Items} {t : Token} → TakesToken o old mid t
-      → Leads g (Sym k) (Then (some_of a) (One c)) (λ x. Node k (Both (Leaf t) x)) old.tokens mid.tokens
+      → Leads g (Sym k) (Then (some_of a) (One c)) (λ x. Node k (Both (Leaf t) x)) old mid
   opened {old} {mid} {t} h = past list_begun (took h (s.opens t))

@@ -1,7 +1,7 @@
 -- An optional symbol, decided by the next item.
-use Rattle.std.proofs.Common.{◌≡◌, ℕ, true, false, List, Result, ap, ◌∙◌}
+use Rattle.std.proofs.Common.{◌≡◌, ℕ, true, false, List, Result, refl, ap, ◌∙◌}
 use Rattle.graphql_core.specs.{Grammar, Expr, Empty, Either, Sym, ParseTree, First, Second, Nothing, optional, peek}
-use Rattle.graphql_core.specs.{Token, Class, nullable, first, sees, TakesSome, Answered, reason_of}
+use Rattle.graphql_core.specs.{Token, Class, nullable, first, sees, Items, TakesSome, Gives}
 use Rattle.graphql_core.proofs.readers.ReaderSteps.{picks-first}
 use Rattle.graphql_core.specs.declared.helpers.read_error.ReadError.{ReadError}
 use Rattle.graphql_core.proofs.readers.Alternatives.{IsSide, side_chosen_first}
@@ -19,17 +19,18 @@ pub seen_symbol : {g : Grammar} {k : ℕ} {cs : List Class} (other : Expr) {ts :
 seen_symbol {g} {k} other {ts} b seen =
     side_chosen_first g (Sym k) other ts (picks-first g.rows (Sym k) other (peek ts) (ap (λ ds. sees ds (peek ts)) b.first ∙ seen))
 
-pub there : {g : Grammar} {k : ℕ} {cs : List Class} {ts : List Token} → BegunBy g k cs → sees cs (peek ts) ≡ true
-    → Leads g (optional (Sym k)) (Sym k) First ts ts
+pub there : {g : Grammar} {k : ℕ} {cs : List Class} {old : Items} → BegunBy g k cs → sees cs (peek old.tokens) ≡ true
+    → Leads g (optional (Sym k)) (Sym k) First old old
 there b seen = leads_in (seen_symbol Empty b seen)
 
 -- and it is what its reader returns
-pub some_given : {A : Type 0} {g : Grammar} {k : ℕ} {cs : List Class} (ts us : List Token) (P Q : A → ParseTree → Type 0) (r : Result A ReadError)
-    → BegunBy g k cs → sees cs (peek ts) ≡ true → ((v : A) (x : ParseTree) → P v x → Q v (First x)) → Answered reason_of g (Sym k) ts us P r
-    → Answered reason_of g (optional (Sym k)) ts us Q r
-some_given ts us P Q r b seen means = gives_led us P Q r (there b seen) (λ v x h. means v x)
+pub some_given : {A : Type 0} {g : Grammar} {k : ℕ} {cs : List Class} (old new : Items) (P Q : A → ParseTree → Type 0) (r : Result A ReadError)
+    → BegunBy g k cs → sees cs (peek old.tokens) ≡ true → ((v : A) (x : ParseTree) → P v x → Q v (First x)) → Gives g (Sym k) old new P r
+    → Gives g (optional (Sym k)) old new Q r
+some_given old new P Q r b seen means = gives_led new P Q r (there b seen) (λ v x h. means v x)
 
 -- or it is missing
-pub none_given : {g : Grammar} {k : ℕ} {cs : List Class} {ts : List Token} {P : ParseTree → Type 0} → BegunBy g k cs → sees cs (peek ts) ≡ false
-    → P (Second Nothing) → TakesSome g (optional (Sym k)) ts ts P
-none_given {g} {k} {ts = ts} b unseen none = (Second Nothing, takes_none g (Sym k) ts b.something (ap (λ ds. sees ds (peek ts)) b.first ∙ unseen), none)
+pub none_given : {g : Grammar} {k : ℕ} {cs : List Class} {old : Items} {P : ParseTree → Type 0} → BegunBy g k cs → sees cs (peek old.tokens) ≡ false
+    → P (Second Nothing) → TakesSome g (optional (Sym k)) old old P
+none_given {g} {k} {old = old} b unseen none =
+    (Second Nothing, (takes_none g (Sym k) old.tokens b.something (ap (λ ds. sees ds (peek old.tokens)) b.first ∙ unseen), refl), none)

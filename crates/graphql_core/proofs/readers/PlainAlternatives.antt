@@ -7,8 +7,8 @@ use Rattle.graphql_core.proofs.readers.Matches.{takes_token}
 use Rattle.graphql_core.specs.declared.helpers.source.Lexeme.{Lexeme}
 use Rattle.std.specs.Result.{IsErrAnd}
 use Rattle.graphql_core.specs.{Token, Class, same_spelling, takes_spelling, matches, Expr, One, Sym, ParseTree, Leaf}
-use Rattle.graphql_core.specs.{First, Second, Node, peek, first, sees, Takes, Unexpected, Fails, fails_one}
-use Rattle.graphql_core.specs.{fails_node, TakesSome, kind_number, Items, after, lexeme_token, Gives, shared, tables}
+use Rattle.graphql_core.specs.{First, Second, Node, peek, first, sees, Consumes, StopsFor, Unexpected, fails_one}
+use Rattle.graphql_core.specs.{fails_node, takes_node, TakesSome, kind_number, Items, after, lexeme_token, Gives, shared, tables}
 use Rattle.graphql_core.specs.{any, enum_class, keyword, plain_symbol, enum_name_symbol, IsNext, Shows, word_of}
 use Rattle.graphql_core.specs.{plain_of}
 use Rattle.graphql_core.specs.declared.helpers.read_error.ReadError.{ReadError}
@@ -30,7 +30,7 @@ kind_seen k i t first kind = seen (any k) i t first (rw (eq-eqb (kind_number k) 
 -- an alternative that a token of this kind decides
 pub kind_led : {f : Expr} {inside : ParseTree → ParseTree} (k : Kind) (i : Items) (t : Token)
     → (sees (any k ∷ []) (peek i.tokens) ≡ true → IsSide shared (Sym plain_symbol) f inside i.tokens)
-    → i.tokens ≡ t ∷ drop 1 i.tokens → t.kind ≡ kind_number k → Leads shared (Sym plain_symbol) f inside i.tokens i.tokens
+    → i.tokens ≡ t ∷ drop 1 i.tokens → t.kind ≡ kind_number k → Leads shared (Sym plain_symbol) f inside i i
 kind_led k i t side first kind = leads_in (side (kind_seen k i t first kind))
 
 -- ---- the alternatives of a plain value
@@ -77,13 +77,14 @@ module _ (ts : List Token) where
   block_side h = side_in plain_symbol (λ x. refl) (side_nth (any BlockString) _ 7 refl h)
 
 -- a punctuator, or the absence of a token, matches no alternative
-pub punctuator_stopped : (ts : List Token) (t : Token) → ts ≡ t ∷ drop 1 ts → t.kind ≡ kind_number Punctuator → Fails shared (Sym plain_symbol) ts Unexpected ts
+pub punctuator_stopped : (i : Items) (t : Token) → i.tokens ≡ t ∷ drop 1 i.tokens → t.kind ≡ kind_number Punctuator
+    → StopsFor shared (Sym plain_symbol) i i (Some Unexpected)
 unfolding tables
-punctuator_stopped ts t first kind = fails_node (unseen_either shared _ _ ts refl refl (rw (ap peek first, kind) refl))
+punctuator_stopped i t first kind = (fails_node (unseen_either shared _ _ i.tokens refl refl (rw (ap peek first, kind) refl)), refl)
 
-pub none_stopped : (ts : List Token) → ts ≡ [] → Fails shared (Sym plain_symbol) ts Unexpected ts
+pub none_stopped : (i : Items) → i.tokens ≡ [] → StopsFor shared (Sym plain_symbol) i i (Some Unexpected)
 unfolding tables
-none_stopped ts none = fails_node (unseen_either shared _ _ ts refl refl (rw (ap peek none) refl))
+none_stopped i none = (fails_node (unseen_either shared _ _ i.tokens refl refl (rw (ap peek none) refl)), refl)
 
 -- ---- names
 
@@ -103,14 +104,14 @@ spelling_differs xs ys h = false_from_ne_true _ (λ e. h (same_spelling-true xs 
 -- a name that is an enum value, or is none
 module _ {T : Type 0} (bytes : T → List ℕ) (i : Items) where
   pub enum_taken : (new : Items) (t : Lexeme T) → IsNext bytes Name i t → takes_spelling enum_class (bytes t.text) ≡ true → new ≡ after i
-      → Takes shared (Sym enum_name_symbol) i.tokens (Node enum_name_symbol (Leaf (lexeme_token bytes t))) new.tokens
+      → Consumes shared (Sym enum_name_symbol) i (Node enum_name_symbol (Leaf (lexeme_token bytes t))) new
   enum_taken new t n word e =
-      (side_node shared enum_name_symbol i.tokens (λ x. refl)).takes new.tokens _
-      (takes_one shared enum_class i new _ refl (takes_token enum_class i new _ n.first e (rw (ap kind_number n.kind, word) refl)))
+      let (taken, same) = takes_one shared enum_class i new _ refl (takes_token enum_class i new _ n.first e (rw (ap kind_number n.kind, word) refl)) in
+      (takes_node taken refl, same)
 
   pub enum_stopped : (t : Lexeme T) → IsNext bytes Name i t → takes_spelling enum_class (bytes t.text) ≡ false
-      → Fails shared (Sym enum_name_symbol) i.tokens Unexpected i.tokens
-  enum_stopped t n word = fails_node (fails_one (rw (ap peek n.first, ap kind_number n.kind, word) refl))
+      → StopsFor shared (Sym enum_name_symbol) i i (Some Unexpected)
+  enum_stopped t n word = (fails_node (fails_one (rw (ap peek n.first, ap kind_number n.kind, word) refl)), refl)
 
 -- what is no name is no enum value
 no_enum : (item : Option Token) → sees (any Name ∷ []) item ≡ false → sees (enum_class ∷ []) item ≡ false
@@ -132,9 +133,10 @@ enum_not_shown bytes i P r e s h =
 module _ (i new : Items) (t : Token) (front : i.tokens ≡ t ∷ drop 1 i.tokens) (kind : t.kind ≡ kind_number Name) (past_it : new ≡ after i) where
   -- in the alternative of a class that the name is of
   of_class : (c : Class) (a : Expr) (f : ParseTree → ParseTree) → shared.good c t ≡ true → matches c t ≡ true
-      → (sees (c ∷ []) (peek i.tokens) ≡ true → IsSide shared a (One c) f i.tokens) → Takes shared a i.tokens (f (Leaf t)) new.tokens
-  of_class c a f good is side = (side (seen c i t front is)).takes new.tokens (Leaf t)
-      (takes_one shared c i new t good (takes_token c i new t front past_it is))
+      → (sees (c ∷ []) (peek i.tokens) ≡ true → IsSide shared a (One c) f i.tokens) → Consumes shared a i (f (Leaf t)) new
+  of_class c a f good is side =
+      let (taken, same) = takes_one shared c i new t good (takes_token c i new t front past_it is) in
+      ((side (seen c i t front is)).takes new.tokens (Leaf t) taken, same)
 
   enum_led : sees (enum_class ∷ []) (peek i.tokens) ≡ true
       → IsSide shared (Sym plain_symbol) (One enum_class) (λ x. Node plain_symbol (Second (Second (Second (First (Node enum_name_symbol x)))))) i.tokens
@@ -148,7 +150,7 @@ module _ (i new : Items) (t : Token) (front : i.tokens ≡ t ∷ drop 1 i.tokens
       let no_null = spelling_back t.spelling (codes "null") ∙ k in
       rw (kind, no_true, no_false, no_null) refl
 
-  pub word_taken : TakesSome shared (Sym plain_symbol) i.tokens new.tokens (λ x. word_of t.spelling ≡ plain_of x)
+  pub word_taken : TakesSome shared (Sym plain_symbol) i new (λ x. word_of t.spelling ≡ plain_of x)
   word_taken =
       elim (cases_Bool (same_spelling (codes "true") t.spelling)) [
         | inl h ↦ (_, of_class (keyword (codes "true")) _ _ refl (rw (kind, h) refl) (true_side i.tokens), rw h refl)

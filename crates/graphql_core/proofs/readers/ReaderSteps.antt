@@ -1,57 +1,76 @@
 -- The steps of a function that reads: a loop over a repetition, an error that is returned, and a choice.
-use Rattle.std.proofs.Common.{◌≡◌, ℕ, true, false, not, ◌&&◌, List, [], ◌++◌, Option, Some, None, refl, sym, ◌∙◌, append_assoc, append-nil}
+use Rattle.std.proofs.Common.{◌≡◌, ℕ, true, false, not, ◌&&◌, List, [], ◌∷◌, ◌++◌, Option, Some, None, Result, Ok, Err, refl, sym, ◌∙◌, append_assoc, append-nil}
 use Rattle.std.proofs.lemmas.Bool.{and_parts}
 use Rattle.graphql_core.specs.{Token, all_apart, Expr, Then, Either, Many, Sym, ParseTree, Stop, More, Row, Grammar, row}
 use Rattle.graphql_core.specs.{peek, nullable, first, decides, sees, choose, Left, Right, Neither, Takes, takes_stop}
-use Rattle.graphql_core.specs.{takes_more, Reason, fails_before, fails_after, fails_first, fails_second, fails_node}
-use Rattle.graphql_core.specs.{fails_turn, fails_later, TakesSome, Stops, turn_values, Turns}
+use Rattle.graphql_core.specs.{takes_more, Reason, Fails, fails_before, fails_after, fails_first, fails_second, fails_node}
+use Rattle.graphql_core.specs.{fails_turn, fails_later, each_of, Items, kept, Consumes, TakesSome, StopsFor, GivesBy}
 use Rattle.graphql_core.proofs.grammar.{sees-parts, sees-apart}
 
-pub Turns-start : {A : Type 0} (g : Grammar) (a : Expr) (f : ParseTree → List A) (ts : List Token) → Turns g a f ts ts []
-Turns-start g a f ts = record { takes = λ y us h. (y, h, refl); fails = λ why us h. h }
+-- the error of a part, which begins at mid, is an error of the whole
+pub halts : {g h : Grammar} {e f : Expr} {old mid : Items} (new : Items) (o : Option Reason) → kept mid ≡ kept old
+    → ((why : Reason) → Fails h f mid.tokens why new.tokens → Fails g e old.tokens why new.tokens) → StopsFor h f mid new o → StopsFor g e old new o
+halts new None same fails h = h ∙ same
+halts new (Some why) same fails (h, k) = (fails why h, k ∙ same)
 
-pub Turns-more : {A : Type 0} (g : Grammar) (a : Expr) (f : ParseTree → List A) (start now next : List Token) (items : List A) (x : ParseTree)
+-- the end of the input, or the lexical error in its place, is as before
+stops_kept : (g : Grammar) (e : Expr) (old new : Items) (o : Option Reason) → StopsFor g e old new o → kept new ≡ kept old
+stops_kept g e old new None h = h
+stops_kept g e old new (Some why) h = h.1
+
+pub gives_kept : {A E : Type 0} (reason : E → Option Reason) (g : Grammar) (e : Expr) (old new : Items) (P : A → ParseTree → Type 0) (r : Result A E)
+    → GivesBy reason g e old new P r → kept new ≡ kept old
+gives_kept reason g e old new P (Ok v) h = h.1.1
+gives_kept reason g e old new P (Err d) h = stops_kept g e old new (reason d) h
+
+-- A loop over `Many a` began at `start` and has reached `now`: the whole takes what the rest takes.
+-- `f` is what one repetition denotes, and `items` what those so far denote.
+pub record Turns {A : Type 0} (g : Grammar) (a : Expr) (f : ParseTree → A) (start now : Items) (items : List A) : Type 0 where
+  pub takes : (y : ParseTree) (us : List Token) → Takes g (Many a) now.tokens y us
+      → (x : ParseTree) × Takes g (Many a) start.tokens x us × (each_of f x ≡ items ++ each_of f y)
+  pub fails : (why : Reason) (us : List Token) → Fails g (Many a) now.tokens why us → Fails g (Many a) start.tokens why us
+  pub kept : kept now ≡ kept start
+
+pub Turns-start : {A : Type 0} (g : Grammar) (a : Expr) (f : ParseTree → A) (start : Items) → Turns g a f start start []
+Turns-start g a f start = record { takes = λ y us h. (y, h, refl); fails = λ why us h. h; kept = refl }
+
+pub Turns-more : {A : Type 0} (g : Grammar) (a : Expr) (f : ParseTree → A) (start now next : Items) (items : List A) (x : ParseTree)
     → Turns g a f start now items
-    → sees (first g.rows a) (peek now) ≡ true → Takes g a now x next → Turns g a f start next (items ++ f x)
-Turns-more g a f start now next items x t s h = record {
-  takes = λ y us k. let r = t.takes (More x y) us (takes_more s h k) in (r.0, r.1, r.2 ∙ sym (append_assoc items (f x) (turn_values f y)));
+    → sees (first g.rows a) (peek now.tokens) ≡ true → Consumes g a now x next → Turns g a f start next (items ++ f x ∷ [])
+Turns-more g a f start now next items x t s (h, same) = record {
+  takes = λ y us k. let r = t.takes (More x y) us (takes_more s h k) in (r.0, r.1, r.2 ∙ sym (append_assoc items (f x ∷ []) (each_of f y)));
   fails = λ why us k. t.fails why us (fails_later s h k);
+  kept = same ∙ t.kept;
 }
 
-pub Turns-stop : {A : Type 0} (g : Grammar) (a : Expr) (f : ParseTree → List A) (start now : List Token) (items : List A) → Turns g a f start now items
-    → sees (first g.rows a) (peek now) ≡ false → TakesSome g (Many a) start now (λ x. turn_values f x ≡ items)
-Turns-stop g a f start now items t s = let r = t.takes Stop now (takes_stop s) in (r.0, r.1, r.2 ∙ append-nil items)
+pub Turns-stop : {A : Type 0} (g : Grammar) (a : Expr) (f : ParseTree → A) (start now : Items) (items : List A) → Turns g a f start now items
+    → sees (first g.rows a) (peek now.tokens) ≡ false → TakesSome g (Many a) start now (λ x. each_of f x ≡ items)
+Turns-stop g a f start now items t s = let r = t.takes Stop now.tokens (takes_stop s) in (r.0, (r.1, t.kept), r.2 ∙ append-nil items)
 
 -- ---- how an error is returned
 
-pub Stops-before : (g : Grammar) (a b : Expr) (ts us : List Token) (o : Option Reason) → Stops g a ts us o → Stops g (Then a b) ts us o
-Stops-before g a b ts us None h = tt
-Stops-before g a b ts us (Some why) h = fails_before h
+pub Stops-before : (g : Grammar) (a b : Expr) (old new : Items) (o : Option Reason) → StopsFor g a old new o → StopsFor g (Then a b) old new o
+Stops-before g a b old new o = halts new o refl (λ why. fails_before)
 
-pub Stops-after : (g : Grammar) (a b : Expr) (ts us vs : List Token) (x : ParseTree) (o : Option Reason) → Takes g a ts x us → Stops g b us vs o
-    → Stops g (Then a b) ts vs o
-Stops-after g a b ts us vs x None t h = tt
-Stops-after g a b ts us vs x (Some why) t h = fails_after t h
+pub Stops-after : (g : Grammar) (a b : Expr) (old mid new : Items) (x : ParseTree) (o : Option Reason) → Consumes g a old x mid → StopsFor g b mid new o
+    → StopsFor g (Then a b) old new o
+Stops-after g a b old mid new x o (t, same) = halts new o same (λ why. fails_after t)
 
-pub Stops-first : (g : Grammar) (a b : Expr) (ts us : List Token) (o : Option Reason) → choose g.rows a b (peek ts) ≡ Left → Stops g a ts us o
-    → Stops g (Either a b) ts us o
-Stops-first g a b ts us None k h = tt
-Stops-first g a b ts us (Some why) k h = fails_first k h
+pub Stops-first : (g : Grammar) (a b : Expr) (old new : Items) (o : Option Reason) → choose g.rows a b (peek old.tokens) ≡ Left → StopsFor g a old new o
+    → StopsFor g (Either a b) old new o
+Stops-first g a b old new o k = halts new o refl (λ why. fails_first k)
 
-pub Stops-second : (g : Grammar) (a b : Expr) (ts us : List Token) (o : Option Reason) → choose g.rows a b (peek ts) ≡ Right → Stops g b ts us o
-    → Stops g (Either a b) ts us o
-Stops-second g a b ts us None k h = tt
-Stops-second g a b ts us (Some why) k h = fails_second k h
+pub Stops-second : (g : Grammar) (a b : Expr) (old new : Items) (o : Option Reason) → choose g.rows a b (peek old.tokens) ≡ Right → StopsFor g b old new o
+    → StopsFor g (Either a b) old new o
+Stops-second g a b old new o k = halts new o refl (λ why. fails_second k)
 
-pub Stops-node : (g : Grammar) (k : ℕ) (ts us : List Token) (o : Option Reason) → Stops g (row g k).rule ts us o → Stops g (Sym k) ts us o
-Stops-node g k ts us None h = tt
-Stops-node g k ts us (Some why) h = fails_node h
+pub Stops-node : (g : Grammar) (k : ℕ) (old new : Items) (o : Option Reason) → StopsFor g (row g k).rule old new o → StopsFor g (Sym k) old new o
+Stops-node g k old new o = halts new o refl (λ why. fails_node)
 
-pub Stops-turn : {A : Type 0} (g : Grammar) (a : Expr) (f : ParseTree → List A) (ts now us : List Token) (items : List A) (o : Option Reason)
-    → Turns g a f ts now items
-    → sees (first g.rows a) (peek now) ≡ true → Stops g a now us o → Stops g (Many a) ts us o
-Stops-turn g a f ts now us items None t s h = tt
-Stops-turn g a f ts now us items (Some why) t s h = t.fails why us (fails_turn s h)
+pub Stops-turn : {A : Type 0} (g : Grammar) (a : Expr) (f : ParseTree → A) (start now new : Items) (items : List A) (o : Option Reason)
+    → Turns g a f start now items
+    → sees (first g.rows a) (peek now.tokens) ≡ true → StopsFor g a now new o → StopsFor g (Many a) start new o
+Stops-turn g a f start now new items o t s = halts new o t.kept (λ why h. t.fails why new.tokens (fails_turn s h))
 
 pub ruleset exits = (Stops-before, Stops-after, Stops-first, Stops-second, Stops-node, Stops-turn)
 

@@ -6,10 +6,10 @@ use Rattle.graphql_core.specs.{takes_stop, sees, choose, Left, Right, Takes, tak
 use Rattle.graphql_core.specs.{takes_second, Reason, Unexpected, Fails, fails_one, fails_before, fails_after}
 use Rattle.graphql_core.specs.{Grammar, Expr, Empty, One, Then, Either, Many, ParseTree, Nothing, Leaf, First, Second}
 use Rattle.graphql_core.specs.{More, Row, optional, TakesOne, TakesToken, Token, Class, matches, nullable, first}
-use Rattle.graphql_core.specs.{Stops, Turns, turn_values, Items, kept, fault_by, place_next, Answered, GivesBy, Adds}
-use Rattle.graphql_core.specs.{reason_of, each}
+use Rattle.graphql_core.specs.{StopsFor, Items, kept, fault_by, place_next, Consumes, GivesBy, Adds}
+use Rattle.graphql_core.specs.{reason_of, each_of}
 use Rattle.graphql_core.proofs.grammar.{sees-parts, take-or_fail, same-fail}
-use Rattle.graphql_core.proofs.readers.ReaderSteps.{exits, picks-neither, Turns-stop, picks-first}
+use Rattle.graphql_core.proofs.readers.ReaderSteps.{exits, halts, picks-neither, Turns, Turns-stop, picks-first}
 use Rattle.graphql_core.specs.declared.helpers.read_error.ReadError.TheVariants.{Item, Memory, Integer, Float}
 use Rattle.graphql_core.specs.declared.helpers.read_error.ReadError.TheVariants.{Escape, Location}
 use Rattle.std.proofs.lemmas.Bool.{and_from, cases_Bool}
@@ -19,10 +19,11 @@ use Rattle.graphql_core.specs.grammar.Trees as trees
 -- ---- single tokens
 
 -- a token that a match takes is a leaf, if every token of its class has a value
-pub takes_one : (g : Grammar) (c : Class) (old new : Items) (t : Token) → g.good c t ≡ true → TakesToken c old new t
-    → Takes g (One c) old.tokens (Leaf t) new.tokens
-takes_one g c old new t good h = subst (λ (ts : List Token). Takes g (One c) ts (Leaf t) new.tokens) (sym h.tokens)
-    (takes_leaf (and_from (matches c t) (g.good c t) h.of_class good))
+pub takes_one : (g : Grammar) (c : Class) (old new : Items) (t : Token) → g.good c t ≡ true → TakesToken c old new t → Consumes g (One c) old (Leaf t) new
+takes_one g c old new t good h = (
+  subst (λ (ts : List Token). Takes g (One c) ts (Leaf t) new.tokens) (sym h.tokens) (takes_leaf (and_from (matches c t) (g.good c t) h.of_class good)),
+  h.kept,
+)
 
 -- the token is where the next item began
 pub placed : (c : Class) (old new : Items) (t : Token) → TakesToken c old new t → place_next old ≡ t.place
@@ -33,21 +34,13 @@ abbrev pub TakesNone : Class → Items → Items → ReadError → Type 0
 TakesNone c old new s = TakesOne {A = Unit {0}} c old new (λ v t. Unit {0}) (Err s)
 
 -- its error is the one of the theory
-pub stops_one : (g : Grammar) (c : Class) (old new : Items) (s : ReadError) → TakesNone c old new s → Stops g (One c) old.tokens new.tokens (reason_of s)
-stops_one g c old new Memory h = tt
-stops_one g c old new Item (same, unseen) = rw same (fails_one unseen)
+pub stops_one : (g : Grammar) (c : Class) (old new : Items) (s : ReadError) → TakesNone c old new s → StopsFor g (One c) old new (reason_of s)
+stops_one g c old new Memory h = ap kept h
+stops_one g c old new Item (same, unseen) = rw same (fails_one unseen, refl)
 stops_one g c old new Integer h = absurd h
 stops_one g c old new Float h = absurd h
 stops_one g c old new Escape h = absurd h
 stops_one g c old new Location h = absurd h
-
-pub kept_one : (c : Class) (old new : Items) (s : ReadError) → TakesNone c old new s → kept new ≡ kept old
-kept_one c old new Memory h = ap kept h
-kept_one c old new Item h = ap kept h.0
-kept_one c old new Integer h = absurd h
-kept_one c old new Float h = absurd h
-kept_one c old new Escape h = absurd h
-kept_one c old new Location h = absurd h
 
 -- if the next item is not of class c, it is not of class d
 pub none_within : {A : Type 0} (c d : Class) (old new : Items) (P : A → Token → Type 0) (s : ReadError)
@@ -95,11 +88,10 @@ pub takes_left : (g : Grammar) (a b : Expr) (ts us : List Token) (x : ParseTree)
     → choose g.rows a b (trees.peek ts) ≡ Left
 takes_left g a b ts us x f h = picks-first g.rows a b (trees.peek ts) (takes_seen g a ts us x f h)
 
-pub stops_left : (g : Grammar) (a b : Expr) (ts us : List Token) (o : Option Reason) → nullable g.rows a ≡ false → nullable g.rows b ≡ false
+pub fails_left : (g : Grammar) (a b : Expr) (ts us : List Token) (why : Reason) → nullable g.rows a ≡ false → nullable g.rows b ≡ false
     → FailsUnseen g a ts
-    → sees (first g.rows b) (trees.peek ts) ≡ false → Stops g a ts us o → Stops g (Either a b) ts us o
-stops_left g a b ts us None n m f other h = tt
-stops_left g a b ts us (Some why) n m f other h =
+    → sees (first g.rows b) (trees.peek ts) ≡ false → Fails g a ts why us → Fails g (Either a b) ts why us
+fails_left g a b ts us why n m f other h =
     stops_cases g a (Either a b) ts ts us why f (λ seen. fails_first (picks-first g.rows a b (trees.peek ts) seen) h)
     (λ unseen. fails_neither (rw (unseen, other, n, m) refl)) h
 
@@ -108,11 +100,10 @@ pub takes_right : (g : Grammar) (a b : Expr) (ts us : List Token) (x : ParseTree
     → Takes g b ts x us → choose g.rows a b (trees.peek ts) ≡ Right
 takes_right g a b ts us x f other h = rw (other, takes_seen g b ts us x f h) refl
 
-pub stops_right : (g : Grammar) (a b : Expr) (ts us : List Token) (o : Option Reason) → nullable g.rows a ≡ false → nullable g.rows b ≡ false
+pub fails_right : (g : Grammar) (a b : Expr) (ts us : List Token) (why : Reason) → nullable g.rows a ≡ false → nullable g.rows b ≡ false
     → FailsUnseen g b ts
-    → sees (first g.rows a) (trees.peek ts) ≡ false → Stops g b ts us o → Stops g (Either a b) ts us o
-stops_right g a b ts us None n m f other h = tt
-stops_right g a b ts us (Some why) n m f other h =
+    → sees (first g.rows a) (trees.peek ts) ≡ false → Fails g b ts why us → Fails g (Either a b) ts why us
+fails_right g a b ts us why n m f other h =
     stops_cases g b (Either a b) ts ts us why f (λ seen. fails_second (rw (other, seen) refl) h) (λ unseen. fails_neither (rw (other, unseen, n, m) refl)) h
 
 -- ---- optional parts
@@ -121,9 +112,9 @@ pub picks_none : (rs : List Row) (a : Expr) (item : Option Token) → nullable r
 picks_none rs a None n h = rw n refl
 picks_none rs a (Some t) n h = rw (h, n) refl
 
-pub takes_some : (g : Grammar) (a : Expr) (ts us : List Token) (x : ParseTree) → sees (first g.rows a) (trees.peek ts) ≡ true → Takes g a ts x us
-    → Takes g (optional a) ts (First x) us
-takes_some g a ts us x seen h = takes_first (picks-first g.rows a Empty (trees.peek ts) seen) h
+pub takes_some : (g : Grammar) (a : Expr) (old new : Items) (x : ParseTree) → sees (first g.rows a) (trees.peek old.tokens) ≡ true
+    → Consumes g a old x new → Consumes g (optional a) old (First x) new
+takes_some g a old new x seen (h, same) = (takes_first (picks-first g.rows a Empty (trees.peek old.tokens) seen) h, same)
 
 pub takes_none : (g : Grammar) (a : Expr) (ts : List Token) → nullable g.rows a ≡ false → sees (first g.rows a) (trees.peek ts) ≡ false
     → Takes g (optional a) ts (Second Nothing) ts
@@ -132,33 +123,25 @@ takes_none g a ts n unseen = takes_second (picks_none g.rows a (trees.peek ts) n
 -- ---- errors
 
 -- an error of any type is returned, with the reason of that error
-pub answered_error : {A E : Type 0} (reason : E → Option Reason) (g : Grammar) (e : Expr) (ts us : List Token) (P : A → ParseTree → Type 0)
-    (r : Result A E) (d : E)
-    → Stops g e ts us (reason d) → IsErrAnd r (λ x. x ≡ d) → Answered reason g e ts us P r
-answered_error reason g e ts us P (Ok v) d stops h = absurd h
-answered_error reason g e ts us P (Err x) d stops h = rw h stops
-
 pub gives_error_by : {A E : Type 0} (reason : E → Option Reason) (g : Grammar) (e : Expr) (old new : Items) (P : A → ParseTree → Type 0)
     (r : Result A E) (d : E)
-    → Stops g e old.tokens new.tokens (reason d) → IsErrAnd r (λ x. x ≡ d) → GivesBy reason g e old new P r
-gives_error_by reason g e old new P r d stops h = answered_error reason g e old.tokens new.tokens P r d stops h
+    → StopsFor g e old new (reason d) → IsErrAnd r (λ x. x ≡ d) → GivesBy reason g e old new P r
+gives_error_by reason g e old new P (Ok v) d stops h = absurd h
+gives_error_by reason g e old new P (Err x) d stops h = rw h stops
 
 -- ---- elements in a row
-
-abbrev pub one_of : {A : Type 0} → (ParseTree → A) → ParseTree → List A
-one_of f x = f x ∷ []
 
 -- what a repetition denotes, from what its turns denote
 pub many_means : {A B : Type 0} (g : Grammar) (a : Expr) (f : ParseTree → A) (m : ParseTree → B) (of : List A → B) → m trees.Stop ≡ of []
     → ((x y : ParseTree) (vs : List A) → m y ≡ of vs → m (More x y) ≡ of (f x ∷ vs))
-    → {ts : List Token} {x : ParseTree} {us : List Token} → Takes g (Many a) ts x us → m x ≡ of (turn_values (one_of f) x)
+    → {ts : List Token} {x : ParseTree} {us : List Token} → Takes g (Many a) ts x us → m x ≡ of (each_of f x)
 many_means g a f m of stop more (takes_stop h) = stop
-many_means g a f m of stop more (takes_more {x = x} {y = y} h p q) = more x y (turn_values (one_of f) y) (many_means g a f m of stop more q)
+many_means g a f m of stop more (takes_more {x = x} {y = y} h p q) = more x y (each_of f y) (many_means g a f m of stop more q)
 
 -- the same, if turns denote the elements of a list
 pub each_means : {A : Type 0} {g : Grammar} {a : Expr} (f : ParseTree → A) (m : ParseTree → List A) → m trees.Stop ≡ []
     → ((x y : ParseTree) → m (More x y) ≡ f x ∷ m y)
-    → {ts : List Token} {x : ParseTree} {us : List Token} → Takes g (Many a) ts x us → m x ≡ each f x
+    → {ts : List Token} {x : ParseTree} {us : List Token} → Takes g (Many a) ts x us → m x ≡ each_of f x
 each_means {g = g} {a = a} f m stop more h = many_means g a f m (λ l. l) stop (λ x y vs e. more x y ∙ ap (λ l. f x ∷ l) e) h
 
 pub map_push : {A B : Type 0} (f : A → B) (xs : List A) (x : A) → map f (xs ++ x ∷ []) ≡ map f xs ++ f x ∷ []
@@ -185,13 +168,12 @@ module _ {V A : Type 0} (f : V → A) where
   fills start found xs none so_far = so_far ∙ ap (λ (l : List V). map f l ++ xs) none
 
 -- An error in a turn of a loop. The loop continues until it sees the token after the repetition.
-pub stops_until : {A : Type 0} (g : Grammar) (a : Expr) (c : Class) (f : ParseTree → List A) (start now us : List Token) (items : List A) (o : Option Reason)
-    → FailsUnseen g a now
-    → Turns g a f start now items → sees (c ∷ []) (trees.peek now) ≡ false → Stops g a now us o → Stops g (Then (Many a) (One c)) start us o
-stops_until g a c f start now us items None un t s h = tt
-stops_until g a c f start now us items (Some why) un t s h =
-    stops_cases g a (Then (Many a) (One c)) now start us why un (λ seen. fails_before (t.fails why us (fails_turn seen h)))
-    (λ unseen. let r = Turns-stop g a f start now items t unseen in fails_after r.1 (fails_one s)) h
+pub stops_until : {A : Type 0} (g : Grammar) (a : Expr) (c : Class) (f : ParseTree → A) (start now new : Items) (items : List A) (o : Option Reason)
+    → FailsUnseen g a now.tokens → Turns g a f start now items → sees (c ∷ []) (trees.peek now.tokens) ≡ false → StopsFor g a now new o
+    → StopsFor g (Then (Many a) (One c)) start new o
+stops_until g a c f start now new items o un t s = halts new o t.kept (λ why h.
+    stops_cases g a (Then (Many a) (One c)) now.tokens start.tokens new.tokens why un (λ seen. fails_before (t.fails why new.tokens (fails_turn seen h)))
+    (λ unseen. let r = Turns-stop g a f start now items t unseen in fails_after r.1.0 (fails_one s)) h)
 
 -- for errors that are returned
-pub ruleset reading = (exits, stops_one, kept_one)
+pub ruleset reading = (exits, stops_one)

@@ -3,23 +3,28 @@ use Rattle.std.proofs.Common.{◌≡◌, ℕ, true, false, List, [], ◌∷◌, 
 use Rattle.graphql_core.proofs.grammar.{sees-apart}
 use Rattle.graphql_core.specs.{item, object, ValueTree, ValueMembers, put, list, no_members, Token, Class, Expr}
 use Rattle.graphql_core.specs.{Then, Either, Many, Sym, ParseTree, Both, First, Second, Node, optional, peek, first}
-use Rattle.graphql_core.specs.{sees, Takes, turn_values, Items, shared, rows, tables, name, any, punctuator}
+use Rattle.graphql_core.specs.{is_ll1, nullable, sees, Takes, Items, shared, rows, tables, name, any, punctuator}
 use Rattle.graphql_core.specs.{punctuator_class, value_symbol, const_symbol, plain_symbol, argument_symbol}
-use Rattle.graphql_core.specs.{const_pair_symbol, type_symbol, arguments_symbol, directive_symbol, default_symbol}
+use Rattle.graphql_core.specs.{const_pair_symbol, type_symbol, arguments_symbol, default_symbol}
 use Rattle.graphql_core.specs.{spelling_at, plain_of, put_all, value_of, values_of, argument_of, pairs_of, const_of}
-use Rattle.graphql_core.specs.{consts_of, const_pair_of, const_pairs_of, arguments_of, directive_of, symbol_of}
+use Rattle.graphql_core.specs.{consts_of, const_pair_of, const_pairs_of, arguments_of, symbol_of}
 use Rattle.graphql_core.specs.{pair_symbol_of, variable_rule, list_rule, object_rule, pair_rule, begins_variable}
 use Rattle.graphql_core.specs.{tree_of, trees_of, pair_of, pairs_by, as_variable, as_plain, as_list, as_object}
 use Rattle.graphql_core.specs.{IsList, listed_values, each_of}
 use Rattle.graphql_core.specs.declared.tokenizer.token.Kind.TheVariants.{Name}
 use Rattle.graphql_core.specs.declared.common.read.values.Constness.{Constness}
 use Rattle.graphql_core.specs.declared.common.read.values.Constness.TheVariants.{Value, Constant}
-use Rattle.graphql_core.proofs.readers.Reading.{FailsUnseen, unseen_one, unseen_then, unseen_either, one_of}
+use Rattle.graphql_core.proofs.readers.Reading.{FailsUnseen, unseen_one, unseen_then, unseen_either}
 use Rattle.graphql_core.proofs.readers.Reading.{many_means, each_means}
 use Rattle.graphql_core.proofs.readers.Alternatives.{IsSide, through, side_node, side_left, side_right}
 use Rattle.graphql_core.proofs.readers.Alternatives.{unseen_symbol, sees_neither, side_in, side_nth}
 use Rattle.graphql_core.proofs.readers.Lists.{is_list}
 use Rattle.graphql_core.proofs.readers.Optional.{BegunBy}
+
+-- the shared grammar can be read with one token of lookahead
+pub shared_ll1 : is_ll1 shared.rows ≡ true
+unfolding tables
+shared_ll1 = refl
 
 -- ---- values and constants
 
@@ -72,6 +77,17 @@ plain_side Constant i h k l =
     (side_left shared (Sym plain_symbol) const_after_plain i.tokens refl refl (unseen_plain i.tokens)
     (sees_neither (bracket ∷ []) (brace ∷ []) (peek i.tokens) k l))
 
+-- a value and a member take a token
+pub some_value : (s : Constness) → nullable rows (Sym (symbol_of s)) ≡ false
+unfolding tables
+some_value Value = refl
+some_value Constant = refl
+
+pub some_pair : (s : Constness) → nullable rows (Sym (pair_symbol_of s)) ≡ false
+unfolding tables
+some_pair Value = refl
+some_pair Constant = refl
+
 -- what a plain value, a list and an object denote
 pub plain_means : (s : Constness) (x : ParseTree) → tree_of s (as_plain s x) ≡ plain_of x
 plain_means Value x = refl
@@ -115,12 +131,12 @@ put_more [] p ms = refl
 put_more (q ∷ ps) p ms = put_more ps p (put q.0 q.1 ms)
 
 pub trees_means : (s : Constness) {ts : List Token} {x : ParseTree} {us : List Token} → Takes shared (Many (Sym (symbol_of s))) ts x us
-    → trees_of s x ≡ listed_values (turn_values (one_of (tree_of s)) x)
+    → trees_of s x ≡ listed_values (each_of (tree_of s) x)
 trees_means Value h = many_means shared _ value_of values_of listed_values refl (λ x y vs e. ap (item (value_of x)) e) h
 trees_means Constant h = many_means shared _ const_of consts_of listed_values refl (λ x y vs e. ap (item (const_of x)) e) h
 
 pub pairs_means : (s : Constness) {ts : List Token} {x : ParseTree} {us : List Token} → Takes shared (Many (Sym (pair_symbol_of s))) ts x us
-    → pairs_by s x ≡ turn_values (one_of (pair_of s)) x
+    → pairs_by s x ≡ each_of (pair_of s) x
 pairs_means Value h = each_means argument_of pairs_of refl (λ x y. refl) h
 pairs_means Constant h = each_means const_pair_of const_pairs_of refl (λ x y. refl) h
 
@@ -133,10 +149,6 @@ arguments_list = is_list pairs_of refl (λ x. refl) (λ t. refl) (λ t. refl) re
 pub default_begins : BegunBy shared default_symbol (punctuator_class (codes "=") ∷ [])
 unfolding tables
 default_begins = record { something = refl; first = refl }
-
-pub each_directive_means : {ts : List Token} {x : ParseTree} {us : List Token} → Takes shared (Many (Sym directive_symbol)) ts x us
-    → each_of directive_of x ≡ turn_values (one_of directive_of) x
-each_directive_means h = each_means directive_of (each_of directive_of) refl (λ x y. refl) h
 
 -- ---- types
 

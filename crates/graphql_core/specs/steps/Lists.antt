@@ -1,11 +1,8 @@
 -- Lists whose elements follow one another without separators.
 use Rattle.std.specs.Prelude.{◌≡◌, ℕ, true, false, List, [], ◌∷◌}
-use Rattle.graphql_core.specs.grammar.{nullable, first, turn_values, Takes, Token, Class, Expr, One, Then, Many, Sym}
+use Rattle.graphql_core.specs.grammar.{nullable, first, Takes, Token, Class, Expr, One, Then, Many, Sym}
+use Rattle.graphql_core.specs.values.Parts.{each_of}
 use Rattle.graphql_core.specs.grammar.{ParseTree, Nothing, Leaf, Both, First, Second, Node, Grammar, row, some_of}
-
--- what the repetitions denote, if `f` is what one repetition denotes
-abbrev pub each : {A : Type 0} → (ParseTree → A) → ParseTree → List A
-each f = turn_values (λ x. f x ∷ [])
 
 -- The symbol `k` is a non-empty list between an opener and a closer. None of its nodes is rejected.
 -- `m` is what a node denotes, and `f` what an element denotes.
@@ -18,7 +15,7 @@ pub record IsList {A : Type 0} (g : Grammar) (o c : Class) (a : Expr) (f : Parse
   pub begins : first g.rows (Sym k) ≡ o ∷ []
   pub is_more : nullable g.rows (Sym k) ≡ false
   pub means : {ts us : List Token} (t u : Token) (x xs : ParseTree) → Takes g (Many a) ts xs us
-      → m (Node k (Both (Leaf t) (Both (Both x xs) (Leaf u)))) ≡ f x ∷ each f xs
+      → m (Node k (Both (Leaf t) (Both (Both x xs) (Leaf u)))) ≡ f x ∷ each_of f xs
 
 -- `n` is what an optional part denotes, and `m` what the part denotes if it is present
 pub record IsOption {A : Type 0} (m n : ParseTree → List A) : Type 0 where

@@ -20,14 +20,14 @@ module _ (text : List ℕ) (i j : Items) (d : DefinitionTree) (p : Pos) (are : A
 
   begins_here : BeginsWith (split cut).tokens parse_tree j.tokens
   begins_here = begins (split cut).tokens j.tokens h.0
-      (subst (λ (k : Items). Takes reading (Sym definition_symbol) k.tokens h.0 j.tokens) (are cut (has_items text)).1 h.1)
+      (subst (λ (k : Items). Takes reading (Sym definition_symbol) k.tokens h.0 j.tokens) (are cut (has_items text)).1 h.1.0)
 
   within : length (leaves parse_tree) < length cut
   within = omega (arith, more_items text cut (has_items text), ap length begins_here.1, length-append (leaves parse_tree) j.tokens)
 
   position : (next_place (drop (length (leaves parse_tree)) cut)).position ≡ p
   position =
-      let last : j.last ≡ (split cut).last = ap (λ (k : Last × Spent). k.0) h.3 ∙ ap (λ (k : Items). k.last) (are cut (has_items text)).1 in
+      let last : j.last ≡ (split cut).last = ap (λ (k : Last × Spent). k.0) h.1.1 ∙ ap (λ (k : Items). k.last) (are cut (has_items text)).1 in
       sym (one_position p _ (at ∙ ap (λ (l : Last). place_next (tokens_then j.tokens l)) last
       ∙ place_after cut (leaves parse_tree) j.tokens begins_here.1 within))
 

@@ -1,12 +1,12 @@
 -- The first definition of a list of tokens is what the reader of definitions consumes.
-use Rattle.std.proofs.Common.{◌≡◌, false, List, [], ◌∷◌, ◌++◌, Option, Some, None, refl, sym, ap, subst, ◌∙◌}
+use Rattle.std.proofs.Common.{◌≡◌, false, List, [], ◌∷◌, ◌++◌, refl, sym, ap, subst, ◌∙◌}
 use Rattle.graphql_core.specs.{cont, fails_check, Token, Sym, ParseTree, leaves, peek, row, written, sees, Takes, Reason}
-use Rattle.graphql_core.specs.{Fails, fails_node, Stops, no_memory, kept, IsFaultFor, IsRefusalFor, reason_of}
+use Rattle.graphql_core.specs.{Fails, fails_node, StopsFor, no_memory, IsFaultFor, IsRefusalFor, reason_of}
 use Rattle.graphql_core.specs.{Refusal, Items}
 use Rattle.graphql_core.specs.declared.helpers.read_error.ReadError.{ReadError}
 use Rattle.graphql_core.specs.declared.helpers.read_error.ReadError.TheVariants.{Memory, Integer, Float, Escape}
 use Rattle.graphql_core.specs.declared.helpers.read_error.ReadError.TheVariants.{Location, Item}
-use Rattle.graphql_core.proofs.{take-or_fail, IsReadable, exact_lax, least_stop, exact}
+use Rattle.graphql_core.proofs.{take-or_fail, IsReadable, exact_lax, least_stop, exact, halts}
 use Rattle.graphql_query.specs.{tables, second_rows, reading, changes, definition_symbol, one_definition, BeginsWith}
 use Rattle.graphql_query.specs.{NoneBeginsAnother}
 use Rattle.graphql_query.proofs.readers.{readable}
@@ -43,14 +43,9 @@ rule_fails : {ts us : List Token} {why : Reason} → Fails reading (Sym definiti
 rule_fails (fails_node h) = h
 rule_fails (fails_check h refused) = absurd cc
 
-rule_stops : (ts us : List Token) (why : Option Reason) → Stops reading (Sym definition_symbol) ts us why
-    → Stops reading (row reading definition_symbol).rule ts us why
-rule_stops ts us None h = tt
-rule_stops ts us (Some why) h = rule_fails h
-
-pub least_refusal : (i j : Items) (s : ReadError) (e : Refusal) → Stops reading (Sym definition_symbol) i.tokens j.tokens (reason_of s) → IsFaultFor s j e
-    → kept j ≡ kept i → IsRefusalFor one_definition i e
-least_refusal i j s e h f last = least_stop one_definition readable_one i j s e (rule_stops i.tokens j.tokens (reason_of s) h) f last
+pub least_refusal : (i j : Items) (s : ReadError) (e : Refusal) → StopsFor reading (Sym definition_symbol) i j (reason_of s) → IsFaultFor s j e
+    → IsRefusalFor one_definition i e
+least_refusal i j s e h = least_stop one_definition readable_one i j s e (halts j (reason_of s) refl (λ why. rule_fails) h)
 
 -- ---- what begins with a definition
 
@@ -89,10 +84,10 @@ none_fails : (ts us vs : List Token) (x : ParseTree) (why : Reason) → BeginsWi
 none_fails ts us vs x why h fails = let (y, takes, is) = taken ts vs x h in take-or_fail reading takes fails
 
 pub memory_only : (i j : Items) (s : ReadError) (e : Refusal) (x : ParseTree) (others : List Token)
-    → Stops reading (Sym definition_symbol) i.tokens j.tokens (reason_of s) → IsFaultFor s j e → BeginsWith i.tokens x others → e ≡ no_memory
+    → StopsFor reading (Sym definition_symbol) i j (reason_of s) → IsFaultFor s j e → BeginsWith i.tokens x others → e ≡ no_memory
 memory_only i j Memory e x others h f k = f
-memory_only i j Item e x others h f k = absurd (none_fails i.tokens j.tokens others x _ k h)
-memory_only i j Integer e x others h f k = absurd (none_fails i.tokens j.tokens others x _ k h)
-memory_only i j Float e x others h f k = absurd (none_fails i.tokens j.tokens others x _ k h)
-memory_only i j Escape e x others h f k = absurd (none_fails i.tokens j.tokens others x _ k h)
-memory_only i j Location e x others h f k = absurd (none_fails i.tokens j.tokens others x _ k h)
+memory_only i j Item e x others h f k = absurd (none_fails i.tokens j.tokens others x _ k h.0)
+memory_only i j Integer e x others h f k = absurd (none_fails i.tokens j.tokens others x _ k h.0)
+memory_only i j Float e x others h f k = absurd (none_fails i.tokens j.tokens others x _ k h.0)
+memory_only i j Escape e x others h f k = absurd (none_fails i.tokens j.tokens others x _ k h.0)
+memory_only i j Location e x others h f k = absurd (none_fails i.tokens j.tokens others x _ k h.0)

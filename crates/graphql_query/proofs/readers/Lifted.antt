@@ -1,6 +1,6 @@
 -- Readers of values, types and directives within queries, and the rule of a symbol.
-use Rattle.std.proofs.Common.{◌≡◌, ℕ, true, List, Option, refl}
-use Rattle.graphql_core.specs.{Token, Expr, Sym, ParseTree, Node, row, Reason, TakesSome, Stops, is_below, written}
+use Rattle.std.proofs.Common.{◌≡◌, ℕ, true, Option, refl}
+use Rattle.graphql_core.specs.{Items, Expr, Sym, ParseTree, Node, row, Reason, TakesSome, StopsFor, is_below, written}
 use Rattle.graphql_core.specs.{shared, shared_symbols}
 use Rattle.graphql_query.specs.{queries, changes, reading}
 use Rattle.graphql_query.proofs.readers.Readable.{readable, read_alike}
@@ -8,12 +8,13 @@ use Rattle.graphql_core.proofs.readers.Steps as steps
 use Rattle.graphql_core.proofs.documents.Lifted as every
 
 -- no node is rejected
-pub begun : {ts : List Token} (k : ℕ) → steps.Leads reading (Sym k) (row reading k).rule (Node k) ts ts
+pub begun : {old : Items} (k : ℕ) → steps.Leads reading (Sym k) (row reading k).rule (Node k) old old
 begun k = steps.begun k (λ x. refl)
 
-pub lifted : {e : Expr} {ts us : List Token} {P : ParseTree → Type 0} → is_below shared_symbols e ≡ true → TakesSome shared e ts us P
-    → TakesSome reading e ts us (λ x. P (written changes x))
-lifted {e} {ts} {us} {P} below h = every.some_lifted queries readable e (read_alike e) below ts us P h
+pub lifted : {e : Expr} {old new : Items} {P : ParseTree → Type 0} → is_below shared_symbols e ≡ true → TakesSome shared e old new P
+    → TakesSome reading e old new (λ x. P (written changes x))
+lifted {e} {old} {new} {P} below h = every.some_lifted queries readable e (read_alike e) below old new P h
 
-pub stops_lifted : (e : Expr) → is_below shared_symbols e ≡ true → (ts us : List Token) (o : Option Reason) → Stops shared e ts us o → Stops reading e ts us o
+pub stops_lifted : (e : Expr) → is_below shared_symbols e ≡ true → (old new : Items) (o : Option Reason) → StopsFor shared e old new o
+    → StopsFor reading e old new o
 stops_lifted e = every.stops_lifted queries readable e (read_alike e)

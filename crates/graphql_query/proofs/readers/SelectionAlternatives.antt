@@ -1,18 +1,19 @@
 -- Which alternative of each choice in selections is read, and what it denotes.
-use Rattle.std.proofs.Common.{◌≡◌, ◌||◌, ℕ, true, false, List, [], ◌∷◌, Result, Ok, Err, Option, Some, None, refl, sym, ap, ◌∙◌, codes}
+use Rattle.std.proofs.Common.{◌≡◌, ◌||◌, ℕ, true, false, List, [], ◌∷◌, Result, Ok, Err, Option, refl, sym, ap, ◌∙◌, codes}
 use Rattle.std.proofs.Math.Bool.{or-false}
 use Rattle.graphql_core.specs.{takes_leaf, takes_stop, TakesOne, Token, Place, Class, matches, Expr, One, Then, Either}
+use Rattle.graphql_core.specs.grammar.Tables.{nullable}
 use Rattle.graphql_core.specs.{Many, Sym, ParseTree, Leaf, Both, First, Second, Node, peek, leaves, first}
 use Rattle.graphql_core.specs.{sees, Takes, takes_nothing, takes_both, takes_first, takes_second, takes_node, fails_one}
-use Rattle.graphql_core.specs.{fails_before, fails_after, fails_node, Reason, turn_values, Stops, written, TakesToken}
+use Rattle.graphql_core.specs.{Fails, fails_before, fails_after, fails_node, Reason, each_of, StopsFor, written, TakesToken}
 use Rattle.graphql_core.specs.{sees_class, Gives, tables as shared_tables, any, keyword, directive_symbol, first_place}
 use Rattle.graphql_core.specs.{optional_arguments_of, directives_of, DirectiveTree, Grammar, Items, punctuator_class}
-use Rattle.graphql_core.specs.{name}
+use Rattle.graphql_core.specs.{name, Consumes}
 use Rattle.graphql_core.specs.declared.helpers.read_error.ReadError.{ReadError}
 use Rattle.graphql_core.specs.declared.tokenizer.token.Kind.TheVariants.{Name}
 use Rattle.graphql_core.proofs.{sees-within, FailsUnseen, unseen_one, unseen_then, takes_one, stops_one, takes_none}
-use Rattle.graphql_core.proofs.{one_of, many_means, IsSide, side_first, side_left, side_right, unseen_symbol, Leads}
-use Rattle.graphql_core.proofs.{past, none_within, side_in, side_nth, sees_both, BegunBy}
+use Rattle.graphql_core.proofs.{many_means, IsSide, side_first, side_left, side_right, unseen_symbol, Leads}
+use Rattle.graphql_core.proofs.{halts, past, none_within, side_in, side_nth, sees_both, BegunBy}
 use Rattle.graphql_query.specs.{more, Arguments, SelectionTree, SelectionSetTree, trees_of, field, inline, reading}
 use Rattle.graphql_query.specs.{changes, tables, spread_class, type_condition_symbol, selection_set_symbol}
 use Rattle.graphql_query.specs.{field_symbol, selection_symbol, field_rest, fragment_spread_rest}
@@ -102,6 +103,15 @@ pub inline_fragment_side : (ts : List Token) → sees (spread_class ∷ []) (pee
 unfolding tables shared_tables
 inline_fragment_side ts unseen = side_right reading fragment_spread_rest inline_fragment_rest ts refl refl (unseen_inline_fragment ts) unseen
 
+-- what follows the dots of an inline fragment has a token, and so has a selection
+pub some_rest : nullable reading.rows inline_fragment_rest ≡ false
+unfolding tables shared_tables
+some_rest = refl
+
+pub some_selection : nullable reading.rows (Sym selection_symbol) ≡ false
+unfolding tables
+some_selection = refl
+
 pub begins_selection : (item : Option Token) → sees (first reading.rows (Sym selection_symbol)) item ≡ (sees (any Name ∷ []) item || sees (dots ∷ []) item)
 unfolding tables
 begins_selection item = sees_both (any Name ∷ []) (dots ∷ []) item
@@ -113,14 +123,17 @@ abbrev pub field_parse_tree : ParseTree → ParseTree → ParseTree
 field_parse_tree (Both n a) rest = Node field_symbol (Both n (Both a rest))
 field_parse_tree x rest = x
 
-pub names_taken : {ts us : List Token} {x : ParseTree} → Takes reading first_names ts x us
-    → Leads reading (Sym field_symbol) field_rest (field_parse_tree x) ts us
-names_taken (takes_both h k) = past (past (begun field_symbol) h) k
+pub names_taken : {old new : Items} {x : ParseTree} → Consumes reading first_names old x new
+    → Leads reading (Sym field_symbol) field_rest (field_parse_tree x) old new
+names_taken {old} (takes_both {us = us} h k, same) =
+    past (past {mid = old} {new = record { tokens = us; last = old.last; spent = old.spent }} (begun field_symbol) (h, refl)) (k, same)
 
-pub stops_in_names : (ts us : List Token) (o : Option Reason) → Stops reading first_names ts us o → Stops reading (Sym field_symbol) ts us o
-stops_in_names ts us None h = tt
-stops_in_names ts us (Some why) (fails_before h) = fails_node (fails_before h)
-stops_in_names ts us (Some why) (fails_after t h) = fails_node (fails_after t (fails_before h))
+fails_in_names : (ts us : List Token) (why : Reason) → Fails reading first_names ts why us → Fails reading (Sym field_symbol) ts why us
+fails_in_names ts us why (fails_before h) = fails_node (fails_before h)
+fails_in_names ts us why (fails_after t h) = fails_node (fails_after t (fails_before h))
+
+pub stops_in_names : (old new : Items) (o : Option Reason) → StopsFor reading first_names old new o → StopsFor reading (Sym field_symbol) old new o
+stops_in_names old new o = halts new o refl (fails_in_names old.tokens new.tokens)
 
 -- the position of the field is that of its first name
 pub field_means : {ts us : List Token} (x y z s : ParseTree) → Takes reading first_names ts x us
@@ -148,5 +161,5 @@ abbrev pub selection_at : ParseTree → SelectionTree
 selection_at x = selection_of (written changes x)
 
 pub selections_mean : {ts us : List Token} {x : ParseTree} → Takes reading (Many (Sym selection_symbol)) ts x us
-    → selections_of (written changes x) ≡ trees_of (turn_values (one_of selection_at) x)
+    → selections_of (written changes x) ≡ trees_of (each_of selection_at x)
 selections_mean h = many_means reading _ selection_at (λ x. selections_of (written changes x)) trees_of refl (λ x y vs e. ap (more (selection_at x)) e) h

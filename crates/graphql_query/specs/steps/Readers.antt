@@ -1,7 +1,7 @@
 -- What readers of queries return.
 use Rattle.std.specs.Prelude.{◌≡◌, ℕ, Bool, ◌||◌, List, [], Option, Some, None, Result, codes}
-use Rattle.graphql_core.specs.{nowhere, Expr, Then, Sym, ParseTree, Both, First, Second, optional, Takes, written}
-use Rattle.graphql_core.specs.{place_of, kept, sees_class, Gives, Adds, keyword, punctuator, spelling_at, Items}
+use Rattle.graphql_core.specs.{nowhere, Expr, Then, Sym, ParseTree, Both, First, Second, optional, TakesSome, written}
+use Rattle.graphql_core.specs.{place_of, sees_class, Gives, Adds, keyword, punctuator, spelling_at, Items}
 use Rattle.graphql_core.specs.{punctuator_class, name}
 use Rattle.graphql_core.specs.declared.helpers.read_error.ReadError.{ReadError}
 use Rattle.graphql_core.specs.declared.position.Pos.{Pos}
@@ -50,8 +50,7 @@ sees_definition i =
     || sees_class (keyword (codes "mutation")) i
     || sees_class (keyword (codes "subscription")) i || sees_class (keyword (codes "fragment")) i
 
--- a definition that denotes d was read by the second rules, and the other state of the source is unchanged
+-- a definition that denotes d was read by the second rules
 abbrev pub TakesDefinition : Items → Items → DefinitionTree → Type 0
 TakesDefinition old new d =
-    (x : ParseTree) × Takes reading (Sym definition_symbol) old.tokens x new.tokens
-    × (d ≡ definition_of (written changes x)) × (kept new ≡ kept old)
+    TakesSome reading (Sym definition_symbol) old new (λ x. d ≡ definition_of (written changes x))

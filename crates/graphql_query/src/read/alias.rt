@@ -1,6 +1,5 @@
 //! The name of a field, and its alias.
 ghost use Rattle.std.specs.Prelude.{◌≡◌, option_map};
-ghost use Rattle.graphql_core.specs.{kept, Shortens};
 ghost use Rattle.graphql_query.specs.{Reads, first_names, alias_and_name_of};
 
 use graphql_core::common::Names;
@@ -19,10 +18,8 @@ pub fn alias_and_name<S: TokenSource>(
     ),
     ReadError,
 >
-    ensures reads { Reads first_names (S.items source.old) (S.items source.new)
+    ensures { Reads first_names (S.items source.old) (S.items source.new)
         (λ v x. (option_map S.Names.bytes v.0, S.Names.bytes v.1) ≡ alias_and_name_of x) result }
-    ensures kept { kept (S.items source.new) ≡ kept (S.items source.old) }
-    ensures shorter { Shortens (S.items source.old) (S.items source.new) result }
 {
     let first = expect_name(alloc, source)?;
     if !source.sees_punctuator(Punctuator::Colon) {

@@ -1,6 +1,6 @@
 //! Definitions.
 ghost use Rattle.std.specs.Prelude.{◌≡◌};
-ghost use Rattle.graphql_core.specs.{Sym, some_of, kept, Shortens, each_of};
+ghost use Rattle.graphql_core.specs.{Sym, some_of, each_of};
 ghost use Rattle.graphql_query.specs.{fragment_definition_view, definition_view, definitions_view};
 ghost use Rattle.graphql_query.specs.{fragment_definition_symbol, definition_symbol, fragment_definition_of};
 ghost use Rattle.graphql_query.specs.{definition_of, Reads, sees_definition};
@@ -23,10 +23,8 @@ fn fragment_definition<S: TokenSource>(
     source: &mut S,
     scratch: &mut Vec<Selection<S::Names>>,
 ) -> Result<FragmentDefinition<S::Names>, ReadError>
-    ensures reads { Reads (Sym fragment_definition_symbol) (S.items source.old) (S.items source.new)
+    ensures { Reads (Sym fragment_definition_symbol) (S.items source.old) (S.items source.new)
         (λ v x. fragment_definition_view S.Names.bytes v ≡ fragment_definition_of x) result }
-    ensures kept { kept (S.items source.new) ≡ kept (S.items source.old) }
-    ensures shorter { Shortens (S.items source.old) (S.items source.new) result }
 {
     let position = expect_keyword(source, "fragment")?;
     let name = expect_name(alloc, source)?;
@@ -49,10 +47,8 @@ pub fn definition<S: TokenSource>(
     source: &mut S,
     scratch: &mut Vec<Selection<S::Names>>,
 ) -> Result<Definition<S::Names>, ReadError>
-    ensures reads { Reads (Sym definition_symbol) (S.items source.old) (S.items source.new)
+    ensures { Reads (Sym definition_symbol) (S.items source.old) (S.items source.new)
         (λ v x. definition_view S.Names.bytes v ≡ definition_of x) result }
-    ensures kept { kept (S.items source.new) ≡ kept (S.items source.old) }
-    ensures shorter { Shortens (S.items source.old) (S.items source.new) result }
 {
     if sees_keyword(source, "fragment") {
         return Ok(Definition::Fragment(fragment_definition(alloc, source, scratch)?));
@@ -77,10 +73,8 @@ pub fn definitions<S: TokenSource>(
     alloc: Global,
     source: &mut S,
 ) -> Result<Vec<Definition<S::Names>>, ReadError>
-    ensures reads { Reads (some_of (Sym definition_symbol)) (S.items source.old) (S.items source.new)
+    ensures { Reads (some_of (Sym definition_symbol)) (S.items source.old) (S.items source.new)
         (λ v x. definitions_view S.Names.bytes v.items ≡ each_of definition_of x) result }
-    ensures kept { kept (S.items source.new) ≡ kept (S.items source.old) }
-    ensures shorter { Shortens (S.items source.old) (S.items source.new) result }
 {
     let mut definitions = Vec::new(alloc);
     // The selections of the open selection sets. A set that closes removes its own from the end.

@@ -1,6 +1,6 @@
 //! Fragment spreads and type conditions.
-ghost use Rattle.std.specs.Prelude.{◌≡◌, ◌≤◌, OnOk, [], ◌∷◌, length, option_map};
-ghost use Rattle.graphql_core.specs.{Sym, optional, kept, place_next, sees_class, Adds, Shortens, optional_of};
+ghost use Rattle.std.specs.Prelude.{◌≡◌, [], ◌∷◌, option_map};
+ghost use Rattle.graphql_core.specs.{Sym, optional, place_next, sees_class, Adds, optional_of};
 ghost use Rattle.graphql_query.specs.{type_condition_view, selection_view, spread_class, spread_name_symbol};
 ghost use Rattle.graphql_query.specs.{fragment_spread_rest, type_condition_symbol, type_condition_of, spread_name_of};
 ghost use Rattle.graphql_query.specs.{fragment_spread_rest_of, Reads};
@@ -17,10 +17,8 @@ pub fn type_condition<S: TokenSource>(
     alloc: Global,
     source: &mut S,
 ) -> Result<TypeCondition<S::Names>, ReadError>
-    ensures reads { Reads (Sym type_condition_symbol) (S.items source.old) (S.items source.new)
+    ensures { Reads (Sym type_condition_symbol) (S.items source.old) (S.items source.new)
         (λ v x. type_condition_view S.Names.bytes v ≡ type_condition_of x) result }
-    ensures kept { kept (S.items source.new) ≡ kept (S.items source.old) }
-    ensures shorter { Shortens (S.items source.old) (S.items source.new) result }
 {
     expect_keyword(source, "on")?;
     Ok(TypeCondition::On(expect_name(alloc, source)?))
@@ -32,10 +30,8 @@ pub fn optional_type_condition<S: TokenSource>(
     alloc: Global,
     source: &mut S,
 ) -> Result<Option<TypeCondition<S::Names>>, ReadError>
-    ensures reads { Reads (optional (Sym type_condition_symbol)) (S.items source.old) (S.items source.new)
+    ensures { Reads (optional (Sym type_condition_symbol)) (S.items source.old) (S.items source.new)
         (λ v x. option_map (type_condition_view S.Names.bytes) v ≡ optional_of type_condition_of x) result }
-    ensures kept { kept (S.items source.new) ≡ kept (S.items source.old) }
-    ensures within { OnOk result (length (S.items source.new).tokens ≤ length (S.items source.old).tokens) }
 {
     if !sees_keyword(source, "on") {
         return Ok(None);
@@ -56,10 +52,8 @@ fn spread_name<S: TokenSource>(
     alloc: Global,
     source: &mut S,
 ) -> Result<<S::Names as Names>::Value, ReadError>
-    ensures reads { Reads (Sym spread_name_symbol) (S.items source.old) (S.items source.new)
+    ensures { Reads (Sym spread_name_symbol) (S.items source.old) (S.items source.new)
         (λ v x. (place_next (S.items source.old), S.Names.bytes v) ≡ spread_name_of x) result }
-    ensures kept { kept (S.items source.new) ≡ kept (S.items source.old) }
-    ensures shorter { Shortens (S.items source.old) (S.items source.new) result }
 {
     if !sees_spread_name(source) {
         return Err(ReadError::Item);
@@ -74,11 +68,9 @@ pub fn fragment_spread_after_dots<S: TokenSource>(
     source: &mut S,
     selections: &mut Vec<Selection<S::Names>>,
 ) -> Result<(), ReadError>
-    ensures reads { Reads fragment_spread_rest (S.items source.old) (S.items source.new)
+    ensures { Reads fragment_spread_rest (S.items source.old) (S.items source.new)
         (λ v x. Adds (selection_view S.Names.bytes) selections.old.items selections.new.items
         (fragment_spread_rest_of x ∷ [])) result }
-    ensures kept { kept (S.items source.new) ≡ kept (S.items source.old) }
-    ensures shorter { Shortens (S.items source.old) (S.items source.new) result }
 {
     let position = source.position();
     let fragment_name = spread_name(alloc, source)?;

@@ -1,6 +1,6 @@
 //! Operations and their variables.
-ghost use Rattle.std.specs.Prelude.{◌≡◌, ◌≤◌, OnOk, length, map, option_map};
-ghost use Rattle.graphql_core.specs.{Sym, optional, kept, place_of, Shortens, spelling_at, optional_of};
+ghost use Rattle.std.specs.Prelude.{◌≡◌, map, option_map};
+ghost use Rattle.graphql_core.specs.{Sym, optional, place_of, spelling_at, optional_of};
 ghost use Rattle.graphql_core.specs.{optional_list_of, enclosed_of};
 ghost use Rattle.graphql_query.specs.Tree.{variable_definition_view, operation_view, operation, with_body};
 ghost use Rattle.graphql_query.specs.Tree.{VariableDefinitionTree};
@@ -65,10 +65,8 @@ fn optional_name<S: TokenSource>(
     alloc: Global,
     source: &mut S,
 ) -> Result<Option<<S::Names as Names>::Value>, ReadError>
-    ensures reads { Reads (optional shared.name) (S.items source.old) (S.items source.new)
+    ensures { Reads (optional shared.name) (S.items source.old) (S.items source.new)
         (λ v x. option_map S.Names.bytes v ≡ optional_of spelling_at x) result }
-    ensures kept { kept (S.items source.new) ≡ kept (S.items source.old) }
-    ensures within { OnOk result (length (S.items source.new).tokens ≤ length (S.items source.old).tokens) }
 {
     if !source.sees_name() {
         return Ok(None);
@@ -127,11 +125,9 @@ fn optional_variable_definitions<S: TokenSource>(
     alloc: Global,
     source: &mut S,
 ) -> Result<Vec<VariableDefinition<S::Names>>, ReadError>
-    ensures reads { Reads (optional (Sym variable_definitions_symbol)) (S.items source.old) (S.items source.new)
+    ensures { Reads (optional (Sym variable_definitions_symbol)) (S.items source.old) (S.items source.new)
         (λ v x. map (variable_definition_view S.Names.bytes) v.items
         ≡ optional_list_of (enclosed_of variable_definition_of) x) result }
-    ensures kept { kept (S.items source.new) ≡ kept (S.items source.old) }
-    ensures within { OnOk result (length (S.items source.new).tokens ≤ length (S.items source.old).tokens) }
 {
     let (open, close) = (Punctuator::OpenParen, Punctuator::CloseParen);
     optional_list::<S, VariableDefinitionList>(alloc, source, open, close, 0)
@@ -145,10 +141,8 @@ fn operation_body<S: TokenSource>(
     source: &mut S,
     scratch: &mut Vec<Selection<S::Names>>,
 ) -> Result<OperationBody<S::Names>, ReadError>
-    ensures reads { Reads (Sym operation_body_symbol) (S.items source.old) (S.items source.new)
+    ensures { Reads (Sym operation_body_symbol) (S.items source.old) (S.items source.new)
         (λ v x. operation_body_view S.Names.bytes v ≡ operation_body_of x) result }
-    ensures kept { kept (S.items source.new) ≡ kept (S.items source.old) }
-    ensures shorter { Shortens (S.items source.old) (S.items source.new) result }
 {
     let name = optional_name(alloc, source)?;
     let variable_definitions = optional_variable_definitions(alloc, source)?;
@@ -170,10 +164,8 @@ fn keyword_operation<S: TokenSource>(
     scratch: &mut Vec<Selection<S::Names>>,
     keyword: Keyword,
 ) -> Result<OperationDefinition<S::Names>, ReadError>
-    ensures reads { Reads (keyword_rule (kind_of keyword)) (S.items source.old) (S.items source.new)
+    ensures { Reads (keyword_rule (kind_of keyword)) (S.items source.old) (S.items source.new)
         (λ v x. operation_view S.Names.bytes v ≡ operation (keyword_of (kind_of keyword) x)) result }
-    ensures kept { kept (S.items source.new) ≡ kept (S.items source.old) }
-    ensures shorter { Shortens (S.items source.old) (S.items source.new) result }
 {
     let position = expect_keyword(source, keyword.word())?;
     let body = operation_body(alloc, source, scratch)?;
@@ -188,10 +180,8 @@ pub fn operation_definition<S: TokenSource>(
     source: &mut S,
     scratch: &mut Vec<Selection<S::Names>>,
 ) -> Result<OperationDefinition<S::Names>, ReadError>
-    ensures reads { Reads (Sym operation_symbol) (S.items source.old) (S.items source.new)
+    ensures { Reads (Sym operation_symbol) (S.items source.old) (S.items source.new)
         (λ v x. operation_view S.Names.bytes v ≡ operation_of x) result }
-    ensures kept { kept (S.items source.new) ≡ kept (S.items source.old) }
-    ensures shorter { Shortens (S.items source.old) (S.items source.new) result }
 {
     match peek_keyword(source) {
         None => Ok(OperationDefinition::SelectionSet(selection_set(alloc, source, scratch)?)),

@@ -7,10 +7,8 @@
 //! `Reads e before after (λ value tree. ..) result` says of the production `e`:
 //!
 //! - `Ok(value)`: the consumed tokens have a parse tree `tree` of `e`, and the relation holds.
-//! - `Err(error)`: the error is the first one of `e`, and `after` begins at its token. Out of memory says nothing.
-//!
-//! `kept` says that the end of the input, or the lexical error in its place, is as before, also after an error. By
-//! `shorter` a reader that succeeds consumes a token. By `within` it does not go back.
+//! - `Err(error)`: the error is the first one of `e`, and `after` begins at its token. `Memory` says nothing of tokens.
+//! - In each case the end of the input, or the lexical error in its place, is as before.
 //!
 //! A function `.._view` maps a value of Rust to its model, and a function `.._of` maps a parse tree to the model that
 //! it denotes. `Adds view old new models` says that the list `new` is `old` and then elements with these models.
@@ -18,9 +16,9 @@
 //! All open selection sets share one list, `selections`. `{ a { b } c }` puts `b` on the list and takes it off at the
 //! inner `}`. Then it puts `a`, with its set, and `c` on the list, and takes both off at the outer `}`. So the list of
 //! a set is allocated once. After an error `selections` can also hold selections of sets that are still open.
-ghost use Rattle.std.specs.Prelude.{◌≡◌, ◌≤◌, ◌||◌, OnOk, [], ◌∷◌, length, codes};
-ghost use Rattle.graphql_core.specs.{Then, Sym, Either, optional, kept, place_of, sees_class, punctuator, any, Adds};
-ghost use Rattle.graphql_core.specs.{Shortens, punctuator_class};
+ghost use Rattle.std.specs.Prelude.{◌≡◌, ◌||◌, OnOk, [], ◌∷◌, codes};
+ghost use Rattle.graphql_core.specs.{Then, Sym, Either, optional, place_of, sees_class, punctuator, any, Adds};
+ghost use Rattle.graphql_core.specs.{punctuator_class};
 ghost use Rattle.graphql_core.specs.declared.tokenizer.token.Kind.TheVariants.{Name};
 ghost use Rattle.graphql_query.specs.{selection_view, selection_set_view, field_symbol, selection_set_symbol};
 ghost use Rattle.graphql_query.specs.{selection_symbol, fragment_spread_rest, inline_fragment_rest, field_of};
@@ -46,11 +44,9 @@ fn field<S: TokenSource>(
     source: &mut S,
     selections: &mut Vec<Selection<S::Names>>,
 ) -> Result<(), ReadError>
-    ensures reads { Reads (Sym field_symbol) (S.items source.old) (S.items source.new)
+    ensures { Reads (Sym field_symbol) (S.items source.old) (S.items source.new)
         (λ v x. Adds (selection_view S.Names.bytes) selections.old.items selections.new.items
         (field_of x ∷ [])) result }
-    ensures kept { kept (S.items source.new) ≡ kept (S.items source.old) }
-    ensures shorter { Shortens (S.items source.old) (S.items source.new) result }
 {
     let position = source.position();
     let (alias, name) = alias_and_name(alloc, source)?;
@@ -83,8 +79,6 @@ fn optional_selection_set<S: TokenSource>(
         (λ v x. selection_set_view S.Names.bytes v ≡ optional_selection_set_of (place_of position) x) result }
     ensures restored { OnOk result
         (Adds (selection_view S.Names.bytes) selections.old.items selections.new.items []) }
-    ensures kept { kept (S.items source.new) ≡ kept (S.items source.old) }
-    ensures within { OnOk result (length (S.items source.new).tokens ≤ length (S.items source.old).tokens) }
 {
     if !source.sees_punctuator(Punctuator::OpenBrace) {
         return Ok(SelectionSet {
@@ -104,11 +98,9 @@ fn inline_fragment_after_dots<S: TokenSource>(
     source: &mut S,
     selections: &mut Vec<Selection<S::Names>>,
 ) -> Result<(), ReadError>
-    ensures reads { Reads inline_fragment_rest (S.items source.old) (S.items source.new)
+    ensures { Reads inline_fragment_rest (S.items source.old) (S.items source.new)
         (λ v x. Adds (selection_view S.Names.bytes) selections.old.items selections.new.items
         (inline_fragment_rest_of x ∷ [])) result }
-    ensures kept { kept (S.items source.new) ≡ kept (S.items source.old) }
-    ensures shorter { Shortens (S.items source.old) (S.items source.new) result }
 {
     let position = source.position();
     let type_condition = optional_type_condition(alloc, source)?;
@@ -133,12 +125,10 @@ fn fragment_selection<S: TokenSource>(
     source: &mut S,
     selections: &mut Vec<Selection<S::Names>>,
 ) -> Result<(), ReadError>
-    ensures reads { Reads (Then (punctuator (codes "...")) (Either fragment_spread_rest inline_fragment_rest))
+    ensures { Reads (Then (punctuator (codes "...")) (Either fragment_spread_rest inline_fragment_rest))
         (S.items source.old) (S.items source.new)
         (λ v x. Adds (selection_view S.Names.bytes) selections.old.items selections.new.items
         (after_dots_of x ∷ [])) result }
-    ensures kept { kept (S.items source.new) ≡ kept (S.items source.old) }
-    ensures shorter { Shortens (S.items source.old) (S.items source.new) result }
 {
     expect_punctuator(source, Punctuator::Spread)?;
     if sees_spread_name(source) {
@@ -155,11 +145,9 @@ fn selection<S: TokenSource>(
     source: &mut S,
     selections: &mut Vec<Selection<S::Names>>,
 ) -> Result<(), ReadError>
-    ensures reads { Reads (Sym selection_symbol) (S.items source.old) (S.items source.new)
+    ensures { Reads (Sym selection_symbol) (S.items source.old) (S.items source.new)
         (λ v x. Adds (selection_view S.Names.bytes) selections.old.items selections.new.items
         (selection_of x ∷ [])) result }
-    ensures kept { kept (S.items source.new) ≡ kept (S.items source.old) }
-    ensures shorter { Shortens (S.items source.old) (S.items source.new) result }
 {
     if source.sees_punctuator(Punctuator::Spread) {
         return fragment_selection(alloc, source, selections);
@@ -183,10 +171,8 @@ fn selections_in_braces<S: TokenSource>(
     source: &mut S,
     selections: &mut Vec<Selection<S::Names>>,
 ) -> Result<(Pos, Pos), ReadError>
-    ensures reads { Reads (Sym selection_set_symbol) (S.items source.old) (S.items source.new)
+    ensures { Reads (Sym selection_set_symbol) (S.items source.old) (S.items source.new)
         (λ v x. AddsSet S.Names.bytes selections.old.items selections.new.items v (selection_set_of x)) result }
-    ensures kept { kept (S.items source.new) ≡ kept (S.items source.old) }
-    ensures shorter { Shortens (S.items source.old) (S.items source.new) result }
 {
     let start = expect_punctuator(source, Punctuator::OpenBrace)?;
     selection(alloc, source, selections)?;
@@ -210,8 +196,6 @@ pub fn selection_set<S: TokenSource>(
         (λ v x. selection_set_view S.Names.bytes v ≡ selection_set_of x) result }
     ensures restored { OnOk result
         (Adds (selection_view S.Names.bytes) selections.old.items selections.new.items []) }
-    ensures kept { kept (S.items source.new) ≡ kept (S.items source.old) }
-    ensures shorter { Shortens (S.items source.old) (S.items source.new) result }
 {
     let start = selections.len();
     let span = selections_in_braces(alloc, source, selections)?;

@@ -2,11 +2,11 @@
 use Rattle.std.proofs.Common.{◌≡◌, ◌||◌, ℕ, true, false, List, [], ◌∷◌, ◌++◌, Result, Err, Option, Some, None, IsErrAnd, codes, refl, ap, ◌∙◌}
 use Rattle.graphql_core.proofs.{sees-apart, Stops-node, sees-within, FailsUnseen, gives_error_by, side_left}
 use Rattle.graphql_core.proofs.{side_right, unseen, halts_led, Leads, here, side_nth, sees_both, begun, took, into}
-use Rattle.graphql_core.proofs.{past, exit}
+use Rattle.graphql_core.proofs.{past, exit, rest_stops}
 use Rattle.graphql_core.specs.{Token, Class, Expr, Then, Either, Sym, ParseTree, Leaf, First, Second, Node, Both}
 use Rattle.graphql_core.specs.{optional, row, peek, first, written, sees, Takes, takes_both, takes_node, Unexpected}
-use Rattle.graphql_core.specs.{leads_node, Stops, TakesToken, any, keyword, tables as shared_tables, unquoted}
-use Rattle.graphql_core.specs.{Refusals, halt_reason, SaysNode, Items, Reads}
+use Rattle.graphql_core.specs.{leads_node, StopsFor, TakesToken, any, keyword, tables as shared_tables, unquoted}
+use Rattle.graphql_core.specs.{Refusals, halt_reason, SaysNode, Items, Reads, Consumes}
 use Rattle.graphql_core.specs.declared.tokenizer.token.Kind.TheVariants.{StringValue, BlockString}
 use Rattle.graphql_core.specs.declared.common.read.node_error.NodeError.{NodeError}
 use Rattle.graphql_core.specs.declared.common.read.node_error.NodeError.TheVariants.{Stopped, Refused}
@@ -59,88 +59,98 @@ unfolding tables shared_tables unquoted
 fails_type_body ts = unseen schemas readable (Sym type_body_symbol) refl refl refl ts
 
 -- without a keyword, nothing begins that can follow a description
-pub no_keyword : (ts : List Token) → sees keywords (peek ts) ≡ false → Stops reading described ts ts (Some Unexpected)
+pub no_keyword : (i : Items) → sees keywords (peek i.tokens) ≡ false → StopsFor reading described i i (Some Unexpected)
 unfolding tables shared_tables unquoted
-no_keyword ts none = unseen schemas readable described refl refl refl ts none
+no_keyword i none = (unseen schemas readable described refl refl refl i.tokens none, refl)
 
 -- what can follow `extend`
 abbrev extended : Expr
 extended = Either (Sym type_body_symbol) (Sym schema_extension_symbol)
 
-pub none_extended : (ts : List Token) → sees keywords (peek ts) ≡ false → Stops reading extended ts ts (Some Unexpected)
+none_begins : (i : Items) → sees (first reading.rows extended) (peek i.tokens) ≡ false → StopsFor reading extended i i (Some Unexpected)
 unfolding tables shared_tables unquoted
-none_extended ts none = unseen schemas readable extended refl refl refl ts (sees-within (first reading.rows extended) keywords (peek ts) refl none)
+none_begins i none = (unseen schemas readable extended refl refl refl i.tokens none, refl)
 
-pub directive_extended : (ts : List Token) → sees (directive_keyword ∷ []) (peek ts) ≡ true → Stops reading extended ts ts (Some Unexpected)
+pub none_extended : (i : Items) → sees keywords (peek i.tokens) ≡ false → StopsFor reading extended i i (Some Unexpected)
 unfolding tables shared_tables unquoted
-directive_extended ts seen =
-    unseen schemas readable extended refl refl refl ts (sees-apart (first reading.rows extended) (directive_keyword ∷ []) (peek ts) refl seen)
+none_extended i none = none_begins i (sees-within (first reading.rows extended) keywords (peek i.tokens) refl none)
+
+pub directive_extended : (i : Items) → sees (directive_keyword ∷ []) (peek i.tokens) ≡ true → StopsFor reading extended i i (Some Unexpected)
+unfolding tables shared_tables unquoted
+directive_extended i seen = none_begins i (sees-apart (first reading.rows extended) (directive_keyword ∷ []) (peek i.tokens) refl seen)
 
 -- if nothing begins that can follow `extend`, the extension stops there
-pub not_extended : {old mid : Items} {t : Token} → TakesToken extend_keyword old mid t → Stops reading extended mid.tokens mid.tokens (Some Unexpected)
-    → Stops reading (row reading extension_symbol).rule old.tokens mid.tokens (Some Unexpected)
+pub not_extended : {old mid : Items} {t : Token} → TakesToken extend_keyword old mid t → StopsFor reading extended mid mid (Some Unexpected)
+    → StopsFor reading (row reading extension_symbol).rule old mid (Some Unexpected)
 not_extended {old} {mid} {t} taken stops =
-    let lead : Leads reading (row reading extension_symbol).rule extended (λ y. Both (Leaf t) y) old.tokens mid.tokens = past here (took taken refl) in
-    lead.stops mid.tokens (Some Unexpected) stops
+    let lead : Leads reading (row reading extension_symbol).rule extended (λ y. Both (Leaf t) y) old mid = past here (took taken refl) in
+    rest_stops lead mid (Some Unexpected) stops
 
-pub an_extension : (ts : List Token) → sees (extend_keyword ∷ []) (peek ts) ≡ true
-    → Leads reading (Sym item_symbol) (Sym extension_symbol) (λ x. Node item_symbol (Second x)) ts ts
+pub an_extension : (old : Items) → sees (extend_keyword ∷ []) (peek old.tokens) ≡ true
+    → Leads reading (Sym item_symbol) (Sym extension_symbol) (λ x. Node item_symbol (Second x)) old old
 unfolding tables shared_tables
-an_extension ts seen = into (begun item_symbol (λ x. refl)) (side_nth extend_keyword _ 1 refl seen)
+an_extension old seen = into (begun item_symbol (λ x. refl)) (side_nth extend_keyword _ 1 refl seen)
 
-pub no_extension : (ts : List Token) → sees (extend_keyword ∷ []) (peek ts) ≡ false
-    → Leads reading (Sym item_symbol) with_descriptions (λ x. Node item_symbol (First x)) ts ts
+pub no_extension : (old : Items) → sees (extend_keyword ∷ []) (peek old.tokens) ≡ false
+    → Leads reading (Sym item_symbol) with_descriptions (λ x. Node item_symbol (First x)) old old
 unfolding tables shared_tables unquoted
-no_extension ts other = into (begun item_symbol (λ x. refl))
+no_extension old other =
+    let ts = old.tokens in
+    into (begun item_symbol (λ x. refl))
     (side_left reading with_descriptions (Sym extension_symbol) ts refl refl (unseen schemas readable with_descriptions refl refl refl ts) other)
 
 -- after an optional description
-module _ {ts us : List Token} {d : ParseTree} (other : sees (extend_keyword ∷ []) (peek ts) ≡ false)
-    (taken : Takes reading (optional (Sym description_symbol)) ts d us) where
+module _ {old mid : Items} {d : ParseTree} (other : sees (extend_keyword ∷ []) (peek old.tokens) ≡ false)
+    (taken : Consumes reading (optional (Sym description_symbol)) old d mid) where
   -- no extension
-  pub a_description : Leads reading (Sym item_symbol) described (λ y. Node item_symbol (First (Both d y))) ts us
-  a_description = past (no_extension ts other) taken
+  pub a_description : Leads reading (Sym item_symbol) described (λ y. Node item_symbol (First (Both d y))) old mid
+  a_description = past (no_extension old other) taken
 
-  pub a_schema : sees (schema_keyword ∷ []) (peek us) ≡ true
-      → Leads reading (Sym item_symbol) (Sym schema_symbol) (λ y. Node item_symbol (First (Both d (First y)))) ts us
+  pub a_schema : sees (schema_keyword ∷ []) (peek mid.tokens) ≡ true
+      → Leads reading (Sym item_symbol) (Sym schema_symbol) (λ y. Node item_symbol (First (Both d (First y)))) old mid
   unfolding tables shared_tables
   a_schema seen = into a_description (side_nth schema_keyword _ 0 refl seen)
 
-  no_schema : sees (schema_keyword ∷ []) (peek us) ≡ false
-      → Leads reading (Sym item_symbol) types_and_directives (λ y. Node item_symbol (First (Both d (Second y)))) ts us
+  no_schema : sees (schema_keyword ∷ []) (peek mid.tokens) ≡ false
+      → Leads reading (Sym item_symbol) types_and_directives (λ y. Node item_symbol (First (Both d (Second y)))) old mid
   unfolding tables shared_tables unquoted
-  no_schema none = into a_description
+  no_schema none =
+      let us = mid.tokens in
+      into a_description
       (side_right reading (Sym schema_symbol) types_and_directives us refl refl (unseen schemas readable types_and_directives refl refl refl us) none)
 
   -- a directive definition
-  pub a_directive : sees (directive_keyword ∷ []) (peek us) ≡ true
-      → Leads reading (Sym item_symbol) (Sym directive_definition_symbol) (λ y. Node item_symbol (First (Both d (Second (Second y))))) ts us
+  pub a_directive : sees (directive_keyword ∷ []) (peek mid.tokens) ≡ true
+      → Leads reading (Sym item_symbol) (Sym directive_definition_symbol) (λ y. Node item_symbol (First (Both d (Second (Second y))))) old mid
   unfolding tables shared_tables
   a_directive seen =
-      into (no_schema (sees-apart (schema_keyword ∷ []) (directive_keyword ∷ []) (peek us) refl seen)) (side_nth directive_keyword _ 1 refl seen)
+      into (no_schema (sees-apart (schema_keyword ∷ []) (directive_keyword ∷ []) (peek mid.tokens) refl seen)) (side_nth directive_keyword _ 1 refl seen)
 
   -- a type
-  pub a_type : (k : TypeKind) → sees (keyword (kind_word k) ∷ []) (peek us) ≡ true
-      → Leads reading (Sym item_symbol) (Sym (symbol_of k)) (λ y. Node item_symbol (First (Both d (Second (First (Node type_body_symbol (place k y))))))) ts us
+  pub a_type : (k : TypeKind) → sees (keyword (kind_word k) ∷ []) (peek mid.tokens) ≡ true
+      → Leads reading (Sym item_symbol) (Sym (symbol_of k))
+      (λ y. Node item_symbol (First (Both d (Second (First (Node type_body_symbol (place k y))))))) old mid
   unfolding tables shared_tables
   a_type k seen =
+      let us = mid.tokens in
       let (none, neither) = others_unseen k (peek us) seen in
       let side = side_left reading (Sym type_body_symbol) (Sym directive_definition_symbol) us refl refl (fails_type_body us) neither in
       of_type k (into (no_schema none) side) seen
 
 -- ---- after `extend`
 
-pub of_schema : {e : Expr} {inside : ParseTree → ParseTree} {ts us : List Token}
-    → Leads reading e extended inside ts us → sees (schema_keyword ∷ []) (peek us) ≡ true
-    → Leads reading e (Sym schema_extension_symbol) (λ y. inside (Second y)) ts us
+pub of_schema : {e : Expr} {inside : ParseTree → ParseTree} {old mid : Items}
+    → Leads reading e extended inside old mid → sees (schema_keyword ∷ []) (peek mid.tokens) ≡ true
+    → Leads reading e (Sym schema_extension_symbol) (λ y. inside (Second y)) old mid
 unfolding tables shared_tables
 of_schema lead seen = into lead (side_nth schema_keyword _ 1 refl seen)
 
-pub of_body : (k : TypeKind) {e : Expr} {inside : ParseTree → ParseTree} {ts us : List Token}
-    → Leads reading e extended inside ts us → sees (keyword (kind_word k) ∷ []) (peek us) ≡ true
-    → Leads reading e (Sym (symbol_of k)) (λ y. inside (First (Node type_body_symbol (place k y)))) ts us
+pub of_body : (k : TypeKind) {e : Expr} {inside : ParseTree → ParseTree} {old mid : Items}
+    → Leads reading e extended inside old mid → sees (keyword (kind_word k) ∷ []) (peek mid.tokens) ≡ true
+    → Leads reading e (Sym (symbol_of k)) (λ y. inside (First (Node type_body_symbol (place k y)))) old mid
 unfolding tables shared_tables
-of_body k {us = us} lead seen =
+of_body k {mid = mid} lead seen =
+    let us = mid.tokens in
     let (other, neither) = others_unseen k (peek us) seen in
     let side = side_left reading (Sym type_body_symbol) (Sym schema_extension_symbol) us refl refl (fails_type_body us) other in
     of_type k (into lead side) seen
@@ -153,12 +163,12 @@ module _ {R : Type 0} (w : Refusals R) where
 
   pub node_halts : {A B : Type 0} {f : Expr} {inside : ParseTree → ParseTree} (k : ℕ) (old mid new : Items) (P : A → ParseTree → Type 0)
       (Q : B → ParseTree → Type 0) (r : Result B (NodeError R)) (d : NodeError R)
-      → Leads reading (row reading k).rule f inside old.tokens mid.tokens → Reads schemas w f mid new P (Err d)
+      → Leads reading (row reading k).rule f inside old mid → Reads schemas w f mid new P (Err d)
       → IsErrAnd r (λ e. e ≡ d) → Reads schemas w (Sym k) old new Q r
   node_halts k old mid new P Q r d led h up =
       let rule = halts_led schemas w old mid new P (λ (v : Unit {0}) y. ⊥) (Err d) d led h refl in
       record {
-        gives = gives_error_by (halt_reason w) reading (Sym k) old new _ r d (Stops-node reading k old.tokens new.tokens (halt_reason w d) rule.gives) up;
+        gives = gives_error_by (halt_reason w) reading (Sym k) old new _ r d (Stops-node reading k old new (halt_reason w d) rule.gives) up;
         says = exit r d _ up (node_says k old new d rule.says);
       }
 

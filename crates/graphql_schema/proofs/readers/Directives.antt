@@ -1,10 +1,11 @@
 -- Directive locations and directive definitions.
 use Rattle.std.proofs.Common.{◌≡◌, ℕ, Bool, true, false, List, [], ◌∷◌, map, Result, Ok, Err, Option, Some, None, IsErrAnd, refl, sym, ap, subst, ◌∙◌}
-use Rattle.graphql_core.specs.{fails_value, Token, Place, Sym, ParseTree, Leaf, Node, peek, sees, Takes, Improper}
+use Rattle.graphql_core.specs.{fails_value, Token, Place, Sym, ParseTree, Leaf, Node, peek, sees, Improper}
 use Rattle.graphql_core.specs.{Fails, fails_node, after, lexeme_token, any, location_class, Gives, IsNext, Shows, Items}
+use Rattle.graphql_core.specs.{Consumes, StopsFor}
 use Rattle.graphql_core.specs.declared.helpers.read_error.ReadError.{ReadError}
 use Rattle.graphql_core.specs.declared.tokenizer.token.Kind.TheVariants.{Name}
-use Rattle.graphql_core.proofs.{takes_token, next_matches, TakesNone, none_within, begun, took, lacks_last}
+use Rattle.graphql_core.proofs.{takes_token, next_matches, TakesNone, none_within, begun, took, lacks_last, consumed}
 use Rattle.graphql_core.specs.declared.helpers.source.Lexeme.{Lexeme}
 use Rattle.graphql_schema.specs.declared.location.DirectiveLocation.{DirectiveLocation}
 use Rattle.graphql_schema.specs.{IsNamed, is_location, location_symbol, present, InputValueTree}
@@ -46,15 +47,18 @@ module _ {T : Type 0} (bytes : T → List ℕ) (i : Items) where
 
   module _ (t : Lexeme T) (n : IsNext bytes Name i t) where
     -- the next token is a name, but no location
-    pub location_refused : is_location (bytes t.text) ≡ false → Fails reading (Sym location_symbol) i.tokens (Improper location_class) i.tokens
-    location_refused bad = subst (λ (ts : List Token). Fails reading (Sym location_symbol) ts (Improper location_class) ts) (sym n.first)
-        (fails_node (fails_value (next_matches bytes Name i t n) bad))
+    pub location_refused : is_location (bytes t.text) ≡ false → StopsFor reading (Sym location_symbol) i i (Some (Improper location_class))
+    location_refused bad = (
+      subst (λ (ts : List Token). Fails reading (Sym location_symbol) ts (Improper location_class) ts) (sym n.first)
+          (fails_node (fails_value (next_matches bytes Name i t n) bad)),
+      refl,
+    )
 
     -- the next token is a location
     pub location_taken : (new : Items) → is_location (bytes t.text) ≡ true → new ≡ after i
-        → Takes reading (Sym location_symbol) i.tokens (Node location_symbol (Leaf (lexeme_token bytes t))) new.tokens
+        → Consumes reading (Sym location_symbol) i (Node location_symbol (Leaf (lexeme_token bytes t))) new
     location_taken new good e =
-        (begun {g = reading} location_symbol (λ x. refl)).takes new.tokens _
+        consumed (begun {g = reading} location_symbol (λ x. refl))
         (took {g = reading} (takes_token location_class i new (lexeme_token bytes t) n.first e (next_matches bytes Name i t n)) good)
 
 -- ---- options that have a value

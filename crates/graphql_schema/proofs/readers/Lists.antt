@@ -1,11 +1,11 @@
 -- The next token, names separated by a punctuator, and optional parts.
-use Rattle.std.proofs.Common.{◌≡◌, ◌||◌, ◌≤◌, ℕ, true, false, List, [], ◌∷◌, length, map, arith, codes, refl, ap, ◌∙◌}
+use Rattle.std.proofs.Common.{◌≡◌, ◌||◌, ℕ, true, false, List, [], ◌∷◌, map, codes, refl, ap, ◌∙◌}
 use Rattle.graphql_core.specs.{Token, Class, Expr, One, Then, Sym, ParseTree, Leaf, Both, First, Node, optional, leaves, peek, first, row, sees}
-use Rattle.graphql_core.specs.{Takes, takes_both, written, TakesSome, place_next, TakesToken, any, first_place, Adds}
+use Rattle.graphql_core.specs.{Consumes, written, TakesSome, place_next, TakesToken, any, first_place, Adds}
 use Rattle.graphql_core.specs.{punctuator, keyword, each_of, separated_of, joined_of, tables as shared_tables, Items}
 use Rattle.graphql_core.specs.{punctuator_class}
 use Rattle.graphql_core.specs.declared.tokenizer.token.Kind.TheVariants.{Name, StringValue, BlockString}
-use Rattle.graphql_core.proofs.{fills, takes_one, Pushes, some_taken, sees_both, begins_at, BegunBy, Leads, into, there, side_node}
+use Rattle.graphql_core.proofs.{fills, takes_one, taken_both, Pushes, some_taken, sees_both, begins_at, BegunBy, Leads, into, there, side_node}
 use Rattle.graphql_schema.specs.{changes, description_symbol, joined_by, implements_symbol, members_symbol, tables}
 use Rattle.graphql_schema.specs.{schemas, as_written, sees_description, sees_described_name}
 use Rattle.graphql_schema.proofs.readers.Readable.{readable}
@@ -23,11 +23,12 @@ begins_described_name i =
     ∙ ap (λ b. b || sees (any Name ∷ []) (peek i.tokens)) (begins_description i)
 
 -- the position of a name with its description, if it has one
-pub described_at : (old mid new : Items) (d : ParseTree) (t : Token) → Takes reading (optional (Sym description_symbol)) old.tokens d mid.tokens
-    → length mid.tokens ≤ length old.tokens → TakesToken (any Name) mid new t → first_place (leaves (written changes (Both d (Leaf t)))) ≡ place_next old
-described_at old mid new d t described within named =
-    begins_at schemas readable (Then (optional (Sym description_symbol)) (One (any Name))) old new (Both d (Leaf t))
-    (takes_both described (takes_one reading (any Name) mid new t refl named)) (omega (arith, within, ap length named.tokens))
+pub described_at : (old mid new : Items) (d : ParseTree) (t : Token) → Consumes reading (optional (Sym description_symbol)) old d mid
+    → TakesToken (any Name) mid new t → first_place (leaves (written changes (Both d (Leaf t)))) ≡ place_next old
+unfolding tables
+described_at old mid new d t described named =
+    begins_at schemas readable (Then (optional (Sym description_symbol)) (One (any Name))) old new (Both d (Leaf t)) refl
+    (taken_both described (takes_one reading (any Name) mid new t refl named)).0
 
 -- ---- optional symbols
 
@@ -44,22 +45,22 @@ unfolding tables shared_tables
 members_begins = record { something = refl; first = refl }
 
 -- an optional symbol is present: what follows is its rule
-pub opens : {k : ℕ} {cs : List Class} {ts : List Token} → BegunBy reading k cs → ((x : ParseTree) → reading.check k x ≡ true)
-    → sees cs (peek ts) ≡ true → Leads reading (optional (Sym k)) (row reading k).rule (λ x. First (Node k x)) ts ts
+pub opens : {k : ℕ} {cs : List Class} {old : Items} → BegunBy reading k cs → ((x : ParseTree) → reading.check k x ≡ true)
+    → sees cs (peek old.tokens) ≡ true → Leads reading (optional (Sym k)) (row reading k).rule (λ x. First (Node k x)) old old
 opens begins passes seen = into (there begins seen) (side_node reading _ _ passes)
 
 -- ---- a list separated by a punctuator: f is what a part denotes, and view what an element is seen as
 
-pub joined_taken : {V A : Type 0} (s : List ℕ) (e : Expr) (f : ParseTree → A) (none : A) (view : V → A) {ts us : List Token} {M : ParseTree → Type 0}
-    {start now : Items} (from : List V) {to new : List V} → from ≡ [] → TakesSome reading (optional (punctuator s)) ts us M
-    → TakesSome reading e us start.tokens (λ x. Adds view from to (as_written f x ∷ []))
+pub joined_taken : {V A : Type 0} (s : List ℕ) (e : Expr) (f : ParseTree → A) (none : A) (view : V → A) {old mid : Items} {M : ParseTree → Type 0}
+    {start now : Items} (from : List V) {to new : List V} → from ≡ [] → TakesSome reading (optional (punctuator s)) old mid M
+    → TakesSome reading e mid start (λ x. Adds view from to (as_written f x ∷ []))
     → Pushes reading (Then (punctuator s) e) (as_written (separated_of f none)) view start now to new
     → sees (first reading.rows (Then (punctuator s) e)) (peek now.tokens) ≡ false
-    → TakesSome reading (joined_by s e) ts now.tokens (λ x. map view new ≡ as_written (joined_of f none) x)
+    → TakesSome reading (joined_by s e) old now (λ x. map view new ≡ as_written (joined_of f none) x)
 joined_taken s e f none view from empty (m, separated, any) one p unseen =
     let (x, takes, adds) = some_taken (as_written f) (as_written (each_of (separated_of f none))) (λ x. as_written (joined_of f none) (Both m x)) from
     refl (λ x y. refl) (λ x y. refl) one p unseen in
-    (Both m x, takes_both separated takes, fills view _ _ _ empty adds)
+    (Both m x, taken_both separated takes, fills view _ _ _ empty adds)
 
 -- a punctuator and a name
 abbrev pub separated : List ℕ → Expr

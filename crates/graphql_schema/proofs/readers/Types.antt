@@ -1,12 +1,12 @@
 -- Types by their kinds: the rule of a kind and what it denotes, and the alternative of a kind in a type body.
-use Rattle.std.proofs.Common.{◌≡◌, ℕ, true, false, List, [], ◌∷◌, Result, Ok, Err, Option, Some, None, codes, refl, ◌∙◌}
+use Rattle.std.proofs.Common.{◌≡◌, ℕ, true, false, List, [], ◌∷◌, Result, Ok, Err, Option, codes, refl, ◌∙◌}
 use Rattle.graphql_core.specs.{all_apart, Token, Place, Expr, Empty, Then}
 use Rattle.graphql_core.specs.{Sym, ParseTree, Both, First, Second, Node, peek, written, sees, Takes, takes_nothing}
 use Rattle.graphql_core.specs.{takes_both, takes_node, Reason, Fails, fails_before, fails_after, fails_node}
-use Rattle.graphql_core.specs.{TakesSome, Stops, keyword, word, directives_symbol, tables as shared_tables}
-use Rattle.graphql_core.specs.{DirectiveTree, Answered, reason_of, optional_list_of}
+use Rattle.graphql_core.specs.{TakesSome, keyword, word, directives_symbol, tables as shared_tables}
+use Rattle.graphql_core.specs.{DirectiveTree, reason_of, optional_list_of, Gives, Items}
 use Rattle.graphql_core.specs.declared.helpers.read_error.ReadError.{ReadError}
-use Rattle.graphql_core.proofs.{sees-apart, sees-parts, IsSide, Leads, into, side_in, side_nth}
+use Rattle.graphql_core.proofs.{sees-apart, sees-parts, IsSide, Leads, into, side_in, side_nth, halts}
 use Rattle.graphql_schema.specs.{changes, tables, type_body_symbol, type_body_rule, body_by, no_body, body_of}
 use Rattle.graphql_schema.specs.{interfaces_of, PartsTree, BodyTree, kind_word, has_interfaces, symbol_of, means}
 use Rattle.graphql_schema.specs.{interfaces_rule, parts_rule, parts_of}
@@ -62,20 +62,16 @@ fails Union h = fails_node (after_two fails_front h)
 fails Enum h = fails_node (after_two fails_front h)
 fails InputObject h = fails_node (after_two fails_front h)
 
-stops : (k : TypeKind) (ts us : List Token) (o : Option Reason) → Stops reading (full_rule k) ts us o → Stops reading (Sym (symbol_of k)) ts us o
-stops k ts us None h = tt
-stops k ts us (Some why) h = fails k h
-
-pub kind_taken : (k : TypeKind) {ts us : List Token} {b : BodyTree} → TakesSome reading (full_rule k) ts us (λ x. b ≡ full_means k (written changes x))
-    → TakesSome reading (Sym (symbol_of k)) ts us (λ x. b ≡ means k (written changes x))
-kind_taken k (x, takes, is) = let (y, node, same) = taken k takes in (y, node, is ∙ same)
+pub kind_taken : (k : TypeKind) {old new : Items} {b : BodyTree} → TakesSome reading (full_rule k) old new (λ x. b ≡ full_means k (written changes x))
+    → TakesSome reading (Sym (symbol_of k)) old new (λ x. b ≡ means k (written changes x))
+kind_taken k (x, (takes, kept), is) = let (y, node, same) = taken k takes in (y, (node, kept), is ∙ same)
 
 -- a reader of the full rule reads the kind
-pub of_kind : {A : Type 0} (k : TypeKind) (ts us : List Token) (view : A → BodyTree) (r : Result A ReadError)
-    → Answered reason_of reading (full_rule k) ts us (λ v x. view v ≡ full_means k (written changes x)) r
-    → Answered reason_of reading (Sym (symbol_of k)) ts us (λ v x. view v ≡ means k (written changes x)) r
-of_kind k ts us view (Ok v) h = kind_taken k h
-of_kind k ts us view (Err d) h = stops k ts us (reason_of d) h
+pub of_kind : {A : Type 0} (k : TypeKind) (old new : Items) (view : A → BodyTree) (r : Result A ReadError)
+    → Gives reading (full_rule k) old new (λ v x. view v ≡ full_means k (written changes x)) r
+    → Gives reading (Sym (symbol_of k)) old new (λ v x. view v ≡ means k (written changes x)) r
+of_kind k old new view (Ok v) h = kind_taken k h
+of_kind k old new view (Err d) h = halts new (reason_of d) refl (λ why. fails k) h
 
 -- a body from its parts
 abbrev of_parts : Place → List ℕ → List DirectiveTree → PartsTree → BodyTree
@@ -113,9 +109,9 @@ chosen Enum ts s = side_nth (keyword (codes "enum")) type_body_rule 4 refl s
 chosen InputObject ts s = side_nth (keyword (codes "input")) type_body_rule 5 refl s
 
 -- the keyword decides the kind
-pub of_type : (k : TypeKind) {e : Expr} {inside : ParseTree → ParseTree} {ts us : List Token} → Leads reading e (Sym type_body_symbol) inside ts us
-    → sees (keyword (kind_word k) ∷ []) (peek us) ≡ true → Leads reading e (Sym (symbol_of k)) (λ x. inside (Node type_body_symbol (place k x))) ts us
-of_type k {us = us} lead seen = into lead (side_in type_body_symbol (λ x. refl) (chosen k us seen))
+pub of_type : (k : TypeKind) {e : Expr} {inside : ParseTree → ParseTree} {old mid : Items} → Leads reading e (Sym type_body_symbol) inside old mid
+    → sees (keyword (kind_word k) ∷ []) (peek mid.tokens) ≡ true → Leads reading e (Sym (symbol_of k)) (λ x. inside (Node type_body_symbol (place k x))) old mid
+of_type k {mid = mid} lead seen = into lead (side_in type_body_symbol (λ x. refl) (chosen k mid.tokens seen))
 
 -- the keyword of a type is none of the others
 no_other : (k : TypeKind) → all_apart (keyword (codes "schema") ∷ keyword (codes "directive") ∷ []) (keyword (kind_word k) ∷ []) ≡ true

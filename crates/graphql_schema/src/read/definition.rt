@@ -1,6 +1,6 @@
 //! Definitions, and lists of them.
 ghost use Rattle.std.specs.Prelude.{◌≡◌, map};
-ghost use Rattle.graphql_core.specs.{Sym, some_of, kept, Shortens, each_of};
+ghost use Rattle.graphql_core.specs.{Sym, some_of, each_of};
 ghost use Rattle.graphql_schema.specs.{item_symbol, item_of, definition_view, sees_definition, ReadsNode};
 
 use crate::read::description::{optional_description, sees_description};
@@ -24,10 +24,8 @@ fn definition<S: TokenSource>(
     source: &mut S,
     scratch: &mut Scratch<S::Names>,
 ) -> Result<Definition<S::Names>, NodeError<InvalidNode>>
-    ensures reads { ReadsNode (Sym item_symbol) (S.items source.old) (S.items source.new)
+    ensures { ReadsNode (Sym item_symbol) (S.items source.old) (S.items source.new)
         (λ v x. definition_view S.Names.bytes v ≡ item_of x) result }
-    ensures kept { kept (S.items source.new) ≡ kept (S.items source.old) }
-    ensures shorter { Shortens (S.items source.old) (S.items source.new) result }
 {
     if sees_keyword(source, "extend") {
         return extension(alloc, source, scratch);
@@ -65,10 +63,8 @@ pub fn definitions<S: TokenSource>(
     alloc: Global,
     source: &mut S,
 ) -> Result<Vec<Definition<S::Names>>, NodeError<InvalidNode>>
-    ensures reads { ReadsNode (some_of (Sym item_symbol)) (S.items source.old) (S.items source.new)
+    ensures { ReadsNode (some_of (Sym item_symbol)) (S.items source.old) (S.items source.new)
         (λ v x. map (definition_view S.Names.bytes) v.items ≡ each_of item_of x) result }
-    ensures kept { kept (S.items source.new) ≡ kept (S.items source.old) }
-    ensures shorter { Shortens (S.items source.old) (S.items source.new) result }
 {
     let mut definitions = Vec::new(alloc);
     let mut scratch = Scratch::new(alloc);

@@ -1,6 +1,6 @@
 //! Descriptions.
-ghost use Rattle.std.specs.Prelude.{◌≡◌, ◌≤◌, OnOk, length, option_map, string_bytes};
-ghost use Rattle.graphql_core.specs.{Sym, optional, kept, sees_class, any, Shortens, optional_of};
+ghost use Rattle.std.specs.Prelude.{◌≡◌, option_map, string_bytes};
+ghost use Rattle.graphql_core.specs.{Sym, optional, sees_class, any, optional_of};
 ghost use Rattle.graphql_core.specs.declared.tokenizer.token.Kind.TheVariants.{BlockString};
 ghost use Rattle.graphql_schema.specs.{description_symbol, description_of, Reads, sees_description};
 ghost use Rattle.graphql_schema.specs.{sees_described_name};
@@ -39,10 +39,8 @@ pub fn sees_described_name<S: TokenSource>(source: &S) -> bool
 #[inline(never)]
 #[tactic(auto, using(graphql_core::proofs::readers::Reading::reading))]
 fn description<S: TokenSource>(alloc: Global, source: &mut S) -> Result<String, ReadError>
-    ensures reads { Reads (Sym description_symbol) (S.items source.old) (S.items source.new)
+    ensures { Reads (Sym description_symbol) (S.items source.old) (S.items source.new)
         (λ v x. string_bytes v ≡ description_of x) result }
-    ensures kept { kept (S.items source.new) ≡ kept (S.items source.old) }
-    ensures shorter { Shortens (S.items source.old) (S.items source.new) result }
 {
     if sees_block_string(source) {
         return block_string_value(alloc, source);
@@ -57,10 +55,8 @@ pub fn optional_description<S: TokenSource>(
     alloc: Global,
     source: &mut S,
 ) -> Result<Option<String>, ReadError>
-    ensures reads { Reads (optional (Sym description_symbol)) (S.items source.old) (S.items source.new)
+    ensures { Reads (optional (Sym description_symbol)) (S.items source.old) (S.items source.new)
         (λ v x. option_map string_bytes v ≡ optional_of description_of x) result }
-    ensures kept { kept (S.items source.new) ≡ kept (S.items source.old) }
-    ensures within { OnOk result (length (S.items source.new).tokens ≤ length (S.items source.old).tokens) }
 {
     if !sees_description(source) {
         return Ok(None);

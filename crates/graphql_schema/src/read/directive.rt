@@ -1,6 +1,6 @@
 //! Directive definitions.
-ghost use Rattle.std.specs.Prelude.{◌≡◌, ◌≤◌, OnOk, None, Some, [], ◌∷◌, length, codes};
-ghost use Rattle.graphql_core.specs.{Then, Sym, optional, kept, punctuator, word, Adds, Shortens, is_there};
+ghost use Rattle.std.specs.Prelude.{◌≡◌, None, Some, [], ◌∷◌, codes};
+ghost use Rattle.graphql_core.specs.{Then, Sym, optional, punctuator, word, Adds, is_there};
 ghost use Rattle.graphql_core.specs.{separated_of};
 ghost use Rattle.graphql_schema.specs.{location_symbol, locations_symbol, directive_definition_symbol, location_at};
 ghost use Rattle.graphql_schema.specs.{locations_of, directive_definition_of, directive_definition_view, Reads};
@@ -20,10 +20,8 @@ use std::alloc::Global;
 /// `Location = Name`, where the name is that of a directive location.
 #[tactic(auto, using(graphql_core::proofs::readers::Reading::reading))]
 fn location<S: TokenSource>(source: &mut S) -> Result<DirectiveLocation, ReadError>
-    ensures reads { Reads (Sym location_symbol) (S.items source.old) (S.items source.new)
+    ensures { Reads (Sym location_symbol) (S.items source.old) (S.items source.new)
         (λ v x. Some v ≡ location_at x) result }
-    ensures kept { kept (S.items source.new) ≡ kept (S.items source.old) }
-    ensures shorter { Shortens (S.items source.old) (S.items source.new) result }
 {
     let token = next_of(source, Kind::Name)?;
     let Ok(location) = S::as_str(&token.text).parse::<DirectiveLocation>() else {
@@ -39,11 +37,9 @@ fn separated_location<S: TokenSource>(
     source: &mut S,
     locations: &mut Vec<DirectiveLocation>,
 ) -> Result<(), ReadError>
-    ensures reads { Reads (Then (punctuator (codes "|")) (Sym location_symbol))
+    ensures { Reads (Then (punctuator (codes "|")) (Sym location_symbol))
         (S.items source.old) (S.items source.new)
         (λ v x. Adds Some locations.old.items locations.new.items (separated_of location_at None x ∷ [])) result }
-    ensures kept { kept (S.items source.new) ≡ kept (S.items source.old) }
-    ensures shorter { Shortens (S.items source.old) (S.items source.new) result }
 {
     expect_punctuator(source, Punctuator::Pipe)?;
     locations.push(location(source)?)?;
@@ -56,10 +52,8 @@ fn locations<S: TokenSource>(
     alloc: Global,
     source: &mut S,
 ) -> Result<Vec<DirectiveLocation>, ReadError>
-    ensures reads { Reads (Sym locations_symbol) (S.items source.old) (S.items source.new)
+    ensures { Reads (Sym locations_symbol) (S.items source.old) (S.items source.new)
         (λ v x. v.items ≡ locations_of x) result }
-    ensures kept { kept (S.items source.new) ≡ kept (S.items source.old) }
-    ensures shorter { Shortens (S.items source.old) (S.items source.new) result }
 {
     let mut locations = Vec::new(alloc);
     optional_punctuator(source, Punctuator::Pipe)?;
@@ -74,10 +68,8 @@ fn locations<S: TokenSource>(
 /// `"repeatable"?`
 #[tactic(auto, using(graphql_core::proofs::readers::Reading::reading))]
 fn repeatable<S: TokenSource>(source: &mut S) -> Result<bool, ReadError>
-    ensures reads { Reads (optional (word (codes "repeatable"))) (S.items source.old) (S.items source.new)
+    ensures { Reads (optional (word (codes "repeatable"))) (S.items source.old) (S.items source.new)
         (λ v x. v ≡ is_there x) result }
-    ensures kept { kept (S.items source.new) ≡ kept (S.items source.old) }
-    ensures within { OnOk result (length (S.items source.new).tokens ≤ length (S.items source.old).tokens) }
 {
     if !sees_keyword(source, "repeatable") {
         return Ok(false);
@@ -92,10 +84,8 @@ pub fn directive_definition<S: TokenSource>(
     alloc: Global,
     source: &mut S,
 ) -> Result<DirectiveDefinition<S::Names>, ReadError>
-    ensures reads { Reads (Sym directive_definition_symbol) (S.items source.old) (S.items source.new)
+    ensures { Reads (Sym directive_definition_symbol) (S.items source.old) (S.items source.new)
         (λ v x. directive_definition_view S.Names.bytes v ≡ directive_definition_of None x) result }
-    ensures kept { kept (S.items source.new) ≡ kept (S.items source.old) }
-    ensures shorter { Shortens (S.items source.old) (S.items source.new) result }
 {
     let position = expect_keyword(source, "directive")?;
     expect_punctuator(source, Punctuator::At)?;

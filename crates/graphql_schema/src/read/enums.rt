@@ -1,6 +1,6 @@
 //! Values of enums.
-ghost use Rattle.std.specs.Prelude.{◌≡◌, ◌≤◌, OnOk, length, map};
-ghost use Rattle.graphql_core.specs.{Sym, optional, kept, reading, enclosed_of, optional_list_of};
+ghost use Rattle.std.specs.Prelude.{◌≡◌, map};
+ghost use Rattle.graphql_core.specs.{Sym, optional, reading, enclosed_of, optional_list_of};
 ghost use Rattle.graphql_schema.specs.Grammar.{enum_value_symbol, enum_values_symbol};
 ghost use Rattle.graphql_schema.specs.Meanings.{enum_value_of};
 ghost use Rattle.graphql_schema.specs.Views.{enum_value_view};
@@ -64,10 +64,8 @@ pub fn optional_enum_values<S: TokenSource>(
     source: &mut S,
     others: &mut Vec<EnumValue<S::Names>>,
 ) -> Result<Vec<EnumValue<S::Names>>, ReadError>
-    ensures reads { Reads (optional (Sym enum_values_symbol)) (S.items source.old) (S.items source.new)
+    ensures { Reads (optional (Sym enum_values_symbol)) (S.items source.old) (S.items source.new)
         (λ v x. map (enum_value_view S.Names.bytes) v.items ≡ optional_list_of (enclosed_of enum_value_of) x) result }
-    ensures kept { kept (S.items source.new) ≡ kept (S.items source.old) }
-    ensures within { OnOk result (length (S.items source.new).tokens ≤ length (S.items source.old).tokens) }
 {
     let (open, close) = (Punctuator::OpenBrace, Punctuator::CloseBrace);
     optional_split_list::<S, EnumValueList>(alloc, source, open, close, others)

@@ -1,6 +1,6 @@
 //! Extensions of types and of the schema.
 ghost use Rattle.std.specs.Prelude.{◌≡◌};
-ghost use Rattle.graphql_core.specs.{Sym, kept, Shortens};
+ghost use Rattle.graphql_core.specs.{Sym};
 ghost use Rattle.graphql_schema.specs.{extension_symbol, extension_of, adds_to_schema, schema_extension_view};
 ghost use Rattle.graphql_schema.specs.{definition_view, ReadsNode};
 
@@ -32,10 +32,8 @@ pub fn extension<S: TokenSource>(
     source: &mut S,
     scratch: &mut Scratch<S::Names>,
 ) -> Result<Definition<S::Names>, NodeError<InvalidNode>>
-    ensures reads { ReadsNode (Sym extension_symbol) (S.items source.old) (S.items source.new)
+    ensures { ReadsNode (Sym extension_symbol) (S.items source.old) (S.items source.new)
         (λ v x. definition_view S.Names.bytes v ≡ extension_of x) result }
-    ensures kept { kept (S.items source.new) ≡ kept (S.items source.old) }
-    ensures shorter { Shortens (S.items source.old) (S.items source.new) result }
 {
     expect_keyword(source, "extend")?;
     match peek_keyword(source) {

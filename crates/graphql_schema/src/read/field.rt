@@ -1,6 +1,6 @@
 //! Fields of object types and of interfaces.
-ghost use Rattle.std.specs.Prelude.{◌≡◌, ◌≤◌, OnOk, length, map};
-ghost use Rattle.graphql_core.specs.{Sym, optional, kept, reading, enclosed_of, optional_list_of};
+ghost use Rattle.std.specs.Prelude.{◌≡◌, map};
+ghost use Rattle.graphql_core.specs.{Sym, optional, reading, enclosed_of, optional_list_of};
 ghost use Rattle.graphql_schema.specs.Grammar.{field_symbol, fields_symbol};
 ghost use Rattle.graphql_schema.specs.Meanings.{field_of};
 ghost use Rattle.graphql_schema.specs.Views.{field_view};
@@ -71,10 +71,8 @@ pub fn optional_fields<S: TokenSource>(
     source: &mut S,
     others: &mut Vec<Field<S::Names>>,
 ) -> Result<Vec<Field<S::Names>>, ReadError>
-    ensures reads { Reads (optional (Sym fields_symbol)) (S.items source.old) (S.items source.new)
+    ensures { Reads (optional (Sym fields_symbol)) (S.items source.old) (S.items source.new)
         (λ v x. map (field_view S.Names.bytes) v.items ≡ optional_list_of (enclosed_of field_of) x) result }
-    ensures kept { kept (S.items source.new) ≡ kept (S.items source.old) }
-    ensures within { OnOk result (length (S.items source.new).tokens ≤ length (S.items source.old).tokens) }
 {
     let (open, close) = (Punctuator::OpenBrace, Punctuator::CloseBrace);
     optional_split_list::<S, FieldList>(alloc, source, open, close, others)

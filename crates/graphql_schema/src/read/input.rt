@@ -1,6 +1,6 @@
 //! Arguments of fields and of directives, and fields of input objects.
-ghost use Rattle.std.specs.Prelude.{◌≡◌, ◌≤◌, OnOk, length, map};
-ghost use Rattle.graphql_core.specs.{Sym, optional, kept, reading, enclosed_of, optional_list_of};
+ghost use Rattle.std.specs.Prelude.{◌≡◌, map};
+ghost use Rattle.graphql_core.specs.{Sym, optional, reading, enclosed_of, optional_list_of};
 ghost use Rattle.graphql_schema.specs.Grammar.{input_value_symbol, argument_definitions_symbol, input_fields_symbol};
 ghost use Rattle.graphql_schema.specs.Meanings.{input_value_of};
 ghost use Rattle.graphql_schema.specs.Views.{input_value_view};
@@ -73,10 +73,8 @@ pub fn optional_argument_definitions<S: TokenSource>(
     alloc: Global,
     source: &mut S,
 ) -> Result<Vec<InputValue<S::Names>>, ReadError>
-    ensures reads { Reads (optional (Sym argument_definitions_symbol)) (S.items source.old) (S.items source.new)
+    ensures { Reads (optional (Sym argument_definitions_symbol)) (S.items source.old) (S.items source.new)
         (λ v x. map (input_value_view S.Names.bytes) v.items ≡ optional_list_of (enclosed_of input_value_of) x) result }
-    ensures kept { kept (S.items source.new) ≡ kept (S.items source.old) }
-    ensures within { OnOk result (length (S.items source.new).tokens ≤ length (S.items source.old).tokens) }
 {
     let (open, close) = (Punctuator::OpenParen, Punctuator::CloseParen);
     optional_list::<S, InputValueList>(alloc, source, open, close, FEW_ARGUMENTS)
@@ -88,10 +86,8 @@ pub fn optional_input_fields<S: TokenSource>(
     source: &mut S,
     others: &mut Vec<InputValue<S::Names>>,
 ) -> Result<Vec<InputValue<S::Names>>, ReadError>
-    ensures reads { Reads (optional (Sym input_fields_symbol)) (S.items source.old) (S.items source.new)
+    ensures { Reads (optional (Sym input_fields_symbol)) (S.items source.old) (S.items source.new)
         (λ v x. map (input_value_view S.Names.bytes) v.items ≡ optional_list_of (enclosed_of input_value_of) x) result }
-    ensures kept { kept (S.items source.new) ≡ kept (S.items source.old) }
-    ensures within { OnOk result (length (S.items source.new).tokens ≤ length (S.items source.old).tokens) }
 {
     let (open, close) = (Punctuator::OpenBrace, Punctuator::CloseBrace);
     optional_split_list::<S, InputValueList>(alloc, source, open, close, others)

@@ -1,6 +1,6 @@
 //! Names separated by a punctuator: the interfaces of a type, and the members of a union.
-ghost use Rattle.std.specs.Prelude.{◌≡◌, ◌≤◌, OnOk, [], ◌∷◌, length, map};
-ghost use Rattle.graphql_core.specs.{Then, Sym, optional, kept, spelling_of, punctuator, spelling_at, Adds, Shortens};
+ghost use Rattle.std.specs.Prelude.{◌≡◌, [], ◌∷◌, map};
+ghost use Rattle.graphql_core.specs.{Then, Sym, optional, spelling_of, punctuator, spelling_at, Adds};
 ghost use Rattle.graphql_core.specs.{joined_of, separated_of, optional_list_of};
 ghost use Rattle.graphql_schema.specs.{joined_by, implements_symbol, members_symbol, interfaces_of, members_of, Reads};
 ghost use Rattle.graphql_core.specs.values.Grammar as shared;
@@ -18,10 +18,8 @@ pub fn optional_punctuator<S: TokenSource>(
     source: &mut S,
     separator: Punctuator,
 ) -> Result<(), ReadError>
-    ensures reads { Reads (optional (punctuator (spelling_of separator))) (S.items source.old) (S.items source.new)
+    ensures { Reads (optional (punctuator (spelling_of separator))) (S.items source.old) (S.items source.new)
         (λ v x. Unit {0}) result }
-    ensures kept { kept (S.items source.new) ≡ kept (S.items source.old) }
-    ensures within { OnOk result (length (S.items source.new).tokens ≤ length (S.items source.old).tokens) }
 {
     if source.sees_punctuator(separator) {
         expect_punctuator(source, separator)?;
@@ -37,11 +35,9 @@ fn separated_name<S: TokenSource>(
     separator: Punctuator,
     names: &mut Vec<<S::Names as Names>::Value>,
 ) -> Result<(), ReadError>
-    ensures reads { Reads (Then (punctuator (spelling_of separator)) shared.name)
+    ensures { Reads (Then (punctuator (spelling_of separator)) shared.name)
         (S.items source.old) (S.items source.new)
         (λ v x. Adds S.Names.bytes names.old.items names.new.items (separated_of spelling_at [] x ∷ [])) result }
-    ensures kept { kept (S.items source.new) ≡ kept (S.items source.old) }
-    ensures shorter { Shortens (S.items source.old) (S.items source.new) result }
 {
     expect_punctuator(source, separator)?;
     names.push(expect_name(alloc, source)?)?;
@@ -55,10 +51,8 @@ fn joined_names<S: TokenSource>(
     source: &mut S,
     separator: Punctuator,
 ) -> Result<Vec<<S::Names as Names>::Value>, ReadError>
-    ensures reads { Reads (joined_by (spelling_of separator) shared.name) (S.items source.old) (S.items source.new)
+    ensures { Reads (joined_by (spelling_of separator) shared.name) (S.items source.old) (S.items source.new)
         (λ v x. map S.Names.bytes v.items ≡ joined_of spelling_at [] x) result }
-    ensures kept { kept (S.items source.new) ≡ kept (S.items source.old) }
-    ensures shorter { Shortens (S.items source.old) (S.items source.new) result }
 {
     let mut names = Vec::new(alloc);
     optional_punctuator(source, separator)?;
@@ -76,10 +70,8 @@ pub fn optional_implements<S: TokenSource>(
     alloc: Global,
     source: &mut S,
 ) -> Result<Vec<<S::Names as Names>::Value>, ReadError>
-    ensures reads { Reads (optional (Sym implements_symbol)) (S.items source.old) (S.items source.new)
+    ensures { Reads (optional (Sym implements_symbol)) (S.items source.old) (S.items source.new)
         (λ v x. map S.Names.bytes v.items ≡ optional_list_of interfaces_of x) result }
-    ensures kept { kept (S.items source.new) ≡ kept (S.items source.old) }
-    ensures within { OnOk result (length (S.items source.new).tokens ≤ length (S.items source.old).tokens) }
 {
     if !sees_keyword(source, "implements") {
         return Ok(Vec::new(alloc));
@@ -94,10 +86,8 @@ pub fn optional_members<S: TokenSource>(
     alloc: Global,
     source: &mut S,
 ) -> Result<Vec<<S::Names as Names>::Value>, ReadError>
-    ensures reads { Reads (optional (Sym members_symbol)) (S.items source.old) (S.items source.new)
+    ensures { Reads (optional (Sym members_symbol)) (S.items source.old) (S.items source.new)
         (λ v x. map S.Names.bytes v.items ≡ optional_list_of members_of x) result }
-    ensures kept { kept (S.items source.new) ≡ kept (S.items source.old) }
-    ensures within { OnOk result (length (S.items source.new).tokens ≤ length (S.items source.old).tokens) }
 {
     if !source.sees_punctuator(Punctuator::Equals) {
         return Ok(Vec::new(alloc));

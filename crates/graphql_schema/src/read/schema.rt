@@ -1,6 +1,6 @@
 //! Schema definitions and extensions of the schema: the root operation types.
-ghost use Rattle.std.specs.Prelude.{◌≡◌, ◌≤◌, IfOk, OnOk, List, [], ◌∷◌, ◌++◌, length};
-ghost use Rattle.graphql_core.specs.{Sym, Many, optional, kept, Shortens};
+ghost use Rattle.std.specs.Prelude.{◌≡◌, IfOk, List, [], ◌∷◌, ◌++◌};
+ghost use Rattle.graphql_core.specs.{Sym, Many, optional};
 ghost use Rattle.graphql_schema.specs.Roots.{Root, root_at, roots_of, roots_in};
 ghost use Rattle.graphql_schema.specs.Grammar.{schema_symbol, root_type_symbol, schema_extension_symbol, roots_symbol};
 ghost use Rattle.graphql_schema.specs.Meanings.{schema_of, schema_extension_of};
@@ -94,11 +94,9 @@ fn root_type<S: TokenSource>(
     source: &mut S,
     roots: &mut Roots<S::Names>,
 ) -> Result<(), ReadError>
-    ensures reads { Reads (Sym root_type_symbol) (S.items source.old) (S.items source.new)
+    ensures { Reads (Sym root_type_symbol) (S.items source.old) (S.items source.new)
         (λ v x. (rs : List Root) → HasRoots S.Names.bytes roots.old rs
         → HasRoots S.Names.bytes roots.new (rs ++ root_at x ∷ [])) result }
-    ensures kept { kept (S.items source.new) ≡ kept (S.items source.old) }
-    ensures shorter { Shortens (S.items source.old) (S.items source.new) result }
 {
     let operation = expect_name(alloc, source)?;
     expect_punctuator(source, Punctuator::Colon)?;
@@ -114,11 +112,9 @@ fn root_types<S: TokenSource>(
     source: &mut S,
     roots: &mut Roots<S::Names>,
 ) -> Result<(), ReadError>
-    ensures reads { Reads (Many (Sym root_type_symbol)) (S.items source.old) (S.items source.new)
+    ensures { Reads (Many (Sym root_type_symbol)) (S.items source.old) (S.items source.new)
         (λ v x. (rs : List Root) → HasRoots S.Names.bytes roots.old rs
         → HasRoots S.Names.bytes roots.new (rs ++ roots_of x)) result }
-    ensures kept { kept (S.items source.new) ≡ kept (S.items source.old) }
-    ensures within { OnOk result (length (S.items source.new).tokens ≤ length (S.items source.old).tokens) }
 {
     'more: while source.sees_name() {
         root_type(alloc, source, roots)?;
@@ -133,10 +129,8 @@ pub fn schema_definition<S: TokenSource>(
     alloc: Global,
     source: &mut S,
 ) -> Result<SchemaDefinition<S::Names>, NodeError<InvalidNode>>
-    ensures reads { ReadsNode (Sym schema_symbol) (S.items source.old) (S.items source.new)
+    ensures { ReadsNode (Sym schema_symbol) (S.items source.old) (S.items source.new)
         (λ v x. schema_view S.Names.bytes v ≡ schema_of x) result }
-    ensures kept { kept (S.items source.new) ≡ kept (S.items source.old) }
-    ensures shorter { Shortens (S.items source.old) (S.items source.new) result }
 {
     let position = expect_keyword(source, "schema")?;
     let directives = directives::directives(alloc, source)?;
@@ -169,10 +163,8 @@ fn optional_roots<S: TokenSource>(
     alloc: Global,
     source: &mut S,
 ) -> Result<Roots<S::Names>, ReadError>
-    ensures reads { Reads (optional (Sym roots_symbol)) (S.items source.old) (S.items source.new)
+    ensures { Reads (optional (Sym roots_symbol)) (S.items source.old) (S.items source.new)
         (λ v x. HasRoots S.Names.bytes v (roots_in x)) result }
-    ensures kept { kept (S.items source.new) ≡ kept (S.items source.old) }
-    ensures within { OnOk result (length (S.items source.new).tokens ≤ length (S.items source.old).tokens) }
 {
     let mut roots = no_roots::<S::Names>();
     if !source.sees_punctuator(Punctuator::OpenBrace) {
@@ -191,10 +183,8 @@ pub fn schema_extension<S: TokenSource>(
     alloc: Global,
     source: &mut S,
 ) -> Result<SchemaExtension<S::Names>, NodeError<InvalidNode>>
-    ensures reads { ReadsNode (Sym schema_extension_symbol) (S.items source.old) (S.items source.new)
+    ensures { ReadsNode (Sym schema_extension_symbol) (S.items source.old) (S.items source.new)
         (λ v x. schema_extension_view S.Names.bytes v ≡ schema_extension_of x) result }
-    ensures kept { kept (S.items source.new) ≡ kept (S.items source.old) }
-    ensures shorter { Shortens (S.items source.old) (S.items source.new) result }
 {
     let position = expect_keyword(source, "schema")?;
     let directives = directives::directives(alloc, source)?;

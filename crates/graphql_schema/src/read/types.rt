@@ -1,6 +1,6 @@
 //! The bodies of types: what follows `extend` or a description.
-ghost use Rattle.std.specs.Prelude.{◌≡◌, ◌≤◌, OnOk, length, map};
-ghost use Rattle.graphql_core.specs.{Sym, kept, Shortens, optional_list_of};
+ghost use Rattle.std.specs.Prelude.{◌≡◌, map};
+ghost use Rattle.graphql_core.specs.{Sym, optional_list_of};
 ghost use Rattle.graphql_schema.specs.{interfaces_of, has_interfaces, Reads, symbol_of, means, interfaces_rule};
 ghost use Rattle.graphql_schema.specs.{parts_rule, parts_of, parts_view, type_body_view};
 
@@ -42,10 +42,8 @@ fn interfaces<S: TokenSource>(
     source: &mut S,
     kind: TypeKind,
 ) -> Result<Vec<<S::Names as Names>::Value>, ReadError>
-    ensures reads { Reads (interfaces_rule (has_interfaces kind)) (S.items source.old) (S.items source.new)
+    ensures { Reads (interfaces_rule (has_interfaces kind)) (S.items source.old) (S.items source.new)
         (λ v x. map S.Names.bytes v.items ≡ optional_list_of interfaces_of x) result }
-    ensures kept { kept (S.items source.new) ≡ kept (S.items source.old) }
-    ensures within { OnOk result (length (S.items source.new).tokens ≤ length (S.items source.old).tokens) }
 {
     if !kind.has_interfaces() {
         return Ok(Vec::new(alloc));
@@ -63,10 +61,8 @@ fn parts<S: TokenSource>(
     interfaces: Vec<<S::Names as Names>::Value>,
     scratch: &mut Scratch<S::Names>,
 ) -> Result<TypeParts<S::Names>, ReadError>
-    ensures reads { Reads (parts_rule kind) (S.items source.old) (S.items source.new)
+    ensures { Reads (parts_rule kind) (S.items source.old) (S.items source.new)
         (λ v x. parts_view S.Names.bytes v ≡ parts_of kind (map S.Names.bytes interfaces.items) x) result }
-    ensures kept { kept (S.items source.new) ≡ kept (S.items source.old) }
-    ensures within { OnOk result (length (S.items source.new).tokens ≤ length (S.items source.old).tokens) }
 {
     match kind {
         TypeKind::Scalar => Ok(TypeParts::Scalar),
@@ -103,10 +99,8 @@ pub fn type_body<S: TokenSource>(
     kind: TypeKind,
     scratch: &mut Scratch<S::Names>,
 ) -> Result<TypeBody<S::Names>, ReadError>
-    ensures reads { Reads (Sym (symbol_of kind)) (S.items source.old) (S.items source.new)
+    ensures { Reads (Sym (symbol_of kind)) (S.items source.old) (S.items source.new)
         (λ v x. type_body_view S.Names.bytes v ≡ means kind x) result }
-    ensures kept { kept (S.items source.new) ≡ kept (S.items source.old) }
-    ensures shorter { Shortens (S.items source.old) (S.items source.new) result }
 {
     let position = expect_keyword(source, kind.word())?;
     let name = expect_name(alloc, source)?;

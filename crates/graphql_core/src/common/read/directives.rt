@@ -1,5 +1,5 @@
 //! Arguments, directives and default values.
-ghost use Rattle.std.specs.Prelude.{◌≡◌, ◌≤◌, ℕ, List, OnOk, length, option_map};
+ghost use Rattle.std.specs.Prelude.{◌≡◌, ℕ, List, option_map};
 ghost use Rattle.graphql_core.specs.grammar.Trees.{Sym, optional};
 ghost use Rattle.graphql_core.specs.values.Grammar.{shared, arguments_symbol, argument_symbol, directive_symbol};
 ghost use Rattle.graphql_core.specs.values.Grammar.{directives_symbol, default_symbol};
@@ -8,8 +8,7 @@ ghost use Rattle.graphql_core.specs.values.Meanings.{default_of, optional_defaul
 ghost use Rattle.graphql_core.specs.values.Values.{ValueTree, DirectiveTree};
 ghost use Rattle.graphql_core.specs.values.ValueViews.{value_view, argument_view, arguments_view, directive_view};
 ghost use Rattle.graphql_core.specs.values.ValueViews.{directives_view};
-ghost use Rattle.graphql_core.specs.sources.Source.{kept};
-ghost use Rattle.graphql_core.specs.steps.Answers.{Gives, Shortens};
+ghost use Rattle.graphql_core.specs.steps.Answers.{Gives};
 
 use crate::common::Names;
 use crate::common::read::lists::{Elements, read_enclosed, read_many};
@@ -64,10 +63,8 @@ pub fn optional_arguments<S: TokenSource>(
     alloc: Global,
     source: &mut S,
 ) -> Result<Vec<(<S::Names as Names>::Value, Value<S::Names>)>, ReadError>
-    ensures reads { Gives shared (optional (Sym arguments_symbol)) (S.items source.old) (S.items source.new)
+    ensures { Gives shared (optional (Sym arguments_symbol)) (S.items source.old) (S.items source.new)
         (λ v x. arguments_view S.Names.bytes v.items ≡ optional_arguments_of x) result }
-    ensures kept { kept (S.items source.new) ≡ kept (S.items source.old) }
-    ensures within { OnOk result (length (S.items source.new).tokens ≤ length (S.items source.old).tokens) }
 {
     let (open, close) = (Punctuator::OpenParen, Punctuator::CloseParen);
     if !source.sees_punctuator(open) {
@@ -127,10 +124,8 @@ pub fn directives<S: TokenSource>(
     alloc: Global,
     source: &mut S,
 ) -> Result<Vec<Directive<S::Names>>, ReadError>
-    ensures reads { Gives shared (Sym directives_symbol) (S.items source.old) (S.items source.new)
+    ensures { Gives shared (Sym directives_symbol) (S.items source.old) (S.items source.new)
         (λ v x. directives_view S.Names.bytes v.items ≡ directives_of x) result }
-    ensures kept { kept (S.items source.new) ≡ kept (S.items source.old) }
-    ensures within { OnOk result (length (S.items source.new).tokens ≤ length (S.items source.old).tokens) }
 {
     let mut directives = Vec::new(alloc);
     if source.sees_punctuator(Punctuator::At) {
@@ -147,10 +142,8 @@ fn default_value<S: TokenSource>(
     alloc: Global,
     source: &mut S,
 ) -> Result<Value<S::Names>, ReadError>
-    ensures reads { Gives shared (Sym default_symbol) (S.items source.old) (S.items source.new)
+    ensures { Gives shared (Sym default_symbol) (S.items source.old) (S.items source.new)
         (λ v x. value_view S.Names.bytes v ≡ default_of x) result }
-    ensures kept { kept (S.items source.new) ≡ kept (S.items source.old) }
-    ensures shorter { Shortens (S.items source.old) (S.items source.new) result }
 {
     expect_punctuator(source, Punctuator::Equals)?;
     constant(alloc, source)
@@ -163,10 +156,8 @@ pub fn optional_default<S: TokenSource>(
     alloc: Global,
     source: &mut S,
 ) -> Result<Option<Value<S::Names>>, ReadError>
-    ensures reads { Gives shared (optional (Sym default_symbol)) (S.items source.old) (S.items source.new)
+    ensures { Gives shared (optional (Sym default_symbol)) (S.items source.old) (S.items source.new)
         (λ v x. option_map (value_view S.Names.bytes) v ≡ optional_default_of x) result }
-    ensures kept { kept (S.items source.new) ≡ kept (S.items source.old) }
-    ensures within { OnOk result (length (S.items source.new).tokens ≤ length (S.items source.old).tokens) }
 {
     if !source.sees_punctuator(Punctuator::Equals) {
         return Ok(None);

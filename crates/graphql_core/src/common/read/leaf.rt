@@ -1,7 +1,7 @@
 //! Readers of values that are one token.
 ghost use Rattle.std.specs.Prelude.{◌≡◌, IfOk, string_bytes};
 ghost use Rattle.graphql_core.specs.{takes_spelling, One, Sym, shared, any, enum_class, plain_symbol};
-ghost use Rattle.graphql_core.specs.{enum_name_symbol, kept, Gives, Shortens, Shows, word_of, int_of, string_of};
+ghost use Rattle.graphql_core.specs.{enum_name_symbol, Gives, Shows, word_of, int_of, string_of};
 ghost use Rattle.graphql_core.specs.{block_string_of, spelling_at, plain_of, enum_name_of, value_view};
 ghost use Rattle.graphql_core.specs.declared.tokenizer.token.Kind.TheVariants.{IntValue, FloatValue, StringValue};
 ghost use Rattle.graphql_core.specs.declared.tokenizer.token.Kind.TheVariants.{BlockString};
@@ -27,10 +27,8 @@ pub fn next_of<S: TokenSource>(source: &S, kind: Kind) -> Result<Lexeme<S::Text>
 /// `Int`
 #[tactic(auto, using(crate::proofs::readers::Reading::reading))]
 pub fn int_value<S: TokenSource>(alloc: Global, source: &mut S) -> Result<Number, ReadError>
-    ensures reads { Gives shared (One (any IntValue)) (S.items source.old) (S.items source.new)
+    ensures { Gives shared (One (any IntValue)) (S.items source.old) (S.items source.new)
         (λ v x. v ≡ int_of (spelling_at x)) result }
-    ensures kept { kept (S.items source.new) ≡ kept (S.items source.old) }
-    ensures shorter { Shortens (S.items source.old) (S.items source.new) result }
 {
     let token = next_of(source, Kind::IntValue)?;
     let Ok(value) = S::as_str(&token.text).parse::<i64>() else {
@@ -43,10 +41,8 @@ pub fn int_value<S: TokenSource>(alloc: Global, source: &mut S) -> Result<Number
 /// `Float`
 #[tactic(auto, using(crate::proofs::readers::Reading::reading))]
 pub fn float_value<S: TokenSource>(alloc: Global, source: &mut S) -> Result<FloatLiteral, ReadError>
-    ensures reads { Gives shared (One (any FloatValue)) (S.items source.old) (S.items source.new)
+    ensures { Gives shared (One (any FloatValue)) (S.items source.old) (S.items source.new)
         (λ v x. v ≡ spelling_at x) result }
-    ensures kept { kept (S.items source.new) ≡ kept (S.items source.old) }
-    ensures shorter { Shortens (S.items source.old) (S.items source.new) result }
 {
     let token = next_of(source, Kind::FloatValue)?;
     let text = String::from_str(alloc, S::as_str(&token.text))?;
@@ -60,10 +56,8 @@ pub fn float_value<S: TokenSource>(alloc: Global, source: &mut S) -> Result<Floa
 /// `String`
 #[tactic(auto, using(crate::proofs::readers::Reading::reading))]
 pub fn string_value<S: TokenSource>(alloc: Global, source: &mut S) -> Result<String, ReadError>
-    ensures reads { Gives shared (One (any StringValue)) (S.items source.old) (S.items source.new)
+    ensures { Gives shared (One (any StringValue)) (S.items source.old) (S.items source.new)
         (λ v x. string_bytes v ≡ string_of (spelling_at x)) result }
-    ensures kept { kept (S.items source.new) ≡ kept (S.items source.old) }
-    ensures shorter { Shortens (S.items source.old) (S.items source.new) result }
 {
     let token = next_of(source, Kind::StringValue)?;
     match unquote_string(alloc, S::as_str(&token.text)) {
@@ -82,10 +76,8 @@ pub fn block_string_value<S: TokenSource>(
     alloc: Global,
     source: &mut S,
 ) -> Result<String, ReadError>
-    ensures reads { Gives shared (One (any BlockString)) (S.items source.old) (S.items source.new)
+    ensures { Gives shared (One (any BlockString)) (S.items source.old) (S.items source.new)
         (λ v x. string_bytes v ≡ block_string_of (spelling_at x)) result }
-    ensures kept { kept (S.items source.new) ≡ kept (S.items source.old) }
-    ensures shorter { Shortens (S.items source.old) (S.items source.new) result }
 {
     let token = next_of(source, Kind::BlockString)?;
     let value = unquote_block_string(alloc, S::as_str(&token.text))?;
@@ -106,10 +98,8 @@ pub fn enum_value<S: TokenSource>(
     alloc: Global,
     source: &mut S,
 ) -> Result<<S::Names as Names>::Value, ReadError>
-    ensures reads { Gives shared (Sym enum_name_symbol) (S.items source.old) (S.items source.new)
+    ensures { Gives shared (Sym enum_name_symbol) (S.items source.old) (S.items source.new)
         (λ v x. S.Names.bytes v ≡ enum_name_of x) result }
-    ensures kept { kept (S.items source.new) ≡ kept (S.items source.old) }
-    ensures shorter { Shortens (S.items source.old) (S.items source.new) result }
 {
     let token = next_of(source, Kind::Name)?;
     if !is_enum_word(S::as_str(&token.text)) {
@@ -138,10 +128,8 @@ pub fn plain_value<S: TokenSource>(
     alloc: Global,
     source: &mut S,
 ) -> Result<Value<S::Names>, ReadError>
-    ensures reads { Gives shared (Sym plain_symbol) (S.items source.old) (S.items source.new)
+    ensures { Gives shared (Sym plain_symbol) (S.items source.old) (S.items source.new)
         (λ v x. value_view S.Names.bytes v ≡ plain_of x) result }
-    ensures kept { kept (S.items source.new) ≡ kept (S.items source.old) }
-    ensures shorter { Shortens (S.items source.old) (S.items source.new) result }
 {
     let Some(token) = source.peek() else {
         return Err(ReadError::Item);

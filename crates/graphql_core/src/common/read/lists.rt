@@ -2,9 +2,9 @@
 ghost use Rattle.std.specs.Prelude.{◌≡◌, ◌≤◌, ℕ, List, OnOk, length, map};
 ghost use Rattle.graphql_core.specs.steps.Punctuators.{class_of};
 ghost use Rattle.graphql_core.specs.grammar.Trees.{ParseTree, Many, Sym, optional};
-ghost use Rattle.graphql_core.specs.sources.Source.{kept};
-ghost use Rattle.graphql_core.specs.steps.Answers.{Gives, Adds, Shortens};
-ghost use Rattle.graphql_core.specs.steps.Lists.{each, IsList, IsOption};
+ghost use Rattle.graphql_core.specs.steps.Answers.{Gives, Adds};
+ghost use Rattle.graphql_core.specs.values.Parts.{each_of};
+ghost use Rattle.graphql_core.specs.steps.Lists.{IsList, IsOption};
 
 use crate::helpers::{
     Punctuator, ReadError, TokenSource, expect_punctuator, shrink_list, split_list,
@@ -13,13 +13,12 @@ use std::alloc::Global;
 
 /// How to read the elements of a list.
 pub trait Elements<S: TokenSource> {
-    ghost use Rattle.std.specs.Prelude.{◌≡◌, [], ◌∷◌};
+    ghost use Rattle.std.specs.Prelude.{◌≡◌, ◌<◌, [], ◌∷◌, length, OnOk};
     ghost use Rattle.graphql_core.specs.grammar.Trees.{Grammar};
     ghost use Rattle.graphql_core.specs.grammar.Trees.{Expr, ParseTree, peek};
     ghost use Rattle.graphql_core.specs.grammar.Tables.{first};
     ghost use Rattle.graphql_core.specs.grammar.Reading.{sees};
-    ghost use Rattle.graphql_core.specs.sources.Source.{kept};
-    ghost use Rattle.graphql_core.specs.steps.Answers.{Gives, Adds, Shortens};
+    ghost use Rattle.graphql_core.specs.steps.Answers.{Gives, Adds};
 
     /// What a list stores of one element.
     type Item: Drop;
@@ -44,8 +43,7 @@ pub trait Elements<S: TokenSource> {
     fn read(alloc: Global, source: &mut S, items: &mut Vec<Self::Item>) -> Result<(), ReadError>
         ensures reads { Gives grammar production (S.items source.old) (S.items source.new)
             (λ v x. Adds view items.old.items items.new.items (means x ∷ [])) result }
-        ensures kept { kept (S.items source.new) ≡ kept (S.items source.old) }
-        ensures shorter { Shortens (S.items source.old) (S.items source.new) result };
+        ensures shorter { OnOk result (length (S.items source.new).tokens < length (S.items source.old).tokens) };
 }
 
 /// Reads elements as long as one comes next, and appends them to `items`.
@@ -56,10 +54,8 @@ pub fn read_many<S: TokenSource, E: Elements<S>>(
     source: &mut S,
     items: &mut Vec<E::Item>,
 ) -> Result<(), ReadError>
-    ensures reads { Gives E.grammar (Many E.production) (S.items source.old) (S.items source.new)
-        (λ v x. Adds E.view items.old.items items.new.items (each E.means x)) result }
-    ensures kept { kept (S.items source.new) ≡ kept (S.items source.old) }
-    ensures within { OnOk result (length (S.items source.new).tokens ≤ length (S.items source.old).tokens) }
+    ensures { Gives E.grammar (Many E.production) (S.items source.old) (S.items source.new)
+        (λ v x. Adds E.view items.old.items items.new.items (each_of E.means x)) result }
 {
     'more: while E::comes_next(source) {
         E::read(alloc, source, items)?;
@@ -81,9 +77,7 @@ pub fn read_enclosed<S: TokenSource, E: Elements<S>>(
         → IsList E.grammar (class_of opener) (class_of closer) E.production E.means k m
         → Gives E.grammar (Sym k) (S.items source.old) (S.items source.new)
         (λ v x. Adds E.view items.old.items items.new.items (m x)) result }
-    ensures kept { kept (S.items source.new) ≡ kept (S.items source.old) }
     ensures grows { OnOk result (length items.old.items ≤ length items.new.items) }
-    ensures shorter { Shortens (S.items source.old) (S.items source.new) result }
 {
     expect_punctuator(source, opener)?;
     E::read(alloc, source, items)?;
@@ -103,12 +97,10 @@ pub fn optional_split_list<S: TokenSource, E: Elements<S>>(
     closer: Punctuator,
     others: &mut Vec<E::Item>,
 ) -> Result<Vec<E::Item>, ReadError>
-    ensures reads { (k : ℕ) (m n : ParseTree → List E.Tree)
+    ensures { (k : ℕ) (m n : ParseTree → List E.Tree)
         → IsList E.grammar (class_of opener) (class_of closer) E.production E.means k m → IsOption m n
         → Gives E.grammar (optional (Sym k)) (S.items source.old) (S.items source.new)
         (λ v x. map E.view v.items ≡ n x) result }
-    ensures kept { kept (S.items source.new) ≡ kept (S.items source.old) }
-    ensures within { OnOk result (length (S.items source.new).tokens ≤ length (S.items source.old).tokens) }
 {
     if !source.sees_punctuator(opener) {
         return Ok(Vec::new(alloc));
@@ -129,12 +121,10 @@ pub fn optional_list<S: TokenSource, E: Elements<S>>(
     closer: Punctuator,
     capacity: usize,
 ) -> Result<Vec<E::Item>, ReadError>
-    ensures reads { (k : ℕ) (m n : ParseTree → List E.Tree)
+    ensures { (k : ℕ) (m n : ParseTree → List E.Tree)
         → IsList E.grammar (class_of opener) (class_of closer) E.production E.means k m → IsOption m n
         → Gives E.grammar (optional (Sym k)) (S.items source.old) (S.items source.new)
         (λ v x. map E.view v.items ≡ n x) result }
-    ensures kept { kept (S.items source.new) ≡ kept (S.items source.old) }
-    ensures within { OnOk result (length (S.items source.new).tokens ≤ length (S.items source.old).tokens) }
 {
     if !source.sees_punctuator(opener) {
         return Ok(Vec::new(alloc));

@@ -1,7 +1,7 @@
 //! Types.
-ghost use Rattle.std.specs.Prelude.{◌≡◌, ◌≤◌, OnOk, length, codes};
+ghost use Rattle.std.specs.Prelude.{◌≡◌, codes};
 ghost use Rattle.graphql_core.specs.{Sym, optional, shared, type_symbol, punctuator, type_of, optional_non_null};
-ghost use Rattle.graphql_core.specs.{type_view, kept, Gives, Shortens};
+ghost use Rattle.graphql_core.specs.{type_view, Gives};
 
 use crate::common::tree::Type;
 use crate::helpers::{Punctuator, ReadError, TokenSource, expect_name, expect_punctuator};
@@ -14,10 +14,8 @@ fn optional_non_null<S: TokenSource>(
     source: &mut S,
     inner: Type<S::Names>,
 ) -> Result<Type<S::Names>, ReadError>
-    ensures reads { Gives shared (optional (punctuator (codes "!"))) (S.items source.old) (S.items source.new)
+    ensures { Gives shared (optional (punctuator (codes "!"))) (S.items source.old) (S.items source.new)
         (λ v x. type_view S.Names.bytes v ≡ optional_non_null x (type_view S.Names.bytes inner)) result }
-    ensures kept { kept (S.items source.new) ≡ kept (S.items source.old) }
-    ensures within { OnOk result (length (S.items source.new).tokens ≤ length (S.items source.old).tokens) }
 {
     if source.sees_punctuator(Punctuator::Bang) {
         expect_punctuator(source, Punctuator::Bang)?;
@@ -32,10 +30,8 @@ pub fn type_reference<S: TokenSource>(
     alloc: Global,
     source: &mut S,
 ) -> Result<Type<S::Names>, ReadError>
-    ensures reads { Gives shared (Sym type_symbol) (S.items source.old) (S.items source.new)
+    ensures { Gives shared (Sym type_symbol) (S.items source.old) (S.items source.new)
         (λ v x. type_view S.Names.bytes v ≡ type_of x) result }
-    ensures kept { kept (S.items source.new) ≡ kept (S.items source.old) }
-    ensures shorter { Shortens (S.items source.old) (S.items source.new) result }
 {
     if source.sees_punctuator(Punctuator::OpenBracket) {
         expect_punctuator(source, Punctuator::OpenBracket)?;

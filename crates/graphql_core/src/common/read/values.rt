@@ -8,8 +8,7 @@ ghost use Rattle.graphql_core.specs.steps.Constness.{object_rule, begins_variabl
 ghost use Rattle.graphql_core.specs.steps.Constness.{as_list, as_object};
 ghost use Rattle.graphql_core.specs.values.Values.{put};
 ghost use Rattle.graphql_core.specs.values.ValueViews.{value_view, members_view};
-ghost use Rattle.graphql_core.specs.sources.Source.{kept};
-ghost use Rattle.graphql_core.specs.steps.Answers.{Gives, Shortens};
+ghost use Rattle.graphql_core.specs.steps.Answers.{Gives};
 
 use crate::common::Names;
 use crate::common::read::leaf::plain_value;
@@ -29,20 +28,16 @@ enum Constness {
 
 /// `Value = "$" Name | Plain | "[" Value* "]" | "{" Argument* "}"`
 pub fn value<S: TokenSource>(alloc: Global, source: &mut S) -> Result<Value<S::Names>, ReadError>
-    ensures reads { Gives shared (Sym value_symbol) (S.items source.old) (S.items source.new)
+    ensures { Gives shared (Sym value_symbol) (S.items source.old) (S.items source.new)
         (λ v x. value_view S.Names.bytes v ≡ value_of x) result }
-    ensures kept { kept (S.items source.new) ≡ kept (S.items source.old) }
-    ensures shorter { Shortens (S.items source.old) (S.items source.new) result }
 {
     value_by_constness(alloc, source, Constness::Value)
 }
 
 /// `Const = Plain | "[" Const* "]" | "{" ConstPair* "}"`
 pub fn constant<S: TokenSource>(alloc: Global, source: &mut S) -> Result<Value<S::Names>, ReadError>
-    ensures reads { Gives shared (Sym const_symbol) (S.items source.old) (S.items source.new)
+    ensures { Gives shared (Sym const_symbol) (S.items source.old) (S.items source.new)
         (λ v x. value_view S.Names.bytes v ≡ const_of x) result }
-    ensures kept { kept (S.items source.new) ≡ kept (S.items source.old) }
-    ensures shorter { Shortens (S.items source.old) (S.items source.new) result }
 {
     value_by_constness(alloc, source, Constness::Constant)
 }
@@ -60,10 +55,8 @@ fn sees_variable<S: TokenSource>(source: &S, constness: Constness) -> bool
 /// `"$" Name`
 #[tactic(auto, using(crate::proofs::readers::Reading::reading))]
 fn variable<S: TokenSource>(alloc: Global, source: &mut S) -> Result<Value<S::Names>, ReadError>
-    ensures reads { Gives shared variable_rule (S.items source.old) (S.items source.new)
+    ensures { Gives shared variable_rule (S.items source.old) (S.items source.new)
         (λ v x. value_view S.Names.bytes v ≡ value_of (as_variable x)) result }
-    ensures kept { kept (S.items source.new) ≡ kept (S.items source.old) }
-    ensures shorter { Shortens (S.items source.old) (S.items source.new) result }
 {
     expect_punctuator(source, Punctuator::Dollar)?;
     Ok(Value::Variable(expect_name(alloc, source)?))
@@ -77,10 +70,8 @@ fn value_by_constness<S: TokenSource>(
     source: &mut S,
     constness: Constness,
 ) -> Result<Value<S::Names>, ReadError>
-    ensures reads { Gives shared (Sym (symbol_of constness)) (S.items source.old) (S.items source.new)
+    ensures { Gives shared (Sym (symbol_of constness)) (S.items source.old) (S.items source.new)
         (λ v x. value_view S.Names.bytes v ≡ tree_of constness x) result }
-    ensures kept { kept (S.items source.new) ≡ kept (S.items source.old) }
-    ensures shorter { Shortens (S.items source.old) (S.items source.new) result }
 {
     if sees_variable(source, constness) {
         return variable(alloc, source);
@@ -102,10 +93,8 @@ fn list<S: TokenSource>(
     source: &mut S,
     constness: Constness,
 ) -> Result<Value<S::Names>, ReadError>
-    ensures reads { Gives shared (list_rule constness) (S.items source.old) (S.items source.new)
+    ensures { Gives shared (list_rule constness) (S.items source.old) (S.items source.new)
         (λ v x. value_view S.Names.bytes v ≡ tree_of constness (as_list constness x)) result }
-    ensures kept { kept (S.items source.new) ≡ kept (S.items source.old) }
-    ensures shorter { Shortens (S.items source.old) (S.items source.new) result }
 {
     expect_punctuator(source, Punctuator::OpenBracket)?;
     let mut items = Vec::new(alloc);
@@ -124,10 +113,8 @@ fn object<S: TokenSource>(
     source: &mut S,
     constness: Constness,
 ) -> Result<Value<S::Names>, ReadError>
-    ensures reads { Gives shared (object_rule constness) (S.items source.old) (S.items source.new)
+    ensures { Gives shared (object_rule constness) (S.items source.old) (S.items source.new)
         (λ v x. value_view S.Names.bytes v ≡ tree_of constness (as_object constness x)) result }
-    ensures kept { kept (S.items source.new) ≡ kept (S.items source.old) }
-    ensures shorter { Shortens (S.items source.old) (S.items source.new) result }
 {
     expect_punctuator(source, Punctuator::OpenBrace)?;
     let mut fields = BTreeMap::new(alloc);
@@ -147,11 +134,9 @@ fn member<S: TokenSource>(
     constness: Constness,
     fields: &mut BTreeMap<<S::Names as Names>::Value, Value<S::Names>>,
 ) -> Result<(), ReadError>
-    ensures reads { Gives shared (Sym (pair_symbol_of constness)) (S.items source.old) (S.items source.new)
+    ensures { Gives shared (Sym (pair_symbol_of constness)) (S.items source.old) (S.items source.new)
         (λ v x. members_view S.Names.bytes fields.new.entries ≡ put (pair_of constness x).0 (pair_of constness x).1
         (members_view S.Names.bytes fields.old.entries)) result }
-    ensures kept { kept (S.items source.new) ≡ kept (S.items source.old) }
-    ensures shorter { Shortens (S.items source.old) (S.items source.new) result }
 {
     let name = expect_name(alloc, source)?;
     expect_punctuator(source, Punctuator::Colon)?;

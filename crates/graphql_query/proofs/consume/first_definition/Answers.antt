@@ -4,11 +4,11 @@ use Rattle.graphql_query.proofs.consume.first_definition.Goals as goal
 pub returns-in-Err-clause-complete : goal.returns-in-Err-clause-complete
 returns-in-Err-clause-complete g c x others h =
     memory_only (g.S.TokenSource.items c.args.source.now) (g.S.TokenSource.items c.definition.new.source)
-    c.in-Err.error _ x others c.in-Err.ensures.reads c.fault_of.ensures h
+    c.in-Err.error _ x others c.in-Err.ensures c.fault_of.ensures h
 
 pub returns-in-Err-clause-first_error : goal.returns-in-Err-clause-first_error
 returns-in-Err-clause-first_error g c =
-    least_refusal _ (g.S.TokenSource.items c.definition.new.source) c.in-Err.error _ c.in-Err.ensures.reads c.fault_of.ensures c.in-Err.ensures.kept
+    least_refusal _ (g.S.TokenSource.items c.definition.new.source) c.in-Err.error _ c.in-Err.ensures c.fault_of.ensures
 
 pub returns-in-Ok-clause-complete : goal.returns-in-Ok-clause-complete
 returns-in-Ok-clause-complete g c x others h = tt

@@ -1,19 +1,24 @@
-use Rattle.graphql_core.proofs.{read_whole, read_stopped, read_left}
+use Rattle.std.proofs.Common.{Err}
+use Rattle.graphql_core.specs.{reason_of}
+use Rattle.graphql_core.proofs.{gives_kept, read_whole, read_stopped, read_left}
 use Rattle.graphql_query.specs.{queries}
 use Rattle.graphql_query.proofs.{readable}
 use Rattle.graphql_query.proofs.document.read_document.Goals as goal
 
 pub returns-in-Err-clause-reads : goal.returns-in-Err-clause-reads
 returns-in-Err-clause-reads g c =
-    read_stopped queries readable _ _ _ c.in-Err.ensures.kept c.in-Err.error _ c.in-Err.ensures.reads c.fault_of.ensures
+    read_stopped queries readable _ _ _ c.in-Err.error _ c.in-Err.ensures c.fault_of.ensures
 
 pub returns-then-is_at_end-clause-reads : goal.returns-then-is_at_end-clause-reads
 returns-then-is_at_end-clause-reads g c =
-    read_whole queries readable _ _ _ c.in-Ok.ensures.kept _ _ c.in-Ok.ensures.reads c.is_at_end.ensures c.if-is_at_end.true
+    read_whole queries readable _ _ _ _ _ c.in-Ok.ensures c.is_at_end.ensures c.if-is_at_end.true
 
 pub returns-else-is_at_end-clause-reads : goal.returns-else-is_at_end-clause-reads
 returns-else-is_at_end-clause-reads g c =
-    read_left queries readable _ _ _ c.in-Ok.ensures.kept _ _ _ c.in-Ok.ensures.reads c.is_at_end.ensures c.if-is_at_end.false c.fault.ensures
+    read_left queries readable _ _ _ _ _ _ c.in-Ok.ensures c.is_at_end.ensures c.if-is_at_end.false c.fault.ensures
 
 pub returns-then-is_at_end-clause-end : goal.returns-then-is_at_end-clause-end
 returns-then-is_at_end-clause-end g c = c.is_at_end.ensures.0 c.if-is_at_end.true
+
+pub returns-in-Err-clause-kept : goal.returns-in-Err-clause-kept
+returns-in-Err-clause-kept g c = gives_kept {A = Unit {0}} reason_of _ _ _ _ (λ v x. Unit {0}) (Err c.in-Err.error) c.in-Err.ensures

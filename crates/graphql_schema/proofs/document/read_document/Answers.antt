@@ -1,4 +1,7 @@
-use Rattle.graphql_core.proofs.{read_whole, read_stopped, read_refused, read_left}
+use Rattle.std.proofs.Common.{Err}
+use Rattle.graphql_core.specs.{halt_reason}
+use Rattle.graphql_core.specs.declared.common.read.node_error.NodeError.TheVariants.{Stopped, Refused}
+use Rattle.graphql_core.proofs.{read_whole, read_stopped, read_refused, read_left, gives_kept}
 use Rattle.graphql_schema.specs.{schemas, refusals}
 use Rattle.graphql_schema.proofs.{readable}
 use Rattle.graphql_schema.proofs.document.read_document.Goals as goal
@@ -6,22 +9,32 @@ use Rattle.graphql_schema.proofs.document.read_document.Goals as goal
 pub returns-in-Err-Stopped-clause-reads : goal.returns-in-Err-Stopped-clause-reads
 returns-in-Err-Stopped-clause-reads g c =
     let e = c.in-Err-Stopped in
-    let reads = rw e.field-0-is at e.ensures.reads in
-    read_stopped schemas readable _ _ _ e.ensures.kept e.error _ reads.gives c.fault_of.ensures
+    let reads = rw e.field-0-is at e.ensures in
+    read_stopped schemas readable _ _ _ e.error _ reads.gives c.fault_of.ensures
 
 pub returns-in-Err-Refused-clause-reads : goal.returns-in-Err-Refused-clause-reads
 returns-in-Err-Refused-clause-reads g c =
     let e = c.in-Err-Refused in
-    read_refused schemas readable _ _ _ e.ensures.kept refusals _ e.node _ (rw e.field-0-is at e.ensures.reads) c.fault.ensures
+    read_refused schemas readable _ _ _ refusals _ e.node _ (rw e.field-0-is at e.ensures) c.fault.ensures
 
 pub returns-then-is_at_end-clause-reads : goal.returns-then-is_at_end-clause-reads
 returns-then-is_at_end-clause-reads g c =
-    read_whole schemas readable _ _ _ c.in-Ok.ensures.kept _ _ c.in-Ok.ensures.reads.gives c.is_at_end.ensures c.if-is_at_end.true
+    read_whole schemas readable _ _ _ _ _ c.in-Ok.ensures.gives c.is_at_end.ensures c.if-is_at_end.true
 
 pub returns-else-is_at_end-clause-reads : goal.returns-else-is_at_end-clause-reads
 returns-else-is_at_end-clause-reads g c =
-    read_left schemas readable _ _ _ c.in-Ok.ensures.kept _ _ _ c.in-Ok.ensures.reads.gives c.is_at_end.ensures
+    read_left schemas readable _ _ _ _ _ _ c.in-Ok.ensures.gives c.is_at_end.ensures
     c.if-is_at_end.false c.fault-else-is_at_end.ensures
 
 pub returns-then-is_at_end-clause-end : goal.returns-then-is_at_end-clause-end
 returns-then-is_at_end-clause-end g c = c.is_at_end.ensures.0 c.if-is_at_end.true
+
+pub returns-in-Err-Stopped-clause-kept : goal.returns-in-Err-Stopped-clause-kept
+returns-in-Err-Stopped-clause-kept g c =
+    let e = c.in-Err-Stopped in
+    gives_kept {A = Unit {0}} (halt_reason refusals) _ _ _ _ (λ v x. Unit {0}) (Err (Stopped e.error)) (rw e.field-0-is at e.ensures).gives
+
+pub returns-in-Err-Refused-clause-kept : goal.returns-in-Err-Refused-clause-kept
+returns-in-Err-Refused-clause-kept g c =
+    let e = c.in-Err-Refused in
+    gives_kept {A = Unit {0}} (halt_reason refusals) _ _ _ _ (λ v x. Unit {0}) (Err (Refused e.node)) (rw e.field-0-is at e.ensures).gives

@@ -5,11 +5,11 @@ use Rattle.graphql_query.specs.{reading, changes, spread_class, spread_name_symb
 use Rattle.graphql_query.proofs.{begun, gives_one, narrowed}
 use Rattle.graphql_query.proofs.read.fragment.spread_name.Goals as goal
 
-pub returns-then-not-sees_spread_name-clause-reads : goal.returns-then-not-sees_spread_name-clause-reads
-returns-then-not-sees_spread_name-clause-reads g c = fails_node (fails_one (sym c.sees_spread_name.ensures ∙ c.if-not-sees_spread_name.true))
+pub returns-then-not-sees_spread_name : goal.returns-then-not-sees_spread_name
+returns-then-not-sees_spread_name g c = (fails_node (fails_one (sym c.sees_spread_name.ensures ∙ c.if-not-sees_spread_name.true)), refl)
 
-pub returns-clause-reads : goal.returns-clause-reads
-returns-clause-reads g c =
+pub returns : goal.returns
+returns g c =
     let items = g.S.TokenSource.items in
     let old = items c.args.source.now in
     let new = items c.expect_name.new.source in

@@ -5,11 +5,11 @@ use Rattle.graphql_query.specs.{reading}
 use Rattle.graphql_core.specs.values.Grammar as shared
 use Rattle.graphql_query.proofs.read.operation.optional_name.Goals as goal
 
-pub returns-then-not-sees_name-clause-reads : goal.returns-then-not-sees_name-clause-reads
-returns-then-not-sees_name-clause-reads g c = (Second Nothing, takes_none reading shared.name _ refl (sym c.sees_name.ensures ∙ c.if-not-sees_name.true), refl)
+pub returns-then-not-sees_name : goal.returns-then-not-sees_name
+returns-then-not-sees_name g c = (Second Nothing, (takes_none reading shared.name _ refl (sym c.sees_name.ensures ∙ c.if-not-sees_name.true), refl), refl)
 
-pub returns-clause-reads : goal.returns-clause-reads
-returns-clause-reads g c =
+pub returns : goal.returns
+returns g c =
     let (t, takes, spelled) = c.in_ok-expect_name.ensures in (
       First (Leaf t),
       takes_some reading shared.name _ _ _ (sym c.sees_name.ensures ∙ c.if-not-sees_name.false) (takes_one reading _ _ _ t refl takes),

@@ -1,5 +1,5 @@
-use Rattle.std.proofs.Common.{◌+◌, ◌*◌, ◌≤◌, ◌≡◌, length}
-use Rattle.graphql_core.specs.{Sym, kept}
+use Rattle.std.proofs.Common.{◌+◌, ◌*◌, ◌≤◌, length}
+use Rattle.graphql_core.specs.{Sym}
 use Rattle.graphql_core.proofs.{Pushes}
 use Rattle.graphql_query.specs.{reading, selection_symbol, selection_view}
 use Rattle.graphql_query.proofs.{selection_at}
@@ -31,7 +31,6 @@ abbrev pub invariant-selections_in_braces-more : goal.invariant-selections_in_br
 invariant-selections_in_braces-more g l = record {
   pushes : Pushes reading (Sym selection_symbol) selection_at (selection_view g.S.Names.Names.bytes) (g.S.TokenSource.items l.initial.source)
       (g.S.TokenSource.items l.source) l.initial.selections.items l.selections.items;
-  kept : kept (g.S.TokenSource.items l.source) ≡ kept (g.S.TokenSource.items l.initial.source);
   within : length (g.S.TokenSource.items l.source).tokens ≤ length (g.S.TokenSource.items l.initial.source).tokens;
 }
 

@@ -2,5 +2,5 @@ use Rattle.std.proofs.Common.{refl}
 use Rattle.graphql_schema.proofs.{enum_values_list}
 use Rattle.graphql_schema.proofs.read.enums.optional_enum_values.Goals as goal
 
-pub returns-clause-reads : goal.returns-clause-reads
-returns-clause-reads g c = c.optional_split_list.ensures.reads _ _ _ enum_values_list (record { some = λ x. refl; none = refl })
+pub returns : goal.returns
+returns g c = c.optional_split_list.ensures _ _ _ enum_values_list (record { some = λ x. refl; none = refl })

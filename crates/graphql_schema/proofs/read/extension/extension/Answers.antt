@@ -1,73 +1,74 @@
 use Rattle.std.proofs.Common.{◌∙◌, Some, ap, refl, sym}
 use Rattle.graphql_core.specs.{Place, empty_extension}
 use Rattle.graphql_core.proofs.{node_stops, node_lacks, node_passes, node_refused, here, before, past, took}
+use Rattle.graphql_core.proofs.{consumed, rest_stops}
 use Rattle.graphql_schema.specs.{extension_symbol, schemas, SchemaTree, BodyTree, schema_extension, extension, adds}
 use Rattle.graphql_schema.specs.{adds_to_schema, refusals}
 use Rattle.graphql_schema.proofs.{readable, of_schema, of_body, node_halts, none_extended, directive_extended}
 use Rattle.graphql_schema.proofs.{not_extended, body_means}
 use Rattle.graphql_schema.proofs.read.extension.extension.Goals as goal
 
-pub returns-in_err-expect_keyword-clause-reads : goal.returns-in_err-expect_keyword-clause-reads
-returns-in_err-expect_keyword-clause-reads g c =
+pub returns-in_err-expect_keyword : goal.returns-in_err-expect_keyword
+returns-in_err-expect_keyword g c =
     node_lacks schemas refusals _ _ _ _ _ _ _ (before here) c.in_err-expect_keyword.ensures c.from_residual.ensures.1
 
 -- ---- of the schema
 
-pub returns-in_err-extension-in-Some-Schema-clause-reads : goal.returns-in_err-extension-in-Some-Schema-clause-reads
-returns-in_err-extension-in-Some-Schema-clause-reads g c =
+pub returns-in_err-extension-in-Some-Schema : goal.returns-in_err-extension-in-Some-Schema
+returns-in_err-extension-in-Some-Schema g c =
     let lead = of_schema (past here (took c.in_ok-expect_keyword.ensures.1 refl)) (rw c.in-Some-Schema.field-0-is at c.in-Some-Schema.ensures) in
-    node_halts refusals _ _ _ _ _ _ _ _ lead c.in_err-extension-in-Some-Schema.ensures.reads c.from_residual-in_err-extension-in-Some-Schema.ensures.1
+    node_halts refusals _ _ _ _ _ _ _ _ lead c.in_err-extension-in-Some-Schema.ensures c.from_residual-in_err-extension-in-Some-Schema.ensures.1
 
-pub returns-then-not-adds_to_schema-clause-reads : goal.returns-then-not-adds_to_schema-clause-reads
-returns-then-not-adds_to_schema-clause-reads g c =
-    let (x, takes, is) = c.in_ok-extension-in-Some-Schema.ensures.reads.gives in
+pub returns-then-not-adds_to_schema : goal.returns-then-not-adds_to_schema
+returns-then-not-adds_to_schema g c =
+    let (x, takes, is) = c.in_ok-extension-in-Some-Schema.ensures.gives in
     let lead = of_schema (past here (took c.in_ok-expect_keyword.ensures.1 refl)) (rw c.in-Some-Schema.field-0-is at c.in-Some-Schema.ensures) in
     let bad = ap adds_to_schema (sym is) ∙ sym c.adds_to_schema.ensures ∙ c.if-not-adds_to_schema.true in
-    node_refused schemas refusals readable _ _ _ _ _ (lead.takes _ x takes) bad
+    node_refused schemas refusals readable _ _ _ _ _ (consumed lead takes) bad
     (ap (λ (p : Place). Some (record { cause = empty_extension; place = p })) (sym (ap (λ (s : SchemaTree). s.position) is)))
 
-pub returns-else-not-adds_to_schema-clause-reads : goal.returns-else-not-adds_to_schema-clause-reads
-returns-else-not-adds_to_schema-clause-reads g c =
-    let (x, takes, is) = c.in_ok-extension-in-Some-Schema.ensures.reads.gives in
+pub returns-else-not-adds_to_schema : goal.returns-else-not-adds_to_schema
+returns-else-not-adds_to_schema g c =
+    let (x, takes, is) = c.in_ok-extension-in-Some-Schema.ensures.gives in
     let lead = of_schema (past here (took c.in_ok-expect_keyword.ensures.1 refl)) (rw c.in-Some-Schema.field-0-is at c.in-Some-Schema.ensures) in
-    node_passes schemas refusals _ _ _ _ _ _ (lead.takes _ x takes)
+    node_passes schemas refusals _ _ _ _ _ _ (consumed lead takes)
     (ap adds_to_schema (sym is) ∙ sym c.adds_to_schema.ensures ∙ c.if-not-adds_to_schema.false) (ap schema_extension is)
 
 -- ---- of a type
 
-pub returns-in_err-body-in-Some-OfType-clause-reads : goal.returns-in_err-body-in-Some-OfType-clause-reads
-returns-in_err-body-in-Some-OfType-clause-reads g c =
+pub returns-in_err-body-in-Some-OfType : goal.returns-in_err-body-in-Some-OfType
+returns-in_err-body-in-Some-OfType g c =
     let seen = rw c.in-Some-OfType.field-0-is at c.in-Some-OfType.ensures in
     let lead = of_body c.in-Some-OfType.kind (past here (took c.in_ok-expect_keyword.ensures.1 refl)) seen in
-    node_stops schemas refusals _ _ _ _ _ _ (lead.stops _ _ c.in_err-body-in-Some-OfType.ensures.reads) c.from_residual-in_err-body-in-Some-OfType.ensures.1
+    node_stops schemas refusals _ _ _ _ _ _ (rest_stops lead _ _ c.in_err-body-in-Some-OfType.ensures) c.from_residual-in_err-body-in-Some-OfType.ensures.1
 
-pub returns-then-not-adds-clause-reads : goal.returns-then-not-adds-clause-reads
-returns-then-not-adds-clause-reads g c =
-    let (x, takes, is) = c.in_ok-body-in-Some-OfType.ensures.reads in
+pub returns-then-not-adds : goal.returns-then-not-adds
+returns-then-not-adds g c =
+    let (x, takes, is) = c.in_ok-body-in-Some-OfType.ensures in
     let kind = c.in-Some-OfType.kind in
     let lead = of_body kind (past here (took c.in_ok-expect_keyword.ensures.1 refl)) (rw c.in-Some-OfType.field-0-is at c.in-Some-OfType.ensures) in
     let same = is ∙ body_means kind x in
     let bad = ap adds (sym same) ∙ sym c.adds.ensures ∙ c.if-not-adds.true in
-    node_refused schemas refusals readable _ _ _ _ _ (lead.takes _ x takes) bad
+    node_refused schemas refusals readable _ _ _ _ _ (consumed lead takes) bad
     (ap (λ (p : Place). Some (record { cause = empty_extension; place = p })) (sym (ap (λ (b : BodyTree). b.position) same)))
 
-pub returns-else-not-adds-clause-reads : goal.returns-else-not-adds-clause-reads
-returns-else-not-adds-clause-reads g c =
-    let (x, takes, is) = c.in_ok-body-in-Some-OfType.ensures.reads in
+pub returns-else-not-adds : goal.returns-else-not-adds
+returns-else-not-adds g c =
+    let (x, takes, is) = c.in_ok-body-in-Some-OfType.ensures in
     let kind = c.in-Some-OfType.kind in
     let lead = of_body kind (past here (took c.in_ok-expect_keyword.ensures.1 refl)) (rw c.in-Some-OfType.field-0-is at c.in-Some-OfType.ensures) in
     let same = is ∙ body_means kind x in
-    node_passes schemas refusals _ _ _ _ _ _ (lead.takes _ x takes)
+    node_passes schemas refusals _ _ _ _ _ _ (consumed lead takes)
     (ap adds (sym same) ∙ sym c.adds.ensures ∙ c.if-not-adds.false) (c.into_extension.ensures ∙ ap extension same)
 
 -- ---- of neither
 
-pub returns-in-Some-Directive-clause-reads : goal.returns-in-Some-Directive-clause-reads
-returns-in-Some-Directive-clause-reads g c =
+pub returns-in-Some-Directive : goal.returns-in-Some-Directive
+returns-in-Some-Directive g c =
     let seen = rw c.in-Some-Directive.field-0-is at c.in-Some-Directive.ensures in
     node_stops schemas refusals extension_symbol _ _ _ _ _ (not_extended c.in_ok-expect_keyword.ensures.1 (directive_extended _ seen)) refl
 
-pub returns-in-None-clause-reads : goal.returns-in-None-clause-reads
-returns-in-None-clause-reads g c =
+pub returns-in-None : goal.returns-in-None
+returns-in-None g c =
     let none = rw c.in-None.is at c.peek_keyword.ensures in
     node_stops schemas refusals extension_symbol _ _ _ _ _ (not_extended c.in_ok-expect_keyword.ensures.1 (none_extended _ none)) refl

@@ -1,5 +1,5 @@
-use Rattle.std.proofs.Common.{◌≡◌, ◌≤◌, [], length}
-use Rattle.graphql_core.specs.{kept, spelling_of, spelling_at, separated_of}
+use Rattle.std.proofs.Common.{◌≤◌, [], length}
+use Rattle.graphql_core.specs.{spelling_of, spelling_at, separated_of}
 use Rattle.graphql_core.proofs.{Pushes}
 use Rattle.graphql_schema.specs.{as_written}
 use Rattle.graphql_schema.proofs.{separated, reading}
@@ -9,7 +9,6 @@ abbrev pub invariant-more : goal.invariant-more
 invariant-more g l = record {
   comes : Pushes reading (separated (spelling_of l.separator)) (as_written (separated_of spelling_at [])) g.S.Names.Names.bytes
       (g.S.TokenSource.items l.initial.source) (g.S.TokenSource.items l.source) l.initial.names.items l.names.items;
-  kept : kept (g.S.TokenSource.items l.source) ≡ kept (g.S.TokenSource.items l.initial.source);
   within : length (g.S.TokenSource.items l.source).tokens ≤ length (g.S.TokenSource.items l.initial.source).tokens;
 }
 

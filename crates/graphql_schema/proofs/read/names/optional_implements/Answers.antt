@@ -3,16 +3,16 @@ use Rattle.graphql_core.proofs.{took, past, none_given, gives_led, lacks}
 use Rattle.graphql_schema.proofs.{implements_begins, opens}
 use Rattle.graphql_schema.proofs.read.names.optional_implements.Goals as goal
 
-pub returns-then-not-sees_keyword-clause-reads : goal.returns-then-not-sees_keyword-clause-reads
-returns-then-not-sees_keyword-clause-reads g c =
+pub returns-then-not-sees_keyword : goal.returns-then-not-sees_keyword
+returns-then-not-sees_keyword g c =
     none_given implements_begins (sym c.sees_keyword.ensures ∙ c.if-not-sees_keyword.true) (ap (map g.S.Names.Names.bytes) c.new.ensures.items)
 
-pub returns-in_err-expect_keyword-clause-reads : goal.returns-in_err-expect_keyword-clause-reads
-returns-in_err-expect_keyword-clause-reads g c =
+pub returns-in_err-expect_keyword : goal.returns-in_err-expect_keyword
+returns-in_err-expect_keyword g c =
     let lead = opens implements_begins (λ x. refl) (sym c.sees_keyword.ensures ∙ c.if-not-sees_keyword.false) in
     lacks _ _ _ _ _ lead c.in_err-expect_keyword.ensures c.from_residual.ensures.1
 
-pub returns-clause-reads : goal.returns-clause-reads
-returns-clause-reads g c =
+pub returns : goal.returns
+returns g c =
     let lead = opens implements_begins (λ x. refl) (sym c.sees_keyword.ensures ∙ c.if-not-sees_keyword.false) in
-    gives_led _ _ _ _ (past lead (took c.in_ok-expect_keyword.ensures.1 refl)) (λ v x h is. is) c.joined_names.ensures.reads
+    gives_led _ _ _ _ (past lead (took c.in_ok-expect_keyword.ensures.1 refl)) (λ v x h is. is) c.joined_names.ensures

@@ -3,22 +3,22 @@ use Rattle.graphql_core.proofs.{begun, took, past, lacks, lacks_last, whole}
 use Rattle.graphql_schema.specs.{Root, root_type_symbol, HasRoots}
 use Rattle.graphql_schema.proofs.read.schema.root_type.Goals as goal
 
-pub returns-in_err-operation-clause-reads : goal.returns-in_err-operation-clause-reads
-returns-in_err-operation-clause-reads g c = lacks _ _ _ _ _ (begun root_type_symbol (λ x. refl)) c.in_err-operation.ensures c.from_residual.ensures.1
+pub returns-in_err-operation : goal.returns-in_err-operation
+returns-in_err-operation g c = lacks _ _ _ _ _ (begun root_type_symbol (λ x. refl)) c.in_err-operation.ensures c.from_residual.ensures.1
 
-pub returns-in_err-expect_punctuator-clause-reads : goal.returns-in_err-expect_punctuator-clause-reads
-returns-in_err-expect_punctuator-clause-reads g c =
+pub returns-in_err-expect_punctuator : goal.returns-in_err-expect_punctuator
+returns-in_err-expect_punctuator g c =
     let named = past (begun root_type_symbol (λ x. refl)) (took c.in_ok-operation.ensures.1 refl) in
     lacks _ _ _ _ _ named c.in_err-expect_punctuator.ensures c.from_residual-in_err-expect_punctuator.ensures.1
 
-pub returns-in_err-type_name-clause-reads : goal.returns-in_err-type_name-clause-reads
-returns-in_err-type_name-clause-reads g c =
+pub returns-in_err-type_name : goal.returns-in_err-type_name
+returns-in_err-type_name g c =
     let named = past (begun root_type_symbol (λ x. refl)) (took c.in_ok-operation.ensures.1 refl) in
     let colon = past named (took c.in_ok-expect_punctuator.ensures.1 refl) in
     lacks_last _ _ _ _ _ colon c.in_err-type_name.ensures c.from_residual-in_err-type_name.ensures.1
 
-pub returns-clause-reads : goal.returns-clause-reads
-returns-clause-reads g c =
+pub returns : goal.returns
+returns g c =
     let (n, named, spelled) = c.in_ok-operation.ensures in
     let (t, typed, spelled') = c.in_ok-type_name.ensures in
     let colon = past (past (begun root_type_symbol (λ x. refl)) (took named refl)) (took c.in_ok-expect_punctuator.ensures.1 refl) in

@@ -1,40 +1,41 @@
 use Rattle.std.proofs.Common.{refl, sym}
 use Rattle.graphql_core.proofs.{node_stops, node_lacks, node_passes, node_refused, here, before, took, past, after}
+use Rattle.graphql_core.proofs.{consumed, rest_stops}
 use Rattle.graphql_schema.specs.{schemas, refusals}
 use Rattle.graphql_schema.proofs.{readable, lifted, stops_lifted, fault_told, none_told}
 use Rattle.graphql_schema.proofs.read.schema.schema_extension.Goals as goal
 
-pub returns-in_err-position-clause-reads : goal.returns-in_err-position-clause-reads
-returns-in_err-position-clause-reads g c =
+pub returns-in_err-position : goal.returns-in_err-position
+returns-in_err-position g c =
     node_lacks schemas refusals _ _ _ _ _ _ _ (before here) c.in_err-position.ensures c.from_residual.ensures.1
 
-pub returns-in_err-directives-clause-reads : goal.returns-in_err-directives-clause-reads
-returns-in_err-directives-clause-reads g c =
+pub returns-in_err-directives : goal.returns-in_err-directives
+returns-in_err-directives g c =
     let keyword = past here (took c.in_ok-position.ensures.1 refl) in
-    node_stops schemas refusals _ _ _ _ _ _ (before keyword _ _ (stops_lifted _ refl refl _ _ _ c.in_err-directives.ensures.reads))
+    node_stops schemas refusals _ _ _ _ _ _ (before keyword _ _ (stops_lifted _ refl refl _ _ _ c.in_err-directives.ensures))
     c.from_residual-in_err-directives.ensures.1
 
-pub returns-in_err-query-clause-reads : goal.returns-in_err-query-clause-reads
-returns-in_err-query-clause-reads g c =
-    let directed = after (past here (took c.in_ok-position.ensures.1 refl)) (lifted refl refl c.in_ok-directives.ensures.reads) in
-    node_stops schemas refusals _ _ _ _ _ _ (directed.stops _ _ c.in_err-query.ensures.reads) c.from_residual-in_err-query.ensures.1
+pub returns-in_err-query : goal.returns-in_err-query
+returns-in_err-query g c =
+    let directed = after (past here (took c.in_ok-position.ensures.1 refl)) (lifted refl refl c.in_ok-directives.ensures) in
+    node_stops schemas refusals _ _ _ _ _ _ (rest_stops directed _ _ c.in_err-query.ensures) c.from_residual-in_err-query.ensures.1
 
-pub returns-in-Some-clause-reads : goal.returns-in-Some-clause-reads
-returns-in-Some-clause-reads g c =
+pub returns-in-Some : goal.returns-in-Some
+returns-in-Some g c =
     let (t, taken, at) = c.in_ok-position.ensures in
-    let (rs, rooted, has) = c.in_ok-query.ensures.reads in
-    let directed = after (past here (took taken refl)) (lifted refl refl c.in_ok-directives.ensures.reads) in
+    let (rs, rooted, has) = c.in_ok-query.ensures in
+    let directed = after (past here (took taken refl)) (lifted refl refl c.in_ok-directives.ensures) in
     let (bad, said) = fault_told _ _ _ _ _ c.in-Some.is at has.fault in
-    node_refused schemas refusals readable _ _ _ _ _ (directed.takes _ rs rooted) bad said
+    node_refused schemas refusals readable _ _ _ _ _ (consumed directed rooted) bad said
 
-pub returns-in-None-clause-reads : goal.returns-in-None-clause-reads
-returns-in-None-clause-reads g c =
+pub returns-in-None : goal.returns-in-None
+returns-in-None g c =
     let (t, taken, at) = c.in_ok-position.ensures in
-    let (ds, directed, added) = lifted refl refl c.in_ok-directives.ensures.reads in
-    let (rs, rooted, has) = c.in_ok-query.ensures.reads in
+    let (ds, directed, added) = lifted refl refl c.in_ok-directives.ensures in
+    let (rs, rooted, has) = c.in_ok-query.ensures in
     let lead = past (past here (took taken refl)) directed in
     let (good, none) = none_told _ _ c.in-None.is has.fault in
-    node_passes schemas refusals _ _ _ _ _ _ (lead.takes _ rs rooted) good
+    node_passes schemas refusals _ _ _ _ _ _ (consumed lead rooted) good
     (λ k. record {
       position = sym at k;
       directives = added k;

@@ -1,12 +1,8 @@
 use Rattle.std.proofs.Common.{◌≡◌, true, refl}
-use Rattle.graphql_core.specs.{reason_of, shared, tables, shared_symbols, unquoted, is_ll1, is_tight, is_productive}
+use Rattle.graphql_core.specs.{reason_of, shared, tables, shared_symbols, unquoted, is_tight, is_productive}
 use Rattle.graphql_core.specs.{RefusesTokens}
-use Rattle.graphql_core.proofs.{sampled_below, symbol_derived}
+use Rattle.graphql_core.proofs.{sampled_below, shared_ll1, symbol_derived}
 use Rattle.graphql_core.proofs.common.read.laws.readers_return_what_is_derived.Goals as goal
-
-ll1 : is_ll1 shared.rows ≡ true
-unfolding tables
-ll1 = refl
 
 tight : is_tight shared.rows ≡ true
 unfolding tables
@@ -27,4 +23,4 @@ sampled = refl
 
 pub returns : goal.returns
 returns g c k old new view means r below gives =
-    symbol_derived shared ll1 tight productive refuses_tokens shared_symbols sampled k below old new reason_of (λ v x. view v ≡ means x) r gives
+    symbol_derived shared shared_ll1 tight productive refuses_tokens shared_symbols sampled k below old new reason_of (λ v x. view v ≡ means x) r gives

@@ -4,20 +4,20 @@ use Rattle.graphql_core.specs.declared.tokenizer.token.Kind.TheVariants.{FloatVa
 use Rattle.graphql_core.proofs.{literal_taken, literal_refused, not_shown, next_spelled, next_taken, next_refused}
 use Rattle.graphql_core.proofs.common.read.leaf.float_value.Goals as goal
 
-pub returns-in_err-token-clause-reads : goal.returns-in_err-token-clause-reads
-returns-in_err-token-clause-reads g c = not_shown g.S.TokenSource.bytes FloatValue _ _ _ c.in_err-token.field-0.0 c.in_err-token.ensures
+pub returns-in_err-token : goal.returns-in_err-token
+returns-in_err-token g c = not_shown g.S.TokenSource.bytes FloatValue _ _ _ c.in_err-token.field-0.0 c.in_err-token.ensures
     c.from_residual.ensures.1
 
-pub returns-in_default-clause-reads : goal.returns-in_default-clause-reads
-returns-in_default-clause-reads g c =
+pub returns-in_default : goal.returns-in_default
+returns-in_default g c =
     let t = c.in_ok-token.token in
     let n = c.in_ok-token.ensures in
     let spelled = next_spelled g.S.TokenSource.bytes FloatValue (g.S.TokenSource.items c.args.source.now) t n in
     next_refused g.S.TokenSource.bytes FloatValue (g.S.TokenSource.items c.args.source.now) t n
     (literal_refused _ (g.S.TokenSource.bytes t.text) (c.in_ok-text.ensures.ok ∙ c.as_str.ensures) spelled c.in_default.ensures.accepted)
 
-pub returns-clause-reads : goal.returns-clause-reads
-returns-clause-reads g c =
+pub returns : goal.returns
+returns g c =
     let t = c.in_ok-token.token in
     let n = c.in_ok-token.ensures in
     let spelled = next_spelled g.S.TokenSource.bytes FloatValue (g.S.TokenSource.items c.args.source.now) t n in

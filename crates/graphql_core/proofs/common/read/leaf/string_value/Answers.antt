@@ -5,8 +5,8 @@ use Rattle.graphql_core.proofs.{some_unquoted, none_unquoted, string_means, not_
 use Rattle.graphql_core.proofs.{next_refused}
 use Rattle.graphql_core.proofs.common.read.leaf.string_value.Goals as goal
 
-pub returns-in_err-token-clause-reads : goal.returns-in_err-token-clause-reads
-returns-in_err-token-clause-reads g c = not_shown g.S.TokenSource.bytes StringValue _ _ _ c.in_err-token.field-0.0 c.in_err-token.ensures
+pub returns-in_err-token : goal.returns-in_err-token
+returns-in_err-token g c = not_shown g.S.TokenSource.bytes StringValue _ _ _ c.in_err-token.field-0.0 c.in_err-token.ensures
     c.from_residual.ensures.1
 
 pub unquote_string-requires : goal.unquote_string-requires
@@ -16,8 +16,8 @@ unquote_string-requires g c =
     let spelled = next_spelled g.S.TokenSource.bytes StringValue (g.S.TokenSource.items c.args.source.now) t n in
     (without_ends 1 (g.S.TokenSource.bytes t.text), c.as_str.ensures ∙ spelled)
 
-pub returns-in-Ok-clause-reads : goal.returns-in-Ok-clause-reads
-returns-in-Ok-clause-reads g c =
+pub returns-in-Ok : goal.returns-in-Ok
+returns-in-Ok g c =
     let t = c.in_ok-token.token in
     let n = c.in_ok-token.ensures in
     let spelled = next_spelled g.S.TokenSource.bytes StringValue (g.S.TokenSource.items c.args.source.now) t n in
@@ -27,8 +27,8 @@ returns-in-Ok-clause-reads g c =
       string_means (g.S.TokenSource.bytes t.text) _ value,
     )
 
-pub returns-in-Err-BadEscape-clause-reads : goal.returns-in-Err-BadEscape-clause-reads
-returns-in-Err-BadEscape-clause-reads g c =
+pub returns-in-Err-BadEscape : goal.returns-in-Err-BadEscape
+returns-in-Err-BadEscape g c =
     let t = c.in_ok-token.token in
     let n = c.in_ok-token.ensures in
     let spelled = next_spelled g.S.TokenSource.bytes StringValue (g.S.TokenSource.items c.args.source.now) t n in

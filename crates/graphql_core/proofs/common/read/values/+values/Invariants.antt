@@ -1,7 +1,7 @@
 use Rattle.std.proofs.Common.{ℕ, ◌+◌, ◌*◌, ◌≤◌, ◌≡◌, List, length}
-use Rattle.graphql_core.specs.{Sym, Turns, shared, put_all, symbol_of, pair_symbol_of, tree_of, pair_of, ValueTree}
-use Rattle.graphql_core.specs.{value_view, members_view, kept}
-use Rattle.graphql_core.proofs.{one_of, Pushes}
+use Rattle.graphql_core.specs.{Sym, shared, put_all, symbol_of, pair_symbol_of, tree_of, pair_of, ValueTree}
+use Rattle.graphql_core.specs.{value_view, members_view}
+use Rattle.graphql_core.proofs.{Pushes, Turns}
 use Rattle.graphql_core.proofs.common.read.values.+values.Given as goal
 
 -- a list, an object and a member take a token before they read a value
@@ -21,7 +21,6 @@ abbrev pub invariant-list-more : goal.invariant-list-more
 invariant-list-more g l = record {
   pushes : Pushes shared (Sym (symbol_of l.constness)) (tree_of l.constness) (value_view g.S.Names.Names.bytes) (g.S.TokenSource.items l.initial.source)
       (g.S.TokenSource.items l.source) l.initial.items.items l.items.items;
-  kept : kept (g.S.TokenSource.items l.source) ≡ kept (g.S.TokenSource.items l.initial.source);
   within : length (g.S.TokenSource.items l.source).tokens ≤ length (g.S.TokenSource.items l.initial.source).tokens;
 }
 
@@ -31,10 +30,9 @@ decreases-list-more g l = length (g.S.TokenSource.items l.source).tokens
 abbrev pub invariant-object-more : goal.invariant-object-more
 invariant-object-more g l = record {
   turns : (pairs : List (List ℕ × ValueTree))
-      × Turns shared (Sym (pair_symbol_of l.constness)) (one_of (pair_of l.constness)) (g.S.TokenSource.items l.initial.source).tokens
-      (g.S.TokenSource.items l.source).tokens pairs
+      × Turns shared (Sym (pair_symbol_of l.constness)) (pair_of l.constness) (g.S.TokenSource.items l.initial.source)
+      (g.S.TokenSource.items l.source) pairs
       × (members_view g.S.Names.Names.bytes l.fields.entries ≡ put_all pairs (members_view g.S.Names.Names.bytes l.initial.fields.entries));
-  kept : kept (g.S.TokenSource.items l.source) ≡ kept (g.S.TokenSource.items l.initial.source);
   within : length (g.S.TokenSource.items l.source).tokens ≤ length (g.S.TokenSource.items l.initial.source).tokens;
 }
 

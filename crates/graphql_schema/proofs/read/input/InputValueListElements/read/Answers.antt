@@ -1,49 +1,53 @@
 use Rattle.std.proofs.Common.{refl, sym, ◌∙◌}
-use Rattle.graphql_core.proofs.{adds_reserved, begun, took, past, after, fails, fails_last, lacks, whole}
-use Rattle.graphql_schema.specs.{input_value_symbol, input_value_view}
-use Rattle.graphql_schema.proofs.{lifted, stops_lifted, described_at, same_input_value}
+use Rattle.graphql_core.proofs.{adds_reserved, begun, took, past, after, fails, fails_last, lacks, whole, fewer}
+use Rattle.graphql_schema.specs.{input_value_symbol, input_value_view, tables}
+use Rattle.graphql_schema.proofs.{lifted, stops_lifted, described_at, same_input_value, readable}
 use Rattle.graphql_schema.proofs.read.input.InputValueListElements.read.Goals as goal
 
 pub returns-in_err-name-clause-reads : goal.returns-in_err-name-clause-reads
 returns-in_err-name-clause-reads g c =
-    let described = after (begun input_value_symbol (λ x. refl)) c.in_ok-description.ensures.reads in
+    let described = after (begun input_value_symbol (λ x. refl)) c.in_ok-description.ensures in
     lacks _ _ _ _ _ described c.in_err-name.ensures c.from_residual-in_err-name.ensures.1
 
 pub returns-in_err-expect_punctuator-clause-reads : goal.returns-in_err-expect_punctuator-clause-reads
 returns-in_err-expect_punctuator-clause-reads g c =
-    let named = past (after (begun input_value_symbol (λ x. refl)) c.in_ok-description.ensures.reads) (took c.in_ok-name.ensures.1 refl) in
+    let named = past (after (begun input_value_symbol (λ x. refl)) c.in_ok-description.ensures) (took c.in_ok-name.ensures.1 refl) in
     lacks _ _ _ _ _ named c.in_err-expect_punctuator.ensures c.from_residual-in_err-expect_punctuator.ensures.1
 
 pub returns-in_err-value_type-clause-reads : goal.returns-in_err-value_type-clause-reads
 returns-in_err-value_type-clause-reads g c =
-    let named = past (after (begun input_value_symbol (λ x. refl)) c.in_ok-description.ensures.reads) (took c.in_ok-name.ensures.1 refl) in
+    let named = past (after (begun input_value_symbol (λ x. refl)) c.in_ok-description.ensures) (took c.in_ok-name.ensures.1 refl) in
     let colon = past named (took c.in_ok-expect_punctuator.ensures.1 refl) in
-    fails _ _ _ _ colon (stops_lifted _ refl refl _ _ _ c.in_err-value_type.ensures.reads) c.from_residual-in_err-value_type.ensures.1
+    fails _ _ _ _ colon (stops_lifted _ refl refl _ _ _ c.in_err-value_type.ensures) c.from_residual-in_err-value_type.ensures.1
 
 pub returns-in_err-default_value-clause-reads : goal.returns-in_err-default_value-clause-reads
 returns-in_err-default_value-clause-reads g c =
-    let named = past (after (begun input_value_symbol (λ x. refl)) c.in_ok-description.ensures.reads) (took c.in_ok-name.ensures.1 refl) in
-    let typed = after (past named (took c.in_ok-expect_punctuator.ensures.1 refl)) (lifted refl refl c.in_ok-value_type.ensures.reads) in
-    fails _ _ _ _ typed (stops_lifted _ refl refl _ _ _ c.in_err-default_value.ensures.reads) c.from_residual-in_err-default_value.ensures.1
+    let named = past (after (begun input_value_symbol (λ x. refl)) c.in_ok-description.ensures) (took c.in_ok-name.ensures.1 refl) in
+    let typed = after (past named (took c.in_ok-expect_punctuator.ensures.1 refl)) (lifted refl refl c.in_ok-value_type.ensures) in
+    fails _ _ _ _ typed (stops_lifted _ refl refl _ _ _ c.in_err-default_value.ensures) c.from_residual-in_err-default_value.ensures.1
 
 pub returns-in_err-directives-clause-reads : goal.returns-in_err-directives-clause-reads
 returns-in_err-directives-clause-reads g c =
-    let named = past (after (begun input_value_symbol (λ x. refl)) c.in_ok-description.ensures.reads) (took c.in_ok-name.ensures.1 refl) in
-    let typed = after (past named (took c.in_ok-expect_punctuator.ensures.1 refl)) (lifted refl refl c.in_ok-value_type.ensures.reads) in
-    let valued = after typed (lifted refl refl c.in_ok-default_value.ensures.reads) in
-    fails_last _ _ _ _ valued (stops_lifted _ refl refl _ _ _ c.in_err-directives.ensures.reads) c.from_residual-in_err-directives.ensures.1
+    let named = past (after (begun input_value_symbol (λ x. refl)) c.in_ok-description.ensures) (took c.in_ok-name.ensures.1 refl) in
+    let typed = after (past named (took c.in_ok-expect_punctuator.ensures.1 refl)) (lifted refl refl c.in_ok-value_type.ensures) in
+    let valued = after typed (lifted refl refl c.in_ok-default_value.ensures) in
+    fails_last _ _ _ _ valued (stops_lifted _ refl refl _ _ _ c.in_err-directives.ensures) c.from_residual-in_err-directives.ensures.1
 
 pub returns-clause-reads : goal.returns-clause-reads
 returns-clause-reads g c =
     let bytes = g.S.Names.Names.bytes in
     let old = g.S.TokenSource.items c.args.source.now in
-    let (d, described, says) = c.in_ok-description.ensures.reads in
+    let (d, described, says) = c.in_ok-description.ensures in
     let (n, named, spelled) = c.in_ok-name.ensures in
-    let (t, typed, seen) = lifted refl refl c.in_ok-value_type.ensures.reads in
-    let (v, valued, view) = lifted refl refl c.in_ok-default_value.ensures.reads in
-    let (ds, directed, directs) = lifted refl refl c.in_ok-directives.ensures.reads in
+    let (t, typed, seen) = lifted refl refl c.in_ok-value_type.ensures in
+    let (v, valued, view) = lifted refl refl c.in_ok-default_value.ensures in
+    let (ds, directed, directs) = lifted refl refl c.in_ok-directives.ensures in
     let colon = past (past (past (begun input_value_symbol (λ x. refl)) described) (took named refl)) (took c.in_ok-expect_punctuator.ensures.1 refl) in
     whole (past (past colon typed) valued) directed
     (adds_reserved (input_value_view bytes) _ _ _ _ _ c.in_ok-reserve.ensures.items c.push_reserved.ensures.items
-    (same_input_value (c.position-position.ensures ∙ sym (described_at old _ _ d n described c.in_ok-description.ensures.within named)) says spelled
+    (same_input_value (c.position-position.ensures ∙ sym (described_at old _ _ d n described named)) says spelled
     seen view directs))
+
+pub returns-clause-shorter : goal.returns-clause-shorter
+unfolding tables
+returns-clause-shorter g c = fewer readable.ll1 refl (returns-clause-reads g c)
