@@ -1,21 +1,24 @@
-//! Readers of selections.
+//! Readers of selections: functions that parse one production from `source`, with one token of lookahead.
 //!
-//! A reader parses one production from `source` with one token of lookahead. `S.items source` is what is left of the
-//! source: its tokens, and then the end of the input or a lexical error. `source.old` is the source before the call,
-//! and `source.new` after it.
+//! `S.items source` is what is left of the source: its tokens, and then the end of the input or a lexical error. A call
+//! turns `source.old` into `source.new`. A source that is only looked at is `source.now`.
 //!
 //! `Reads e before after (λ value tree. ..) result` says of the production `e`:
 //!
-//! - `Ok(value)`: the consumed tokens have a parse tree `tree` of `e`, and the relation holds.
-//! - `Err(error)`: the error is the first one of `e`, and `after` begins at its token. `Memory` says nothing of tokens.
-//! - In each case the end of the input, or the lexical error in its place, is as before.
+//! - `Ok(value)`: the reader consumed tokens that have a parse tree `tree` of `e`, and the relation holds. It stops
+//!   only where `e` is complete and cannot continue with the next token.
+//! - `Err(error)`: `after` begins with the first token, or the end of the input, with which `e` cannot continue, or
+//!   with a token whose value is bad. After `Memory`, an allocation that failed, it can begin anywhere.
+//! - In each case the end of the input, or the lexical error that stands for it, is as before.
 //!
-//! A function `.._view` maps a value of Rust to its model, and a function `.._of` maps a parse tree to the model that
-//! it denotes. `Adds view old new models` says that the list `new` is `old` and then elements with these models.
+//! In clauses, `Sym` is the production of a symbol, `.._view` the model of a value of Rust, and `.._of` what a parse
+//! tree denotes. `Adds view old new models` says that the list `new` is `old` and then elements with these models, and
+//! `AddsSet` that these are the selections of a set with this span. `OnOk` says nothing of an error.
 //!
 //! All open selection sets share one list, `selections`. `{ a { b } c }` puts `b` on the list and takes it off at the
 //! inner `}`. Then it puts `a`, with its set, and `c` on the list, and takes both off at the outer `}`. So the list of
-//! a set is allocated once. After an error `selections` can also hold selections of sets that are still open.
+//! a set is allocated once. After an error nothing is known of `selections`. The readers call one another. Tokens open
+//! at most 50 brackets at once, which bounds the depth of these calls.
 ghost use Rattle.std.specs.Prelude.{◌≡◌, ◌||◌, OnOk, [], ◌∷◌, codes};
 ghost use Rattle.graphql_core.specs.{Then, Sym, Either, optional, place_of, sees_class, punctuator, any, Adds};
 ghost use Rattle.graphql_core.specs.{punctuator_class};
@@ -65,7 +68,8 @@ fn field<S: TokenSource>(
     Ok(())
 }
 
-/// `SelectionSet?` of the field at `position`; without braces, an empty set there.
+/// `SelectionSet?` of the field at `position`. Without braces, returns a set without items, with this position as the
+/// start and the end of its span.
 #[cycle(reading)]
 #[inline(always)]
 #[tactic(auto, using(graphql_core::proofs::readers::Reading::reading))]
@@ -116,8 +120,8 @@ fn inline_fragment_after_dots<S: TokenSource>(
     Ok(())
 }
 
-/// `FragmentSpread = "..." SpreadName Directives`, `InlineFragment = "..." TypeCondition? Directives SelectionSet`.
-/// Appends the selection to `selections`.
+/// `FragmentSpread = "..." SpreadName Directives` or `InlineFragment = "..." TypeCondition? Directives SelectionSet`:
+/// a name other than `on` after the dots decides for the first. Appends the selection to `selections`.
 #[cycle(reading)]
 #[tactic(auto, using(graphql_core::proofs::readers::Reading::reading))]
 fn fragment_selection<S: TokenSource>(
