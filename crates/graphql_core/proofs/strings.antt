@@ -1,3 +1,4 @@
+pub mod AppendedText
 pub mod Escapes
 pub mod StringValues
 pub mod FloatLiterals
@@ -9,6 +10,7 @@ pub mod OuterLines
 pub mod QuotedText
 pub mod TextLines
 pub mod Decimals
+unfoldable pub use AppendedText.*
 unfoldable pub use Escapes.*
 unfoldable pub use StringValues.*
 unfoldable pub use FloatLiterals.*

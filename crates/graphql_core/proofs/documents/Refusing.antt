@@ -12,7 +12,6 @@ use Rattle.graphql_core.specs.declared.common.read.node_error.NodeError.{NodeErr
 use Rattle.graphql_core.specs.declared.common.read.node_error.NodeError.TheVariants.{Stopped, Refused}
 use Rattle.graphql_core.proofs.documents.Readable.{IsReadable, refuses_read}
 use Rattle.graphql_core.proofs.documents.Whole.{exit}
-use Rattle.graphql_core.specs.grammar.Trees as trees
 use Rattle.graphql_core.proofs.readers.Steps as steps
 
 module _ {D R : Type 0} (l : Language D) (w : Refusals R) where

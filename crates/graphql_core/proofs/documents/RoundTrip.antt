@@ -1,5 +1,5 @@
 -- What parsing returns for an input with a known document, ignoring positions, and facts about layouts that parse back.
-use Rattle.std.proofs.Common.{◌≡◌, ◌<◌, ◌≤◌, ◌⊎◌, length, List, ℕ, inl, inr, sym, ap, ◌∙◌, subst}
+use Rattle.std.proofs.Common.{◌≡◌, ◌<◌, ◌≤◌, length, List, ℕ, inl, inr, sym, ap, ◌∙◌, subst}
 use Rattle.std.proofs.lemmas.Bool.{cases_lt}
 use Rattle.graphql_core.proofs.lexical.{items_unique}
 use Rattle.graphql_core.specs.{Layout, Item, split, max_length, IsDocument, IsDocumentOf}

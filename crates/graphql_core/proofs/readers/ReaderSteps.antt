@@ -1,5 +1,6 @@
 -- The steps of a function that reads: a loop over a repetition, an error that is returned, and a choice.
-use Rattle.std.proofs.Common.{◌≡◌, ℕ, true, false, not, ◌&&◌, List, [], ◌∷◌, ◌++◌, Option, Some, None, Result, Ok, Err, refl, sym, ◌∙◌, append_assoc, append-nil}
+use Rattle.std.proofs.Common.{◌≡◌, ℕ, true, false, not, ◌&&◌, List, [], ◌∷◌, ◌++◌, Option, Some, None, Result, Ok, Err}
+use Rattle.std.proofs.Common.{refl, sym, ◌∙◌, append_assoc, append-nil}
 use Rattle.std.proofs.lemmas.Bool.{and_parts}
 use Rattle.graphql_core.specs.{Token, all_apart, Expr, Then, Either, Many, Sym, ParseTree, Stop, More, Row, Grammar, row}
 use Rattle.graphql_core.specs.{peek, nullable, first, decides, sees, choose, Left, Right, Neither, Takes, takes_stop}

@@ -1,5 +1,6 @@
 -- A rule that is read from left to right: after what was taken, the rest is read.
-use Rattle.std.proofs.Common.{◌≡◌, ◌<◌, ◌≤◌, ℕ, true, false, not, List, [], ◌∷◌, ◌++◌, length, map, Result, Ok, Err, IsErrAnd, Option, refl, sym, ap, subst, ◌∙◌, append_assoc}
+use Rattle.std.proofs.Common.{◌≡◌, ◌<◌, ◌≤◌, ℕ, true, false, not, List, [], ◌∷◌, ◌++◌, length, map, Result, Ok, Err, IsErrAnd, Option}
+use Rattle.std.proofs.Common.{refl, sym, ap, subst, ◌∙◌, append_assoc}
 use Rattle.graphql_core.proofs.grammar.{takes-fits, takes-leaves, fits-lax, shorter, no_longer}
 use Rattle.graphql_core.proofs.readers.ReaderSteps.{halts, Turns, Turns-start, Turns-more, Turns-stop}
 use Rattle.graphql_core.proofs.readers.ReaderSteps.{Stops-before, Stops-turn}
