@@ -7,9 +7,8 @@ use Rattle.std.proofs.lemmas.Bool.{cases_Bool, and_parts, false≢true}
 use Rattle.std.proofs.lemmas.Str.{is_utf8-from_IsUtf8}
 use Rattle.std.proofs.Math.Seq.{drop-append-add}
 use Rattle.graphql_core.specs.steps.Front.{FrontElement, AtEnd, Skips, Takes, Stops}
-use Rattle.graphql_core.specs.{front, line_end, comment, BeginsNone, is_in_line, items_of, Token, too_deep, Meaning}
-use Rattle.graphql_core.specs.{Ignored, Word, Piece, IsCutInto, Stands, Where, Item, past_ignored, past_token}
-use Rattle.graphql_core.specs.{is_too_deep, token_then, piece_then, next_place, split, ignored_front, LexicalError}
+use Rattle.graphql_core.specs.{front, line_end, comment, BeginsNone, is_in_line, items_of, Token, too_deep, Meaning, Ignored, Word, Piece, IsCutInto, Stands}
+use Rattle.graphql_core.specs.{Where, Item, past_ignored, past_token, is_too_deep, token_then, piece_then, next_place, split, ignored_front, LexicalError}
 use Rattle.graphql_core.specs.{item_at, TokenContent, token_of}
 use Rattle.graphql_core.specs.declared.tokenizer.token.Kind.{Kind}
 use Rattle.graphql_core.specs.declared.tokenizer.piece.Nesting.{Nesting}

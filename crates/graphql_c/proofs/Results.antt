@@ -1,15 +1,13 @@
 -- What a result says of outputs and failures.
 use Rattle.std.proofs.Common.{◌≡◌, ◌∙◌, ℕ, List, Option, None, Result, Ok, Err, MatchResult, IfOk, IsErrAnd, String, string_bytes, refl, sym, ap, subst}
 use Rattle.std.specs.Global.{Global}
-use Rattle.graphql_core.specs.{Place, CauseText, IsDocumentOf, ParsesDocument, Refusal, Language, IsWrittenOf}
-use Rattle.graphql_core.specs.{HasNone, IsWide, out_of_memory}
+use Rattle.graphql_core.specs.{Place, CauseText, IsDocumentOf, ParsesDocument, Refusal, Language, IsWrittenOf, HasNone, IsWide, out_of_memory}
 use Rattle.graphql_core.specs.declared.format.error.FormatError.{FormatError}
 use Rattle.graphql_core.specs.declared.format.error.FormatError.TheVariants.{TooWide, OutOfMemory}
 use Rattle.graphql_c.specs.declared.call_result.CallResult.{CallResult}
 use Rattle.graphql_c.specs.declared.failure.Failure.{Failure}
-use Rattle.graphql_c.specs.{status_of, layout_status, line_of, column_of, HasNumbers, Explains, refused, too_wide}
-use Rattle.graphql_c.specs.{not_utf8, ran_out, Fails, IsResultOf, Writes, written, too_short, Finds, done, failed}
-use Rattle.graphql_c.specs.{Returns, for_error}
+use Rattle.graphql_c.specs.{status_of, layout_status, line_of, column_of, HasNumbers, Explains, refused, too_wide, not_utf8, ran_out, Fails, IsResultOf, Writes}
+use Rattle.graphql_c.specs.{written, too_short, Finds, done, failed, Returns, for_error}
 use Rattle.graphql_core.proofs.{none_parsed}
 
 -- ---- failures

@@ -1,19 +1,15 @@
 -- A minified output is at most twice as long as its input, so a buffer of this length is never too short.
-use Rattle.std.proofs.Common.{◌≡◌, ◌≢◌, ◌*◌, ◌<◌, ◌≤◌, ℕ, Bool, true, false, List, [], ◌∷◌, ◌++◌, length, ap, arith}
-use Rattle.std.proofs.Common.{length-append}
-use Rattle.graphql_core.specs.{items_of, Token, Meaning, Ignored, Word, Piece, IsCutInto, Stands, Where, Item}
-use Rattle.graphql_core.specs.{past_ignored, past_token, is_too_deep, token_then, piece_then, split, LexicalError}
-use Rattle.graphql_core.specs.{item_at, TokenContent, token_of, kind_number, IsMinified, start}
+use Rattle.std.proofs.Common.{◌≡◌, ◌≢◌, ◌*◌, ◌<◌, ◌≤◌, ℕ, Bool, true, false, List, [], ◌∷◌, ◌++◌, length, ap, arith, length-append}
+use Rattle.graphql_core.specs.{items_of, Token, Meaning, Ignored, Word, Piece, IsCutInto, Stands, Where, Item, past_ignored, past_token, is_too_deep}
+use Rattle.graphql_core.specs.{token_then, piece_then, split, LexicalError, item_at, TokenContent, token_of, kind_number, IsMinified, start, CauseText}
+use Rattle.graphql_core.specs.{no_token, too_deep, unexpected_token, unexpected_end, int_out_of_range, malformed_float, bad_escape, unknown_location}
+use Rattle.graphql_core.specs.{duplicate_operation, unknown_operation, empty_extension, text_too_long, out_of_memory, Refusal}
 use Rattle.graphql_core.specs.sources.Minified.{is_spaced, space_if, spaced_after, spaced}
 use Rattle.graphql_core.specs.declared.tokenizer.token.Kind.{Kind}
 use Rattle.graphql_core.specs.declared.tokenizer.piece.Nesting.{Nesting}
-use Rattle.graphql_core.specs.{CauseText, no_token, too_deep, unexpected_token, unexpected_end, int_out_of_range}
-use Rattle.graphql_core.specs.{malformed_float, bad_escape, unknown_location, duplicate_operation, unknown_operation}
-use Rattle.graphql_core.specs.{empty_extension, text_too_long, out_of_memory, Refusal}
 use Rattle.graphql_core.proofs.sources.TokenPlaces.{part}
 use Rattle.graphql_c.specs.declared.call_result.CallResult.{CallResult}
-use Rattle.graphql_c.specs.{status_of, status_too_short, Explains, refused, too_wide, not_utf8, ran_out, Writes, written}
-use Rattle.graphql_c.specs.{too_short, Returns, done, failed}
+use Rattle.graphql_c.specs.{status_of, status_too_short, Explains, refused, too_wide, not_utf8, ran_out, Writes, written, too_short, Returns, done, failed}
 
 -- ---- the length of a minified output
 

@@ -3,10 +3,9 @@ use Rattle.std.proofs.Common.{◌≡◌, ℕ, zero, suc, ◌-◌, ◌<◌, Bool,
 use Rattle.std.proofs.Common.{inl, inr, refl, sym, ap, subst, append_assoc, length-append, arith}
 use Rattle.std.proofs.lemmas.Bool.{cases_Bool, and_parts}
 use Rattle.std.proofs.lemmas.Bool.Decides.{nat_tests}
-use Rattle.graphql_core.specs.{Token, Expr, Sym, ParseTree, Grammar, leaves, peek, Derives, lax, decides, is_ll1, is_tight}
-use Rattle.graphql_core.specs.{is_productive, has_samples, Takes, Fails, Fault, Reason, StopsBefore, index_of, IsLeast}
-use Rattle.graphql_core.specs.{IsExact, IsExactFor, AnswersLeast, RefusesTokens, written, StopsFor, GivesBy, Items, reading}
-use Rattle.graphql_core.specs.{Language, numbered, TakesExactly, StopsAtFirst, HaltsAtFirst, ReturnsDerived}
+use Rattle.graphql_core.specs.{Token, Expr, Sym, ParseTree, Grammar, leaves, peek, Derives, lax, decides, is_ll1, is_tight, is_productive, has_samples, Takes}
+use Rattle.graphql_core.specs.{Fails, Fault, Reason, StopsBefore, index_of, IsLeast, IsExact, IsExactFor, AnswersLeast, RefusesTokens, written, StopsFor}
+use Rattle.graphql_core.specs.{GivesBy, Items, reading, Language, numbered, TakesExactly, StopsAtFirst, HaltsAtFirst, ReturnsDerived}
 use Rattle.graphql_core.proofs.grammar.{grammar_exact}
 use Rattle.graphql_core.proofs.rules.{exact_for}
 use Rattle.graphql_core.proofs.first_errors.{grammar_least, least_for}

@@ -6,6 +6,8 @@ pub mod values
 pub mod layouts
 pub mod steps
 pub mod documents
+pub mod theory
+pub mod examples
 pub use Rattle.std.specs.Char.{is_ascii_digit, is_ascii_hexdigit}
 pub use Rattle.std.specs.Cmp.Lexicographic.{pointwise, slice_cmp}
 pub use Rattle.std.specs.List.{AllByRecursion, flat_map, join_by, list_all, list_any, prefix_len, suffix_len}
@@ -28,47 +30,47 @@ unfoldable pub use values.*
 unfoldable pub use layouts.*
 unfoldable pub use steps.*
 unfoldable pub use documents.*
-pub use grammar.{After, AnyOf, AsFirst, Before, Both, Change, Class, EachIsSecond, Either, Empty, Except, Expr}
-pub use grammar.{Extends, Fails, First, Fits, Grammar, Growth, Improper, InParts, InSides, IsLeast, Leaf, Many, More}
-pub use grammar.{Node, Nothing, One, ParseTree, Place, Reason, Refused, RefusesTokens, Row, Same, Second, Spelled}
-pub use grammar.{Stop, Sym, Takes, TestsAlike, Then, Token, Unexpected, accepts, all_apart}
-pub use grammar.{all_within, change_at, cont, decides, either_way, fails_after, fails_before, fails_check}
-pub use grammar.{fails_node, fails_one, fails_value, first, fits_both, fits_first, fits_leaf, fits_more, fits_node}
-pub use grammar.{fits_nothing, fits_second, fits_stop, grown, growth_at, in_any, in_second, is_below, is_listed}
-pub use grammar.{is_row, lax, leads_node, leaves, matches, nowhere, optional, out_of_head, out_of_prefix}
-pub use grammar.{out_of_sides, out_of_symbols, peek, row, row_at, same_spelling, sees, solve, some_of, takes_both}
-pub use grammar.{takes_first, takes_leaf, takes_node, takes_nothing, takes_second, takes_stop}
-pub use grammar.{replaced, unchanged, with_rows, with_tables, written}
+unfoldable pub use theory.*
+unfoldable pub use examples.*
+pub use grammar.{AnyOf, Both, Class, Either, Empty, Except, Expr, First, Fits, Grammar, Improper, IsLeast, Leaf, Many}
+pub use grammar.{More, Node, Nothing, One, ParseTree, Place, Reason, Refused, Row, Second, Spelled, Stop, Sym, Then}
+pub use grammar.{Token, Unexpected, accepts, all_apart, all_within, fits_both, fits_first, fits_leaf, fits_more}
+pub use grammar.{fits_node, fits_nothing, fits_second, fits_stop, in_any, is_listed, lax, leads_node, leaves, matches}
+pub use grammar.{nowhere, optional, peek, row, row_at, same_spelling, some_of}
 pub use lexical.{BeginsNone, BeginsWithElement, HasItems, Ignored, IsCutInto, IsName, Item, LexicalError, Meaning}
 pub use lexical.{Piece, Stands, Stream, TokenContent, Where, Word, depth_of, is_in_line, is_too_deep, item_at}
 pub use lexical.{next_place, past_ignored, past_token, piece_then, start, token_then, too_deep}
 unfoldable pub use lexical.{items_of}
 unfoldable pub use strings.{common_indent}
-pub use sources.{CauseText, FaultText, HasTokens, IsAtEnd, IsBadPlaceOf, IsEnd, IsMinified, Items, Last, LastIsError}
-pub use sources.{Refusal, Spent, after, at, bad_escape, cause_text, duplicate_operation, empty_extension}
-pub use sources.{int_out_of_range, is_unexpected, items_of_stream, kept, kind_number, lexeme_token, malformed_float}
-pub use sources.{max_length, no_memory, no_token, out_of_memory, place_next, place_of, split, text_too_long, token_of}
-pub use sources.{tokens_then, too_long, unexpected_end, unexpected_token, unknown_location, unknown_operation, unplaced}
+pub use sources.{CauseText, FaultText, HasTokens, IsAtEnd, IsEnd, IsMinified, Items, Last, LastIsError, Refusal, Spent}
+pub use sources.{at, bad_escape, cause_text, duplicate_operation, empty_extension, int_out_of_range, is_unexpected}
+pub use sources.{kind_number, malformed_float, max_length, no_memory, no_token, out_of_memory, place_next, place_of}
+pub use sources.{split, text_too_long, token_of, tokens_then, too_long, unexpected_end, unexpected_token}
+pub use sources.{unknown_location, unknown_operation, unplaced}
+pub use steps.{Adds, Consumes, Gives, IsBadPlaceOf, IsFaultFor, IsList, IsNext, MayFollow, Reads, Refusals, SaysNode}
+pub use steps.{Shows, StopsFor, TakesOne, TakesSome, TakesToken, after, halt_reason, ignored_front, items_of_stream}
+pub use steps.{kept, lexeme_token, line_end, reason_of, sees_class, spelling_of}
 pub use values.{AreLawfulArguments, AreLawfulDirectives, DirectiveTree, IsLawful, IsNameBut, IsPrintableArgument}
 pub use values.{IsPrintableDefault, IsPrintableDirective, IsPrintableType, TypeTree, ValueTree, Weights, any}
 pub use values.{argument_view, arguments_brackets, arguments_depth, arguments_symbol, arguments_view, default_depth}
-pub use values.{default_symbol, directive_symbol, directive_view, directives_brackets, directives_depth}
-pub use values.{directives_of, directives_symbol, directives_view, each_of, enclosed_of, erase, erase_all}
-pub use values.{first_place, has_any, in_brackets, is_there, joined_of, keyword, location_class, most, most_around}
-pub use values.{most_enclosed, name, named, no_place, optional_arguments_of, optional_default_of, optional_list_of}
-pub use values.{optional_of, place_at, punctuator, punctuator_class, sample, separated_of, shared, shared_symbols}
-pub use values.{spelling_at, token_value, type_of, type_symbol, type_view, value_brackets, value_view, valued}
-pub use values.{variable, with_rule, word}
+pub use values.{default_symbol, directive_symbol, directive_view, directives_brackets, directives_depth, directives_of}
+pub use values.{directives_symbol, directives_view, each_of, enclosed_of, erase, erase_all, first_place, has_any}
+pub use values.{in_brackets, is_there, joined_of, keyword, location_class, most, most_around, most_enclosed, name}
+pub use values.{named, no_place, optional_arguments_of, optional_default_of, optional_list_of, optional_of, place_at}
+pub use values.{punctuator, punctuator_class, sample, separated_of, shared, shared_symbols, spelling_at, token_value}
+pub use values.{type_of, type_symbol, type_view, value_brackets, value_view, valued, variable, with_rule, word}
 unfoldable pub use values.{block_string_of, is_good, string_of, tables, unquoted}
-pub use layouts.{Displays, HasDisplayed, IsNarrow, Layout, Part, arguments_layout, bracket_of, deepest, default_layout}
-pub use layouts.{default_style, description_levels, directives_layout, gap, has_block_form, has_block_lines}
-pub use layouts.{in_block_form, in_braces, in_levels, in_parentheses, name_part, punctuator_part, quoted, separated}
-pub use layouts.{spaces, string_layout, text_of, token, type_layout, with_indent, with_multiline}
-pub use steps.{Adds, Consumes, Gives, IsFaultFor, IsList, IsNext, MayFollow, Shows, StopsFor, TakesOne, TakesSome}
-pub use steps.{TakesToken}
-pub use steps.{ignored_front, line_end, reason_of, sees_class, spelling_of}
+pub use layouts.{Displays, HasDisplayed, IsNarrow, Layout, Part, arguments_layout, default_layout, default_style}
+pub use layouts.{description_levels, directives_layout, gap, has_block_form, has_block_lines, in_block_form, in_braces}
+pub use layouts.{in_levels, in_parentheses, name_part, punctuator_part, quoted, separated, spaces, string_layout}
+pub use layouts.{text_of, token, type_layout, with_indent, with_multiline}
 unfoldable pub use steps.{block_end, comment, front, items, items_in, number, other_token, quoted_front, string_end}
 pub use documents.{AnswersUnlessMemory, AreAlike, AreReadBack, HasNoValue, HasNone, HasOneFaultEach, IsDocument}
 pub use documents.{IsDocumentOf, IsLeastFault, IsParsed, IsReadBack, IsRefusalFor, IsRefusalOf, IsWide, IsWrittenOf}
-pub use documents.{Language, NoneGoesOn, ParsesDocument, ParsesStream, Reads, ReadsDocument, Refusals, SaysNode}
-pub use documents.{halt_reason, numbered, past_bound, reading}
+pub use documents.{Language, NoneGoesOn, ParsesDocument, ParsesStream, ReadsDocument, numbered, past_bound, reading}
+pub use theory.{After, AsFirst, Before, Change, EachIsSecond, Extends, Fails, Growth, InParts, InSides, RefusesTokens}
+pub use theory.{Same, Takes, TestsAlike, bracket_of, change_at, cont, decides, deepest, either_way, fails_after}
+pub use theory.{fails_before, fails_check, fails_node, fails_one, fails_value, first, grown, growth_at, in_second}
+pub use theory.{is_below, is_row, out_of_head, out_of_prefix, out_of_sides, out_of_symbols, replaced, sees, solve}
+pub use theory.{takes_both, takes_first, takes_leaf, takes_node, takes_nothing, takes_second, takes_stop, unchanged}
+pub use theory.{with_rows, with_tables, written}

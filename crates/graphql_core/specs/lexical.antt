@@ -3,10 +3,8 @@ pub mod Lexical
 pub mod Items
 pub mod Elements
 pub mod StreamCalls
-pub mod LexicalExamples
 unfoldable pub use BadTexts.*
 unfoldable pub use Lexical.*
 unfoldable pub use Items.*
 unfoldable pub use Elements.*
 unfoldable pub use StreamCalls.*
-unfoldable pub use LexicalExamples.*

@@ -5,10 +5,12 @@ pub mod BlockShape
 pub mod Constness
 pub mod Cut
 pub mod Endings
+pub mod Escapes
 pub mod Following
 pub mod FormatterSink
 pub mod Front
 pub mod Joined
+pub mod Minifying
 pub mod NextLeaf
 pub mod Lists
 pub mod Matching
@@ -17,6 +19,8 @@ pub mod Places
 pub mod Punctuators
 pub mod Quoted
 pub mod ReadErrors
+pub mod Refusing
+pub mod Sources
 pub mod Spans
 pub mod StringSink
 pub mod Unescaped
@@ -27,10 +31,12 @@ unfoldable pub use BlockShape.*
 unfoldable pub use Constness.*
 unfoldable pub use Cut.*
 unfoldable pub use Endings.*
+unfoldable pub use Escapes.*
 unfoldable pub use Following.*
 unfoldable pub use FormatterSink.*
 unfoldable pub use Front.*
 unfoldable pub use Joined.*
+unfoldable pub use Minifying.*
 unfoldable pub use NextLeaf.*
 unfoldable pub use Lists.*
 unfoldable pub use Matching.*
@@ -39,6 +45,8 @@ unfoldable pub use Places.*
 unfoldable pub use Punctuators.*
 unfoldable pub use Quoted.*
 unfoldable pub use ReadErrors.*
+unfoldable pub use Refusing.*
+unfoldable pub use Sources.*
 unfoldable pub use Spans.*
 unfoldable pub use StringSink.*
 unfoldable pub use Unescaped.*

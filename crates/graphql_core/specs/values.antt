@@ -5,7 +5,6 @@ pub mod Leaves
 pub mod Grammar
 pub mod Parts
 pub mod Meanings
-pub mod MeaningExamples
 pub mod Printable
 pub mod ValueViews
 unfoldable pub use Values.*
@@ -15,6 +14,5 @@ unfoldable pub use Leaves.*
 unfoldable pub use Grammar.*
 unfoldable pub use Parts.*
 unfoldable pub use Meanings.*
-unfoldable pub use MeaningExamples.*
 unfoldable pub use Printable.*
 unfoldable pub use ValueViews.*

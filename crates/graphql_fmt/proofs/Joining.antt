@@ -10,8 +10,7 @@ use Rattle.graphql_core.specs.declared.tokenizer.piece.Nesting.TheVariants.{Leve
 use Rattle.graphql_core.specs.steps.Front.{AtEnd}
 use Rattle.graphql_core.specs.declared.tokenizer.token.Kind.{Kind}
 use Rattle.graphql_core.specs.declared.tokenizer.token.Kind.TheVariants.{Punctuator, Name, IntValue, FloatValue, StringValue, BlockString}
-use Rattle.graphql_core.specs.{front, Meaning, Ignored, Word, Stands, BeginsNone, block_string_of, in_block_form}
-use Rattle.graphql_core.specs.{has_block_lines, nowhere, MayFollow}
+use Rattle.graphql_core.specs.{front, Meaning, Ignored, Word, Stands, BeginsNone, block_string_of, in_block_form, has_block_lines, nowhere, MayFollow}
 use Rattle.graphql_core.specs.lexical.Elements.{element_kind}
 use Rattle.graphql_core.specs.sources.Minified.{space_if}
 use Rattle.graphql_core.specs.lexical.Lexical.{ignored_line_feed, ignored_space, ignored_comma, comment_feed}

@@ -1,19 +1,16 @@
 -- Inputs with the same tokens and comments have tokens of the same kinds and values, and the same end.
-use Rattle.std.proofs.Common.{◌≡◌, ℕ, ◌==◌, Bool, true, false, not, ◌&&◌, if◌then◌else◌, List, [], ◌∷◌, ◌++◌, length, map, slice_index, refl}
-use Rattle.std.proofs.Common.{sym, ◌∙◌, subst}
+use Rattle.std.proofs.Common.{◌≡◌, ℕ, ◌==◌, Bool, true, false, not, ◌&&◌, if◌then◌else◌, List, [], ◌∷◌, ◌++◌, length, map, slice_index, refl, sym, ◌∙◌, subst}
 use Rattle.graphql_core.specs.declared.tokenizer.piece.Nesting.{Nesting}
 use Rattle.graphql_core.specs.declared.tokenizer.piece.Nesting.TheVariants.{Level, Opens, Closes}
 use Rattle.graphql_core.specs.declared.tokenizer.token.Kind.{Kind}
-use Rattle.graphql_core.specs.declared.tokenizer.token.Kind.TheVariants.{Punctuator, Name, IntValue, FloatValue}
-use Rattle.graphql_core.specs.declared.tokenizer.token.Kind.TheVariants.{StringValue, BlockString}
+use Rattle.graphql_core.specs.declared.tokenizer.token.Kind.TheVariants.{Punctuator, Name, IntValue, FloatValue, StringValue, BlockString}
 use Rattle.graphql_core.specs.declared.tokenizer.element.ElementKind.TheVariants as element
-use Rattle.graphql_core.specs.{Meaning, Ignored, Word, Stands, IsCutInto, Piece, start, Item, HasItems, Where, item_at}
-use Rattle.graphql_core.specs.{TokenContent, LexicalError, too_deep, is_too_deep, token_then, piece_then, items_of}
-use Rattle.graphql_core.specs.{past_ignored, past_token, split, Last, LastIsError, IsEnd, Token, nowhere, kind_number, token_of, valued}
-use Rattle.graphql_core.specs.{block_string_of}
+use Rattle.graphql_core.specs.{Meaning, Ignored, Word, Stands, IsCutInto, Piece, start, Item, HasItems, Where, item_at, TokenContent, LexicalError, too_deep}
+use Rattle.graphql_core.specs.{is_too_deep, token_then, piece_then, items_of, past_ignored, past_token, split, Last, LastIsError, IsEnd, Token, nowhere}
+use Rattle.graphql_core.specs.{kind_number, token_of, valued, block_string_of}
 use Rattle.graphql_core.specs.lexical.Items.{openers_after, closers_after}
 use Rattle.graphql_core.specs.sources.Source.{LastIsEnd}
-use Rattle.graphql_core.specs.sources.Minified.{is_past}
+use Rattle.graphql_core.specs.steps.Minifying.{is_past}
 use Rattle.graphql_core.specs.lexical.Elements.{element_kind}
 use Rattle.graphql_core.specs.lexical.Lexical.{nesting_of, name_token, punctuator_token, spread_token, integer_token}
 use Rattle.graphql_core.specs.lexical.Lexical.{float_token, string_token, block_string_token}

@@ -2,7 +2,8 @@
 use Rattle.std.specs.Prelude.{ℕ, List, Result}
 use Rattle.graphql_core.specs.{Refusal, Items, FaultText, Language}
 use Rattle.graphql_query.specs.Tree.{DocumentTree, erase}
-use Rattle.graphql_query.specs.Grammar.{query, document_symbol, second_rows, changes}
+use Rattle.graphql_query.specs.Grammar.{query, document_symbol}
+use Rattle.graphql_query.specs.steps.SecondRules.{second_rows, changes}
 use Rattle.graphql_query.specs.Meanings.{document_of}
 use Rattle.graphql_core.specs.documents.Document as document
 use Rattle.graphql_core.specs.documents.Faults as fault

@@ -1,7 +1,7 @@
 -- The language of queries of version 0.4.1: variable definitions have no directives.
 use Rattle.std.specs.Prelude.{◌≡◌, ℕ, List, [], ◌++◌, codes}
-use Rattle.graphql_core.specs.{Grammar, Expr, Then, Sym, optional, with_tables, type_symbol, default_symbol}
-use Rattle.graphql_core.specs.{punctuator, name, with_rule, Language}
+use Rattle.graphql_core.specs.{Grammar, Expr, Then, Sym, optional, with_tables, type_symbol, default_symbol, punctuator}
+use Rattle.graphql_core.specs.{name, with_rule, Language}
 use Rattle.std.specs.List.{AllByRecursion}
 use Rattle.graphql_query.specs.Grammar.{query, rules, variable_definition_symbol}
 use Rattle.graphql_query.specs.Tree.{VariableDefinitionTree, DefinitionTree, operation, DocumentTree}

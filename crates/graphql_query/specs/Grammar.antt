@@ -1,10 +1,8 @@
--- The grammar of query documents, as written, and the equivalent rules that the parser follows.
-use Rattle.std.specs.Prelude.{ℕ, ◌+◌, true, List, [], ◌∷◌, ◌++◌, codes, length, drop, replicate}
-use Rattle.graphql_core.specs.{in_second, out_of_symbols, out_of_prefix, with_rows, Token, Class, Except, matches}
-use Rattle.graphql_core.specs.{Expr, One, Then, Either, Sym, Row, optional, some_of, solve, with_tables, Change}
-use Rattle.graphql_core.specs.{unchanged, replaced, kind_number, is_good, type_symbol, arguments_symbol}
-use Rattle.graphql_core.specs.{directives_symbol, default_symbol, shared_symbols, with_rule, punctuator, word}
-use Rattle.graphql_core.specs.{sample, Grammar, name}
+-- The grammar of query documents.
+use Rattle.std.specs.Prelude.{ℕ, ◌+◌, true, List, [], ◌∷◌, ◌++◌, codes}
+use Rattle.graphql_core.specs.{Token, Class, Except, Expr, One, Then, Either, Sym, optional, some_of, with_tables}
+use Rattle.graphql_core.specs.{kind_number, is_good, type_symbol, arguments_symbol, directives_symbol, default_symbol}
+use Rattle.graphql_core.specs.{shared_symbols, punctuator, word, sample, Grammar, name}
 use Rattle.graphql_core.specs.declared.tokenizer.token.Kind.TheVariants.{Punctuator, Name}
 use Rattle.graphql_core.specs.values.Grammar as shared
 
@@ -157,33 +155,3 @@ samples =
 -- the written grammar: every literal has a value, and no node is rejected
 abbrev pub query : Grammar
 query = record { rows = shared.rows ++ with_tables rules []; good = is_good; check = λ k x. true; samples = samples }
-
--- ---- second rules, for a parser with one token of lookahead
-
--- a field, or "..." and then the rest of a spread or of an inline fragment
-abbrev pub selection_second : Expr
-selection_second =
-    Either (Sym field_symbol) (Then (punctuator (codes "...")) (Either fragment_spread_rest inline_fragment_rest))
-
--- a name, optionally a colon and another name, and the rest of a field
-abbrev pub field_second : Expr
-field_second = Then name (Then (optional (Then (punctuator (codes ":")) name)) field_rest)
-
-abbrev pub second_rules : List Expr
-second_rules = with_rule selection_symbol selection_second (with_rule field_symbol field_second rules)
-
-unfoldable pub tables : List Row
-tables = drop shared_symbols (solve matches samples 9 (shared.rules ++ second_rules))
-
-abbrev pub second_rows : List Row
-second_rows = shared.rows ++ with_tables second_rules tables
-
--- how parse trees of the second rules become parse trees of the written ones
-abbrev pub changes : List Change
-changes =
-    replaced selection_symbol (in_second (out_of_symbols fragment_spread_symbol inline_fragment_symbol))
-    (replaced field_symbol (out_of_prefix alias_symbol) (replicate (shared_symbols + length rules) unchanged))
-
--- the grammar that the parser follows
-abbrev pub reading : Grammar
-reading = with_rows query second_rows changes

@@ -3,9 +3,9 @@ use Rattle.std.specs.Prelude.{List}
 use Rattle.std.specs.List.{AllByRecursion}
 use Rattle.std.specs.Option.{IfSome}
 use Rattle.graphql_core.specs.{IsLawful, AreLawfulArguments, AreLawfulDirectives}
-use Rattle.graphql_query.specs.Tree.{spread, more, SelectionTree, field, inline, SelectionSetTree, set}
-use Rattle.graphql_query.specs.Tree.{SelectionTrees, none, VariableDefinitionTree, FragmentDefinitionTree}
-use Rattle.graphql_query.specs.Tree.{DefinitionTree, short, operation, fragment, DocumentTree}
+use Rattle.graphql_query.specs.Tree.{spread, more, SelectionTree, field, inline, SelectionSetTree, set, SelectionTrees}
+use Rattle.graphql_query.specs.Tree.{none, VariableDefinitionTree, FragmentDefinitionTree, DefinitionTree, short}
+use Rattle.graphql_query.specs.Tree.{operation, fragment, DocumentTree}
 
 abbrev mutual
   pub IsLawfulSelection : SelectionTree → Type 0

@@ -3,11 +3,10 @@ use Rattle.std.specs.Prelude.{ℕ, ◌+◌, List, [], ◌++◌, Option, Some, No
 use Rattle.graphql_core.specs.{name_part, punctuator_part, text_of, Layout, spaces, Part, gap, type_layout}
 use Rattle.graphql_core.specs.{arguments_layout, directives_layout, in_levels, in_braces, most, default_layout}
 use Rattle.graphql_core.specs.{in_parentheses, separated}
-use Rattle.graphql_query.specs.Tree.{spread, more, SelectionTree, field, inline, SelectionSetTree, set}
-use Rattle.graphql_query.specs.Tree.{SelectionTrees, none, OperationKind, query_kind, mutation_kind}
-use Rattle.graphql_query.specs.Tree.{subscription_kind, VariableDefinitionTree, OperationTree}
-use Rattle.graphql_query.specs.Tree.{FragmentDefinitionTree, DefinitionTree, short, operation, fragment}
-use Rattle.graphql_query.specs.Tree.{DocumentTree}
+use Rattle.graphql_query.specs.Tree.{spread, more, SelectionTree, field, inline, SelectionSetTree, set, SelectionTrees}
+use Rattle.graphql_query.specs.Tree.{none, OperationKind, query_kind, mutation_kind, subscription_kind}
+use Rattle.graphql_query.specs.Tree.{VariableDefinitionTree, OperationTree, FragmentDefinitionTree, DefinitionTree}
+use Rattle.graphql_query.specs.Tree.{short, operation, fragment, DocumentTree}
 use Rattle.graphql_query.specs.TreeDepth.{selection_depth, selected_depth, selection_set_depth, selections_depth}
 use Rattle.graphql_query.specs.TreeDepth.{variable_definition_depth, variable_definitions_depth, operation_depth}
 use Rattle.graphql_query.specs.TreeDepth.{fragment_definition_depth, definition_depth}

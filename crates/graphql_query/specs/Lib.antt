@@ -1,6 +1,6 @@
 pub mod Document
 pub mod Earlier
-pub mod Examples
+pub mod examples
 pub mod Grammar
 pub mod Lawful
 pub mod Layout
@@ -13,7 +13,7 @@ pub mod Minifying
 pub mod steps
 unfoldable pub use Document.*
 unfoldable pub use Earlier.*
-unfoldable pub use Examples.*
+unfoldable pub use examples.*
 unfoldable pub use Grammar.*
 unfoldable pub use Lawful.*
 unfoldable pub use Layout.*

@@ -4,10 +4,10 @@ use Rattle.graphql_core.specs.{Place, nowhere, ParseTree, Both, First, Second, M
 use Rattle.graphql_core.specs.{first_place, spelling_at, type_of, optional_default_of, optional_arguments_of}
 use Rattle.graphql_core.specs.{directives_of, optional_of, optional_list_of, each_of, enclosed_of}
 use Rattle.graphql_query.specs.Tree.{spread, more, SelectionTree, field, inline, SelectionSetTree, set}
-use Rattle.graphql_query.specs.Tree.{no_selection_set, SelectionTrees, none, OperationKind, query_kind}
-use Rattle.graphql_query.specs.Tree.{mutation_kind, subscription_kind, VariableDefinitionTree, OperationTree}
-use Rattle.graphql_query.specs.Tree.{OperationBodyTree, with_body, FragmentDefinitionTree, DefinitionTree, short}
-use Rattle.graphql_query.specs.Tree.{operation, fragment, DocumentTree}
+use Rattle.graphql_query.specs.Tree.{no_selection_set, SelectionTrees, none, OperationKind, query_kind, mutation_kind}
+use Rattle.graphql_query.specs.Tree.{subscription_kind, VariableDefinitionTree, OperationTree, OperationBodyTree}
+use Rattle.graphql_query.specs.Tree.{with_body, FragmentDefinitionTree, DefinitionTree, short, operation, fragment}
+use Rattle.graphql_query.specs.Tree.{DocumentTree}
 
 -- ---- selections
 

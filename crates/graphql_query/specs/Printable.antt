@@ -4,10 +4,9 @@ use Rattle.std.specs.List.{AllByRecursion}
 use Rattle.std.specs.Option.{IfSome}
 use Rattle.graphql_core.specs.{IsName, IsNameBut, IsPrintableArgument, IsPrintableDirective, IsPrintableType}
 use Rattle.graphql_core.specs.{IsPrintableDefault, in_brackets, most}
-use Rattle.graphql_query.specs.Tree.{spread, more, SelectionTree, field, inline, SelectionSetTree, set}
-use Rattle.graphql_query.specs.Tree.{SelectionTrees, none, VariableDefinitionTree, OperationTree}
-use Rattle.graphql_query.specs.Tree.{FragmentDefinitionTree, DefinitionTree, short, operation, fragment}
-use Rattle.graphql_query.specs.Tree.{DocumentTree}
+use Rattle.graphql_query.specs.Tree.{spread, more, SelectionTree, field, inline, SelectionSetTree, set, SelectionTrees}
+use Rattle.graphql_query.specs.Tree.{none, VariableDefinitionTree, OperationTree, FragmentDefinitionTree}
+use Rattle.graphql_query.specs.Tree.{DefinitionTree, short, operation, fragment, DocumentTree}
 use Rattle.graphql_query.specs.TreeDepth.{selection_depth, selected_depth, selection_set_depth, selections_depth}
 use Rattle.graphql_query.specs.TreeDepth.{variable_definition_depth, variable_definitions_depth, definition_depth}
 

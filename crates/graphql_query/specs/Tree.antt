@@ -11,8 +11,7 @@ use Rattle.graphql_query.specs.declared.tree.Field.{Field, fold-Field}
 use Rattle.graphql_query.specs.declared.tree.InlineFragment.{InlineFragment, fold-InlineFragment}
 use Rattle.graphql_query.specs.declared.tree.SelectionSet.{SelectionSet, fold-SelectionSet}
 use Rattle.graphql_query.specs.declared.tree.Selection.{Selection, fold-Selection}
-use Rattle.graphql_query.specs.declared.tree.Selection.TheOpen.{Field-F, InlineFragment-F, SelectionSet-F}
-use Rattle.graphql_query.specs.declared.tree.Selection.TheOpen.{Selection-F}
+use Rattle.graphql_query.specs.declared.tree.Selection.TheOpen.{Field-F, InlineFragment-F, SelectionSet-F, Selection-F}
 use Rattle.graphql_query.specs.declared.tree.Query.{Query}
 use Rattle.graphql_query.specs.declared.tree.Mutation.{Mutation}
 use Rattle.graphql_query.specs.declared.tree.Subscription.{Subscription}

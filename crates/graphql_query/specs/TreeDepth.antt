@@ -1,9 +1,9 @@
 -- How deep selections and definitions nest, counted with weights.
 use Rattle.std.specs.Prelude.{ℕ, ◌+◌, max, List}
 use Rattle.graphql_core.specs.{Weights, most_around, default_depth, arguments_depth, directives_depth}
-use Rattle.graphql_query.specs.Tree.{spread, more, SelectionTree, field, inline, SelectionSetTree, set}
-use Rattle.graphql_query.specs.Tree.{SelectionTrees, none, VariableDefinitionTree, OperationTree}
-use Rattle.graphql_query.specs.Tree.{FragmentDefinitionTree, DefinitionTree, short, operation, fragment}
+use Rattle.graphql_query.specs.Tree.{spread, more, SelectionTree, field, inline, SelectionSetTree, set, SelectionTrees}
+use Rattle.graphql_query.specs.Tree.{none, VariableDefinitionTree, OperationTree, FragmentDefinitionTree}
+use Rattle.graphql_query.specs.Tree.{DefinitionTree, short, operation, fragment}
 
 -- ---- selections
 

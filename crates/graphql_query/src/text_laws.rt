@@ -3,7 +3,7 @@ ghost use Rattle.std.specs.Prelude.{◌≡◌};
 ghost use Rattle.graphql_core.specs.{deepest, Layout, most, AreReadBack};
 ghost use Rattle.graphql_query.specs.{DocumentTree, erase, queries, IsLawfulDocument, document_layout, layout};
 ghost use Rattle.graphql_query.specs.{IsPrintable, definition_brackets};
-ghost use Rattle.graphql_query.specs.Examples as example;
+ghost use Rattle.graphql_query.specs.examples.QueryExamples as example;
 
 /// The documents of some small inputs, and how these documents are formatted.
 pub fn worked_examples()

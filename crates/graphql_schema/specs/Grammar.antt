@@ -1,10 +1,7 @@
--- The grammar of schema documents, as written, and the equivalent rules that the parser follows.
-use Rattle.std.specs.Prelude.{ℕ, zero, suc, ◌+◌, Bool, true, not, ◌&&◌, ◌==◌, if◌then◌else◌, codes, List, [], ◌∷◌, ◌++◌}
-use Rattle.std.specs.Prelude.{drop, length, replicate, is_some}
-use Rattle.graphql_core.specs.{is_row, out_of_head, out_of_sides, Token, Class, Except, matches, Expr, One, Then}
-use Rattle.graphql_core.specs.{Either, Many, Sym, ParseTree, Nothing, Leaf, Both, First, Second, Stop, More, Node, Row}
-use Rattle.graphql_core.specs.{optional, some_of, solve, with_tables, Change, replaced, unchanged, with_rule}
-use Rattle.graphql_core.specs.{type_symbol, directives_symbol, directive_symbol, default_symbol, shared_symbols}
+-- The grammar of schema documents.
+use Rattle.std.specs.Prelude.{ℕ, ◌+◌, Bool, true, not, ◌==◌, if◌then◌else◌, codes, List, [], ◌∷◌, ◌++◌, is_some}
+use Rattle.graphql_core.specs.{Token, Class, Except, Expr, One, Then, Either, Many, Sym, ParseTree, Node, optional}
+use Rattle.graphql_core.specs.{some_of, with_tables, type_symbol, directives_symbol, default_symbol, shared_symbols}
 use Rattle.graphql_core.specs.{punctuator, word, any, location_class, sample, Grammar, name}
 use Rattle.graphql_core.specs.declared.tokenizer.token.Kind.TheVariants.{Punctuator, Name, StringValue, BlockString}
 use Rattle.graphql_schema.specs.Locations.{is_location}
@@ -277,76 +274,3 @@ samples =
 abbrev pub schema_grammar : Grammar
 schema_grammar =
     record { rows = shared.rows ++ with_tables rules []; good = is_good; check = passes; samples = samples }
-
--- ---- second rules, for a parser with one token of lookahead
-
--- an optional description and then a schema, a type or a directive definition; or an extension
-abbrev pub item_second : Expr
-item_second =
-    Either (Then (optional (Sym description_symbol)) (Either (Sym schema_symbol)
-    (Either (Sym type_body_symbol) (Sym directive_definition_symbol)))) (Sym extension_symbol)
-
--- `extend`, and then a type or an extension of the schema
-abbrev pub extension_second : Expr
-extension_second = Then (word (codes "extend")) (Either (Sym type_body_symbol) (Sym schema_extension_symbol))
-
--- an optional description, and then a type or a directive definition
-abbrev pub described_second : Expr
-described_second =
-    Then (optional (Sym description_symbol)) (Either (Sym type_body_symbol) (Sym directive_definition_symbol))
-
-abbrev pub second_rules : List Expr
-second_rules =
-    with_rule item_symbol item_second
-    (with_rule extension_symbol extension_second (with_rule described_symbol described_second rules))
-
--- `extend scalar a @a`: the parse tree of an accepted extension
-abbrev pub least_extension : ParseTree
-least_extension =
-    Both (Leaf (sample Name (codes "extend")))
-    (First (Node type_body_symbol
-    (First (Node scalar_symbol (Both (Leaf (sample Name (codes "scalar"))) (Both (Leaf (sample Name (codes "a")))
-    (Node directives_symbol (More (Node directive_symbol (Both (Leaf (sample Punctuator (codes "@")))
-    (Both (Leaf (sample Name (codes "a"))) (Second Nothing)))) Stop))))))))
-
--- `schema`: the parse tree of what follows `extend`, without operations
-abbrev pub least_schema_extension : ParseTree
-least_schema_extension =
-    Both (Leaf (sample Name (codes "schema"))) (Both (Node directives_symbol Stop) (Second Nothing))
-
--- the rows, with another least tree for the n-th symbol
-abbrev pub with_least : ℕ → ParseTree → List Row → List Row
-with_least n x [] = []
-with_least zero x (r ∷ rs) =
-    record { rule = r.rule; nullable = r.nullable; first = r.first; cont = r.cont; rank = r.rank; least = x } ∷ rs
-with_least (suc n) x (r ∷ rs) = r ∷ with_least n x rs
-
--- the test of leaves with which the tables are computed
-abbrev pub takes : Class → Token → Bool
-takes c t = matches c t && is_good c t
-
-unfoldable pub tables : List Row
-tables =
-    drop shared_symbols (with_least extension_symbol least_extension
-    (with_least schema_extension_symbol least_schema_extension (solve takes samples 12 (shared.rules ++ second_rules))))
-
-abbrev pub second_rows : List Row
-second_rows = shared.rows ++ with_tables second_rules tables
-
--- how parse trees of the second rules become parse trees of the written ones
-abbrev pub changes : List Change
-changes =
-    replaced item_symbol (out_of_sides described_symbol)
-    (replaced extension_symbol out_of_head
-    (replaced described_symbol out_of_head (replicate (shared_symbols + length rules) unchanged)))
-
--- ---- why there are second rules
-
--- the written rules, with computed tables
-abbrev pub written_rows : List Row
-written_rows = solve takes samples 12 (shared.rules ++ rules)
-
--- the symbols from the n-th on whose rules cannot be parsed with one token of lookahead
-abbrev pub unread : List Row → ℕ → List Row → List ℕ
-unread all n [] = []
-unread all n (r ∷ rs) = if is_row all r then unread all (n + 1) rs else n ∷ unread all (n + 1) rs

@@ -7,7 +7,7 @@ use Rattle.graphql_schema.specs.Tree.{SchemaTree, DefinitionTree, extension, sch
 use Rattle.graphql_schema.specs.Meanings.{no_schema, schema_of, schema_extension_of, extension_of, document_of}
 use Rattle.graphql_schema.specs.Roots.{RootFault, root_fault_of, extension_fault_of, root_cause}
 use Rattle.graphql_schema.specs.Grammar.{schema_grammar, document_symbol, schema_symbol, schema_extension_symbol}
-use Rattle.graphql_schema.specs.Grammar.{second_rows, changes}
+use Rattle.graphql_schema.specs.steps.SecondRules.{second_rows, changes}
 use Rattle.graphql_core.specs.documents.Document as document
 use Rattle.graphql_core.specs.documents.Faults as fault
 

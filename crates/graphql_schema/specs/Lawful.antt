@@ -3,8 +3,8 @@ use Rattle.std.specs.List.{AllByRecursion}
 use Rattle.std.specs.Option.{IfSome}
 use Rattle.graphql_core.specs.{IsLawful, AreLawfulDirectives}
 use Rattle.graphql_schema.specs.Tree.{InputValueTree, FieldTree, EnumValueTree, PartsTree, scalar, object, interface}
-use Rattle.graphql_schema.specs.Tree.{union, enum, input, BodyTree, DefinitionTree, schema, type_definition}
-use Rattle.graphql_schema.specs.Tree.{extension, schema_extension, directive, DocumentTree}
+use Rattle.graphql_schema.specs.Tree.{union, enum, input, BodyTree, DefinitionTree, schema, type_definition, extension}
+use Rattle.graphql_schema.specs.Tree.{schema_extension, directive, DocumentTree}
 
 abbrev pub IsLawfulInputValue : InputValueTree → Type 0
 IsLawfulInputValue v = IfSome v.default_value IsLawful × AreLawfulDirectives v.directives

@@ -8,10 +8,10 @@ use Rattle.graphql_schema.specs.TreeDepth.{input_value_depth, field_depth, enum_
 use Rattle.graphql_schema.specs.TreeDepth.{definition_depth}
 use Rattle.graphql_schema.specs.declared.location.DirectiveLocation.{DirectiveLocation}
 use Rattle.graphql_schema.specs.Locations.{word_of}
-use Rattle.graphql_schema.specs.Tree.{InputValueTree, FieldTree, EnumValueTree, SchemaTree, PartsTree, scalar}
-use Rattle.graphql_schema.specs.Tree.{object, interface, union, enum, input, BodyTree, DirectiveDefinitionTree}
-use Rattle.graphql_schema.specs.Tree.{DefinitionTree, schema, type_definition, extension, schema_extension}
-use Rattle.graphql_schema.specs.Tree.{directive, DocumentTree, has_operation}
+use Rattle.graphql_schema.specs.Tree.{InputValueTree, FieldTree, EnumValueTree, SchemaTree, PartsTree, scalar, object}
+use Rattle.graphql_schema.specs.Tree.{interface, union, enum, input, BodyTree, DirectiveDefinitionTree, DefinitionTree}
+use Rattle.graphql_schema.specs.Tree.{schema, type_definition, extension, schema_extension, directive, DocumentTree}
+use Rattle.graphql_schema.specs.Tree.{has_operation}
 use Rattle.graphql_core.specs.layouts.ValueLayout as values
 
 -- ---- descriptions

@@ -1,5 +1,5 @@
 pub mod Earlier
-pub mod Examples
+pub mod examples
 pub mod Grammar
 pub mod Language
 pub mod Lawful
@@ -14,7 +14,7 @@ pub mod TreeDepth
 pub mod Views
 pub mod steps
 unfoldable pub use Earlier.*
-unfoldable pub use Examples.*
+unfoldable pub use examples.*
 unfoldable pub use Grammar.*
 unfoldable pub use Language.*
 unfoldable pub use Lawful.*

@@ -3,10 +3,9 @@ use Rattle.std.specs.Prelude.{◌≡◌, ℕ, Bool, true, false, List, [], ◌�
 use Rattle.std.specs.Prelude.{Result, Ok, IsErr}
 use Rattle.graphql_core.specs.{same_spelling}
 use Rattle.graphql_schema.specs.declared.location.DirectiveLocation.{DirectiveLocation}
-use Rattle.graphql_schema.specs.declared.location.DirectiveLocation.TheVariants.{Query, Mutation, Subscription}
-use Rattle.graphql_schema.specs.declared.location.DirectiveLocation.TheVariants.{Field, FragmentDefinition}
-use Rattle.graphql_schema.specs.declared.location.DirectiveLocation.TheVariants.{FragmentSpread, InlineFragment}
-use Rattle.graphql_schema.specs.declared.location.DirectiveLocation.TheVariants.{Schema, Scalar, Object}
+use Rattle.graphql_schema.specs.declared.location.DirectiveLocation.TheVariants.{Query, Mutation, Subscription, Field}
+use Rattle.graphql_schema.specs.declared.location.DirectiveLocation.TheVariants.{FragmentDefinition, FragmentSpread}
+use Rattle.graphql_schema.specs.declared.location.DirectiveLocation.TheVariants.{InlineFragment, Schema, Scalar, Object}
 use Rattle.graphql_schema.specs.declared.location.DirectiveLocation.TheVariants.{FieldDefinition, ArgumentDefinition}
 use Rattle.graphql_schema.specs.declared.location.DirectiveLocation.TheVariants.{Interface, Union, Enum, EnumValue}
 use Rattle.graphql_schema.specs.declared.location.DirectiveLocation.TheVariants.{InputObject, InputFieldDefinition}

@@ -4,10 +4,9 @@ use Rattle.std.specs.List.{AllByRecursion}
 use Rattle.std.specs.Option.{IfSome}
 use Rattle.graphql_core.specs.{IsName, IsPrintableDirective, IsPrintableType, IsPrintableDefault, most, in_brackets}
 use Rattle.graphql_core.specs.{has_any}
-use Rattle.graphql_schema.specs.Tree.{InputValueTree, FieldTree, EnumValueTree, SchemaTree, PartsTree, scalar}
-use Rattle.graphql_schema.specs.Tree.{object, interface, union, enum, input, BodyTree, DefinitionTree, schema}
-use Rattle.graphql_schema.specs.Tree.{type_definition, extension, schema_extension, directive, DocumentTree, adds}
-use Rattle.graphql_schema.specs.Tree.{adds_to_schema}
+use Rattle.graphql_schema.specs.Tree.{InputValueTree, FieldTree, EnumValueTree, SchemaTree, PartsTree, scalar, object}
+use Rattle.graphql_schema.specs.Tree.{interface, union, enum, input, BodyTree, DefinitionTree, schema, type_definition}
+use Rattle.graphql_schema.specs.Tree.{extension, schema_extension, directive, DocumentTree, adds, adds_to_schema}
 use Rattle.graphql_schema.specs.TreeDepth.{input_value_depth, field_depth, enum_value_depth, parts_depth, body_depth}
 use Rattle.graphql_schema.specs.TreeDepth.{definition_depth}
 

@@ -1,9 +1,9 @@
 -- How deep the definitions of a schema nest, counted with weights.
 use Rattle.std.specs.Prelude.{ℕ, max, cond}
 use Rattle.graphql_core.specs.{Weights, most_around, most_enclosed, default_depth, directives_depth}
-use Rattle.graphql_schema.specs.Tree.{InputValueTree, FieldTree, EnumValueTree, SchemaTree, PartsTree, scalar}
-use Rattle.graphql_schema.specs.Tree.{object, interface, union, enum, input, BodyTree, DefinitionTree, schema}
-use Rattle.graphql_schema.specs.Tree.{type_definition, extension, schema_extension, directive, has_operation}
+use Rattle.graphql_schema.specs.Tree.{InputValueTree, FieldTree, EnumValueTree, SchemaTree, PartsTree, scalar, object}
+use Rattle.graphql_schema.specs.Tree.{interface, union, enum, input, BodyTree, DefinitionTree, schema, type_definition}
+use Rattle.graphql_schema.specs.Tree.{extension, schema_extension, directive, has_operation}
 
 abbrev pub input_value_depth : Weights → InputValueTree → ℕ
 input_value_depth w v =

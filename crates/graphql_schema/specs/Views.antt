@@ -3,10 +3,9 @@ use Rattle.std.specs.Prelude.{ℕ, List, Option, option_map, map, string_bytes}
 use Rattle.graphql_core.specs.{place_of, value_view, type_view, directives_view}
 use Rattle.graphql_core.specs.declared.position.Pos.{Pos}
 use Rattle.graphql_core.specs.declared.common.tree.Directive.{Directive}
-use Rattle.graphql_schema.specs.Tree.{InputValueTree, FieldTree, EnumValueTree, SchemaTree, PartsTree, BodyTree}
-use Rattle.graphql_schema.specs.Tree.{scalar, object, interface, union, enum, input, DirectiveDefinitionTree}
-use Rattle.graphql_schema.specs.Tree.{DefinitionTree, schema, type_definition, extension, schema_extension}
-use Rattle.graphql_schema.specs.Tree.{directive, DocumentTree}
+use Rattle.graphql_schema.specs.Tree.{InputValueTree, FieldTree, EnumValueTree, SchemaTree, PartsTree, BodyTree, scalar}
+use Rattle.graphql_schema.specs.Tree.{object, interface, union, enum, input, DirectiveDefinitionTree, DefinitionTree}
+use Rattle.graphql_schema.specs.Tree.{schema, type_definition, extension, schema_extension, directive, DocumentTree}
 use Rattle.graphql_schema.specs.declared.tree.parts.InputValue.{InputValue}
 use Rattle.graphql_schema.specs.declared.tree.parts.Field.{Field}
 use Rattle.graphql_schema.specs.declared.tree.parts.EnumValue.{EnumValue}

@@ -1,9 +1,11 @@
+pub mod SecondRules
 pub mod RootsRead
 pub mod Body
 pub mod TypeBodies
 pub mod Readers
 pub mod Refusals
 pub mod Keywords
+unfoldable pub use SecondRules.*
 unfoldable pub use RootsRead.*
 unfoldable pub use Body.*
 unfoldable pub use TypeBodies.*

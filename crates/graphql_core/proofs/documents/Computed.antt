@@ -1,10 +1,8 @@
 -- The document of an input, or the place of its first error, by computing.
 use Rattle.std.proofs.Common.{◌≡◌, ℕ, zero, suc, true, cond, List, [], ◌∷◌, Option, Some, None, refl}
-use Rattle.graphql_core.specs.{has_tree, first, Choice, Neither, sees, choose, Left, Right, Reason, index_of}
-use Rattle.graphql_core.specs.{IsLeast, Rejected, answer_of, Grammar, Expr, Empty, One, Then, Either, Many, Sym}
-use Rattle.graphql_core.specs.{ParseTree, Nothing, Leaf, Both, First, Second, Stop, More, Node, row, accepts, peek}
-use Rattle.graphql_core.specs.{leaves, Token, written, start, Item, HasItems, IsEnd, split, items, reading, Language}
-use Rattle.graphql_core.specs.{numbered, IsDocumentOf}
+use Rattle.graphql_core.specs.{has_tree, first, Choice, Neither, sees, choose, Left, Right, Reason, index_of, IsLeast, Rejected, answer_of, Grammar, Expr}
+use Rattle.graphql_core.specs.{Empty, One, Then, Either, Many, Sym, ParseTree, Nothing, Leaf, Both, First, Second, Stop, More, Node, row, accepts, peek, leaves}
+use Rattle.graphql_core.specs.{Token, written, start, Item, HasItems, IsEnd, split, items, reading, Language, numbered, IsDocumentOf}
 use Rattle.graphql_core.proofs.grammar.{fits-from_test, IsGiven, given, Found, find}
 use Rattle.graphql_core.proofs.lexical.{has_items}
 use Rattle.graphql_core.proofs.documents.Readable.{IsReadable, least}

@@ -3,15 +3,12 @@ use Rattle.std.proofs.Common.{◌≡◌, ℕ, suc, true, false, List, [], ◌∷
 use Rattle.std.proofs.Common.{le_refl, arith}
 use Rattle.std.proofs.lemmas.List.{drop_at, drop_all}
 use Rattle.std.proofs.lemmas.Bool.{both_ways, and_parts}
-use Rattle.graphql_core.specs.{Begins, Grammar, Sym, ParseTree, Node, unchecked, Reason, Unexpected, Improper, Refused}
-use Rattle.graphql_core.specs.{lax, Answers, Answer, IsFault, bad_place, leaf_refused, node_refused, index_of}
-use Rattle.graphql_core.specs.{unexpected_item, IsLeast, Content, TokenContent, item_at, Where, Item, fault_at}
-use Rattle.graphql_core.specs.{LastIsError, Items, Last, LastIsEnd, IsEnd, FaultText, fault_by, place_next, split}
-use Rattle.graphql_core.specs.{int_out_of_range, malformed_float, bad_escape, CauseText, is_unexpected, no_value}
-use Rattle.graphql_core.specs.{ending_of, numbered, HasNoValue, out_of_range, malformed, escaped_badly, Says}
-use Rattle.graphql_core.specs.{IsFaultAt, IsLeastFault, NoneGoesOn, IsFaultOf, IsLeastFaultOf, HasOneFaultAt}
-use Rattle.graphql_core.specs.{HasOneFaultEach, HasNoFault, IsFaultAfter, IsFirstFault, IsFirstFaultOf, unexpected}
-use Rattle.graphql_core.specs.{Token, Class, AnyOf, matches, any, is_good, unquoted, without_ends, reading, Language}
+use Rattle.graphql_core.specs.{Begins, Grammar, Sym, ParseTree, Node, unchecked, Reason, Unexpected, Improper, Refused, lax, Answers, Answer, IsFault}
+use Rattle.graphql_core.specs.{bad_place, leaf_refused, node_refused, index_of, unexpected_item, IsLeast, Content, TokenContent, item_at, Where, Item, fault_at}
+use Rattle.graphql_core.specs.{LastIsError, Items, Last, LastIsEnd, IsEnd, FaultText, fault_by, place_next, split, int_out_of_range, malformed_float}
+use Rattle.graphql_core.specs.{bad_escape, CauseText, is_unexpected, no_value, ending_of, numbered, HasNoValue, out_of_range, malformed, escaped_badly, Says}
+use Rattle.graphql_core.specs.{IsFaultAt, IsLeastFault, NoneGoesOn, IsFaultOf, IsLeastFaultOf, HasOneFaultAt, HasOneFaultEach, HasNoFault, IsFaultAfter}
+use Rattle.graphql_core.specs.{IsFirstFault, IsFirstFaultOf, unexpected, Token, Class, AnyOf, matches, any, is_good, unquoted, without_ends, reading, Language}
 use Rattle.graphql_core.specs.{IsDocument}
 use Rattle.graphql_core.proofs.first_errors.{one_node_for}
 use Rattle.std.proofs.lemmas.Bool.Decides.{nat_tests}
@@ -20,6 +17,7 @@ use Rattle.graphql_core.proofs.strings.{literal_is_float, has_unquoted, in_range
 use Rattle.graphql_core.specs.declared.tokenizer.token.Kind.TheVariants.{IntValue, FloatValue, StringValue}
 use Rattle.graphql_core.proofs.documents.Readable.{IsReadable, whole_texts, least, whole_reading}
 use Rattle.graphql_core.specs.grammar.Texts as texts
+use Rattle.graphql_core.specs.theory.WholeTexts as results
 use Rattle.graphql_core.specs.lexical.Items as items_of
 
 pub ends : (l : Last) → IsEnd l → ending_of l ≡ texts.InputEnds
@@ -180,7 +178,7 @@ module _ {D : Type 0} (l : Language D) (r : IsReadable l) where
 
     module _ (i : Items) (f : FaultText) (place : ℕ) where
       -- the error after the first items, if the theory rejects at that place for this reason
-      after_first : (why : Reason) → texts.IsGrammarFaultAt l.grammar (Sym l.document) (numbered i) why place
+      after_first : (why : Reason) → results.IsGrammarFaultAt l.grammar (Sym l.document) (numbered i) why place
           → IsFault l.grammar (Sym l.document) (numbered i) why (index_of why place) → Says l why i (index_of why place) f
           → IsFaultAfter l (take place i.tokens) (drop place i.tokens) i.last f
       after_first Unexpected w x said =
@@ -197,8 +195,8 @@ module _ {D : Type 0} (l : Language D) (r : IsReadable l) where
 
     first_by : (i : Items) (f : FaultText) (n : ℕ) (why : Reason) → IsLeast l.grammar (Sym l.document) (numbered i) why n → Says l why i n f
         → (a : Answer) → Answers (reading l) (Sym l.document) (numbered i) a → IsFirstFault l i f
-    first_by i f n why w said (texts.Tree x) a = absurd ((least l r).tree (numbered i) x a why n w.0)
-    first_by i f n why w said (texts.Rejected other place) a =
+    first_by i f n why w said (results.Tree x) a = absurd ((least l r).tree (numbered i) x a why n w.0)
+    first_by i f n why w said (results.Rejected other place) a =
         let is = (least l r).wrong (numbered i) other place a in
         let (reason, at) = (least l r).one (numbered i) why other n (index_of other place) w is in
         let x = (whole_texts l r).wrong (numbered i) other place a in

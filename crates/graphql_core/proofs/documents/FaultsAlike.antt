@@ -2,14 +2,12 @@
 use Rattle.std.specs.Int.RustNames.{FitsSigned}
 use Rattle.std.proofs.Common.{◌≡◌, ℕ, zero, suc, Bool, true, false, ◌&&◌, List, [], ◌∷◌, ◌++◌, length, map, drop, refl, sym, ap, ◌∙◌, subst, w64}
 use Rattle.std.proofs.lemmas.List.{map-append, length-map, drop-map}
-use Rattle.graphql_core.specs.{Begins, Ends, Grammar, Fits, Expr, Then, Many, Sym, ParseTree, Node, leaves, peek, accepts}
-use Rattle.graphql_core.specs.{leads_here, leads_after, leads_turn, leads_later, leads_before, leads_second}
-use Rattle.graphql_core.specs.{leads_first, Leads, leads_node, Text, IsRefused, IsFault, bad_place, unexpected_item}
-use Rattle.graphql_core.specs.{leaf_refused, node_refused, IsLeast, unexpected_token, CauseText, IsInQuotes}
-use Rattle.graphql_core.specs.{LastIsError, Items, Last, LastIsEnd, IsEnd, split, fault_by, FaultText, Token, Class}
-use Rattle.graphql_core.specs.{matches, Reason, Unexpected, Improper, Refused, lax, Item, unplaced, IsMinified}
-use Rattle.graphql_core.specs.{IsFloatLiteral, int_of, numbered, from_item, HasNoValue, out_of_range, malformed}
-use Rattle.graphql_core.specs.{escaped_badly, Says, IsLeastFault, IsLeastFaultOf, Language}
+use Rattle.graphql_core.specs.{Begins, Ends, Grammar, Fits, Expr, Then, Many, Sym, ParseTree, Node, leaves, peek, accepts, leads_here, leads_after, leads_turn}
+use Rattle.graphql_core.specs.{leads_later, leads_before, leads_second, leads_first, Leads, leads_node, Text, IsRefused, IsFault, bad_place, unexpected_item}
+use Rattle.graphql_core.specs.{leaf_refused, node_refused, IsLeast, unexpected_token, CauseText, IsInQuotes, LastIsError, Items, Last, LastIsEnd, IsEnd, split}
+use Rattle.graphql_core.specs.{fault_by, FaultText, Token, Class, matches, Reason, Unexpected, Improper, Refused, lax, Item, unplaced, IsMinified}
+use Rattle.graphql_core.specs.{IsFloatLiteral, int_of, numbered, from_item, HasNoValue, out_of_range, malformed, escaped_badly, Says, IsLeastFault}
+use Rattle.graphql_core.specs.{IsLeastFaultOf, Language}
 use Rattle.graphql_core.proofs.lexical.{items_unique}
 use Rattle.graphql_core.proofs.sources.{minified_tokens}
 use Rattle.graphql_core.proofs.values.{SameTrees, left_tree, right_tree, SameLeaf, unplaced_leaf, matches_same, Alike}

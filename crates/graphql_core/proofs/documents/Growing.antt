@@ -1,7 +1,6 @@
 -- A language whose grammar grows: each document of the earlier language is a document of the later one.
 use Rattle.std.proofs.Common.{◌≡◌, ℕ, true, List, length, Option, refl, sym, subst, ◌∙◌}
-use Rattle.graphql_core.specs.{Grows, Growth, grown, Sym, ParseTree, leaves, Fits, is_below, Items, split, IsDocument}
-use Rattle.graphql_core.specs.{IsDocumentOf, Language}
+use Rattle.graphql_core.specs.{Grows, Growth, grown, Sym, ParseTree, leaves, Fits, is_below, Items, split, IsDocument, IsDocumentOf, Language}
 use Rattle.graphql_core.proofs.rules.{derives_on}
 
 -- The later language l is the earlier one e with new parts. A tree without new parts denotes the same document in both.

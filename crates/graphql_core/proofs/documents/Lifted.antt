@@ -3,9 +3,8 @@ use Rattle.std.proofs.Common.{◌≡◌, ◌<◌, true, false, not, List, [], �
 use Rattle.graphql_core.proofs.rules.{written-leaves, reads_on, left_alone}
 use Rattle.graphql_core.proofs.grammar.{takes-fits, takes-leaves, shorter}
 use Rattle.graphql_core.proofs.readers.{halts}
-use Rattle.graphql_core.specs.{Token, Expr, ParseTree, leaves, nullable, Takes, Reason, TakesSome, StopsFor, TestsAlike, is_below}
-use Rattle.graphql_core.specs.{written, Items, Last, fault_by, place_next, shared, shared_symbols, reading, Language}
-use Rattle.graphql_core.specs.{first_place, Gives, reason_of}
+use Rattle.graphql_core.specs.{Token, Expr, ParseTree, leaves, nullable, Takes, Reason, TakesSome, StopsFor, TestsAlike, is_below, written, Items, Last}
+use Rattle.graphql_core.specs.{fault_by, place_next, shared, shared_symbols, reading, Language, first_place, Gives, reason_of}
 use Rattle.graphql_core.specs.declared.helpers.read_error.ReadError.{ReadError}
 use Rattle.graphql_core.proofs.documents.Readable.{IsReadable}
 

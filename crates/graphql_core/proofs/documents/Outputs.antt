@@ -1,8 +1,7 @@
 -- What a result states about an input that has no document, or no first definition.
 use Rattle.std.proofs.Common.{◌≤◌, ℕ, List, length, Result, Ok, Err, IfErr, inl, inr}
 use Rattle.std.proofs.lemmas.Bool.{cases_lt}
-use Rattle.graphql_core.specs.{Refusal, max_length, IsDocumentOf, AnswersUnlessMemory, IsRefusalOf, ParsesDocument}
-use Rattle.graphql_core.specs.{HasNone, Language}
+use Rattle.graphql_core.specs.{Refusal, max_length, IsDocumentOf, AnswersUnlessMemory, IsRefusalOf, ParsesDocument, HasNone, Language}
 
 -- an error is `OutOfMemory`, or the input has more than `MAX_LENGTH` bytes or none of what is sought
 pub has_none : {D T V : Type 0} (Has : List ℕ → T → Type 0) (l : Language D) (view : V → T) (text : List ℕ) (r : Result V Refusal)

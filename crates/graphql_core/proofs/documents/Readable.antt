@@ -1,11 +1,9 @@
 -- What a language must show once, and what the theory of grammars then states about it.
 use Rattle.std.proofs.Common.{◌≡◌, ℕ, true, false, List, [], ◌∷◌, ◌++◌, length, replicate, refl, arith}
-use Rattle.graphql_core.specs.{unchecked, sees, Unexpected, Fails, lax, IsExact, AreSecond, IsExactFor, with_rows}
-use Rattle.graphql_core.specs.{Change, unchanged, EachIsSecond, IsWhole, IsWholeFor, AnswersLeast, RefusesTokens}
-use Rattle.graphql_core.specs.{LeavesAlone, Extends, is_tight, nullable, first, is_ll1, is_productive, decides}
-use Rattle.graphql_core.specs.{has_samples, Grammar, Expr, Sym, ParseTree, Row, peek, unknown_location, CauseText, Token}
-use Rattle.graphql_core.specs.{Class, AnyOf, FaultText, is_good, shared, shared_symbols, location_class, reading}
-use Rattle.graphql_core.specs.{Language, HasNoValue, out_of_range, malformed, escaped_badly}
+use Rattle.graphql_core.specs.{unchecked, sees, Unexpected, Fails, lax, IsExact, AreSecond, IsExactFor, with_rows, Change, unchanged, EachIsSecond, IsWhole}
+use Rattle.graphql_core.specs.{IsWholeFor, AnswersLeast, RefusesTokens, LeavesAlone, Extends, is_tight, nullable, first, is_ll1, is_productive, decides}
+use Rattle.graphql_core.specs.{has_samples, Grammar, Expr, Sym, ParseTree, Row, peek, unknown_location, CauseText, Token, Class, AnyOf, FaultText, is_good}
+use Rattle.graphql_core.specs.{shared, shared_symbols, location_class, reading, Language, HasNoValue, out_of_range, malformed, escaped_badly}
 use Rattle.graphql_core.proofs.rules.{IsSecond-unchanged, exact_for, whole_for}
 use Rattle.graphql_core.proofs.first_errors.{least_for, refuses_tokens_for}
 use Rattle.graphql_core.proofs.grammar.Exact as theory

@@ -1,26 +1,22 @@
 -- What a whole document is, from the theorems about every grammar.
 use Rattle.std.proofs.Common.{◌≡◌, ℕ, ◌-◌, List, [], ◌∷◌, ◌++◌, length, drop, length-append, ◌≤◌, refl, sym, ap, subst, ◌∙◌, arith, Result, Ok, Err, IfErr}
 use Rattle.std.proofs.lemmas.List.{drop_at}
-use Rattle.graphql_core.specs.{Done, Fault as Stopped, Takes, takes_node, Reason, Unexpected, Improper, Refused}
-use Rattle.graphql_core.specs.{Fails, fails_node, IsRefused, Answers, asked_once, fault_at, items_of_text, spending}
-use Rattle.graphql_core.specs.{tokens_then, LastIsError, Items, Last, LastIsEnd, IsEnd, IsAtEnd, FaultText, kept}
-use Rattle.graphql_core.specs.{place_next, split, here, IsFaultFor, IsNextFault, Refusal, at, no_memory, max_length}
-use Rattle.graphql_core.specs.{Token, Class, AnyOf, Sym, ParseTree, Node, leaves, written, change_at, StopsFor, CauseText}
-use Rattle.graphql_core.specs.{HasItems, start, items, reason_of, reading, document_rule, Language, IsDocument}
-use Rattle.graphql_core.specs.{IsDocumentOf, IsUnambiguous, AreUnambiguous, ending_of, numbered, Says, IsLeastFault}
-use Rattle.graphql_core.specs.{IsRefusalFor, IsRefusalOf, ran_out, faulty, Spent}
+use Rattle.graphql_core.specs.{Done, Fault as Stopped, Takes, takes_node, Reason, Unexpected, Improper, Refused, Fails, fails_node, IsRefused, Answers}
+use Rattle.graphql_core.specs.{asked_once, fault_at, items_of_text, spending, tokens_then, LastIsError, Items, Last, LastIsEnd, IsEnd, IsAtEnd, FaultText, kept}
+use Rattle.graphql_core.specs.{place_next, split, here, IsFaultFor, IsNextFault, Refusal, at, no_memory, max_length, Token, Class, AnyOf, Sym, ParseTree, Node}
+use Rattle.graphql_core.specs.{leaves, written, change_at, StopsFor, CauseText, HasItems, start, items, reason_of, reading, document_rule, Language, IsDocument}
+use Rattle.graphql_core.specs.{IsDocumentOf, IsUnambiguous, AreUnambiguous, ending_of, numbered, Says, IsLeastFault, IsRefusalFor, IsRefusalOf, ran_out, faulty}
+use Rattle.graphql_core.specs.{Spent}
 use Rattle.graphql_core.proofs.first_errors.{node_refused_for}
-use Rattle.graphql_core.specs.declared.helpers.read_error.ReadError.TheVariants.{Item, Memory, Integer, Float}
-use Rattle.graphql_core.specs.declared.helpers.read_error.ReadError.TheVariants.{Escape, Location}
+use Rattle.graphql_core.specs.declared.helpers.read_error.ReadError.TheVariants.{Item, Memory, Integer, Float, Escape, Location}
 use Rattle.graphql_core.proofs.lexical.{has_items, items_unique}
 use Rattle.graphql_core.proofs.documents.Refusals.{by_fault, tells_weaker}
 use Rattle.std.specs.Result.{IsErrAnd}
 use Rattle.graphql_core.specs.declared.helpers.read_error.ReadError.{ReadError}
-use Rattle.graphql_core.proofs.documents.Readable.{IsReadable, exact, exact_lax, whole_texts, least, exact_reading}
-use Rattle.graphql_core.proofs.documents.Readable.{whole_reading}
-use Rattle.graphql_core.proofs.documents.Faults.{ends, Lacks, Misses, no_integer, no_float, no_string}
-use Rattle.graphql_core.proofs.documents.Faults.{unexpected_here, no_value_here}
+use Rattle.graphql_core.proofs.documents.Readable.{IsReadable, exact, exact_lax, whole_texts, least, exact_reading, whole_reading}
+use Rattle.graphql_core.proofs.documents.Faults.{ends, Lacks, Misses, no_integer, no_float, no_string, unexpected_here, no_value_here}
 use Rattle.graphql_core.specs.grammar.Texts as texts
+use Rattle.graphql_core.specs.theory.WholeTexts as results
 use Rattle.graphql_core.specs.lexical.Items as items_of
 
 ended : (l : Last) → ending_of l ≡ texts.InputEnds → IsEnd l
@@ -54,7 +50,7 @@ last_kept i j h = ap (λ (k : Last × Spent). k.0) h
 module _ {D : Type 0} (l : Language D) (r : IsReadable l) where
   -- the result for i is an error at its item where j is left
   abbrev IsWrong : Reason → Items → Items → Type 0
-  IsWrong why i j = Answers (reading l) (Sym l.document) (numbered i) (texts.Rejected why (length i.tokens - length j.tokens))
+  IsWrong why i j = Answers (reading l) (Sym l.document) (numbered i) (results.Rejected why (length i.tokens - length j.tokens))
 
   -- a whole document that is taken passes its check
   node_taken : {ts us : List Token} {x : ParseTree} → Takes (reading l) (document_rule l) ts x us → Takes (reading l) (Sym l.document) ts (Node l.document x) us
@@ -73,9 +69,9 @@ module _ {D : Type 0} (l : Language D) (r : IsReadable l) where
   at_rest i [] (LastIsError p b) x h e other = (Done (Node l.document x) [], node_taken h, bad (ending_of i.last) (ap ending_of e))
     where
       bad : (en : texts.Ending) → texts.InvalidToken ≡ en
-          → texts.Rejected Unexpected (length i.tokens - 0) ≡ texts.answer_of (record { tokens = i.tokens; ending = en }) (Done (Node l.document x) [])
+          → results.Rejected Unexpected (length i.tokens - 0) ≡ results.answer_of (record { tokens = i.tokens; ending = en }) (Done (Node l.document x) [])
       bad texts.InputEnds k = absurd cc
-      bad texts.InvalidToken k = ap (λ (n : ℕ). texts.Rejected Unexpected n) (omega arith)
+      bad texts.InvalidToken k = ap (λ (n : ℕ). results.Rejected Unexpected n) (omega arith)
 
   -- ---- the error there
 
@@ -97,9 +93,9 @@ module _ {D : Type 0} (l : Language D) (r : IsReadable l) where
   none_wrong : (why : Reason) (i j : Items) (d : D) → IsWrong why i j → IsDocument l i d → ⊥
   none_wrong why i j d a (x, derived, at_end, means) =
       let c = (whole_texts l r).complete (numbered i) x derived (ends i.last at_end) in
-      not_both c.0 ((whole_reading l r).one (numbered i) (texts.Tree c.0) (texts.Rejected why (length i.tokens - length j.tokens)) c.1 a)
+      not_both c.0 ((whole_reading l r).one (numbered i) (results.Tree c.0) (results.Rejected why (length i.tokens - length j.tokens)) c.1 a)
     where
-      not_both : (y : ParseTree) → texts.Tree y ≡ texts.Rejected why (length i.tokens - length j.tokens) → ⊥
+      not_both : (y : ParseTree) → results.Tree y ≡ results.Rejected why (length i.tokens - length j.tokens) → ⊥
       not_both y h = cc
 
   -- ---- what a reader's exits state
@@ -192,7 +188,7 @@ module _ {D : Type 0} (l : Language D) (r : IsReadable l) where
       (written l.changes (Node l.document x), s.0, ended i.last s.1, means)
     where
       answer : (en : texts.Ending) → texts.InputEnds ≡ en
-          → texts.Tree (Node l.document x) ≡ texts.answer_of (record { tokens = i.tokens; ending = en }) (Done (Node l.document x) [])
+          → results.Tree (Node l.document x) ≡ results.answer_of (record { tokens = i.tokens; ending = en }) (Done (Node l.document x) [])
       answer texts.InputEnds k = refl
       answer texts.InvalidToken k = absurd cc
 

@@ -2,20 +2,15 @@
 use Rattle.std.proofs.Common.{◌≡◌, ℕ, suc, ◌+◌, ◌-◌, ◌<◌, ◌≤◌, true, false, List, [], ◌∷◌, ◌++◌, length, Some, refl, sym, ap, subst, ◌∙◌, append_assoc}
 use Rattle.std.proofs.Common.{append-nil, length-append, arith, inl, inr, ◌⊎◌}
 use Rattle.std.proofs.lemmas.Bool.{and_parts, or_left}
-use Rattle.graphql_core.specs.{Token, Class, matches, Expr, One, Then, Either, Many, Sym, ParseTree, Node, Grammar, row}
-use Rattle.graphql_core.specs.{leaves, peek, Fits, fits_node, Begins, Ends, first, decides, is_ll1, is_tight}
-use Rattle.graphql_core.specs.{has_samples, is_productive, sees, Takes, Reason, Unexpected, Improper, Refused, Fails}
-use Rattle.graphql_core.specs.{fails_one, fails_value, fails_before, fails_after, fails_first, fails_second}
-use Rattle.graphql_core.specs.{fails_neither, fails_turn, fails_later, fails_node, fails_check, Outcome, Done, Fault}
-use Rattle.graphql_core.specs.{ReadsTo, unchecked, lax, IsFirstStop, leads_here, leads_before, leads_after}
-use Rattle.graphql_core.specs.{leads_first, leads_second, leads_turn, leads_later, leads_node, Leads, Text, Ending}
-use Rattle.graphql_core.specs.{InputEnds, InvalidToken, Answer, Tree, Rejected, answer_of, StopsBefore, IsFault}
-use Rattle.graphql_core.specs.{bad_place, unexpected_item, leaf_refused, node_refused, IsLeast, index_of}
-use Rattle.graphql_core.specs.{AnswersLeast, IsRefused, RefusesTokens}
-use Rattle.graphql_core.proofs.grammar.{Fronts, fronts, cancel, takes-fits, takes-leaves, IsRow-each, fits-first}
-use Rattle.graphql_core.proofs.grammar.{take-or_fail, same-fail, answer, samples-at, tree-of, begins-around}
-use Rattle.graphql_core.proofs.grammar.{fits-lax, takes-lax, taken-ends, first_fault, step, run-takes, run-fails}
-use Rattle.graphql_core.proofs.grammar.{stops}
+use Rattle.graphql_core.specs.{Token, Class, matches, Expr, One, Then, Either, Many, Sym, ParseTree, Node, Grammar, row, leaves, peek, Fits, fits_node, Begins}
+use Rattle.graphql_core.specs.{Ends, first, decides, is_ll1, is_tight, has_samples, is_productive, sees, Takes, Reason, Unexpected, Improper, Refused, Fails}
+use Rattle.graphql_core.specs.{fails_one, fails_value, fails_before, fails_after, fails_first, fails_second, fails_neither, fails_turn, fails_later, fails_node}
+use Rattle.graphql_core.specs.{fails_check, Outcome, Done, Fault, ReadsTo, unchecked, lax, IsFirstStop, leads_here, leads_before, leads_after, leads_first}
+use Rattle.graphql_core.specs.{leads_second, leads_turn, leads_later, leads_node, Leads, Text, Ending, InputEnds, InvalidToken, Answer, Tree, Rejected}
+use Rattle.graphql_core.specs.{answer_of, StopsBefore, IsFault, bad_place, unexpected_item, leaf_refused, node_refused, IsLeast, index_of, AnswersLeast}
+use Rattle.graphql_core.specs.{IsRefused, RefusesTokens}
+use Rattle.graphql_core.proofs.grammar.{Fronts, fronts, cancel, takes-fits, takes-leaves, IsRow-each, fits-first, take-or_fail, same-fail, answer, samples-at}
+use Rattle.graphql_core.proofs.grammar.{tree-of, begins-around, fits-lax, takes-lax, taken-ends, first_fault, step, run-takes, run-fails, stops}
 
 -- ---- where an error is
 

@@ -1,13 +1,10 @@
 -- The errors of an input by a written grammar are those by its second rules.
 use Rattle.std.proofs.Common.{◌≡◌, ℕ, true, false, List, [], ◌∷◌, ◌++◌, length, Option, refl, sym, ap, subst, ◌∙◌}
-use Rattle.graphql_core.specs.{Token, Expr, Then, Many, Sym, ParseTree, Node, Row, Grammar, row_at, row, leaves, peek}
-use Rattle.graphql_core.specs.{Fits, Begins, Ends, decides, is_ll1, is_tight, has_samples, is_productive, Reason}
-use Rattle.graphql_core.specs.{Refused, lax, Change, change_at, written, with_rows, EachIsSecond, leads_here}
-use Rattle.graphql_core.specs.{leads_before, leads_after, leads_first, leads_second, leads_turn, leads_later}
-use Rattle.graphql_core.specs.{leads_node, IsTested, Leads, Text, IsFault, bad_place, unexpected_item, leaf_refused}
-use Rattle.graphql_core.specs.{node_refused, IsRefused, AnswersLeast, RefusesTokens}
-use Rattle.graphql_core.proofs.rules.{seconds, written-fits, written-leaves, seconds-fits, written-seconds}
-use Rattle.graphql_core.proofs.rules.{to-second, begins-written, ends-written}
+use Rattle.graphql_core.specs.{Token, Expr, Then, Many, Sym, ParseTree, Node, Row, Grammar, row_at, row, leaves, peek, Fits, Begins, Ends, decides, is_ll1}
+use Rattle.graphql_core.specs.{is_tight, has_samples, is_productive, Reason, Refused, lax, Change, change_at, written, with_rows, EachIsSecond, leads_here}
+use Rattle.graphql_core.specs.{leads_before, leads_after, leads_first, leads_second, leads_turn, leads_later, leads_node, IsTested, Leads, Text, IsFault}
+use Rattle.graphql_core.specs.{bad_place, unexpected_item, leaf_refused, node_refused, IsRefused, AnswersLeast, RefusesTokens}
+use Rattle.graphql_core.proofs.rules.{seconds, written-fits, written-leaves, seconds-fits, written-seconds, to-second, begins-written, ends-written}
 use Rattle.graphql_core.proofs.first_errors.OneIndex.{grammar_least, one_node}
 
 -- what is in a node

@@ -2,20 +2,15 @@
 use Rattle.std.proofs.Common.{◌≡◌, ℕ, suc, ◌+◌, ◌<◌, ◌≤◌, true, false, List, [], ◌∷◌, ◌++◌, length, refl, sym, ap, subst, ◌∙◌, append_assoc, append-nil}
 use Rattle.std.proofs.Common.{length-append, arith, inl, inr, ◌⊎◌}
 use Rattle.std.proofs.lemmas.Bool.{both_ways, and_from}
-use Rattle.graphql_core.specs.{Token, Class, matches, Expr, One, Then, Either, Many, Sym, ParseTree, Both, First, Second}
-use Rattle.graphql_core.specs.{Stop, More, Node, Grammar, row, leaves, peek, Fits, fits_leaf, fits_both, fits_first}
-use Rattle.graphql_core.specs.{fits_second, fits_stop, fits_more, fits_node, Begins, Ends, first, cont, decides}
-use Rattle.graphql_core.specs.{is_ll1, is_tight, has_samples, is_productive, sees, Left, Right, Takes, takes_leaf}
-use Rattle.graphql_core.specs.{Reason, Improper, Refused, fails_value, takes_both, takes_first, takes_second}
-use Rattle.graphql_core.specs.{takes_stop, takes_more, takes_node, lax, leads_here, leads_before, leads_after}
-use Rattle.graphql_core.specs.{leads_first, leads_second, leads_turn, leads_later, leads_node, Leads, Text}
-use Rattle.graphql_core.specs.{StopsBefore, IsFault, IsRefused, bad_place, unexpected_item, leaf_refused}
-use Rattle.graphql_core.specs.{node_refused, AnswersLeast, RefusesTokens}
-use Rattle.graphql_core.proofs.grammar.{begins-around, begins-after, fits-lax, takes-lax, sees-apart, takes-leaves}
-use Rattle.graphql_core.proofs.grammar.{IsRow-each, complete, both, either, many, same-take, take-or_fail, goes-left}
-use Rattle.graphql_core.proofs.grammar.{goes-right, leads-first, same_rest, run-takes}
-use Rattle.graphql_core.proofs.first_errors.Faulted.{sees_leaf, sees_node, positive, node_takes, node_fails}
-use Rattle.graphql_core.proofs.first_errors.Faulted.{no_earlier, answers_least}
+use Rattle.graphql_core.specs.{Token, Class, matches, Expr, One, Then, Either, Many, Sym, ParseTree, Both, First, Second, Stop, More, Node, Grammar, row}
+use Rattle.graphql_core.specs.{leaves, peek, Fits, fits_leaf, fits_both, fits_first, fits_second, fits_stop, fits_more, fits_node, Begins, Ends, first, cont}
+use Rattle.graphql_core.specs.{decides, is_ll1, is_tight, has_samples, is_productive, sees, Left, Right, Takes, takes_leaf, Reason, Improper, Refused}
+use Rattle.graphql_core.specs.{fails_value, takes_both, takes_first, takes_second, takes_stop, takes_more, takes_node, lax, leads_here, leads_before}
+use Rattle.graphql_core.specs.{leads_after, leads_first, leads_second, leads_turn, leads_later, leads_node, Leads, Text, StopsBefore, IsFault, IsRefused}
+use Rattle.graphql_core.specs.{bad_place, unexpected_item, leaf_refused, node_refused, AnswersLeast, RefusesTokens}
+use Rattle.graphql_core.proofs.grammar.{begins-around, begins-after, fits-lax, takes-lax, sees-apart, takes-leaves, IsRow-each, complete, both, either, many}
+use Rattle.graphql_core.proofs.grammar.{same-take, take-or_fail, goes-left, goes-right, leads-first, same_rest, run-takes}
+use Rattle.graphql_core.proofs.first_errors.Faulted.{sees_leaf, sees_node, positive, node_takes, node_fails, no_earlier, answers_least}
 
 left_right : Left ≡ Right → ⊥
 left_right i = cc

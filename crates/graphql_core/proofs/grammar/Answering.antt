@@ -1,12 +1,10 @@
 -- The reader's outcome, one step at a time, and by computing.
 use Rattle.std.proofs.Common.{◌≡◌, ℕ, zero, suc, Bool, true, false, ◌&&◌, ◌||◌, List, [], ◌∷◌, Option, Some, None, refl, ap, ap₂}
-use Rattle.graphql_core.specs.{Choice, Neither, Outcome, Done, Fault, ReadsTo, fails_first, fails_second}
-use Rattle.graphql_core.specs.{fails_neither, fails_turn, fails_later, sees, choose, Left, Right, Takes}
-use Rattle.graphql_core.specs.{takes_nothing, takes_leaf, takes_both, takes_first, takes_second, takes_stop}
-use Rattle.graphql_core.specs.{takes_more, takes_node, Unexpected, Improper, Refused, fails_one, fails_value}
-use Rattle.graphql_core.specs.{fails_before, fails_after, fails_node, fails_check, Grammar, Expr, Empty, One, Then}
-use Rattle.graphql_core.specs.{Either, Many, Sym, ParseTree, Nothing, Leaf, Both, First, Second, Stop, More, Node, row}
-use Rattle.graphql_core.specs.{peek, Token, Class, matches, first}
+use Rattle.graphql_core.specs.{Choice, Neither, Outcome, Done, Fault, ReadsTo, fails_first, fails_second, fails_neither, fails_turn, fails_later, sees, choose}
+use Rattle.graphql_core.specs.{Left, Right, Takes, takes_nothing, takes_leaf, takes_both, takes_first, takes_second, takes_stop, takes_more, takes_node}
+use Rattle.graphql_core.specs.{Unexpected, Improper, Refused, fails_one, fails_value, fails_before, fails_after, fails_node, fails_check, Grammar, Expr, Empty}
+use Rattle.graphql_core.specs.{One, Then, Either, Many, Sym, ParseTree, Nothing, Leaf, Both, First, Second, Stop, More, Node, row, peek, Token, Class, matches}
+use Rattle.graphql_core.specs.{first}
 
 -- an outcome, with the proof that it is the reader's
 abbrev pub ReaderAnswer : Grammar → Expr → List Token → Type 0

@@ -1,9 +1,8 @@
 -- The tests on classes of tokens are correct.
 use Rattle.std.proofs.Common.{◌≡◌, ℕ, Bool, true, false, not, eqb, List, [], ◌∷◌, ◌++◌, refl, sym, ap₂, ◌∙◌, inl, inr}
 use Rattle.std.proofs.lemmas.Bool.{eqb-true, eq-eqb, and_parts, and_from, or_cases, or_left, or_right}
-use Rattle.graphql_core.specs.{Token, Class, Spelled, AnyOf, Except, same_spelling, class_kind, takes_spelling}
-use Rattle.graphql_core.specs.{matches, spellings_apart, apart, same_spellings, spellings_within, within, in_any}
-use Rattle.graphql_core.specs.{apart_from, all_apart, within_any, all_within}
+use Rattle.graphql_core.specs.{Token, Class, Spelled, AnyOf, Except, same_spelling, class_kind, takes_spelling, matches, spellings_apart, apart, same_spellings}
+use Rattle.graphql_core.specs.{spellings_within, within, in_any, apart_from, all_apart, within_any, all_within}
 
 pub same_spelling-true : (xs ys : List ℕ) → same_spelling xs ys ≡ true → xs ≡ ys
 same_spelling-true [] [] h = refl

@@ -2,15 +2,12 @@
 use Rattle.std.proofs.Common.{◌≡◌, ℕ, zero, suc, Bool, true, false, not, ◌&&◌, ◌||◌, List, [], ◌∷◌, ◌++◌, Option, Some, refl, sym, ap, subst, append_assoc}
 use Rattle.std.proofs.Common.{inl, inr}
 use Rattle.std.proofs.lemmas.Bool.{and_parts, and_from, or_left, or_right, cases_Bool, not-true, both_ways}
-use Rattle.graphql_core.specs.{Token, Class, matches, in_any, all_apart, all_within, Expr, Then, Either, Many, ParseTree}
-use Rattle.graphql_core.specs.{Both, More, Row, Grammar, no_row, row_at, row, leaves, peek, Fits, fits_nothing}
-use Rattle.graphql_core.specs.{fits_leaf, fits_both, fits_first, fits_second, fits_stop, fits_more, fits_node}
-use Rattle.graphql_core.specs.{only_if, nullable, first, cont, decides, ranked, is_row, are_rows, is_ll1, sees}
-use Rattle.graphql_core.specs.{choose, Left, Right, Takes, takes_nothing, takes_leaf, takes_both, takes_first}
-use Rattle.graphql_core.specs.{takes_second, takes_stop, takes_more, takes_node}
+use Rattle.graphql_core.specs.{Token, Class, matches, in_any, all_apart, all_within, Expr, Then, Either, Many, ParseTree, Both, More, Row, Grammar, no_row}
+use Rattle.graphql_core.specs.{row_at, row, leaves, peek, Fits, fits_nothing, fits_leaf, fits_both, fits_first, fits_second, fits_stop, fits_more, fits_node}
+use Rattle.graphql_core.specs.{only_if, nullable, first, cont, decides, ranked, is_row, are_rows, is_ll1, sees, choose, Left, Right, Takes, takes_nothing}
+use Rattle.graphql_core.specs.{takes_leaf, takes_both, takes_first, takes_second, takes_stop, takes_more, takes_node}
 use Rattle.graphql_core.proofs.grammar.Classes.{all_within-sound, in_any-left, in_any-right}
-use Rattle.graphql_core.proofs.grammar.Items.{peek-append, append-empty, sees-parts, sees-only, sees-within}
-use Rattle.graphql_core.proofs.grammar.Items.{sees-apart}
+use Rattle.graphql_core.proofs.grammar.Items.{peek-append, append-empty, sees-parts, sees-only, sees-within, sees-apart}
 
 -- what the test states about one row
 pub record IsRow (rs : List Row) (r : Row) : Type 0 where

@@ -1,11 +1,10 @@
 -- The reader has one outcome.
 use Rattle.std.proofs.Common.{◌≡◌, true, false, ◌&&◌, List, [], ◌∷◌, refl, sym, ap, ap₂, subst}
 use Rattle.std.proofs.lemmas.Bool.{and_parts, both_ways, or_left}
-use Rattle.graphql_core.specs.{Token, Class, matches, in_any, Expr, Many, ParseTree, Both, First, Second, More, Node}
-use Rattle.graphql_core.specs.{Grammar, Choice, Left, Right, Neither, Takes, takes_nothing, takes_leaf, takes_both}
-use Rattle.graphql_core.specs.{takes_first, takes_second, takes_stop, takes_more, takes_node, Reason, Fails}
-use Rattle.graphql_core.specs.{fails_one, fails_value, fails_before, fails_after, fails_first, fails_second}
-use Rattle.graphql_core.specs.{fails_neither, fails_turn, fails_later, fails_node, fails_check}
+use Rattle.graphql_core.specs.{Token, Class, matches, in_any, Expr, Many, ParseTree, Both, First, Second, More, Node, Grammar, Choice, Left, Right, Neither}
+use Rattle.graphql_core.specs.{Takes, takes_nothing, takes_leaf, takes_both, takes_first, takes_second, takes_stop, takes_more, takes_node, Reason, Fails}
+use Rattle.graphql_core.specs.{fails_one, fails_value, fails_before, fails_after, fails_first, fails_second, fails_neither, fails_turn, fails_later, fails_node}
+use Rattle.graphql_core.specs.{fails_check}
 
 left_right : {c : Choice} → c ≡ Left → c ≡ Right → ⊥
 left_right h k = cc

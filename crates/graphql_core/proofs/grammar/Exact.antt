@@ -1,8 +1,7 @@
 -- The reader takes exactly what the grammar derives.
 use Rattle.std.proofs.Common.{◌≡◌, true, false, List, [], ◌++◌, refl, sym, ap, ap₂, subst, ◌∙◌}
-use Rattle.graphql_core.specs.{Token, Expr, ParseTree, Grammar, leaves, peek, Derives, cont, decides, is_ll1}
-use Rattle.graphql_core.specs.{has_samples, is_productive, sees, Takes, Reason, Unexpected, Fails, Outcome, Done}
-use Rattle.graphql_core.specs.{Fault, ReadsTo, lax, IsFirstStop, IsExact}
+use Rattle.graphql_core.specs.{Token, Expr, ParseTree, Grammar, leaves, peek, Derives, cont, decides, is_ll1, has_samples, is_productive, sees, Takes, Reason}
+use Rattle.graphql_core.specs.{Unexpected, Fails, Outcome, Done, Fault, ReadsTo, lax, IsFirstStop, IsExact}
 use Rattle.graphql_core.proofs.grammar.Sound.{takes-fits, takes-leaves}
 use Rattle.graphql_core.proofs.grammar.Complete.{complete}
 use Rattle.graphql_core.proofs.grammar.Deterministic.{same-take, take-or_fail, same-fail}

@@ -2,15 +2,12 @@
 use Rattle.std.proofs.Common.{◌≡◌, ℕ, zero, suc, Bool, true, false, ◌&&◌, eqb, List, [], ◌∷◌, ◌++◌, Some, refl, sym, ap, subst, ◌∙◌, append_assoc}
 use Rattle.std.proofs.Common.{append-nil, inl, inr}
 use Rattle.std.proofs.lemmas.Bool.{and_parts, and_from, or_cases, eqb-true}
-use Rattle.graphql_core.specs.{Token, Class, matches, Expr, Empty, One, Then, Either, Many, Sym, ParseTree, Nothing}
-use Rattle.graphql_core.specs.{Leaf, Both, First, Second, Stop, More, Node, Row, Grammar, row_at, row, accepts}
-use Rattle.graphql_core.specs.{leaves, peek, Derives, Begins, Ends, Fits, fits_nothing, fits_leaf, fits_both}
-use Rattle.graphql_core.specs.{fits_first, fits_second, fits_stop, fits_more, fits_node, first, decides, is_ll1}
-use Rattle.graphql_core.specs.{sample_in, has_samples, has_tree, are_full, is_productive, sees, choose, Takes}
-use Rattle.graphql_core.specs.{takes_nothing, takes_leaf, takes_both, takes_first, takes_second, takes_stop}
-use Rattle.graphql_core.specs.{takes_more, takes_node, Reason, Unexpected, Improper, Refused, Fails, fails_one}
-use Rattle.graphql_core.specs.{fails_value, fails_before, fails_after, fails_first, fails_second, fails_neither}
-use Rattle.graphql_core.specs.{fails_turn, fails_later, fails_node, fails_check, with_tests, unchecked, lax, IsValue}
+use Rattle.graphql_core.specs.{Token, Class, matches, Expr, Empty, One, Then, Either, Many, Sym, ParseTree, Nothing, Leaf, Both, First, Second, Stop, More}
+use Rattle.graphql_core.specs.{Node, Row, Grammar, row_at, row, accepts, leaves, peek, Derives, Begins, Ends, Fits, fits_nothing, fits_leaf, fits_both}
+use Rattle.graphql_core.specs.{fits_first, fits_second, fits_stop, fits_more, fits_node, first, decides, is_ll1, sample_in, has_samples, has_tree, are_full}
+use Rattle.graphql_core.specs.{is_productive, sees, choose, Takes, takes_nothing, takes_leaf, takes_both, takes_first, takes_second, takes_stop, takes_more}
+use Rattle.graphql_core.specs.{takes_node, Reason, Unexpected, Improper, Refused, Fails, fails_one, fails_value, fails_before, fails_after, fails_first}
+use Rattle.graphql_core.specs.{fails_second, fails_neither, fails_turn, fails_later, fails_node, fails_check, with_tests, unchecked, lax, IsValue}
 use Rattle.graphql_core.specs.{IsRefusedBefore}
 use Rattle.graphql_core.proofs.grammar.Sound.{takes-fits, takes-leaves, takes-local, same_item}
 use Rattle.graphql_core.proofs.grammar.Complete.{complete}

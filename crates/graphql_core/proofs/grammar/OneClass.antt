@@ -1,9 +1,8 @@
 -- The class of a token in a tree depends only on the token and on the tokens before it.
 use Rattle.std.proofs.Common.{◌≡◌, suc, true, List, [], ◌∷◌, ◌++◌, length, Some, refl, sym, ap, ap₂, subst, ◌∙◌, append_assoc, length-append, inl, inr, ◌⊎◌}
 use Rattle.std.proofs.Common.{arith}
-use Rattle.graphql_core.specs.{Token, Class, Expr, Many, ParseTree, Grammar, leaves, peek, Fits, fits_nothing, fits_leaf}
-use Rattle.graphql_core.specs.{fits_both, fits_first, fits_second, fits_stop, fits_more, fits_node, decides, is_ll1}
-use Rattle.graphql_core.specs.{choose, Choice, Left, Right, Takes, takes_nothing, takes_leaf, takes_both}
+use Rattle.graphql_core.specs.{Token, Class, Expr, Many, ParseTree, Grammar, leaves, peek, Fits, fits_nothing, fits_leaf, fits_both, fits_first, fits_second}
+use Rattle.graphql_core.specs.{fits_stop, fits_more, fits_node, decides, is_ll1, choose, Choice, Left, Right, Takes, takes_nothing, takes_leaf, takes_both}
 use Rattle.graphql_core.specs.{takes_first, takes_second, takes_stop, takes_more, takes_node, classes, ReadsAlike}
 use Rattle.graphql_core.proofs.grammar.Sound.{takes-fits, takes-leaves, takes-local}
 use Rattle.graphql_core.proofs.grammar.Deterministic.{same-take}

@@ -1,9 +1,8 @@
 -- What is read is derived. Reading looks only at the next item after it.
 use Rattle.std.proofs.Common.{◌≡◌, List, ◌++◌, refl, sym, ap, subst, ◌∙◌, append_assoc}
-use Rattle.graphql_core.specs.{Token, Expr, Then, Many, ParseTree, Both, More, Grammar, leaves, peek, Fits, fits_nothing}
-use Rattle.graphql_core.specs.{fits_leaf, fits_both, fits_first, fits_second, fits_stop, fits_more, fits_node, first}
-use Rattle.graphql_core.specs.{sees, choose, Takes, takes_nothing, takes_leaf, takes_both, takes_first, takes_second}
-use Rattle.graphql_core.specs.{takes_stop, takes_more, takes_node}
+use Rattle.graphql_core.specs.{Token, Expr, Then, Many, ParseTree, Both, More, Grammar, leaves, peek, Fits, fits_nothing, fits_leaf, fits_both, fits_first}
+use Rattle.graphql_core.specs.{fits_second, fits_stop, fits_more, fits_node, first, sees, choose, Takes, takes_nothing, takes_leaf, takes_both, takes_first}
+use Rattle.graphql_core.specs.{takes_second, takes_stop, takes_more, takes_node}
 use Rattle.graphql_core.proofs.grammar.Items.{peek-seam}
 
 pub takes-fits : (g : Grammar) {e : Expr} {ts : List Token} {x : ParseTree} {us : List Token} → Takes g e ts x us → Fits g e x

@@ -1,12 +1,10 @@
 -- What is derived is read, if no list extends it with the next item.
 use Rattle.std.proofs.Common.{◌≡◌, true, false, not, ◌&&◌, List, [], ◌∷◌, ◌++◌, Some, refl, sym, ap, subst, ◌∙◌, append_assoc, append-nil, inl, inr}
 use Rattle.std.proofs.lemmas.Bool.{and_parts, both_ways, not-true, cases_Bool, false_from_ne_true}
-use Rattle.graphql_core.specs.{Token, in_any, all_apart, Expr, Then, Either, Many, Sym, ParseTree, Both, First, Second}
-use Rattle.graphql_core.specs.{Stop, More, Node, Grammar, row, leaves, peek, Fits, fits_nothing, fits_leaf}
-use Rattle.graphql_core.specs.{fits_both, fits_first, fits_second, fits_stop, fits_more, fits_node, Begins, nullable}
-use Rattle.graphql_core.specs.{first, cont, decides, is_ll1, is_tight, has_samples, is_productive, sees, choose}
-use Rattle.graphql_core.specs.{Left, Right, Takes, takes_nothing, takes_leaf, takes_both, takes_first, takes_second}
-use Rattle.graphql_core.specs.{takes_stop, takes_more, takes_node, lax, StopsBefore}
+use Rattle.graphql_core.specs.{Token, in_any, all_apart, Expr, Then, Either, Many, Sym, ParseTree, Both, First, Second, Stop, More, Node, Grammar, row, leaves}
+use Rattle.graphql_core.specs.{peek, Fits, fits_nothing, fits_leaf, fits_both, fits_first, fits_second, fits_stop, fits_more, fits_node, Begins, nullable}
+use Rattle.graphql_core.specs.{first, cont, decides, is_ll1, is_tight, has_samples, is_productive, sees, choose, Left, Right, Takes, takes_nothing, takes_leaf}
+use Rattle.graphql_core.specs.{takes_both, takes_first, takes_second, takes_stop, takes_more, takes_node, lax, StopsBefore}
 use Rattle.graphql_core.proofs.grammar.Items.{sees-apart}
 use Rattle.graphql_core.proofs.grammar.Complete.{IsRow-each, fits-nullable, fits-first, complete, both, either, many}
 use Rattle.graphql_core.proofs.grammar.FirstFault.{samples-at, begins-around, begins-after, fits-lax}

@@ -2,11 +2,10 @@
 use Rattle.std.proofs.Common.{◌≡◌, ℕ, zero, suc, ◌<◌, Bool, true, false, not, ◌&&◌, ◌||◌, List, [], ◌∷◌, ◌++◌, refl, sym, ap, ◌∙◌, append-nil, arith, inl}
 use Rattle.std.proofs.Common.{inr, ◌⊎◌}
 use Rattle.std.proofs.lemmas.Bool.{and_parts, and_from, or_cases, or_left, or_right, ltb-true}
-use Rattle.graphql_core.specs.{Token, Class, matches, in_any, all_within, Expr, Empty, One, Then, Either, Many, Sym}
-use Rattle.graphql_core.specs.{ParseTree, Nothing, Leaf, Both, First, Second, Stop, More, Node, Row, Grammar, row_at}
-use Rattle.graphql_core.specs.{row, leaves, Fits, fits_nothing, fits_leaf, fits_both, fits_first, fits_second}
-use Rattle.graphql_core.specs.{fits_stop, fits_more, fits_node, Begins, only_if, nullable, first, ranked, is_ll1}
-use Rattle.graphql_core.specs.{are_tight, is_tight, has_samples, is_productive, lax}
+use Rattle.graphql_core.specs.{Token, Class, matches, in_any, all_within, Expr, Empty, One, Then, Either, Many, Sym, ParseTree, Nothing, Leaf, Both, First}
+use Rattle.graphql_core.specs.{Second, Stop, More, Node, Row, Grammar, row_at, row, leaves, Fits, fits_nothing, fits_leaf, fits_both, fits_first, fits_second}
+use Rattle.graphql_core.specs.{fits_stop, fits_more, fits_node, Begins, only_if, nullable, first, ranked, is_ll1, are_tight, is_tight, has_samples}
+use Rattle.graphql_core.specs.{is_productive, lax}
 use Rattle.graphql_core.proofs.grammar.Classes.{all_within-sound}
 use Rattle.graphql_core.proofs.grammar.Complete.{IsRow-each, implied}
 use Rattle.graphql_core.proofs.grammar.Total.{ranked-more, highest, ranked-highest}

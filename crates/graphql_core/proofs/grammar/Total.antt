@@ -1,14 +1,12 @@
 -- Reading always ends.
 use Rattle.std.proofs.Common.{◌≡◌, ℕ, zero, suc, ◌<◌, ◌≤◌, max, true, not, ◌||◌, List, [], ◌∷◌, ◌++◌, length, refl, ap, ◌∙◌, arith, length-append, inl, inr}
 use Rattle.std.proofs.lemmas.Bool.{and_parts, or_cases, or_left, or_right, and_from, both_ways, not-true, lt-ltb, ltb-true, cases_Bool}
-use Rattle.graphql_core.specs.{Token, Expr, Empty, One, Then, Either, Many, Sym, ParseTree, Nothing, Stop, Row, Grammar}
-use Rattle.graphql_core.specs.{row_at, row, leaves, peek, nullable, first, decides, ranked, is_ll1, sees, choose}
-use Rattle.graphql_core.specs.{Choice, Left, Right, Neither, Takes, takes_nothing, takes_stop, Unexpected}
+use Rattle.graphql_core.specs.{Token, Expr, Empty, One, Then, Either, Many, Sym, ParseTree, Nothing, Stop, Row, Grammar, row_at, row, leaves, peek, nullable}
+use Rattle.graphql_core.specs.{first, decides, ranked, is_ll1, sees, choose, Choice, Left, Right, Neither, Takes, takes_nothing, takes_stop, Unexpected}
 use Rattle.graphql_core.specs.{fails_before, fails_neither, fails_turn, Done, Fault}
 use Rattle.graphql_core.proofs.grammar.Sound.{takes-fits, takes-leaves}
 use Rattle.graphql_core.proofs.grammar.Complete.{IsRow-each, fits-nullable, both, either, many}
-use Rattle.graphql_core.proofs.grammar.Answering.{ReaderAnswer, leaf_answer, then_taken, turn_taken, first_answer}
-use Rattle.graphql_core.proofs.grammar.Answering.{second_answer, node_answer}
+use Rattle.graphql_core.proofs.grammar.Answering.{ReaderAnswer, leaf_answer, then_taken, turn_taken, first_answer, second_answer, node_answer}
 
 -- ---- ranks
 

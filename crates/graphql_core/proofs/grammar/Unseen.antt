@@ -1,9 +1,8 @@
 -- If the next item begins no list of an expression, the expression fails there.
 use Rattle.std.proofs.Common.{◌≡◌, true, false, List, [], ◌∷◌, ◌++◌, refl, sym, ap, subst, ◌∙◌}
 use Rattle.std.proofs.lemmas.Bool.{false≢true}
-use Rattle.graphql_core.specs.{Token, in_any, Expr, ParseTree, Grammar, leaves, peek, Begins, nullable, first}
-use Rattle.graphql_core.specs.{decides, is_ll1, has_samples, is_productive, sees, Takes, Reason, Unexpected}
-use Rattle.graphql_core.specs.{Improper, Refused, Fails, Outcome, Done, Fault, ReadsTo, unchecked, lax, IsFirstStop}
+use Rattle.graphql_core.specs.{Token, in_any, Expr, ParseTree, Grammar, leaves, peek, Begins, nullable, first, decides, is_ll1, has_samples, is_productive}
+use Rattle.graphql_core.specs.{sees, Takes, Reason, Unexpected, Improper, Refused, Fails, Outcome, Done, Fault, ReadsTo, unchecked, lax, IsFirstStop}
 use Rattle.graphql_core.specs.{RefusesTokens}
 use Rattle.graphql_core.proofs.grammar.Items.{append-empty}
 use Rattle.graphql_core.proofs.grammar.Sound.{takes-fits, takes-leaves}

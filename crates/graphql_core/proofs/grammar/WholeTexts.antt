@@ -2,9 +2,8 @@
 use Rattle.std.proofs.Common.{◌≡◌, ℕ, ◌+◌, ◌-◌, List, [], ◌∷◌, ◌++◌, length, take, drop, Option, Some, refl, sym, ap, subst, ◌∙◌, arith, append-nil}
 use Rattle.std.proofs.Common.{length-append}
 use Rattle.std.proofs.lemmas.List.{take_at, drop_at}
-use Rattle.graphql_core.specs.{Token, Class, Expr, ParseTree, Grammar, leaves, peek, Derives, Begins, Ends, Takes}
-use Rattle.graphql_core.specs.{Reason, Unexpected, Improper, Outcome, Done, Fault, ReadsTo, unchecked, lax, IsExact}
-use Rattle.graphql_core.specs.{IsValue, Text, Ending, InputEnds, InvalidToken, Tree, Rejected, answer_of, Answers}
+use Rattle.graphql_core.specs.{Token, Class, Expr, ParseTree, Grammar, leaves, peek, Derives, Begins, Ends, Takes, Reason, Unexpected, Improper, Outcome, Done}
+use Rattle.graphql_core.specs.{Fault, ReadsTo, unchecked, lax, IsExact, IsValue, Text, Ending, InputEnds, InvalidToken, Tree, Rejected, answer_of, Answers}
 use Rattle.graphql_core.specs.{EndsAt, IsGrammarFaultAt, IsWhole}
 use Rattle.graphql_core.proofs.grammar.FirstFault.{fits-unchecked, fits-lax}
 

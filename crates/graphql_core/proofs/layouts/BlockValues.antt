@@ -1,18 +1,15 @@
 -- The value of a block form is the string that it was made of.
-use Rattle.std.specs.List.{filter, fold, reduce, slice_split, onto_first, join_with_byte, suffix_len, list_all, list_any, flat_map, prefix_len}
-use Rattle.std.specs.List.{AllByRecursion}
+use Rattle.std.specs.List.{filter, fold, reduce, slice_split, onto_first, join_with_byte, suffix_len, list_all, list_any, flat_map, prefix_len, AllByRecursion}
 use Rattle.std.specs.Str.Lines.{lines_of_parts, strip_carriage_return, lines}
 use Rattle.std.proofs.Common.{◌≡◌, ◌≤◌, ℕ, zero, suc, ◌+◌, ◌-◌, min, Bool, true, false, not, ◌&&◌, ◌||◌, ◌==◌, List, [], ◌∷◌, ◌++◌, Some, length, get_or}
 use Rattle.std.proofs.Common.{take, drop, map, reverse, refl, sym, ap, ap₂, ◌∙◌, inl, inr, ◌⊎◌, arith, append_assoc, append-nil, eqb-true, length-append}
 use Rattle.std.proofs.lemmas.Bool.{or_cases, cases_Bool, and_parts, and_from}
 use Rattle.std.proofs.lemmas.List.{take_at, reverse-append}
 use Rattle.std.proofs.lemmas.List.Splits.{join_with_byte-slice_split}
-use Rattle.graphql_core.specs.{is_white, indent, common_indent, unindented, without_blank_ends, unescaped}
-use Rattle.graphql_core.specs.{join_lines, value_of_lines, block_value, is_blank_line, begins_quotes, spaces}
-use Rattle.graphql_core.specs.{block_string_of, lines_of, first_line, last_line, is_empty, ends_in_return}
+use Rattle.graphql_core.specs.{is_white, indent, common_indent, unindented, without_blank_ends, unescaped, join_lines, value_of_lines, block_value}
+use Rattle.graphql_core.specs.{is_blank_line, begins_quotes, spaces, block_string_of, lines_of, first_line, last_line, is_empty, ends_in_return, begins_white}
+use Rattle.graphql_core.specs.{has_block_form, has_block_lines, is_block_character, escaped_quotes, block_line, in_block_form}
 use Rattle.std.specs.Str.{chars}
-use Rattle.graphql_core.specs.{begins_white, has_block_form, has_block_lines, is_block_character, escaped_quotes}
-use Rattle.graphql_core.specs.{block_line, in_block_form}
 use Rattle.std.proofs.lemmas.Bool.Decides.{nat_tests}
 use Rattle.graphql_core.proofs.strings.{in_triple_quotes, ends_in_return_is}
 use Rattle.graphql_core.proofs.layouts.BlockForm.{is_triple, triple_front, other_front, no_quotes_escaped}

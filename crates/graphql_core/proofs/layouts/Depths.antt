@@ -1,13 +1,10 @@
 -- The brackets of values, types, arguments and directives are those that their layouts open at once.
 use Rattle.std.proofs.Common.{◌≡◌, ℕ, ◌+◌, max, Bool, true, false, List, [], ◌∷◌, ◌++◌, Option, Some, None, codes, refl, arith}
-use Rattle.graphql_core.specs.{ignored, Part, bracket_of, float, string, item, enum, object, no_items, int}
-use Rattle.graphql_core.specs.{ValueTree, ValueItems, ValueMembers, TypeTree, named, list_of, non_null}
-use Rattle.graphql_core.specs.{DirectiveTree, variable, boolean, null, list, no_members, member, Layout}
-use Rattle.graphql_core.specs.{has_block_form, before_part, after_parts, parts, enclosed, inside, pair_layout}
-use Rattle.graphql_core.specs.{string_layout, value_layout, items_layout, members_layout, type_layout, each_argument}
-use Rattle.graphql_core.specs.{arguments_layout, directive_layout, directives_layout, default_layout, in_braces}
-use Rattle.graphql_core.specs.{each_after, separated, in_parentheses, value_brackets, items_brackets}
-use Rattle.graphql_core.specs.{members_brackets, type_brackets, argument_brackets, arguments_brackets}
+use Rattle.graphql_core.specs.{ignored, Part, bracket_of, float, string, item, enum, object, no_items, int, ValueTree, ValueItems, ValueMembers, TypeTree}
+use Rattle.graphql_core.specs.{named, list_of, non_null, DirectiveTree, variable, boolean, null, list, no_members, member, Layout, has_block_form, before_part}
+use Rattle.graphql_core.specs.{after_parts, parts, enclosed, inside, pair_layout, string_layout, value_layout, items_layout, members_layout, type_layout}
+use Rattle.graphql_core.specs.{each_argument, arguments_layout, directive_layout, directives_layout, default_layout, in_braces, each_after, separated}
+use Rattle.graphql_core.specs.{in_parentheses, value_brackets, items_brackets, members_brackets, type_brackets, argument_brackets, arguments_brackets}
 use Rattle.graphql_core.specs.{directive_brackets, directives_brackets, most, most_enclosed}
 use Rattle.graphql_core.specs.declared.tokenizer.piece.Nesting.TheVariants.{Opens, Closes}
 use Rattle.graphql_core.proofs.layouts.TextDepths.{Rises, rises_as, none_rise, gap_rises, level_rises, both_rise}

@@ -3,10 +3,9 @@ use Rattle.std.proofs.Common.{◌≡◌, ◌++◌, ◌∙◌, ap, sym, refl, ℕ
 use Rattle.std.proofs.Common.{codes, append_assoc, append-nil, arith}
 use Rattle.std.proofs.lemmas.Bool.{eqb-false}
 use Rattle.std.proofs.Math.Nat.{mul-le-mul_left}
-use Rattle.graphql_core.specs.{punctuator_part, text_of, Part, gap, new_line, Layout, spaces, inside, opened}
-use Rattle.graphql_core.specs.{before_part, parts, after_parts, enclosed, pair_layout, each_argument}
-use Rattle.graphql_core.specs.{arguments_layout, arguments_levels, most_levels, directive_layout, directives_layout}
-use Rattle.graphql_core.specs.{in_braces, ValueTree, DirectiveTree}
+use Rattle.graphql_core.specs.{punctuator_part, text_of, Part, gap, new_line, Layout, spaces, inside, opened, before_part, parts, after_parts, enclosed}
+use Rattle.graphql_core.specs.{pair_layout, each_argument, arguments_layout, arguments_levels, most_levels, directive_layout, directives_layout, in_braces}
+use Rattle.graphql_core.specs.{ValueTree, DirectiveTree}
 use Rattle.graphql_core.proofs.layouts.Appending.{text_append, and_part}
 
 -- ---- levels

@@ -1,9 +1,8 @@
 -- With arguments in one line, values, defaults, arguments and directives open at most one level: a block string.
 use Rattle.std.proofs.Common.{◌≡◌, ◌≤◌, ℕ, Bool, true, false, if◌then◌else◌, List, [], ◌∷◌, Option, Some, None, arith}
-use Rattle.graphql_core.specs.{float, string, item, enum, object, no_items, int, ValueTree, ValueItems, ValueMembers}
-use Rattle.graphql_core.specs.{DirectiveTree, variable, boolean, null, list, no_members, member, Layout}
-use Rattle.graphql_core.specs.{has_block_form, opened, string_levels, value_levels, items_levels, members_levels}
-use Rattle.graphql_core.specs.{most_levels, arguments_levels, directives_levels, default_levels, most}
+use Rattle.graphql_core.specs.{float, string, item, enum, object, no_items, int, ValueTree, ValueItems, ValueMembers, DirectiveTree, variable, boolean, null}
+use Rattle.graphql_core.specs.{list, no_members, member, Layout, has_block_form, opened, string_levels, value_levels, items_levels, members_levels, most_levels}
+use Rattle.graphql_core.specs.{arguments_levels, directives_levels, default_levels, most}
 
 -- ---- lists of trees
 

@@ -4,10 +4,9 @@ use Rattle.std.proofs.Common.{append_assoc}
 use Rattle.std.proofs.lemmas.Bool.{cases_eq, and_parts}
 use Rattle.std.proofs.lemmas.Bool.Decides.{nat_tests}
 use Rattle.graphql_core.specs.steps.Front.{AtEnd}
-use Rattle.graphql_core.specs.{is_delimiter, nesting_of, EndsRun, ignored_line_feed, ignored_comma, punctuator_token}
-use Rattle.graphql_core.specs.{BeginsNone, ignored_space, is_punctuator_byte, Ignored, Word, Stands, spread_token, Piece}
-use Rattle.graphql_core.specs.{IsCutInto, Token, kind_number, front, Where, Item, HasItems, start, past_ignored}
-use Rattle.graphql_core.specs.{past_token, is_too_deep, items_of, split, IsEnd, Part, token, ignored, text_of}
+use Rattle.graphql_core.specs.{is_delimiter, nesting_of, EndsRun, ignored_line_feed, ignored_comma, punctuator_token, BeginsNone, ignored_space}
+use Rattle.graphql_core.specs.{is_punctuator_byte, Ignored, Word, Stands, spread_token, Piece, IsCutInto, Token, kind_number, front, Where, Item, HasItems}
+use Rattle.graphql_core.specs.{start, past_ignored, past_token, is_too_deep, items_of, split, IsEnd, Part, token, ignored, text_of}
 use Rattle.graphql_core.proofs.lexical.{ahead_of, stands_front}
 use Rattle.graphql_core.specs.declared.tokenizer.piece.Move.{Move}
 use Rattle.graphql_core.specs.declared.tokenizer.piece.Move.TheVariants.{Down, Over}

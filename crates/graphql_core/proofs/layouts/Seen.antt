@@ -1,7 +1,6 @@
 -- Lists of trees, each of which is seen as another.
 use Rattle.std.proofs.Common.{◌≡◌, ◌<◌, ◌++◌, ◌∙◌, [], ◌∷◌, ap, sym, refl, codes, ℕ, List, length, map, max, append_assoc, arith}
-use Rattle.graphql_core.specs.{text_of, Part, each_after, later, separated, after_commas, in_parentheses, most}
-use Rattle.graphql_core.specs.{joined}
+use Rattle.graphql_core.specs.{text_of, Part, each_after, later, separated, after_commas, in_parentheses, most, joined}
 use Rattle.std.specs.List.{AllByRecursion, flat_map}
 use Rattle.graphql_core.proofs.layouts.Appending.{text_append}
 use Rattle.graphql_core.proofs.layouts.Enclosed.{next_text, first_text}

@@ -2,20 +2,17 @@
 use Rattle.std.proofs.Common.{◌≡◌, ℕ, true, false, Bool, ◌&&◌, ◌||◌, ◌==◌, List, [], ◌∷◌, All, refl, sym, ap, ap₂, ◌∙◌, arith}
 use Rattle.std.proofs.lemmas.Bool.Decides.{nat_tests}
 use Rattle.std.proofs.lemmas.List.Elements.{All-head}
-use Rattle.graphql_core.specs.{name_token, punctuator_token, is_name_start, is_punctuator_byte, Word, Stands, spread_token}
-use Rattle.graphql_core.specs.{integer_token, float_token, string_token, block_string_token, starts_number, Token}
-use Rattle.graphql_core.specs.{AnyOf, same_spelling, matches, peek, sees, kind_number, spelling_of, class_of}
-use Rattle.graphql_core.specs.{first_byte, front_byte, IsLexeme}
+use Rattle.graphql_core.specs.{name_token, punctuator_token, is_name_start, is_punctuator_byte, Word, Stands, spread_token, integer_token, float_token}
+use Rattle.graphql_core.specs.{string_token, block_string_token, starts_number, Token, AnyOf, same_spelling, matches, peek, sees, kind_number, spelling_of}
+use Rattle.graphql_core.specs.{class_of, first_byte, front_byte, IsLexeme}
 use Rattle.graphql_core.proofs.lexical.Runs.{differs}
 use Rattle.graphql_core.proofs.lexical.Numbers.{NumberRun, integer_run, float_run}
 use Rattle.graphql_core.specs.declared.tokenizer.token.Kind.{Kind}
 use Rattle.graphql_core.specs.declared.tokenizer.token.Kind.TheVariants.{Name, StringValue, BlockString}
 use Rattle.graphql_core.specs.declared.tokenizer.piece.Nesting.{Nesting}
 use Rattle.graphql_core.specs.declared.helpers.punctuator.Punctuator.{Punctuator}
-use Rattle.graphql_core.specs.declared.helpers.punctuator.Punctuator.TheVariants.{Bang, Dollar, Ampersand, OpenParen}
-use Rattle.graphql_core.specs.declared.helpers.punctuator.Punctuator.TheVariants.{CloseParen, Spread, Colon, Equals}
-use Rattle.graphql_core.specs.declared.helpers.punctuator.Punctuator.TheVariants.{At, OpenBracket, CloseBracket}
-use Rattle.graphql_core.specs.declared.helpers.punctuator.Punctuator.TheVariants.{OpenBrace, Pipe, CloseBrace}
+use Rattle.graphql_core.specs.declared.helpers.punctuator.Punctuator.TheVariants.{Bang, Dollar, Ampersand, OpenParen, CloseParen, Spread, Colon, Equals, At}
+use Rattle.graphql_core.specs.declared.helpers.punctuator.Punctuator.TheVariants.{OpenBracket, CloseBracket, OpenBrace, Pipe, CloseBrace}
 use Rattle.graphql_core.specs.declared.tokenizer.token.Kind.TheVariants as kinds
 
 byte_back : (x y : ℕ) → (x == y) ≡ (y == x)

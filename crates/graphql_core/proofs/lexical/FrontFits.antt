@@ -14,12 +14,10 @@ use Rattle.graphql_core.specs.declared.position.Pos.{Pos}
 use Rattle.graphql_core.specs.declared.tokenizer.token.Kind.TheVariants.{StringValue, BlockString}
 use Rattle.graphql_core.specs.declared.tokenizer.piece.Move.{Move}
 use Rattle.graphql_core.specs.steps.Front.{FrontElement, AtEnd, Skips, Takes, Stops}
-use Rattle.graphql_core.specs.{too_deep, is_name_start, is_name_continue, is_in_line, is_punctuator_byte, is_in_run, is_integer}
-use Rattle.graphql_core.specs.{begins_quotes, steps_over, is_float, number, string_end, block_end, closed}
-use Rattle.graphql_core.specs.{quoted_front, front, comment, line_end, dots, other_token, FitsIn, IsItem, Where}
-use Rattle.graphql_core.specs.{Item, item_at, TokenContent, LexicalError, past_ignored, past_token, is_too_deep}
-use Rattle.graphql_core.specs.{last_item, moved, token_then, run_at, cause_at, further, next_place, items_by}
-use Rattle.graphql_core.specs.{items_in, items}
+use Rattle.graphql_core.specs.{too_deep, is_name_start, is_name_continue, is_in_line, is_punctuator_byte, is_in_run, is_integer, begins_quotes, steps_over}
+use Rattle.graphql_core.specs.{is_float, number, string_end, block_end, closed, quoted_front, front, comment, line_end, dots, other_token, FitsIn, IsItem}
+use Rattle.graphql_core.specs.{Where, Item, item_at, TokenContent, LexicalError, past_ignored, past_token, is_too_deep, last_item, moved, token_then, run_at}
+use Rattle.graphql_core.specs.{cause_at, further, next_place, items_by, items_in, items}
 use Rattle.graphql_core.proofs.lexical.Numbers.{run_boundary}
 use Rattle.graphql_core.proofs.lexical.Strings.{string_found, block_found, block_last}
 

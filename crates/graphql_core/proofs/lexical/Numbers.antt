@@ -12,10 +12,9 @@ use Rattle.std.proofs.lemmas.Str.{IsCharBoundary-end, IsCharBoundary-before_asci
 use Rattle.graphql_core.specs.declared.tokenizer.token.Kind.TheVariants.{IntValue, FloatValue}
 use Rattle.graphql_core.specs.declared.tokenizer.piece.Nesting.TheVariants.{Level}
 use Rattle.graphql_core.specs.steps.Front.{Takes}
-use Rattle.graphql_core.specs.{is_in_run, is_delimiter, is_natural, is_integer, is_fraction, is_exponent, is_in}
-use Rattle.graphql_core.specs.{EndsRun, IsFloat, with_fraction, with_exponent, with_both, run_at, is_flat}
-use Rattle.graphql_core.specs.{starts_number, digits_len, is_exponent_or_none, is_after_dot, is_after_integer}
-use Rattle.graphql_core.specs.{is_unsigned, is_float, number_of, number}
+use Rattle.graphql_core.specs.{is_in_run, is_delimiter, is_natural, is_integer, is_fraction, is_exponent, is_in, EndsRun, IsFloat, with_fraction, with_exponent}
+use Rattle.graphql_core.specs.{with_both, run_at, is_flat, starts_number, digits_len, is_exponent_or_none, is_after_dot, is_after_integer, is_unsigned}
+use Rattle.graphql_core.specs.{is_float, number_of, number}
 use Rattle.graphql_core.proofs.lexical.Runs.{run, run_all, run_of, all_weaken, all_append}
 
 ends_run_ascii : (b : ℕ) → is_in_run b ≡ false → b < 128

@@ -7,19 +7,15 @@ use Rattle.std.proofs.lemmas.Bool.{cases_eq}
 use Rattle.std.proofs.lemmas.Bool.Decides.{nat_tests}
 use Rattle.std.proofs.lemmas.List.{take_at, drop_at}
 use Rattle.graphql_core.specs.declared.tokenizer.piece.Nesting.TheVariants.{Level}
-use Rattle.graphql_core.specs.declared.tokenizer.token.Kind.TheVariants.{Punctuator, Name, IntValue, FloatValue}
-use Rattle.graphql_core.specs.declared.tokenizer.token.Kind.TheVariants.{StringValue, BlockString}
+use Rattle.graphql_core.specs.declared.tokenizer.token.Kind.TheVariants.{Punctuator, Name, IntValue, FloatValue, StringValue, BlockString}
 use Rattle.graphql_core.specs.declared.tokenizer.piece.Move.TheVariants.{Stay, Down}
 use Rattle.graphql_core.specs.steps.Front.{FrontElement, AtEnd, Skips, Takes, Stops}
-use Rattle.graphql_core.specs.{front, other_token, comment, line_end, is_float, number, string_end, block_end}
-use Rattle.graphql_core.specs.{closed, quoted_front, Where, Item, HasItemsFrom, HasItems, start, past_ignored}
-use Rattle.graphql_core.specs.{past_token, last_item, piece_then, items_of, run_at, items_by, items, is_name_start}
-use Rattle.graphql_core.specs.{is_name_continue, is_in_line, is_punctuator_byte, nesting_of, is_integer, begins_quotes, Meaning}
-use Rattle.graphql_core.specs.{Ignored, Word, Stands, ignored_tab, ignored_line_feed, ignored_carriage_return}
-use Rattle.graphql_core.specs.{ignored_space, ignored_comma, ignored_byte_order_mark, comment_at_end, comment_feed}
-use Rattle.graphql_core.specs.{comment_return_feed, comment_return, name_token, punctuator_token, spread_token}
-use Rattle.graphql_core.specs.{integer_token, float_token, string_token, block_string_token, BeginsNone, Piece}
-use Rattle.graphql_core.specs.{IsCutInto}
+use Rattle.graphql_core.specs.{front, other_token, comment, line_end, is_float, number, string_end, block_end, closed, quoted_front, Where, Item, HasItemsFrom}
+use Rattle.graphql_core.specs.{HasItems, start, past_ignored, past_token, last_item, piece_then, items_of, run_at, items_by, items, is_name_start}
+use Rattle.graphql_core.specs.{is_name_continue, is_in_line, is_punctuator_byte, nesting_of, is_integer, begins_quotes, Meaning, Ignored, Word, Stands}
+use Rattle.graphql_core.specs.{ignored_tab, ignored_line_feed, ignored_carriage_return, ignored_space, ignored_comma, ignored_byte_order_mark, comment_at_end}
+use Rattle.graphql_core.specs.{comment_feed, comment_return_feed, comment_return, name_token, punctuator_token, spread_token, integer_token, float_token}
+use Rattle.graphql_core.specs.{string_token, block_string_token, BeginsNone, Piece, IsCutInto}
 use Rattle.graphql_core.proofs.lexical.Runs.{run_of}
 use Rattle.graphql_core.proofs.lexical.Numbers.{float_is, run_parts, integer_run, float_run}
 use Rattle.graphql_core.proofs.lexical.Strings.{HasBody, string_found, block_found}

@@ -12,12 +12,10 @@ use Rattle.graphql_core.specs.declared.position.Pos.{Pos}
 use Rattle.graphql_core.specs.declared.tokenizer.token.Kind.{Kind}
 use Rattle.graphql_core.specs.declared.tokenizer.piece.Nesting.{Nesting}
 use Rattle.graphql_core.specs.steps.Front.{FrontElement, AtEnd, Skips, Takes, Stops}
-use Rattle.graphql_core.specs.{front, is_flat, is_no_line_feed, IsFlat, past, past_character, past_characters, is_name_start}
-use Rattle.graphql_core.specs.{is_name_continue, is_punctuator_byte, Meaning, Ignored, Word, Stands, ignored_tab}
-use Rattle.graphql_core.specs.{ignored_line_feed, ignored_carriage_return, ignored_space, ignored_comma}
-use Rattle.graphql_core.specs.{ignored_byte_order_mark, comment_at_end, comment_feed, comment_return_feed}
-use Rattle.graphql_core.specs.{comment_return, name_token, punctuator_token, spread_token, integer_token}
-use Rattle.graphql_core.specs.{float_token, string_token, block_string_token}
+use Rattle.graphql_core.specs.{front, is_flat, is_no_line_feed, IsFlat, past, past_character, past_characters, is_name_start, is_name_continue}
+use Rattle.graphql_core.specs.{is_punctuator_byte, Meaning, Ignored, Word, Stands, ignored_tab, ignored_line_feed, ignored_carriage_return, ignored_space}
+use Rattle.graphql_core.specs.{ignored_comma, ignored_byte_order_mark, comment_at_end, comment_feed, comment_return_feed, comment_return, name_token}
+use Rattle.graphql_core.specs.{punctuator_token, spread_token, integer_token, float_token, string_token, block_string_token}
 use Rattle.graphql_core.proofs.lexical.Runs.{all_weaken}
 use Rattle.graphql_core.proofs.lexical.Characters.{characters_no_feed}
 use Rattle.graphql_core.proofs.lexical.Numbers.{integer_run, float_run}

@@ -13,9 +13,8 @@ use Rattle.graphql_core.specs.declared.tokenizer.token.Kind.{Kind}
 use Rattle.graphql_core.specs.declared.tokenizer.piece.Move.TheVariants.{Over}
 use Rattle.graphql_core.specs.declared.tokenizer.piece.Skipped.{Skipped}
 use Rattle.graphql_core.specs.steps.Front.{FrontElement, AtEnd, Skips, Takes, Stops}
-use Rattle.graphql_core.specs.{is_name_start, is_punctuator_byte, is_integer, begins_quotes, is_float, number, closed}
-use Rattle.graphql_core.specs.{quoted_front, front, other_token, FitsIn, IsItem, is_flat, Where, run_at, further}
-use Rattle.graphql_core.specs.{items, is_space, ignored_front, FitsIgnored}
+use Rattle.graphql_core.specs.{is_name_start, is_punctuator_byte, is_integer, begins_quotes, is_float, number, closed, quoted_front, front, other_token, FitsIn}
+use Rattle.graphql_core.specs.{IsItem, is_flat, Where, run_at, further, items, is_space, ignored_front, FitsIgnored}
 use Rattle.graphql_core.proofs.lexical.FrontFits.{further_skip, front_fits}
 
 abbrev over : ℕ → Pos → Pos

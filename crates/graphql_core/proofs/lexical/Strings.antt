@@ -5,9 +5,8 @@ use Rattle.std.proofs.Common.{take, drop, Some, None, refl, sym, ap, ◌∙◌, 
 use Rattle.std.proofs.lemmas.Bool.{cases_eq, cases_Bool, and_parts}
 use Rattle.std.proofs.lemmas.Bool.Decides.{nat_tests}
 use Rattle.std.proofs.lemmas.List.{at_drop_more, at_drop_all, length-drop, take_at, get_or-append-add}
-use Rattle.graphql_core.specs.{begins_quotes, begins_escape, IsStringBody, body_ends, body_character, body_escape}
-use Rattle.graphql_core.specs.{ClosesBlock, closing, escape, unit, is_flat, is_plain_in_string, is_plain_in_block}
-use Rattle.graphql_core.specs.{string_end, block_end, quoted_front}
+use Rattle.graphql_core.specs.{begins_quotes, begins_escape, IsStringBody, body_ends, body_character, body_escape, ClosesBlock, closing, escape, unit, is_flat}
+use Rattle.graphql_core.specs.{is_plain_in_string, is_plain_in_block, string_end, block_end, quoted_front}
 use Rattle.graphql_core.specs.declared.tokenizer.token.Kind.TheVariants.{StringValue, BlockString}
 use Rattle.graphql_core.specs.declared.tokenizer.piece.Nesting.TheVariants.{Level}
 use Rattle.graphql_core.specs.steps.Front.{Takes}

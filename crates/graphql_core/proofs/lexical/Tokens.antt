@@ -15,11 +15,10 @@ use Rattle.graphql_core.specs.declared.tokenizer.piece.Nesting.{Nesting}
 use Rattle.graphql_core.specs.declared.tokenizer.piece.Nesting.TheVariants.{Level, Opens, Closes}
 use Rattle.graphql_core.specs.declared.tokenizer.piece.Taken.{Taken}
 use Rattle.graphql_core.specs.steps.Front.{FrontElement, AtEnd, Skips, Takes, Stops}
-use Rattle.graphql_core.specs.{is_name_start, is_name_continue, is_punctuator_byte, nesting_of, is_in_line, too_deep, Where}
-use Rattle.graphql_core.specs.{Item, Content, item_at, TokenContent, EndOfInput, LexicalError, is_token, is_too_deep}
-use Rattle.graphql_core.specs.{openers_after, closers_after, past_token, token_then, items, items_by, BeginsWithNext}
-use Rattle.graphql_core.specs.{AreItemsOfRest, further, front, other_token, comment, line_end, FitsIn, IsItem, taken}
-use Rattle.graphql_core.specs.{FitsTaken, is_blank, is_line_feed, is_spacing, is_ignored, columns_of, moved}
+use Rattle.graphql_core.specs.{is_name_start, is_name_continue, is_punctuator_byte, nesting_of, is_in_line, too_deep, Where, Item, Content, item_at}
+use Rattle.graphql_core.specs.{TokenContent, EndOfInput, LexicalError, is_token, is_too_deep, openers_after, closers_after, past_token, token_then, items}
+use Rattle.graphql_core.specs.{items_by, BeginsWithNext, AreItemsOfRest, further, front, other_token, comment, line_end, FitsIn, IsItem, taken, FitsTaken}
+use Rattle.graphql_core.specs.{is_blank, is_line_feed, is_spacing, is_ignored, columns_of, moved}
 use Rattle.graphql_core.proofs.lexical.Runs.{differs}
 use Rattle.graphql_core.proofs.lexical.FrontFits.{further_skip, front_fits, front_within, items_at, next_place_items, PieceFits}
 use Rattle.graphql_core.proofs.lexical.OneCut.{has_items_from}

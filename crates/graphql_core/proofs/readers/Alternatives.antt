@@ -1,11 +1,9 @@
 -- An alternative of a rule that is read: what it takes and how it fails holds for the rule.
 use Rattle.std.proofs.Common.{◌≡◌, ℕ, zero, suc, Bool, true, false, ◌&&◌, ◌||◌, List, [], ◌∷◌, ◌++◌, Option, Some, None, refl, sym, ap, ◌∙◌}
 use Rattle.std.proofs.Math.Bool.{or_assoc}
-use Rattle.graphql_core.specs.{leads_second, leads_first, Leads, leads_node, in_any, Token, Class, all_within}
-use Rattle.graphql_core.specs.{matches, Grammar, Expr, Empty, One, Then, Either, Many, Sym, ParseTree, First, Second}
-use Rattle.graphql_core.specs.{Node, Row, row, nullable, first, decides, sees, choose, Left, Right, Takes}
-use Rattle.graphql_core.specs.{takes_node, takes_first, takes_second, Reason, Fails, fails_node, fails_first, fails_second}
-use Rattle.graphql_core.specs.{lax}
+use Rattle.graphql_core.specs.{leads_second, leads_first, Leads, leads_node, in_any, Token, Class, all_within, matches, Grammar, Expr, Empty, One, Then, Either}
+use Rattle.graphql_core.specs.{Many, Sym, ParseTree, First, Second, Node, Row, row, nullable, first, decides, sees, choose, Left, Right, Takes, takes_node}
+use Rattle.graphql_core.specs.{takes_first, takes_second, Reason, Fails, fails_node, fails_first, fails_second, lax}
 use Rattle.graphql_core.proofs.grammar.{all_within-sound, sees-within}
 use Rattle.graphql_core.proofs.readers.ReaderSteps.{picks-second, picks-first}
 use Rattle.std.proofs.lemmas.Bool.{and_parts}

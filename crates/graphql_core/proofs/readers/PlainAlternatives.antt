@@ -1,20 +1,16 @@
 -- Which alternative of a plain value the next token decides.
-use Rattle.std.proofs.Common.{◌≡◌, ◌≢◌, ℕ, true, false, ◌==◌, List, [], ◌∷◌, drop, Option, Some, None, Result, Err, codes, refl, sym, ap, ◌∙◌, inl, inr}
-use Rattle.std.proofs.Common.{arith}
+use Rattle.std.proofs.Common.{◌≡◌, ◌≢◌, ℕ, true, false, ◌==◌, List, [], ◌∷◌, drop, Option, Some, None, Result, Err, codes, refl, sym, ap, ◌∙◌, inl, inr, arith}
 use Rattle.std.proofs.lemmas.Bool.{and_cases, true≢false, eq-eqb, or_parts, cases_Bool, false_from_ne_true}
 use Rattle.graphql_core.proofs.grammar.{same_spelling-true}
 use Rattle.graphql_core.proofs.readers.Matches.{takes_token}
 use Rattle.graphql_core.specs.declared.helpers.source.Lexeme.{Lexeme}
 use Rattle.std.specs.Result.{IsErrAnd}
-use Rattle.graphql_core.specs.{Token, Class, same_spelling, takes_spelling, matches, Expr, One, Sym, ParseTree, Leaf}
-use Rattle.graphql_core.specs.{First, Second, Node, peek, first, sees, Consumes, StopsFor, Unexpected, fails_one}
-use Rattle.graphql_core.specs.{fails_node, takes_node, TakesSome, kind_number, Items, after, lexeme_token, Gives, shared, tables}
-use Rattle.graphql_core.specs.{any, enum_class, keyword, plain_symbol, enum_name_symbol, IsNext, Shows, word_of}
-use Rattle.graphql_core.specs.{plain_of}
+use Rattle.graphql_core.specs.{Token, Class, same_spelling, takes_spelling, matches, Expr, One, Sym, ParseTree, Leaf, First, Second, Node, peek, first, sees}
+use Rattle.graphql_core.specs.{Consumes, StopsFor, Unexpected, fails_one, fails_node, takes_node, TakesSome, kind_number, Items, after, lexeme_token, Gives}
+use Rattle.graphql_core.specs.{shared, tables, any, enum_class, keyword, plain_symbol, enum_name_symbol, IsNext, Shows, word_of, plain_of}
 use Rattle.graphql_core.specs.declared.helpers.read_error.ReadError.{ReadError}
 use Rattle.graphql_core.specs.declared.tokenizer.token.Kind.{Kind}
-use Rattle.graphql_core.specs.declared.tokenizer.token.Kind.TheVariants.{Punctuator, Name, IntValue, FloatValue}
-use Rattle.graphql_core.specs.declared.tokenizer.token.Kind.TheVariants.{StringValue, BlockString}
+use Rattle.graphql_core.specs.declared.tokenizer.token.Kind.TheVariants.{Punctuator, Name, IntValue, FloatValue, StringValue, BlockString}
 use Rattle.graphql_core.proofs.readers.Reading.{TakesNone, none_within, unseen_either, takes_one}
 use Rattle.graphql_core.proofs.readers.Steps.{Leads, leads_in, begun, lacks_last}
 use Rattle.graphql_core.proofs.readers.Alternatives.{IsSide, through, side_node, side_in, side_nth}

@@ -2,10 +2,9 @@
 use Rattle.std.proofs.Common.{◌≡◌, ℕ, true, false, not, ◌&&◌, List, [], ◌∷◌, ◌++◌, Option, Some, None, Result, Ok, Err}
 use Rattle.std.proofs.Common.{refl, sym, ◌∙◌, append_assoc, append-nil}
 use Rattle.std.proofs.lemmas.Bool.{and_parts}
-use Rattle.graphql_core.specs.{Token, all_apart, Expr, Then, Either, Many, Sym, ParseTree, Stop, More, Row, Grammar, row}
-use Rattle.graphql_core.specs.{peek, nullable, first, decides, sees, choose, Left, Right, Neither, Takes, takes_stop}
-use Rattle.graphql_core.specs.{takes_more, Reason, Fails, fails_before, fails_after, fails_first, fails_second, fails_node}
-use Rattle.graphql_core.specs.{fails_turn, fails_later, each_of, Items, kept, Consumes, TakesSome, StopsFor, GivesBy}
+use Rattle.graphql_core.specs.{Token, all_apart, Expr, Then, Either, Many, Sym, ParseTree, Stop, More, Row, Grammar, row, peek, nullable, first, decides, sees}
+use Rattle.graphql_core.specs.{choose, Left, Right, Neither, Takes, takes_stop, takes_more, Reason, Fails, fails_before, fails_after, fails_first, fails_second}
+use Rattle.graphql_core.specs.{fails_node, fails_turn, fails_later, each_of, Items, kept, Consumes, TakesSome, StopsFor, GivesBy}
 use Rattle.graphql_core.proofs.grammar.{sees-parts, sees-apart}
 
 -- the error of a part, which begins at mid, is an error of the whole

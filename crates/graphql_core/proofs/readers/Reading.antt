@@ -1,17 +1,13 @@
 -- The steps of readers, for every grammar: single tokens, choices and loops.
 use Rattle.std.proofs.Common.{◌≡◌, true, false, List, [], ◌∷◌, ◌++◌, map, Result, Ok, Err, IsErrAnd, Option, Some, None, refl, sym, ap, subst, ◌∙◌}
 use Rattle.std.proofs.Common.{append_assoc, append-nil, inl, inr}
-use Rattle.graphql_core.specs.{fails_first, fails_second, fails_neither, fails_turn, takes_more, takes_leaf}
-use Rattle.graphql_core.specs.{takes_stop, sees, choose, Left, Right, Takes, takes_nothing, takes_first}
-use Rattle.graphql_core.specs.{takes_second, Reason, Unexpected, Fails, fails_one, fails_before, fails_after}
-use Rattle.graphql_core.specs.{Grammar, Expr, Empty, One, Then, Either, Many, ParseTree, Nothing, Leaf, First, Second}
-use Rattle.graphql_core.specs.{More, Row, optional, TakesOne, TakesToken, Token, Class, matches, nullable, first}
-use Rattle.graphql_core.specs.{StopsFor, Items, kept, fault_by, place_next, Consumes, GivesBy, Adds}
-use Rattle.graphql_core.specs.{reason_of, each_of}
+use Rattle.graphql_core.specs.{fails_first, fails_second, fails_neither, fails_turn, takes_more, takes_leaf, takes_stop, sees, choose, Left, Right, Takes}
+use Rattle.graphql_core.specs.{takes_nothing, takes_first, takes_second, Reason, Unexpected, Fails, fails_one, fails_before, fails_after, Grammar, Expr, Empty}
+use Rattle.graphql_core.specs.{One, Then, Either, Many, ParseTree, Nothing, Leaf, First, Second, More, Row, optional, TakesOne, TakesToken, Token, Class}
+use Rattle.graphql_core.specs.{matches, nullable, first, StopsFor, Items, kept, fault_by, place_next, Consumes, GivesBy, Adds, reason_of, each_of}
 use Rattle.graphql_core.proofs.grammar.{sees-parts, take-or_fail, same-fail}
 use Rattle.graphql_core.proofs.readers.ReaderSteps.{exits, halts, picks-neither, Turns, Turns-stop, picks-first}
-use Rattle.graphql_core.specs.declared.helpers.read_error.ReadError.TheVariants.{Item, Memory, Integer, Float}
-use Rattle.graphql_core.specs.declared.helpers.read_error.ReadError.TheVariants.{Escape, Location}
+use Rattle.graphql_core.specs.declared.helpers.read_error.ReadError.TheVariants.{Item, Memory, Integer, Float, Escape, Location}
 use Rattle.std.proofs.lemmas.Bool.{and_from, cases_Bool}
 use Rattle.graphql_core.specs.declared.helpers.read_error.ReadError.{ReadError}
 use Rattle.graphql_core.specs.grammar.Trees as trees

@@ -2,15 +2,12 @@
 use Rattle.std.proofs.Common.{◌≡◌, ◌<◌, ◌≤◌, ℕ, true, false, not, List, [], ◌∷◌, ◌++◌, length, map, Result, Ok, Err, IsErrAnd, Option}
 use Rattle.std.proofs.Common.{refl, sym, ap, subst, ◌∙◌, append_assoc}
 use Rattle.graphql_core.proofs.grammar.{takes-fits, takes-leaves, fits-lax, shorter, no_longer}
-use Rattle.graphql_core.proofs.readers.ReaderSteps.{halts, Turns, Turns-start, Turns-more, Turns-stop}
-use Rattle.graphql_core.proofs.readers.ReaderSteps.{Stops-before, Stops-turn}
-use Rattle.graphql_core.specs.{Grammar, Expr, One, Then, Many, Sym, ParseTree, Leaf, Both, Stop}
-use Rattle.graphql_core.specs.{More, Node, row, leaves, peek, Token, Class, nullable, first, is_ll1, sees, Takes}
-use Rattle.graphql_core.specs.{takes_both, Reason, Fails, fails_after, lax, TakesSome, StopsFor, Items, kept}
-use Rattle.graphql_core.specs.{TakesToken, Consumes, Gives, Adds, reason_of, each_of}
+use Rattle.graphql_core.proofs.readers.ReaderSteps.{halts, Turns, Turns-start, Turns-more, Turns-stop, Stops-before, Stops-turn}
+use Rattle.graphql_core.specs.{Grammar, Expr, One, Then, Many, Sym, ParseTree, Leaf, Both, Stop, More, Node, row, leaves, peek, Token, Class, nullable, first}
+use Rattle.graphql_core.specs.{is_ll1, sees, Takes, takes_both, Reason, Fails, fails_after, lax, TakesSome, StopsFor, Items, kept, TakesToken, Consumes, Gives}
+use Rattle.graphql_core.specs.{Adds, reason_of, each_of}
 use Rattle.graphql_core.specs.declared.helpers.read_error.ReadError.{ReadError}
-use Rattle.graphql_core.proofs.readers.Reading.{takes_one, stops_one, gives_error_by, TakesNone}
-use Rattle.graphql_core.proofs.readers.Reading.{each_means, adds_none, adds_one, adds_more}
+use Rattle.graphql_core.proofs.readers.Reading.{takes_one, stops_one, gives_error_by, TakesNone, each_means, adds_none, adds_one, adds_more}
 use Rattle.graphql_core.proofs.readers.Alternatives.{IsSide, side_node}
 use Rattle.graphql_core.specs.grammar.NextPlaces as Derives
 

@@ -1,23 +1,17 @@
 -- Which alternative of each choice is read, and which turn of each repetition.
 use Rattle.std.proofs.Common.{◌≡◌, ℕ, true, false, List, [], ◌∷◌, ◌++◌, Option, refl, ap, codes}
 use Rattle.graphql_core.proofs.grammar.{sees-apart}
-use Rattle.graphql_core.specs.{item, object, ValueTree, ValueMembers, put, list, no_members, Token, Class, Expr}
-use Rattle.graphql_core.specs.{Then, Either, Many, Sym, ParseTree, Both, First, Second, Node, optional, peek, first}
-use Rattle.graphql_core.specs.{is_ll1, nullable, sees, Takes, Items, shared, rows, tables, name, any, punctuator}
-use Rattle.graphql_core.specs.{punctuator_class, value_symbol, const_symbol, plain_symbol, argument_symbol}
-use Rattle.graphql_core.specs.{const_pair_symbol, type_symbol, arguments_symbol, default_symbol}
-use Rattle.graphql_core.specs.{spelling_at, plain_of, put_all, value_of, values_of, argument_of, pairs_of, const_of}
-use Rattle.graphql_core.specs.{consts_of, const_pair_of, const_pairs_of, arguments_of, symbol_of}
-use Rattle.graphql_core.specs.{pair_symbol_of, variable_rule, list_rule, object_rule, pair_rule, begins_variable}
-use Rattle.graphql_core.specs.{tree_of, trees_of, pair_of, pairs_by, as_variable, as_plain, as_list, as_object}
-use Rattle.graphql_core.specs.{IsList, listed_values, each_of}
+use Rattle.graphql_core.specs.{item, object, ValueTree, ValueMembers, put, list, no_members, Token, Class, Expr, Then, Either, Many, Sym, ParseTree, Both}
+use Rattle.graphql_core.specs.{First, Second, Node, optional, peek, first, is_ll1, nullable, sees, Takes, Items, shared, rows, tables, name, any, punctuator}
+use Rattle.graphql_core.specs.{punctuator_class, value_symbol, const_symbol, plain_symbol, argument_symbol, const_pair_symbol, type_symbol, arguments_symbol}
+use Rattle.graphql_core.specs.{default_symbol, spelling_at, plain_of, put_all, value_of, values_of, argument_of, pairs_of, const_of, consts_of, const_pair_of}
+use Rattle.graphql_core.specs.{const_pairs_of, arguments_of, symbol_of, pair_symbol_of, variable_rule, list_rule, object_rule, pair_rule, begins_variable}
+use Rattle.graphql_core.specs.{tree_of, trees_of, pair_of, pairs_by, as_variable, as_plain, as_list, as_object, IsList, listed_values, each_of}
 use Rattle.graphql_core.specs.declared.tokenizer.token.Kind.TheVariants.{Name}
 use Rattle.graphql_core.specs.declared.common.read.values.Constness.{Constness}
 use Rattle.graphql_core.specs.declared.common.read.values.Constness.TheVariants.{Value, Constant}
-use Rattle.graphql_core.proofs.readers.Reading.{FailsUnseen, unseen_one, unseen_then, unseen_either}
-use Rattle.graphql_core.proofs.readers.Reading.{many_means, each_means}
-use Rattle.graphql_core.proofs.readers.Alternatives.{IsSide, through, side_node, side_left, side_right}
-use Rattle.graphql_core.proofs.readers.Alternatives.{unseen_symbol, sees_neither, side_in, side_nth}
+use Rattle.graphql_core.proofs.readers.Reading.{FailsUnseen, unseen_one, unseen_then, unseen_either, many_means, each_means}
+use Rattle.graphql_core.proofs.readers.Alternatives.{IsSide, through, side_node, side_left, side_right, unseen_symbol, sees_neither, side_in, side_nth}
 use Rattle.graphql_core.proofs.readers.Lists.{is_list}
 use Rattle.graphql_core.proofs.readers.Optional.{BegunBy}
 

@@ -1,16 +1,13 @@
 -- The layouts of arguments, directives and defaults parse back.
 use Rattle.std.proofs.Common.{◌≡◌, ℕ, ◌+◌, ◌≤◌, Bool, true, false, List, [], ◌∷◌, ◌++◌, Option, Some, None, codes, refl, ap, ap₂, arith}
-use Rattle.graphql_core.specs.{punctuator_part, gap, Many, Sym, optional, Layout, ValueTree, DirectiveTree, no_place}
-use Rattle.graphql_core.specs.{erase, erase_all, value_layout, parts, inside, each_argument, arguments_layout}
-use Rattle.graphql_core.specs.{directive_layout, directives_layout, default_layout, shared, argument_symbol}
-use Rattle.graphql_core.specs.{arguments_symbol, directive_symbol, directives_symbol, default_symbol, spelling_at}
-use Rattle.graphql_core.specs.{pairs_of, optional_arguments_of, directive_of, directives_of, default_of}
-use Rattle.graphql_core.specs.{optional_default_of, IsPrintableArgument, IsPrintableDirective, IsPrintableDefault}
-use Rattle.graphql_core.specs.{argument_brackets, arguments_brackets, directive_brackets, directives_brackets}
-use Rattle.graphql_core.specs.{value_brackets, most, IsLawful, AreLawfulArguments, AreLawfulDirectives}
-use Rattle.graphql_core.proofs.round_trip.ReadingBack.{Back, as_word_back, means, gap_back, word_back, punctuator_back}
-use Rattle.graphql_core.proofs.round_trip.ReadingBack.{open_back, close_back, nothing_back, both_back, first_back}
-use Rattle.graphql_core.proofs.round_trip.ReadingBack.{second_back, node_back, stop_back, more_back, three_back}
+use Rattle.graphql_core.specs.{punctuator_part, gap, Many, Sym, optional, Layout, ValueTree, DirectiveTree, no_place, erase, erase_all, value_layout, parts}
+use Rattle.graphql_core.specs.{inside, each_argument, arguments_layout, directive_layout, directives_layout, default_layout, shared, argument_symbol}
+use Rattle.graphql_core.specs.{arguments_symbol, directive_symbol, directives_symbol, default_symbol, spelling_at, pairs_of, optional_arguments_of}
+use Rattle.graphql_core.specs.{directive_of, directives_of, default_of, optional_default_of, IsPrintableArgument, IsPrintableDirective, IsPrintableDefault}
+use Rattle.graphql_core.specs.{argument_brackets, arguments_brackets, directive_brackets, directives_brackets, value_brackets, most, IsLawful}
+use Rattle.graphql_core.specs.{AreLawfulArguments, AreLawfulDirectives}
+use Rattle.graphql_core.proofs.round_trip.ReadingBack.{Back, as_word_back, means, gap_back, word_back, punctuator_back, open_back, close_back, nothing_back}
+use Rattle.graphql_core.proofs.round_trip.ReadingBack.{both_back, first_back, second_back, node_back, stop_back, more_back, three_back}
 use Rattle.std.specs.List.{AllByRecursion}
 use Rattle.std.specs.Option.{IfSome, option_map_or}
 use Rattle.graphql_core.specs.declared.common.read.values.Constness.TheVariants.{Value, Constant}

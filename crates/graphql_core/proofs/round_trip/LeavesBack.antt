@@ -7,15 +7,13 @@ use Rattle.std.proofs.lemmas.Bool.{cases_eq, ltb-true, and_parts, and_from, fals
 use Rattle.std.proofs.lemmas.Fmt.{decimal_is_IsNumeral, decimal_by_steps}
 use Rattle.std.proofs.lemmas.List.Folds.{list_all-append}
 use Rattle.graphql_core.proofs.grammar.{same_spelling-true}
-use Rattle.graphql_core.specs.{is_name_continue, is_delimiter, is_in, is_natural, EndsRun, IsStringBody, body_ends}
-use Rattle.graphql_core.specs.{body_character, body_escape, name_token, integer_token, float_token, string_token}
-use Rattle.graphql_core.specs.{IsName, is_integer, NamesCharacter, StandsFor, HasValue, is_listed, same_spelling}
-use Rattle.graphql_core.specs.{IsFloatLiteral, shared, any, enum_class, int_of, string_of, without_ends, IsNameBut}
-use Rattle.graphql_core.specs.{hexadecimal_digit, unicode_escape, quoted_byte, quoted}
+use Rattle.graphql_core.specs.{is_name_continue, is_delimiter, is_in, is_natural, EndsRun, IsStringBody, body_ends, body_character, body_escape, name_token}
+use Rattle.graphql_core.specs.{integer_token, float_token, string_token, IsName, is_integer, NamesCharacter, StandsFor, HasValue, is_listed, same_spelling}
+use Rattle.graphql_core.specs.{IsFloatLiteral, shared, any, enum_class, int_of, string_of, without_ends, IsNameBut, hexadecimal_digit, unicode_escape}
+use Rattle.graphql_core.specs.{quoted_byte, quoted}
 use Rattle.std.proofs.lemmas.Bool.Decides.{nat_tests}
 use Rattle.std.proofs.lemmas.Str.{encode_ascii}
-use Rattle.graphql_core.proofs.strings.{literal_is_float, in_range, whole_exponent, in_quotes, some_unquoted}
-use Rattle.graphql_core.proofs.strings.{string_means}
+use Rattle.graphql_core.proofs.strings.{literal_is_float, in_range, whole_exponent, in_quotes, some_unquoted, string_means}
 use Rattle.graphql_core.proofs.layouts.{IsWord}
 use Rattle.graphql_core.proofs.round_trip.ReadingBack.{Takes}
 use Rattle.std.specs.Fmt.{decimal, signed_decimal}

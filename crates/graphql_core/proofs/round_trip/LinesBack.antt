@@ -1,8 +1,7 @@
 -- Lines in braces parse back, if a grammar takes the braces and the content of the lines.
 use Rattle.std.proofs.Common.{ℕ, ◌+◌, ◌<◌, Bool, false, List, [], codes, refl}
 use Rattle.graphql_core.specs.{Grammar, Expr, Then, ParseTree, Both, Part, punctuator_class, punctuator, in_braces}
-use Rattle.graphql_core.proofs.round_trip.ReadingBack.{Back, Takes, margin_back, gap_back, then_gap, open_back}
-use Rattle.graphql_core.proofs.round_trip.ReadingBack.{close_back, three_back}
+use Rattle.graphql_core.proofs.round_trip.ReadingBack.{Back, Takes, margin_back, gap_back, then_gap, open_back, close_back, three_back}
 use Rattle.graphql_core.specs.declared.tokenizer.token.Kind.TheVariants.{Punctuator}
 use Rattle.graphql_core.proofs.round_trip.ValuesBack.{spaces_blank}
 

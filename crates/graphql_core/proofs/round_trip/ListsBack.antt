@@ -3,9 +3,8 @@ use Rattle.std.proofs.Common.{◌≡◌, ℕ, ◌+◌, ◌≤◌, Bool, true, fa
 use Rattle.graphql_core.specs.{Grammar, Expr, Then, Many, Sym, ParseTree, Node, row, optional, some_of, punctuator_part}
 use Rattle.graphql_core.specs.{text_of, Part, punctuator_class, punctuator, IsReadBack, each_after, after_commas}
 use Rattle.graphql_core.specs.{in_parentheses, most, most_enclosed, each_of, optional_list_of, enclosed_of, Language}
-use Rattle.graphql_core.proofs.round_trip.ReadingBack.{Back, Takes, as_word_back, same_parts, gap_back, open_back}
-use Rattle.graphql_core.proofs.round_trip.ReadingBack.{close_back, both_back, first_back, node_back, stop_back}
-use Rattle.graphql_core.proofs.round_trip.ReadingBack.{more_back, three_back, read_back, second_back, nothing_back}
+use Rattle.graphql_core.proofs.round_trip.ReadingBack.{Back, Takes, as_word_back, same_parts, gap_back, open_back, close_back, both_back, first_back, node_back}
+use Rattle.graphql_core.proofs.round_trip.ReadingBack.{stop_back, more_back, three_back, read_back, second_back, nothing_back}
 use Rattle.graphql_core.proofs.layouts.{is_blank}
 use Rattle.std.specs.List.{AllByRecursion, list_all}
 use Rattle.graphql_core.specs.declared.tokenizer.token.Kind.TheVariants.{Punctuator}

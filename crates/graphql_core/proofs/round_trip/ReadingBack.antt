@@ -1,11 +1,10 @@
 -- Layouts that parse back: their parts can follow each other. At any positions the grammar derives their tokens, with a
 -- parse tree of which R holds.
 use Rattle.std.proofs.Common.{◌≡◌, ℕ, ◌+◌, ◌<◌, Bool, true, false, List, [], ◌∷◌, ◌++◌, refl, sym, ap, ap₂, ◌∙◌, subst}
-use Rattle.graphql_core.specs.{Derives, Expr, Empty, One, Then, Either, Many, Sym, ParseTree, Nothing, Leaf, Both, First}
-use Rattle.graphql_core.specs.{Second, Stop, More, Node, Grammar, row, accepts, leaves, Fits, fits_nothing}
-use Rattle.graphql_core.specs.{fits_leaf, fits_both, fits_first, fits_second, fits_stop, fits_more, fits_node}
-use Rattle.graphql_core.specs.{nesting_of, is_punctuator_byte, Token, Place, Class, Extends, TestsAlike, is_below, kind_number}
-use Rattle.graphql_core.specs.{Item, HasItems, split, IsEnd, Part, token, ignored, text_of}
+use Rattle.graphql_core.specs.{Derives, Expr, Empty, One, Then, Either, Many, Sym, ParseTree, Nothing, Leaf, Both, First, Second, Stop, More, Node, Grammar}
+use Rattle.graphql_core.specs.{row, accepts, leaves, Fits, fits_nothing, fits_leaf, fits_both, fits_first, fits_second, fits_stop, fits_more, fits_node}
+use Rattle.graphql_core.specs.{nesting_of, is_punctuator_byte, Token, Place, Class, Extends, TestsAlike, is_below, kind_number, Item, HasItems, split, IsEnd}
+use Rattle.graphql_core.specs.{Part, token, ignored, text_of}
 use Rattle.graphql_core.proofs.rules.{reads_on}
 use Rattle.std.specs.List.{list_all}
 use Rattle.graphql_core.specs.declared.tokenizer.token.Kind.{Kind}

@@ -1,11 +1,9 @@
 -- The layout of a type parses back.
 use Rattle.std.proofs.Common.{◌≡◌, ℕ, ◌+◌, ◌≤◌, Bool, true, false, List, [], ◌∷◌, ◌++◌, codes, refl, sym, ap, ◌∙◌, arith, append_assoc, append-nil}
-use Rattle.graphql_core.specs.{punctuator_part, Part, token, Sym, optional, TypeTree, named, list_of, non_null}
-use Rattle.graphql_core.specs.{type_layout, shared, type_symbol, punctuator, spelling_at, optional_non_null, type_of}
-use Rattle.graphql_core.specs.{AdmitsNull, IsPrintableType, type_brackets}
-use Rattle.graphql_core.proofs.round_trip.ReadingBack.{Back, as_word_back, anywhere_back, same_parts, means}
-use Rattle.graphql_core.proofs.round_trip.ReadingBack.{word_back, punctuator_back, open_back, close_back, nothing_back}
-use Rattle.graphql_core.proofs.round_trip.ReadingBack.{both_back, first_back, second_back, node_back, four_back}
+use Rattle.graphql_core.specs.{punctuator_part, Part, token, Sym, optional, TypeTree, named, list_of, non_null, type_layout, shared, type_symbol, punctuator}
+use Rattle.graphql_core.specs.{spelling_at, optional_non_null, type_of, AdmitsNull, IsPrintableType, type_brackets}
+use Rattle.graphql_core.proofs.round_trip.ReadingBack.{Back, as_word_back, anywhere_back, same_parts, means, word_back, punctuator_back, open_back, close_back}
+use Rattle.graphql_core.proofs.round_trip.ReadingBack.{nothing_back, both_back, first_back, second_back, node_back, four_back}
 use Rattle.graphql_core.specs.declared.tokenizer.token.Kind.TheVariants.{Punctuator}
 use Rattle.graphql_core.proofs.round_trip.LeavesBack.{name_word}
 

@@ -1,28 +1,21 @@
 -- The layouts of values parse back, as values and as constants.
 use Rattle.std.proofs.Common.{◌≡◌, ℕ, ◌+◌, ◌≤◌, Bool, true, false, if◌then◌else◌, zero, suc, List, [], ◌∷◌, ◌++◌, codes, refl, ap, ap₂, ◌∙◌, arith}
-use Rattle.graphql_core.specs.{name_part, punctuator_part, Part, token, gap, new_line, float, string, item, enum}
-use Rattle.graphql_core.specs.{object, no_items, int, ValueTree, ValueItems, ValueMembers, variable, boolean, null}
-use Rattle.graphql_core.specs.{list, no_members, member, Class, Expr, One, Many, Sym, ParseTree, Leaf, Both, First}
-use Rattle.graphql_core.specs.{Second, Stop, More, Node, IsName, Layout, spaces, symbol_of, pair_symbol_of}
-use Rattle.graphql_core.specs.{list_rule, object_rule, pair_rule, tree_of, trees_of, pair_of, pairs_by, as_list}
-use Rattle.graphql_core.specs.{as_object, value_layout, items_layout, members_layout, pair_layout, before_part}
-use Rattle.graphql_core.specs.{parts, after_parts, inside, boolean_name, has_block_form, in_block_form, quoted}
-use Rattle.graphql_core.specs.{shared, plain_symbol, spelling_at, plain_of, put_all, block_string_of}
-use Rattle.graphql_core.specs.{IsPrintableValue, ArePrintableItems, ArePrintableMembers, IsConstant, AreConstant}
-use Rattle.graphql_core.specs.{HoldConstants, value_brackets, items_brackets, members_brackets, IsLawful, AreLawful}
-use Rattle.graphql_core.specs.{HoldLawful}
+use Rattle.graphql_core.specs.{name_part, punctuator_part, Part, token, gap, new_line, float, string, item, enum, object, no_items, int, ValueTree, ValueItems}
+use Rattle.graphql_core.specs.{ValueMembers, variable, boolean, null, list, no_members, member, Class, Expr, One, Many, Sym, ParseTree, Leaf, Both, First}
+use Rattle.graphql_core.specs.{Second, Stop, More, Node, IsName, Layout, spaces, symbol_of, pair_symbol_of, list_rule, object_rule, pair_rule, tree_of}
+use Rattle.graphql_core.specs.{trees_of, pair_of, pairs_by, as_list, as_object, value_layout, items_layout, members_layout, pair_layout, before_part, parts}
+use Rattle.graphql_core.specs.{after_parts, inside, boolean_name, has_block_form, in_block_form, quoted, shared, plain_symbol, spelling_at, plain_of, put_all}
+use Rattle.graphql_core.specs.{block_string_of, IsPrintableValue, ArePrintableItems, ArePrintableMembers, IsConstant, AreConstant, HoldConstants}
+use Rattle.graphql_core.specs.{value_brackets, items_brackets, members_brackets, IsLawful, AreLawful, HoldLawful}
 use Rattle.graphql_core.proofs.layouts.{is_blank, block_word, block_means}
-use Rattle.graphql_core.proofs.round_trip.ReadingBack.{Any, as_word_back, anywhere_back, gap_back, word_back}
-use Rattle.graphql_core.proofs.round_trip.ReadingBack.{punctuator_back, open_back, close_back, both_back, first_back}
-use Rattle.graphql_core.proofs.round_trip.ReadingBack.{second_back, node_back, stop_back, more_back, three_back}
-use Rattle.graphql_core.proofs.round_trip.ReadingBack.{Back}
+use Rattle.graphql_core.proofs.round_trip.ReadingBack.{Any, as_word_back, anywhere_back, gap_back, word_back, punctuator_back, open_back, close_back, both_back}
+use Rattle.graphql_core.proofs.round_trip.ReadingBack.{first_back, second_back, node_back, stop_back, more_back, three_back, Back}
 use Rattle.std.specs.List.{list_all}
 use Rattle.graphql_core.specs.declared.tokenizer.token.Kind.TheVariants.{StringValue, BlockString}
 use Rattle.graphql_core.specs.declared.common.read.values.Constness.{Constness}
 use Rattle.graphql_core.specs.declared.common.read.values.Constness.TheVariants.{Value, Constant}
-use Rattle.graphql_core.proofs.round_trip.LeavesBack.{name_word, enum_takes, int_word, int_takes, int_decimal}
-use Rattle.graphql_core.proofs.round_trip.LeavesBack.{float_word, float_takes, quoted_word, quoted_takes}
-use Rattle.graphql_core.proofs.round_trip.LeavesBack.{quoted_means}
+use Rattle.graphql_core.proofs.round_trip.LeavesBack.{name_word, enum_takes, int_word, int_takes, int_decimal, float_word, float_takes, quoted_word}
+use Rattle.graphql_core.proofs.round_trip.LeavesBack.{quoted_takes, quoted_means}
 use Rattle.graphql_core.proofs.values.{pairs_in, put_all_in_order}
 
 -- ---- white space of parts

@@ -1,16 +1,13 @@
 -- What one grammar reads, a grammar that extends it reads in the same way.
-use Rattle.std.proofs.Common.{◌≡◌, ◌<◌, ℕ, zero, suc, Bool, true, ◌&&◌, List, [], ◌∷◌, ◌++◌, Option, length, replicate, refl, sym, ap, ap₂, subst, ◌∙◌}
-use Rattle.std.proofs.Common.{arith}
+use Rattle.std.proofs.Common.{◌≡◌, ◌<◌, ℕ, zero, suc, Bool, true, ◌&&◌, List, [], ◌∷◌, ◌++◌, Option, length, replicate, refl, sym, ap, ap₂, subst, ◌∙◌, arith}
 use Rattle.std.proofs.lemmas.Bool.{and_parts}
 use Rattle.std.proofs.lemmas.Bool.Decides.{nat_tests}
-use Rattle.graphql_core.specs.{Token, Class, matches, Expr, Empty, One, Then, Either, Many, Sym, ParseTree, Both, First}
-use Rattle.graphql_core.specs.{Second, More, Node, Row, Grammar, row_at, row, accepts, peek, Fits, fits_nothing}
-use Rattle.graphql_core.specs.{fits_leaf, fits_both, fits_first, fits_second, fits_stop, fits_more, fits_node}
-use Rattle.graphql_core.specs.{nullable, first, sees, choose, Takes, takes_nothing, takes_leaf, takes_both}
-use Rattle.graphql_core.specs.{takes_first, takes_second, takes_stop, takes_more, takes_node, Reason, Fails}
-use Rattle.graphql_core.specs.{fails_one, fails_value, fails_before, fails_after, fails_first, fails_second}
-use Rattle.graphql_core.specs.{fails_neither, fails_turn, fails_later, fails_node, fails_check, is_below, TestsAlike}
-use Rattle.graphql_core.specs.{Extends, ReadsOn, LeavesAlone, Change, unchanged, change_at, written}
+use Rattle.graphql_core.specs.{Token, Class, matches, Expr, Empty, One, Then, Either, Many, Sym, ParseTree, Both, First, Second, More, Node, Row, Grammar}
+use Rattle.graphql_core.specs.{row_at, row, accepts, peek, Fits, fits_nothing, fits_leaf, fits_both, fits_first, fits_second, fits_stop, fits_more, fits_node}
+use Rattle.graphql_core.specs.{nullable, first, sees, choose, Takes, takes_nothing, takes_leaf, takes_both, takes_first, takes_second, takes_stop, takes_more}
+use Rattle.graphql_core.specs.{takes_node, Reason, Fails, fails_one, fails_value, fails_before, fails_after, fails_first, fails_second, fails_neither}
+use Rattle.graphql_core.specs.{fails_turn, fails_later, fails_node, fails_check, is_below, TestsAlike, Extends, ReadsOn, LeavesAlone, Change, unchanged}
+use Rattle.graphql_core.specs.{change_at, written}
 
 pub below_is : (k n : ℕ) → is_below n (Sym k) ≡ true → k < n
 below_is k n h = grind (arith, nat_tests)

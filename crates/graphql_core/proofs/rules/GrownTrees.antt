@@ -2,12 +2,10 @@
 use Rattle.std.proofs.Common.{◌≡◌, ◌<◌, ℕ, zero, suc, true, ◌&&◌, List, [], ◌∷◌, ◌++◌, length, Option, Some, None, refl, sym, ap, ap₂, subst, ◌∙◌, arith}
 use Rattle.std.proofs.Common.{append-nil, ◌⊎◌, inl, inr}
 use Rattle.std.proofs.lemmas.Bool.{and_parts}
-use Rattle.graphql_core.specs.{Token, Class, matches, Expr, Then, Either, Many, Sym, ParseTree, Grammar, row, accepts}
-use Rattle.graphql_core.specs.{leaves, Derives, Fits, fits_nothing, fits_leaf, fits_both, fits_first, fits_second}
-use Rattle.graphql_core.specs.{fits_stop, fits_more, fits_node, has_tree, is_below, Growth, Same, InParts, InSides}
-use Rattle.graphql_core.specs.{InTurns, Before, After, AsFirst, AsSecond, later_tree, growth_at, either_way, grown}
-use Rattle.graphql_core.specs.{same_rule, no_tokens, has_empty, grows, is_none, is_whole, rule_grows, rules_grow}
-use Rattle.graphql_core.specs.{Grows}
+use Rattle.graphql_core.specs.{Token, Class, matches, Expr, Then, Either, Many, Sym, ParseTree, Grammar, row, accepts, leaves, Derives, Fits, fits_nothing}
+use Rattle.graphql_core.specs.{fits_leaf, fits_both, fits_first, fits_second, fits_stop, fits_more, fits_node, has_tree, is_below, Growth, Same, InParts}
+use Rattle.graphql_core.specs.{InSides, InTurns, Before, After, AsFirst, AsSecond, later_tree, growth_at, either_way, grown, same_rule, no_tokens, has_empty}
+use Rattle.graphql_core.specs.{grows, is_none, is_whole, rule_grows, rules_grow, Grows}
 use Rattle.graphql_core.proofs.rules.Unchanged.{same_rule-true}
 use Rattle.graphql_core.proofs.grammar.{fits-from_test}
 use Rattle.graphql_core.proofs.rules.Extending.{below_is}

@@ -1,14 +1,12 @@
 -- Trees of the second rules and trees of the written rules correspond one to one.
 use Rattle.std.proofs.Common.{◌≡◌, ℕ, zero, suc, true, List, [], ◌∷◌, ◌++◌, take, drop, Option, Some, None, refl, sym, ap, ap₂, subst, ◌∙◌, append_assoc}
 use Rattle.std.proofs.lemmas.Bool.{both_ways}
-use Rattle.graphql_core.specs.{Token, Class, Expr, Empty, Then, Either, Sym, ParseTree, Both, First, Second, More, Node}
-use Rattle.graphql_core.specs.{Row, Grammar, row_at, leaves, peek, Derives, Begins, Ends, Fits, fits_nothing}
-use Rattle.graphql_core.specs.{fits_leaf, fits_both, fits_first, fits_second, fits_stop, fits_more, fits_node}
-use Rattle.graphql_core.specs.{with_nodes, decides, is_ll1, has_samples, is_productive, unchecked, lax, IsValue}
-use Rattle.graphql_core.specs.{classes, Change, unchanged, change_at, written, with_rows, IsSecond, AreSecond}
-use Rattle.graphql_core.specs.{EachIsSecond, out_of_head, in_second, out_of_prefix, out_of_symbols, IsExactFor}
-use Rattle.graphql_core.specs.{leads_here, leads_before, leads_after, leads_first, leads_second, leads_node}
-use Rattle.graphql_core.specs.{IsTested, Leads, Ending, InputEnds, InvalidToken, EndsAt, IsWholeFor}
+use Rattle.graphql_core.specs.{Token, Class, Expr, Empty, Then, Either, Sym, ParseTree, Both, First, Second, More, Node, Row, Grammar, row_at, leaves, peek}
+use Rattle.graphql_core.specs.{Derives, Begins, Ends, Fits, fits_nothing, fits_leaf, fits_both, fits_first, fits_second, fits_stop, fits_more, fits_node}
+use Rattle.graphql_core.specs.{with_nodes, decides, is_ll1, has_samples, is_productive, unchecked, lax, IsValue, classes, Change, unchanged, change_at, written}
+use Rattle.graphql_core.specs.{with_rows, IsSecond, AreSecond, EachIsSecond, out_of_head, in_second, out_of_prefix, out_of_symbols, IsExactFor, leads_here}
+use Rattle.graphql_core.specs.{leads_before, leads_after, leads_first, leads_second, leads_node, IsTested, Leads, Ending, InputEnds, InvalidToken, EndsAt}
+use Rattle.graphql_core.specs.{IsWholeFor}
 use Rattle.graphql_core.proofs.grammar.{grammar_exact, value_in, reads_alike, grammar_whole}
 
 pub IsSecond-unchanged : (g : Grammar) (rs : List Row) (cs : List Change) (e : Expr) → IsSecond g rs cs e e unchanged

@@ -1,10 +1,9 @@
 -- What comes before one alternative of a choice, and before both alternatives of a symbol, is read before the choice.
 use Rattle.std.proofs.Common.{◌≡◌, ℕ, true, List, refl, sym, ap, subst}
 use Rattle.std.proofs.lemmas.Bool.{both_ways}
-use Rattle.graphql_core.specs.{classes, IsSecond, Change, change_at, written, with_rows, out_of_head, out_of_sides}
-use Rattle.graphql_core.specs.{leads_here, leads_after, IsTested, leads_before, leads_first, leads_second}
-use Rattle.graphql_core.specs.{leads_node, Leads, Grammar, Expr, Then, Either, Sym, ParseTree, Both, First, Second, Node}
-use Rattle.graphql_core.specs.{Row, row_at, leaves, Fits, fits_both, fits_first, fits_second, fits_node, Token, lax}
+use Rattle.graphql_core.specs.{classes, IsSecond, Change, change_at, written, with_rows, out_of_head, out_of_sides, leads_here, leads_after, IsTested}
+use Rattle.graphql_core.specs.{leads_before, leads_first, leads_second, leads_node, Leads, Grammar, Expr, Then, Either, Sym, ParseTree, Both, First, Second}
+use Rattle.graphql_core.specs.{Node, Row, row_at, leaves, Fits, fits_both, fits_first, fits_second, fits_node, Token, lax}
 
 -- The symbol k has d before p and before q, and is read as d and then one of them. s also has d before it; a does not.
 module _ (g : Grammar) (rs : List Row) (cs : List Change) (k : ℕ) (d s a p q : Expr)

@@ -1,9 +1,8 @@
 -- Second rules of which most are the written ones.
 use Rattle.std.proofs.Common.{◌≡◌, ℕ, zero, suc, Bool, true, false, ◌&&◌, eqb, List, [], ◌∷◌, ◌++◌, drop, replicate, refl, ap, ap₂, subst}
 use Rattle.std.proofs.lemmas.Bool.{eqb-true, and_parts}
-use Rattle.graphql_core.specs.{Class, Spelled, AnyOf, Except, same_spelling, same_spellings, Expr, Empty, One, Then}
-use Rattle.graphql_core.specs.{Either, Many, Sym, Row, Grammar, same_class, same_rule, Change, unchanged, IsSecond}
-use Rattle.graphql_core.specs.{AreSecond}
+use Rattle.graphql_core.specs.{Class, Spelled, AnyOf, Except, same_spelling, same_spellings, Expr, Empty, One, Then, Either, Many, Sym, Row, Grammar}
+use Rattle.graphql_core.specs.{same_class, same_rule, Change, unchanged, IsSecond, AreSecond}
 use Rattle.graphql_core.proofs.grammar.{same_spelling-true, same_spellings-true}
 use Rattle.graphql_core.proofs.rules.SecondRules.{IsSecond-unchanged}
 

@@ -1,9 +1,8 @@
 -- The position of the item that follows some tokens of an input.
 use Rattle.std.proofs.Common.{◌≡◌, ℕ, ◌<◌, Bool, true, false, List, [], ◌∷◌, ◌++◌, length, drop, refl, sym, ap, subst, ◌∙◌, arith}
-use Rattle.graphql_core.specs.{EndOfInput, LexicalError, Content, items_of, Where, Item, item_at, TokenContent}
-use Rattle.graphql_core.specs.{HasItems, start, past_ignored, past_token, is_too_deep, token_then, piece_then}
-use Rattle.graphql_core.specs.{tokens_then, split, place_of, place_next, Token, Place, too_deep, Meaning, Ignored}
-use Rattle.graphql_core.specs.{Word, Piece, next_place}
+use Rattle.graphql_core.specs.{EndOfInput, LexicalError, Content, items_of, Where, Item, item_at, TokenContent, HasItems, start, past_ignored, past_token}
+use Rattle.graphql_core.specs.{is_too_deep, token_then, piece_then, tokens_then, split, place_of, place_next, Token, Place, too_deep, Meaning, Ignored, Word}
+use Rattle.graphql_core.specs.{Piece, next_place}
 use Rattle.graphql_core.specs.declared.position.Pos.{Pos}
 
 abbrev pub HasMore : List Item → Type 0

@@ -3,10 +3,9 @@ use Rattle.std.proofs.Common.{◌≡◌, ◌≤◌, ◌-◌, ◌^◌, ℕ, false
 use Rattle.std.proofs.Common.{le_refl, arith}
 use Rattle.std.proofs.lemmas.List.Elements.{All-cons, All-head, All-tail, All-same}
 use Rattle.graphql_core.specs.declared.tokenizer.token.Token.{Token}
-use Rattle.graphql_core.specs.{bad_text, EndOfInput, LexicalError, is_token, Where, Item, item_at, TokenContent}
-use Rattle.graphql_core.specs.{Stream, one_more, last_alone, asked_once, NextItem, next_place, Token as Word}
-use Rattle.graphql_core.specs.{no_token, Items, split, held, items_since, then_items, only_last, IsLexeme}
-use Rattle.graphql_core.specs.{token_of, place_of, shown}
+use Rattle.graphql_core.specs.{bad_text, EndOfInput, LexicalError, is_token, Where, Item, item_at, TokenContent, Stream, one_more, last_alone, asked_once}
+use Rattle.graphql_core.specs.{NextItem, next_place, Token as Word, no_token, Items, split, held, items_since, then_items, only_last, IsLexeme, token_of}
+use Rattle.graphql_core.specs.{place_of, shown}
 use Rattle.graphql_core.specs.declared.tokenizer.token.Bad.{Bad}
 use Rattle.graphql_core.specs.declared.position.Pos.{Pos}
 use Rattle.graphql_core.specs.declared.tokenizer.token.Kind.{Kind}

@@ -5,10 +5,9 @@ use Rattle.std.proofs.lemmas.List.{take_at}
 use Rattle.std.proofs.lemmas.Str.{encodes-chars, IsUtf8-take, IsCharBoundary-start, IsCharBoundary-from_drop}
 use Rattle.std.proofs.lemmas.Bool.Decides.{nat_tests}
 use Rattle.graphql_core.specs.declared.tokenizer.piece.Move.TheVariants.{Stay, Down, Over}
-use Rattle.graphql_core.specs.{moved, past, past_character, past_characters, LexicalError, items_of, Where, Item}
-use Rattle.graphql_core.specs.{item_at, TokenContent, HasItems, start, past_ignored, past_token, is_too_deep}
-use Rattle.graphql_core.specs.{token_then, piece_then, NextItem, next_place, too_deep, Meaning, Ignored, Word}
-use Rattle.graphql_core.specs.{Stands, Piece, IsCutInto}
+use Rattle.graphql_core.specs.{moved, past, past_character, past_characters, LexicalError, items_of, Where, Item, item_at, TokenContent, HasItems, start}
+use Rattle.graphql_core.specs.{past_ignored, past_token, is_too_deep, token_then, piece_then, NextItem, next_place, too_deep, Meaning, Ignored, Word, Stands}
+use Rattle.graphql_core.specs.{Piece, IsCutInto}
 use Rattle.graphql_core.specs.declared.tokenizer.token.Token.{Token}
 use Rattle.graphql_core.specs.declared.tokenizer.piece.Move.{Move}
 use Rattle.graphql_core.specs.declared.tokenizer.token.Bad.{Bad}

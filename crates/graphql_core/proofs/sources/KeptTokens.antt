@@ -2,12 +2,10 @@
 use Rattle.std.proofs.Common.{◌≡◌, ℕ, ◌+◌, ◌<◌, ◌≤◌, Bool, true, false, List, [], ◌∷◌, ◌++◌, length, drop, take, refl, sym, ap, subst, ◌∙◌, arith}
 use Rattle.std.proofs.Common.{length-append, append_assoc}
 use Rattle.std.proofs.lemmas.List.{take_at, take-append-le, take-append-drop}
-use Rattle.graphql_core.specs.{ignored_tab, ignored_line_feed, ignored_carriage_return, ignored_comma}
-use Rattle.graphql_core.specs.{ignored_byte_order_mark, comment_feed, comment_return_feed, comment_return}
-use Rattle.graphql_core.specs.{name_token, punctuator_token, ignored_space, Meaning, Ignored, Word, Piece, IsCutInto}
-use Rattle.graphql_core.specs.{Stands, spread_token, integer_token, float_token, string_token, block_string_token}
-use Rattle.graphql_core.specs.{LexicalError, items_of, Where, Item, item_at, TokenContent, past_ignored, past_token}
-use Rattle.graphql_core.specs.{is_too_deep, token_then, piece_then, token_of, split, Token, too_deep, next_place}
+use Rattle.graphql_core.specs.{ignored_tab, ignored_line_feed, ignored_carriage_return, ignored_comma, ignored_byte_order_mark, comment_feed}
+use Rattle.graphql_core.specs.{comment_return_feed, comment_return, name_token, punctuator_token, ignored_space, Meaning, Ignored, Word, Piece, IsCutInto}
+use Rattle.graphql_core.specs.{Stands, spread_token, integer_token, float_token, string_token, block_string_token, LexicalError, items_of, Where, Item, item_at}
+use Rattle.graphql_core.specs.{TokenContent, past_ignored, past_token, is_too_deep, token_then, piece_then, token_of, split, Token, too_deep, next_place}
 use Rattle.graphql_core.specs.{kind_number}
 use Rattle.graphql_core.proofs.lexical.{cut_of}
 use Rattle.graphql_core.specs.declared.tokenizer.piece.Move.{Move}

@@ -1,8 +1,7 @@
 -- Items with the same contents are spaced and end in the same way.
 use Rattle.std.proofs.Common.{◌≡◌, ℕ, List, [], ◌∷◌, ◌++◌, refl, sym, ap, ◌∙◌, subst}
 use Rattle.graphql_core.specs.declared.position.Pos.{Pos}
-use Rattle.graphql_core.specs.{Content, Item, contents, nowhere, kind_number, Items, IsEnd, split, split_by}
-use Rattle.graphql_core.specs.{is_spaced, space_if, spaced_after}
+use Rattle.graphql_core.specs.{Content, Item, contents, nowhere, kind_number, Items, IsEnd, split, split_by, is_spaced, space_if, spaced_after}
 use Rattle.graphql_core.specs.lexical.Items as items
 
 -- the tokens among these contents, spaced after one of this kind

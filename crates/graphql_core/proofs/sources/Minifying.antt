@@ -2,19 +2,15 @@
 use Rattle.std.proofs.Common.{◌≡◌, ℕ, Bool, true, false, not, ◌&&◌, ◌||◌, List, [], ◌∷◌, ◌++◌, length, map, refl, sym, ap, ◌∙◌, subst, arith}
 use Rattle.std.proofs.lemmas.Bool.Decides.{nat_tests}
 use Rattle.graphql_core.specs.steps.Front.{AtEnd}
-use Rattle.graphql_core.specs.{name_token, punctuator_token, BeginsNone, ignored_space}
-use Rattle.graphql_core.specs.{is_punctuator_byte, Meaning, Ignored, Word, Stands, spread_token, integer_token, float_token}
-use Rattle.graphql_core.specs.{string_token, block_string_token, Piece, IsCutInto, LexicalError, openers_after}
-use Rattle.graphql_core.specs.{closers_after, Where, Item, item_at, TokenContent, HasItems, start, past_ignored}
-use Rattle.graphql_core.specs.{past_token, is_too_deep, token_then, piece_then, items_of, Token, Place, nowhere}
-use Rattle.graphql_core.specs.{kind_number, too_deep, front, split, token_of, IsEnd, is_past, AreLexemes}
-use Rattle.graphql_core.specs.{is_punctuator, is_number, is_spaced, space_if, spaced_after, spaced, unplaced}
-use Rattle.graphql_core.specs.{IsMinified, HasTokens}
+use Rattle.graphql_core.specs.{name_token, punctuator_token, BeginsNone, ignored_space, is_punctuator_byte, Meaning, Ignored, Word, Stands, spread_token}
+use Rattle.graphql_core.specs.{integer_token, float_token, string_token, block_string_token, Piece, IsCutInto, LexicalError, openers_after, closers_after}
+use Rattle.graphql_core.specs.{Where, Item, item_at, TokenContent, HasItems, start, past_ignored, past_token, is_too_deep, token_then, piece_then, items_of}
+use Rattle.graphql_core.specs.{Token, Place, nowhere, kind_number, too_deep, front, split, token_of, IsEnd, is_past, AreLexemes, is_punctuator, is_number}
+use Rattle.graphql_core.specs.{is_spaced, space_if, spaced_after, spaced, unplaced, IsMinified, HasTokens}
 use Rattle.graphql_core.specs.steps.Following.{MayFollow}
 use Rattle.graphql_core.proofs.lexical.{items_unique, ahead_of, stands_front}
 use Rattle.graphql_core.specs.declared.tokenizer.token.Kind.{Kind}
-use Rattle.graphql_core.specs.declared.tokenizer.token.Kind.TheVariants.{Punctuator, Name, IntValue, FloatValue}
-use Rattle.graphql_core.specs.declared.tokenizer.token.Kind.TheVariants.{StringValue, BlockString}
+use Rattle.graphql_core.specs.declared.tokenizer.token.Kind.TheVariants.{Punctuator, Name, IntValue, FloatValue, StringValue, BlockString}
 use Rattle.graphql_core.specs.declared.tokenizer.piece.Move.TheVariants.{Over}
 use Rattle.graphql_core.specs.declared.tokenizer.piece.Nesting.{Nesting}
 use Rattle.graphql_core.specs.declared.tokenizer.piece.Nesting.TheVariants.{Level, Opens, Closes}

@@ -10,10 +10,9 @@ use Rattle.graphql_core.specs.declared.tokenizer.token.Bad.{Bad}
 use Rattle.std.specs.Str.{IsCharBoundary, IsUtf8}
 use Rattle.graphql_core.specs.declared.position.Pos.{Pos}
 use Rattle.graphql_core.specs.declared.tokenizer.token.Kind.{Kind}
-use Rattle.graphql_core.specs.{Where, Item, item_at, TokenContent, EndOfInput, LexicalError, bad_text, HasItems, NextItem, next_place}
-use Rattle.graphql_core.specs.{Token, kind_number, Items, Last, IsLexeme, split, only_last, then_items, token_of, after, IsNextFault}
-use Rattle.graphql_core.specs.{max_length, Refusal, first_byte, Marks, span_token, then_left, span_items, last_at}
-use Rattle.graphql_core.specs.{IsLeft, IsLast, Word, peek}
+use Rattle.graphql_core.specs.{Where, Item, item_at, TokenContent, EndOfInput, LexicalError, bad_text, HasItems, NextItem, next_place, Token, kind_number}
+use Rattle.graphql_core.specs.{Items, Last, IsLexeme, split, only_last, then_items, token_of, after, IsNextFault, max_length, Refusal, first_byte, Marks}
+use Rattle.graphql_core.specs.{span_token, then_left, span_items, last_at, IsLeft, IsLast, Word, peek}
 use Rattle.graphql_core.specs.declared.helpers.span.Span.{Span}
 use Rattle.graphql_core.proofs.sources.TokenPlaces.{IsToken, StandsIn, part, tokens_stand}
 

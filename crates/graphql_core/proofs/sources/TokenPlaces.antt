@@ -5,12 +5,10 @@ use Rattle.std.proofs.lemmas.List.{drop_at, take_at, drop-drop}
 use Rattle.std.proofs.lemmas.List.Elements.{All-nil, All-cons}
 use Rattle.std.proofs.lemmas.Str.{IsUtf8-take, IsUtf8-drop, IsCharBoundary-from_drop}
 use Rattle.graphql_core.specs.declared.tokenizer.piece.Move.TheVariants.{Stay, Down, Over}
-use Rattle.graphql_core.specs.{steps_over, Meaning, Ignored, Word, Stands, Piece, IsCutInto, EndOfInput}
-use Rattle.graphql_core.specs.{LexicalError, past_character, past_characters, Content, Where, Item, item_at}
-use Rattle.graphql_core.specs.{TokenContent, HasItems, start, past_ignored, past_token, is_too_deep, token_then}
-use Rattle.graphql_core.specs.{piece_then, items_of, too_deep, IsLexeme, token_of}
-use Rattle.graphql_core.proofs.lexical.{Part, PieceFits, front_within, stands_front, characters_fit}
-use Rattle.graphql_core.proofs.lexical.{character_bounds}
+use Rattle.graphql_core.specs.{steps_over, Meaning, Ignored, Word, Stands, Piece, IsCutInto, EndOfInput, LexicalError, past_character, past_characters, Content}
+use Rattle.graphql_core.specs.{Where, Item, item_at, TokenContent, HasItems, start, past_ignored, past_token, is_too_deep, token_then, piece_then, items_of}
+use Rattle.graphql_core.specs.{too_deep, IsLexeme, token_of}
+use Rattle.graphql_core.proofs.lexical.{Part, PieceFits, front_within, stands_front, characters_fit, character_bounds}
 use Rattle.graphql_core.specs.declared.tokenizer.piece.Move.{Move}
 use Rattle.std.specs.Str.{chars, IsCharBoundary}
 use Rattle.graphql_core.specs.declared.position.Pos.{Pos}

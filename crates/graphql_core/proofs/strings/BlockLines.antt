@@ -6,14 +6,12 @@ use Rattle.std.proofs.Common.{length, map, get_or, take, drop, Result, Ok, Err, 
 use Rattle.std.proofs.Math.Nat.{min-le_left, min-le_right, min-zero}
 use Rattle.std.proofs.lemmas.Bool.{and_parts, cases_Bool, eqb-true, false_from_ne_true, false≢true, ne_eqb}
 use Rattle.std.proofs.lemmas.Bool.Decides.{nat_tests}
-use Rattle.std.proofs.lemmas.List.{drop_min, take_all, drop_all, take-map, drop-map, append-nil, flat_map_more, take_more}
-use Rattle.std.proofs.lemmas.List.{length-take-le}
+use Rattle.std.proofs.lemmas.List.{drop_min, take_all, drop_all, take-map, drop-map, append-nil, flat_map_more, take_more, length-take-le}
 use Rattle.std.proofs.lemmas.List.Folds.{flat_map-map}
 use Rattle.std.proofs.lemmas.List.Sums.{prefix_len-le-length, prefix_len_passes, suffix_len-take_no, suffix_len-take_yes}
 use Rattle.std.proofs.lemmas.List.FromFn.{length-enumerate_from, get_or-enumerate_from}
 use Rattle.std.proofs.lemmas.Str.{IsCharBoundary-start, IsCharBoundary-after_ascii}
-use Rattle.graphql_core.specs.{begins_escape, begins_quotes, is_white, is_blank_line, indent, common_indent}
-use Rattle.graphql_core.specs.{unindented, unescaped, value_of_lines}
+use Rattle.graphql_core.specs.{begins_escape, begins_quotes, is_white, is_blank_line, indent, common_indent, unindented, unescaped, value_of_lines}
 use Rattle.std.specs.Option.{unwrap_or}
 use Rattle.std.specs.Str.{IsUtf8, IsCharBoundary}
 

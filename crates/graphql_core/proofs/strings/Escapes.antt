@@ -14,10 +14,9 @@ use Rattle.std.proofs.lemmas.List.{take_at, drop_at, get_or_append_left, append-
 use Rattle.std.proofs.lemmas.Str.{IsCharBoundary-after_ascii, encode_ascii, char_from_byte}
 use Rattle.std.proofs.lemmas.Str.Ascii.{IsAscii-cons, IsAscii-nil}
 use Rattle.std.proofs.lemmas.Str.Parse.{without_leading_plus_none}
-use Rattle.graphql_core.specs.{NamesCharacter, StandsFor, HasValue, IsInQuotes, BeginsName, BeginsNoName}
-use Rattle.graphql_core.specs.{BeginsEscape, BeginsNoEscape, itself, escaped_quote, escaped_backslash, escaped_slash}
-use Rattle.graphql_core.specs.{escaped_backspace, escaped_form_feed, escaped_line_feed, escaped_carriage_return}
-use Rattle.graphql_core.specs.{escaped_tab, escaped_unicode, no_units, unit_then}
+use Rattle.graphql_core.specs.{NamesCharacter, StandsFor, HasValue, IsInQuotes, BeginsName, BeginsNoName, BeginsEscape, BeginsNoEscape, itself, escaped_quote}
+use Rattle.graphql_core.specs.{escaped_backslash, escaped_slash, escaped_backspace, escaped_form_feed, escaped_line_feed, escaped_carriage_return, escaped_tab}
+use Rattle.graphql_core.specs.{escaped_unicode, no_units, unit_then}
 
 -- ---- hexadecimal digits
 

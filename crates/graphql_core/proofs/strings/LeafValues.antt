@@ -6,20 +6,17 @@ use Rattle.std.proofs.lemmas.Int.{to_z-of_z}
 use Rattle.std.proofs.lemmas.Bool.{eqb-true, leb-true, ltb-true, le-leb, lt-ltb, and_parts, or_parts, cases_Bool, false_from_ne_true, false≢true}
 use Rattle.std.proofs.lemmas.List.{take_at}
 use Rattle.std.proofs.lemmas.List.Folds.{list_any-append}
-use Rattle.graphql_core.specs.{is_natural, is_fraction, is_exponent, IsFloat, with_fraction, with_exponent}
-use Rattle.graphql_core.specs.{with_both, ClosesBlock, closing, escape, unit, name_token, punctuator_token, Stands}
-use Rattle.graphql_core.specs.{Word, integer_token, block_string_token, float_token, string_token, spread_token}
-use Rattle.graphql_core.specs.{is_integer, IsLexeme, is_whole_exponent, EndsFloat, fraction, exponent, both}
-use Rattle.graphql_core.specs.{IsFloatLiteral, IsInQuotes, IsInTripleQuotes, Token, kind_number, int_of, is_in_range}
-use Rattle.graphql_core.specs.{is_exponent_indicator, after_indicator, has_whole_exponent, without_ends}
+use Rattle.graphql_core.specs.{is_natural, is_fraction, is_exponent, IsFloat, with_fraction, with_exponent, with_both, ClosesBlock, closing, escape, unit}
+use Rattle.graphql_core.specs.{name_token, punctuator_token, Stands, Word, integer_token, block_string_token, float_token, string_token, spread_token}
+use Rattle.graphql_core.specs.{is_integer, IsLexeme, is_whole_exponent, EndsFloat, fraction, exponent, both, IsFloatLiteral, IsInQuotes, IsInTripleQuotes}
+use Rattle.graphql_core.specs.{Token, kind_number, int_of, is_in_range, is_exponent_indicator, after_indicator, has_whole_exponent, without_ends}
 use Rattle.graphql_core.proofs.lexical.{natural_digits}
 use Rattle.std.specs.Char.{is_ascii_digit}
 use Rattle.graphql_core.specs.declared.tokenizer.piece.Nesting.{Nesting}
 use Rattle.std.proofs.lemmas.Bool.Decides.{nat_tests}
 use Rattle.std.specs.List.{list_all, list_any}
 use Rattle.graphql_core.specs.declared.tokenizer.token.Kind.{Kind}
-use Rattle.graphql_core.specs.declared.tokenizer.token.Kind.TheVariants.{Punctuator, Name, IntValue, FloatValue}
-use Rattle.graphql_core.specs.declared.tokenizer.token.Kind.TheVariants.{StringValue, BlockString}
+use Rattle.graphql_core.specs.declared.tokenizer.token.Kind.TheVariants.{Punctuator, Name, IntValue, FloatValue, StringValue, BlockString}
 
 -- ---- integers
 

@@ -10,8 +10,7 @@ use Rattle.std.proofs.lemmas.List.Sums.{prefix_len_stops, prefix_len-le-length}
 use Rattle.std.specs.Str.{IsUtf8, IsCharBoundary}
 use Rattle.std.proofs.lemmas.Bool.Decides.{nat_tests}
 use Rattle.graphql_core.proofs.strings.BlockLines.{no_quotes}
-use Rattle.graphql_core.specs.{is_unescaped, begins_quotes, hexadecimal_digit, unicode_escape, quoted_byte}
-use Rattle.graphql_core.specs.{escaped_quotes, ends_in_return}
+use Rattle.graphql_core.specs.{is_unescaped, begins_quotes, hexadecimal_digit, unicode_escape, quoted_byte, escaped_quotes, ends_in_return}
 
 -- ---- in quotes
 

@@ -6,11 +6,9 @@ use Rattle.std.proofs.lemmas.Bool.{ne_eqb, cases_eq, and_parts, not-true, cases_
 use Rattle.std.proofs.lemmas.Int.Digits.{digits_value-lt}
 use Rattle.std.specs.Option.{unwrap_or}
 use Rattle.std.specs.Str.Parse.{digits_value}
-use Rattle.graphql_core.specs.{NamesCharacter, StandsFor, HasNoStringValue, itself, escaped_quote, escaped_backslash}
-use Rattle.graphql_core.specs.{escaped_slash, escaped_backspace, escaped_form_feed, escaped_line_feed}
-use Rattle.graphql_core.specs.{escaped_carriage_return, escaped_tab, escaped_unicode, no_units, unit_then, HasValue}
-use Rattle.graphql_core.specs.{string_of, without_ends, before, escape_of, is_surrogate, named_by, unquoted, escaped}
-use Rattle.graphql_core.specs.{unquoted_unicode}
+use Rattle.graphql_core.specs.{NamesCharacter, StandsFor, HasNoStringValue, itself, escaped_quote, escaped_backslash, escaped_slash, escaped_backspace}
+use Rattle.graphql_core.specs.{escaped_form_feed, escaped_line_feed, escaped_carriage_return, escaped_tab, escaped_unicode, no_units, unit_then, HasValue}
+use Rattle.graphql_core.specs.{string_of, without_ends, before, escape_of, is_surrogate, named_by, unquoted, escaped, unquoted_unicode}
 use Rattle.std.proofs.lemmas.Bool.Decides.{nat_tests}
 use Rattle.graphql_core.proofs.strings.Escapes.{all_digits}
 use Rattle.std.specs.List.{list_all}

@@ -3,10 +3,9 @@ use Rattle.std.proofs.Common.{◌≡◌, ◌≤◌, ℕ, zero, suc, ◌+◌, ◌
 use Rattle.std.proofs.lemmas.Bool.{and_parts}
 use Rattle.graphql_core.proofs.rules.{below_is, row_same, rule_alike, rule_below}
 use Rattle.std.specs.List.{AllByRecursion}
-use Rattle.graphql_core.specs.{Token, Class, matches, Expr, Empty, One, Then, Either, Many, Sym, ParseTree, Nothing}
-use Rattle.graphql_core.specs.{Leaf, Both, First, Second, Stop, More, Node, Row, Grammar, row_at, row, accepts, Fits}
-use Rattle.graphql_core.specs.{fits_nothing, fits_leaf, fits_both, fits_first, fits_second, fits_stop, fits_more}
-use Rattle.graphql_core.specs.{fits_node, is_below, TestsAlike, Extends, IsLexeme}
+use Rattle.graphql_core.specs.{Token, Class, matches, Expr, Empty, One, Then, Either, Many, Sym, ParseTree, Nothing, Leaf, Both, First, Second, Stop, More}
+use Rattle.graphql_core.specs.{Node, Row, Grammar, row_at, row, accepts, Fits, fits_nothing, fits_leaf, fits_both, fits_first, fits_second, fits_stop}
+use Rattle.graphql_core.specs.{fits_more, fits_node, is_below, TestsAlike, Extends, IsLexeme}
 use Rattle.graphql_core.specs.declared.tokenizer.piece.Nesting.{Nesting}
 use Rattle.graphql_core.specs.declared.tokenizer.piece.Nesting.TheVariants.{Level, Opens, Closes}
 use Rattle.graphql_core.proofs.values.NestingDepth.{Past, NestsTree, class_nesting, has_nesting, past_class}

@@ -1,8 +1,7 @@
 -- How the leaves of a tree are spelled.
 use Rattle.std.proofs.Common.{◌≡◌, ℕ, true, not, ◌==◌, List, sym, ap, ◌∙◌}
 use Rattle.std.proofs.lemmas.Bool.{both_ways, and_parts, not-true}
-use Rattle.graphql_core.specs.{class_kind, Class, Except, is_listed, matches, Grammar, One, ParseTree, kind_number}
-use Rattle.graphql_core.specs.{IsName, spelling_at}
+use Rattle.graphql_core.specs.{class_kind, Class, Except, is_listed, matches, Grammar, One, ParseTree, kind_number, IsName, spelling_at}
 use Rattle.graphql_core.proofs.values.NestingDepth.{class_name}
 use Rattle.graphql_core.proofs.values.BracketRoom.{HasRoom, room_leaf}
 use Rattle.graphql_core.specs.declared.tokenizer.token.Kind.TheVariants.{Name}

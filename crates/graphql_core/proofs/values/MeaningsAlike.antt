@@ -3,18 +3,14 @@
 use Rattle.std.proofs.Common.{◌≡◌, ℕ, true, false, List, ◌∷◌, Some, Result, Ok, Err, refl, sym, ap, ap₂, ◌∙◌, subst, map}
 use Rattle.graphql_core.proofs.sources.{minified_tokens}
 use Rattle.graphql_core.proofs.lexical.{items_unique}
-use Rattle.graphql_core.specs.{float, string, item, enum, object, int, ValueTree, TypeTree, named, list_of, no_place}
-use Rattle.graphql_core.specs.{erase, erase_all, variable, list, no_members, Token, Class, ParseTree, accepts, Item}
-use Rattle.graphql_core.specs.{HasItems, Items, split, IsEnd, IsMinified, Refusal, int_of, string_of}
-use Rattle.graphql_core.specs.{block_string_of, spelling_at, plain_of, put_all, value_of, values_of, argument_of}
-use Rattle.graphql_core.specs.{pairs_of, const_of, consts_of, const_pair_of, const_pairs_of, default_of}
-use Rattle.graphql_core.specs.{optional_default_of, optional_non_null, type_of, arguments_of, optional_arguments_of}
-use Rattle.graphql_core.specs.{directive_of, directives_of, IsDocument, IsDocumentOf, IsReadBack, IsParsed, AreAlike}
-use Rattle.graphql_core.specs.{is_there, optional_of, optional_list_of, each_of, enclosed_of, separated_of, joined_of}
-use Rattle.graphql_core.specs.{Language, valued}
-use Rattle.graphql_core.proofs.values.TreesAlike.{SameTrees, same_leaf, same_block, same_both, same_first, same_second}
-use Rattle.graphql_core.proofs.values.TreesAlike.{same_more, same_node, left_tree, right_tree, SameLeaf, AlikeBy, Alike}
-use Rattle.graphql_core.proofs.values.TreesAlike.{alike_values, have_blocks_last, blocks_last_at, refilled}
+use Rattle.graphql_core.specs.{float, string, item, enum, object, int, ValueTree, TypeTree, named, list_of, no_place, erase, erase_all, variable, list}
+use Rattle.graphql_core.specs.{no_members, Token, Class, ParseTree, accepts, Item, HasItems, Items, split, IsEnd, IsMinified, Refusal, int_of, string_of}
+use Rattle.graphql_core.specs.{block_string_of, spelling_at, plain_of, put_all, value_of, values_of, argument_of, pairs_of, const_of, consts_of, const_pair_of}
+use Rattle.graphql_core.specs.{const_pairs_of, default_of, optional_default_of, optional_non_null, type_of, arguments_of, optional_arguments_of, directive_of}
+use Rattle.graphql_core.specs.{directives_of, IsDocument, IsDocumentOf, IsReadBack, IsParsed, AreAlike, is_there, optional_of, optional_list_of, each_of}
+use Rattle.graphql_core.specs.{enclosed_of, separated_of, joined_of, Language, valued}
+use Rattle.graphql_core.proofs.values.TreesAlike.{SameTrees, same_leaf, same_block, same_both, same_first, same_second, same_more, same_node, left_tree}
+use Rattle.graphql_core.proofs.values.TreesAlike.{right_tree, SameLeaf, AlikeBy, Alike, alike_values, have_blocks_last, blocks_last_at, refilled}
 
 -- ---- optional parts and lists
 

@@ -6,14 +6,11 @@ use Rattle.std.proofs.lemmas.Bool.Decides.{nat_tests}
 use Rattle.std.proofs.lemmas.List.Elements.{All-nil, All-cons}
 use Rattle.std.proofs.lemmas.Bool.{cases_Bool, and_parts, or_cases, false_from_ne_true, eq-eqb, both_ways}
 use Rattle.std.proofs.lemmas.List.{drop_at, drop-drop, length-replicate}
-use Rattle.graphql_core.specs.{class_kind, takes_spelling, in_any, apart_from, within_any, Token, Place, Class}
-use Rattle.graphql_core.specs.{Spelled, matches, name_token, punctuator_token, is_opener, is_closer, IsName, Meaning}
-use Rattle.graphql_core.specs.{Ignored, Word, Stands, spread_token, integer_token, float_token, string_token}
-use Rattle.graphql_core.specs.{block_string_token, Piece, IsCutInto, HasItemsFrom, depth_of, is_full, last_item}
-use Rattle.graphql_core.specs.{Where, Item, item_at, TokenContent, HasItems, start, past_ignored, past_token}
-use Rattle.graphql_core.specs.{piece_then, items_of, AreItemsOfRest, next_place, ParseTree, Nothing, Leaf, Both, First}
-use Rattle.graphql_core.specs.{Second, Stop, More, Node, leaves, kind_number, Last, split, place_of, token_of}
-use Rattle.graphql_core.specs.{IsLexeme}
+use Rattle.graphql_core.specs.{class_kind, takes_spelling, in_any, apart_from, within_any, Token, Place, Class, Spelled, matches, name_token, punctuator_token}
+use Rattle.graphql_core.specs.{is_opener, is_closer, IsName, Meaning, Ignored, Word, Stands, spread_token, integer_token, float_token, string_token}
+use Rattle.graphql_core.specs.{block_string_token, Piece, IsCutInto, HasItemsFrom, depth_of, is_full, last_item, Where, Item, item_at, TokenContent, HasItems}
+use Rattle.graphql_core.specs.{start, past_ignored, past_token, piece_then, items_of, AreItemsOfRest, next_place, ParseTree, Nothing, Leaf, Both, First, Second}
+use Rattle.graphql_core.specs.{Stop, More, Node, leaves, kind_number, Last, split, place_of, token_of, IsLexeme}
 use Rattle.graphql_core.proofs.grammar.{all_within-sound, apart_from-sound}
 use Rattle.graphql_core.specs.declared.tokenizer.token.Kind.{Kind}
 use Rattle.graphql_core.specs.declared.tokenizer.token.Kind.TheVariants.{Punctuator, Name}

@@ -7,8 +7,7 @@ use Rattle.std.proofs.lemmas.Cmp.{nat_list_cmp_total}
 use Rattle.std.specs.Cmp.Lexicographic.{slice_cmp}
 use Rattle.std.specs.List.{AllByRecursion}
 use Rattle.std.specs.List.Sorted.{IsStrictlySortedBy}
-use Rattle.graphql_core.specs.{ValueTree, ValueMembers, keys, AreInKeyOrder, put, no_members, member, value_view}
-use Rattle.graphql_core.specs.{members_view}
+use Rattle.graphql_core.specs.{ValueTree, ValueMembers, keys, AreInKeyOrder, put, no_members, member, value_view, members_view}
 use Rattle.graphql_core.specs.declared.common.tree.Value.{Value}
 
 -- keys that are compared by their bytes

@@ -1,9 +1,7 @@
 -- The rest of an input from an item on, as an input itself.
 use Rattle.std.proofs.Common.{◌≡◌, ℕ, ◌+◌, Bool, true, false, List, [], ◌∷◌, ◌++◌, length, drop, refl, sym, ap, subst, ◌∙◌, arith}
-use Rattle.graphql_core.specs.{LexicalError, items_of, TokenContent, past_ignored, past_token, is_too_deep}
-use Rattle.graphql_core.specs.{token_then, piece_then, item_at, Where, Item, HasItems, start, token_of, split, IsEnd}
-use Rattle.graphql_core.specs.{too_deep, Meaning, Ignored, Word, Stands, Piece, IsCutInto, Token, next_place}
-use Rattle.graphql_core.specs.{unplaced}
+use Rattle.graphql_core.specs.{LexicalError, items_of, TokenContent, past_ignored, past_token, is_too_deep, token_then, piece_then, item_at, Where, Item}
+use Rattle.graphql_core.specs.{HasItems, start, token_of, split, IsEnd, too_deep, Meaning, Ignored, Word, Stands, Piece, IsCutInto, Token, next_place, unplaced}
 use Rattle.graphql_core.specs.declared.tokenizer.piece.Nesting.TheVariants.{Opens, Closes, Level}
 use Rattle.graphql_core.specs.declared.tokenizer.piece.Nesting.{Nesting}
 use Rattle.graphql_core.proofs.values.NestingDepth.{past_bytes}

@@ -1,23 +1,17 @@
 -- What the shared productions derive can be printed.
 use Rattle.std.specs.Ordering.{match_ordering}
 use Rattle.std.proofs.Common.{ℕ, ◌-◌, ◌≤◌, List, [], ◌∷◌, Ordering, Less, Equal, Greater, nat_cmp, codes, refl, arith, ◌≡◌, true, sym, subst}
-use Rattle.graphql_core.specs.{Grammar, Many, Sym, ParseTree, optional, One, Then, row, some_of, Node, Expr, IsName}
-use Rattle.graphql_core.specs.{ValueTree, ValueMembers, put, TypeTree, named, list_of, no_members, member, shared}
-use Rattle.graphql_core.specs.{punctuator, value_symbol, const_symbol, const_pair_symbol, plain_symbol, type_symbol}
-use Rattle.graphql_core.specs.{arguments_symbol, argument_symbol, directives_symbol, directive_symbol}
-use Rattle.graphql_core.specs.{default_symbol, spelling_at, plain_of, put_all, value_of, values_of, argument_of}
-use Rattle.graphql_core.specs.{pairs_of, const_of, consts_of, const_pair_of, const_pairs_of, default_of}
-use Rattle.graphql_core.specs.{optional_non_null, type_of, arguments_of, optional_arguments_of, directive_of}
-use Rattle.graphql_core.specs.{directives_of, optional_default_of, IsPrintableValue, ArePrintableItems}
-use Rattle.graphql_core.specs.{ArePrintableMembers, AreConstant, HoldConstants, AdmitsNull, IsPrintableType}
-use Rattle.graphql_core.specs.{IsPrintableArgument, IsPrintableDirective, IsPrintableDefault, value_brackets}
-use Rattle.graphql_core.specs.{items_brackets, members_brackets, type_brackets, argument_brackets}
-use Rattle.graphql_core.specs.{arguments_brackets, directive_brackets, directives_brackets, most, most_enclosed}
-use Rattle.graphql_core.specs.{each_of, optional_of, optional_list_of, enclosed_of, Class, Token, Items, split}
-use Rattle.graphql_core.specs.{IsDocument, IsDocumentOf, Language}
-use Rattle.graphql_core.proofs.values.BracketRoom.{HasRoom, room_nothing, room_leaf, room_both, room_first}
-use Rattle.graphql_core.proofs.values.BracketRoom.{room_second, room_stop, room_more, room_node, all_turns, has_room}
-use Rattle.graphql_core.proofs.values.BracketRoom.{openers, room_after, are_balanced}
+use Rattle.graphql_core.specs.{Grammar, Many, Sym, ParseTree, optional, One, Then, row, some_of, Node, Expr, IsName, ValueTree, ValueMembers, put, TypeTree}
+use Rattle.graphql_core.specs.{named, list_of, no_members, member, shared, punctuator, value_symbol, const_symbol, const_pair_symbol, plain_symbol, type_symbol}
+use Rattle.graphql_core.specs.{arguments_symbol, argument_symbol, directives_symbol, directive_symbol, default_symbol, spelling_at, plain_of, put_all, value_of}
+use Rattle.graphql_core.specs.{values_of, argument_of, pairs_of, const_of, consts_of, const_pair_of, const_pairs_of, default_of, optional_non_null, type_of}
+use Rattle.graphql_core.specs.{arguments_of, optional_arguments_of, directive_of, directives_of, optional_default_of, IsPrintableValue, ArePrintableItems}
+use Rattle.graphql_core.specs.{ArePrintableMembers, AreConstant, HoldConstants, AdmitsNull, IsPrintableType, IsPrintableArgument, IsPrintableDirective}
+use Rattle.graphql_core.specs.{IsPrintableDefault, value_brackets, items_brackets, members_brackets, type_brackets, argument_brackets, arguments_brackets}
+use Rattle.graphql_core.specs.{directive_brackets, directives_brackets, most, most_enclosed, each_of, optional_of, optional_list_of, enclosed_of, Class, Token}
+use Rattle.graphql_core.specs.{Items, split, IsDocument, IsDocumentOf, Language}
+use Rattle.graphql_core.proofs.values.BracketRoom.{HasRoom, room_nothing, room_leaf, room_both, room_first, room_second, room_stop, room_more, room_node}
+use Rattle.graphql_core.proofs.values.BracketRoom.{all_turns, has_room, openers, room_after, are_balanced}
 use Rattle.graphql_core.proofs.values.NestingDepth.{Nests, Anything, nests, nests_tree}
 use Rattle.std.specs.Cmp.Lexicographic.{slice_cmp}
 use Rattle.std.specs.List.{AllByRecursion}

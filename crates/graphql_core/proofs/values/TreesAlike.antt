@@ -2,11 +2,9 @@
 use Rattle.std.proofs.Common.{◌≡◌, ◌⊎◌, ℕ, zero, suc, Bool, true, false, not, ◌&&◌, ◌||◌, ◌==◌, if◌then◌else◌, List, [], ◌∷◌, ◌++◌, map, inl, inr, refl}
 use Rattle.std.proofs.Common.{sym, ap, ap₂, ◌∙◌, subst}
 use Rattle.std.proofs.lemmas.Bool.{and_parts, eqb-true, not-true}
-use Rattle.graphql_core.specs.{Grammar, Expr, Empty, One, Then, Either, Many, Sym, Row, row, row_at, ParseTree}
-use Rattle.graphql_core.specs.{Nothing, Leaf, Both, First, Second, Stop, More, Node, leaves, accepts, matches, Fits}
-use Rattle.graphql_core.specs.{fits_nothing, fits_leaf, fits_both, fits_first, fits_second, fits_stop, fits_more}
-use Rattle.graphql_core.specs.{fits_node, Token, Class, Spelled, AnyOf, Except, class_kind, kind_number, unplaced}
-use Rattle.graphql_core.specs.{block_string_of, has_value, is_good, valued}
+use Rattle.graphql_core.specs.{Grammar, Expr, Empty, One, Then, Either, Many, Sym, Row, row, row_at, ParseTree, Nothing, Leaf, Both, First, Second, Stop, More}
+use Rattle.graphql_core.specs.{Node, leaves, accepts, matches, Fits, fits_nothing, fits_leaf, fits_both, fits_first, fits_second, fits_stop, fits_more}
+use Rattle.graphql_core.specs.{fits_node, Token, Class, Spelled, AnyOf, Except, class_kind, kind_number, unplaced, block_string_of, has_value, is_good, valued}
 use Rattle.graphql_core.specs.declared.tokenizer.token.Kind.TheVariants.{BlockString}
 
 -- ---- tokens with the same value

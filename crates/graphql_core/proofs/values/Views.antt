@@ -2,9 +2,8 @@
 use Rattle.std.specs.BTreeMap.{BTreeMap}
 use Rattle.std.proofs.Common.{◌≡◌, ℕ, ◌+◌, ◌<◌, ℤ, Bool, List, ◌∷◌, Box, Vec, String, string_bytes, length, get_or, drop, rules, ap, sym, ◌∙◌}
 use Rattle.std.proofs.lemmas.List.{at_drop_more}
-use Rattle.graphql_core.specs.{float, string, item, enum, object, int, named, list_of, non_null, variable, boolean}
-use Rattle.graphql_core.specs.{null, list, value_view, items_view, members_view, arguments_view, type_view}
-use Rattle.graphql_core.specs.{directive_view, directives_view}
+use Rattle.graphql_core.specs.{float, string, item, enum, object, int, named, list_of, non_null, variable, boolean, null, list, value_view, items_view}
+use Rattle.graphql_core.specs.{members_view, arguments_view, type_view, directive_view, directives_view}
 use Rattle.std.specs.Global.{Global}
 use Rattle.graphql_core.specs.declared.common.tree.Value.{Value, the_lemmas}
 use Rattle.graphql_core.specs.declared.common.tree.Type.{the_lemmas as type_lemmas}

@@ -7,8 +7,8 @@ use Rattle.graphql_core.specs.grammar.{Improper, lax, IsFault, IsLeast, IsRefuse
 use Rattle.graphql_core.specs.declared.tokenizer.token.Kind.TheVariants.{IntValue, FloatValue, StringValue}
 use Rattle.graphql_core.specs.lexical.{Item, HasItems}
 use Rattle.graphql_core.specs.sources.{CauseText, kind_number, int_out_of_range, malformed_float, bad_escape, Items}
-use Rattle.graphql_core.specs.sources.{Last, LastIsEnd, LastIsError, split, fault_by, FaultText, Tells, at}
-use Rattle.graphql_core.specs.sources.{no_memory, max_length, too_long, Refusal}
+use Rattle.graphql_core.specs.sources.{Last, LastIsEnd, LastIsError, split, fault_by, FaultText, Tells, at, no_memory}
+use Rattle.graphql_core.specs.sources.{max_length, too_long, Refusal}
 use Rattle.graphql_core.specs.strings.{IsFloatLiteral, IsInQuotes}
 use Rattle.graphql_core.specs.values.{int_of}
 use Rattle.graphql_core.specs.documents.Languages.{Language}

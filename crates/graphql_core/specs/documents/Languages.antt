@@ -1,6 +1,7 @@
 -- A language: its grammar, the documents that its parse trees denote, and the rules by which it is parsed.
 use Rattle.std.specs.Prelude.{ℕ, List}
-use Rattle.graphql_core.specs.grammar.{with_rows, Change, Token, Class, ParseTree, Expr, Row, Grammar, row}
+use Rattle.graphql_core.specs.theory.{with_rows, Change}
+use Rattle.graphql_core.specs.grammar.{Token, Class, ParseTree, Expr, Row, Grammar, row}
 use Rattle.graphql_core.specs.sources.{CauseText, FaultText}
 
 -- `D` is the type of its documents.

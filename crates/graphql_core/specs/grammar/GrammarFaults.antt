@@ -2,9 +2,16 @@
 use Rattle.std.specs.Prelude.{◌≡◌, ◌≤◌, ℕ, suc, true, false, List, [], ◌∷◌, ◌++◌, length}
 use Rattle.graphql_core.specs.grammar.Tokens.{Token, Class, matches}
 use Rattle.graphql_core.specs.grammar.Trees.{Expr, One, Sym, ParseTree, Grammar, row, leaves, peek, Fits, Begins, Ends}
-use Rattle.graphql_core.specs.grammar.Reading.{Reason, Unexpected, Improper, Refused, lax}
+use Rattle.graphql_core.specs.grammar.Trees.{lax}
 use Rattle.graphql_core.specs.grammar.NextPlaces.{Leads}
-use Rattle.graphql_core.specs.grammar.Texts.{Text, InputEnds, InvalidToken, Tree, Rejected, Answers}
+use Rattle.graphql_core.specs.grammar.Texts.{Text, InputEnds, InvalidToken}
+
+-- a token or end of input that is not allowed here, a token that is rejected as a leaf of its class,
+-- or a node that fails the check of its symbol
+pub data Reason : Type 0 where
+  Unexpected : Reason
+  Improper : (class : Class) → Reason
+  Refused : (symbol : ℕ) → Reason
 
 -- no list that the expression derives begins with `ts` and continues with the first token of `us`
 abbrev pub StopsBefore : Grammar → Expr → List Token → List Token → Type 0
@@ -40,19 +47,3 @@ IsLeast g e t why n = IsFault g e t why n × ((other : Reason) (m : ℕ) → IsF
 abbrev pub index_of : Reason → ℕ → ℕ
 index_of (Refused k) place = place
 index_of why place = suc place
-
--- The reader of `h` returns the first error by `g`.
-pub record AnswersLeast (g h : Grammar) (e : Expr) : Type 0 where
-  -- a parse tree only if there is no error
-  pub tree : (t : Text) (x : ParseTree) → Answers h e t (Tree x) → (why : Reason) (n : ℕ) → IsFault g e t why n → ⊥
-  pub wrong : (t : Text) (why : Reason) (place : ℕ) → Answers h e t (Rejected why place)
-      → IsLeast g e t why (index_of why place)
-  -- no two errors have the same index
-  pub one_index : (t : Text) (why other : Reason) (n : ℕ) → IsFault g e t why n → IsFault g e t other n → why ≡ other
-  -- so the first error is unique
-  pub one : (t : Text) (why other : Reason) (m n : ℕ) → IsLeast g e t why m → IsLeast g e t other n
-      → (why ≡ other) × (m ≡ n)
-
--- no node without tokens is rejected
-abbrev pub RefusesTokens : Grammar → Type 0
-RefusesTokens g = (k : ℕ) (x : ParseTree) → Fits g (row g k).rule x → g.check k x ≡ false → leaves x ≡ [] → ⊥

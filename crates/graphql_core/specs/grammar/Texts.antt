@@ -1,11 +1,7 @@
--- What a reader returns for a whole input.
-use Rattle.std.specs.Prelude.{◌≡◌, ◌↔◌, ◌≤◌, ℕ, ◌-◌, List, [], ◌∷◌, length, take, drop}
-use Rattle.graphql_core.specs.grammar.Tokens.{Token, Class}
-use Rattle.graphql_core.specs.grammar.Trees.{Expr, ParseTree, Row, Grammar, peek, Derives, Begins, Ends}
-use Rattle.graphql_core.specs.grammar.Factored.{Change, written, with_rows}
-use Rattle.graphql_core.specs.grammar.Reading.{Reason, Unexpected, Improper, Outcome, Done, Fault, ReadsTo}
-use Rattle.graphql_core.specs.grammar.Reading.{unchecked, lax}
-use Rattle.graphql_core.specs.grammar.Theorems.{IsValue}
+-- An input as a grammar sees it.
+use Rattle.std.specs.Prelude.{List, []}
+use Rattle.graphql_core.specs.grammar.Tokens.{Token}
+use Rattle.graphql_core.specs.grammar.Trees.{Expr, Grammar, peek, Ends}
 
 -- after the last token: the end of the input or an invalid token
 pub data Ending : Type 0 where
@@ -15,53 +11,7 @@ pub record Text : Type 0 where
   pub tokens : List Token
   pub ending : Ending
 
-pub data Answer : Type 0 where
-  Tree : (x : ParseTree) → Answer
-  Rejected : (why : Reason) (place : ℕ) → Answer
-
--- a parse tree only if no token is left; `place` is the number of tokens before the place where the reader stopped
-abbrev pub answer_of : Text → Outcome → Answer
-answer_of t (Fault why us) = Rejected why (length t.tokens - length us)
-answer_of t (Done x (u ∷ us)) = Rejected Unexpected (length t.tokens - length (u ∷ us))
-answer_of t (Done x []) = at_end t.ending
-  where
-    at_end : Ending → Answer
-    at_end InputEnds = Tree x
-    at_end InvalidToken = Rejected Unexpected (length t.tokens)
-
--- the reader returns `a` for the input `t`
-abbrev pub Answers : Grammar → Expr → Text → Answer → Type 0
-Answers g e t a = (o : Outcome) × ReadsTo g e t.tokens o × (a ≡ answer_of t o)
-
 -- no derived list continues after `front` with the next token, invalid token or end of input
 abbrev pub EndsAt : Grammar → Expr → List Token → List Token → Ending → Type 0
 EndsAt g e front [] InvalidToken = Unit {0}
 EndsAt g e front us ending = Ends g e front (peek us)
-
--- The first error, after `place` tokens: no derived list continues there.
--- The plain grammar (`lax g`) continues with an improper token, but not with an unexpected one.
-pub record IsGrammarFaultAt (g : Grammar) (e : Expr) (t : Text) (why : Reason) (place : ℕ) : Type 0 where
-  pub within : place ≤ length t.tokens
-  pub begins : Begins (unchecked g) e (take place t.tokens)
-  pub ends : EndsAt g e (take place t.tokens) (drop place t.tokens) t.ending
-  pub value : (c : Class) → why ≡ Improper c → IsValue g e (take place t.tokens) c (drop place t.tokens)
-  pub unexpected : why ≡ Unexpected → EndsAt (lax g) e (take place t.tokens) (drop place t.tokens) t.ending
-
-pub record IsWhole (g : Grammar) (e : Expr) : Type 0 where
-  -- a parse tree is returned exactly if the grammar derives it from the whole input
-  pub tree : (t : Text) (x : ParseTree) → Answers g e t (Tree x) ↔ (Derives g e t.tokens x × (t.ending ≡ InputEnds))
-  -- an error is at the first place where no derived list continues
-  pub wrong : (t : Text) (why : Reason) (place : ℕ) → Answers g e t (Rejected why place)
-      → IsGrammarFaultAt g e t why place
-  -- there is exactly one result
-  pub answer : (t : Text) → (a : Answer) × Answers g e t a
-  pub one : (t : Text) (a b : Answer) → Answers g e t a → Answers g e t b → a ≡ b
-
--- the same for a written grammar `g` that is read by its factored rules
-pub record IsWholeFor (g : Grammar) (rs : List Row) (cs : List Change) (e : Expr) : Type 0 where
-  pub sound : (t : Text) (x : ParseTree) → Answers (with_rows g rs cs) e t (Tree x)
-      → Derives g e t.tokens (written cs x) × (t.ending ≡ InputEnds)
-  pub complete : (t : Text) (y : ParseTree) → Derives g e t.tokens y → t.ending ≡ InputEnds
-      → (x : ParseTree) × Answers (with_rows g rs cs) e t (Tree x) × (written cs x ≡ y)
-  pub wrong : (t : Text) (why : Reason) (place : ℕ) → Answers (with_rows g rs cs) e t (Rejected why place)
-      → IsGrammarFaultAt g e t why place

@@ -107,3 +107,15 @@ peek (t ∷ ts) = Some t
 -- no list that the expression derives begins with these tokens and continues with `item`: a token, or `None` at the end
 abbrev pub Ends : Grammar → Expr → List Token → Option Token → Type 0
 Ends g e ts item = (x : ParseTree) (more : List Token) → Derives g e (ts ++ more) x → peek more ≡ item → ⊥
+
+-- the same rules with other tests of leaves and nodes
+abbrev pub with_tests : Grammar → (Class → Token → Bool) → (ℕ → ParseTree → Bool) → Grammar
+with_tests g good check = record { rows = g.rows; good = good; check = check; samples = g.samples }
+
+-- the grammar without tests of nodes
+abbrev pub unchecked : Grammar → Grammar
+unchecked g = with_tests g g.good (λ k x. true)
+
+-- the plain grammar: no leaf and no node is rejected
+abbrev pub lax : Grammar → Grammar
+lax g = with_tests g (λ c t. true) (λ k x. true)

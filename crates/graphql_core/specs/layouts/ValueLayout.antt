@@ -5,17 +5,15 @@ use Rattle.std.specs.Fmt.{signed_decimal}
 use Rattle.std.specs.List.{slice_split, list_all, list_any, flat_map}
 use Rattle.std.specs.Option.{option_map_or}
 use Rattle.std.specs.Str.{chars}
-use Rattle.graphql_core.specs.declared.tokenizer.token.Kind.TheVariants.{IntValue, FloatValue, StringValue}
-use Rattle.graphql_core.specs.declared.tokenizer.token.Kind.TheVariants.{BlockString}
+use Rattle.graphql_core.specs.declared.tokenizer.token.Kind.TheVariants.{IntValue, FloatValue, StringValue, BlockString}
 use Rattle.graphql_core.specs.lexical.{begins_quotes}
 use Rattle.graphql_core.specs.strings.{is_white, is_blank_line}
 use Rattle.graphql_core.specs.layouts.Style.{Layout, default_style, spaces}
 use Rattle.graphql_core.specs.layouts.TextParts.{Part, token, name_part, punctuator_part, gap, new_line}
-use Rattle.graphql_core.specs.values.{float, string, item, enum, object, int, ValueTree, variable, boolean, null}
-use Rattle.graphql_core.specs.values.{list, ValueItems, no_items, ValueMembers, no_members, member, TypeTree, named}
-use Rattle.graphql_core.specs.values.{list_of, non_null, DirectiveTree, Weights, most, value_depth, items_depth}
-use Rattle.graphql_core.specs.values.{members_depth, argument_depth, arguments_depth, directives_depth}
-use Rattle.graphql_core.specs.values.{default_depth}
+use Rattle.graphql_core.specs.values.{float, string, item, enum, object, int, ValueTree, variable, boolean, null, list}
+use Rattle.graphql_core.specs.values.{ValueItems, no_items, ValueMembers, no_members, member, TypeTree, named, list_of}
+use Rattle.graphql_core.specs.values.{non_null, DirectiveTree, Weights, most, value_depth, items_depth, members_depth}
+use Rattle.graphql_core.specs.values.{argument_depth, arguments_depth, directives_depth, default_depth}
 use Rattle.graphql_core.specs.layouts.Lines.{each_after}
 
 -- ---- strings in quotes

@@ -1,14 +1,10 @@
 -- A minified output: the spellings of the tokens, with a space only where two tokens would otherwise run together.
-use Rattle.std.specs.Prelude.{◌≡◌, ℕ, Bool, true, false, not, ◌&&◌, ◌||◌, ◌==◌, ◌+◌, List, [], ◌∷◌, ◌++◌, map}
+use Rattle.std.specs.Prelude.{◌≡◌, ℕ, Bool, true, false, not, ◌&&◌, ◌||◌, ◌==◌, List, [], ◌∷◌, ◌++◌, map}
 use Rattle.graphql_core.specs.grammar.{Token, Spelled, matches, nowhere}
 use Rattle.graphql_core.specs.declared.tokenizer.token.Kind.TheVariants.{Punctuator, IntValue, FloatValue}
-use Rattle.graphql_core.specs.declared.tokenizer.token.Kind.{Kind}
-use Rattle.graphql_core.specs.declared.tokenizer.piece.Nesting.{Nesting}
-use Rattle.graphql_core.specs.declared.tokenizer.piece.Nesting.TheVariants.{Level, Opens, Closes}
-use Rattle.graphql_core.specs.lexical.{Stands, Word, Item, HasItems, openers_after, closers_after}
+use Rattle.graphql_core.specs.lexical.{Item, HasItems}
 use Rattle.graphql_core.specs.sources.Causes.{kind_number}
-use Rattle.graphql_core.specs.sources.Source.{Items, LastIsError, IsEnd, split}
-use Rattle.graphql_core.specs.sources.Refusals.{Refusal, Tells}
+use Rattle.graphql_core.specs.sources.Source.{IsEnd, split}
 
 -- ---- spaced tokens
 
@@ -55,24 +51,3 @@ unplaced t = record { kind = t.kind; spelling = t.spelling; place = nowhere }
 abbrev pub HasTokens : (text : List ℕ) → List Token → Type 0
 HasTokens text ts = (items : List Item) × HasItems text items × (map unplaced (split items).tokens ≡ map unplaced ts)
     × IsEnd (split items).last
-
--- ---- tokens that are lexical elements
-
--- an opening bracket would be the 51st that is open
-abbrev pub is_past : Nesting → (openers closers : ℕ) → Bool
-is_past Level o c = false
-is_past Opens o c = o == c + 50
-is_past Closes o c = false
-
--- Each token is a lexical element before some input. At most 50 brackets are open, counting those before the tokens.
-abbrev pub AreLexemes : (openers closers : ℕ) → List Token → Type 0
-AreLexemes o c [] = Unit {0}
-AreLexemes o c (t ∷ ts) =
-    (k : Kind) × (n : Nesting) × (rest : List ℕ) × (t.kind ≡ kind_number k) × Stands t.spelling (Word k n) rest
-    × (is_past n o c ≡ false) × AreLexemes (openers_after n o) (closers_after n c) ts
-
--- ---- errors
-
--- the error is out of memory, or it is the lexical error that ends the items
-abbrev pub IsBadPlaceOf : Items → Refusal → Type 0
-IsBadPlaceOf i r = Tells (λ f. i.last ≡ LastIsError f.place f.cause) r

@@ -1,11 +1,13 @@
 -- What a reader returned, and where it left its source. The definitions serve every grammar.
 use Rattle.std.specs.Prelude.{◌≡◌, List, ◌++◌, map, Result, Ok, Err, Option, Some, None}
-use Rattle.graphql_core.specs.grammar.{Takes, Fails, Expr, ParseTree, Grammar, Reason, Unexpected, Improper}
+use Rattle.graphql_core.specs.theory.{Takes, Fails}
+use Rattle.graphql_core.specs.grammar.{Expr, ParseTree, Grammar, Reason, Unexpected, Improper}
 use Rattle.graphql_core.specs.declared.tokenizer.token.Kind.TheVariants.{IntValue, FloatValue, StringValue}
-use Rattle.graphql_core.specs.sources.{Items, kept}
+use Rattle.graphql_core.specs.sources.{Items}
+use Rattle.graphql_core.specs.steps.Sources.{kept}
 use Rattle.graphql_core.specs.declared.helpers.read_error.ReadError.{ReadError}
-use Rattle.graphql_core.specs.declared.helpers.read_error.ReadError.TheVariants.{Memory, Item, Integer, Float}
-use Rattle.graphql_core.specs.declared.helpers.read_error.ReadError.TheVariants.{Escape, Location}
+use Rattle.graphql_core.specs.declared.helpers.read_error.ReadError.TheVariants.{Memory, Item, Integer, Float, Escape}
+use Rattle.graphql_core.specs.declared.helpers.read_error.ReadError.TheVariants.{Location}
 use Rattle.graphql_core.specs.values.{any, location_class}
 
 -- the theory's reason for which a reader stopped; `None` for out of memory

@@ -5,9 +5,9 @@ use Rattle.graphql_core.specs.sources.{Items}
 use Rattle.graphql_core.specs.steps.Matching.{sees_class}
 use Rattle.graphql_core.specs.declared.common.read.values.Constness.{Constness}
 use Rattle.graphql_core.specs.declared.common.read.values.Constness.TheVariants.{Value, Constant}
-use Rattle.graphql_core.specs.values.{punctuator, name, punctuator_class, value_symbol, const_symbol}
-use Rattle.graphql_core.specs.values.{argument_symbol, const_pair_symbol, ValueTree, ValueItems, value_of, values_of}
-use Rattle.graphql_core.specs.values.{argument_of, pairs_of, const_of, consts_of, const_pair_of, const_pairs_of}
+use Rattle.graphql_core.specs.values.{punctuator, name, punctuator_class, value_symbol, const_symbol, argument_symbol}
+use Rattle.graphql_core.specs.values.{const_pair_symbol, ValueTree, ValueItems, value_of, values_of, argument_of}
+use Rattle.graphql_core.specs.values.{pairs_of, const_of, consts_of, const_pair_of, const_pairs_of}
 
 -- ---- the productions of a sort
 

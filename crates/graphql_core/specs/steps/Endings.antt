@@ -5,7 +5,8 @@ use Rattle.graphql_core.specs.declared.tokenizer.token.Token.{Token}
 use Rattle.graphql_core.specs.lexical.{bad_text, Stream}
 use Rattle.graphql_core.specs.declared.helpers.cursor.Ending.{Ending}
 use Rattle.graphql_core.specs.sources.{no_token, Items, LastIsEnd, LastIsError, then_items, token_of, only_last}
-use Rattle.graphql_core.specs.sources.{spending, items_since, place_of}
+use Rattle.graphql_core.specs.steps.Sources.{spending, items_since}
+use Rattle.graphql_core.specs.sources.{place_of}
 use Rattle.graphql_core.specs.declared.helpers.cursor.Ending.TheVariants as ending
 
 -- the items of a source where this token or this ending is next, the stream is after it, and its `cuts` was `n`

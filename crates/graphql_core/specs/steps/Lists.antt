@@ -1,8 +1,9 @@
 -- Lists whose elements follow one another without separators.
 use Rattle.std.specs.Prelude.{◌≡◌, ℕ, true, false, List, [], ◌∷◌}
-use Rattle.graphql_core.specs.grammar.{nullable, first, Takes, Token, Class, Expr, One, Then, Many, Sym}
+use Rattle.graphql_core.specs.theory.{nullable, first, Takes}
+use Rattle.graphql_core.specs.grammar.{Token, Class, Expr, One, Then, Many, Sym, ParseTree, Nothing, Leaf, Both, First}
+use Rattle.graphql_core.specs.grammar.{Second, Node, Grammar, row, some_of}
 use Rattle.graphql_core.specs.values.Parts.{each_of}
-use Rattle.graphql_core.specs.grammar.{ParseTree, Nothing, Leaf, Both, First, Second, Node, Grammar, row, some_of}
 
 -- The symbol `k` is a non-empty list between an opener and a closer. None of its nodes is rejected.
 -- `m` is what a node denotes, and `f` what an element denotes.

@@ -1,9 +1,11 @@
 -- One token at a time: a match takes exactly one token, or leaves the source as it is.
 use Rattle.std.specs.Prelude.{◌≡◌, Bool, true, false, [], ◌∷◌, Result, Ok, Err}
-use Rattle.graphql_core.specs.grammar.{Token, Class, matches, peek, sees}
+use Rattle.graphql_core.specs.grammar.{Token, Class, matches, peek}
+use Rattle.graphql_core.specs.theory.{sees}
 use Rattle.graphql_core.specs.declared.helpers.read_error.ReadError.{ReadError}
 use Rattle.graphql_core.specs.declared.helpers.read_error.ReadError.TheVariants.{Memory, Item}
-use Rattle.graphql_core.specs.sources.{Items, kept}
+use Rattle.graphql_core.specs.sources.{Items}
+use Rattle.graphql_core.specs.steps.Sources.{kept}
 
 -- the next token is of the class
 abbrev pub sees_class : Class → Items → Bool

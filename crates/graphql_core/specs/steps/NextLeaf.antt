@@ -2,7 +2,8 @@
 use Rattle.std.specs.Prelude.{◌≡◌, ℕ, true, false, if◌then◌else◌, List, ◌∷◌, drop, codes, Result, Ok, Err}
 use Rattle.graphql_core.specs.grammar.{same_spelling}
 use Rattle.graphql_core.specs.declared.tokenizer.token.Kind.{Kind}
-use Rattle.graphql_core.specs.sources.{Items, IsLexeme, lexeme_token}
+use Rattle.graphql_core.specs.sources.{Items}
+use Rattle.graphql_core.specs.steps.Sources.{IsLexeme, lexeme_token}
 use Rattle.graphql_core.specs.steps.Matching.{TakesOne}
 use Rattle.graphql_core.specs.declared.helpers.read_error.ReadError.{ReadError}
 use Rattle.graphql_core.specs.declared.helpers.source.Lexeme.{Lexeme}

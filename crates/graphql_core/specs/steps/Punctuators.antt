@@ -3,9 +3,9 @@ use Rattle.std.specs.Prelude.{ℕ, List, [], ◌∷◌, codes}
 use Rattle.graphql_core.specs.grammar.{Token, Class, Spelled}
 use Rattle.graphql_core.specs.declared.helpers.punctuator.Punctuator.{Punctuator}
 use Rattle.graphql_core.specs.declared.helpers.punctuator.Punctuator.TheVariants.{Bang, Dollar, Ampersand, OpenParen}
-use Rattle.graphql_core.specs.declared.helpers.punctuator.Punctuator.TheVariants.{CloseParen, Spread, Colon, Equals}
-use Rattle.graphql_core.specs.declared.helpers.punctuator.Punctuator.TheVariants.{At, OpenBracket, CloseBracket}
-use Rattle.graphql_core.specs.declared.helpers.punctuator.Punctuator.TheVariants.{OpenBrace, Pipe, CloseBrace}
+use Rattle.graphql_core.specs.declared.helpers.punctuator.Punctuator.TheVariants.{CloseParen, Spread, Colon, Equals, At}
+use Rattle.graphql_core.specs.declared.helpers.punctuator.Punctuator.TheVariants.{OpenBracket, CloseBracket, OpenBrace}
+use Rattle.graphql_core.specs.declared.helpers.punctuator.Punctuator.TheVariants.{Pipe, CloseBrace}
 use Rattle.graphql_core.specs.sources.{kind_number}
 use Rattle.graphql_core.specs.declared.tokenizer.token.Kind.TheVariants as kinds
 

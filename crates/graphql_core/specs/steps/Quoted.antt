@@ -1,6 +1,6 @@
 -- Where a string ends, byte by byte. `IsStringBody` and `ClosesBlock` specify strings.
-use Rattle.std.specs.Prelude.{ℕ, zero, suc, ◌+◌, Bool, not, ◌&&◌, ◌==◌, if◌then◌else◌, List, [], ◌∷◌}
-use Rattle.std.specs.Prelude.{Option, Some, None}
+use Rattle.std.specs.Prelude.{ℕ, zero, suc, ◌+◌, Bool, not, ◌&&◌, ◌==◌, if◌then◌else◌, List, [], ◌∷◌, Option, Some}
+use Rattle.std.specs.Prelude.{None}
 use Rattle.graphql_core.specs.lexical.{begins_quotes, begins_escape}
 
 -- the bytes up to the closing quote, including it, after `n` bytes

@@ -1,8 +1,8 @@
 -- The error for which a reader stopped, at the next item of its source.
 use Rattle.std.specs.Prelude.{◌≡◌}
 use Rattle.graphql_core.specs.declared.helpers.read_error.ReadError.{ReadError}
-use Rattle.graphql_core.specs.declared.helpers.read_error.ReadError.TheVariants.{Memory, Item, Integer, Float}
-use Rattle.graphql_core.specs.declared.helpers.read_error.ReadError.TheVariants.{Escape, Location}
+use Rattle.graphql_core.specs.declared.helpers.read_error.ReadError.TheVariants.{Memory, Item, Integer, Float, Escape}
+use Rattle.graphql_core.specs.declared.helpers.read_error.ReadError.TheVariants.{Location}
 use Rattle.graphql_core.specs.sources.{CauseText, int_out_of_range, malformed_float, bad_escape, unknown_location}
 use Rattle.graphql_core.specs.sources.{Items, FaultText, place_next, Refusal, IsNextFault, at, no_memory}
 

@@ -8,8 +8,9 @@ use Rattle.graphql_core.specs.declared.tokenizer.token.Bad.{Bad}
 use Rattle.graphql_core.specs.lexical.{Where, Item, item_at, HasItems, bad_text}
 use Rattle.graphql_core.specs.lexical.Items as lexer
 use Rattle.graphql_core.specs.declared.helpers.span.Span.{Span}
-use Rattle.graphql_core.specs.sources.{kind_number, Items, IsLexeme, Last, LastIsEnd, LastIsError, max_length}
-use Rattle.graphql_core.specs.sources.{no_token, only_last, place_of, split}
+use Rattle.graphql_core.specs.sources.{kind_number, Items, Last, LastIsEnd, LastIsError, max_length, no_token}
+use Rattle.graphql_core.specs.steps.Sources.{IsLexeme}
+use Rattle.graphql_core.specs.sources.{only_last, place_of, split}
 
 -- the token that a span describes; `number` returns the value of a number of type `W`
 abbrev pub span_token : {W : Type 0} → (W → ℕ) → List ℕ → Span W → Token

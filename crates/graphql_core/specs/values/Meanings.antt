@@ -1,9 +1,9 @@
 -- What the parse trees of values, types and directives denote, one line per production.
 use Rattle.std.specs.Prelude.{ℕ, true, false, List, [], ◌∷◌, Option}
 use Rattle.graphql_core.specs.grammar.{Token, Place, nowhere, ParseTree, Leaf, Both, First, Second, More, Node}
-use Rattle.graphql_core.specs.values.Values.{float, string, item, enum, object, int, ValueTree, variable, boolean}
-use Rattle.graphql_core.specs.values.Values.{null, list, ValueItems, no_items, ValueMembers, no_members, put}
-use Rattle.graphql_core.specs.values.Values.{TypeTree, named, list_of, non_null, DirectiveTree}
+use Rattle.graphql_core.specs.values.Values.{float, string, item, enum, object, int, ValueTree, variable, boolean, null}
+use Rattle.graphql_core.specs.values.Values.{list, ValueItems, no_items, ValueMembers, no_members, put, TypeTree, named}
+use Rattle.graphql_core.specs.values.Values.{list_of, non_null, DirectiveTree}
 use Rattle.graphql_core.specs.values.Leaves.{int_of, string_of, block_string_of}
 use Rattle.graphql_core.specs.values.Parts.{optional_of, optional_list_of, each_of}
 

@@ -1,8 +1,8 @@
 -- How deep ASTs nest, in brackets or in levels: one fold, with a weight for each part.
 use Rattle.std.specs.Prelude.{ℕ, ◌+◌, max, Bool, true, false, if◌then◌else◌, List, [], ◌∷◌, Option}
 use Rattle.std.specs.Option.{option_map_or}
-use Rattle.graphql_core.specs.values.Values.{string, item, object, ValueTree, list, ValueItems, no_items}
-use Rattle.graphql_core.specs.values.Values.{ValueMembers, no_members, member, TypeTree, DirectiveTree}
+use Rattle.graphql_core.specs.values.Values.{string, item, object, ValueTree, list, ValueItems, no_items, ValueMembers}
+use Rattle.graphql_core.specs.values.Values.{no_members, member, TypeTree, DirectiveTree}
 
 -- ---- lists of trees
 

@@ -1,9 +1,9 @@
 -- The abstract values that declared values, types and directives stand for.
 use Rattle.std.specs.Prelude.{ℕ, List, [], ◌∷◌, map, string_bytes}
 use Rattle.graphql_core.specs.sources.{place_of}
-use Rattle.graphql_core.specs.values.Values.{float, string, item, enum, object, int, ValueTree, variable, boolean}
-use Rattle.graphql_core.specs.values.Values.{null, list, ValueItems, no_items, ValueMembers, no_members, member}
-use Rattle.graphql_core.specs.values.Values.{TypeTree, named, list_of, non_null, DirectiveTree}
+use Rattle.graphql_core.specs.values.Values.{float, string, item, enum, object, int, ValueTree, variable, boolean, null}
+use Rattle.graphql_core.specs.values.Values.{list, ValueItems, no_items, ValueMembers, no_members, member, TypeTree}
+use Rattle.graphql_core.specs.values.Values.{named, list_of, non_null, DirectiveTree}
 use Rattle.graphql_core.specs.declared.common.tree.Value.{Value, fold-Value}
 use Rattle.graphql_core.specs.declared.common.tree.Value.TheOpen.{Value-F}
 use Rattle.graphql_core.specs.declared.common.tree.Type.TheOpen.{Type-F}

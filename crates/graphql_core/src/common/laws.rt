@@ -1,7 +1,7 @@
 //! Laws of the values of strings.
 ghost use Rattle.std.specs.Prelude.{◌≡◌, ℕ, List};
 ghost use Rattle.graphql_core.specs.{HasValue};
-ghost use Rattle.graphql_core.specs.strings.StringExamples as example;
+ghost use Rattle.graphql_core.specs.examples.StringExamples as example;
 
 /// The content of a string in quotes has at most one value.
 pub fn one_value()

@@ -8,7 +8,8 @@ ghost use Rattle.graphql_core.specs.steps.Punctuators.{first_byte, front_byte};
 ghost use Rattle.graphql_core.specs.steps.Endings.{shown};
 ghost use Rattle.graphql_core.specs.declared.position.Pos.{Pos};
 ghost use Rattle.graphql_core.specs.sources.Refusals.{IsNextFault};
-ghost use Rattle.graphql_core.specs.sources.Source.{Items, LastIsError, after, held, items_of_stream, items_of_text};
+ghost use Rattle.graphql_core.specs.sources.Source.{Items, LastIsError};
+ghost use Rattle.graphql_core.specs.steps.Sources.{after, held, items_of_stream, items_of_text};
 ghost use Rattle.graphql_core.specs.sources.Source.{then_items, token_of, only_last, place_of};
 
 use crate::common::{BadToken, Cause, Fault, Names, Text};
@@ -54,7 +55,8 @@ impl<'a, T: Text<'a>> Model for Cursor<'a, T> {
     ghost use Rattle.std.specs.Prelude.{All, ◌≡◌, ◌-◌, ◌≤◌, ◌^◌};
     ghost use Rattle.graphql_core.specs.steps.Punctuators.{front_byte};
     ghost use Rattle.graphql_core.specs.steps.Endings.{shown};
-    ghost use Rattle.graphql_core.specs.sources.Source.{Items, IsLexeme};
+    ghost use Rattle.graphql_core.specs.sources.Source.{Items};
+    ghost use Rattle.graphql_core.specs.steps.Sources.{IsLexeme};
 
     ghost Value = { Items };
 

@@ -24,8 +24,9 @@ pub trait TokenSource {
     ghost use Rattle.graphql_core.specs.sources.Causes.{kind_number};
     ghost use Rattle.graphql_core.specs.steps.Punctuators.{class_of};
     ghost use Rattle.graphql_core.specs.steps.Matching.{sees_class};
-    ghost use Rattle.graphql_core.specs.sources.Source.{Items, place_of, place_next, Peeks, IsLexeme, IsAtEnd, after};
-    ghost use Rattle.graphql_core.specs.sources.Source.{lexeme_token};
+    ghost use Rattle.graphql_core.specs.sources.Source.{Items, place_of, place_next, IsAtEnd};
+    ghost use Rattle.graphql_core.specs.steps.Sources.{Peeks, IsLexeme, after};
+    ghost use Rattle.graphql_core.specs.steps.Sources.{lexeme_token};
     ghost use Rattle.graphql_core.specs.sources.Refusals.{IsNextFault};
 
     /// The type of a token's spelling.

@@ -2,7 +2,8 @@
 ghost use Rattle.std.specs.Prelude.{◌≡◌, ℕ, ◌+◌, ◌≤◌, ◌<◌, ◌*◌, ◌/◌, ◌^◌, List, All, IfOk, length, map, drop, vec_len};
 ghost use Rattle.std.specs.Prelude.{vec_capacity};
 ghost use Rattle.graphql_core.specs.lexical.Items.{HasItems, Item};
-ghost use Rattle.graphql_core.specs.sources.Source.{split, after};
+ghost use Rattle.graphql_core.specs.sources.Source.{split};
+ghost use Rattle.graphql_core.specs.steps.Sources.{after};
 ghost use Rattle.graphql_core.specs.steps.Punctuators.{first_byte, front_byte};
 ghost use Rattle.graphql_core.specs.steps.Spans.{Marks, span_token, IsLeft, IsLast, AreAppended, IsCut};
 

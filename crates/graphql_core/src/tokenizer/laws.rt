@@ -1,7 +1,7 @@
 //! Laws of the lexical definitions alone.
 ghost use Rattle.std.specs.Prelude.{◌≡◌, ℕ, List};
 ghost use Rattle.graphql_core.specs.{Item, HasItems, EndsOnce};
-ghost use Rattle.graphql_core.specs.lexical.LexicalExamples as example;
+ghost use Rattle.graphql_core.specs.examples.LexicalExamples as example;
 
 /// Each input has exactly one list of items: its tokens, then its end or its first lexical error.
 pub fn one_list_of_items()

@@ -4,8 +4,7 @@ use Rattle.graphql_core.specs.{Spent, tokens_then, Sym, ParseTree, leaves, Takes
 use Rattle.graphql_core.specs.{next_place, items, Last, split, place_of, place_next, Items}
 use Rattle.graphql_core.specs.declared.position.Pos.{Pos}
 use Rattle.graphql_core.proofs.{items_unique, has_items, AreItems, more_items, place_after, one_position}
-use Rattle.graphql_query.specs.{DefinitionTree, reading, changes, definition_symbol, definition_of, text_after}
-use Rattle.graphql_query.specs.{BeginsWith, IsFirstDefinition, TakesDefinition}
+use Rattle.graphql_query.specs.{DefinitionTree, reading, changes, definition_symbol, definition_of, text_after, BeginsWith, IsFirstDefinition, TakesDefinition}
 use Rattle.graphql_query.proofs.documents.FirstDefinition.{begins, one_beginning}
 
 -- ---- what was read is the first definition

@@ -2,11 +2,9 @@
 use Rattle.std.proofs.Common.{ℕ, List, ◌++◌, length, refl, sym, ap, subst, ◌∙◌}
 use Rattle.graphql_core.specs.{Token, grown}
 use Rattle.graphql_core.proofs.{IsGrown, later_parse_tree, later_document_of}
-use Rattle.graphql_query.specs.{DefinitionTree, DocumentTree, queries, IsDocumentOf, queries_0_4_1}
-use Rattle.graphql_query.specs.{IsDocumentOf_0_4_1, HasNoNewPart, HasNoNewParts, one_definition_of, one_definition}
-use Rattle.graphql_query.specs.{text_after, IsFirstDefinition, IsFirstDefinition_0_4_1}
-use Rattle.graphql_query.proofs.documents.EarlierTrees.{new_parts, queries_grow, definition_grown}
-use Rattle.graphql_query.proofs.documents.EarlierTrees.{definition_has_none, document_has_none}
+use Rattle.graphql_query.specs.{DefinitionTree, DocumentTree, queries, IsDocumentOf, queries_0_4_1, IsDocumentOf_0_4_1, HasNoNewPart, HasNoNewParts}
+use Rattle.graphql_query.specs.{one_definition_of, one_definition, text_after, IsFirstDefinition, IsFirstDefinition_0_4_1}
+use Rattle.graphql_query.proofs.documents.EarlierTrees.{new_parts, queries_grow, definition_grown, definition_has_none, document_has_none}
 
 pub earlier_document : (text : List ℕ) (d : DocumentTree) → IsDocumentOf_0_4_1 text d → HasNoNewParts d × IsDocumentOf text d
 earlier_document text d h =

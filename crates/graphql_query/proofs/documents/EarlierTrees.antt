@@ -1,16 +1,13 @@
 -- Every document of version 0.4.1 is the same document in this version, without the parts added since.
 use Rattle.std.proofs.Common.{◌≡◌, List, [], ◌∷◌, ◌++◌, Option, Some, None, replicate, refl, ap, ap₂}
-use Rattle.graphql_core.specs.{Same, InParts, After, Many, Sym, ParseTree, Leaf, Both, Node, Stop, optional, Fits}
-use Rattle.graphql_core.specs.{fits_leaf, fits_nothing, fits_both, fits_first, fits_second, fits_stop, fits_more}
-use Rattle.graphql_core.specs.{fits_node, Growth, grown, directives_symbol, shared_symbols, optional_of}
+use Rattle.graphql_core.specs.{Same, InParts, After, Many, Sym, ParseTree, Leaf, Both, Node, Stop, optional, Fits, fits_leaf, fits_nothing, fits_both}
+use Rattle.graphql_core.specs.{fits_first, fits_second, fits_stop, fits_more, fits_node, Growth, grown, directives_symbol, shared_symbols, optional_of}
 use Rattle.graphql_core.specs.{optional_list_of, enclosed_of, each_of, spelling_at, name}
 use Rattle.std.specs.List.{AllByRecursion}
 use Rattle.graphql_core.proofs.{IsGrown}
-use Rattle.graphql_query.specs.{OperationKind, query_kind, mutation_kind, subscription_kind, operation}
-use Rattle.graphql_query.specs.{document_symbol, definition_symbol, operation_symbol, operation_body_symbol}
-use Rattle.graphql_query.specs.{variable_definitions_symbol, variable_definition_symbol, variable_definition_of}
-use Rattle.graphql_query.specs.{keyword_of, operation_of, definition_of, document_of, queries, query_0_4_1}
-use Rattle.graphql_query.specs.{queries_0_4_1, HasNoDirectives, HasNoNewPart, HasNoNewParts}
+use Rattle.graphql_query.specs.{OperationKind, query_kind, mutation_kind, subscription_kind, operation, document_symbol, definition_symbol, operation_symbol}
+use Rattle.graphql_query.specs.{operation_body_symbol, variable_definitions_symbol, variable_definition_symbol, variable_definition_of, keyword_of}
+use Rattle.graphql_query.specs.{operation_of, definition_of, document_of, queries, query_0_4_1, queries_0_4_1, HasNoDirectives, HasNoNewPart, HasNoNewParts}
 
 -- a variable gets an empty list of directives after its default value; no other production gets a new part
 abbrev pub new_parts : List (Option Growth)

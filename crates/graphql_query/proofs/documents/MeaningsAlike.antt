@@ -2,18 +2,15 @@
 -- The cause of an error does not depend on positions.
 use Rattle.std.proofs.Common.{◌≡◌, [], map, Some, refl, ap}
 use Rattle.graphql_core.specs.{Place, leaves, no_place, first_place, place_at, optional_list_of, enclosed_of, spelling_at}
-use Rattle.graphql_core.proofs.{SameTrees, same_both, same_first, same_second, same_more, same_node, left_tree}
-use Rattle.graphql_core.proofs.{right_tree, IsSame, ByValues, DependsOnValues, RefusesAlike, accepted_same, valueless_alike}
-use Rattle.graphql_core.proofs.{optional_same, optional_list_same, each_alike, enclosed_alike, spelling_same, type_same}
-use Rattle.graphql_core.proofs.{optional_default_same, optional_arguments_same, directives_same}
-use Rattle.graphql_query.specs.{spread, more, OperationKind, query_kind, mutation_kind, subscription_kind, with_body}
-use Rattle.graphql_query.specs.{short, operation, fragment, erase_selection, erase_selection_set, erase_selections}
-use Rattle.graphql_query.specs.{erase_variable_definition, erase_operation, erase_fragment_definition}
-use Rattle.graphql_query.specs.{erase_definition, erase, field, inline, set, queries, alias_of}
-use Rattle.graphql_query.specs.{type_condition_of, spread_name_of, fragment_spread_rest_of, fragment_spread_of}
-use Rattle.graphql_query.specs.{field_of, optional_selection_set_of, inline_fragment_rest_of, inline_fragment_of, selection_of}
-use Rattle.graphql_query.specs.{selection_set_of, selections_of, variable_definition_of, operation_body_of}
-use Rattle.graphql_query.specs.{keyword_of, operation_of, fragment_definition_of, definition_of, document_of}
+use Rattle.graphql_core.proofs.{SameTrees, same_both, same_first, same_second, same_more, same_node, left_tree, right_tree, IsSame, ByValues, DependsOnValues}
+use Rattle.graphql_core.proofs.{RefusesAlike, accepted_same, valueless_alike, optional_same, optional_list_same, each_alike, enclosed_alike, spelling_same}
+use Rattle.graphql_core.proofs.{type_same, optional_default_same, optional_arguments_same, directives_same}
+use Rattle.graphql_query.specs.{spread, more, OperationKind, query_kind, mutation_kind, subscription_kind, with_body, short, operation, fragment}
+use Rattle.graphql_query.specs.{erase_selection, erase_selection_set, erase_selections, erase_variable_definition, erase_operation, erase_fragment_definition}
+use Rattle.graphql_query.specs.{erase_definition, erase, field, inline, set, queries, alias_of, type_condition_of, spread_name_of, fragment_spread_rest_of}
+use Rattle.graphql_query.specs.{fragment_spread_of, field_of, optional_selection_set_of, inline_fragment_rest_of, inline_fragment_of, selection_of}
+use Rattle.graphql_query.specs.{selection_set_of, selections_of, variable_definition_of, operation_body_of, keyword_of, operation_of, fragment_definition_of}
+use Rattle.graphql_query.specs.{definition_of, document_of}
 
 -- ---- selections
 

@@ -1,7 +1,6 @@
 -- What the minifier returns.
 use Rattle.std.proofs.Common.{◌≡◌, ◌≤◌, ℕ, List, length, String, Result, IsErrAnd, subst}
-use Rattle.graphql_core.specs.{IsBadPlaceOf, Item, HasItems, FaultText, split, IsEnd, IsMinified, max_length}
-use Rattle.graphql_core.specs.{LastIsError, Refusal}
+use Rattle.graphql_core.specs.{IsBadPlaceOf, Item, HasItems, FaultText, split, IsEnd, IsMinified, max_length, LastIsError, Refusal}
 use Rattle.graphql_core.proofs.{by_fault, only_memory, as_error, has_items}
 use Rattle.std.specs.Global.{Global}
 use Rattle.graphql_query.specs.{IsMinifyRefusalOf, ran_out, bad_place, TellsUnlessMemory}

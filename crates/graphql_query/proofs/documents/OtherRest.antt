@@ -1,15 +1,13 @@
 -- Before any other rest, the source begins with the same tokens at the same positions.
 use Rattle.std.proofs.Common.{◌≡◌, ℕ, ◌<◌, true, ◌==◌, List, [], ◌∷◌, ◌++◌, length, drop, refl, sym, ap, subst, ◌∙◌, arith, length-append, length-drop}
 use Rattle.std.proofs.Common.{append_assoc, eqb-true, codes}
-use Rattle.graphql_core.specs.{items_of, IsCutInto, Token, Spelled, matches, Sym, ParseTree, leaves, accepts, Fits}
-use Rattle.graphql_core.specs.{fits_leaf, fits_both, fits_first, fits_second, fits_node, Item, HasItems, start}
-use Rattle.graphql_core.specs.{next_place, kind_number, split}
+use Rattle.graphql_core.specs.{items_of, IsCutInto, Token, Spelled, matches, Sym, ParseTree, leaves, accepts, Fits, fits_leaf, fits_both, fits_first}
+use Rattle.graphql_core.specs.{fits_second, fits_node, Item, HasItems, start, next_place, kind_number, split}
 use Rattle.graphql_core.specs.declared.tokenizer.token.Kind.TheVariants.{Punctuator}
 use Rattle.graphql_core.proofs.{TokensKept, EndsInMark, ends_after, tokens_kept, prefix}
 use Rattle.std.proofs.lemmas.Bool.{and_parts}
-use Rattle.graphql_query.specs.{query, definition_symbol, operation_symbol, operation_body_symbol}
-use Rattle.graphql_query.specs.{selection_set_symbol, fragment_definition_symbol, DefinitionTree, text_after}
-use Rattle.graphql_query.specs.{BeginsWith, IsFirstDefinition, BeginsWithDefinition, IsFirstParseTree, BeginsWithParseTree}
+use Rattle.graphql_query.specs.{query, definition_symbol, operation_symbol, operation_body_symbol, selection_set_symbol, fragment_definition_symbol}
+use Rattle.graphql_query.specs.{DefinitionTree, text_after, BeginsWith, IsFirstDefinition, BeginsWithDefinition, IsFirstParseTree, BeginsWithParseTree}
 
 -- ---- a definition ends in a punctuator
 

@@ -1,18 +1,13 @@
 -- The bracket depth of a document is the bracket depth of its layout.
 use Rattle.std.proofs.Common.{ℕ, ◌+◌, List, Option, Some, None, refl}
-use Rattle.graphql_core.proofs.{Rises, none_rise, flat_rise, gap_rises, level_rises, both_rise, type_rises}
-use Rattle.graphql_core.proofs.{arguments_rise, directives_rise, braces_rise, line_end_rises, default_rises}
-use Rattle.graphql_core.proofs.{separated_rise, in_parentheses_rise}
+use Rattle.graphql_core.proofs.{Rises, none_rise, flat_rise, gap_rises, level_rises, both_rise, type_rises, arguments_rise, directives_rise, braces_rise}
+use Rattle.graphql_core.proofs.{line_end_rises, default_rises, separated_rise, in_parentheses_rise}
 use Rattle.graphql_core.specs.{Layout, most}
-use Rattle.graphql_query.specs.{spread, more, SelectionTree, SelectionSetTree, SelectionTrees}
-use Rattle.graphql_query.specs.{VariableDefinitionTree, DefinitionTree, short, operation, fragment, DocumentTree}
-use Rattle.graphql_query.specs.{field, inline, set, none, selection_brackets, selected_brackets}
-use Rattle.graphql_query.specs.{selection_set_brackets, selections_brackets, variable_definition_brackets}
-use Rattle.graphql_query.specs.{variable_definitions_brackets, definition_brackets, alias_layout}
-use Rattle.graphql_query.specs.{type_condition_layout, on_layout, selection_layout, selected_layout}
-use Rattle.graphql_query.specs.{selection_set_layout, selections_layout, operation_name_layout}
-use Rattle.graphql_query.specs.{variable_definition_layout, variable_definitions_layout, definition_layout}
-use Rattle.graphql_query.specs.{document_layout}
+use Rattle.graphql_query.specs.{spread, more, SelectionTree, SelectionSetTree, SelectionTrees, VariableDefinitionTree, DefinitionTree, short, operation}
+use Rattle.graphql_query.specs.{fragment, DocumentTree, field, inline, set, none, selection_brackets, selected_brackets, selection_set_brackets}
+use Rattle.graphql_query.specs.{selections_brackets, variable_definition_brackets, variable_definitions_brackets, definition_brackets, alias_layout}
+use Rattle.graphql_query.specs.{type_condition_layout, on_layout, selection_layout, selected_layout, selection_set_layout, selections_layout}
+use Rattle.graphql_query.specs.{operation_name_layout, variable_definition_layout, variable_definitions_layout, definition_layout, document_layout}
 
 -- ---- selections
 

@@ -3,12 +3,10 @@ use Rattle.std.proofs.Common.{◌≡◌, ◌++◌, ◌∙◌, ap, sym, refl, cod
 use Rattle.std.proofs.Common.{true, false, ◌==◌, vec_len}
 use Rattle.std.proofs.lemmas.Bool.{eqb-true, eqb-false}
 use Rattle.std.proofs.lemmas.List.{at_drop_more, nil_from_length}
-use Rattle.graphql_core.specs.{name_part, punctuator_part, text_of, place_of, Layout, Part, gap, arguments_view}
-use Rattle.graphql_core.specs.{directives_view, Weights}
+use Rattle.graphql_core.specs.{name_part, punctuator_part, text_of, place_of, Layout, Part, gap, arguments_view, directives_view, Weights}
 use Rattle.graphql_core.proofs.{text_append}
-use Rattle.graphql_query.specs.{more, field, inline, set, type_condition_view, selection_view, selections_view}
-use Rattle.graphql_query.specs.{field_view, inline_fragment_view, selection_set_view, IsLawfulSet, selected_layout}
-use Rattle.graphql_query.specs.{selection_set_layout, selected_depth, selection_set_depth}
+use Rattle.graphql_query.specs.{more, field, inline, set, type_condition_view, selection_view, selections_view, field_view, inline_fragment_view}
+use Rattle.graphql_query.specs.{selection_set_view, IsLawfulSet, selected_layout, selection_set_layout, selected_depth, selection_set_depth}
 use Rattle.graphql_query.specs.declared.tree.Selection.{Selection}
 use Rattle.graphql_query.specs.declared.tree.Field.{Field}
 use Rattle.graphql_query.specs.declared.tree.InlineFragment.{InlineFragment}

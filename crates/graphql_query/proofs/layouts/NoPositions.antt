@@ -2,14 +2,11 @@
 use Rattle.std.proofs.Common.{◌≡◌, ◌++◌, ◌+◌, ap, ap₂, refl, codes, ℕ, List, map}
 use Rattle.graphql_core.specs.{text_of, Layout, gap, in_braces}
 use Rattle.graphql_core.proofs.{directives_alike, separated_alike, in_parentheses_alike}
-use Rattle.graphql_query.specs.{spread, more, SelectionTree, SelectionSetTree, SelectionTrees}
-use Rattle.graphql_query.specs.{VariableDefinitionTree, OperationTree, FragmentDefinitionTree, DefinitionTree, short}
-use Rattle.graphql_query.specs.{operation, fragment, DocumentTree, erase_selection, erase_selection_set}
-use Rattle.graphql_query.specs.{erase_selections, erase_variable_definition, erase_operation}
-use Rattle.graphql_query.specs.{erase_fragment_definition, erase_definition, erase, field, inline, set, none}
-use Rattle.graphql_query.specs.{selection_layout, selected_layout, selection_set_layout, selections_layout}
-use Rattle.graphql_query.specs.{variable_definition_layout, variable_definitions_layout, operation_layout}
-use Rattle.graphql_query.specs.{fragment_definition_layout, definition_layout, layout}
+use Rattle.graphql_query.specs.{spread, more, SelectionTree, SelectionSetTree, SelectionTrees, VariableDefinitionTree, OperationTree, FragmentDefinitionTree}
+use Rattle.graphql_query.specs.{DefinitionTree, short, operation, fragment, DocumentTree, erase_selection, erase_selection_set, erase_selections}
+use Rattle.graphql_query.specs.{erase_variable_definition, erase_operation, erase_fragment_definition, erase_definition, erase, field, inline, set, none}
+use Rattle.graphql_query.specs.{selection_layout, selected_layout, selection_set_layout, selections_layout, variable_definition_layout}
+use Rattle.graphql_query.specs.{variable_definitions_layout, operation_layout, fragment_definition_layout, definition_layout, layout}
 
 mutual
   selection_alike : (style : Layout) (margin : ℕ) (s : SelectionTree) → selection_layout style margin (erase_selection s) ≡ selection_layout style margin s

@@ -2,12 +2,10 @@
 use Rattle.std.proofs.Common.{◌≡◌, ◌≤◌, ◌+◌, ℕ, false, refl, List, [], ◌∷◌, arith}
 use Rattle.graphql_core.specs.{Layout, ValueTree, DirectiveTree, most, arguments_depth, directives_depth}
 use Rattle.graphql_core.proofs.{most_bounded, default_bounded, arguments_bounded, directives_bounded}
-use Rattle.graphql_query.specs.{spread, more, SelectionTree, SelectionSetTree, SelectionTrees}
-use Rattle.graphql_query.specs.{VariableDefinitionTree, DefinitionTree, short, operation, fragment, DocumentTree}
-use Rattle.graphql_query.specs.{field, inline, set, none, selection_levels, selected_levels, selection_set_levels}
-use Rattle.graphql_query.specs.{selections_levels, variable_definition_levels, definition_levels, levels}
-use Rattle.graphql_query.specs.{selection_set_of_definition, selection_depth, selected_depth, selection_set_depth}
-use Rattle.graphql_query.specs.{selections_depth, definition_depth, in_sets}
+use Rattle.graphql_query.specs.{spread, more, SelectionTree, SelectionSetTree, SelectionTrees, VariableDefinitionTree, DefinitionTree, short, operation}
+use Rattle.graphql_query.specs.{fragment, DocumentTree, field, inline, set, none, selection_levels, selected_levels, selection_set_levels, selections_levels}
+use Rattle.graphql_query.specs.{variable_definition_levels, definition_levels, levels, selection_set_of_definition, selection_depth, selected_depth}
+use Rattle.graphql_query.specs.{selection_set_depth, selections_depth, definition_depth, in_sets}
 
 -- ---- levels of selection sets alone
 

@@ -1,41 +1,30 @@
 -- The layouts of query documents parse back to them, ignoring positions.
 use Rattle.std.proofs.Common.{◌≡◌, ℕ, ◌+◌, ◌<◌, ◌≤◌, Bool, true, false, List, [], ◌∷◌, ◌++◌, Option, Some, None, codes, map, refl, ap, ap₂, arith}
-use Rattle.graphql_core.specs.{name_part, Place, Expr, Many, Sym, ParseTree, Both, leaves, optional, is_below, IsName}
-use Rattle.graphql_core.specs.{Layout, Part, gap, ValueTree, DirectiveTree, no_place, erase_all, arguments_layout}
-use Rattle.graphql_core.specs.{directives_layout, shared, arguments_symbol, directives_symbol, shared_symbols, place_at}
-use Rattle.graphql_core.specs.{first_place, spelling_at, optional_arguments_of, directives_of, IsNameBut}
-use Rattle.graphql_core.specs.{IsPrintableArgument, IsPrintableDirective, arguments_brackets, directives_brackets}
-use Rattle.graphql_core.specs.{in_braces, AreLawfulArguments, AreLawfulDirectives, optional_of, optional_list_of}
-use Rattle.graphql_core.specs.{enclosed_of, AreReadBack, name}
-use Rattle.graphql_core.proofs.{Takes, as_word_back, open_back, close_back, dots_back, four_back, five_back}
-use Rattle.graphql_core.proofs.{six_back, lift_back, name_word, not_listed, type_back, Any, means, margin_back}
-use Rattle.graphql_core.proofs.{gap_back, then_gap, word_back, punctuator_back, nothing_back, both_back, first_back}
-use Rattle.graphql_core.proofs.{second_back, node_back, stop_back, more_back, three_back, spaces_blank, both_of_each}
-use Rattle.graphql_core.proofs.{some_back, in_parentheses_back, document_back, arguments_back, directives_back}
-use Rattle.graphql_core.proofs.{optional_default_back, Back}
+use Rattle.graphql_core.specs.{name_part, Place, Expr, Many, Sym, ParseTree, Both, leaves, optional, is_below, IsName, Layout, Part, gap, ValueTree}
+use Rattle.graphql_core.specs.{DirectiveTree, no_place, erase_all, arguments_layout, directives_layout, shared, arguments_symbol, directives_symbol}
+use Rattle.graphql_core.specs.{shared_symbols, place_at, first_place, spelling_at, optional_arguments_of, directives_of, IsNameBut, IsPrintableArgument}
+use Rattle.graphql_core.specs.{IsPrintableDirective, arguments_brackets, directives_brackets, in_braces, AreLawfulArguments, AreLawfulDirectives, optional_of}
+use Rattle.graphql_core.specs.{optional_list_of, enclosed_of, AreReadBack, name}
+use Rattle.graphql_core.proofs.{Takes, as_word_back, open_back, close_back, dots_back, four_back, five_back, six_back, lift_back, name_word, not_listed}
+use Rattle.graphql_core.proofs.{type_back, Any, means, margin_back, gap_back, then_gap, word_back, punctuator_back, nothing_back, both_back, first_back}
+use Rattle.graphql_core.proofs.{second_back, node_back, stop_back, more_back, three_back, spaces_blank, both_of_each, some_back, in_parentheses_back}
+use Rattle.graphql_core.proofs.{document_back, arguments_back, directives_back, optional_default_back, Back}
 use Rattle.std.specs.List.{AllByRecursion}
 use Rattle.std.specs.Option.{IfSome}
 use Rattle.graphql_core.specs.declared.tokenizer.token.Kind.TheVariants.{Name}
-use Rattle.graphql_query.specs.{spread, more, SelectionTree, SelectionSetTree, SelectionTrees, OperationKind}
-use Rattle.graphql_query.specs.{query_kind, mutation_kind, subscription_kind, VariableDefinitionTree, OperationTree}
-use Rattle.graphql_query.specs.{DefinitionTree, short, operation, fragment, DocumentTree, erase_selection}
-use Rattle.graphql_query.specs.{erase_selection_set, erase_selections, erase_variable_definition, erase_operation}
-use Rattle.graphql_query.specs.{erase_definition, field, inline, set, none, query, spread_class, definition_symbol}
-use Rattle.graphql_query.specs.{operation_symbol, operation_body_symbol, variable_definitions_symbol}
-use Rattle.graphql_query.specs.{variable_definition_symbol, selection_set_symbol, selection_symbol, alias_symbol}
-use Rattle.graphql_query.specs.{type_condition_symbol, spread_name_of, alias_of, type_condition_of, optional_selection_set_of}
-use Rattle.graphql_query.specs.{selection_of, selection_set_of, selections_of, variable_definition_of}
-use Rattle.graphql_query.specs.{operation_body_of, operation_of, definition_of, alias_layout, type_condition_layout}
-use Rattle.graphql_query.specs.{on_layout, selection_layout, selected_layout, selection_set_layout}
-use Rattle.graphql_query.specs.{selections_layout, keyword, operation_name_layout, variable_definition_layout}
-use Rattle.graphql_query.specs.{variable_definitions_layout, definition_layout, layout, IsPrintable}
-use Rattle.graphql_query.specs.{IsPrintableSelection, IsPrintableSet, ArePrintableSelections, IsPrintableVariable}
-use Rattle.graphql_query.specs.{IsPrintableOperation, IsPrintableDefinition, Selects, SelectsInside, SelectInside}
-use Rattle.graphql_query.specs.{AllSelectInside, DefinitionSelects, selection_brackets, selected_brackets}
-use Rattle.graphql_query.specs.{selection_set_brackets, selections_brackets, variable_definition_brackets}
-use Rattle.graphql_query.specs.{variable_definitions_brackets, definition_brackets, queries, IsReadBack}
-use Rattle.graphql_query.specs.{IsLawfulSelection, IsLawfulSet, AreLawfulSelections, IsLawfulVariable}
-use Rattle.graphql_query.specs.{IsLawfulDefinition, IsLawfulDocument}
+use Rattle.graphql_query.specs.{spread, more, SelectionTree, SelectionSetTree, SelectionTrees, OperationKind, query_kind, mutation_kind, subscription_kind}
+use Rattle.graphql_query.specs.{VariableDefinitionTree, OperationTree, DefinitionTree, short, operation, fragment, DocumentTree, erase_selection}
+use Rattle.graphql_query.specs.{erase_selection_set, erase_selections, erase_variable_definition, erase_operation, erase_definition, field, inline, set, none}
+use Rattle.graphql_query.specs.{query, spread_class, definition_symbol, operation_symbol, operation_body_symbol, variable_definitions_symbol}
+use Rattle.graphql_query.specs.{variable_definition_symbol, selection_set_symbol, selection_symbol, alias_symbol, type_condition_symbol, spread_name_of}
+use Rattle.graphql_query.specs.{alias_of, type_condition_of, optional_selection_set_of, selection_of, selection_set_of, selections_of, variable_definition_of}
+use Rattle.graphql_query.specs.{operation_body_of, operation_of, definition_of, alias_layout, type_condition_layout, on_layout, selection_layout}
+use Rattle.graphql_query.specs.{selected_layout, selection_set_layout, selections_layout, keyword, operation_name_layout, variable_definition_layout}
+use Rattle.graphql_query.specs.{variable_definitions_layout, definition_layout, layout, IsPrintable, IsPrintableSelection, IsPrintableSet}
+use Rattle.graphql_query.specs.{ArePrintableSelections, IsPrintableVariable, IsPrintableOperation, IsPrintableDefinition, Selects, SelectsInside, SelectInside}
+use Rattle.graphql_query.specs.{AllSelectInside, DefinitionSelects, selection_brackets, selected_brackets, selection_set_brackets, selections_brackets}
+use Rattle.graphql_query.specs.{variable_definition_brackets, variable_definitions_brackets, definition_brackets, queries, IsReadBack, IsLawfulSelection}
+use Rattle.graphql_query.specs.{IsLawfulSet, AreLawfulSelections, IsLawfulVariable, IsLawfulDefinition, IsLawfulDocument}
 use Rattle.graphql_query.proofs.readers.{tested_alike, written_goes_on, readable}
 use Rattle.graphql_query.proofs.layouts.NoPositions.{layout_alike}
 use Rattle.graphql_core.proofs.documents.RoundTrip as round

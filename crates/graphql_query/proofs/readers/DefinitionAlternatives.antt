@@ -4,10 +4,9 @@ use Rattle.graphql_core.specs.{Token, Class, Expr, Either, Sym, ParseTree, First
 use Rattle.graphql_core.specs.{sees, keyword, tables as shared_tables, Items, punctuator_class}
 use Rattle.graphql_core.proofs.{FailsUnseen, unseen_one, unseen_then, unseen_either, IsSide, side_left, unseen_symbol}
 use Rattle.graphql_core.proofs.{side_in, side_nth, sees_both, sees_neither}
-use Rattle.graphql_query.specs.{DefinitionTree, operation, OperationKind, query_kind, mutation_kind}
-use Rattle.graphql_query.specs.{subscription_kind, reading, changes, second_rows, tables, definition_symbol}
-use Rattle.graphql_query.specs.{operation_symbol, selection_set_symbol, fragment_definition_symbol, keyword_of}
-use Rattle.graphql_query.specs.{operation_of, definition_of, word_of, keyword_rule, Tells, sees_definition}
+use Rattle.graphql_query.specs.{DefinitionTree, operation, OperationKind, query_kind, mutation_kind, subscription_kind, reading, changes, second_rows, tables}
+use Rattle.graphql_query.specs.{definition_symbol, operation_symbol, selection_set_symbol, fragment_definition_symbol, keyword_of, operation_of, definition_of}
+use Rattle.graphql_query.specs.{word_of, keyword_rule, Tells, sees_definition}
 
 abbrev brace : Class
 brace = punctuator_class (codes "{")

@@ -1,7 +1,6 @@
 -- Readers of values, types and directives within queries, and the rule of a symbol.
 use Rattle.std.proofs.Common.{◌≡◌, ℕ, true, Option, refl}
-use Rattle.graphql_core.specs.{Items, Expr, Sym, ParseTree, Node, row, Reason, TakesSome, StopsFor, is_below, written}
-use Rattle.graphql_core.specs.{shared, shared_symbols}
+use Rattle.graphql_core.specs.{Items, Expr, Sym, ParseTree, Node, row, Reason, TakesSome, StopsFor, is_below, written, shared, shared_symbols}
 use Rattle.graphql_query.specs.{queries, changes, reading}
 use Rattle.graphql_query.proofs.readers.Readable.{readable, read_alike}
 use Rattle.graphql_core.proofs.readers.Steps as steps

@@ -1,27 +1,21 @@
 -- What the grammar derives from an input is printable.
 use Rattle.std.proofs.Common.{◌≡◌, ◌≤◌, ℕ, true, List, ◌∷◌, codes, refl, arith}
-use Rattle.graphql_core.proofs.{Nests, Anything, HasRoom, room_nothing, room_leaf, room_both, room_first, room_second}
-use Rattle.graphql_core.proofs.{room_stop, room_more, room_node, room_back, leaf_name, leaf_except}
-use Rattle.graphql_core.proofs.{optional_arguments_printable, directives_printable, type_printable, some_printable}
+use Rattle.graphql_core.proofs.{Nests, Anything, HasRoom, room_nothing, room_leaf, room_both, room_first, room_second, room_stop, room_more, room_node}
+use Rattle.graphql_core.proofs.{room_back, leaf_name, leaf_except, optional_arguments_printable, directives_printable, type_printable, some_printable}
 use Rattle.graphql_core.proofs.{enclosed_printable, each_of_both, optional_default_printable, part_printable, Within}
 use Rattle.std.specs.List.{AllByRecursion}
 use Rattle.std.specs.Option.{IfSome}
 use Rattle.graphql_core.specs.{Place, Expr, Many, Sym, ParseTree, Both, leaves, optional, is_below, IsName, shared}
 use Rattle.graphql_core.specs.{shared_symbols, first_place, optional_list_of, enclosed_of, each_of, spelling_at, Items}
-use Rattle.graphql_query.specs.{more, SelectionTree, SelectionSetTree, OperationKind, query_kind, mutation_kind}
-use Rattle.graphql_query.specs.{subscription_kind, DefinitionTree, operation, DocumentTree, set, none, query}
-use Rattle.graphql_query.specs.{document_symbol, definition_symbol, operation_symbol, operation_body_symbol}
-use Rattle.graphql_query.specs.{variable_definitions_symbol, variable_definition_symbol, selection_set_symbol}
-use Rattle.graphql_query.specs.{selection_symbol, field_symbol, alias_symbol, fragment_spread_symbol}
-use Rattle.graphql_query.specs.{inline_fragment_symbol, type_condition_symbol, alias_of, type_condition_of}
-use Rattle.graphql_query.specs.{fragment_spread_of, field_of, optional_selection_set_of, inline_fragment_of, selection_of}
-use Rattle.graphql_query.specs.{selection_set_of, selections_of, variable_definition_of, keyword_of, operation_of}
-use Rattle.graphql_query.specs.{definition_of, document_of, IsDocument, IsDocumentOf, queries, IsPrintable}
-use Rattle.graphql_query.specs.{IsPrintableSelection, IsPrintableSet, ArePrintableSelections, IsPrintableVariable}
-use Rattle.graphql_query.specs.{IsPrintableDefinition, Selects, SelectsInside, SelectInside, AllSelectInside}
-use Rattle.graphql_query.specs.{DefinitionSelects, selection_brackets, selected_brackets, selection_set_brackets}
-use Rattle.graphql_query.specs.{selections_brackets, variable_definition_brackets, variable_definitions_brackets}
-use Rattle.graphql_query.specs.{definition_brackets}
+use Rattle.graphql_query.specs.{more, SelectionTree, SelectionSetTree, OperationKind, query_kind, mutation_kind, subscription_kind, DefinitionTree, operation}
+use Rattle.graphql_query.specs.{DocumentTree, set, none, query, document_symbol, definition_symbol, operation_symbol, operation_body_symbol}
+use Rattle.graphql_query.specs.{variable_definitions_symbol, variable_definition_symbol, selection_set_symbol, selection_symbol, field_symbol, alias_symbol}
+use Rattle.graphql_query.specs.{fragment_spread_symbol, inline_fragment_symbol, type_condition_symbol, alias_of, type_condition_of, fragment_spread_of}
+use Rattle.graphql_query.specs.{field_of, optional_selection_set_of, inline_fragment_of, selection_of, selection_set_of, selections_of, variable_definition_of}
+use Rattle.graphql_query.specs.{keyword_of, operation_of, definition_of, document_of, IsDocument, IsDocumentOf, queries, IsPrintable, IsPrintableSelection}
+use Rattle.graphql_query.specs.{IsPrintableSet, ArePrintableSelections, IsPrintableVariable, IsPrintableDefinition, Selects, SelectsInside, SelectInside}
+use Rattle.graphql_query.specs.{AllSelectInside, DefinitionSelects, selection_brackets, selected_brackets, selection_set_brackets, selections_brackets}
+use Rattle.graphql_query.specs.{variable_definition_brackets, variable_definitions_brackets, definition_brackets}
 use Rattle.graphql_query.proofs.readers.Readable.{tested_alike, written_goes_on}
 use Rattle.graphql_core.proofs.values.Printable as values
 

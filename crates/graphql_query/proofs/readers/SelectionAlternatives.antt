@@ -1,24 +1,20 @@
 -- Which alternative of each choice in selections is read, and what it denotes.
 use Rattle.std.proofs.Common.{◌≡◌, ◌||◌, ℕ, true, false, List, [], ◌∷◌, Result, Ok, Err, Option, refl, sym, ap, ◌∙◌, codes}
 use Rattle.std.proofs.Math.Bool.{or-false}
-use Rattle.graphql_core.specs.{takes_leaf, takes_stop, TakesOne, Token, Place, Class, matches, Expr, One, Then, Either}
-use Rattle.graphql_core.specs.grammar.Tables.{nullable}
-use Rattle.graphql_core.specs.{Many, Sym, ParseTree, Leaf, Both, First, Second, Node, peek, leaves, first}
-use Rattle.graphql_core.specs.{sees, Takes, takes_nothing, takes_both, takes_first, takes_second, takes_node, fails_one}
-use Rattle.graphql_core.specs.{Fails, fails_before, fails_after, fails_node, Reason, each_of, StopsFor, written, TakesToken}
-use Rattle.graphql_core.specs.{sees_class, Gives, tables as shared_tables, any, keyword, directive_symbol, first_place}
-use Rattle.graphql_core.specs.{optional_arguments_of, directives_of, DirectiveTree, Grammar, Items, punctuator_class}
-use Rattle.graphql_core.specs.{name, Consumes}
+use Rattle.graphql_core.specs.{takes_leaf, takes_stop, TakesOne, Token, Place, Class, matches, Expr, One, Then, Either, Many, Sym, ParseTree, Leaf, Both, First}
+use Rattle.graphql_core.specs.{Second, Node, peek, leaves, first, sees, Takes, takes_nothing, takes_both, takes_first, takes_second, takes_node, fails_one}
+use Rattle.graphql_core.specs.{Fails, fails_before, fails_after, fails_node, Reason, each_of, StopsFor, written, TakesToken, sees_class, Gives}
+use Rattle.graphql_core.specs.{tables as shared_tables, any, keyword, directive_symbol, first_place, optional_arguments_of, directives_of, DirectiveTree}
+use Rattle.graphql_core.specs.{Grammar, Items, punctuator_class, name, Consumes}
+use Rattle.graphql_core.specs.theory.Tables.{nullable}
 use Rattle.graphql_core.specs.declared.helpers.read_error.ReadError.{ReadError}
 use Rattle.graphql_core.specs.declared.tokenizer.token.Kind.TheVariants.{Name}
-use Rattle.graphql_core.proofs.{sees-within, FailsUnseen, unseen_one, unseen_then, takes_one, stops_one, takes_none}
-use Rattle.graphql_core.proofs.{many_means, IsSide, side_first, side_left, side_right, unseen_symbol, Leads}
-use Rattle.graphql_core.proofs.{halts, past, none_within, side_in, side_nth, sees_both, BegunBy}
-use Rattle.graphql_query.specs.{more, Arguments, SelectionTree, SelectionSetTree, trees_of, field, inline, reading}
-use Rattle.graphql_query.specs.{changes, tables, spread_class, type_condition_symbol, selection_set_symbol}
-use Rattle.graphql_query.specs.{field_symbol, selection_symbol, field_rest, fragment_spread_rest}
-use Rattle.graphql_query.specs.{inline_fragment_rest, field_of, optional_selection_set_of, selection_of, selections_of}
-use Rattle.graphql_query.specs.{first_names, alias_and_name_of, after_dots_of}
+use Rattle.graphql_core.proofs.{sees-within, FailsUnseen, unseen_one, unseen_then, takes_one, stops_one, takes_none, many_means, IsSide, side_first, side_left}
+use Rattle.graphql_core.proofs.{side_right, unseen_symbol, Leads, halts, past, none_within, side_in, side_nth, sees_both, BegunBy}
+use Rattle.graphql_query.specs.{more, Arguments, SelectionTree, SelectionSetTree, trees_of, field, inline, reading, changes, tables, spread_class}
+use Rattle.graphql_query.specs.{type_condition_symbol, selection_set_symbol, field_symbol, selection_symbol, field_rest, fragment_spread_rest}
+use Rattle.graphql_query.specs.{inline_fragment_rest, field_of, optional_selection_set_of, selection_of, selections_of, first_names, alias_and_name_of}
+use Rattle.graphql_query.specs.{after_dots_of}
 use Rattle.graphql_query.proofs.readers.Lifted.{begun}
 
 -- ---- single tokens

@@ -11,9 +11,8 @@ use Rattle.graphql_query.specs.declared.tree.InlineFragment.{InlineFragment}
 use Rattle.graphql_query.specs.declared.tree.SelectionSet.{SelectionSet}
 use Rattle.graphql_query.specs.declared.tree.Selection.{Selection, the_lemmas}
 use Rattle.graphql_query.specs.declared.tree.Selection.TheViews.{roll-Field, roll-InlineFragment, roll-SelectionSet}
-use Rattle.graphql_query.specs.{field, inline, set, SelectionSetTree, trees_of, type_condition_view, field_view}
-use Rattle.graphql_query.specs.{fragment_spread_view, inline_fragment_view, selection_view, selection_set_view}
-use Rattle.graphql_query.specs.{AddsSet}
+use Rattle.graphql_query.specs.{field, inline, set, SelectionSetTree, trees_of, type_condition_view, field_view, fragment_spread_view, inline_fragment_view}
+use Rattle.graphql_query.specs.{selection_view, selection_set_view, AddsSet}
 use Rattle.graphql_core.proofs.readers.TakenOff.{taken_off}
 use Rattle.graphql_query.specs.declared.tree.Selection.TheViews as made
 use Rattle.graphql_query.specs.declared.tree.Selection.TheBlock as block

@@ -7,7 +7,8 @@ use Rattle.graphql_core.specs.declared.helpers.read_error.ReadError.{ReadError}
 use Rattle.graphql_core.specs.declared.position.Pos.{Pos}
 use Rattle.graphql_query.specs.Tree.{spread, VariableDefinitionTree, SelectionTree, SelectionSetTree, DefinitionTree}
 use Rattle.graphql_query.specs.Tree.{trees_of, selection_view, set}
-use Rattle.graphql_query.specs.Grammar.{reading, changes, definition_symbol}
+use Rattle.graphql_query.specs.Grammar.{definition_symbol}
+use Rattle.graphql_query.specs.steps.SecondRules.{reading, changes}
 use Rattle.graphql_query.specs.Meanings.{fragment_spread_rest_of, inline_fragment_rest_of, variable_definition_of}
 use Rattle.graphql_query.specs.Meanings.{definition_of}
 use Rattle.graphql_query.specs.declared.tree.Selection.{Selection}

@@ -5,7 +5,8 @@ ghost use Rattle.graphql_core.specs.{optional_list_of, enclosed_of};
 ghost use Rattle.graphql_query.specs.Tree.{variable_definition_view, operation_view, operation, with_body};
 ghost use Rattle.graphql_query.specs.Tree.{VariableDefinitionTree};
 ghost use Rattle.graphql_query.specs.Grammar.{operation_body_symbol, variable_definitions_symbol};
-ghost use Rattle.graphql_query.specs.Grammar.{variable_definition_symbol, operation_symbol, reading};
+ghost use Rattle.graphql_query.specs.Grammar.{variable_definition_symbol, operation_symbol};
+ghost use Rattle.graphql_query.specs.steps.SecondRules.{reading};
 ghost use Rattle.graphql_query.specs.Meanings.{operation_body_of, keyword_of, operation_of, variable_definition_of};
 ghost use Rattle.graphql_query.specs.steps.Operations.{kind_of, keyword_rule, operation_body_view};
 ghost use Rattle.graphql_query.specs.steps.Readers.{Reads, read_variable_definition};
@@ -91,7 +92,7 @@ impl<S: TokenSource> Elements<S> for VariableDefinitionList {
 
     ghost view = { variable_definition_view S.Names.bytes };
 
-    #[tactic(auto, unfolding(crate::specs::Grammar::tables, graphql_core::specs::values::Grammar::tables))]
+    #[tactic(auto, unfolding(crate::specs::steps::SecondRules::tables, graphql_core::specs::values::Grammar::tables))]
     fn comes_next(source: &S) -> bool {
         source.sees_punctuator(Punctuator::Dollar)
     }

@@ -11,9 +11,13 @@
 //!   with a token whose value is bad. After `Memory`, an allocation that failed, it can begin anywhere.
 //! - In each case the end of the input, or the lexical error that stands for it, is as before.
 //!
-//! In clauses, `Sym` is the production of a symbol, `.._view` the model of a value of Rust, and `.._of` what a parse
-//! tree denotes. `Adds view old new models` says that the list `new` is `old` and then elements with these models, and
-//! `AddsSet` that these are the selections of a set with this span. `OnOk` says nothing of an error.
+//! An error is only a reason. `fault_of` adds the position, from what is left of the source. That every document is
+//! accepted is a clause of `parse_query`.
+//!
+//! In clauses, `Sym` is the production of a symbol, and `punctuator` that of a punctuator, whose class of tokens is
+//! `punctuator_class`. `.._view` is the model of a value of Rust, and `.._of` what a parse tree denotes.
+//! `Adds view old new models` says that the list `new` is `old` and then elements with these models, and `AddsSet` that
+//! these are the selections of a set with this span. `OnOk` says nothing of an error.
 //!
 //! All open selection sets share one list, `selections`. `{ a { b } c }` puts `b` on the list and takes it off at the
 //! inner `}`. Then it puts `a`, with its set, and `c` on the list, and takes both off at the outer `}`. So the list of

@@ -1,8 +1,7 @@
 -- Every document of version 0.4.1 is one in this version, without the parts added since.
 use Rattle.std.proofs.Common.{ℕ, List, sym, subst}
 use Rattle.graphql_core.proofs.{later_document_of}
-use Rattle.graphql_schema.specs.{DocumentTree, schemas, IsDocumentOf, schemas_0_4_1, IsDocumentOf_0_4_1}
-use Rattle.graphql_schema.specs.{HasNoNewParts}
+use Rattle.graphql_schema.specs.{DocumentTree, schemas, IsDocumentOf, schemas_0_4_1, IsDocumentOf_0_4_1, HasNoNewParts}
 use Rattle.graphql_schema.proofs.documents.EarlierTrees.{new_parts, schemas_grow, document_has_none}
 
 pub earlier_document : (text : List ℕ) (d : DocumentTree) → IsDocumentOf_0_4_1 text d → HasNoNewParts d × IsDocumentOf text d

@@ -1,14 +1,12 @@
 -- Every document of version 0.4.1 is the same document in this version, without the parts added since.
 use Rattle.std.proofs.Common.{◌≡◌, ◌==◌, ℕ, true, List, [], ◌∷◌, ◌++◌, Option, Some, None, replicate, refl, sym, ap₂, subst, arith, inl, inr}
-use Rattle.graphql_core.specs.{Same, InSides, Before, AsFirst, growth_at, either_way, Many, Sym, ParseTree, Nothing}
-use Rattle.graphql_core.specs.{Second, Fits, fits_leaf, fits_both, fits_first, fits_second, fits_stop, fits_more}
-use Rattle.graphql_core.specs.{fits_node, row, Growth, grown, shared_symbols, each_of}
+use Rattle.graphql_core.specs.{Same, InSides, Before, AsFirst, growth_at, either_way, Many, Sym, ParseTree, Nothing, Second, Fits, fits_leaf, fits_both}
+use Rattle.graphql_core.specs.{fits_first, fits_second, fits_stop, fits_more, fits_node, row, Growth, grown, shared_symbols, each_of}
 use Rattle.std.proofs.lemmas.Bool.{cases_Bool}
 use Rattle.std.proofs.lemmas.Bool.Decides.{nat_tests}
 use Rattle.graphql_core.proofs.{IsGrown}
-use Rattle.graphql_schema.specs.{document_symbol, item_symbol, schema_symbol, extension_symbol}
-use Rattle.graphql_schema.specs.{schema_extension_symbol, passes, item_of, document_of, schemas, schema_0_4_1}
-use Rattle.graphql_schema.specs.{schemas_0_4_1, HasNoNewPart, HasNoNewParts}
+use Rattle.graphql_schema.specs.{document_symbol, item_symbol, schema_symbol, extension_symbol, schema_extension_symbol, passes, item_of, document_of, schemas}
+use Rattle.graphql_schema.specs.{schema_0_4_1, schemas_0_4_1, HasNoNewPart, HasNoNewParts}
 
 -- a schema gets no description before it, and `extend` is followed by a type
 abbrev pub new_parts : List (Option Growth)

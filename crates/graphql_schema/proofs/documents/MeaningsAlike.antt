@@ -2,24 +2,18 @@
 -- The cause of an error does not depend on positions.
 use Rattle.std.proofs.Common.{◌≡◌, ◌==◌, ℕ, Bool, true, false, not, if◌then◌else◌, List, [], ◌∷◌, map, Option, Some, None, is_some, option_map, codes, refl}
 use Rattle.std.proofs.Common.{sym, ap, ◌∙◌}
-use Rattle.graphql_core.specs.{Token, Class, Spelled, AnyOf, Except, ParseTree, Node, accepts, CauseText}
-use Rattle.graphql_core.specs.{empty_extension, unplaced, FaultText, string_of, block_string_of, no_place, erase_all}
-use Rattle.graphql_core.specs.{spelling_at, directives_of, optional_of, optional_list_of, enclosed_of}
-use Rattle.graphql_core.proofs.{SameTrees, same_both, same_first, same_second, same_block, same_node, left_tree}
-use Rattle.graphql_core.proofs.{right_tree, SameLeaf, IsSame, ByValues, DependsOnValues, RefusesAlike, accepted_same}
-use Rattle.graphql_core.proofs.{valueless_alike, there_same, optional_same, optional_list_same, each_same, each_alike}
-use Rattle.graphql_core.proofs.{enclosed_same, enclosed_alike, joined_same, spelling_same, type_same}
-use Rattle.graphql_core.proofs.{optional_default_same, directives_same}
-use Rattle.graphql_schema.specs.{schema_by, description_of, input_value_of, field_of, enum_value_of, interfaces_of}
-use Rattle.graphql_schema.specs.{members_of, schema_of, schema_extension_of, scalar_of, object_of, interface_of}
-use Rattle.graphql_schema.specs.{union_of, enum_of, input_of, body_of, location_at, present, locations_of}
-use Rattle.graphql_schema.specs.{directive_definition_of, extension_of, described_of, item_of, document_of, Root}
-use Rattle.graphql_schema.specs.{root_at, roots_of, roots_in, type_in, RootFault, root_cause, root_fault}
-use Rattle.graphql_schema.specs.{root_fault_of, extension_fault_of, location_of, PartsTree, object, interface, union}
-use Rattle.graphql_schema.specs.{enum, input, BodyTree, SchemaTree, extends, schema, type_definition, extension}
-use Rattle.graphql_schema.specs.{schema_extension, directive, erase_input_value, erase_field, erase_enum_value}
-use Rattle.graphql_schema.specs.{erase_schema, erase_body, erase_directive, erase_definition, erase, Lacks, said_at}
-use Rattle.graphql_schema.specs.{keyword_of, said_of, schemas}
+use Rattle.graphql_core.specs.{Token, Class, Spelled, AnyOf, Except, ParseTree, Node, accepts, CauseText, empty_extension, unplaced, FaultText, string_of}
+use Rattle.graphql_core.specs.{block_string_of, no_place, erase_all, spelling_at, directives_of, optional_of, optional_list_of, enclosed_of}
+use Rattle.graphql_core.proofs.{SameTrees, same_both, same_first, same_second, same_block, same_node, left_tree, right_tree, SameLeaf, IsSame, ByValues}
+use Rattle.graphql_core.proofs.{DependsOnValues, RefusesAlike, accepted_same, valueless_alike, there_same, optional_same, optional_list_same, each_same}
+use Rattle.graphql_core.proofs.{each_alike, enclosed_same, enclosed_alike, joined_same, spelling_same, type_same, optional_default_same, directives_same}
+use Rattle.graphql_schema.specs.{schema_by, description_of, input_value_of, field_of, enum_value_of, interfaces_of, members_of, schema_of, schema_extension_of}
+use Rattle.graphql_schema.specs.{scalar_of, object_of, interface_of, union_of, enum_of, input_of, body_of, location_at, present, locations_of}
+use Rattle.graphql_schema.specs.{directive_definition_of, extension_of, described_of, item_of, document_of, Root, root_at, roots_of, roots_in, type_in}
+use Rattle.graphql_schema.specs.{RootFault, root_cause, root_fault, root_fault_of, extension_fault_of, location_of, PartsTree, object, interface, union, enum}
+use Rattle.graphql_schema.specs.{input, BodyTree, SchemaTree, extends, schema, type_definition, extension, schema_extension, directive, erase_input_value}
+use Rattle.graphql_schema.specs.{erase_field, erase_enum_value, erase_schema, erase_body, erase_directive, erase_definition, erase, Lacks, said_at, keyword_of}
+use Rattle.graphql_schema.specs.{said_of, schemas}
 use Rattle.graphql_schema.proofs.readers.{extends_alike}
 use Rattle.graphql_schema.specs.Grammar as grammar
 

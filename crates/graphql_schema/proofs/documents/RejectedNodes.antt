@@ -5,24 +5,19 @@ use Rattle.std.proofs.Common.{is_some, ◌⊎◌, option_map, codes, inl, inr, r
 use Rattle.std.proofs.lemmas.Bool.{cases_Bool, both_ways, and_parts}
 use Rattle.std.proofs.lemmas.Bool.Decides.{nat_tests}
 use Rattle.graphql_core.proofs.{same_spelling-true}
-use Rattle.graphql_core.specs.{Grammar, Token, Place, Class, Spelled, AnyOf, Except, Many, Sym}
-use Rattle.graphql_core.specs.{ParseTree, Node, row, accepts, matches}
-use Rattle.graphql_core.specs.{Fits, fits_nothing, fits_leaf, fits_both, fits_first, fits_second, fits_stop, fits_more}
-use Rattle.graphql_core.specs.{fits_node, leaves, same_spelling, is_listed, some_of, each_of, CauseText}
-use Rattle.graphql_core.specs.{empty_extension, FaultText, split, Item, TokenContent, item_at, Where}
-use Rattle.graphql_core.specs.{HasNoValue, Reason, Unexpected, Improper, Refused, kind_number, keyword}
+use Rattle.graphql_core.specs.{Grammar, Token, Place, Class, Spelled, AnyOf, Except, Many, Sym, ParseTree, Node, row, accepts, matches, Fits, fits_nothing}
+use Rattle.graphql_core.specs.{fits_leaf, fits_both, fits_first, fits_second, fits_stop, fits_more, fits_node, leaves, same_spelling, is_listed, some_of}
+use Rattle.graphql_core.specs.{each_of, CauseText, empty_extension, FaultText, split, Item, TokenContent, item_at, Where, HasNoValue, Reason, Unexpected}
+use Rattle.graphql_core.specs.{Improper, Refused, kind_number, keyword}
 use Rattle.graphql_core.specs.sources.Source.{fault_by}
 use Rattle.graphql_core.specs.documents.Faults.{out_of_range, malformed, escaped_badly, Says, IsFaultAt, from_item}
 use Rattle.graphql_core.specs.lexical.Items.{Content}
 use Rattle.graphql_core.specs.declared.tokenizer.token.Kind.TheVariants.{Punctuator, Name}
-use Rattle.graphql_schema.specs.{Root, root_at, roots_of, type_in, root_names, RootFault, unknown, duplicate}
-use Rattle.graphql_schema.specs.{fault_after, root_fault, root_cause, schema_symbol}
-use Rattle.graphql_schema.specs.{root_type_symbol, extension_symbol, schema_extension_symbol, type_body_symbol, schemas}
-use Rattle.graphql_schema.specs.{scalar_symbol, object_symbol, interface_symbol, union_symbol, enum_symbol, input_symbol}
-use Rattle.graphql_schema.specs.{scalar_of, object_of, interface_of, union_of, enum_of, input_of}
-use Rattle.graphql_schema.specs.{schema_grammar, passes, schema_rule, schema_extension_rule, extension_rule, body_of}
-use Rattle.graphql_schema.specs.{schema_extension_of, said_of, Lacks}
-use Rattle.graphql_schema.specs.{IsNameSpelled, HasName, IsWrongSchema, IsEmptyExtension, RefersBy, RefersTo}
+use Rattle.graphql_schema.specs.{Root, root_at, roots_of, type_in, root_names, RootFault, unknown, duplicate, fault_after, root_fault, root_cause}
+use Rattle.graphql_schema.specs.{schema_symbol, root_type_symbol, extension_symbol, schema_extension_symbol, type_body_symbol, schemas, scalar_symbol}
+use Rattle.graphql_schema.specs.{object_symbol, interface_symbol, union_symbol, enum_symbol, input_symbol, scalar_of, object_of, interface_of, union_of}
+use Rattle.graphql_schema.specs.{enum_of, input_of, schema_grammar, passes, schema_rule, schema_extension_rule, extension_rule, body_of, schema_extension_of}
+use Rattle.graphql_schema.specs.{said_of, Lacks, IsNameSpelled, HasName, IsWrongSchema, IsEmptyExtension, RefersBy, RefersTo}
 use Rattle.graphql_core.specs.lexical.Items as items_of
 
 -- ---- tokens

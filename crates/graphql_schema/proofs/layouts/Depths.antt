@@ -3,19 +3,15 @@ use Rattle.std.proofs.Common.{◌≡◌, ℕ, max, cond, Bool, true, false, List
 use Rattle.graphql_core.specs.{bracket_of, Part, gap, Layout, most_enclosed, most}
 use Rattle.graphql_core.specs.declared.tokenizer.piece.Nesting.TheVariants.{Level}
 use Rattle.graphql_core.specs.declared.tokenizer.token.Kind.TheVariants.{Punctuator}
-use Rattle.graphql_core.proofs.{Rises, rises_as, none_rise, flat_rise, gap_rises, level_rises, both_rise}
-use Rattle.graphql_core.proofs.{string_rises, type_rises, directives_rise, braces_rise, line_end_rises}
-use Rattle.graphql_core.proofs.{default_rises, lines_rise, separated_rise, in_parentheses_rise}
+use Rattle.graphql_core.proofs.{Rises, rises_as, none_rise, flat_rise, gap_rises, level_rises, both_rise, string_rises, type_rises, directives_rise}
+use Rattle.graphql_core.proofs.{braces_rise, line_end_rises, default_rises, lines_rise, separated_rise, in_parentheses_rise}
 use Rattle.graphql_schema.specs.declared.location.DirectiveLocation.{DirectiveLocation}
-use Rattle.graphql_schema.specs.{description_layout, inline_layout, later_names, joined_names, interfaces_layout}
-use Rattle.graphql_schema.specs.{members_layout, locations_layout, block_layout, input_value_layout}
-use Rattle.graphql_schema.specs.{arguments_layout, input_field_layout, field_layout, enum_value_layout, root_layout}
-use Rattle.graphql_schema.specs.{roots_layout, interfaces, parts_layout, body_layout, repeatable_layout}
-use Rattle.graphql_schema.specs.{definition_layout, document_layout, word_of, input_value_brackets, field_brackets}
-use Rattle.graphql_schema.specs.{enum_value_brackets, parts_brackets, body_brackets, definition_brackets}
-use Rattle.graphql_schema.specs.{InputValueTree, FieldTree, EnumValueTree, PartsTree, scalar, object, interface}
-use Rattle.graphql_schema.specs.{union, enum, input, BodyTree, DefinitionTree, schema, type_definition, extension}
-use Rattle.graphql_schema.specs.{schema_extension, directive, DocumentTree, has_operation}
+use Rattle.graphql_schema.specs.{description_layout, inline_layout, later_names, joined_names, interfaces_layout, members_layout, locations_layout}
+use Rattle.graphql_schema.specs.{block_layout, input_value_layout, arguments_layout, input_field_layout, field_layout, enum_value_layout, root_layout}
+use Rattle.graphql_schema.specs.{roots_layout, interfaces, parts_layout, body_layout, repeatable_layout, definition_layout, document_layout, word_of}
+use Rattle.graphql_schema.specs.{input_value_brackets, field_brackets, enum_value_brackets, parts_brackets, body_brackets, definition_brackets, InputValueTree}
+use Rattle.graphql_schema.specs.{FieldTree, EnumValueTree, PartsTree, scalar, object, interface, union, enum, input, BodyTree, DefinitionTree, schema}
+use Rattle.graphql_schema.specs.{type_definition, extension, schema_extension, directive, DocumentTree, has_operation}
 
 -- ---- parts in braces
 

@@ -3,9 +3,8 @@ use Rattle.std.proofs.Common.{◌≡◌, ◌≤◌, ◌+◌, ℕ, cond, Bool, tr
 use Rattle.std.proofs.Math.Nat.{mul-le-mul_left}
 use Rattle.graphql_core.specs.{Layout, default_style, IsNarrow, description_levels, most_enclosed}
 use Rattle.graphql_core.proofs.{most_bounded, string_bounded, default_bounded, directives_bounded}
-use Rattle.graphql_schema.specs.{input_value_levels, field_levels, enum_value_levels, parts_levels, body_levels}
-use Rattle.graphql_schema.specs.{definition_levels, levels, IsTooWide, InputValueTree, FieldTree, EnumValueTree}
-use Rattle.graphql_schema.specs.{PartsTree, BodyTree, DefinitionTree, DocumentTree}
+use Rattle.graphql_schema.specs.{input_value_levels, field_levels, enum_value_levels, parts_levels, body_levels, definition_levels, levels, IsTooWide}
+use Rattle.graphql_schema.specs.{InputValueTree, FieldTree, EnumValueTree, PartsTree, BodyTree, DefinitionTree, DocumentTree}
 use Rattle.graphql_core.specs.layouts.ValueLayout as values
 use Rattle.graphql_schema.specs.Tree as trees
 

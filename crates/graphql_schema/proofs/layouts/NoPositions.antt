@@ -3,12 +3,10 @@ use Rattle.std.proofs.Common.{◌≡◌, ◌++◌, ap, ap₂, refl, codes, ℕ, 
 use Rattle.graphql_core.specs.{name_part, text_of, Layout, Part, gap, in_braces}
 use Rattle.std.specs.List.{flat_map}
 use Rattle.graphql_core.proofs.{directives_alike, separated_alike, in_parentheses_alike}
-use Rattle.graphql_schema.specs.{InputValueTree, FieldTree, EnumValueTree, PartsTree, scalar, object, interface}
-use Rattle.graphql_schema.specs.{union, enum, input, BodyTree, DefinitionTree, schema, type_definition, extension}
-use Rattle.graphql_schema.specs.{schema_extension, directive, DocumentTree, erase_input_value, erase_field}
-use Rattle.graphql_schema.specs.{erase_enum_value, erase_parts, erase_body, erase_definition, erase, block_layout}
-use Rattle.graphql_schema.specs.{description_layout, input_value_layout, arguments_layout, input_field_layout}
-use Rattle.graphql_schema.specs.{field_layout, enum_value_layout, keyword, interfaces, parts_layout, body_layout}
+use Rattle.graphql_schema.specs.{InputValueTree, FieldTree, EnumValueTree, PartsTree, scalar, object, interface, union, enum, input, BodyTree, DefinitionTree}
+use Rattle.graphql_schema.specs.{schema, type_definition, extension, schema_extension, directive, DocumentTree, erase_input_value, erase_field}
+use Rattle.graphql_schema.specs.{erase_enum_value, erase_parts, erase_body, erase_definition, erase, block_layout, description_layout, input_value_layout}
+use Rattle.graphql_schema.specs.{arguments_layout, input_field_layout, field_layout, enum_value_layout, keyword, interfaces, parts_layout, body_layout}
 use Rattle.graphql_schema.specs.{definition_layout, layout}
 
 -- ---- parts in braces

@@ -2,33 +2,27 @@
 use Rattle.std.proofs.Common.{◌≡◌, ℕ, ◌+◌, ◌<◌, ◌≤◌, Bool, true, false, if◌then◌else◌, List, [], ◌∷◌, Option, Some, None, codes, map, refl, sym, ap, ap₂}
 use Rattle.std.proofs.Common.{◌∙◌, subst, arith}
 use Rattle.std.proofs.lemmas.List.{map-id}
-use Rattle.graphql_core.specs.{name_part, Expr, Then, Many, Sym, ParseTree, Both, Node, optional, some_of, row, is_below}
-use Rattle.graphql_core.specs.{IsName, Layout, Part, token, DirectiveTree, no_place, erase_all, directives_layout}
-use Rattle.graphql_core.specs.{has_block_form, in_block_form, string_layout, in_braces, shared, directives_symbol}
-use Rattle.graphql_core.specs.{shared_symbols, punctuator, string_of, block_string_of, spelling_at, directives_of}
-use Rattle.graphql_core.specs.{IsPrintableDirective, directives_brackets, most_enclosed, most, AreLawfulDirectives}
-use Rattle.graphql_core.specs.{optional_of, optional_list_of, each_of, enclosed_of, separated_of, joined_of, quoted}
-use Rattle.graphql_core.specs.{name, punctuator_class}
-use Rattle.graphql_core.proofs.{Takes, IsMark, four_back, five_back, six_back, lift_back, Any, means, margin_back}
-use Rattle.graphql_core.proofs.{gap_back, then_gap, word_back, punctuator_back, nothing_back, both_back, first_back}
-use Rattle.graphql_core.proofs.{second_back, node_back, stop_back, more_back, three_back, name_word, quoted_word}
-use Rattle.graphql_core.proofs.{quoted_takes, quoted_means, block_word, block_means, spaces_blank, in_braces_back}
-use Rattle.graphql_core.proofs.{in_parentheses_back, type_back, directives_back, optional_default_back, Back}
+use Rattle.graphql_core.specs.{name_part, Expr, Then, Many, Sym, ParseTree, Both, Node, optional, some_of, row, is_below, IsName, Layout, Part, token}
+use Rattle.graphql_core.specs.{DirectiveTree, no_place, erase_all, directives_layout, has_block_form, in_block_form, string_layout, in_braces, shared}
+use Rattle.graphql_core.specs.{directives_symbol, shared_symbols, punctuator, string_of, block_string_of, spelling_at, directives_of, IsPrintableDirective}
+use Rattle.graphql_core.specs.{directives_brackets, most_enclosed, most, AreLawfulDirectives, optional_of, optional_list_of, each_of, enclosed_of, separated_of}
+use Rattle.graphql_core.specs.{joined_of, quoted, name, punctuator_class}
+use Rattle.graphql_core.proofs.{Takes, IsMark, four_back, five_back, six_back, lift_back, Any, means, margin_back, gap_back, then_gap, word_back}
+use Rattle.graphql_core.proofs.{punctuator_back, nothing_back, both_back, first_back, second_back, node_back, stop_back, more_back, three_back, name_word}
+use Rattle.graphql_core.proofs.{quoted_word, quoted_takes, quoted_means, block_word, block_means, spaces_blank, in_braces_back, in_parentheses_back, type_back}
+use Rattle.graphql_core.proofs.{directives_back, optional_default_back, Back}
 use Rattle.std.specs.List.{AllByRecursion, flat_map}
 use Rattle.graphql_core.specs.declared.tokenizer.token.Kind.TheVariants.{Punctuator, StringValue, BlockString}
 use Rattle.graphql_core.specs.declared.tokenizer.piece.Nesting.TheVariants.{Level}
-use Rattle.graphql_schema.specs.{InputValueTree, FieldTree, EnumValueTree, PartsTree, scalar, object, interface, union}
-use Rattle.graphql_schema.specs.{enum, input, BodyTree, erase_input_value, erase_field, erase_enum_value, erase_parts}
-use Rattle.graphql_schema.specs.{erase_body, joined_by, description_symbol, type_body_symbol, implements_symbol}
-use Rattle.graphql_schema.specs.{fields_symbol, field_symbol, argument_definitions_symbol, input_value_symbol}
-use Rattle.graphql_schema.specs.{members_symbol, enum_value_symbol, schema_grammar, description_of, input_value_of}
-use Rattle.graphql_schema.specs.{field_of, enum_value_of, interfaces_of, members_of, body_of, description_layout}
-use Rattle.graphql_schema.specs.{inline_layout, later_names, joined_names, interfaces_layout, members_layout}
-use Rattle.graphql_schema.specs.{block_layout, input_value_layout, arguments_layout, input_field_layout, field_layout}
-use Rattle.graphql_schema.specs.{enum_value_layout, body_layout, IsPrintableInputValue, IsPrintableField}
-use Rattle.graphql_schema.specs.{IsPrintableEnumValue, ArePrintableParts, IsPrintableBody, input_value_brackets}
-use Rattle.graphql_schema.specs.{field_brackets, enum_value_brackets, parts_brackets, body_brackets, IsLawfulInputValue}
-use Rattle.graphql_schema.specs.{IsLawfulField, IsLawfulEnumValue, AreLawfulParts, IsLawfulBody}
+use Rattle.graphql_schema.specs.{InputValueTree, FieldTree, EnumValueTree, PartsTree, scalar, object, interface, union, enum, input, BodyTree}
+use Rattle.graphql_schema.specs.{erase_input_value, erase_field, erase_enum_value, erase_parts, erase_body, joined_by, description_symbol, type_body_symbol}
+use Rattle.graphql_schema.specs.{implements_symbol, fields_symbol, field_symbol, argument_definitions_symbol, input_value_symbol, members_symbol}
+use Rattle.graphql_schema.specs.{enum_value_symbol, schema_grammar, description_of, input_value_of, field_of, enum_value_of, interfaces_of, members_of, body_of}
+use Rattle.graphql_schema.specs.{description_layout, inline_layout, later_names, joined_names, interfaces_layout, members_layout, block_layout}
+use Rattle.graphql_schema.specs.{input_value_layout, arguments_layout, input_field_layout, field_layout, enum_value_layout, body_layout, IsPrintableInputValue}
+use Rattle.graphql_schema.specs.{IsPrintableField, IsPrintableEnumValue, ArePrintableParts, IsPrintableBody, input_value_brackets, field_brackets}
+use Rattle.graphql_schema.specs.{enum_value_brackets, parts_brackets, body_brackets, IsLawfulInputValue, IsLawfulField, IsLawfulEnumValue, AreLawfulParts}
+use Rattle.graphql_schema.specs.{IsLawfulBody}
 use Rattle.graphql_schema.proofs.readers.{shares, tested_alike, written_goes_on}
 
 -- what parses back in the shared grammar also parses back in schemas

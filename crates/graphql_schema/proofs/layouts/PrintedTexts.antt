@@ -3,17 +3,14 @@ use Rattle.std.proofs.Common.{◌≡◌, ◌<◌, ◌+◌, ◌*◌, ◌++◌, �
 use Rattle.std.proofs.Common.{append_assoc, arith, Bool, cond}
 use Rattle.std.proofs.lemmas.List.{at_drop_more}
 use Rattle.std.proofs.lemmas.List.Folds.{flat_map-map}
-use Rattle.graphql_core.specs.{name_part, text_of, Layout, spaces, Part, gap, in_braces, default_layout, most}
-use Rattle.graphql_core.specs.{type_layout, directives_layout, most_enclosed}
+use Rattle.graphql_core.specs.{name_part, text_of, Layout, spaces, Part, gap, in_braces, default_layout, most, type_layout, directives_layout, most_enclosed}
 use Rattle.std.specs.List.{flat_map}
 use Rattle.graphql_core.proofs.{text_append, narrower, most_seen}
-use Rattle.graphql_schema.specs.{InputValueTree, FieldTree, EnumValueTree, SchemaTree, BodyTree}
-use Rattle.graphql_schema.specs.{DirectiveDefinitionTree, schema, schema_extension, has_operation}
-use Rattle.graphql_schema.specs.{description_layout, inline_layout, between, later_names, joined_names}
-use Rattle.graphql_schema.specs.{interfaces_layout, members_layout, locations_layout, input_value_layout}
-use Rattle.graphql_schema.specs.{arguments_layout, input_field_layout, field_layout, enum_value_layout, block_layout}
-use Rattle.graphql_schema.specs.{root_layout, roots_layout, repeatable_layout, keyword, interfaces, parts_layout}
-use Rattle.graphql_schema.specs.{body_layout, directive_definition_layout, definition_layout}
+use Rattle.graphql_schema.specs.{InputValueTree, FieldTree, EnumValueTree, SchemaTree, BodyTree, DirectiveDefinitionTree, schema, schema_extension}
+use Rattle.graphql_schema.specs.{has_operation, description_layout, inline_layout, between, later_names, joined_names, interfaces_layout, members_layout}
+use Rattle.graphql_schema.specs.{locations_layout, input_value_layout, arguments_layout, input_field_layout, field_layout, enum_value_layout, block_layout}
+use Rattle.graphql_schema.specs.{root_layout, roots_layout, repeatable_layout, keyword, interfaces, parts_layout, body_layout, directive_definition_layout}
+use Rattle.graphql_schema.specs.{definition_layout}
 
 -- ---- names
 

@@ -1,33 +1,26 @@
 -- The layouts of schema documents parse back to them, ignoring positions.
 use Rattle.std.proofs.Common.{◌≡◌, ℕ, ◌≤◌, Bool, true, false, not, ◌||◌, cond, List, [], ◌∷◌, ◌++◌, Option, Some, None, is_some, codes, map, refl, sym, ap}
 use Rattle.std.proofs.Common.{ap₂, subst, ◌∙◌, arith, append-nil}
-use Rattle.graphql_core.specs.{name_part, Many, Sym, ParseTree, Both, Node, optional, some_of, row, IsName, Layout}
-use Rattle.graphql_core.specs.{Part, gap, word, directives_of, most_enclosed, no_place, erase_all, AreLawfulDirectives}
-use Rattle.graphql_core.specs.{directives_brackets, directives_layout, has_any, is_there, AreReadBack}
-use Rattle.graphql_core.proofs.{same_parts, checked_back, seven_back, Any, means, margin_back, gap_back, then_gap}
-use Rattle.graphql_core.proofs.{word_back, punctuator_back, nothing_back, both_back, first_back, second_back, node_back}
-use Rattle.graphql_core.proofs.{stop_back, more_back, three_back, name_word, spaces_blank, both_of_each, some_back}
-use Rattle.graphql_core.proofs.{document_back, Back}
+use Rattle.graphql_core.specs.{name_part, Many, Sym, ParseTree, Both, Node, optional, some_of, row, IsName, Layout, Part, gap, word, directives_of}
+use Rattle.graphql_core.specs.{most_enclosed, no_place, erase_all, AreLawfulDirectives, directives_brackets, directives_layout, has_any, is_there, AreReadBack}
+use Rattle.graphql_core.proofs.{same_parts, checked_back, seven_back, Any, means, margin_back, gap_back, then_gap, word_back, punctuator_back, nothing_back}
+use Rattle.graphql_core.proofs.{both_back, first_back, second_back, node_back, stop_back, more_back, three_back, name_word, spaces_blank, both_of_each}
+use Rattle.graphql_core.proofs.{some_back, document_back, Back}
 use Rattle.std.specs.List.{AllByRecursion}
 use Rattle.std.specs.Option.{IfSome}
-use Rattle.graphql_schema.specs.{schema_by, schema_of, schema_extension_of, location_at, present, locations_of}
-use Rattle.graphql_schema.specs.{directive_definition_of, extension_of, item_of, Root, root_at, roots_of, roots_in}
-use Rattle.graphql_schema.specs.{type_in, RootFault, root_fault, root_fault_of, extension_fault_of, item_symbol}
-use Rattle.graphql_schema.specs.{schema_symbol, root_type_symbol, extension_symbol, directive_definition_symbol}
-use Rattle.graphql_schema.specs.{locations_symbol, location_symbol, schema_extension_symbol, roots_symbol}
-use Rattle.graphql_schema.specs.{schema_grammar, schemas, IsReadBack, IsLawfulInputValue, IsLawfulBody}
-use Rattle.graphql_schema.specs.{IsLawfulDefinition, IsLawfulDocument, joined_names, root_layout, roots_layout}
-use Rattle.graphql_schema.specs.{schema_layout, repeatable_layout, directive_definition_layout, definition_layout}
-use Rattle.graphql_schema.specs.{layout, word_of, location_of, is_location, IsPrintable, IsPrintableSchema}
-use Rattle.graphql_schema.specs.{IsPrintableBody, IsPrintableDefinition, IsWholeDefinition, IsPrintableInputValue}
-use Rattle.graphql_schema.specs.{input_value_brackets, body_brackets, definition_brackets, InputValueTree, SchemaTree}
-use Rattle.graphql_schema.specs.{BodyTree, DirectiveDefinitionTree, DefinitionTree, schema, type_definition, extension}
-use Rattle.graphql_schema.specs.{schema_extension, directive, DocumentTree, adds, has_operation, adds_to_schema}
-use Rattle.graphql_schema.specs.{extends, erase_schema, erase_body, erase_directive, erase_definition}
+use Rattle.graphql_schema.specs.{schema_by, schema_of, schema_extension_of, location_at, present, locations_of, directive_definition_of, extension_of, item_of}
+use Rattle.graphql_schema.specs.{Root, root_at, roots_of, roots_in, type_in, RootFault, root_fault, root_fault_of, extension_fault_of, item_symbol}
+use Rattle.graphql_schema.specs.{schema_symbol, root_type_symbol, extension_symbol, directive_definition_symbol, locations_symbol, location_symbol}
+use Rattle.graphql_schema.specs.{schema_extension_symbol, roots_symbol, schema_grammar, schemas, IsReadBack, IsLawfulInputValue, IsLawfulBody}
+use Rattle.graphql_schema.specs.{IsLawfulDefinition, IsLawfulDocument, joined_names, root_layout, roots_layout, schema_layout, repeatable_layout}
+use Rattle.graphql_schema.specs.{directive_definition_layout, definition_layout, layout, word_of, location_of, is_location, IsPrintable, IsPrintableSchema}
+use Rattle.graphql_schema.specs.{IsPrintableBody, IsPrintableDefinition, IsWholeDefinition, IsPrintableInputValue, input_value_brackets, body_brackets}
+use Rattle.graphql_schema.specs.{definition_brackets, InputValueTree, SchemaTree, BodyTree, DirectiveDefinitionTree, DefinitionTree, schema, type_definition}
+use Rattle.graphql_schema.specs.{extension, schema_extension, directive, DocumentTree, adds, has_operation, adds_to_schema, extends, erase_schema, erase_body}
+use Rattle.graphql_schema.specs.{erase_directive, erase_definition}
 use Rattle.graphql_schema.specs.declared.location.DirectiveLocation.{DirectiveLocation}
 use Rattle.graphql_schema.proofs.readers.{extends_alike, location_named, location_name, readable}
-use Rattle.graphql_schema.proofs.layouts.PartsBack.{named_back, joined_back, braces_back, directives_in}
-use Rattle.graphql_schema.proofs.layouts.PartsBack.{description_back, argument_definitions_back, body_back}
+use Rattle.graphql_schema.proofs.layouts.PartsBack.{named_back, joined_back, braces_back, directives_in, description_back, argument_definitions_back, body_back}
 use Rattle.graphql_schema.proofs.layouts.NoPositions.{layout_alike}
 use Rattle.graphql_core.proofs.documents.RoundTrip as round
 

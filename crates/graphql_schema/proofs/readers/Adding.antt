@@ -1,10 +1,9 @@
 -- Whether an extension adds something does not depend on positions.
 use Rattle.std.proofs.Common.{◌≡◌, ◌||◌, false, List, [], ◌∷◌, map, refl, ap, ap₂}
 use Rattle.graphql_core.specs.{DirectiveTree, no_place, erase as erase_one, has_any}
-use Rattle.graphql_schema.specs.{PartsTree, scalar, object, interface, union, enum, input, BodyTree, adds}
-use Rattle.graphql_schema.specs.{has_operation, extends, DefinitionTree, schema, type_definition, extension}
-use Rattle.graphql_schema.specs.{schema_extension, directive, erase_input_value, erase_field, erase_enum_value}
-use Rattle.graphql_schema.specs.{erase_body, erase_definition}
+use Rattle.graphql_schema.specs.{PartsTree, scalar, object, interface, union, enum, input, BodyTree, adds, has_operation, extends, DefinitionTree, schema}
+use Rattle.graphql_schema.specs.{type_definition, extension, schema_extension, directive, erase_input_value, erase_field, erase_enum_value, erase_body}
+use Rattle.graphql_schema.specs.{erase_definition}
 
 any_alike : {A B : Type 0} (f : A → B) (xs : List A) → has_any (map f xs) ≡ has_any xs
 any_alike f [] = refl

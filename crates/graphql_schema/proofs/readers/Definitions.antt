@@ -1,20 +1,16 @@
 -- What can begin a definition, and which kind of definition it begins.
 use Rattle.std.proofs.Common.{◌≡◌, ◌||◌, ℕ, true, false, List, [], ◌∷◌, ◌++◌, Result, Err, Option, Some, None, IsErrAnd, codes, refl, ap, ◌∙◌}
-use Rattle.graphql_core.proofs.{sees-apart, Stops-node, sees-within, FailsUnseen, gives_error_by, side_left}
-use Rattle.graphql_core.proofs.{side_right, unseen, halts_led, Leads, here, side_nth, sees_both, begun, took, into}
-use Rattle.graphql_core.proofs.{past, exit, rest_stops}
-use Rattle.graphql_core.specs.{Token, Class, Expr, Then, Either, Sym, ParseTree, Leaf, First, Second, Node, Both}
-use Rattle.graphql_core.specs.{optional, row, peek, first, written, sees, Takes, takes_both, takes_node, Unexpected}
-use Rattle.graphql_core.specs.{leads_node, StopsFor, TakesToken, any, keyword, tables as shared_tables, unquoted}
+use Rattle.graphql_core.proofs.{sees-apart, Stops-node, sees-within, FailsUnseen, gives_error_by, side_left, side_right, unseen, halts_led, Leads, here}
+use Rattle.graphql_core.proofs.{side_nth, sees_both, begun, took, into, past, exit, rest_stops}
+use Rattle.graphql_core.specs.{Token, Class, Expr, Then, Either, Sym, ParseTree, Leaf, First, Second, Node, Both, optional, row, peek, first, written, sees}
+use Rattle.graphql_core.specs.{Takes, takes_both, takes_node, Unexpected, leads_node, StopsFor, TakesToken, any, keyword, tables as shared_tables, unquoted}
 use Rattle.graphql_core.specs.{Refusals, halt_reason, SaysNode, Items, Reads, Consumes}
 use Rattle.graphql_core.specs.declared.tokenizer.token.Kind.TheVariants.{StringValue, BlockString}
 use Rattle.graphql_core.specs.declared.common.read.node_error.NodeError.{NodeError}
 use Rattle.graphql_core.specs.declared.common.read.node_error.NodeError.TheVariants.{Stopped, Refused}
-use Rattle.graphql_schema.specs.{tables, changes, item_symbol, schema_symbol, extension_symbol}
-use Rattle.graphql_schema.specs.{schema_extension_symbol, type_body_symbol, directive_definition_symbol}
-use Rattle.graphql_schema.specs.{directive_definition_rule, description_symbol, directive_definition_of}
-use Rattle.graphql_schema.specs.{DirectiveDefinitionTree, schemas, keywords, kind_word, sees_definition}
-use Rattle.graphql_schema.specs.{sees_description, symbol_of}
+use Rattle.graphql_schema.specs.{tables, changes, item_symbol, schema_symbol, extension_symbol, schema_extension_symbol, type_body_symbol}
+use Rattle.graphql_schema.specs.{directive_definition_symbol, directive_definition_rule, description_symbol, directive_definition_of, DirectiveDefinitionTree}
+use Rattle.graphql_schema.specs.{schemas, keywords, kind_word, sees_definition, sees_description, symbol_of}
 use Rattle.graphql_schema.proofs.readers.Readable.{readable}
 use Rattle.graphql_schema.specs.declared.read.keyword.TypeKind.{TypeKind}
 use Rattle.graphql_schema.proofs.readers.Lifted.{reading}

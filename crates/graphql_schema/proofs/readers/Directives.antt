@@ -1,15 +1,13 @@
 -- Directive locations and directive definitions.
 use Rattle.std.proofs.Common.{◌≡◌, ℕ, Bool, true, false, List, [], ◌∷◌, map, Result, Ok, Err, Option, Some, None, IsErrAnd, refl, sym, ap, subst, ◌∙◌}
-use Rattle.graphql_core.specs.{fails_value, Token, Place, Sym, ParseTree, Leaf, Node, peek, sees, Improper}
-use Rattle.graphql_core.specs.{Fails, fails_node, after, lexeme_token, any, location_class, Gives, IsNext, Shows, Items}
-use Rattle.graphql_core.specs.{Consumes, StopsFor}
+use Rattle.graphql_core.specs.{fails_value, Token, Place, Sym, ParseTree, Leaf, Node, peek, sees, Improper, Fails, fails_node, after, lexeme_token, any}
+use Rattle.graphql_core.specs.{location_class, Gives, IsNext, Shows, Items, Consumes, StopsFor}
 use Rattle.graphql_core.specs.declared.helpers.read_error.ReadError.{ReadError}
 use Rattle.graphql_core.specs.declared.tokenizer.token.Kind.TheVariants.{Name}
 use Rattle.graphql_core.proofs.{takes_token, next_matches, TakesNone, none_within, begun, took, lacks_last, consumed}
 use Rattle.graphql_core.specs.declared.helpers.source.Lexeme.{Lexeme}
 use Rattle.graphql_schema.specs.declared.location.DirectiveLocation.{DirectiveLocation}
-use Rattle.graphql_schema.specs.{IsNamed, is_location, location_symbol, present, InputValueTree}
-use Rattle.graphql_schema.specs.{DirectiveDefinitionTree}
+use Rattle.graphql_schema.specs.{IsNamed, is_location, location_symbol, present, InputValueTree, DirectiveDefinitionTree}
 use Rattle.graphql_schema.proofs.readers.Lifted.{reading}
 
 -- ---- what a word names

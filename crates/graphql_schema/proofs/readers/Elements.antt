@@ -1,11 +1,9 @@
 -- Fields, arguments and values of enums: their parts, and lists of them in brackets.
 use Rattle.std.proofs.Common.{◌≡◌, ℕ, List, Option, codes, refl}
-use Rattle.graphql_core.specs.{Place, Sym, ValueTree, TypeTree, DirectiveTree, IsList, each_of}
-use Rattle.graphql_core.specs.{enclosed_of, punctuator_class}
+use Rattle.graphql_core.specs.{Place, Sym, ValueTree, TypeTree, DirectiveTree, IsList, each_of, enclosed_of, punctuator_class}
 use Rattle.graphql_core.proofs.{is_list}
-use Rattle.graphql_schema.specs.{enum_value_of, field_of, input_value_of, tables, enum_values_symbol, enum_value_symbol}
-use Rattle.graphql_schema.specs.{fields_symbol, field_symbol, input_value_symbol, argument_definitions_symbol}
-use Rattle.graphql_schema.specs.{input_fields_symbol, InputValueTree, EnumValueTree, FieldTree, as_written}
+use Rattle.graphql_schema.specs.{enum_value_of, field_of, input_value_of, tables, enum_values_symbol, enum_value_symbol, fields_symbol, field_symbol}
+use Rattle.graphql_schema.specs.{input_value_symbol, argument_definitions_symbol, input_fields_symbol, InputValueTree, EnumValueTree, FieldTree, as_written}
 use Rattle.graphql_schema.proofs.readers.Lifted.{reading}
 
 -- ---- trees with equal parts are equal

@@ -4,8 +4,7 @@ use Rattle.std.proofs.Math.Bool.{and-false}
 use Rattle.std.proofs.lemmas.Bool.{true_from_ne_false, both_ways}
 use Rattle.graphql_core.specs.{Token, Spelled, matches, all_within, peek, sees, Items}
 use Rattle.graphql_core.proofs.{sees-within, spelling_differs}
-use Rattle.graphql_schema.specs.declared.read.keyword.TypeKind.TheVariants.{Scalar, Object, Interface, Union, Enum}
-use Rattle.graphql_schema.specs.declared.read.keyword.TypeKind.TheVariants.{InputObject}
+use Rattle.graphql_schema.specs.declared.read.keyword.TypeKind.TheVariants.{Scalar, Object, Interface, Union, Enum, InputObject}
 use Rattle.graphql_schema.specs.declared.read.keyword.Keyword.{Keyword}
 use Rattle.graphql_schema.specs.declared.read.keyword.Keyword.TheVariants.{Schema, OfType, Directive}
 use Rattle.graphql_schema.specs.{class_of, keywords, TellsToken, Tells}

@@ -1,7 +1,6 @@
 -- Readers of values, types and directives within schemas.
 use Rattle.std.proofs.Common.{◌≡◌, true, Option}
-use Rattle.graphql_core.specs.{Grammar, Items, Expr, ParseTree, Reason, TakesSome, StopsFor, is_below, written, shared}
-use Rattle.graphql_core.specs.{shared_symbols}
+use Rattle.graphql_core.specs.{Grammar, Items, Expr, ParseTree, Reason, TakesSome, StopsFor, is_below, written, shared, shared_symbols}
 use Rattle.graphql_schema.specs.{changes, schemas}
 use Rattle.graphql_schema.proofs.readers.Readable.{readable, read_alike, shares}
 use Rattle.graphql_core.specs.documents.Languages as language

@@ -1,9 +1,8 @@
 -- The next token, names separated by a punctuator, and optional parts.
 use Rattle.std.proofs.Common.{◌≡◌, ◌||◌, ℕ, true, false, List, [], ◌∷◌, map, codes, refl, ap, ◌∙◌}
-use Rattle.graphql_core.specs.{Token, Class, Expr, One, Then, Sym, ParseTree, Leaf, Both, First, Node, optional, leaves, peek, first, row, sees}
-use Rattle.graphql_core.specs.{Consumes, written, TakesSome, place_next, TakesToken, any, first_place, Adds}
-use Rattle.graphql_core.specs.{punctuator, keyword, each_of, separated_of, joined_of, tables as shared_tables, Items}
-use Rattle.graphql_core.specs.{punctuator_class}
+use Rattle.graphql_core.specs.{Token, Class, Expr, One, Then, Sym, ParseTree, Leaf, Both, First, Node, optional, leaves, peek, first, row, sees, Consumes}
+use Rattle.graphql_core.specs.{written, TakesSome, place_next, TakesToken, any, first_place, Adds, punctuator, keyword, each_of, separated_of, joined_of}
+use Rattle.graphql_core.specs.{tables as shared_tables, Items, punctuator_class}
 use Rattle.graphql_core.specs.declared.tokenizer.token.Kind.TheVariants.{Name, StringValue, BlockString}
 use Rattle.graphql_core.proofs.{fills, takes_one, taken_both, Pushes, some_taken, sees_both, begins_at, BegunBy, Leads, into, there, side_node}
 use Rattle.graphql_schema.specs.{changes, description_symbol, joined_by, implements_symbol, members_symbol, tables}

@@ -1,29 +1,23 @@
 -- What the grammar derives from an input is printable.
 use Rattle.std.proofs.Common.{◌≡◌, ◌≤◌, ℕ, max, Bool, true, false, cond, List, [], ◌∷◌, Option, Some, None, is_some, codes, refl, arith}
-use Rattle.graphql_core.proofs.{Nests, Anything, HasRoom, room_nothing, room_leaf, room_both, room_first}
-use Rattle.graphql_core.proofs.{room_second, room_stop, room_more, room_node, room_back, all_turns}
-use Rattle.graphql_core.proofs.{leaf_name, directives_printable, type_printable}
-use Rattle.graphql_core.proofs.{some_printable, enclosed_printable, each_of_both, optional_default_printable, Within}
+use Rattle.graphql_core.proofs.{Nests, Anything, HasRoom, room_nothing, room_leaf, room_both, room_first, room_second, room_stop, room_more, room_node}
+use Rattle.graphql_core.proofs.{room_back, all_turns, leaf_name, directives_printable, type_printable, some_printable, enclosed_printable, each_of_both}
+use Rattle.graphql_core.proofs.{optional_default_printable, Within}
 use Rattle.std.specs.List.{AllByRecursion}
 use Rattle.std.specs.Option.{IfSome}
-use Rattle.graphql_core.specs.{matches, Expr, Then, Many, Sym, ParseTree, optional, is_below, IsName, shared, punctuator}
-use Rattle.graphql_core.specs.{location_class, shared_symbols, spelling_at, most_enclosed, has_any, IsDocument}
-use Rattle.graphql_core.specs.{each_of, enclosed_of, optional_list_of, separated_of, joined_of, some_of}
+use Rattle.graphql_core.specs.{matches, Expr, Then, Many, Sym, ParseTree, optional, is_below, IsName, shared, punctuator, location_class, shared_symbols}
+use Rattle.graphql_core.specs.{spelling_at, most_enclosed, has_any, IsDocument, each_of, enclosed_of, optional_list_of, separated_of, joined_of, some_of}
 use Rattle.graphql_core.specs.{same_spelling, Items, name}
 use Rattle.std.proofs.lemmas.Bool.{and_parts}
-use Rattle.graphql_schema.specs.{Root, root_at, roots_of, type_in, is_good, document_symbol, item_symbol}
-use Rattle.graphql_schema.specs.{root_type_symbol, extension_symbol, described_symbol, type_body_symbol}
-use Rattle.graphql_schema.specs.{scalar_symbol, object_symbol, interface_symbol, implements_symbol, fields_symbol}
-use Rattle.graphql_schema.specs.{field_symbol, argument_definitions_symbol, input_value_symbol, union_symbol}
-use Rattle.graphql_schema.specs.{members_symbol, enum_symbol, enum_values_symbol, enum_value_symbol, input_symbol}
-use Rattle.graphql_schema.specs.{input_fields_symbol, locations_symbol, location_symbol, joined_by, schema_grammar}
-use Rattle.graphql_schema.specs.{InputValueTree, BodyTree, DefinitionTree, DocumentTree, present, input_value_of}
-use Rattle.graphql_schema.specs.{field_of, enum_value_of, interfaces_of, members_of, scalar_of, object_of}
-use Rattle.graphql_schema.specs.{interface_of, union_of, enum_of, input_of, body_of, location_at, locations_of}
-use Rattle.graphql_schema.specs.{extension_of, described_of, item_of, document_of, schemas, IsDocumentOf}
-use Rattle.graphql_schema.specs.{IsPrintableInputValue, IsPrintableField, IsPrintableEnumValue, IsPrintableBody}
-use Rattle.graphql_schema.specs.{IsPrintableDefinition, IsWholeDefinition, input_value_brackets, field_brackets}
-use Rattle.graphql_schema.specs.{enum_value_brackets, body_brackets, definition_brackets, IsPrintable}
+use Rattle.graphql_schema.specs.{Root, root_at, roots_of, type_in, is_good, document_symbol, item_symbol, root_type_symbol, extension_symbol, described_symbol}
+use Rattle.graphql_schema.specs.{type_body_symbol, scalar_symbol, object_symbol, interface_symbol, implements_symbol, fields_symbol, field_symbol}
+use Rattle.graphql_schema.specs.{argument_definitions_symbol, input_value_symbol, union_symbol, members_symbol, enum_symbol, enum_values_symbol}
+use Rattle.graphql_schema.specs.{enum_value_symbol, input_symbol, input_fields_symbol, locations_symbol, location_symbol, joined_by, schema_grammar}
+use Rattle.graphql_schema.specs.{InputValueTree, BodyTree, DefinitionTree, DocumentTree, present, input_value_of, field_of, enum_value_of, interfaces_of}
+use Rattle.graphql_schema.specs.{members_of, scalar_of, object_of, interface_of, union_of, enum_of, input_of, body_of, location_at, locations_of, extension_of}
+use Rattle.graphql_schema.specs.{described_of, item_of, document_of, schemas, IsDocumentOf, IsPrintableInputValue, IsPrintableField, IsPrintableEnumValue}
+use Rattle.graphql_schema.specs.{IsPrintableBody, IsPrintableDefinition, IsWholeDefinition, input_value_brackets, field_brackets, enum_value_brackets}
+use Rattle.graphql_schema.specs.{body_brackets, definition_brackets, IsPrintable}
 use Rattle.graphql_schema.proofs.readers.Readable.{shares, tested_alike, written_goes_on}
 use Rattle.graphql_core.proofs.values.Printable as values
 

@@ -1,18 +1,14 @@
 -- Types by their kinds: the rule of a kind and what it denotes, and the alternative of a kind in a type body.
 use Rattle.std.proofs.Common.{◌≡◌, ℕ, true, false, List, [], ◌∷◌, Result, Ok, Err, Option, codes, refl, ◌∙◌}
-use Rattle.graphql_core.specs.{all_apart, Token, Place, Expr, Empty, Then}
-use Rattle.graphql_core.specs.{Sym, ParseTree, Both, First, Second, Node, peek, written, sees, Takes, takes_nothing}
-use Rattle.graphql_core.specs.{takes_both, takes_node, Reason, Fails, fails_before, fails_after, fails_node}
-use Rattle.graphql_core.specs.{TakesSome, keyword, word, directives_symbol, tables as shared_tables}
-use Rattle.graphql_core.specs.{DirectiveTree, reason_of, optional_list_of, Gives, Items}
+use Rattle.graphql_core.specs.{all_apart, Token, Place, Expr, Empty, Then, Sym, ParseTree, Both, First, Second, Node, peek, written, sees, Takes, takes_nothing}
+use Rattle.graphql_core.specs.{takes_both, takes_node, Reason, Fails, fails_before, fails_after, fails_node, TakesSome, keyword, word, directives_symbol}
+use Rattle.graphql_core.specs.{tables as shared_tables, DirectiveTree, reason_of, optional_list_of, Gives, Items}
 use Rattle.graphql_core.specs.declared.helpers.read_error.ReadError.{ReadError}
 use Rattle.graphql_core.proofs.{sees-apart, sees-parts, IsSide, Leads, into, side_in, side_nth, halts}
-use Rattle.graphql_schema.specs.{changes, tables, type_body_symbol, type_body_rule, body_by, no_body, body_of}
-use Rattle.graphql_schema.specs.{interfaces_of, PartsTree, BodyTree, kind_word, has_interfaces, symbol_of, means}
-use Rattle.graphql_schema.specs.{interfaces_rule, parts_rule, parts_of}
+use Rattle.graphql_schema.specs.{changes, tables, type_body_symbol, type_body_rule, body_by, no_body, body_of, interfaces_of, PartsTree, BodyTree, kind_word}
+use Rattle.graphql_schema.specs.{has_interfaces, symbol_of, means, interfaces_rule, parts_rule, parts_of}
 use Rattle.graphql_schema.specs.declared.read.keyword.TypeKind.{TypeKind}
-use Rattle.graphql_schema.specs.declared.read.keyword.TypeKind.TheVariants.{Scalar, Object, Interface, Union, Enum}
-use Rattle.graphql_schema.specs.declared.read.keyword.TypeKind.TheVariants.{InputObject}
+use Rattle.graphql_schema.specs.declared.read.keyword.TypeKind.TheVariants.{Scalar, Object, Interface, Union, Enum, InputObject}
 use Rattle.graphql_schema.proofs.readers.Lifted.{reading}
 use Rattle.graphql_core.specs.values.Grammar as shared
 

@@ -3,7 +3,7 @@ use Rattle.std.specs.Prelude.{Bool, ◌||◌, Result}
 use Rattle.graphql_core.specs.{Expr, ParseTree, written, sees_class, any, reading, Gives, Items}
 use Rattle.graphql_core.specs.declared.helpers.read_error.ReadError.{ReadError}
 use Rattle.graphql_core.specs.declared.tokenizer.token.Kind.TheVariants.{Name, StringValue, BlockString}
-use Rattle.graphql_schema.specs.Grammar.{changes}
+use Rattle.graphql_schema.specs.steps.SecondRules.{changes}
 use Rattle.graphql_schema.specs.Language.{schemas}
 
 -- the reader follows the second rules, and its result is what the written parse tree denotes

@@ -5,9 +5,8 @@ use Rattle.graphql_core.specs.declared.common.read.node_error.NodeError.{NodeErr
 use Rattle.graphql_schema.specs.Grammar.{schema_symbol, extension_symbol, schema_extension_symbol}
 use Rattle.graphql_schema.specs.Language.{schemas}
 use Rattle.graphql_schema.specs.declared.read.invalid_node.InvalidNode.{InvalidNode}
-use Rattle.graphql_schema.specs.declared.read.invalid_node.InvalidNode.TheVariants.{Schema, SchemaExtension}
-use Rattle.graphql_schema.specs.declared.read.invalid_node.InvalidNode.TheVariants.{Extension}
-use Rattle.graphql_core.specs.documents.Refusing as refusing
+use Rattle.graphql_schema.specs.declared.read.invalid_node.InvalidNode.TheVariants.{Schema, SchemaExtension, Extension}
+use Rattle.graphql_core.specs.steps.Refusing as refusing
 
 -- the symbol of a rejected node, and its error
 abbrev pub refused_symbol : InvalidNode → ℕ

@@ -32,7 +32,7 @@ impl<S: TokenSource> Elements<S> for EnumValueList {
 
     ghost view = { enum_value_view S.Names.bytes };
 
-    #[tactic(auto, using(crate::proofs::begins_described_name), unfolding(crate::specs::Grammar::tables))]
+    #[tactic(auto, using(crate::proofs::begins_described_name), unfolding(crate::specs::steps::SecondRules::tables))]
     fn comes_next(source: &S) -> bool {
         sees_described_name(source)
     }

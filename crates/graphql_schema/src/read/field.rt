@@ -34,7 +34,7 @@ impl<S: TokenSource> Elements<S> for FieldList {
 
     ghost view = { field_view S.Names.bytes };
 
-    #[tactic(auto, using(crate::proofs::begins_described_name), unfolding(crate::specs::Grammar::tables))]
+    #[tactic(auto, using(crate::proofs::begins_described_name), unfolding(crate::specs::steps::SecondRules::tables))]
     fn comes_next(source: &S) -> bool {
         sees_described_name(source)
     }

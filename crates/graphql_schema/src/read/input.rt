@@ -36,7 +36,7 @@ impl<S: TokenSource> Elements<S> for InputValueList {
 
     ghost view = { input_value_view S.Names.bytes };
 
-    #[tactic(auto, using(crate::proofs::begins_described_name), unfolding(crate::specs::Grammar::tables))]
+    #[tactic(auto, using(crate::proofs::begins_described_name), unfolding(crate::specs::steps::SecondRules::tables))]
     fn comes_next(source: &S) -> bool {
         sees_described_name(source)
     }

@@ -3,7 +3,7 @@ ghost use Rattle.std.specs.Prelude.{◌≡◌, ◌<◌, ℕ, true, Result};
 ghost use Rattle.graphql_core.specs.{IsExact, is_ll1, is_productive, Sym, ParseTree, shared, shared_symbols, Items};
 ghost use Rattle.graphql_core.specs.{Gives, reason_of, ReturnsDerived};
 ghost use Rattle.graphql_core.specs.declared.helpers.read_error.ReadError.{ReadError};
-ghost use Rattle.graphql_core.specs.values.MeaningExamples as example;
+ghost use Rattle.graphql_core.specs.examples.MeaningExamples as example;
 
 /// The shared productions are LL(1). Each derives something, and parsing it is sound, complete and unambiguous.
 pub fn shared_is_readable()

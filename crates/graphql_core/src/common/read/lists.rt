@@ -16,8 +16,8 @@ pub trait Elements<S: TokenSource> {
     ghost use Rattle.std.specs.Prelude.{◌≡◌, ◌<◌, [], ◌∷◌, length, OnOk};
     ghost use Rattle.graphql_core.specs.grammar.Trees.{Grammar};
     ghost use Rattle.graphql_core.specs.grammar.Trees.{Expr, ParseTree, peek};
-    ghost use Rattle.graphql_core.specs.grammar.Tables.{first};
-    ghost use Rattle.graphql_core.specs.grammar.Reading.{sees};
+    ghost use Rattle.graphql_core.specs.theory.Tables.{first};
+    ghost use Rattle.graphql_core.specs.theory.Reading.{sees};
     ghost use Rattle.graphql_core.specs.steps.Answers.{Gives, Adds};
 
     /// What a list stores of one element.

@@ -2,7 +2,7 @@
 ghost use Rattle.std.specs.Prelude.{◌≡◌, ℕ};
 ghost use Rattle.graphql_core.specs.{deepest, Layout, value_brackets, type_brackets, directive_brackets};
 ghost use Rattle.graphql_core.specs.{value_layout, type_layout, directive_layout, ValueTree, TypeTree, DirectiveTree};
-ghost use Rattle.graphql_core.specs.layouts.LayoutExamples as example;
+ghost use Rattle.graphql_core.specs.examples.LayoutExamples as example;
 
 /// The brackets counted on a tree are the most that are open at once in its layout, in each style.
 pub fn brackets_are_those_of_layouts()

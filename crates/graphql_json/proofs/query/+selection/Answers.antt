@@ -1,8 +1,7 @@
 use Rattle.std.proofs.Common.{codes, ◌∙◌, ◌++◌, ap, refl, sym, arith, append_assoc, append-nil}
 use Rattle.graphql_query.specs.declared.tree.SelectionSet.{the_lemmas}
 use Rattle.graphql_query.specs.Tree.{selections_view}
-use Rattle.graphql_query.proofs.layouts.LayoutTexts.{selection_set_parts, field_parts, inline_fragment_parts, selection_here}
-use Rattle.graphql_query.proofs.layouts.LayoutTexts.{no_items, some_items}
+use Rattle.graphql_query.proofs.layouts.LayoutTexts.{selection_set_parts, field_parts, inline_fragment_parts, selection_here, no_items, some_items}
 use Rattle.graphql_json.specs.{selections_json}
 use Rattle.graphql_json.specs.Json.{elements_text}
 use Rattle.graphql_json.proofs.{◌▹◌, then_last, begun, next_element, list_appended, later-one, later-append}

@@ -3,8 +3,7 @@ use Rattle.graphql_core.proofs.{item_here}
 use Rattle.graphql_core.specs.values.ValueViews.{items_view, members_view}
 use Rattle.graphql_json.specs.{items_json, fields_json}
 use Rattle.graphql_json.specs.Json.{elements_text}
-use Rattle.graphql_json.proofs.{◌▹◌, then_last, begun, next_element, appended, list_appended, later-one, later-append}
-use Rattle.graphql_json.proofs.{text-array, text-node}
+use Rattle.graphql_json.proofs.{◌▹◌, then_last, begun, next_element, appended, list_appended, later-one, later-append, text-array, text-node}
 use Rattle.graphql_json.proofs.values.+value.Goals as goal
 
 -- ---- lists

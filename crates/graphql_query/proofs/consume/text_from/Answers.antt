@@ -1,6 +1,5 @@
 use Rattle.std.proofs.Common.{◌≡◌, ◌<◌, ℕ, List, length, drop, sym, ap, subst, ◌∙◌}
-use Rattle.graphql_core.proofs.{items_rise, holds_first, rise_on, holds_on, token_next, boundary, other_position}
-use Rattle.graphql_core.proofs.{same_position}
+use Rattle.graphql_core.proofs.{items_rise, holds_first, rise_on, holds_on, token_next, boundary, other_position, same_position}
 use Rattle.graphql_core.specs.{Item, next_place}
 use Rattle.graphql_query.proofs.consume.text_from.Goals.{in_default-via-in-Ok+in_default, in_default-via-in_default}
 use Rattle.graphql_query.proofs.consume.text_from.Goals as goal

@@ -1,6 +1,5 @@
 use Rattle.std.proofs.Common.{refl}
-use Rattle.graphql_core.specs.{quoted_front, string_end, block_end, front, comment, items_in, items}
-use Rattle.graphql_core.specs.{tables as core_tables, unquoted, other_token}
+use Rattle.graphql_core.specs.{quoted_front, string_end, block_end, front, comment, items_in, items, tables as core_tables, unquoted, other_token}
 use Rattle.std.specs.Str.{chars}
 use Rattle.graphql_core.proofs.{refused}
 use Rattle.graphql_schema.specs.{tables, schemas}

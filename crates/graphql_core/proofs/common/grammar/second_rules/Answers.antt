@@ -1,5 +1,4 @@
-use Rattle.graphql_core.proofs.{each_is_second, IsSecond-unchanged, IsSecond-head, IsSecond-second, IsSecond-prefix}
-use Rattle.graphql_core.proofs.{IsSecond-symbols}
+use Rattle.graphql_core.proofs.{each_is_second, IsSecond-unchanged, IsSecond-head, IsSecond-second, IsSecond-prefix, IsSecond-symbols}
 use Rattle.graphql_core.proofs.common.grammar.second_rules.Goals as goal
 
 pub returns : goal.returns

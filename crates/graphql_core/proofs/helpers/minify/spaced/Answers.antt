@@ -1,8 +1,7 @@
 use Rattle.std.proofs.Common.{◌≡◌, ℕ, Bool, List, [], ◌∷◌, ◌++◌, Option, Some, None, Result, Ok, Err, refl, sym, ap, ◌∙◌, subst, append_assoc, append-nil}
 use Rattle.graphql_core.specs.declared.tokenizer.token.Token.{Token as Cut}
-use Rattle.graphql_core.specs.{NextLexeme, EndOfInput, Item, item_at, Where, HasItems, Token, NextItem, IsEnd, split}
-use Rattle.graphql_core.specs.{token_of, IsBadPlaceOf, IsMinified, is_spaced, space_if, spaced, spaced_after}
-use Rattle.graphql_core.specs.{kind_number}
+use Rattle.graphql_core.specs.{NextLexeme, EndOfInput, Item, item_at, Where, HasItems, Token, NextItem, IsEnd, split, token_of, IsBadPlaceOf, IsMinified}
+use Rattle.graphql_core.specs.{is_spaced, space_if, spaced, spaced_after, kind_number}
 use Rattle.graphql_core.specs.declared.position.Pos.{Pos}
 use Rattle.graphql_core.specs.declared.tokenizer.token.Bad.{Bad}
 use Rattle.graphql_core.proofs.{next_of, spaced_alike, ends_alike, spaced_first}

@@ -1,8 +1,7 @@
 use Rattle.std.proofs.Common.{◌≡◌, ◌∙◌, arith, rules}
 use Rattle.graphql_core.specs.declared.tokenizer.piece.Move.TheVariants.{Down}
 use Rattle.graphql_core.specs.{is_spacing, is_line_feed, contents, items}
-use Rattle.graphql_core.proofs.{skip_contents, gap_contents, spaces_gap, spacing_front, feed_front}
-use Rattle.graphql_core.proofs.{first_told}
+use Rattle.graphql_core.proofs.{skip_contents, gap_contents, spaces_gap, spacing_front, feed_front, first_told}
 use Rattle.graphql_core.proofs.tokenizer.ignored.after_common.Goals as goal
 
 pub common-preserved : goal.common-preserved

@@ -1,7 +1,6 @@
 use Rattle.std.proofs.Common.{◌∙◌, arith}
 use Rattle.graphql_core.proofs.{natural_taken}
-use Rattle.graphql_core.proofs.tokenizer.number.natural_len.Goals.{else-len-gt1-via-then-len-gt1+else-byte_at-eq48}
-use Rattle.graphql_core.proofs.tokenizer.number.natural_len.Goals.{else-len-gt1-via-else-len-gt1}
+use Rattle.graphql_core.proofs.tokenizer.number.natural_len.Goals.{else-len-gt1-via-then-len-gt1+else-byte_at-eq48, else-len-gt1-via-else-len-gt1}
 use Rattle.graphql_core.proofs.tokenizer.number.natural_len.Goals as goal
 
 pub returns-clause-is : goal.returns-clause-is

@@ -2,8 +2,7 @@ use Rattle.std.proofs.Common.{◌-◌, ◌^◌, ◌∙◌, arith, rules, refl, s
 use Rattle.graphql_core.proofs.{all_counted}
 use Rattle.graphql_query.specs.declared.tree.SelectionSet.{the_lemmas}
 use Rattle.graphql_query.specs.{selections_view, selections_depth, counted}
-use Rattle.graphql_query.proofs.{selection_set_parts, no_items, some_items, nothing_levels, some_levels}
-use Rattle.graphql_query.proofs.{selection_here}
+use Rattle.graphql_query.proofs.{selection_set_parts, no_items, some_items, nothing_levels, some_levels, selection_here}
 use Rattle.graphql_query.proofs.print.levels.+levels.Goals as goal
 
 pub levels_in_selection_set-levels_in_selections-requires : goal.levels_in_selection_set-levels_in_selections-requires

@@ -1,8 +1,7 @@
 use Rattle.std.proofs.Common.{◌∙◌, ◌<◌, ◌*◌, ◌^◌, map, arith, refl, sym}
 use Rattle.graphql_core.specs.{most}
 use Rattle.graphql_core.proofs.{and_last, on_ok, some_items, most_seen, all_seen, in_parentheses_seen}
-use Rattle.graphql_query.specs.{IsLawfulVariable, variable_definition_layout, variable_definition_levels}
-use Rattle.graphql_query.specs.{variable_definition_view}
+use Rattle.graphql_query.specs.{IsLawfulVariable, variable_definition_layout, variable_definition_levels, variable_definition_view}
 use Rattle.graphql_query.proofs.print.operation.write_variable_definitions.Goals as goal
 
 pub write_joined-requires : goal.write_joined-requires

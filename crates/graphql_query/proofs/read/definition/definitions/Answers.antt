@@ -1,7 +1,6 @@
 use Rattle.std.proofs.Common.{refl, sym, ◌∙◌}
 use Rattle.graphql_core.specs.{ParseTree, written, each_of}
-use Rattle.graphql_core.proofs.{adds_reserved, fills, here, after, fails, fails_last, turn_fails, pushes_none}
-use Rattle.graphql_core.proofs.{turn_appends, some_taken, fewer}
+use Rattle.graphql_core.proofs.{adds_reserved, fills, here, after, fails, fails_last, turn_fails, pushes_none, turn_appends, some_taken, fewer}
 use Rattle.graphql_query.specs.{definition_view, reading, changes, definition_of, tables}
 use Rattle.graphql_query.proofs.{read_definition, begins_definition, readable}
 use Rattle.graphql_query.proofs.read.definition.definitions.Goals as goal

@@ -1,19 +1,16 @@
 use Rattle.std.proofs.Common.{◌≡◌, [], ◌∷◌, ◌++◌, length, map, refl, sym, ap, ◌∙◌, arith, rules}
-use Rattle.graphql_core.specs.{Sym, Both, optional, peek, written, place_of, arguments_symbol}
-use Rattle.graphql_core.specs.{directives_symbol}
-use Rattle.graphql_core.proofs.{Stops-before, Stops-after, gives_error_by, adds_none, adds_reserved, fewer, no_more, pushed}
-use Rattle.graphql_core.proofs.{adds_more, here, took, past, after, fails, fails_last, lacks, begins_at, leads_in, into}
-use Rattle.graphql_core.proofs.{gives_led, lacks_last, some_given, none_given, pushes_none, turn_appends, turn_fails}
-use Rattle.graphql_core.proofs.{taken_both, whole}
+use Rattle.graphql_core.specs.{Sym, Both, optional, peek, written, place_of, arguments_symbol, directives_symbol}
+use Rattle.graphql_core.proofs.{Stops-before, Stops-after, gives_error_by, adds_none, adds_reserved, fewer, no_more, pushed, adds_more, here, took, past, after}
+use Rattle.graphql_core.proofs.{fails, fails_last, lacks, begins_at, leads_in, into, gives_led, lacks_last, some_given, none_given, pushes_none, turn_appends}
+use Rattle.graphql_core.proofs.{turn_fails, taken_both, whole}
 use Rattle.graphql_core.proofs.readers.TakenOff.{no_fewer, stays}
 use Rattle.graphql_core.specs.declared.helpers.read_error.ReadError.TheVariants.{Memory}
 use Rattle.graphql_query.specs.{more, trees_of, selection_view, set, reading, changes, selection_set_symbol}
 use Rattle.graphql_query.specs.{inline_fragment_rest, selections_of, queries, first_names}
-use Rattle.graphql_query.proofs.{readable, begun, lifted, stops_lifted, selection_set_begins, field_side, dots_side}
-use Rattle.graphql_query.proofs.{fragment_spread_side, inline_fragment_side, names_taken, stops_in_names}
-use Rattle.graphql_query.proofs.{begins_selection, some_rest, some_selection, field_means, inline_fragment_means, dots_mean, selection_at}
-use Rattle.graphql_query.proofs.{selections_mean, field_made, inline_fragment_made}
-use Rattle.graphql_query.proofs.{selection_set_made, selection_set_taken, field_selected, inline_fragment_selected}
+use Rattle.graphql_query.proofs.{readable, begun, lifted, stops_lifted, selection_set_begins, field_side, dots_side, fragment_spread_side, inline_fragment_side}
+use Rattle.graphql_query.proofs.{names_taken, stops_in_names, begins_selection, some_rest, some_selection, field_means, inline_fragment_means, dots_mean}
+use Rattle.graphql_query.proofs.{selection_at, selections_mean, field_made, inline_fragment_made, selection_set_made, selection_set_taken, field_selected}
+use Rattle.graphql_query.proofs.{inline_fragment_selected}
 use Rattle.graphql_query.proofs.read.selection.+reading.Goals as goal
 
 -- ---- field

@@ -1,7 +1,6 @@
 use Rattle.std.proofs.Common.{[], ◌∷◌, ◌++◌, sym, ap, ◌∙◌, refl, Err}
 use Rattle.graphql_core.specs.{Stop, fits_stop, each_of}
-use Rattle.graphql_core.proofs.{adds_reserved, fills, halts_before, halts_led, turn_done, turn_halts, here, past}
-use Rattle.graphql_core.proofs.{pushes_none, some_taken, stops_led, fewer}
+use Rattle.graphql_core.proofs.{adds_reserved, fills, halts_before, halts_led, turn_done, turn_halts, here, past, pushes_none, some_taken, stops_led, fewer}
 use Rattle.graphql_core.specs.declared.helpers.read_error.ReadError.TheVariants.{Memory}
 use Rattle.graphql_schema.specs.{schemas, item_of, definition_view, refusals, as_written, tables}
 use Rattle.graphql_schema.proofs.{reading, item_begins, readable}

@@ -1,7 +1,6 @@
 use Rattle.std.proofs.Common.{refl, sym, ◌∙◌, codes, Some, None, arith}
 use Rattle.graphql_core.specs.{Then, Sym, punctuator, separated_of}
-use Rattle.graphql_core.proofs.{adds_one, begun, after, fails, fails_last, pushes_none, turn_fails, turn_appends, whole}
-use Rattle.graphql_core.proofs.{fewer, no_more}
+use Rattle.graphql_core.proofs.{adds_one, begun, after, fails, fails_last, pushes_none, turn_fails, turn_appends, whole, fewer, no_more}
 use Rattle.graphql_schema.specs.{location_symbol, locations_symbol, location_at, as_written}
 use Rattle.graphql_schema.proofs.{reading, all_present, joined_taken, readable}
 use Rattle.graphql_schema.proofs.read.directive.locations.Goals as goal

@@ -1,11 +1,8 @@
 use Rattle.std.proofs.Common.{◌∙◌, Some, ap, refl, sym}
 use Rattle.graphql_core.specs.{Place, empty_extension}
-use Rattle.graphql_core.proofs.{node_stops, node_lacks, node_passes, node_refused, here, before, past, took}
-use Rattle.graphql_core.proofs.{consumed, rest_stops}
-use Rattle.graphql_schema.specs.{extension_symbol, schemas, SchemaTree, BodyTree, schema_extension, extension, adds}
-use Rattle.graphql_schema.specs.{adds_to_schema, refusals}
-use Rattle.graphql_schema.proofs.{readable, of_schema, of_body, node_halts, none_extended, directive_extended}
-use Rattle.graphql_schema.proofs.{not_extended, body_means}
+use Rattle.graphql_core.proofs.{node_stops, node_lacks, node_passes, node_refused, here, before, past, took, consumed, rest_stops}
+use Rattle.graphql_schema.specs.{extension_symbol, schemas, SchemaTree, BodyTree, schema_extension, extension, adds, adds_to_schema, refusals}
+use Rattle.graphql_schema.proofs.{readable, of_schema, of_body, node_halts, none_extended, directive_extended, not_extended, body_means}
 use Rattle.graphql_schema.proofs.read.extension.extension.Goals as goal
 
 pub returns-in_err-expect_keyword : goal.returns-in_err-expect_keyword

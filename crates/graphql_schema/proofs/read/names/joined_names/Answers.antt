@@ -1,7 +1,6 @@
 use Rattle.std.proofs.Common.{refl, sym, ◌∙◌, [], arith}
 use Rattle.graphql_core.specs.{Leaf, spelling_of, spelling_at, separated_of}
-use Rattle.graphql_core.proofs.{adds_one, here, took, past, after, fails_last, lacks, pushes_none, turn_fails}
-use Rattle.graphql_core.proofs.{turn_appends, fewer, no_more}
+use Rattle.graphql_core.proofs.{adds_one, here, took, past, after, fails_last, lacks, pushes_none, turn_fails, turn_appends, fewer, no_more}
 use Rattle.graphql_schema.specs.{as_written}
 use Rattle.graphql_schema.proofs.{reading, separated, joined_taken, readable}
 use Rattle.graphql_core.specs.values.Grammar as shared

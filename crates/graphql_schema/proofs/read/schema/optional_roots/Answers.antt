@@ -1,6 +1,5 @@
 use Rattle.std.proofs.Common.{[], ◌∷◌, refl, sym, ◌∙◌}
-use Rattle.graphql_core.proofs.{Stops-before, Stops-after, none_given, took, taken_both, past, fails, lacks}
-use Rattle.graphql_core.proofs.{lacks_last, whole}
+use Rattle.graphql_core.proofs.{Stops-before, Stops-after, none_given, took, taken_both, past, fails, lacks, lacks_last, whole}
 use Rattle.graphql_schema.proofs.{turn_of, roots_begin, opens}
 use Rattle.graphql_schema.proofs.read.schema.optional_roots.Goals as goal
 

@@ -1,8 +1,7 @@
 use Rattle.std.proofs.Common.{◌≡◌, ◌∙◌, [], ◌∷◌, ◌++◌, List, arith, refl, sym, subst, append_assoc, append-nil}
 use Rattle.graphql_core.specs.{Token, Sym, peek, first, sees, any, tables as core_tables, each_of}
 use Rattle.graphql_core.specs.declared.tokenizer.token.Kind.TheVariants.{Name}
-use Rattle.graphql_core.proofs.{Turns-start, Turns-more, Turns-stop, Stops-turn, here, fails_last}
-use Rattle.graphql_core.proofs.{each_means, fewer, no_more}
+use Rattle.graphql_core.proofs.{Turns-start, Turns-more, Turns-stop, Stops-turn, here, fails_last, each_means, fewer, no_more}
 use Rattle.graphql_schema.specs.{Root, root_at, tables, root_type_symbol, HasRoots, as_written}
 use Rattle.graphql_schema.proofs.{reading, turn_of, readable}
 use Rattle.graphql_schema.proofs.read.schema.root_types.Goals as goal

@@ -1,6 +1,5 @@
 use Rattle.std.proofs.Common.{[], refl, sym}
-use Rattle.graphql_core.proofs.{node_stops, node_lacks, node_passes, node_refused, here, before, took, past, after}
-use Rattle.graphql_core.proofs.{consumed, rest_stops}
+use Rattle.graphql_core.proofs.{node_stops, node_lacks, node_passes, node_refused, here, before, took, past, after, consumed, rest_stops}
 use Rattle.graphql_schema.specs.{schemas, refusals}
 use Rattle.graphql_schema.proofs.{readable, lifted, stops_lifted, fault_told, none_told}
 use Rattle.graphql_schema.proofs.read.schema.schema_definition.Goals as goal

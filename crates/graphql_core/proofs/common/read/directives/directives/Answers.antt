@@ -1,8 +1,7 @@
 use Rattle.std.proofs.Common.{◌≡◌, refl, [], ◌∙◌}
 use Rattle.graphql_core.specs.{directives_symbol, directive_view}
 use Rattle.graphql_core.proofs.{begun, fills, whole, fails_last}
-use Rattle.graphql_core.proofs.common.read.directives.directives.Goals.{then-sees_punctuator+in_ok-reserve_exact}
-use Rattle.graphql_core.proofs.common.read.directives.directives.Goals.{else-sees_punctuator}
+use Rattle.graphql_core.proofs.common.read.directives.directives.Goals.{then-sees_punctuator+in_ok-reserve_exact, else-sees_punctuator}
 use Rattle.graphql_core.proofs.common.read.directives.directives.Goals as goal
 
 pub returns-in_err-read_many : goal.returns-in_err-read_many

@@ -1,6 +1,5 @@
 use Rattle.std.proofs.Common.{◌≡◌, true, refl}
-use Rattle.graphql_core.specs.{reason_of, shared, tables, shared_symbols, unquoted, is_tight, is_productive}
-use Rattle.graphql_core.specs.{RefusesTokens}
+use Rattle.graphql_core.specs.{reason_of, shared, tables, shared_symbols, unquoted, is_tight, is_productive, RefusesTokens}
 use Rattle.graphql_core.proofs.{sampled_below, shared_ll1, symbol_derived}
 use Rattle.graphql_core.proofs.common.read.laws.readers_return_what_is_derived.Goals as goal
 

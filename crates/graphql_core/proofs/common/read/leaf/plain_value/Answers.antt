@@ -1,7 +1,6 @@
 use Rattle.std.proofs.Common.{ap, ◌∙◌}
 use Rattle.graphql_core.specs.{float, string, int, kind_number}
-use Rattle.graphql_core.specs.declared.tokenizer.token.Kind.TheVariants.{IntValue, FloatValue, StringValue}
-use Rattle.graphql_core.specs.declared.tokenizer.token.Kind.TheVariants.{BlockString}
+use Rattle.graphql_core.specs.declared.tokenizer.token.Kind.TheVariants.{IntValue, FloatValue, StringValue, BlockString}
 use Rattle.graphql_core.proofs.{int_made, float_made, string_made, integer_side, float_side, string_side, block_side}
 use Rattle.graphql_core.proofs.{word_taken, punctuator_stopped, none_stopped, kind_led, whole, fails_last}
 use Rattle.graphql_core.proofs.common.read.leaf.plain_value.Goals as goal

@@ -1,8 +1,7 @@
 use Rattle.std.proofs.Common.{refl, ◌∙◌}
 use Rattle.graphql_core.specs.{Leaf, without_ends}
 use Rattle.graphql_core.specs.declared.tokenizer.token.Kind.TheVariants.{StringValue}
-use Rattle.graphql_core.proofs.{some_unquoted, none_unquoted, string_means, not_shown, next_spelled, next_taken}
-use Rattle.graphql_core.proofs.{next_refused}
+use Rattle.graphql_core.proofs.{some_unquoted, none_unquoted, string_means, not_shown, next_spelled, next_taken, next_refused}
 use Rattle.graphql_core.proofs.common.read.leaf.string_value.Goals as goal
 
 pub returns-in_err-token : goal.returns-in_err-token

@@ -1,7 +1,6 @@
 use Rattle.std.proofs.Common.{sym, ap, ◌∙◌, [], ◌∷◌, ◌++◌, map, arith}
 use Rattle.graphql_core.specs.{each_of}
-use Rattle.graphql_core.proofs.{Stops-before, Stops-after, opened, list_begun, adds_more, took, past, taken_both, whole, fails}
-use Rattle.graphql_core.proofs.{lacks, lacks_last, no_fewer}
+use Rattle.graphql_core.proofs.{Stops-before, Stops-after, opened, list_begun, adds_more, took, past, taken_both, whole, fails, lacks, lacks_last, no_fewer}
 use Rattle.graphql_core.proofs.common.read.lists.read_enclosed.Goals as goal
 
 pub returns-in_err-expect_punctuator-clause-reads : goal.returns-in_err-expect_punctuator-clause-reads

@@ -1,7 +1,6 @@
 use Rattle.std.proofs.Common.{refl, sym, ap, ◌∙◌}
 use Rattle.graphql_core.specs.{optional_non_null, named, list_of, type_view}
-use Rattle.graphql_core.proofs.{named_side, list_type_side, leads_in, took, past, after, gives_led, fails, lacks}
-use Rattle.graphql_core.proofs.{named_made, list_type_made}
+use Rattle.graphql_core.proofs.{named_side, list_type_side, leads_in, took, past, after, gives_led, fails, lacks, named_made, list_type_made}
 use Rattle.graphql_core.proofs.common.read.types.+type_reference.Goals as goal
 
 pub returns-in_err-items : goal.returns-in_err-items

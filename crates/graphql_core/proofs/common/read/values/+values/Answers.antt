@@ -1,12 +1,10 @@
 use Rattle.std.proofs.Common.{refl, sym, ap, ap₂, ◌∙◌, [], ◌∷◌, ◌++◌, arith, codes}
 use Rattle.graphql_core.specs.{object, put, list, Leaf, shared, punctuator_class, put_all, pair_symbol_of, tree_of}
 use Rattle.graphql_core.specs.{pair_of, value_view, listed_values, members_view}
-use Rattle.graphql_core.proofs.{Stops-turn, Turns-start, Turns-more, Turns-stop, variable_side, list_side}
-use Rattle.graphql_core.proofs.{object_side, plain_side, pair_side, plain_means, list_means, object_means}
-use Rattle.graphql_core.proofs.{pair_means, unseen_value, ends_list, begins_pair, put_more, trees_means, pairs_means}
-use Rattle.graphql_core.proofs.{view_insert, stops_until, takes_seen, adds_one, fills, leads_in, here, took}
-use Rattle.graphql_core.proofs.{past, whole, fails, fails_last, lacks, lacks_last, pushes_none, turn_appends}
-use Rattle.graphql_core.proofs.{gives_led, list_made, no_more, object_made, pushed, fewer, shared_ll1, some_value, some_pair}
+use Rattle.graphql_core.proofs.{Stops-turn, Turns-start, Turns-more, Turns-stop, variable_side, list_side, object_side, plain_side, pair_side, plain_means}
+use Rattle.graphql_core.proofs.{list_means, object_means, pair_means, unseen_value, ends_list, begins_pair, put_more, trees_means, pairs_means, view_insert}
+use Rattle.graphql_core.proofs.{stops_until, takes_seen, adds_one, fills, leads_in, here, took, past, whole, fails, fails_last, lacks, lacks_last, pushes_none}
+use Rattle.graphql_core.proofs.{turn_appends, gives_led, list_made, no_more, object_made, pushed, fewer, shared_ll1, some_value, some_pair}
 use Rattle.graphql_core.proofs.common.read.values.+values.Goals as goal
 
 -- ---- value_by_constness

@@ -1,6 +1,5 @@
 use Rattle.std.proofs.Common.{ℕ, ◌+◌, ◌*◌, ◌≤◌, ◌≡◌, List, length}
-use Rattle.graphql_core.specs.{Sym, shared, put_all, symbol_of, pair_symbol_of, tree_of, pair_of, ValueTree}
-use Rattle.graphql_core.specs.{value_view, members_view}
+use Rattle.graphql_core.specs.{Sym, shared, put_all, symbol_of, pair_symbol_of, tree_of, pair_of, ValueTree, value_view, members_view}
 use Rattle.graphql_core.proofs.{Pushes, Turns}
 use Rattle.graphql_core.proofs.common.read.values.+values.Given as goal
 

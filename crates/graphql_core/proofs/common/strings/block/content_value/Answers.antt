@@ -9,9 +9,7 @@ use Rattle.std.proofs.lemmas.Bool.Decides.{nat_tests}
 use Rattle.std.proofs.lemmas.Str.{encode_ascii}
 use Rattle.graphql_core.proofs.{piece, kept, kept_line, length-kept, first_written, later_written, pieces_kept, line_at}
 use Rattle.graphql_core.proofs.{left_after, shape_first, shape_through, shape_indent, some_left}
-use Rattle.graphql_core.proofs.common.strings.block.content_value.Goals.{then-index-first+in_ok-push}
-use Rattle.graphql_core.proofs.common.strings.block.content_value.Goals.{else-index-first, then-index-eq0}
-use Rattle.graphql_core.proofs.common.strings.block.content_value.Goals.{else-index-eq0}
+use Rattle.graphql_core.proofs.common.strings.block.content_value.Goals.{then-index-first+in_ok-push, else-index-first, then-index-eq0, else-index-eq0}
 use Rattle.graphql_core.proofs.common.strings.block.content_value.Goals as goal
 
 pub after_lines-rest-requires : goal.after_lines-rest-requires

@@ -1,8 +1,7 @@
 use Rattle.std.proofs.Common.{arith, ◌∙◌, ◌++◌, ◌^◌, ap, sym, refl, codes}
 use Rattle.std.proofs.lemmas.List.{at_drop_all}
 use Rattle.std.proofs.lemmas.Grind.{common_steps}
-use Rattle.graphql_core.specs.{text_of, AreLawfulArguments, value_view, arguments_view, parts, value_layout}
-use Rattle.graphql_core.specs.{pair_layout, each_argument}
+use Rattle.graphql_core.specs.{text_of, AreLawfulArguments, value_view, arguments_view, parts, value_layout, pair_layout, each_argument}
 use Rattle.graphql_core.proofs.{argument_here, alike, and_last, all_done, on_ok, all_hold, narrower, pair_text}
 use Rattle.graphql_core.proofs.{enclosed_text, and_next, some_items, arguments_fit, filled_layout}
 use Rattle.graphql_core.proofs.format.print.directives.write_arguments.Goals as goal

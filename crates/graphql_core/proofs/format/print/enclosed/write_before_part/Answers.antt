@@ -1,7 +1,6 @@
 use Rattle.std.proofs.Common.{◌≡◌, true, codes, rules}
 use Rattle.graphql_core.proofs.{and_last, and_alone, before_first, before_later}
-use Rattle.graphql_core.proofs.format.print.enclosed.write_before_part.Goals.{then-is_later-2+in_ok-push_str}
-use Rattle.graphql_core.proofs.format.print.enclosed.write_before_part.Goals.{else-is_later-2}
+use Rattle.graphql_core.proofs.format.print.enclosed.write_before_part.Goals.{then-is_later-2+in_ok-push_str, else-is_later-2}
 use Rattle.graphql_core.proofs.format.print.enclosed.write_before_part.Goals as goal
 
 pub returns : goal.returns

@@ -1,8 +1,7 @@
 use Rattle.std.proofs.Common.{sym, ◌∙◌}
 use Rattle.graphql_core.specs.{text_of, after_parts}
 use Rattle.graphql_core.proofs.{alike, and_last, after_lines, after_none, closed_text}
-use Rattle.graphql_core.proofs.format.print.enclosed.write_closer.Goals.{then-has_multiline_arguments+in_ok-write_new_line}
-use Rattle.graphql_core.proofs.format.print.enclosed.write_closer.Goals.{else-has_multiline_arguments}
+use Rattle.graphql_core.proofs.format.print.enclosed.write_closer.Goals.{then-has_multiline_arguments+in_ok-write_new_line, else-has_multiline_arguments}
 use Rattle.graphql_core.proofs.format.print.enclosed.write_closer.Goals as goal
 
 pub returns : goal.returns

@@ -2,8 +2,7 @@ use Rattle.std.proofs.Common.{◌∷◌, ◌++◌, ◌∙◌, IsUtf8, ap, sym, s
 use Rattle.std.proofs.lemmas.Str.{IsUtf8-drop}
 use Rattle.std.specs.List.{flat_map, slice_get}
 use Rattle.graphql_core.specs.{quoted_byte}
-use Rattle.graphql_core.proofs.{and_last, and_part, all_done, unescaped_parts, escaped_next, escaped_boundary}
-use Rattle.graphql_core.proofs.{first_of, none_of}
+use Rattle.graphql_core.proofs.{and_last, and_part, all_done, unescaped_parts, escaped_next, escaped_boundary, first_of, none_of}
 use Rattle.graphql_core.proofs.format.print.quotes.write_escaped.Goals as goal
 
 pub returns-in_default : goal.returns-in_default

@@ -1,6 +1,5 @@
 use Rattle.std.proofs.Common.{◌≡◌, ◌++◌, ◌+◌, ◌*◌, ◌<◌, ◌^◌, List, ℕ, drop, false, codes}
-use Rattle.graphql_core.specs.{text_of, AreLawful, HoldLawful, items_view, members_view, parts, items_layout}
-use Rattle.graphql_core.specs.{members_layout, items_levels, members_levels}
+use Rattle.graphql_core.specs.{text_of, AreLawful, HoldLawful, items_view, members_view, parts, items_layout, members_layout, items_levels, members_levels}
 use Rattle.graphql_core.proofs.format.print.values.+value.Given as goal
 
 abbrev pub invariant-write_list-items : goal.invariant-write_list-items

@@ -2,8 +2,7 @@ use Rattle.std.proofs.Common.{◌≡◌, ◌-◌, ◌<◌, ◌∷◌, [], true, 
 use Rattle.std.proofs.lemmas.Bool.{eqb-false}
 use Rattle.graphql_core.specs.{front, Where, Item, is_too_deep, past, past_token}
 use Rattle.graphql_core.specs.steps.Front.{AtEnd, Takes, Stops}
-use Rattle.graphql_core.proofs.{items_at, last_some, taken_front, one_bracket, few_open, end_front, stops_front}
-use Rattle.graphql_core.proofs.{token_then_rest}
+use Rattle.graphql_core.proofs.{items_at, last_some, taken_front, one_bracket, few_open, end_front, stops_front, token_then_rest}
 use Rattle.graphql_core.proofs.tokenizer.tokens.Tokens.next_token.Goals as goal
 
 pub position_after_token-end-requires-clause-flat : goal.position_after_token-end-requires-clause-flat

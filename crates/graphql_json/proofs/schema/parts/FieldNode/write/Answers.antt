@@ -1,10 +1,9 @@
 use Rattle.std.proofs.Common.{codes, option_map, string_bytes}
 use Rattle.graphql_schema.specs.Views.{input_value_view}
-use Rattle.graphql_json.specs.Schema.{input_value_json}
+use Rattle.graphql_json.specs.Schema.{input_value_json, described}
 use Rattle.graphql_core.specs.{place_of}
 use Rattle.graphql_json.specs.Nodes.{located, one}
 use Rattle.graphql_json.specs.Values.{name_json}
-use Rattle.graphql_json.specs.Schema.{described}
 use Rattle.graphql_json.proofs.{◌▹◌, then_last, as_viewed, node_described}
 use Rattle.graphql_json.proofs.schema.parts.FieldNode.write.Goals as goal
 

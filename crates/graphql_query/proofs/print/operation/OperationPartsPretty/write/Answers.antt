@@ -2,8 +2,7 @@ use Rattle.std.proofs.Common.{◌^◌, arith}
 use Rattle.std.proofs.lemmas.Result.{on_ok_weaker}
 use Rattle.graphql_core.specs.{directives_layout}
 use Rattle.graphql_core.proofs.{and_last, narrower}
-use Rattle.graphql_query.specs.{keyword, operation_seen, operation_name_layout, variable_definitions_layout}
-use Rattle.graphql_query.specs.{selection_set_layout}
+use Rattle.graphql_query.specs.{keyword, operation_seen, operation_name_layout, variable_definitions_layout, selection_set_layout}
 use Rattle.graphql_query.proofs.{operation_text}
 use Rattle.graphql_query.proofs.print.operation.OperationPartsPretty.write.Goals as goal
 

@@ -1,6 +1,5 @@
 use Rattle.std.proofs.Common.{◌^◌, option_map, arith}
-use Rattle.graphql_core.specs.{value_view, type_view, directives_view, type_layout, directives_layout}
-use Rattle.graphql_core.specs.{default_layout}
+use Rattle.graphql_core.specs.{value_view, type_view, directives_view, type_layout, directives_layout, default_layout}
 use Rattle.graphql_core.proofs.{and_last, narrower}
 use Rattle.graphql_query.proofs.{variable_definition_text}
 use Rattle.graphql_query.proofs.print.operation.VariableDefinitionPretty.write.Goals as goal

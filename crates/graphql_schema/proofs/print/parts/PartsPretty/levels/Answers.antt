@@ -1,6 +1,5 @@
 use Rattle.std.proofs.Common.{inl, inr}
-use Rattle.graphql_schema.specs.{field_levels, enum_value_levels, input_value_levels, field_view, enum_value_view}
-use Rattle.graphql_schema.specs.{input_value_view}
+use Rattle.graphql_schema.specs.{field_levels, enum_value_levels, input_value_levels, field_view, enum_value_view, input_value_view}
 use Rattle.graphql_schema.proofs.{block_levels_seen}
 use Rattle.graphql_schema.proofs.print.parts.PartsPretty.levels.Goals as goal
 

@@ -1,6 +1,5 @@
 use Rattle.std.proofs.Common.{refl, sym, ◌∙◌}
-use Rattle.graphql_core.proofs.{adds_reserved, begun, took, past, after, fails, fails_last, lacks, whole}
-use Rattle.graphql_core.proofs.{fewer}
+use Rattle.graphql_core.proofs.{adds_reserved, begun, took, past, after, fails, fails_last, lacks, whole, fewer}
 use Rattle.graphql_schema.specs.{field_symbol, field_view, tables}
 use Rattle.graphql_schema.proofs.{lifted, stops_lifted, described_at, same_field, readable}
 use Rattle.graphql_schema.proofs.read.field.FieldListElements.read.Goals as goal

@@ -6,8 +6,8 @@ use Rattle.graphql_core.specs.declared.tokenizer.token.Kind.TheVariants.{StringV
 use Rattle.graphql_core.specs.declared.tokenizer.token.Kind.{Kind}
 use Rattle.graphql_core.specs.lexical.BadTexts.{BadText, bad_character, bare_dot, bad_integer, bad_float}
 use Rattle.graphql_core.specs.lexical.BadTexts.{unterminated_string, unterminated_block_string, too_deep}
-use Rattle.graphql_core.specs.lexical.Items.{Item, item_at, Content, TokenContent, EndOfInput, LexicalError}
-use Rattle.graphql_core.specs.lexical.Items.{is_token, HasItems}
+use Rattle.graphql_core.specs.lexical.Items.{Item, item_at, Content, TokenContent, EndOfInput, LexicalError, is_token}
+use Rattle.graphql_core.specs.lexical.Items.{HasItems}
 
 -- an item on this line, in this column, after this many bytes, opening and closing brackets
 abbrev at : Content → ℕ → ℕ → ℕ → ℕ → ℕ → Item

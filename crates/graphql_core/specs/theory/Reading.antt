@@ -3,7 +3,8 @@ use Rattle.std.specs.Prelude.{◌≡◌, ℕ, Bool, true, false, cond, List, [],
 use Rattle.graphql_core.specs.grammar.Tokens.{Token, Class, matches, in_any}
 use Rattle.graphql_core.specs.grammar.Trees.{Expr, Empty, One, Then, Either, Many, Sym, ParseTree, Nothing, Leaf, Both}
 use Rattle.graphql_core.specs.grammar.Trees.{First, Second, Stop, More, Node, Row, Grammar, row, accepts, peek}
-use Rattle.graphql_core.specs.grammar.Tables.{nullable, first}
+use Rattle.graphql_core.specs.grammar.GrammarFaults.{Reason, Unexpected, Improper, Refused}
+use Rattle.graphql_core.specs.theory.Tables.{nullable, first}
 
 -- the next token is of one of the classes
 abbrev pub sees : List Class → Option Token → Bool
@@ -33,13 +34,6 @@ pub data Takes (g : Grammar) : Expr → List Token → ParseTree → List Token 
       → Takes g a ts x us → Takes g (Many a) us y vs → Takes g (Many a) ts (More x y) vs
   takes_node : {k : ℕ} {ts us : List Token} {x : ParseTree} → Takes g (row g k).rule ts x us → g.check k x ≡ true
       → Takes g (Sym k) ts (Node k x) us
-
--- a token or end of input that is not allowed here, a token that is rejected as a leaf of its class,
--- or a node that fails the check of its symbol
-pub data Reason : Type 0 where
-  Unexpected : Reason
-  Improper : (class : Class) → Reason
-  Refused : (symbol : ℕ) → Reason
 
 -- `Fails g e ts why us`: from `ts` the reader gets to `us`, and stops at the token or end of input there.
 pub data Fails (g : Grammar) : Expr → List Token → Reason → List Token → Type 0 where
@@ -72,15 +66,3 @@ pub data Outcome : Type 0 where
 abbrev pub ReadsTo : Grammar → Expr → List Token → Outcome → Type 0
 ReadsTo g e ts (Done x us) = Takes g e ts x us
 ReadsTo g e ts (Fault why us) = Fails g e ts why us
-
--- the same rules with other tests of leaves and nodes
-abbrev pub with_tests : Grammar → (Class → Token → Bool) → (ℕ → ParseTree → Bool) → Grammar
-with_tests g good check = record { rows = g.rows; good = good; check = check; samples = g.samples }
-
--- the grammar without tests of nodes
-abbrev pub unchecked : Grammar → Grammar
-unchecked g = with_tests g g.good (λ k x. true)
-
--- the plain grammar: no leaf and no node is rejected
-abbrev pub lax : Grammar → Grammar
-lax g = with_tests g (λ c t. true) (λ k x. true)

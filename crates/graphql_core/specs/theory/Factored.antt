@@ -2,10 +2,11 @@
 use Rattle.std.specs.Prelude.{◌≡◌, ℕ, zero, suc, ◌+◌, false, List, [], ◌∷◌, ◌++◌, take, drop}
 use Rattle.graphql_core.specs.grammar.Tokens.{Token, Class}
 use Rattle.graphql_core.specs.grammar.Trees.{Expr, ParseTree, Both, First, Second, Node, Row, Grammar, row_at, leaves}
-use Rattle.graphql_core.specs.grammar.Trees.{peek, with_nodes, Fits, Derives, Begins, Ends}
-use Rattle.graphql_core.specs.grammar.Tables.{cont}
-use Rattle.graphql_core.specs.grammar.Reading.{sees, Takes, Reason, Unexpected, Improper, Fails, unchecked, lax}
-use Rattle.graphql_core.specs.grammar.Theorems.{IsValue, classes, ReadsAlike}
+use Rattle.graphql_core.specs.grammar.Trees.{peek, with_nodes, Fits, Derives, Begins, Ends, unchecked, lax}
+use Rattle.graphql_core.specs.theory.Tables.{cont}
+use Rattle.graphql_core.specs.theory.Reading.{sees, Takes, Fails}
+use Rattle.graphql_core.specs.grammar.GrammarFaults.{Reason, Unexpected, Improper}
+use Rattle.graphql_core.specs.theory.Theorems.{IsValue, classes, ReadsAlike}
 use Rattle.graphql_core.specs.grammar.NextPlaces.{Leads, IsTested}
 
 -- converts a parse tree of a symbol's factored rule to one of its written rule, and back

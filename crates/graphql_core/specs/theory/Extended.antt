@@ -3,8 +3,9 @@ use Rattle.std.specs.Prelude.{◌≡◌, ◌<◌, ℕ, Bool, true, ◌&&◌, nat
 use Rattle.graphql_core.specs.grammar.Tokens.{Token}
 use Rattle.graphql_core.specs.grammar.Trees.{Expr, Empty, One, Then, Either, Many, Sym, ParseTree, Grammar, row_at}
 use Rattle.graphql_core.specs.grammar.Trees.{Derives}
-use Rattle.graphql_core.specs.grammar.Factored.{Change, change_at}
-use Rattle.graphql_core.specs.grammar.Reading.{Takes, Reason, Fails}
+use Rattle.graphql_core.specs.theory.Factored.{Change, change_at}
+use Rattle.graphql_core.specs.theory.Reading.{Takes, Fails}
+use Rattle.graphql_core.specs.grammar.GrammarFaults.{Reason}
 
 -- the expression names only symbols below `n`
 abbrev pub is_below : ℕ → Expr → Bool

@@ -3,7 +3,7 @@ use Rattle.std.specs.Prelude.{ℕ, zero, suc, ◌+◌, max, Bool, false, cond, L
 use Rattle.graphql_core.specs.grammar.Tokens.{Token, Class, within_any}
 use Rattle.graphql_core.specs.grammar.Trees.{Expr, Empty, One, Then, Either, Many, Sym, ParseTree, Nothing, Leaf, Both}
 use Rattle.graphql_core.specs.grammar.Trees.{First, Second, Stop, Node, Row, no_row, row_at}
-use Rattle.graphql_core.specs.grammar.Tables.{nullable, first, cont}
+use Rattle.graphql_core.specs.theory.Tables.{nullable, first, cont}
 
 -- `done` and the classes, without those that are within earlier ones
 abbrev pub plain : List Class → List Class → List Class

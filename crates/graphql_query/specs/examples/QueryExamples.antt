@@ -1,8 +1,8 @@
 -- The documents of some small inputs, and how these documents are formatted.
 use Rattle.std.specs.Prelude.{◌≡◌, ℕ, ◌+◌, List, [], ◌∷◌, ◌++◌, Some, None, codes}
 use Rattle.graphql_core.specs.{Place, default_style}
-use Rattle.graphql_query.specs.Tree.{spread, more, SelectionTree, field, SelectionSetTree, set, none}
-use Rattle.graphql_query.specs.Tree.{no_selection_set, DefinitionTree, short, operation, query_kind, DocumentTree}
+use Rattle.graphql_query.specs.Tree.{spread, more, SelectionTree, field, SelectionSetTree, set, none, no_selection_set}
+use Rattle.graphql_query.specs.Tree.{DefinitionTree, short, operation, query_kind, DocumentTree}
 use Rattle.graphql_query.specs.Document.{IsDocumentOf}
 use Rattle.graphql_query.specs.Layout.{layout}
 

@@ -1,10 +1,9 @@
 -- The documents of some small inputs, how these documents are formatted, and where other inputs are rejected.
 use Rattle.std.specs.Prelude.{◌≡◌, ℕ, true, List, [], ◌∷◌, Option, Some, None, codes}
-use Rattle.graphql_core.specs.{with_indent, with_multiline, Place, Sym, IsLeast, Reason, Unexpected, Improper}
-use Rattle.graphql_core.specs.{Refused, Layout, default_style, Item, HasItems, split, numbered, named}
-use Rattle.graphql_core.specs.{location_class, variable}
-use Rattle.graphql_schema.specs.Tree.{EnumValueTree, SchemaTree, PartsTree, object, union, enum, schema}
-use Rattle.graphql_schema.specs.Tree.{empty_schema, type_definition, extension, schema_extension, DocumentTree}
+use Rattle.graphql_core.specs.{with_indent, with_multiline, Place, Sym, IsLeast, Reason, Unexpected, Improper, Refused}
+use Rattle.graphql_core.specs.{Layout, default_style, Item, HasItems, split, numbered, named, location_class, variable}
+use Rattle.graphql_schema.specs.Tree.{EnumValueTree, SchemaTree, PartsTree, object, union, enum, schema, empty_schema}
+use Rattle.graphql_schema.specs.Tree.{type_definition, extension, schema_extension, DocumentTree}
 use Rattle.graphql_schema.specs.Grammar.{schema_grammar, document_symbol, schema_symbol, extension_symbol}
 use Rattle.graphql_schema.specs.Grammar.{schema_extension_symbol}
 use Rattle.graphql_schema.specs.Language.{IsDocumentOf}

@@ -1,21 +1,22 @@
 -- The results of readers for a language that rejects nodes.
 use Rattle.std.specs.Prelude.{ℕ, List, Result, IfErr, Option, Some}
-use Rattle.graphql_core.specs.grammar.{IsRefused, written, Token, Expr, ParseTree, Node}
+use Rattle.graphql_core.specs.grammar.{IsRefused, Token, Expr, ParseTree, Node}
+use Rattle.graphql_core.specs.theory.{written}
 use Rattle.graphql_core.specs.sources.{Items, FaultText}
 use Rattle.graphql_core.specs.declared.common.read.node_error.NodeError.{NodeError}
 use Rattle.graphql_core.specs.declared.common.read.node_error.NodeError.TheVariants.{Stopped, Refused}
-use Rattle.graphql_core.specs.steps.{GivesBy, reason_of}
+use Rattle.graphql_core.specs.steps.Answers.{GivesBy, reason_of}
 use Rattle.graphql_core.specs.documents.Languages.{Language, reading}
-use Rattle.graphql_core.specs.grammar.Reading as reads
+use Rattle.graphql_core.specs.grammar.GrammarFaults as faults
 
 -- what an error holds of a rejected node: its symbol, and the error that is reported
 pub record Refusals (R : Type 0) : Type 0 where
   pub symbol : R → ℕ
   pub fault : R → FaultText
 
-abbrev pub halt_reason : {R : Type 0} → Refusals R → NodeError R → Option reads.Reason
+abbrev pub halt_reason : {R : Type 0} → Refusals R → NodeError R → Option faults.Reason
 halt_reason w (Stopped s) = reason_of s
-halt_reason w (Refused n) = Some (reads.Refused (w.symbol n))
+halt_reason w (Refused n) = Some (faults.Refused (w.symbol n))
 
 module _ {D R : Type 0} (l : Language D) (w : Refusals R) where
   -- what an error means: a node inside the expression, which ends where the reader stops, is rejected by the language

@@ -5,8 +5,8 @@ use Rattle.std.specs.Prelude.{None}
 use Rattle.graphql_core.specs.grammar.Tokens.{Token, Class, Spelled, AnyOf, Except, same_spelling, same_spellings}
 use Rattle.graphql_core.specs.grammar.Trees.{Expr, Empty, One, Then, Either, Many, Sym, ParseTree, Both, First, Second}
 use Rattle.graphql_core.specs.grammar.Trees.{More, Grammar, row, Fits, Derives, leaves, with_nodes}
-use Rattle.graphql_core.specs.grammar.Tables.{has_tree}
-use Rattle.graphql_core.specs.grammar.Extended.{is_below}
+use Rattle.graphql_core.specs.theory.Tables.{has_tree}
+use Rattle.graphql_core.specs.theory.Extended.{is_below}
 
 -- Where a rule has new parts: nowhere; in the parts of a sequence, the sides of a choice, or the body of a repetition;
 -- before or after the rule, where `new` is the parse tree of the new part; or as another side of a choice.

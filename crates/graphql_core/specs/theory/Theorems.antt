@@ -3,9 +3,10 @@ use Rattle.std.specs.Prelude.{◌≡◌, ℕ, true, false, List, [], ◌∷◌, 
 use Rattle.graphql_core.specs.grammar.Tokens.{Token, Class, matches}
 use Rattle.graphql_core.specs.grammar.Trees.{Expr, One, Then, Either, Many, Sym, ParseTree, Leaf, Both, First, Second}
 use Rattle.graphql_core.specs.grammar.Trees.{More, Node, Grammar, row, leaves, peek, Fits, Derives, Begins, Ends}
-use Rattle.graphql_core.specs.grammar.Tables.{cont}
-use Rattle.graphql_core.specs.grammar.Reading.{sees, Takes, Reason, Unexpected, Improper, Refused, Fails, Outcome}
-use Rattle.graphql_core.specs.grammar.Reading.{ReadsTo, unchecked, lax}
+use Rattle.graphql_core.specs.grammar.Trees.{unchecked, lax}
+use Rattle.graphql_core.specs.theory.Tables.{cont}
+use Rattle.graphql_core.specs.theory.Reading.{sees, Takes, Fails, Outcome, ReadsTo}
+use Rattle.graphql_core.specs.grammar.GrammarFaults.{Reason, Unexpected, Improper, Refused}
 
 -- the next token is of class `c`, but rejected as its leaf; the plain grammar (`lax g`) continues with the token
 pub record IsValue (g : Grammar) (e : Expr) (front : List Token) (c : Class) (us : List Token) : Type 0 where
@@ -73,3 +74,7 @@ abbrev pub ReadsAlike : Grammar → Expr → Type 0
 ReadsAlike g e = (ts us vs : List Token) (x y : ParseTree) → Derives g e (ts ++ us) x → Derives g e (ts ++ vs) y
     → (cs : List Class) × (ds : List Class) × (es : List Class) × (classes g e x ≡ cs ++ ds)
     × (classes g e y ≡ cs ++ es) × (length cs ≡ length ts)
+
+-- no node without tokens is rejected
+abbrev pub RefusesTokens : Grammar → Type 0
+RefusesTokens g = (k : ℕ) (x : ParseTree) → Fits g (row g k).rule x → g.check k x ≡ false → leaves x ≡ [] → ⊥

@@ -1,0 +1,2 @@
+pub mod QueryExamples
+unfoldable pub use QueryExamples.*

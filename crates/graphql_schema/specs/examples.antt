@@ -1,0 +1,2 @@
+pub mod SchemaExamples
+unfoldable pub use SchemaExamples.*
