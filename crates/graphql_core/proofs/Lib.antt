@@ -78,5 +78,5 @@ pub use documents.{exact, exact_lax, exit, from_stream, gives_lifted, halts_befo
 pub use documents.{later_document_of, later_parse_tree, least_is_first, least_stop, node_lacks, node_passes}
 pub use documents.{node_refused, node_stops, none_goes_on, none_parsed, none_there, one_cause, one_cause_alike}
 pub use documents.{one_each, one_least, only_memory, parsed, read_left, read_refused, read_stopped, read_whole}
-pub use documents.{reads_led, refusal, refused, shared_rows, stops_led, stream_parsed, stream_unparsed, turn_done}
-pub use documents.{turn_halts, unparsed, unread, unseen, valueless_alike, valueless_not}
+pub use documents.{reads_led, refusal, refused, shared_rows, stops_led, stream_parsed, turn_done}
+pub use documents.{turn_halts, unread, unseen, valueless_alike, valueless_not}

@@ -47,9 +47,9 @@ pub use sources.{at, bad_escape, cause_text, duplicate_operation, empty_extensio
 pub use sources.{kind_number, malformed_float, max_length, no_memory, no_token, out_of_memory, place_next, place_of}
 pub use sources.{split, text_too_long, token_of, tokens_then, too_long, unexpected_end, unexpected_token}
 pub use sources.{unknown_location, unknown_operation, unplaced}
-pub use steps.{Adds, Consumes, Gives, IsBadPlaceOf, IsFaultFor, IsList, IsNext, MayFollow, Reads, Refusals, SaysNode}
-pub use steps.{Shows, StopsFor, TakesOne, TakesSome, TakesToken, after, halt_reason, ignored_front, items_of_stream}
-pub use steps.{kept, lexeme_token, line_end, reason_of, sees_class, spelling_of}
+pub use steps.{Adds, Consumes, Gives, IsBadPlaceOf, IsFaultFor, IsList, IsNext, IsReadable, MayFollow, Reads, Refusals}
+pub use steps.{SaysNode, Shows, StopsFor, TakesOne, TakesSome, TakesToken, after, halt_reason, ignored_front}
+pub use steps.{items_of_stream, kept, lexeme_token, line_end, reason_of, sees_class, spelling_of}
 pub use values.{AreLawfulArguments, AreLawfulDirectives, DirectiveTree, IsLawful, IsNameBut, IsPrintableArgument}
 pub use values.{IsPrintableDefault, IsPrintableDirective, IsPrintableType, TypeTree, ValueTree, Weights, any}
 pub use values.{argument_view, arguments_brackets, arguments_depth, arguments_symbol, arguments_view, default_depth}

@@ -19,6 +19,7 @@ pub mod Places
 pub mod Punctuators
 pub mod Quoted
 pub mod ReadErrors
+pub mod Readable
 pub mod Refusing
 pub mod Sources
 pub mod Spans
@@ -45,6 +46,7 @@ unfoldable pub use Places.*
 unfoldable pub use Punctuators.*
 unfoldable pub use Quoted.*
 unfoldable pub use ReadErrors.*
+unfoldable pub use Readable.*
 unfoldable pub use Refusing.*
 unfoldable pub use Sources.*
 unfoldable pub use Spans.*

@@ -1,63 +1,38 @@
 //! Parsing whole documents.
-ghost use Rattle.std.specs.Prelude.{◌≡◌, ◌*◌, ◌/◌, ◌<◌, ◌≤◌, ◌≤ℤ◌, pos, List, length, IfOk};
-ghost use Rattle.graphql_core.specs.{depth_of, HasItems, Item, next_place, max_length, IsAtEnd, kept, split};
-ghost use Rattle.graphql_core.specs.{AnswersUnlessMemory, ReadsDocument, ParsesDocument, ParsesStream};
+ghost use Rattle.std.specs.Prelude.{◌≡◌, ◌≤◌, ◌≤ℤ◌, pos, length, IfOk};
+ghost use Rattle.graphql_core.specs.{depth_of, next_place, max_length};
+ghost use Rattle.graphql_core.specs.{AnswersUnlessMemory, ParsesDocument, ParsesStream};
 ghost use Rattle.graphql_schema.specs.{DocumentTree, document_view, IsPrintable, schemas, IsDocumentOf_0_4_1};
 ghost use Rattle.graphql_schema.specs.{HasNoNewParts};
 
 use crate::error::ParseError;
 use crate::read::definitions;
 use crate::tree::Document;
+use graphql_core::common::read::document::{ReadDocument, parse, parse_from};
 use graphql_core::common::read::node_error::NodeError;
-use graphql_core::common::{Fault, MAX_LENGTH, Text};
-use graphql_core::helpers::{Cursor, SpanSource, TokenSource, WIDE_TEXT, Width, fault_of};
+use graphql_core::common::{Fault, Names, Text};
+use graphql_core::helpers::{TokenSource, fault_of};
 use graphql_core::tokenizer::TokenStream;
 use std::alloc::Global;
-use std::mem;
 
-/// Parses all tokens of a source as a document.
-fn read_document<S: TokenSource>(alloc: Global, source: &mut S) -> Result<Document<S::Names>, Fault>
-    ensures reads { ReadsDocument schemas (document_view S.Names.bytes) (S.items source.old) result }
-    // After a document the source is at its end. The other state of the source is unchanged.
-    ensures end { IfOk result (λ d. IsAtEnd (S.items source.new)) }
-    ensures kept { kept (S.items source.new) ≡ kept (S.items source.old) }
-{
-    let definitions = match definitions(alloc, source) {
-        Ok(definitions) => definitions,
-        Err(NodeError::Stopped(error)) => return Err(fault_of(alloc, source, error)),
-        Err(NodeError::Refused(node)) => return Err(node.fault()),
-    };
-    if source.is_at_end() {
-        Ok(Document { definitions })
-    } else {
-        Err(source.fault(alloc))
-    }
-}
+impl<N: Names> ReadDocument<N> for Document<N> {
+    ghost Tree = { DocumentTree };
 
-/// Parses an input whose positions fit `W`.
-fn read_spans<'a, S: Text<'a>, W: Width>(
-    alloc: Global,
-    source: &'a str,
-) -> Result<Document<S>, Fault>
-    requires small { length source.now ≤ usize.MAX / 16 }
-    requires narrow { 8 * length source.now < W.most }
-    ensures { (items : List Item) → HasItems source.now items
-        → ReadsDocument schemas (document_view S.Names.bytes) (split items) result }
-{
-    let mut tokens: SpanSource<'a, S, W> = SpanSource::new(alloc, source)?;
-    read_document(alloc, &mut tokens)
-}
+    ghost language = { schemas };
 
-/// Parses an input of at most `usize::MAX / 16` bytes.
-fn read_text<'a, S: Text<'a>>(alloc: Global, source: &'a str) -> Result<Document<S>, Fault>
-    requires { length source.now ≤ usize.MAX / 16 }
-    ensures { (items : List Item) → HasItems source.now items
-        → ReadsDocument schemas (document_view S.Names.bytes) (split items) result }
-{
-    if source.len() < WIDE_TEXT {
-        read_spans::<S, u32>(alloc, source)
-    } else {
-        read_spans::<S, usize>(alloc, source)
+    ghost view = { document_view N.bytes };
+
+    fn read<S: TokenSource<Names = N>>(alloc: Global, source: &mut S) -> Result<Self, Fault> {
+        let definitions = match definitions(alloc, source) {
+            Ok(definitions) => definitions,
+            Err(NodeError::Stopped(error)) => return Err(fault_of(alloc, source, error)),
+            Err(NodeError::Refused(node)) => return Err(node.fault()),
+        };
+        if source.is_at_end() {
+            Ok(Document { definitions })
+        } else {
+            Err(source.fault(alloc))
+        }
     }
 }
 
@@ -88,10 +63,7 @@ pub fn parse_schema<'a, S: Text<'a>>(
     // Every parsed document is printable.
     ensures printable { IfOk result (λ d. IsPrintable (document_view S.Names.bytes d)) }
 {
-    if source.len() > MAX_LENGTH {
-        return Err(ParseError::from(Fault::text_too_long()));
-    }
-    Ok(read_text(alloc, source)?)
+    Ok(parse::<S, Document<S>>(alloc, source)?)
 }
 
 /// Parses the rest of a stream as a schema document, from its next token. The tokens before that one must not close
@@ -110,8 +82,5 @@ pub fn parse_schema_from<'a, S: Text<'a>>(
     // Every parsed document is printable.
     ensures printable { IfOk result (λ d. IsPrintable (document_view S.Names.bytes d)) }
 {
-    let mut cursor: Cursor<'a, S> = Cursor::over(mem::replace(stream, TokenStream::new("")));
-    let read = read_document(alloc, &mut cursor);
-    *stream = cursor.into_stream();
-    Ok(read?)
+    Ok(parse_from::<S, Document<S>>(alloc, stream)?)
 }

@@ -1,13 +1,11 @@
 -- What functions that read a whole document return, from the results of their readers.
-use Rattle.std.proofs.Common.{◌≡◌, ◌<◌, ◌≤◌, ◌↔◌, ℕ, Bool, true, false, List, [], ◌∷◌, length, Result, Ok, Err, IfOk, IsErrAnd, refl, sym, ap, subst, ◌∙◌}
-use Rattle.std.proofs.Common.{arith, IsTrue}
+use Rattle.std.proofs.Common.{◌≡◌, ◌<◌, ◌≤◌, ◌↔◌, ℕ, Bool, true, false, List, [], ◌∷◌, length, Result, Ok, Err, IfOk, refl, sym, ap, subst, ◌∙◌, arith, IsTrue}
 use Rattle.std.proofs.lemmas.Result.{IfOk-weaker, IfErr-weaker}
 use Rattle.graphql_core.specs.{EndOfInput, Content, LexicalError, Stream, TokenContent, item_at, Where, Item, last_alone, asked_once, only_last, Items, Last}
 use Rattle.graphql_core.specs.{Spent, IsEnd, IsAtEnd, split, items_of_stream, kept, IsNextFault, Refusal, at, max_length, too_long, past_bound, IsRefusalFor}
 use Rattle.graphql_core.specs.{IsRefusalOf, ParseTree, Node, written, TakesSome, StopsFor, IsFaultFor, reason_of, reading, document_rule, Language, IsDocument}
 use Rattle.graphql_core.specs.{ReadsDocument, ParsesDocument, ParsesStream, Refusals, Reads}
 use Rattle.std.proofs.lemmas.Bool.{false≢true}
-use Rattle.graphql_core.proofs.documents.Refusals.{as_error}
 use Rattle.graphql_core.specs.declared.helpers.read_error.ReadError.{ReadError}
 use Rattle.graphql_core.specs.declared.common.read.node_error.NodeError.TheVariants.{Refused}
 use Rattle.graphql_core.proofs.documents.Faults.{one_at, one_each, no_fault_in, no_error}
@@ -39,10 +37,6 @@ module _ {D V : Type 0} (l : Language D) (r : IsReadable l) (view : V → D) (te
       one_error = one_each l r text;
       no_error = no_error l r text;
     }
-
-    -- for the error that `?` propagates
-    pub unparsed : (e : Refusal) (x : Result V Refusal) → ReadsDocument l view i (Err e) → IsErrAnd x (λ y. y ≡ e) → ParsesDocument l view text x
-    unparsed e x h up = subst (ParsesDocument l view text) (as_error x e up) (parsed (Err e) h)
 
 -- ---- the rest of a stream
 
@@ -111,11 +105,6 @@ module _
           cut_all = IfOk-weaker x _ _ (λ v e. same e.0) end;
           ended = IfOk-weaker x _ _ (λ v. at_its_end) end;
         }
-
-    -- for the error that `?` propagates
-    pub stream_unparsed : (e : Refusal) (x : Result V Refusal) → ReadsDocument l view i (Err e) → IsErrAnd x (λ y. y ≡ e)
-        → ParsesStream l view old new x
-    stream_unparsed e x h up = subst (ParsesStream l view old new) (as_error x e up) (stream_parsed (Err e) h tt)
 
 -- ---- a source that a reader left at j
 

@@ -1,5 +1,6 @@
 //! Readers of the productions that queries and schemas share, one for each symbol. Each reader quotes its production.
 pub mod directives;
+pub mod document;
 pub mod laws;
 pub mod leaf;
 pub mod leaf_laws;

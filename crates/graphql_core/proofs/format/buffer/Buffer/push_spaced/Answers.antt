@@ -5,5 +5,5 @@ use Rattle.graphql_core.proofs.format.buffer.Buffer.push_spaced.Goals as goal
 pub invariant_of-self : goal.invariant_of-self
 invariant_of-self c =
     appended_utf8 c.append_spaced.result c.self.invariant
-        (IsUtf8-append _ _ (space_utf8 c.args.is_spaced) (rw c.as_bytes.ensures.value c.utf8.text))
-        c.append_spaced.ensures.text c.append_spaced.ensures.kept
+    (IsUtf8-append _ _ (space_utf8 c.args.is_spaced) (rw c.as_bytes.ensures.value c.utf8.text))
+    c.append_spaced.ensures.text c.append_spaced.ensures.kept

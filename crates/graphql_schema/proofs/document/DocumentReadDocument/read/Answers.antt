@@ -4,7 +4,7 @@ use Rattle.graphql_core.specs.declared.common.read.node_error.NodeError.TheVaria
 use Rattle.graphql_core.proofs.{read_whole, read_stopped, read_refused, read_left, gives_kept}
 use Rattle.graphql_schema.specs.{schemas, refusals}
 use Rattle.graphql_schema.proofs.{readable}
-use Rattle.graphql_schema.proofs.document.read_document.Goals as goal
+use Rattle.graphql_schema.proofs.document.DocumentReadDocument.read.Goals as goal
 
 pub returns-in-Err-Stopped-clause-reads : goal.returns-in-Err-Stopped-clause-reads
 returns-in-Err-Stopped-clause-reads g c =

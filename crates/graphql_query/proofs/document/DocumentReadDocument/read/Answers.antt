@@ -3,7 +3,7 @@ use Rattle.graphql_core.specs.{reason_of}
 use Rattle.graphql_core.proofs.{gives_kept, read_whole, read_stopped, read_left}
 use Rattle.graphql_query.specs.{queries}
 use Rattle.graphql_query.proofs.{readable}
-use Rattle.graphql_query.proofs.document.read_document.Goals as goal
+use Rattle.graphql_query.proofs.document.DocumentReadDocument.read.Goals as goal
 
 pub returns-in-Err-clause-reads : goal.returns-in-Err-clause-reads
 returns-in-Err-clause-reads g c =
