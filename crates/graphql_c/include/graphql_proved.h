@@ -177,10 +177,10 @@ static inline graphql_proved_result graphql_proved_minify(const uint8_t *text, s
 }
 
 /* Finds where the first definition of a query document ends, with the spaces, commas and comments behind it. The rest
- * of the input begins at `offset`. What follows the first character of the rest is not read, and can be any bytes.
- * GRAPHQL_PROVED_NOT_UTF8 is returned only if no definition, with a character behind it, comes before the first byte
- * that is not UTF-8, or if an allocation fails while that definition is parsed. The time grows with the offset, or with
- * the length if there is an error. Only a message is written. */
+ * of the input begins at `offset`, which does not depend on what follows the first character of the rest. That can be
+ * any bytes. GRAPHQL_PROVED_NOT_UTF8 is returned only if no definition, with a character behind it, comes before the
+ * first byte that is not UTF-8, or if an allocation fails while that definition is parsed. The time grows with the
+ * offset, or with the length if there is an error. Only a message is written. */
 static inline graphql_proved_result graphql_proved_first_definition(const uint8_t *text, size_t length, uint8_t *out,
     size_t capacity) {
     uint8_t none = 0;
