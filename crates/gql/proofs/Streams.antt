@@ -1,7 +1,7 @@
 -- The errors and the document of a new stream are those of its input.
 use Rattle.std.proofs.Common.{◌≡◌, ℕ, ◌≤◌, List, length, Result, sym, ap}
-use Rattle.graphql_core.specs.{HasItems, Item, Stream, Refusal, Language, ParsesDocument, ParsesStream, max_length, split}
-use Rattle.graphql_core.proofs.{IsReadable, parsed}
+use Rattle.graphql_core.specs.{HasItems, Item, Stream, Refusal, Language, ParsesDocument, ParsesStream, max_length, split, IsReadable}
+use Rattle.graphql_core.proofs.{parsed}
 
 pub parsed_whole : {D V : Type 0} {l : Language D} {view : V → D} {text : List ℕ} {old new : Stream} {r : Result V Refusal} → IsReadable l
     → length text ≤ max_length → ((others : List Item) → HasItems text others → others ≡ old.items)

@@ -5,11 +5,10 @@ use Rattle.std.proofs.lemmas.Bool.{cases_Bool, and_parts}
 use Rattle.std.proofs.lemmas.Bool.Decides.{nat_tests}
 use Rattle.graphql_core.specs.{Token, Expr, Sym, ParseTree, Grammar, leaves, peek, Derives, lax, decides, is_ll1, is_tight, is_productive, has_samples, Takes}
 use Rattle.graphql_core.specs.{Fails, Fault, Reason, StopsBefore, index_of, IsLeast, IsExact, IsExactFor, AnswersLeast, RefusesTokens, written, StopsFor}
-use Rattle.graphql_core.specs.{GivesBy, Items, reading, Language, numbered, TakesExactly, StopsAtFirst, HaltsAtFirst, ReturnsDerived}
+use Rattle.graphql_core.specs.{GivesBy, Items, reading, Language, numbered, TakesExactly, StopsAtFirst, HaltsAtFirst, ReturnsDerived, IsReadable}
 use Rattle.graphql_core.proofs.grammar.{grammar_exact}
 use Rattle.graphql_core.proofs.rules.{exact_for}
 use Rattle.graphql_core.proofs.first_errors.{grammar_least, least_for}
-use Rattle.graphql_core.proofs.documents.Readable.{IsReadable}
 
 -- A reader by the grammar `h` reads for the written grammar `g`. `to` makes the written parse tree of one that is read.
 pub record ReadsFor (g h : Grammar) (to : ParseTree → ParseTree) (e : Expr) : Type 0 where

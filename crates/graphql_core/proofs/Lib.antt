@@ -73,7 +73,7 @@ pub use round_trip.{gap_back, in_braces_back, in_parentheses_back, lift_back, ma
 pub use round_trip.{name_word, node_back, not_listed, nothing_back, open_back, optional_default_back}
 pub use round_trip.{punctuator_back, quoted_means, quoted_takes, quoted_word, same_parts, second_back, seven_back}
 pub use round_trip.{six_back, some_back, spaces_blank, stop_back, then_gap, three_back, type_back, word_back}
-pub use documents.{AreItems, IsGrown, IsReadable, RefusesAlike, as_error, begins_at, by_fault, computed, cut_first}
+pub use documents.{AreItems, IsGrown, RefusesAlike, as_error, begins_at, by_fault, computed, cut_first}
 pub use documents.{exact, exact_lax, exit, from_stream, gives_lifted, halts_before, halts_led, has_none}
 pub use documents.{later_document_of, later_parse_tree, least_is_first, least_stop, node_lacks, node_passes}
 pub use documents.{node_refused, node_stops, none_goes_on, none_parsed, none_there, one_cause, one_cause_alike}

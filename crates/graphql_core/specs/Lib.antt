@@ -36,7 +36,7 @@ pub use grammar.{AnyOf, Both, Class, Either, Empty, Except, Expr, First, Fits, G
 pub use grammar.{More, Node, Nothing, One, ParseTree, Place, Reason, Refused, Row, Second, Spelled, Stop, Sym, Then}
 pub use grammar.{Token, Unexpected, accepts, all_apart, all_within, fits_both, fits_first, fits_leaf, fits_more}
 pub use grammar.{fits_node, fits_nothing, fits_second, fits_stop, in_any, is_listed, lax, leads_node, leaves, matches}
-pub use grammar.{nowhere, optional, peek, row, row_at, same_spelling, some_of}
+pub use grammar.{nowhere, optional, peek, replaced, row, row_at, same_spelling, some_of, with_tables}
 pub use lexical.{BeginsNone, BeginsWithElement, HasItems, Ignored, IsCutInto, IsName, Item, LexicalError, Meaning}
 pub use lexical.{Piece, Stands, Stream, TokenContent, Where, Word, depth_of, is_in_line, is_too_deep, item_at}
 pub use lexical.{next_place, past_ignored, past_token, piece_then, start, token_then, too_deep}
@@ -60,17 +60,16 @@ pub use values.{named, no_place, optional_arguments_of, optional_default_of, opt
 pub use values.{punctuator, punctuator_class, sample, separated_of, shared, shared_symbols, spelling_at, token_value}
 pub use values.{type_of, type_symbol, type_view, value_brackets, value_view, valued, variable, with_rule, word}
 unfoldable pub use values.{block_string_of, is_good, string_of, tables, unquoted}
-pub use layouts.{Displays, HasDisplayed, IsNarrow, Layout, Part, arguments_layout, default_layout, default_style}
-pub use layouts.{description_levels, directives_layout, gap, has_block_form, has_block_lines, in_block_form, in_braces}
-pub use layouts.{in_levels, in_parentheses, name_part, punctuator_part, quoted, separated, spaces, string_layout}
-pub use layouts.{text_of, token, type_layout, with_indent, with_multiline}
+pub use layouts.{Displays, HasDisplayed, IsNarrow, Layout, Part, arguments_layout, bracket_of, deepest, default_layout}
+pub use layouts.{default_style, description_levels, directives_layout, gap, has_block_form, has_block_lines}
+pub use layouts.{in_block_form, in_braces, in_levels, in_parentheses, name_part, punctuator_part, quoted, separated}
+pub use layouts.{spaces, string_layout, text_of, token, type_layout, with_indent, with_multiline}
 unfoldable pub use steps.{block_end, comment, front, items, items_in, number, other_token, quoted_front, string_end}
 pub use documents.{AnswersUnlessMemory, AreAlike, AreReadBack, HasNoValue, HasNone, HasOneFaultEach, IsDocument}
 pub use documents.{IsDocumentOf, IsLeastFault, IsParsed, IsReadBack, IsRefusalFor, IsRefusalOf, IsWide, IsWrittenOf}
 pub use documents.{Language, NoneGoesOn, ParsesDocument, ParsesStream, ReadsDocument, numbered, past_bound, reading}
 pub use theory.{After, AsFirst, Before, Change, EachIsSecond, Extends, Fails, Growth, InParts, InSides, RefusesTokens}
-pub use theory.{Same, Takes, TestsAlike, bracket_of, change_at, cont, decides, deepest, either_way, fails_after}
-pub use theory.{fails_before, fails_check, fails_node, fails_one, fails_value, first, grown, growth_at, in_second}
-pub use theory.{is_below, is_row, out_of_head, out_of_prefix, out_of_sides, out_of_symbols, replaced, sees, solve}
-pub use theory.{takes_both, takes_first, takes_leaf, takes_node, takes_nothing, takes_second, takes_stop, unchanged}
-pub use theory.{with_rows, with_tables, written}
+pub use theory.{Same, Takes, TestsAlike, change_at, cont, decides, either_way, fails_after, fails_before, fails_check}
+pub use theory.{fails_node, fails_one, fails_value, first, grown, growth_at, in_second, is_below, is_row, out_of_head}
+pub use theory.{out_of_prefix, out_of_sides, out_of_symbols, sees, solve, takes_both, takes_first, takes_leaf}
+pub use theory.{takes_node, takes_nothing, takes_second, takes_stop, unchanged, with_rows, written}

@@ -6,7 +6,6 @@ pub mod Factored
 pub mod Extended
 pub mod WholeTexts
 pub mod Grown
-pub mod Depths
 unfoldable pub use Tables.*
 unfoldable pub use Solve.*
 unfoldable pub use Reading.*
@@ -15,4 +14,3 @@ unfoldable pub use Factored.*
 unfoldable pub use Extended.*
 unfoldable pub use WholeTexts.*
 unfoldable pub use Grown.*
-unfoldable pub use Depths.*

@@ -2,10 +2,10 @@
 use Rattle.std.proofs.Common.{◌≡◌, ℕ, zero, suc, true, cond, List, [], ◌∷◌, Option, Some, None, refl}
 use Rattle.graphql_core.specs.{has_tree, first, Choice, Neither, sees, choose, Left, Right, Reason, index_of, IsLeast, Rejected, answer_of, Grammar, Expr}
 use Rattle.graphql_core.specs.{Empty, One, Then, Either, Many, Sym, ParseTree, Nothing, Leaf, Both, First, Second, Stop, More, Node, row, accepts, peek, leaves}
-use Rattle.graphql_core.specs.{Token, written, start, Item, HasItems, IsEnd, split, items, reading, Language, numbered, IsDocumentOf}
+use Rattle.graphql_core.specs.{Token, written, start, Item, HasItems, IsEnd, split, items, reading, Language, numbered, IsDocumentOf, IsReadable}
 use Rattle.graphql_core.proofs.grammar.{fits-from_test, IsGiven, given, Found, find}
 use Rattle.graphql_core.proofs.lexical.{has_items}
-use Rattle.graphql_core.proofs.documents.Readable.{IsReadable, least}
+use Rattle.graphql_core.proofs.documents.Readable.{least}
 
 -- a parse tree and the tokens after it
 abbrev Read : Type 0

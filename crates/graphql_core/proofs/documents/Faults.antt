@@ -9,13 +9,13 @@ use Rattle.graphql_core.specs.{LastIsError, Items, Last, LastIsEnd, IsEnd, Fault
 use Rattle.graphql_core.specs.{bad_escape, CauseText, is_unexpected, no_value, ending_of, numbered, HasNoValue, out_of_range, malformed, escaped_badly, Says}
 use Rattle.graphql_core.specs.{IsFaultAt, IsLeastFault, NoneGoesOn, IsFaultOf, IsLeastFaultOf, HasOneFaultAt, HasOneFaultEach, HasNoFault, IsFaultAfter}
 use Rattle.graphql_core.specs.{IsFirstFault, IsFirstFaultOf, unexpected, Token, Class, AnyOf, matches, any, is_good, unquoted, without_ends, reading, Language}
-use Rattle.graphql_core.specs.{IsDocument}
+use Rattle.graphql_core.specs.{IsDocument, IsReadable}
 use Rattle.graphql_core.proofs.first_errors.{one_node_for}
 use Rattle.std.proofs.lemmas.Bool.Decides.{nat_tests}
 use Rattle.graphql_core.proofs.lexical.{items_unique}
 use Rattle.graphql_core.proofs.strings.{literal_is_float, has_unquoted, in_range, whole_exponent, in_quotes}
 use Rattle.graphql_core.specs.declared.tokenizer.token.Kind.TheVariants.{IntValue, FloatValue, StringValue}
-use Rattle.graphql_core.proofs.documents.Readable.{IsReadable, whole_texts, least, whole_reading}
+use Rattle.graphql_core.proofs.documents.Readable.{whole_texts, least, whole_reading}
 use Rattle.graphql_core.specs.grammar.Texts as texts
 use Rattle.graphql_core.specs.theory.WholeTexts as results
 use Rattle.graphql_core.specs.lexical.Items as items_of

@@ -7,12 +7,11 @@ use Rattle.graphql_core.specs.{leads_later, leads_before, leads_second, leads_fi
 use Rattle.graphql_core.specs.{leaf_refused, node_refused, IsLeast, unexpected_token, CauseText, IsInQuotes, LastIsError, Items, Last, LastIsEnd, IsEnd, split}
 use Rattle.graphql_core.specs.{fault_by, FaultText, Token, Class, matches, Reason, Unexpected, Improper, Refused, lax, Item, unplaced, IsMinified}
 use Rattle.graphql_core.specs.{IsFloatLiteral, int_of, numbered, from_item, HasNoValue, out_of_range, malformed, escaped_badly, Says, IsLeastFault}
-use Rattle.graphql_core.specs.{IsLeastFaultOf, Language}
+use Rattle.graphql_core.specs.{IsLeastFaultOf, Language, IsReadable}
 use Rattle.graphql_core.proofs.lexical.{items_unique}
 use Rattle.graphql_core.proofs.sources.{minified_tokens}
 use Rattle.graphql_core.proofs.values.{SameTrees, left_tree, right_tree, SameLeaf, unplaced_leaf, matches_same, Alike}
 use Rattle.graphql_core.proofs.values.{alike_split, Refilled, refilled_alike, DependsOnValues}
-use Rattle.graphql_core.proofs.documents.Readable.{IsReadable}
 use Rattle.graphql_core.proofs.documents.Faults.{ends, one_least}
 use Rattle.graphql_core.specs.strings.Strings as strings
 

@@ -4,9 +4,8 @@ use Rattle.graphql_core.proofs.rules.{written-leaves, reads_on, left_alone}
 use Rattle.graphql_core.proofs.grammar.{takes-fits, takes-leaves, shorter}
 use Rattle.graphql_core.proofs.readers.{halts}
 use Rattle.graphql_core.specs.{Token, Expr, ParseTree, leaves, nullable, Takes, Reason, TakesSome, StopsFor, TestsAlike, is_below, written, Items, Last}
-use Rattle.graphql_core.specs.{fault_by, place_next, shared, shared_symbols, reading, Language, first_place, Gives, reason_of}
+use Rattle.graphql_core.specs.{fault_by, place_next, shared, shared_symbols, reading, Language, first_place, Gives, reason_of, IsReadable}
 use Rattle.graphql_core.specs.declared.helpers.read_error.ReadError.{ReadError}
-use Rattle.graphql_core.proofs.documents.Readable.{IsReadable}
 
 first_of : (xs ts us : List Token) (l : Last) → ts ≡ xs ++ us → length us < length ts → first_place xs ≡ (fault_by ts l).place
 first_of [] ts us l parts h = let e : length ts ≡ length us = ap length parts in absurd (omega (arith, e, h))

@@ -4,12 +4,11 @@ use Rattle.std.proofs.lemmas.Result.{IfOk-weaker, IfErr-weaker}
 use Rattle.graphql_core.specs.{EndOfInput, Content, LexicalError, Stream, TokenContent, item_at, Where, Item, last_alone, asked_once, only_last, Items, Last}
 use Rattle.graphql_core.specs.{Spent, IsEnd, IsAtEnd, split, items_of_stream, kept, IsNextFault, Refusal, at, max_length, too_long, past_bound, IsRefusalFor}
 use Rattle.graphql_core.specs.{IsRefusalOf, ParseTree, Node, written, TakesSome, StopsFor, IsFaultFor, reason_of, reading, document_rule, Language, IsDocument}
-use Rattle.graphql_core.specs.{ReadsDocument, ParsesDocument, ParsesStream, Refusals, Reads}
+use Rattle.graphql_core.specs.{ReadsDocument, ParsesDocument, ParsesStream, Refusals, Reads, IsReadable}
 use Rattle.std.proofs.lemmas.Bool.{false≢true}
 use Rattle.graphql_core.specs.declared.helpers.read_error.ReadError.{ReadError}
 use Rattle.graphql_core.specs.declared.common.read.node_error.NodeError.TheVariants.{Refused}
 use Rattle.graphql_core.proofs.documents.Faults.{one_at, one_each, no_fault_in, no_error}
-use Rattle.graphql_core.proofs.documents.Readable.{IsReadable}
 use Rattle.graphql_core.proofs.documents.Whole.{AreItems, one_document, unambiguous_for, unambiguous, text_document, items_document, refusal_for, refusal}
 use Rattle.graphql_core.proofs.documents.Whole.{found, memory_only, least_stop, none_refused, least_refused, none_rest, least_left}
 

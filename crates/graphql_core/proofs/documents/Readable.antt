@@ -2,8 +2,7 @@
 use Rattle.std.proofs.Common.{◌≡◌, true, false, List, [], ◌∷◌, ◌++◌, length, replicate, refl, arith}
 use Rattle.graphql_core.specs.{sees, Unexpected, Fails, lax, IsExact, AreSecond, IsExactFor, Change, unchanged, IsWhole, IsWholeFor, AnswersLeast}
 use Rattle.graphql_core.specs.{RefusesTokens, nullable, first, decides, has_samples, Grammar, Expr, Sym, Row, peek, CauseText, Token, reading, Language}
-use Rattle.graphql_core.specs.{HasNoValue, out_of_range, malformed, escaped_badly}
-pub use Rattle.graphql_core.specs.{IsReadable}
+use Rattle.graphql_core.specs.{HasNoValue, out_of_range, malformed, escaped_badly, IsReadable}
 use Rattle.graphql_core.proofs.rules.{IsSecond-unchanged, exact_for, whole_for}
 use Rattle.graphql_core.proofs.first_errors.{least_for, refuses_tokens_for}
 use Rattle.graphql_core.proofs.grammar.Exact as theory

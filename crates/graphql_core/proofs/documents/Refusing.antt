@@ -2,14 +2,14 @@
 use Rattle.std.proofs.Common.{◌≡◌, ℕ, true, false, List, [], ◌∷◌, ◌++◌, Result, Ok, Err, IsErrAnd, refl, sym, ap, ◌∙◌, append_assoc}
 use Rattle.graphql_core.specs.{leads_turn, leads_before, Leads, fails_check, sees, takes_node, lax, Token, Class, Expr, One, Then, Many, Sym, ParseTree, Node}
 use Rattle.graphql_core.specs.{row, leaves, peek, Fits, first, written, StopsFor, Items, Consumes, reason_of, reading, Language, Refusals, halt_reason, Reads}
-use Rattle.graphql_core.specs.{SaysNode}
+use Rattle.graphql_core.specs.{SaysNode, IsReadable}
 use Rattle.graphql_core.proofs.first_errors.{node_here}
 use Rattle.graphql_core.proofs.readers.{Stops-node, Stops-before, TakesNone, stops_one, gives_error_by, rest_stops}
 use Rattle.graphql_core.proofs.readers.{whole, StopsBy, Pushes, pushes_more, turn_fails}
 use Rattle.graphql_core.specs.declared.helpers.read_error.ReadError.{ReadError}
 use Rattle.graphql_core.specs.declared.common.read.node_error.NodeError.{NodeError}
 use Rattle.graphql_core.specs.declared.common.read.node_error.NodeError.TheVariants.{Stopped, Refused}
-use Rattle.graphql_core.proofs.documents.Readable.{IsReadable, refuses_read}
+use Rattle.graphql_core.proofs.documents.Readable.{refuses_read}
 use Rattle.graphql_core.proofs.documents.Whole.{exit}
 use Rattle.graphql_core.proofs.readers.Steps as steps
 

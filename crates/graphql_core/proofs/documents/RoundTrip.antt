@@ -2,8 +2,7 @@
 use Rattle.std.proofs.Common.{◌≡◌, ◌<◌, ◌≤◌, length, List, ℕ, inl, inr, sym, ap, ◌∙◌, subst}
 use Rattle.std.proofs.lemmas.Bool.{cases_lt}
 use Rattle.graphql_core.proofs.lexical.{items_unique}
-use Rattle.graphql_core.specs.{Layout, Item, split, max_length, IsDocument, IsDocumentOf, IsReadBack, AreReadBack, Language}
-use Rattle.graphql_core.proofs.documents.Readable.{IsReadable}
+use Rattle.graphql_core.specs.{Layout, Item, split, max_length, IsDocument, IsDocumentOf, IsReadBack, AreReadBack, Language, IsReadable}
 use Rattle.graphql_core.proofs.documents.Whole.{one_document}
 
 module _ {D : Type 0} (l : Language D) where

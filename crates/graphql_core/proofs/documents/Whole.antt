@@ -6,14 +6,14 @@ use Rattle.graphql_core.specs.{asked_once, fault_at, items_of_text, spending, to
 use Rattle.graphql_core.specs.{place_next, split, here, IsFaultFor, IsNextFault, Refusal, at, no_memory, max_length, Token, Class, AnyOf, Sym, ParseTree, Node}
 use Rattle.graphql_core.specs.{leaves, written, change_at, StopsFor, CauseText, HasItems, start, items, reason_of, reading, document_rule, Language, IsDocument}
 use Rattle.graphql_core.specs.{IsDocumentOf, IsUnambiguous, AreUnambiguous, ending_of, numbered, Says, IsLeastFault, IsRefusalFor, IsRefusalOf, ran_out, faulty}
-use Rattle.graphql_core.specs.{Spent}
+use Rattle.graphql_core.specs.{Spent, IsReadable}
 use Rattle.graphql_core.proofs.first_errors.{node_refused_for}
 use Rattle.graphql_core.specs.declared.helpers.read_error.ReadError.TheVariants.{Item, Memory, Integer, Float, Escape, Location}
 use Rattle.graphql_core.proofs.lexical.{has_items, items_unique}
 use Rattle.graphql_core.proofs.documents.Refusals.{by_fault, tells_weaker}
 use Rattle.std.specs.Result.{IsErrAnd}
 use Rattle.graphql_core.specs.declared.helpers.read_error.ReadError.{ReadError}
-use Rattle.graphql_core.proofs.documents.Readable.{IsReadable, exact, exact_lax, whole_texts, least, exact_reading, whole_reading}
+use Rattle.graphql_core.proofs.documents.Readable.{exact, exact_lax, whole_texts, least, exact_reading, whole_reading}
 use Rattle.graphql_core.proofs.documents.Faults.{ends, Lacks, Misses, no_integer, no_float, no_string, unexpected_here, no_value_here}
 use Rattle.graphql_core.specs.grammar.Texts as texts
 use Rattle.graphql_core.specs.theory.WholeTexts as results

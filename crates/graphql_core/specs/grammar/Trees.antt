@@ -1,5 +1,5 @@
 -- A grammar as data, and what it derives: parse trees, with their tokens in order.
-use Rattle.std.specs.Prelude.{◌≡◌, ℕ, zero, suc, Bool, true, ◌&&◌, List, [], ◌∷◌, ◌++◌, Option, Some, None}
+use Rattle.std.specs.Prelude.{◌≡◌, ℕ, zero, suc, ◌+◌, Bool, true, ◌&&◌, List, [], ◌∷◌, ◌++◌, take, drop, Option, Some, None}
 use Rattle.graphql_core.specs.grammar.Tokens.{Token, Class, matches}
 
 pub data Expr : Type 0 where
@@ -59,6 +59,33 @@ pub record Row : Type 0 where
 
 abbrev pub no_row : Row
 no_row = record { rule = Empty; nullable = true; first = []; cont = []; rank = 0; least = Nothing }
+
+-- rules with their tables beside them, so that a rule can be looked up without unfolding the tables
+
+abbrev pub first_row : List Row → Row
+first_row [] = no_row
+first_row (r ∷ rs) = r
+
+abbrev pub other_rows : List Row → List Row
+other_rows [] = []
+other_rows (r ∷ rs) = rs
+
+abbrev pub with_tables : List Expr → List Row → List Row
+with_tables [] rs = []
+with_tables (e ∷ es) rs =
+    record {
+      rule = e;
+      nullable = (first_row rs).nullable;
+      first = (first_row rs).first;
+      cont = (first_row rs).cont;
+      rank = (first_row rs).rank;
+      least = (first_row rs).least;
+    }
+    ∷ with_tables es (other_rows rs)
+
+-- the list with another element at an index
+abbrev pub replaced : {A : Type 0} → ℕ → A → List A → List A
+replaced k x xs = take k xs ++ x ∷ drop (k + 1) xs
 
 -- The rows of the symbols 0, 1, ..; which tokens are accepted as a leaf of a class;
 -- which parse trees pass the check of their symbol; and an accepted token for each class.

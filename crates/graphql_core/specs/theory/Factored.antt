@@ -1,5 +1,5 @@
 -- A written grammar, and factored rules for the same symbols, which can be read with one token of lookahead.
-use Rattle.std.specs.Prelude.{◌≡◌, ℕ, zero, suc, ◌+◌, false, List, [], ◌∷◌, ◌++◌, take, drop}
+use Rattle.std.specs.Prelude.{◌≡◌, ℕ, zero, suc, false, List, [], ◌∷◌, ◌++◌}
 use Rattle.graphql_core.specs.grammar.Tokens.{Token, Class}
 use Rattle.graphql_core.specs.grammar.Trees.{Expr, ParseTree, Both, First, Second, Node, Row, Grammar, row_at, leaves}
 use Rattle.graphql_core.specs.grammar.Trees.{peek, with_nodes, Fits, Derives, Begins, Ends, unchecked, lax}
@@ -16,10 +16,6 @@ pub record Change : Type 0 where
 
 abbrev pub unchanged : Change
 unchanged = record { to_written = λ x. x; to_second = λ x. x }
-
--- the list with another element at an index
-abbrev pub replaced : {A : Type 0} → ℕ → A → List A → List A
-replaced k x xs = take k xs ++ x ∷ drop (k + 1) xs
 
 abbrev pub change_at : List Change → ℕ → Change
 change_at [] k = unchanged

@@ -2,7 +2,7 @@
 use Rattle.std.specs.Prelude.{ℕ, zero, suc, ◌+◌, max, Bool, false, cond, List, [], ◌∷◌, ◌++◌, map, Option, Some, None}
 use Rattle.graphql_core.specs.grammar.Tokens.{Token, Class, within_any}
 use Rattle.graphql_core.specs.grammar.Trees.{Expr, Empty, One, Then, Either, Many, Sym, ParseTree, Nothing, Leaf, Both}
-use Rattle.graphql_core.specs.grammar.Trees.{First, Second, Stop, Node, Row, no_row, row_at}
+use Rattle.graphql_core.specs.grammar.Trees.{First, Second, Stop, Node, Row, row_at}
 use Rattle.graphql_core.specs.theory.Tables.{nullable, first, cont}
 
 -- `done` and the classes, without those that are within earlier ones
@@ -88,26 +88,3 @@ start_rows (e ∷ es) (t ∷ ts) =
 
 abbrev pub solve : (Class → Token → Bool) → List Token → ℕ → List Expr → List Row
 solve takes samples n rules = better_rows n (start_rows rules (better_trees takes samples rules n (map no_tree rules)))
-
--- rules with their tables beside them, so that a rule can be looked up without unfolding the tables
-
-abbrev pub first_row : List Row → Row
-first_row [] = no_row
-first_row (r ∷ rs) = r
-
-abbrev pub other_rows : List Row → List Row
-other_rows [] = []
-other_rows (r ∷ rs) = rs
-
-abbrev pub with_tables : List Expr → List Row → List Row
-with_tables [] rs = []
-with_tables (e ∷ es) rs =
-    record {
-      rule = e;
-      nullable = (first_row rs).nullable;
-      first = (first_row rs).first;
-      cont = (first_row rs).cont;
-      rank = (first_row rs).rank;
-      least = (first_row rs).least;
-    }
-    ∷ with_tables es (other_rows rs)

@@ -1,8 +1,8 @@
 -- The productions that queries and schemas share, as they are written.
 use Rattle.std.specs.Prelude.{ℕ, ◌+◌, ◌-◌, true, List, [], ◌∷◌, codes}
 use Rattle.graphql_core.specs.grammar.{Except, Token, Class, Spelled, AnyOf, nowhere, matches, optional, Expr, One}
-use Rattle.graphql_core.specs.grammar.{Then, Either, Many, Sym, Row, Grammar, some_of}
-use Rattle.graphql_core.specs.theory.{solve, with_tables, replaced}
+use Rattle.graphql_core.specs.grammar.{Then, Either, Many, Sym, Row, Grammar, some_of, replaced, with_tables}
+use Rattle.graphql_core.specs.theory.{solve}
 use Rattle.graphql_core.specs.sources.{kind_number}
 use Rattle.graphql_core.specs.declared.tokenizer.token.Kind.{Kind}
 use Rattle.graphql_core.specs.declared.tokenizer.token.Kind.TheVariants.{Punctuator, Name, IntValue, FloatValue}

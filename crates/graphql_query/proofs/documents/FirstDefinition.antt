@@ -1,10 +1,10 @@
 -- The first definition of a list of tokens is what the reader of definitions consumes.
 use Rattle.std.proofs.Common.{◌≡◌, false, List, [], ◌∷◌, ◌++◌, refl, sym, ap, subst, ◌∙◌}
 use Rattle.graphql_core.specs.{cont, fails_check, Token, Sym, ParseTree, leaves, peek, row, written, sees, Takes, Reason, Fails, fails_node, StopsFor}
-use Rattle.graphql_core.specs.{no_memory, IsFaultFor, IsRefusalFor, reason_of, Refusal, Items}
+use Rattle.graphql_core.specs.{no_memory, IsFaultFor, IsRefusalFor, reason_of, Refusal, Items, IsReadable}
 use Rattle.graphql_core.specs.declared.helpers.read_error.ReadError.{ReadError}
 use Rattle.graphql_core.specs.declared.helpers.read_error.ReadError.TheVariants.{Memory, Integer, Float, Escape, Location, Item}
-use Rattle.graphql_core.proofs.{take-or_fail, IsReadable, exact_lax, least_stop, exact, halts}
+use Rattle.graphql_core.proofs.{take-or_fail, exact_lax, least_stop, exact, halts}
 use Rattle.graphql_query.specs.{tables, second_rows, reading, changes, definition_symbol, one_definition, BeginsWith, NoneBeginsAnother}
 use Rattle.graphql_query.proofs.readers.{readable}
 

@@ -1,9 +1,9 @@
 -- The grammar of queries is parsed exactly, and extends that of values, types and directives.
 use Rattle.std.proofs.Common.{◌+◌, Bool, true, List, [], length, drop, refl}
 use Rattle.graphql_core.proofs.{each_is_second, IsSecond-second, IsSecond-symbols, IsSecond-prefix, unchanged_then}
-use Rattle.graphql_core.proofs.{tests_alike, with_more, alone_before, IsReadable, one_cause}
+use Rattle.graphql_core.proofs.{tests_alike, with_more, alone_before, one_cause}
 use Rattle.graphql_core.specs.{Grammar, Token, Class, Expr, Row, row_at, EachIsSecond, RefusesTokens, Extends}
-use Rattle.graphql_core.specs.{TestsAlike, shared, tables as shared_tables, shared_symbols, unquoted, name}
+use Rattle.graphql_core.specs.{TestsAlike, shared, tables as shared_tables, shared_symbols, unquoted, name, IsReadable}
 use Rattle.graphql_query.specs.{queries, query, second_rows, changes, reading, tables, samples, selection_symbol, field_symbol, fragment_spread_symbol}
 use Rattle.graphql_query.specs.{inline_fragment_symbol, alias_symbol, fragment_spread_rest, inline_fragment_rest, field_rest}
 

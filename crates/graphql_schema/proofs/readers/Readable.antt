@@ -3,11 +3,11 @@ use Rattle.std.proofs.Common.{codes, ◌≡◌, ◌<◌, ◌-◌, ◌==◌, ◌&
 use Rattle.std.proofs.Common.{subst, ◌∙◌, arith}
 use Rattle.std.proofs.lemmas.Bool.{both_ways, cases_Bool, and_parts}
 use Rattle.graphql_core.proofs.{each_is_second, IsSecond-head, unchanged_then, with_more, alone_before}
-use Rattle.graphql_core.proofs.{IsSecond-sides, none_there, IsReadable, shared_rows, one_cause}
+use Rattle.graphql_core.proofs.{IsSecond-sides, none_there, shared_rows, one_cause}
 use Rattle.graphql_core.specs.{Grammar, Token, Class, Spelled, AnyOf, Except, Expr, Empty, One, Then, Either, Many, Sym, ParseTree, Row, row, row_at, optional}
 use Rattle.graphql_core.specs.{leaves, Fits, fits_both, fits_leaf, fits_first, fits_second, with_tables, EachIsSecond, change_at, written, RefusesTokens}
 use Rattle.graphql_core.specs.{Extends, TestsAlike, CauseText, FaultText, shared, tables as core_tables, shared_symbols, word, unquoted, is_good as leaves_good}
-use Rattle.graphql_core.specs.{reading}
+use Rattle.graphql_core.specs.{reading, IsReadable}
 use Rattle.std.proofs.lemmas.Bool.Decides.{nat_tests}
 use Rattle.graphql_schema.specs.{location_of, is_good, rules, second_rules, second_rows, tables, changes, passes, document_symbol, item_symbol, schema_symbol}
 use Rattle.graphql_schema.specs.{extension_symbol, described_symbol, description_symbol, type_body_symbol, directive_definition_symbol, schema_extension_symbol}
