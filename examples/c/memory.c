@@ -62,6 +62,7 @@ static const struct called all[] = {
     {graphql_proved_minify, "{ a }", GRAPHQL_PROVED_OK, 0, 0, {"out of memory", OF_MINIFY}},
     {graphql_proved_minify, "{ ; }", GRAPHQL_PROVED_BAD_TOKEN, 1, 3, {"out of memory", OF_MINIFY}},
     {graphql_proved_first_definition, "{ a } ?", GRAPHQL_PROVED_OK, 0, 0, {OF_QUERY, OF_QUERY}},
+    {graphql_proved_first_definition, "{ a } ?\xff", GRAPHQL_PROVED_OK, 0, 0, {"out of memory", "out of memory"}},
     {graphql_proved_check_query, "{ a }", GRAPHQL_PROVED_OK, 0, 0, {OF_QUERY, OF_QUERY}},
     {graphql_proved_query_to_json, "{a}", GRAPHQL_PROVED_OK, 0, 0, {OF_QUERY, OF_JSON}},
     {graphql_proved_schema_to_json, "scalar A", GRAPHQL_PROVED_OK, 0, 0, {OF_SCHEMA, OF_JSON}},

@@ -192,8 +192,11 @@ fn use_plain_values(tally: &mut Tally, literal: String, no_literal: String) {
     let mut style = Style::default();
     style.indent(4).multiline_arguments(true);
     tally.check((style.indentation(), style.has_multiline_arguments()) == (4, true));
-    tally.check(style != Style::default());
-    tally.check(Number::from(-7).as_i64() == Some(-7));
+    tally.check(style != Style::default() && style.clone() == style);
+    tally.check(is_debugged(&style, "Style { indent: 4, multiline_arguments: true }"));
+    let number = Number::from(-7);
+    tally.check(number.as_i64() == Some(-7) && number.clone() == number);
+    tally.check(is_debugged(&number, "Number(-7)"));
     tally.check(Number::from_i64(i64::MIN).as_i64() == Some(i64::MIN));
     match FloatLiteral::new(literal) {
         Ok(literal) => tally.check(literal.as_str() == "1.5E3"),
@@ -211,7 +214,9 @@ fn name_locations(tally: &mut Tally) {
         Ok(location) => {
             tally.check(location == DirectiveLocation::Field && location.as_str() == "FIELD");
             tally.check(location.is_query() && !location.is_schema());
-            tally.check(is_debugged(&location, "Field"));
+            tally.check(is_debugged(&location, "Field") && location.clone() == location);
+            let hasher: BuildHasherDefault<FoldHasher> = BuildHasherDefault::default();
+            tally.check(hasher.hash_one(&location) == hasher.hash_one(&DirectiveLocation::Field));
         }
         Err(_) => tally.check(false),
     }

@@ -49,7 +49,7 @@ enum graphql_proved_status {
     GRAPHQL_PROVED_BAD_TOKEN = 1,            /* there is no valid token */
     GRAPHQL_PROVED_UNEXPECTED_TOKEN = 2,     /* no document continues with this token */
     GRAPHQL_PROVED_UNEXPECTED_END = 3,       /* no document ends there */
-    GRAPHQL_PROVED_TOO_DEEP = 4,             /* the 51st bracket that is open at once */
+    GRAPHQL_PROVED_TOO_DEEP = 4,             /* a bracket opens, and 50 more open before it than close */
     GRAPHQL_PROVED_INT_OUT_OF_RANGE = 5,     /* an integer is outside the range of int64_t */
     GRAPHQL_PROVED_MALFORMED_FLOAT = 6,      /* the exponent of a float has no digit */
     GRAPHQL_PROVED_BAD_ESCAPE = 7,           /* an escape in a string denotes no character */
@@ -179,8 +179,8 @@ static inline graphql_proved_result graphql_proved_minify(const uint8_t *text, s
 /* Finds where the first definition of a query document ends, with the spaces, commas and comments behind it. The rest
  * of the input begins at `offset`, which does not depend on what follows the first character of the rest. That can be
  * any bytes. GRAPHQL_PROVED_NOT_UTF8 is returned only if no definition, with a character behind it, comes before the
- * first byte that is not UTF-8, or if an allocation fails while that definition is parsed. The time grows with the
- * offset, or with the length if there is an error. Only a message is written. */
+ * first byte that is not UTF-8. The time grows with the offset, or with the length if there is an error. Only a message
+ * is written. */
 static inline graphql_proved_result graphql_proved_first_definition(const uint8_t *text, size_t length, uint8_t *out,
     size_t capacity) {
     uint8_t none = 0;

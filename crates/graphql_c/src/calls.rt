@@ -11,6 +11,7 @@ ghost use Rattle.graphql_c.specs.{IsSchemaLaidOut, IsQueryChecked, IsSchemaCheck
 ghost use Rattle.graphql_c.specs.{HasNoQuery, HasNoSchema, HasNoFirst, IsQueryTooWide, IsSchemaTooWide, EndsAt};
 
 use crate::failure::Failure;
+use graphql_core::common::Cause;
 use graphql_core::format::{FormatError, Style};
 use graphql_json::{query_to_json, schema_to_json};
 use graphql_query::{Document as QueryDocument, consume_definition, minify_query, parse_query};
@@ -161,15 +162,19 @@ fn valid_front(bytes: &[u8]) -> &str
 }
 
 /// The offset of the rest in every source that begins with this prefix: after the first definition and the ignored
-/// tokens behind it. `None` if the offset may depend on what follows the prefix.
-fn end_within(alloc: Global, front: &str) -> Option<usize>
-    ensures { IfSome result (λ n. (more : List ℕ) → EndsAt (front.now ++ more) n) }
+/// tokens behind it. `None` if the offset may depend on what follows the prefix. An error means that an allocation
+/// failed.
+fn end_within(alloc: Global, front: &str) -> Result<Option<usize>, Failure>
+    ensures { MatchResult result (λ end. IfSome end (λ n. (more : List ℕ) → EndsAt (front.now ++ more) n))
+        (HasNumbers (status_of out_of_memory) None) }
 {
-    let (_, rest) = consume_definition::<&str>(alloc, front).ok()?;
-    if rest.is_empty() {
-        None
-    } else {
-        Some(front.len() - rest.len())
+    match consume_definition::<&str>(alloc, front) {
+        Ok((_, rest)) if rest.is_empty() => Ok(None),
+        Ok((_, rest)) => Ok(Some(front.len() - rest.len())),
+        Err(error) => match error.cause() {
+            Cause::OutOfMemory => Err(Failure::out_of_memory(alloc)),
+            _ => Ok(None),
+        },
     }
 }
 
@@ -190,14 +195,14 @@ pub fn first_end(alloc: Global, bytes: &[u8]) -> Result<usize, Failure>
 {
     let mut length = FIRST_LENGTH;
     'fronts: while length < bytes.len() {
-        if let Some(end) = end_within(alloc, valid_front(bytes.split_at(length).0)) {
+        if let Some(end) = end_within(alloc, valid_front(bytes.split_at(length).0))? {
             return Ok(end);
         }
         length = length.saturating_mul(2);
     }
     match str::from_utf8(bytes) {
         Ok(text) => end_of(alloc, text),
-        Err(_) => match end_within(alloc, valid_front(bytes)) {
+        Err(_) => match end_within(alloc, valid_front(bytes))? {
             Some(end) => Ok(end),
             None => Err(Failure::not_utf8(alloc)),
         },

@@ -1,4 +1,4 @@
--- Printable documents: those whose layouts parse back to them.
+-- Printable documents: those whose layouts parse back to them, if their values satisfy the invariants of their types.
 use Rattle.std.specs.Prelude.{ℕ, ◌≤◌, List, [], ◌∷◌, codes}
 use Rattle.std.specs.List.{AllByRecursion}
 use Rattle.std.specs.Option.{IfSome}
@@ -102,7 +102,7 @@ abbrev pub HasDefinition : DocumentTree → Type 0
 HasDefinition [] = ⊥
 HasDefinition (d ∷ ds) = Unit {0}
 
--- the document is printable: its layout parses back to it, ignoring positions
+-- the document is printable: if it also satisfies `IsLawfulDocument`, its layout parses back to it, ignoring positions
 pub record IsPrintable (d : DocumentTree) : Type 0 where
   pub definition : HasDefinition d
   -- names, types and values are printable

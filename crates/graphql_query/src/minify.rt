@@ -14,7 +14,8 @@ use std::alloc::Global;
 /// from a following `...`.
 ///
 /// `TextTooLong` at 1:1 means more than `usize::MAX / 16` bytes, and is tested first. `OutOfMemory` means that an
-/// allocation failed. `BadToken` means an invalid token, and `TooDeep` the 51st bracket that is open at once.
+/// allocation failed. `BadToken` means an invalid token, and `TooDeep` an opening bracket before which 50 more brackets
+/// open than close.
 // Never inlined, since the time of its loop depends on where its code is placed.
 #[inline(never)]
 pub fn minify_query(alloc: Global, source: String) -> Result<String, MinifyError>

@@ -1,4 +1,4 @@
-//! One reader for each symbol of the grammar. The comment above a reader quotes its production.
+//! Readers of the symbols of the grammar. The comment above a reader quotes its production.
 mod alias;
 pub mod definition;
 mod fragment;

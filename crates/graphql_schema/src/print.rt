@@ -32,7 +32,8 @@ impl<N: Names> Document<N> {
         // The output of a printable document parses back to it, ignoring positions.
         ensures read_back { IfOk result (λ text. IsPrintable (document_view N.bytes self.now)
             → IsReadBack (string_bytes text) (document_view N.bytes self.now)) }
-        // Every printable document with this output is equal to this one, ignoring positions.
+        // If this document is printable, each printable one with this output in this style is equal to it, ignoring
+        // positions. The values of the other one must satisfy the invariants of their types.
         ensures one_document { IfOk result (λ text. IsPrintable (document_view N.bytes self.now)
             → (e : DocumentTree) → IsPrintable e → IsLawfulDocument e → layout style.now e ≡ string_bytes text
             → erase e ≡ erase (document_view N.bytes self.now)) }

@@ -81,7 +81,7 @@ past_token t bytes w = record {
 abbrev pub depth_of : Where → ℤ
 depth_of w = pos w.openers -ℤ pos w.closers
 
--- an opening bracket here would be the 51st that is open
+-- the depth is 50, so an opening bracket here is too deep
 abbrev pub is_full : Where → Bool
 is_full w = w.openers == w.closers + 50
 

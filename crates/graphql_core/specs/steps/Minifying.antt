@@ -7,7 +7,7 @@ use Rattle.graphql_core.specs.declared.tokenizer.piece.Nesting.TheVariants.{Leve
 use Rattle.graphql_core.specs.lexical.{Stands, Word, openers_after, closers_after}
 use Rattle.graphql_core.specs.sources.{kind_number, Items, LastIsError, Refusal, Tells}
 
--- an opening bracket would be the 51st that is open
+-- the depth is 50, so an opening bracket here is too deep
 abbrev pub is_past : Nesting → (openers closers : ℕ) → Bool
 is_past Level o c = false
 is_past Opens o c = o == c + 50

@@ -64,7 +64,7 @@ pub enum Cause {
     /// The end of the input, where the grammar requires another token.
     #[error("Unexpected end of input")]
     UnexpectedEnd,
-    /// An opening bracket where `MAX_DEPTH` brackets are already open.
+    /// An opening bracket at the depth `MAX_DEPTH`: 50 more brackets open before it than close.
     #[error("Recursion limit exceeded")]
     TooDeep,
     /// An integer that does not fit an `i64`.

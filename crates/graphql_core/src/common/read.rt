@@ -1,4 +1,4 @@
-//! Readers of the productions that queries and schemas share, one for each symbol. Each reader quotes its production.
+//! Readers of the productions that queries and schemas share. Each reader quotes the production of its symbol.
 pub mod directives;
 pub mod document;
 pub mod laws;

@@ -1,10 +1,11 @@
-//! How many brackets are open.
+//! The depth of brackets: opening ones less closing ones.
 ghost use Rattle.std.specs.Prelude.{◌≡◌, ◌<◌, ◌^◌};
 ghost use Rattle.graphql_core.specs.lexical.Items.{Where, openers_after, closers_after, is_full, is_too_deep};
 
 use crate::tokenizer::piece::Nesting;
 
-/// The maximum number of open brackets. A further opening bracket is the lexical error `Bad::TooDeep`.
+/// The maximum depth of brackets: opening ones less closing ones. At this depth an opening bracket is the lexical error
+/// `Bad::TooDeep`.
 pub const MAX_DEPTH: usize = 50;
 
 /// How many opening and closing brackets come before a position.
@@ -15,7 +16,7 @@ pub struct Brackets {
 }
 
 impl Brackets {
-    /// Whether `MAX_DEPTH` brackets are open.
+    /// Whether the depth is `MAX_DEPTH`.
     #[inline(always)]
     pub fn is_full(self) -> bool
         requires { self.closers < 2 ^ 62 }
@@ -24,7 +25,7 @@ impl Brackets {
         self.openers == self.closers + MAX_DEPTH
     }
 
-    /// Whether a token opens a bracket where `MAX_DEPTH` are open.
+    /// Whether a token opens a bracket at the depth `MAX_DEPTH`.
     #[inline(always)]
     pub fn is_too_deep(self, nesting: Nesting) -> bool
         requires { self.closers < 2 ^ 62 }

@@ -52,6 +52,6 @@ pub enum Bad<'a> {
     UnterminatedString,
     /// A block string without its closing quotes.
     UnterminatedBlockString,
-    /// An opening bracket where `MAX_DEPTH` (50) brackets are open.
+    /// An opening bracket at the depth `MAX_DEPTH`: 50 more brackets open before it than close.
     TooDeep,
 }

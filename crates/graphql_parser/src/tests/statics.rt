@@ -1,7 +1,8 @@
 //! Values that are made static, and names that are borrowed.
 use crate::common::Text;
 use crate::query::{
-    Definition, Document, Field, OperationDefinition, Selection, Value, parse_query,
+    Definition, Directive, Document, Field, OperationDefinition, Selection, Type, TypeCondition,
+    Value, parse_query,
 };
 use crate::tests::callers::first_value;
 use crate::tests::page::Page;
@@ -49,16 +50,81 @@ fn values_outlive_the_text(rt: HostRuntime) -> Result<(), Fail> {
     Ok(())
 }
 
+/// Whether a name is borrowed, and is this one.
+fn is_borrowed(name: &CowStr<'_>, text: &str) -> bool {
+    match name {
+        CowStr::Borrowed(borrowed) => *borrowed == text,
+        CowStr::Owned(_) => false,
+    }
+}
+
+/// Whether the name in a type is borrowed, and is this one.
+fn is_borrowed_in_type(var_type: &Type<'_, CowStr<'_>>, text: &str) -> bool {
+    match var_type {
+        Type::NamedType(name) => is_borrowed(name, text),
+        Type::ListType(inner) => is_borrowed_in_type(inner, text),
+        Type::NonNullType(inner) => is_borrowed_in_type(inner, text),
+    }
+}
+
+/// Whether the names in `@d(x: $a)` are borrowed.
+fn is_borrowed_in_directive(directive: &Directive<'_, CowStr<'_>>) -> bool {
+    match directive.arguments.first() {
+        Some((name, Value::Variable(variable))) => {
+            is_borrowed(&directive.name, "d")
+                && is_borrowed(name, "x")
+                && is_borrowed(variable, "a")
+        }
+        _ => false,
+    }
+}
+
+/// Whether the names of `b: c`, `... on T @e { f }` and `...G` are borrowed.
+fn is_borrowed_in_selection(selection: &Selection<'_, CowStr<'_>>) -> bool {
+    match selection {
+        Selection::Field(field) => match &field.alias {
+            Some(alias) => is_borrowed(alias, "b") && is_borrowed(&field.name, "c"),
+            None => is_borrowed(&field.name, "f"),
+        },
+        Selection::InlineFragment(inline) => match (
+            &inline.type_condition,
+            inline.directives.first(),
+        ) {
+            (Some(TypeCondition::On(name)), Some(directive)) => {
+                is_borrowed(name, "T")
+                    && is_borrowed(&directive.name, "e")
+                    && inline
+                        .selection_set
+                        .items
+                        .iter()
+                        .all(is_borrowed_in_selection)
+            }
+            _ => false,
+        },
+        Selection::FragmentSpread(spread) => is_borrowed(&spread.fragment_name, "G"),
+    }
+}
+
 #[test]
 fn names_that_may_be_owned_are_borrowed(rt: HostRuntime) -> Result<(), Fail> {
     let document: Document<'_, CowStr<'_>> = parse_query(rt.alloc(), QUERY)?;
     match document.definitions.first() {
         Some(Definition::Operation(OperationDefinition::Query(query))) => {
-            assert!(rt; matches!(query.name, Some(CowStr::Borrowed("Q"))));
+            let name = query.name.as_ref().ok_or("no name")?;
+            assert!(rt; is_borrowed(name, "Q"));
             let variable = query.variable_definitions.first().ok_or("no variable")?;
-            assert!(rt; matches!(variable.name, CowStr::Borrowed("a")));
+            assert!(rt; is_borrowed(&variable.name, "a"));
+            assert!(rt; is_borrowed_in_type(&variable.var_type, "Int"));
             let directive = query.directives.first().ok_or("no directive")?;
-            assert!(rt; matches!(directive.name, CowStr::Borrowed("d")));
+            assert!(rt; is_borrowed_in_directive(directive));
+            assert_eq!(rt; query.selection_set.items.len(), 3);
+            assert!(rt;
+                query
+                    .selection_set
+                    .items
+                    .iter()
+                    .all(is_borrowed_in_selection)
+            );
             Ok(())
         }
         _ => Err(Fail::new("no query")),
