@@ -27,7 +27,7 @@ def names_that_are_not_utf8():
     new(b"d/\xff.graphql".decode("utf-8", "surrogateescape"))
     new("d/a.graphql")
     run = gqlfmt("--write", "d")
-    expect_failure("in a folder", run, "d: cannot be read: ")
+    expect_failure("in a folder", run, "d: contains a name that is not UTF-8")
     expect("its summary", run[2].splitlines()[-1], "1 file rewritten, 0 unchanged, 1 failed")
     expect("the other file", read("d/a.graphql"), FORMATTED)
 

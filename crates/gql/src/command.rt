@@ -17,7 +17,7 @@ pub enum Command {
     Query,
     /// Formats a schema document.
     Schema,
-    /// Writes the tokens, with a space only where two tokens would otherwise run together.
+    /// Writes the tokens, with a space only between two that are not punctuators, and between a number and `...`.
     Minify,
     /// Formats the first definition of a query document, and writes the rest of the input unchanged.
     First,
@@ -42,7 +42,7 @@ fn has_only_digits(word: &str) -> bool
     word.bytes().all(|byte| byte.is_ascii_digit())
 }
 
-/// The number with these one to ten digits; `None` for any other word.
+/// The number that one to ten ASCII digits denote, if it fits a `u32`; `None` for any other word.
 fn number_of(word: &str) -> Option<u32>
     ensures { result ≡ number_of word.now }
 {

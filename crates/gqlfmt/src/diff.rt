@@ -9,7 +9,8 @@ const REACH: usize = 1000;
 /// How many unchanged lines are shown around a change.
 const AROUND: usize = 3;
 
-/// The length of a line that is too common to tell where texts meet again, such as a lone bracket.
+/// The greatest length of a line that is too common to tell where texts meet again, such as a lone bracket. It is in
+/// bytes, with the line end.
 const TRIVIAL: usize = 2;
 
 /// What happens to a line.

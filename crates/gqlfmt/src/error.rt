@@ -10,6 +10,9 @@ pub enum InputError {
     /// The file, the folder or standard input cannot be read.
     #[error("cannot be read: {0}")]
     Read(io::Error),
+    /// A name in a folder is not UTF-8.
+    #[error("contains a name that is not UTF-8")]
+    EntryName,
     /// The input is not UTF-8.
     #[error("is not UTF-8")]
     NotUtf8,

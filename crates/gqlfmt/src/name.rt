@@ -56,8 +56,8 @@ fn write_escaped<W: fmt::Write>(f: &mut fmt::Formatter<W>, character: char) -> f
         '\r' => f.write_str("\\r"),
         '\t' => f.write_str("\\t"),
         _ if !character.is_control() => f.write_char(character),
-        // The other control characters are U+0080 to U+009F, whose second byte is their code.
         _ if code < 0x80 => write!(f, "\\{code:03o}"),
+        // The other control characters are U+0080 to U+009F, whose second byte is their code.
         _ => write!(f, "\\302\\{code:03o}"),
     }
 }

@@ -19,7 +19,7 @@ pub enum Outcome {
     Rewritten,
     /// The input was rejected.
     Rejected,
-    /// The input could not be read or written.
+    /// The input could not be read or written, standard output failed, or an allocation failed.
     Failed,
 }
 
@@ -87,7 +87,8 @@ impl Tally {
             .saturating_add(self.failed)
     }
 
-    /// One line about several inputs. `None` for one input, and for a task that has standard output for itself.
+    /// One line about several inputs. `None` for fewer than two, and for `Task::Print` and `Task::Diff`. An error means
+    /// that an allocation failed.
     pub fn summary(&self, alloc: Global, task: Task) -> Result<Option<String>, AllocError> {
         let (changed, what) = match task {
             Task::Check => (self.differing, "would change"),

@@ -188,8 +188,12 @@ pub fn run_request<R: Files<File = File> + AllocGlobal + Print + Eprint + Input 
         let _ = eprintln!(rt; "gqlfmt: standard output cannot be written: {error}");
         tally.count(Outcome::Failed);
     }
-    if let Ok(Some(summary)) = tally.summary(rt.alloc(), request.task) {
-        let _ = eprintln!(rt; "{summary}");
+    match tally.summary(rt.alloc(), request.task) {
+        Ok(Some(summary)) => {
+            let _ = eprintln!(rt; "{summary}");
+        }
+        Ok(None) => {}
+        Err(_) => tally.count(Outcome::Failed),
     }
     tally.status()
 }

@@ -14,7 +14,7 @@ pub struct CallResult {
     pub output_length: usize,
     /// The length of the message in bytes.
     pub message_length: usize,
-    /// The offset of the rest in bytes, which begins after the first definition.
+    /// The offset in bytes at which the rest begins: after the first definition and the ignored text behind it.
     pub offset: usize,
     /// The line of the error, from 1; 0 if the error has no position.
     pub line: usize,

@@ -22,7 +22,8 @@ use std::str;
 /// The length in bytes of the first prefix of the input that is searched for a definition.
 const FIRST_LENGTH: usize = 4096;
 
-/// The style with `indent` spaces a level, and under `multiline` with a line for each argument, list item and field.
+/// The style with `indent` spaces for each level. If `multiline` is true, each argument, list item and object field has
+/// a line.
 pub fn style_in(indent: u32, multiline: bool) -> Style
     ensures { result ≡ layout_in indent multiline }
 {
@@ -137,7 +138,7 @@ pub fn schema_as_json(alloc: Global, bytes: &[u8]) -> Result<String, Failure>
     json_of(alloc, schema_to_json(alloc, &document))
 }
 
-/// The tokens of these bytes, with a space only where two tokens would otherwise run together.
+/// The tokens of these bytes, with a space only between two that are not punctuators, and between a number and `...`.
 pub fn minified(alloc: Global, bytes: &[u8]) -> Result<String, Failure>
     ensures { MatchResult result (λ s. IsMinified bytes.now (string_bytes s))
         (Fails (IsMinifyRefusalOf bytes.now) ⊥ bytes.now) }
@@ -189,7 +190,7 @@ fn end_of(alloc: Global, text: &str) -> Result<usize, Failure>
 }
 
 /// The offset of the rest of these bytes, after their first definition and the ignored tokens behind it. Prefixes of
-/// 4,096 bytes, 8,192 and so on are tried, so the time grows with the offset and not with the length of the bytes.
+/// 4,096 bytes, 8,192 and so on are tried. So the time grows with the offset, and with the length only after an error.
 pub fn first_end(alloc: Global, bytes: &[u8]) -> Result<usize, Failure>
     ensures { MatchResult result (EndsAt bytes.now) (Fails (HasNoFirst bytes.now) ⊥ bytes.now) }
 {

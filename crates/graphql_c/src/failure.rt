@@ -9,12 +9,17 @@ use graphql_core::position::Pos;
 use std::alloc::Global;
 use std::fmt::Display;
 
-/// Why a call fails: a status, a position (0 and 0 if there is none), and a message (empty if an allocation failed).
+/// Why a call fails: a status, a position (0 and 0 if there is none), and a message, which is empty if it could not be
+/// allocated.
 #[derive(Drop)]
 pub struct Failure {
+    /// The number of the status.
     pub status: u32,
+    /// The line, from 1, or 0.
     pub line: usize,
+    /// The column, from 1, or 0.
     pub column: usize,
+    /// The message.
     pub message: String,
 }
 
@@ -86,12 +91,14 @@ impl Failure {
         Failure::nowhere(alloc, status, error)
     }
 
+    /// The failure of an input that is not UTF-8.
     pub fn not_utf8(alloc: Global) -> Failure
         ensures { HasNumbers status_not_utf8 None result }
     {
         Failure::nowhere(alloc, 15, &"text is not UTF-8")
     }
 
+    /// The failure of an allocation.
     pub fn out_of_memory(alloc: Global) -> Failure
         ensures { HasNumbers (status_of out_of_memory) None result }
     {

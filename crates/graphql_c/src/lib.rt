@@ -22,8 +22,8 @@ use call_result::{of_offset, of_output};
 pub use names::{StatusName, Version};
 use std::alloc::Global;
 
-/// Formats a query document (October 2021, section 2.2) into `out`, with `indent` spaces a level. Under `multiline`
-/// each argument, list item and object field has a separate line.
+/// Formats a query document (October 2021, section 2.2) into `out`, with `indent` spaces for each level. If `multiline`
+/// is true, each argument, list item and object field has a separate line.
 #[unsafe(no_mangle)]
 pub extern "C" fn graphql_proved_format_query_nonnull(
     alloc: Global,
@@ -39,8 +39,8 @@ pub extern "C" fn graphql_proved_format_query_nonnull(
     of_output(out, calls::query_laid_out(alloc, text, &style))
 }
 
-/// Formats a schema document (section 3) into `out`, with `indent` spaces a level. Under `multiline` each argument,
-/// list item and object field has a separate line.
+/// Formats a schema document (section 3) into `out`, with `indent` spaces for each level. If `multiline` is true, each
+/// argument, list item and object field has a separate line.
 #[unsafe(no_mangle)]
 pub extern "C" fn graphql_proved_format_schema_nonnull(
     alloc: Global,
@@ -56,7 +56,8 @@ pub extern "C" fn graphql_proved_format_schema_nonnull(
     of_output(out, calls::schema_laid_out(alloc, text, &style))
 }
 
-/// Writes the tokens of the input into `out`, with a space only where two tokens would otherwise run together.
+/// Writes the tokens of the input into `out`, with a space only between two that are not punctuators, and between a
+/// number and `...`.
 #[unsafe(no_mangle)]
 pub extern "C" fn graphql_proved_minify_nonnull(
     alloc: Global,

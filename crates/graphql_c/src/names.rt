@@ -16,8 +16,11 @@ pub struct StatusName {
 #[repr(C)]
 #[derive(Drop)]
 pub struct Version {
+    /// It grows with each change that can break a caller.
     pub major: u32,
+    /// It grows with each addition.
     pub minor: u32,
+    /// It grows with each correction.
     pub patch: u32,
 }
 

@@ -35,7 +35,8 @@ impl FormatSourceError {
         }
     }
 
-    /// The cause of the first error of the input. `None` if an allocation of the formatter failed.
+    /// The cause of the parser's error, which can be `Cause::OutOfMemory`. `None` if an allocation of the formatter
+    /// failed.
     pub fn cause(&self) -> Option<&Cause>
         ensures { option_map (λ c. cause_text c.now) result ≡ option_map (λ e. e.cause) (parse_error self.now) }
     {

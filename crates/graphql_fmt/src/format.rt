@@ -50,7 +50,7 @@ fn read_as(options: &FormatOptions, source: &str) -> Language
     }
 }
 
-/// Whether the input is a document of the language.
+/// Parses the input as a document of the language. The error is that of the parser.
 fn check(alloc: Global, language: Language, source: &str) -> Result<(), FormatSourceError>
     ensures { ChecksIn language source.now result }
 {

@@ -12,7 +12,7 @@ pub enum Language {
 /// How source text is formatted.
 #[derive(Clone, Copy, Debug, PartialEq, Eq)]
 pub struct FormatOptions {
-    /// The number of spaces for each level of brackets. A line begins with at most `u32::MAX` spaces.
+    /// The number of spaces for each level of indentation. A line begins with at most `u32::MAX` spaces.
     pub indent: usize,
     /// The number of columns that a line can take. A longer line is broken where that is possible.
     pub width: usize,

@@ -7,10 +7,12 @@ use std::fs::{File, Metadata, OpenFile};
 use std::io::Read;
 use std::rt::Files;
 
-/// The text of a file, and what the file was before it was read.
+/// A file that was read.
 #[derive(Drop)]
 pub struct Source {
+    /// The text of the file.
     pub text: String,
+    /// The metadata from before the text was read.
     pub metadata: Metadata,
 }
 

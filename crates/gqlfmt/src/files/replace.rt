@@ -36,11 +36,10 @@ fn check_writable<R: Files>(rt: &R, path: &str) -> io::Result<()> {
 
 /// Fails if a path leads to another file than this one, or if the file changed.
 fn check_unchanged<R: Files>(rt: &R, path: &str, before: &Metadata) -> Result<(), InputError> {
-    let now = fs::symlink_metadata(rt, path).map_err(|_| InputError::Changed)?;
-    if is_same(before, &now) {
-        Ok(())
-    } else {
-        Err(InputError::Changed)
+    match fs::symlink_metadata(rt, path) {
+        Ok(now) if is_same(before, &now) => Ok(()),
+        Err(error) if error.kind() != ErrorKind::NotFound => Err(InputError::Write(error)),
+        _ => Err(InputError::Changed),
     }
 }
 

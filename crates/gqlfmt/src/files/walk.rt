@@ -11,12 +11,12 @@ use std::rt::Files;
 /// than 4,096 bytes.
 const MAX_DEPTH: usize = 2048;
 
-/// The files and the folders of an argument.
+/// What is found at the path of an argument.
 #[derive(Drop)]
 pub struct Found {
     /// The paths of the files, in order.
     pub files: Vec<String>,
-    /// The folders that could not be read, and why.
+    /// The files and folders that could not be read, and why.
     pub faults: Vec<(String, InputError)>,
 }
 
@@ -73,11 +73,16 @@ fn add_entries<R: Files + AllocGlobal + Clone + Drop>(
 ) -> Result<(), AllocError> {
     let entries = match fs::read_dir(rt, folder) {
         Ok(entries) => entries,
+        // It was removed in the meantime.
+        Err(error) if error.kind() == ErrorKind::NotFound => return Ok(()),
         Err(error) => return found.fail(rt.alloc(), folder, InputError::Read(error)),
     };
     for entry in entries {
         match entry {
             Ok(entry) => add_entry(rt.alloc(), &entry, found, below)?,
+            Err(error) if error.kind() == ErrorKind::InvalidFilename => {
+                found.fail(rt.alloc(), folder, InputError::EntryName)?;
+            }
             Err(error) => found.fail(rt.alloc(), folder, InputError::Read(error))?,
         }
     }
@@ -106,7 +111,7 @@ fn walk<R: Files + AllocGlobal + Clone + Drop>(
 
 /// The file with this path, or the GraphQL files below the folder with this path.
 ///
-/// In a folder, names that begin with a dot and symbolic links are left alone.
+/// In a folder, names that begin with a dot and symbolic links are left alone. A name that is not UTF-8 is an error.
 pub fn find_files<R: Files + AllocGlobal + Clone + Drop>(
     rt: &R,
     path: &str,

@@ -158,7 +158,7 @@ impl Context {
         }
     }
 
-    /// Reads the first token of a value, which is this to the next token.
+    /// Reads the first token of a value, and leaves `last` for the next token.
     fn read_value(&mut self, last: Last) -> Role {
         let role = self.value_role();
         self.last = last;
@@ -258,7 +258,7 @@ impl Context {
         role
     }
 
-    /// Reads a token that has this role wherever it is, and is this to the next token.
+    /// Reads a token that has this role wherever it is, and leaves `last` for the next token.
     fn read_other(&mut self, role: Role, last: Last) -> Role {
         self.last = last;
         role

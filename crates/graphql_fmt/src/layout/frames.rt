@@ -36,7 +36,7 @@ impl Frames {
         }
     }
 
-    /// Whether there are none but the document.
+    /// Whether the frame is the document.
     pub fn is_document(&self) -> bool {
         self.outer.is_empty()
     }

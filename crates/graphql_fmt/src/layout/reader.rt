@@ -39,7 +39,7 @@ impl Reader {
         self.outer.len()
     }
 
-    /// Goes back to this context, in which so many brackets were open. At most one of these is closed.
+    /// Goes back to this context, in which `depth` brackets were open. At most one of these was closed since.
     pub fn go_back(&mut self, context: Context, depth: usize) -> Result<(), AllocError> {
         if self.outer.len() < depth {
             self.outer.push(self.context.within)?;
