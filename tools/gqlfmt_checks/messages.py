@@ -16,7 +16,7 @@ WAYS = {
     "PATH: has no files that end in .graphql, .graphqls or .gql": ["mkdir empty; gqlfmt --check empty"],
     "PATH: cannot be rewritten: not a regular file": ["cat a.graphql | gqlfmt --write /dev/stdin"],
     "PATH: cannot be rewritten: REASON": ["trap '' XFSZ; ulimit -f 0; gqlfmt --write a.graphql"],
-    "gqlfmt: standard output cannot be written: REASON": ["gqlfmt a.graphql > /dev/full"],
+    "gqlfmt: standard output cannot be written: REASON": ["gqlfmt a.graphql > /dev/full", "gqlfmt --help > /dev/full"],
     "gqlfmt: the arguments cannot be read: REASON": ["gqlfmt $'\\xff'"],
     "error: standard input cannot be rewritten: '--write' needs a PATH": ["gqlfmt --write", "gqlfmt --write -"],
     "error: standard input cannot be combined with other inputs: '-' must be the only PATH": ["gqlfmt - a.graphql"],

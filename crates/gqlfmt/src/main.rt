@@ -36,12 +36,17 @@ fn main(rt: HostRuntime) -> ExitCode {
     match read_arguments(rt.alloc(), &words) {
         Ok(request) => ExitCode::from(run_request(&rt, &request)),
         Err(error) => {
-            let is_written = error.print(&rt).is_ok();
-            ExitCode::from(if error.use_stderr() || !is_written {
-                2u8
-            } else {
-                0u8
-            })
+            let printed = error.print(&rt);
+            if error.use_stderr() {
+                return ExitCode::from(2u8);
+            }
+            match printed {
+                Ok(()) => ExitCode::from(0u8),
+                Err(reason) => {
+                    let _ = eprintln!(rt; "gqlfmt: standard output cannot be written: {reason}");
+                    ExitCode::from(2u8)
+                }
+            }
         }
     }
 }
