@@ -72,7 +72,7 @@ reads_itself g ok tight full tokens e d s =
     record {
       sound = exact.sound;
       longest = λ ts us x takes y more derives next. (exact.longest ts us x takes y more derives next).1;
-      parts = λ ts us why fails. let first = exact.earliest ts us why fails in (first.front, first.parts);
+      parts = λ ts us why fails. let first = (exact.earliest ts us why fails).fault in (first.front, first.parts);
       least = grammar_least g ok full tight e d s tokens;
     }
 

@@ -118,14 +118,14 @@ module _ {D : Type 0} (l : Language D) (r : IsReadable l) where
       → Fails (reading l) (document_rule l) i.tokens (Improper leaf) j.tokens
       → e ≡ at (here c j) → kept j ≡ kept i → IsRefusalFor l i e
   valueless i j leaf c e misses h f last =
-      let first = (exact_reading l r).earliest i.tokens j.tokens _ (fails_node h) in
+      let first = ((exact_reading l r).earliest i.tokens j.tokens _ (fails_node h)).fault in
       subst (IsRefusalFor l i) (sym f) (no_value_left i j _ first.parts last (here c j) leaf c misses (at_fault _ i j h) refl refl)
 
   -- or for an unexpected token or end of input
   misplaced : (i j : Items) (e : Refusal) → Fails (reading l) (document_rule l) i.tokens Unexpected j.tokens → IsNextFault j e → kept j ≡ kept i
       → IsRefusalFor l i e
   misplaced i j e h f last =
-      let first = (exact_reading l r).earliest i.tokens j.tokens _ (fails_node h) in
+      let first = ((exact_reading l r).earliest i.tokens j.tokens _ (fails_node h)).fault in
       tells_weaker (λ k. k ≡ fault_at j) (IsLeastFault l i) (λ k is. unexpected_left i j _ first.parts last k (at_fault _ i j h) is) e f
 
   pub least_stop : (i j : Items) (s : ReadError) (e : Refusal) → StopsFor (reading l) (document_rule l) i j (reason_of s) → IsFaultFor s j e

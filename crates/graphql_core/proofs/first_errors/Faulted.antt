@@ -5,7 +5,7 @@ use Rattle.std.proofs.lemmas.Bool.{and_parts, or_left}
 use Rattle.graphql_core.specs.{Token, Class, matches, Expr, One, Then, Either, Many, Sym, ParseTree, Node, Grammar, row, leaves, peek, Fits, fits_node, Begins}
 use Rattle.graphql_core.specs.{Ends, first, decides, is_ll1, is_tight, has_samples, is_productive, sees, Takes, Reason, Unexpected, Improper, Refused, Fails}
 use Rattle.graphql_core.specs.{fails_one, fails_value, fails_before, fails_after, fails_first, fails_second, fails_neither, fails_turn, fails_later, fails_node}
-use Rattle.graphql_core.specs.{fails_check, Outcome, Done, Fault, ReadsTo, unchecked, lax, IsFirstStop, leads_here, leads_before, leads_after, leads_first}
+use Rattle.graphql_core.specs.{fails_check, Outcome, Done, Fault, ReadsTo, unchecked, lax, IsFirstFaultFor, leads_here, leads_before, leads_after, leads_first}
 use Rattle.graphql_core.specs.{leads_second, leads_turn, leads_later, leads_node, Leads, Text, Ending, InputEnds, InvalidToken, Answer, Tree, Rejected}
 use Rattle.graphql_core.specs.{answer_of, StopsBefore, IsFault, bad_place, unexpected_item, leaf_refused, node_refused, IsLeast, index_of, AnswersLeast}
 use Rattle.graphql_core.specs.{IsRefused, RefusesTokens}
@@ -148,8 +148,8 @@ module _ (g : Grammar) (ok : is_ll1 g.rows ≡ true) (full : is_productive g ≡
       → Before ts why us Unexpected (suc (length front))
   unexpected_met ts us front vs why h q n = go why refl (no_earlier ts us front vs s.front s.parts q (lax-begins g e s.front s.begins) n)
     where
-      s : IsFirstStop g e ts why us
-      s = first_fault g ok full e d f ts us why h
+      s : IsFirstFaultFor g e ts why us
+      s = (first_fault g ok full e d f ts us why h).fault
 
       go : (w : Reason) → why ≡ w → (length ts < length front + length us) ⊎ ((s.front ≡ front) × (us ≡ vs)) → Before ts w us Unexpected (suc (length front))
       go Unexpected i (inl l) = inl (omega (arith, l))
@@ -165,8 +165,8 @@ module _ (g : Grammar) (ok : is_ll1 g.rows ≡ true) (full : is_productive g ≡
   meets : (t : Text) (why other : Reason) (us : List Token) (m : ℕ) → Fails g e t.tokens why us → IsFault g e t other m → Before t.tokens why us other m
   meets t why _ us _ h (bad_place b) = go why us refl refl
     where
-      s : IsFirstStop g e t.tokens why us
-      s = first_fault g ok full e d f t.tokens us why h
+      s : IsFirstFaultFor g e t.tokens why us
+      s = (first_fault g ok full e d f t.tokens us why h).fault
 
       not_empty : (v : Token) (vs : List Token) → [] ≡ v ∷ vs → ⊥
       not_empty v vs i = cc
@@ -289,7 +289,7 @@ module _ (g : Grammar) (ok : is_ll1 g.rows ≡ true) (full : is_productive g ≡
   faulted : RefusesTokens g → (t : Text) (why : Reason) (us : List Token) → Fails g e t.tokens why us
       → IsFault g e t why (index_of why (length t.tokens - length us))
   faulted tokens t Unexpected us h =
-      let s = first_fault g ok full e d f t.tokens us Unexpected h in
+      let s = (first_fault g ok full e d f t.tokens us Unexpected h).fault in
       at-index t Unexpected (suc (length s.front)) (index_of Unexpected (length t.tokens - length us))
       (omega (arith, index_is Unexpected t.tokens us s.front s.parts))
       (at-item t s.front us s.parts (lax-begins g e s.front s.begins) (λ i. s.unexpected refl))
@@ -323,7 +323,7 @@ module _ (g : Grammar) (ok : is_ll1 g.rows ≡ true) (full : is_productive g ≡
   decided-fails : RefusesTokens g → (t : Text) (why : Reason) (us : List Token) → Fails g e t.tokens why us
       → Decided t why (index_of why (length t.tokens - length us))
   decided-fails tokens t why us h =
-      let s = first_fault g ok full e d f t.tokens us why h in
+      let s = (first_fault g ok full e d f t.tokens us why h).fault in
       record { fault = faulted tokens t why us h; meets = λ other m x. before-index why t.tokens us s.front s.parts other m (meets t why other us m h x) }
 
   decided-taken : (t : Text) (us : List Token) (z : ParseTree) → Takes g e t.tokens z us → (us ≡ [] → t.ending ≡ InvalidToken)

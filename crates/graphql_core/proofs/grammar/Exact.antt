@@ -30,14 +30,16 @@ pub first_fault : (g : Grammar) → is_ll1 g.rows ≡ true → is_productive g �
 first_fault g ok full e d f ts us why h =
     let s = stuck g full h f in
     record {
-      front = s.front;
-      parts = s.parts;
-      begins = s.begins;
-      ends = stuck-ends g ok e d s.front us why s.again;
-      value = s.value;
+      fault = record {
+        front = s.front;
+        parts = s.parts;
+        begins = s.begins;
+        ends = stuck-ends g ok e d s.front us why s.again;
+        value = s.value;
+        unexpected = λ i. stuck-ends (lax g) ok e d s.front us Unexpected
+            (λ vs k. fails-lax g (subst (λ (w : Reason). Fails g e (s.front ++ vs) w vs) i (s.again vs k)));
+      };
       refused = s.refused;
-      unexpected = λ i. stuck-ends (lax g) ok e d s.front us Unexpected
-          (λ vs k. fails-lax g (subst (λ (w : Reason). Fails g e (s.front ++ vs) w vs) i (s.again vs k)));
     }
 
 pub grammar_exact : (g : Grammar) → is_ll1 g.rows ≡ true → is_productive g ≡ true → (e : Expr) → decides g.rows e ≡ true → has_samples g e ≡ true → IsExact g e

@@ -34,14 +34,14 @@ module _ (g : Grammar) (ok : is_ll1 g.rows ≡ true) (full : is_productive g ≡
   failed : (why : Reason) (us : List Token) → Fails g e ts why us → Fails g e ts Unexpected ts
   failed why us h =
       let s = first_fault g ok full e d f ts us why h in
-      let none = here_only s.front us s.parts s.begins in
-      by_reason why us h s (s.parts ∙ ap (λ l. l ++ us) none) none
+      let none = here_only s.fault.front us s.fault.parts s.fault.begins in
+      by_reason why us h s (s.fault.parts ∙ ap (λ l. l ++ us) none) none
     where
-      by_reason : (why : Reason) (us : List Token) → Fails g e ts why us → (s : IsFirstStop g e ts why us) → ts ≡ us → s.front ≡ []
+      by_reason : (why : Reason) (us : List Token) → Fails g e ts why us → (s : IsFirstStop g e ts why us) → ts ≡ us → s.fault.front ≡ []
           → Fails g e ts Unexpected ts
       by_reason Unexpected us h s same none = subst (λ (vs : List Token). Fails g e ts Unexpected vs) (sym same) h
       by_reason (Improper c) us h s same none =
-          let v = s.value c refl in
+          let v = s.fault.value c refl in
           absurd (no_value us v.token v.rest same v.is (subst (λ (l : List Token). Begins (lax g) e (l ++ v.token ∷ [])) none v.begins))
       by_reason (Refused k) us h s same none =
           let r = s.refused k refl in

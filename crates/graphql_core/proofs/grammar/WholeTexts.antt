@@ -66,7 +66,7 @@ module _ (g : Grammar) (e : Expr) (x : IsExact g e) where
   gives-place : (ts : List Token) (ending : Ending) (why : Reason) (place : ℕ) (o : Outcome) → ReadsTo g e ts o
       → Rejected why place ≡ answer_of (record { tokens = ts; ending = ending }) o → IsPlace ts ending why place
   gives-place ts ending why place (Fault other us) r h =
-      let f = x.earliest ts us other r in
+      let f = (x.earliest ts us other r).fault in
       let w = wrong_is why other place (length ts - length us) h in
       record {
         front = f.front;

@@ -138,7 +138,7 @@ module _ (g : Grammar) (rs : List Row) (cs : List Change) (each : EachIsSecond g
         unambiguous = λ ts y z h k. sym (written-seconds g rs cs each h.0)
             ∙ ap (written cs) (x.unambiguous ts (seconds cs y) (seconds cs z) (to-second g rs cs each e ts y h) (to-second g rs cs each e ts z k))
             ∙ written-seconds g rs cs each k.0;
-        earliest = λ ts us why h. let s = x.earliest ts us why h in record {
+        earliest = λ ts us why h. let s = (x.earliest ts us why h).fault in record {
           front = s.front;
           parts = s.parts;
           begins = begins-written (unchecked g) rs cs each_unchecked e s.front s.begins;

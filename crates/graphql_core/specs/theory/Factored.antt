@@ -1,12 +1,12 @@
 -- A written grammar, and factored rules for the same symbols, which can be read with one token of lookahead.
 use Rattle.std.specs.Prelude.{◌≡◌, ℕ, zero, suc, false, List, [], ◌∷◌, ◌++◌}
-use Rattle.graphql_core.specs.grammar.Tokens.{Token, Class}
+use Rattle.graphql_core.specs.grammar.Tokens.{Token}
 use Rattle.graphql_core.specs.grammar.Trees.{Expr, ParseTree, Both, First, Second, Node, Row, Grammar, row_at, leaves}
-use Rattle.graphql_core.specs.grammar.Trees.{peek, with_nodes, Fits, Derives, Begins, Ends, unchecked, lax}
+use Rattle.graphql_core.specs.grammar.Trees.{peek, with_nodes, Fits, Derives, lax}
 use Rattle.graphql_core.specs.theory.Tables.{cont}
 use Rattle.graphql_core.specs.theory.Reading.{sees, Takes, Fails}
-use Rattle.graphql_core.specs.grammar.GrammarFaults.{Reason, Unexpected, Improper}
-use Rattle.graphql_core.specs.theory.Theorems.{IsValue, classes, ReadsAlike}
+use Rattle.graphql_core.specs.grammar.GrammarFaults.{Reason}
+use Rattle.graphql_core.specs.theory.Theorems.{IsFirstFaultFor, classes, ReadsAlike}
 use Rattle.graphql_core.specs.grammar.NextPlaces.{Leads, IsTested}
 
 -- converts a parse tree of a symbol's factored rule to one of its written rule, and back
@@ -124,15 +124,6 @@ out_of_symbols j k = record { to_written = spread; to_second = gather }
     gather (First (Node i (Both h x))) = Both h (First x)
     gather (Second (Node i (Both h y))) = Both h (Second y)
     gather s = s
-
--- The first error: some list begins with `front`, if no node is rejected, but no list continues after `front`.
-pub record IsFirstFaultFor (g : Grammar) (e : Expr) (ts : List Token) (why : Reason) (us : List Token) : Type 0 where
-  pub front : List Token
-  pub parts : ts ≡ front ++ us
-  pub begins : Begins (unchecked g) e front
-  pub ends : Ends g e front (peek us)
-  pub value : (c : Class) → why ≡ Improper c → IsValue g e front c us
-  pub unexpected : why ≡ Unexpected → Ends (lax g) e front (peek us)
 
 -- The reader of the factored grammar returns what the written grammar `g` derives.
 pub record IsExactFor (g : Grammar) (rs : List Row) (cs : List Change) (e : Expr) : Type 0 where

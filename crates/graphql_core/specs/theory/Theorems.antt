@@ -26,14 +26,18 @@ pub record IsRefusedBefore (g : Grammar) (front : List Token) (k : ℕ) : Type 0
   pub check : g.check k tree ≡ false
 
 -- The first error: some list begins with `front`, if no node is rejected, but no list continues after `front`.
-pub record IsFirstStop (g : Grammar) (e : Expr) (ts : List Token) (why : Reason) (us : List Token) : Type 0 where
+pub record IsFirstFaultFor (g : Grammar) (e : Expr) (ts : List Token) (why : Reason) (us : List Token) : Type 0 where
   pub front : List Token
   pub parts : ts ≡ front ++ us
   pub begins : Begins (unchecked g) e front
   pub ends : Ends g e front (peek us)
   pub value : (c : Class) → why ≡ Improper c → IsValue g e front c us
   pub unexpected : why ≡ Unexpected → Ends (lax g) e front (peek us)
-  pub refused : (k : ℕ) → why ≡ Refused k → IsRefusedBefore g front k
+
+-- the same, and a node that is rejected is at the end of `front`
+pub record IsFirstStop (g : Grammar) (e : Expr) (ts : List Token) (why : Reason) (us : List Token) : Type 0 where
+  pub fault : IsFirstFaultFor g e ts why us
+  pub refused : (k : ℕ) → why ≡ Refused k → IsRefusedBefore g fault.front k
 
 -- the reader returns what the grammar derives
 pub record IsExact (g : Grammar) (e : Expr) : Type 0 where
