@@ -10,15 +10,7 @@ pub mod layouts
 pub mod round_trip
 pub mod documents
 pub mod ByGrammar
-pub use Rattle.std.proofs.lemmas.Bool.{and_from, and_parts, cases_Bool, false_from_ne_true, false≢true, not-true, or_parts}
-pub use Rattle.std.proofs.lemmas.Bool.Decides.{nat_tests}
-pub use Rattle.std.proofs.lemmas.Iterator.Consumers.{YieldsList-at}
-pub use Rattle.std.proofs.lemmas.Iterator.Splits.{YieldsList-from_lines}
-pub use Rattle.std.proofs.lemmas.List.{take_all}
-pub use Rattle.std.proofs.lemmas.List.Elements.{All-head, All-same}
-pub use Rattle.std.proofs.lemmas.Str.{IsCharBoundary-after_ascii, encode_ascii}
-pub use Rattle.std.proofs.lemmas.Iterator.Splits.{YieldsList-from_str_split}
-pub use Rattle.std.proofs.lemmas.Result.{on_ok_weaker}
+pub use Rattle.std.proofs.lemmas.Bool.{false≢true}
 unfoldable pub use grammar.*
 unfoldable pub use rules.*
 unfoldable pub use first_errors.*
@@ -42,25 +34,25 @@ pub use sources.{stands_before_same, token_next, tokens_kept}
 pub use readers.{BegunBy, FailsUnseen, IsSide, Leads, Pushes, Stops-after, Stops-before, Stops-node, Stops-turn}
 pub use readers.{TakesNone, Turns, Turns-more, Turns-start, Turns-stop, adds_more, adds_none, adds_one, adds_reserved}
 pub use readers.{after, before, begun, consumed, each_means, fails, fails_last, fewer, fills, gives_error_by}
-pub use readers.{gives_kept, gives_led, halts, here, into, is_list, lacks, lacks_last, leads_in, many_means, next_matches, none_given}
-pub use readers.{no_more, none_within, past, placed, pushed, pushes_none, rest_stops, same_text_spelling, sees_both, sees_neither}
-pub use readers.{side_first, side_in, side_left, side_node, side_nth, side_right, side_second, some_given}
-pub use readers.{some_taken, spelling_differs, stops_one, taken_both, takes_none, takes_one, takes_some, takes_token, there}
-pub use readers.{through, took, turn_appends, turn_fails, unseen_either, unseen_one, unseen_symbol, unseen_then}
-pub use readers.{whole}
+pub use readers.{gives_kept, gives_led, halts, here, into, is_list, lacks, lacks_last, leads_in, many_means}
+pub use readers.{next_matches, none_given, no_more, none_within, past, placed, pushed, pushes_none, rest_stops}
+pub use readers.{same_text_spelling, sees_both, sees_neither, side_first, side_in, side_left, side_node, side_nth}
+pub use readers.{side_right, side_second, some_given, some_taken, spelling_differs, stops_one, taken_both, takes_none}
+pub use readers.{takes_one, takes_some, takes_token, there, took, turn_appends, turn_fails, unseen_either, unseen_one}
+pub use readers.{unseen_symbol, unseen_then, whole}
 pub use values.{Anything, ByValues, DependsOnValues, HasRoom, IsSame, Left, Nests, OfItsOwn, SameLeaf, SameTrees}
-pub use values.{Within, accepted_same, all_turns, all_within, directives_printable, directives_same, document_alike}
-pub use values.{each_alike, each_of_both, each_same, enclosed_alike, enclosed_printable, enclosed_same, has_room}
-pub use values.{joined_same, leaf_except, leaf_name, left_tree, minified_document, nests, nests_before, nests_open}
-pub use values.{nests_tree, optional_arguments_printable, optional_arguments_same, optional_default_printable}
+pub use values.{Within, accepted_same, all_turns, directives_printable, directives_same, document_alike, each_alike}
+pub use values.{each_of_both, each_same, enclosed_alike, enclosed_printable, enclosed_same, joined_same, leaf_except}
+pub use values.{leaf_name, left_tree, minified_document, nests_before, nests_open, nests_tree}
+pub use values.{optional_arguments_printable, optional_arguments_same, optional_default_printable}
 pub use values.{optional_default_same, optional_list_same, optional_same, own_text, parsed_alike, part_printable}
-pub use values.{past_tree, right_tree, room_back, room_both, room_first, room_leaf, room_more, room_node}
-pub use values.{room_nothing, room_second, room_stop, same_block, same_both, same_first, same_more, same_node}
-pub use values.{same_second, same_values_document, same_values_parsed, some_printable, source_document, spelling_same}
-pub use values.{there_same, type_printable, type_same}
+pub use values.{past_tree, right_tree, room_back, room_both, room_first, room_leaf, room_more, room_node, room_nothing}
+pub use values.{room_second, room_stop, same_block, same_both, same_first, same_more, same_node, same_second}
+pub use values.{same_values_document, some_printable, source_document, spelling_same, there_same, type_printable}
+pub use values.{type_same}
 pub use layouts.{Rises, all_counted, all_hold, all_seen, and_alone, and_last, and_part, arguments_bounded}
 pub use layouts.{block_lines_mean}
-pub use strings.{spelled_as, in_triple_quotes}
+pub use strings.{spelled_as}
 pub use layouts.{arguments_rise, block_means, block_word, both_fit, both_rise, braces_rise, braces_text, deepest_is}
 pub use layouts.{default_bounded, default_rises, directives_alike, directives_bounded, directives_rise, flat_rise}
 pub use layouts.{gap_rises, in_parentheses_alike, in_parentheses_rise, in_parentheses_seen, item_here, level_rises}

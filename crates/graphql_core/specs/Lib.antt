@@ -8,20 +8,7 @@ pub mod steps
 pub mod documents
 pub mod theory
 pub mod examples
-pub use Rattle.std.specs.Char.{is_ascii_digit, is_ascii_hexdigit}
-pub use Rattle.std.specs.Cmp.Lexicographic.{pointwise, slice_cmp}
-pub use Rattle.std.specs.List.{AllByRecursion, flat_map, join_by, list_all, list_any, prefix_len, suffix_len}
-pub use Rattle.std.specs.Option.{IfSome, option_map_or, unwrap_or}
-pub use Rattle.std.specs.Str.{IsCharBoundary, IsUtf8}
-pub use Rattle.std.specs.Str.Lines.{lines}
-pub use Rattle.std.specs.Str.Parse.{digits_value}
-unfoldable pub use Rattle.std.specs.Char.{encode_utf8}
-unfoldable pub use Rattle.std.specs.Str.{chars}
-pub use Rattle.std.specs.Fmt.{DisplaysOnOk, DisplaysStyledOnOk, decimal, signed_decimal}
-pub use Rattle.std.specs.Global.{Global}
-pub use Rattle.std.specs.List.{slice_get}
-pub use Rattle.std.specs.Result.{IsErrAnd}
-unfoldable pub use Rattle.std.specs.List.Sorted.{IsStrictlySortedBy}
+pub use Rattle.std.specs.Fmt.{decimal, signed_decimal}
 unfoldable pub use grammar.*
 unfoldable pub use lexical.*
 unfoldable pub use strings.*
@@ -57,13 +44,13 @@ pub use values.{default_symbol, directive_symbol, directive_view, directives_bra
 pub use values.{directives_symbol, directives_view, each_of, enclosed_of, erase, erase_all, first_place, has_any}
 pub use values.{in_brackets, is_there, joined_of, keyword, location_class, most, most_around, most_enclosed, name}
 pub use values.{named, no_place, optional_arguments_of, optional_default_of, optional_list_of, optional_of, place_at}
-pub use values.{punctuator, punctuator_class, sample, separated_of, shared, shared_symbols, spelling_at, token_value}
-pub use values.{type_of, type_symbol, type_view, value_brackets, value_view, valued, variable, with_rule, word}
+pub use values.{punctuator, punctuator_class, sample, separated_of, shared, shared_symbols, spelling_at, type_of}
+pub use values.{type_symbol, type_view, value_brackets, value_view, valued, variable, with_rule, word}
 unfoldable pub use values.{block_string_of, is_good, string_of, tables, unquoted}
-pub use layouts.{Displays, HasDisplayed, IsNarrow, Layout, Part, arguments_layout, bracket_of, deepest, default_layout}
-pub use layouts.{default_style, description_levels, directives_layout, gap, has_block_form, has_block_lines}
-pub use layouts.{in_block_form, in_braces, in_levels, in_parentheses, name_part, punctuator_part, quoted, separated}
-pub use layouts.{spaces, string_layout, text_of, token, type_layout, with_indent, with_multiline}
+pub use layouts.{Displays, IsNarrow, Layout, Part, arguments_layout, bracket_of, deepest, default_layout, default_style}
+pub use layouts.{description_levels, directives_layout, gap, has_block_form, has_block_lines, in_block_form, in_braces}
+pub use layouts.{in_levels, in_parentheses, name_part, punctuator_part, quoted, separated, spaces, string_layout}
+pub use layouts.{text_of, token, type_layout, with_indent, with_multiline}
 unfoldable pub use steps.{block_end, comment, front, items, items_in, number, other_token, quoted_front, string_end}
 pub use documents.{AnswersUnlessMemory, AreAlike, AreReadBack, HasNoValue, HasNone, HasOneFaultEach, IsDocument}
 pub use documents.{IsDocumentOf, IsLeastFault, IsParsed, IsReadBack, IsRefusalFor, IsRefusalOf, IsWide, IsWrittenOf}

@@ -1,5 +1,5 @@
 //! Positions in the input.
-ghost use Rattle.std.specs.Prelude.{ℕ, List, ◌++◌, Some, codes};
+ghost use Rattle.std.specs.Prelude.{◌++◌, Some, codes};
 ghost use Rattle.std.specs.Fmt.{decimal};
 
 mod laws;

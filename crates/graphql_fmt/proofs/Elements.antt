@@ -1,18 +1,18 @@
 -- The lexical elements of an input, and the tokens and comments among them.
 use Rattle.std.specs.List.{list_all}
 use Rattle.std.specs.Char.{is_ascii_whitespace}
-use Rattle.std.proofs.Common.{◌≡◌, ℕ, Bool, true, false, cond, ◌&&◌, ◌==◌, List, [], ◌∷◌, ◌++◌, map, length, take, drop, refl, sym, ap, ◌∙◌, subst}
+use Rattle.std.proofs.Common.{◌≡◌, ℕ, Bool, true, false, cond, ◌&&◌, ◌==◌, List, [], ◌∷◌, ◌++◌, map, length, drop, refl, sym, ap, ◌∙◌, subst}
 use Rattle.std.proofs.Common.{append_assoc, arith}
 use Rattle.std.proofs.lemmas.Bool.{and_parts}
 use Rattle.std.proofs.lemmas.Bool.Decides.{nat_tests}
-use Rattle.std.proofs.lemmas.List.{append-nil, take_at, drop_at}
+use Rattle.std.proofs.lemmas.List.{append-nil, drop_at}
 use Rattle.graphql_core.specs.declared.tokenizer.piece.Move.{Move}
 use Rattle.graphql_core.specs.declared.tokenizer.token.Kind.{Kind}
 use Rattle.graphql_core.specs.declared.tokenizer.token.Kind.TheVariants.{BlockString}
 use Rattle.graphql_core.specs.declared.tokenizer.element.ElementKind.{ElementKind}
 use Rattle.graphql_core.specs.declared.tokenizer.element.ElementKind.TheVariants as element
 use Rattle.graphql_core.specs.{front, is_in_line, Meaning, Ignored, Word, Stands, BeginsNone, BeginsWithElement, IsCutInto}
-use Rattle.graphql_core.specs.lexical.Elements.{element_kind, ignored_kind}
+use Rattle.graphql_core.specs.lexical.Elements.{ignored_kind}
 use Rattle.graphql_core.specs.lexical.Lexical.{Piece as Element, ignored_tab, ignored_line_feed, ignored_carriage_return, ignored_space, ignored_comma}
 use Rattle.graphql_core.specs.lexical.Lexical.{ignored_byte_order_mark, comment_at_end, comment_feed, comment_return_feed, comment_return}
 use Rattle.graphql_core.specs.strings.BlockStrings.{IsInTripleQuotes}
@@ -100,12 +100,6 @@ same_length (Ignored m) (Word k t) i j e = absurd cc
 same_length (Word k t) (Ignored m) i j e = absurd cc
 same_length (Word k t) (Word j u) i j' e = cc
 
-same_meaning : (m k : Meaning) (i j : ℕ) → ahead_of m i ≡ ahead_of k j → m ≡ k
-same_meaning (Ignored m) (Ignored k) i j e = let same : m ≡ k = cc in ap Ignored same
-same_meaning (Ignored m) (Word k t) i j e = absurd cc
-same_meaning (Word k t) (Ignored m) i j e = absurd cc
-same_meaning (Word k t) (Word h u) i j e = let one : k ≡ h = cc in let two : t ≡ u = cc in λ x. Word (one x) (two x)
-
 same_front : (text a b r s : List ℕ) (m k : Meaning) → text ≡ a ++ r → text ≡ b ++ s → Stands a m r → Stands b k s
     → ahead_of m (length a) ≡ ahead_of k (length b)
 same_front text a b r s m k e f st su = sym (stands_front st) ∙ ap front (sym e ∙ f) ∙ stands_front su
@@ -115,12 +109,6 @@ same_rest text a b r s m k e f st su =
     let l = same_length m k _ _ (same_front text a b r s m k e f st su) in
     sym (drop_at a r (length a) refl) ∙ ap (drop (length a)) (sym e ∙ f) ∙ drop_at b s (length a) (sym l)
 
-same_first : (text a b r s : List ℕ) (m k : Meaning) → text ≡ a ++ r → text ≡ b ++ s → Stands a m r → Stands b k s → (a ≡ b) × (m ≡ k)
-same_first text a b r s m k e f st su =
-    let fronts = same_front text a b r s m k e f st su in
-    let l = same_length m k _ _ fronts in
-    (sym (take_at a r (length a) refl) ∙ ap (take (length a)) (sym e ∙ f) ∙ take_at b s (length a) (sym l), same_meaning m k _ _ fronts)
-
 one_stop : (ps qs : List Element) (text s t : List ℕ) → IsCutInto text ps s → IsCutInto text qs t → s ≡ t
 one_stop [] [] text s t (e, none) (f, other) = sym e ∙ f
 one_stop [] (q ∷ qs) text s t (e, none) (rest, f, st, more) = absurd (none q.bytes q.meaning rest st (sym e ∙ f))
@@ -128,20 +116,6 @@ one_stop (p ∷ ps) [] text s t (rest, f, st, more) (e, none) = absurd (none p.b
 one_stop (p ∷ ps) (q ∷ qs) text s t (r, e, st, more) (u, f, su, others) =
     let same = same_rest text p.bytes q.bytes r u p.meaning q.meaning e f st su in
     one_stop ps qs u s t (subst (λ (l : List ℕ). IsCutInto l ps s) same more) others
-
-one_kept : (ps qs : List Element) (text : List ℕ) → IsCutInto text ps [] → IsCutInto text qs [] → kept ps ≡ kept qs
-one_kept [] [] text (e, none) (f, other) = refl
-one_kept [] (q ∷ qs) text (e, none) (rest, f, st, more) = absurd (none q.bytes q.meaning rest st (sym e ∙ f))
-one_kept (p ∷ ps) [] text (rest, f, st, more) (e, none) = absurd (none p.bytes p.meaning rest st (sym e ∙ f))
-one_kept (p ∷ ps) (q ∷ qs) text (r, e, st, more) (u, f, su, others) =
-    let same = same_rest text p.bytes q.bytes r u p.meaning q.meaning e f st su in
-    let (bytes, meaning) = same_first text p.bytes q.bytes r u p.meaning q.meaning e f st su in
-    let later = one_kept ps qs u (subst (λ (l : List ℕ). IsCutInto l ps []) same more) others in
-    λ i. kept_element (element_kind (bytes i) (meaning i)) (bytes i) ++ later i
-
--- an input has one list of tokens and comments
-pub one_list : (text : List ℕ) (ks js : List Kept) → HasKept text ks → HasKept text js → ks ≡ js
-one_list text ks js (ps, cut, e) (qs, other, f) = sym e ∙ one_kept ps qs text cut other ∙ f
 
 -- ---- the elements before a rest
 

@@ -1,5 +1,5 @@
 //! Pieces of JSON texts.
-ghost use Rattle.std.specs.Prelude.{◌≡◌, [], ◌++◌, codes, OnOk};
+ghost use Rattle.std.specs.Prelude.{[], codes, OnOk};
 ghost use Rattle.graphql_core.specs.{decimal, place_of, quoted};
 ghost use Rattle.graphql_core.specs.layouts.ValueLayout.{boolean_name};
 ghost use Rattle.graphql_json.specs.steps.Pieces.{Appends};

@@ -1,5 +1,5 @@
 //! Nodes, members that are nodes, and lists of nodes.
-ghost use Rattle.std.specs.Prelude.{◌≡◌, ◌++◌, codes, OnOk, IfOk, map, option_map, string_bytes};
+ghost use Rattle.std.specs.Prelude.{◌≡◌, OnOk, IfOk, map, option_map, string_bytes};
 ghost use Rattle.graphql_json.specs.steps.Pieces.{Appends};
 ghost use Rattle.graphql_json.specs.{json_text, one, optional, each, later, document_node};
 ghost use Rattle.graphql_json.specs.{name_json, named_json, string_json, valued_json};

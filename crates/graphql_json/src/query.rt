@@ -1,5 +1,5 @@
 //! Query documents.
-ghost use Rattle.std.specs.Prelude.{◌≡◌, ◌++◌, codes, OnOk, IfOk, option_map, string_bytes};
+ghost use Rattle.std.specs.Prelude.{◌≡◌, OnOk, IfOk, option_map, string_bytes};
 ghost use Rattle.graphql_core.specs.{place_of, directives_view};
 ghost use Rattle.graphql_query.specs.Tree.{type_condition_view, fragment_spread_view, field_view, inline_fragment_view};
 ghost use Rattle.graphql_query.specs.Tree.{selection_view, selections_view, selection_set_view};
@@ -8,7 +8,7 @@ ghost use Rattle.graphql_query.specs.Tree.{variable_definitions_view, operation_
 ghost use Rattle.graphql_query.specs.Tree.{definition_view, document_view, query_view, mutation_view};
 ghost use Rattle.graphql_query.specs.Tree.{subscription_view, short, operation, fragment};
 ghost use Rattle.graphql_json.specs.steps.Pieces.{Appends};
-ghost use Rattle.graphql_json.specs.{json_text, later, one, optional, named_type_json, selection_json, selected_json};
+ghost use Rattle.graphql_json.specs.{json_text, later, named_type_json, selection_json, selected_json};
 ghost use Rattle.graphql_json.specs.{selection_set_json, selections_json, variable_definition_json, operation_json_of};
 ghost use Rattle.graphql_json.specs.{definition_json, document_json};
 ghost use Rattle.graphql_json.specs.Json as json;

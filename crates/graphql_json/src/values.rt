@@ -1,13 +1,13 @@
 //! Values, types, arguments and directives.
-ghost use Rattle.std.specs.Prelude.{◌≡◌, ◌++◌, codes, OnOk, option_map};
+ghost use Rattle.std.specs.Prelude.{codes, OnOk};
 ghost use Rattle.graphql_core.specs.{signed_decimal, value_view, type_view, arguments_view, directive_view};
 ghost use Rattle.graphql_core.specs.{directives_view};
 ghost use Rattle.graphql_core.specs.values.Values.{null};
 ghost use Rattle.graphql_core.specs.values.ValueViews.{items_view, members_view};
 ghost use Rattle.graphql_json.specs.steps.Pieces.{Appends};
-ghost use Rattle.graphql_json.specs.{json_text, elements_text, one, optional, later, pair_json, valued_json, list_json};
-ghost use Rattle.graphql_json.specs.{object_json, value_json, items_json};
-ghost use Rattle.graphql_json.specs.{fields_json, type_json, arguments_json, directive_json, directives_json};
+ghost use Rattle.graphql_json.specs.{json_text, later, pair_json, valued_json, list_json, object_json, value_json};
+ghost use Rattle.graphql_json.specs.{items_json, fields_json, type_json, arguments_json, directive_json};
+ghost use Rattle.graphql_json.specs.{directives_json};
 ghost use Rattle.graphql_json.specs.Json as json;
 
 use crate::json::{

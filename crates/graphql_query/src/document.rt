@@ -1,5 +1,5 @@
 //! Parsing whole documents.
-ghost use Rattle.std.specs.Prelude.{◌≡◌, ◌≤◌, ◌≤ℤ◌, pos, length, IfOk};
+ghost use Rattle.std.specs.Prelude.{◌≤◌, ◌≤ℤ◌, pos, length, IfOk};
 ghost use Rattle.graphql_core.specs.{depth_of, next_place, max_length};
 ghost use Rattle.graphql_core.specs.{AnswersUnlessMemory, ParsesDocument, ParsesStream};
 ghost use Rattle.graphql_query.specs.{DocumentTree, document_view, queries, IsDocumentOf_0_4_1, HasNoNewParts};

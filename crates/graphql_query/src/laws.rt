@@ -1,13 +1,12 @@
 //! Theorems about the specification of errors, of minifying, of readers and of first definitions.
-ghost use Rattle.std.specs.Prelude.{◌≡◌, ◌<◌, ℕ, true, List, ◌∷◌, ◌++◌, length, Result};
+ghost use Rattle.std.specs.Prelude.{◌≡◌, ◌<◌, ℕ, true, List, length, Result};
 ghost use Rattle.graphql_core.specs.{Item, is_unexpected, IsMinified, FaultText, split, IsLeastFault, NoneGoesOn};
 ghost use Rattle.graphql_core.specs.{Refusal, Sym, ParseTree, Items, reason_of, HasOneFaultEach};
 ghost use Rattle.graphql_core.specs.documents.ByGrammar.{ReturnsDerived};
 ghost use Rattle.graphql_core.specs.declared.helpers.read_error.ReadError.{ReadError};
 ghost use Rattle.graphql_query.specs.{DocumentTree, queries, IsParsed, AreAlike, IsFirstFaultOf, IsLeastFaultOf};
-ghost use Rattle.graphql_query.specs.{one_definition, Reads, second_rows, DefinitionTree, IsDocumentOf};
-ghost use Rattle.graphql_query.specs.{IsFirstDefinition, HasDefinitions, BeginsWithDefinition, IsFirstParseTree};
-ghost use Rattle.graphql_query.specs.{BeginsWithParseTree, NoneBeginsAnother};
+ghost use Rattle.graphql_query.specs.{one_definition, Reads, second_rows, DefinitionTree, IsFirstDefinition};
+ghost use Rattle.graphql_query.specs.{NoneBeginsAnother};
 
 /// An input has at most one first error (the one at the lowest token index). The tokens before it are a prefix of some
 /// document. With the offending token, or the end of the input, they are not.

@@ -1,5 +1,5 @@
 //! Minifying: the tokens of a source, with a space only where two tokens would otherwise run together.
-ghost use Rattle.std.specs.Prelude.{◌≡◌, ◌<◌, ◌≤◌, ℕ, List, length, IfOk, IfErr, IsErrOf, string_bytes};
+ghost use Rattle.std.specs.Prelude.{◌<◌, ◌≤◌, ℕ, List, length, IfOk, IfErr, IsErrOf, string_bytes};
 ghost use Rattle.graphql_core.specs.{HasTokens, HasItems, Item, split, IsMinified, max_length, too_long};
 ghost use Rattle.graphql_query.specs.{IsDocumentOf, IsReadBack, DocumentTree, IsMinifyRefusalOf, TellsUnlessMemory};
 

@@ -2,7 +2,7 @@
 use Rattle.std.specs.declared.fmt.Error.{Error}
 use Rattle.std.specs.declared.fmt.Formatter.{Formatter}
 use Rattle.std.specs.Fmt.{HasWrittenStyled, IsDefaultSpec, IsFlush, WritesOnOk, WritesStyledOnOk}
-use Rattle.std.proofs.Common.{List, ◌≡◌, ◌+◌, ◌-◌, ◌*◌, ◌^◌, ◌<◌, ◌↔◌, ℕ, Result, Ok, Err, OnOk, false, true, min, subst, sym, arith}
+use Rattle.std.proofs.Common.{List, ◌≡◌, ◌-◌, ◌*◌, ◌^◌, ◌<◌, ◌↔◌, ℕ, Result, Ok, Err, OnOk, false, true, min, subst, sym, arith}
 use Rattle.std.proofs.lemmas.Bool.{false≢true}
 use Rattle.graphql_core.specs.{Displays, Layout, Part, default_style, text_of, IsTooWide, IsNarrow}
 use Rattle.graphql_core.proofs.layouts.Appending.{on_ok}
@@ -16,10 +16,6 @@ pub fits : (style : Layout) (levels n : ℕ) → levels ≡ min n (2 ^ 64 - 1) �
 fits style levels n counted through =
     let narrow : IsTooWide style n → ⊥ = λ wide. absurd (false≢true ((through n counted).1 wide)) in
     omega (arith, narrow)
-
--- the same with no margin
-pub fits_outside : (style : Layout) (levels n : ℕ) → levels ≡ min n (2 ^ 64 - 1) → LetThrough style levels → 0 + n * style.indent < 2 ^ 32
-fits_outside style levels n counted through = omega (arith, fits style levels n counted through)
 
 -- the output is not too wide in the default style
 pub narrow : {A E : Type 0} (r : Result A E) (levels n : ℕ) → levels ≡ min n (2 ^ 64 - 1) → LetThrough default_style levels → OnOk r (IsNarrow n)

@@ -45,12 +45,6 @@ skips_escape n (b ∷ x ∷ []) q e = absurd (grind (arith, nat_tests))
 skips_escape n (b ∷ x ∷ y ∷ []) q e = absurd (grind (arith, nat_tests))
 skips_escape n (b ∷ x ∷ y ∷ z ∷ more) q e = rw (q, e) (ap (λ m. block_end m 0 more) (omega arith))
 
-pub quotes_some : (bs : List ℕ) → begins_quotes bs ≡ true → 3 ≤ length bs
-quotes_some [] e = absurd cc
-quotes_some (b ∷ []) e = absurd cc
-quotes_some (b ∷ x ∷ []) e = absurd cc
-quotes_some (b ∷ x ∷ y ∷ more) e = omega arith
-
 pub skips_unit : (n : ℕ) (bs : List ℕ) → 0 < length bs → begins_quotes bs ≡ false → begins_escape bs ≡ false
     → block_end n 0 bs ≡ block_end (n + 1) 0 (drop 1 bs)
 unfolding block_end

@@ -3,8 +3,8 @@ use denote.Enum.Bare.{sameb, same_true}
 use Rattle.std.proofs.Common.{Bool, ◌||◌, rules, ◌≡◌, ℕ, true, false, eqb, nat_eq, ◌==◌, List, [], ◌∷◌, drop, refl, sym, ap, ◌∙◌, arith}
 use Rattle.graphql_core.specs.contracts.tokenizer.token.Kind.{the_type}
 use Rattle.std.specs.Cmp.Lexicographic.{pointwise}
-use Rattle.graphql_core.specs.{Token, Class, same_spelling, matches, peek, sees, kind_number, Items, Last, after}
-use Rattle.graphql_core.specs.{kept, fault_by, place_next, sees_class, TakesToken}
+use Rattle.graphql_core.specs.{Token, Class, same_spelling, matches, peek, sees, kind_number, Items, after}
+use Rattle.graphql_core.specs.{kept, sees_class, TakesToken}
 use Rattle.graphql_core.specs.declared.tokenizer.token.Kind.{Kind}
 
 eqb-comm : (m n : ℕ) → nat_eq m n ≡ eqb n m
@@ -31,16 +31,6 @@ takes_token c old new t e a m = record {
 or_first : (b : Bool) → b || false ≡ true → b ≡ true
 or_first true e = refl
 or_first false e = e
-
--- if the next item is seen to be of a class, it is a token of that class
-pub first_seen : (c : Class) (i : Items) → sees_class c i ≡ true
-    → (t : Token) × (i.tokens ≡ t ∷ drop 1 i.tokens) × (matches c t ≡ true) × (t.place ≡ place_next i)
-first_seen c i h = of_tokens i.tokens i.last h
-  where
-    of_tokens : (ts : List Token) (l : Last) → sees (c ∷ []) (peek ts) ≡ true
-        → (t : Token) × (ts ≡ t ∷ drop 1 ts) × (matches c t ≡ true) × (t.place ≡ (fault_by ts l).place)
-    of_tokens [] l e = absurd cc
-    of_tokens (t ∷ ts) l e = (t, refl, or_first (matches c t) e, refl)
 
 pub seen_matches : (c : Class) (i : Items) (t : Token) → i.tokens ≡ t ∷ drop 1 i.tokens → sees_class c i ≡ true → matches c t ≡ true
 seen_matches c i t e h = or_first (matches c t) (sym (ap (λ ts. sees (c ∷ []) (peek ts)) e) ∙ h)

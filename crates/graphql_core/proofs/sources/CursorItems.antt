@@ -1,6 +1,6 @@
 -- A source over a token stream.
-use Rattle.std.proofs.Common.{◌≡◌, ◌≤◌, ◌-◌, ◌^◌, ℕ, false, List, [], ◌∷◌, length, Option, Some, None, Result, Ok, Err, All, refl, sym, ap, subst, ◌∙◌}
-use Rattle.std.proofs.Common.{le_refl, arith}
+use Rattle.std.proofs.Common.{◌≡◌, ◌-◌, ℕ, false, List, [], ◌∷◌, length, Option, Some, None, Result, Ok, Err, All, refl, sym, ap, subst, ◌∙◌}
+use Rattle.std.proofs.Common.{arith}
 use Rattle.std.proofs.lemmas.List.Elements.{All-cons, All-head, All-tail, All-same}
 use Rattle.graphql_core.specs.declared.tokenizer.token.Token.{Token}
 use Rattle.graphql_core.specs.{bad_text, EndOfInput, LexicalError, is_token, Where, Item, item_at, TokenContent, Stream, one_more, last_alone, asked_once}
@@ -53,18 +53,6 @@ pub fresh : (s : Stream) (items : List Item) → items ≡ s.items → s.cuts �
 fresh s items same none = λ i. record { items = sym same i; cuts = none i }
 
 -- ---- how often the stream was asked
-
--- a cursor asked its stream for each item at most once
-pub cut_within : (n : ℕ) (p : Pos) (t : Token) (e : Ending) (s : Stream) → s.cuts ≤ 2 ^ 64 - 1 → s.cuts ≤ (shown n p t e s).spent.stream.cuts
-cut_within n p t Open s bound = omega arith
-cut_within n p t ending.End s bound = le_refl s.cuts
-cut_within n p t (ending.Wrong b) s bound = le_refl s.cuts
-
--- the count at first
-pub cut_since : (n : ℕ) (p : Pos) (t : Token) (e : Ending) (s : Stream) → (shown n p t e s).spent.first_cuts ≡ n
-cut_since n p t Open s = refl
-cut_since n p t ending.End s = refl
-cut_since n p t (ending.Wrong b) s = refl
 
 -- if no token is left, it asked for all items
 pub cut_all : (n : ℕ) (p : Pos) (t : Token) (e : Ending) (s : Stream) → (shown n p t e s).tokens ≡ [] → s ≡ (shown n p t e s).spent.stream

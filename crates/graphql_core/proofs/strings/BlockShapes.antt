@@ -179,17 +179,6 @@ module _ (ls : List (List ℕ)) (k : ℕ) (s t : BlockShape) (within : k < lengt
       let none : prefix_len is_blank_line (get_or ls k [] ∷ []) ≡ 0 = rw text refl in
       first_more ls k within ∙ first_text (prefix_len is_blank_line (take k ls)) k _ none
 
-  -- the shape of the first line, which is not blank
-  pub first_added : is_blank_line (get_or ls k []) ≡ false → k ≡ 0 → t.indent ≡ s.indent → t.first ≡ s.first → t.through ≡ k + 1 → IsShape t (k + 1) ls
-  first_added text start indents firsts throughs =
-      let here : drop 1 (take (k + 1) ls) ≡ [] = ap (λ n. drop 1 (take (n + 1) ls)) start ∙ none_after_first ls in
-      let before : drop 1 (take k ls) ≡ [] = ap (λ n. drop 1 (take n ls)) start in
-      record {
-        least = indents ∙ is.least ∙ ap least before ∙ sym (ap least here);
-        first = firsts ∙ is.first ∙ sym (text_first text);
-        through = throughs ∙ through_text ls k (k + 1) (get_or ls k []) within same_line refl text;
-      }
-
   -- the shape with one more line, which is not blank
   pub text_added : is_blank_line (get_or ls k []) ≡ false → 0 < k → t.indent ≡ Some (least_indent s.indent (indent (get_or ls k []))) → t.first ≡ s.first
       → t.through ≡ k + 1 → IsShape t (k + 1) ls

@@ -34,12 +34,6 @@ plain_byte b h q s =
     rw (ne_eqb b 13 (λ e. omega arith), ne_eqb b 10 (λ e. omega arith), ne_eqb b 9 (λ e. omega arith), ne_eqb b 34 q, ne_eqb b 92 s)
     (let test : nat_lt b 32 ≡ false = grind (arith, nat_tests) in rw test refl)
 
--- a control character that has no short escape
-pub control_byte : (b : ℕ) → b < 32 → b ≢ 13 → b ≢ 10 → b ≢ 9 → unicode_escape b ≡ quoted_byte b
-control_byte b h r n t =
-    let test : nat_lt b 32 ≡ true = grind (arith, nat_tests) in
-    sym (rw (ne_eqb b 13 r, ne_eqb b 10 n, ne_eqb b 9 t, ne_eqb b 34 (λ e. omega arith), ne_eqb b 92 (λ e. omega arith), test) refl)
-
 -- a byte that is escaped is ASCII
 pub escaped_ascii : (b : ℕ) → is_unescaped b ≡ false → b < 128
 escaped_ascii b h = grind (arith, nat_tests)

@@ -1,8 +1,8 @@
 -- The lines of a string, split off one after another, and lines without quotes.
-use Rattle.std.specs.Option.{MatchOption, IfSome}
+use Rattle.std.specs.Option.{MatchOption}
 use Rattle.std.specs.List.{onto_first, list_all, list_any, prefix_len}
 use Rattle.std.proofs.Common.{◌≡◌, ◌≢◌, ◌∙◌, ap, sym, refl, ℕ, zero, suc, ◌≤◌, ◌<◌, Bool, true, false, not, ◌&&◌, ◌||◌, ◌==◌, inl, inr, Option, Some, None}
-use Rattle.std.proofs.Common.{List, [], ◌∷◌, Bor, length, take, drop, length-drop, arith, eqb-true}
+use Rattle.std.proofs.Common.{List, [], ◌∷◌, Bor, length, take, drop, arith, eqb-true}
 use Rattle.graphql_core.specs.{is_plain_in_block, is_blank_line, lines_of, is_empty, ends_in_return}
 use Rattle.std.specs.Str.{IsUtf8, IsCharBoundary}
 use Rattle.std.proofs.lemmas.Bool.{cases_Bool}
@@ -53,12 +53,6 @@ pub line_parts : (text : List ℕ) (n : ℕ) (line after : List ℕ) (r : Option
     → MatchOption r (lines_of text ≡ line ∷ []) (λ x. lines_of text ≡ line ∷ lines_of x.now)
 line_parts text n line after None e front back h = only_line text n e (λ rest f. h rest (back ∙ f)) ∙ ap (λ l. l ∷ []) (sym front)
 line_parts text n line after (Some x) e front back h = line_before text n x.now e (sym back ∙ h) ∙ ap (λ l. l ∷ lines_of x.now) (sym front)
-
--- what follows a line feed is shorter
-pub line_shorter : (text after : List ℕ) (n : ℕ) (r : Option (Bor (List ℕ))) → after ≡ drop n text
-    → MatchOption r ((rest : List ℕ) → after ≢ 10 ∷ rest) (λ x. after ≡ 10 ∷ x.now) → IfSome r (λ x. length x.now < length text)
-line_shorter text after n None back h = tt
-line_shorter text after n (Some x) back h = omega (arith, ap length h, ap length back, length-drop n text)
 
 -- a line is empty or not blank, and does not end in a carriage return
 abbrev pub is_whole : List ℕ → Bool

@@ -7,7 +7,7 @@ use Rattle.std.proofs.lemmas.Cmp.{nat_list_cmp_total}
 use Rattle.std.specs.Cmp.Lexicographic.{slice_cmp}
 use Rattle.std.specs.List.{AllByRecursion}
 use Rattle.std.specs.List.Sorted.{IsStrictlySortedBy}
-use Rattle.graphql_core.specs.{ValueTree, ValueMembers, keys, AreInKeyOrder, put, no_members, member, value_view, members_view}
+use Rattle.graphql_core.specs.{keys, AreInKeyOrder, put, member, value_view, members_view}
 use Rattle.graphql_core.specs.declared.common.tree.Value.{Value}
 
 -- keys that are compared by their bytes
@@ -49,35 +49,3 @@ module _ {N V : Type 0} (bytes : V → List ℕ) (cmp : V → V → Ordering) (l
   unfolding IsStrictlySortedBy
   in_key_order [] h = tt
   in_key_order (e ∷ es) h = (above_all e.0 es h.0, in_key_order es h.1)
-
--- ---- `put` keeps the order
-
-abbrev AreAbove : List ℕ → ValueMembers → Type 0
-AreAbove k ms = AllByRecursion (λ y. slice_cmp nat_cmp k y ≡ Less) (keys ms)
-
-above_match : (o : Ordering) (j : List ℕ) (a b c : ValueMembers) → AreAbove j a → AreAbove j b → AreAbove j c → AreAbove j (match_ordering o a b c)
-above_match Less j a b c p q r = p
-above_match Equal j a b c p q r = q
-above_match Greater j a b c p q r = r
-
-put_above : (j k : List ℕ) (v : ValueTree) (ms : ValueMembers) → slice_cmp nat_cmp j k ≡ Less → AreAbove j ms → AreAbove j (put k v ms)
-put_above j k v no_members h all = (h, tt)
-put_above j k v (member l w ms) h all = above_match (slice_cmp nat_cmp k l) j _ _ _ (h, all) all (all.0, put_above j k v ms h all.1)
-
--- what is above a key is above each lesser key
-above_more : (j k : List ℕ) (ms : ValueMembers) → slice_cmp nat_cmp j k ≡ Less → AreAbove k ms → AreAbove j ms
-above_more j k no_members h all = tt
-above_more j k (member l w ms) h all = (nat_list_cmp_total.trans j k l h all.0, above_more j k ms h all.1)
-
-order_match : (o p : Ordering) → o ≡ p → (a b c : ValueMembers) → (p ≡ Less → AreInKeyOrder a) → (p ≡ Equal → AreInKeyOrder b)
-    → (p ≡ Greater → AreInKeyOrder c) → AreInKeyOrder (match_ordering o a b c)
-order_match Less p e a b c f g h = f (sym e)
-order_match Equal p e a b c f g h = g (sym e)
-order_match Greater p e a b c f g h = h (sym e)
-
-pub put_in_order : (k : List ℕ) (v : ValueTree) (ms : ValueMembers) → AreInKeyOrder ms → AreInKeyOrder (put k v ms)
-unfolding IsStrictlySortedBy
-put_in_order k v no_members h = (tt, tt)
-put_in_order k v (member l w ms) h =
-    order_match _ (slice_cmp nat_cmp k l) refl _ _ _ (λ e. ((e, above_more k l ms e h.0), h)) (λ e. h) (λ e.
-    (put_above l k v ms (nat_list_cmp_total.antisymm l k ∙ ap ordering_reverse e) h.0, put_in_order k v ms h.1))

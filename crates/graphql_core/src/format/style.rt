@@ -1,5 +1,5 @@
 //! The style of the output.
-ghost use Rattle.std.specs.Prelude.{◌≡◌, ℕ, ◌<◌, ◌^◌};
+ghost use Rattle.std.specs.Prelude.{◌≡◌, ◌<◌, ◌^◌};
 ghost use Rattle.graphql_core.specs.layouts.Style.{with_indent, with_multiline};
 
 use std::marker::Model;

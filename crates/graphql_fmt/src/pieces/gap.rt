@@ -1,5 +1,4 @@
 //! What comes between two pieces.
-ghost use Rattle.std.specs.Prelude.{◌≡◌};
 ghost use Rattle.graphql_fmt.specs.steps.Joining.{IsApart, IsApartToken, EndsLine, gap_bytes};
 
 use crate::pieces::piece::{Piece, PieceKind};

@@ -1,5 +1,5 @@
 //! The parts of definitions: descriptions, names of types, fields, input values and values of enums.
-ghost use Rattle.std.specs.Prelude.{◌≡◌, ◌++◌, codes, OnOk, map, option_map, string_bytes};
+ghost use Rattle.std.specs.Prelude.{◌++◌, codes, OnOk, map, option_map, string_bytes};
 ghost use Rattle.graphql_core.specs.{place_of};
 ghost use Rattle.graphql_schema.specs.Views.{input_value_view, field_view, enum_value_view};
 ghost use Rattle.graphql_json.specs.steps.Pieces.{Appends};

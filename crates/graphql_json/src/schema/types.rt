@@ -1,5 +1,5 @@
 //! Types and their extensions.
-ghost use Rattle.std.specs.Prelude.{◌≡◌, ◌++◌, codes, OnOk, map};
+ghost use Rattle.std.specs.Prelude.{◌++◌, codes, OnOk, map};
 ghost use Rattle.graphql_core.specs.{directives_view};
 ghost use Rattle.graphql_schema.specs.Views.{field_view, type_definition_view, type_extension_view};
 ghost use Rattle.graphql_json.specs.steps.Pieces.{Appends};

@@ -1,6 +1,5 @@
 //! The callers that docs/CALLING.md and docs/MIGRATING.md show, at concrete text types, one of them the tests' own.
-ghost use Rattle.std.specs.Prelude.{IfOk, IfSome, Err, ◌≡◌, ◌<◌, ◌⊎◌, length, nat_eq};
-ghost use Rattle.std.specs.Prelude.{string_bytes, refl};
+ghost use Rattle.std.specs.Prelude.{IfOk, IfSome, Err, ◌≡◌, ◌<◌, ◌⊎◌, length, string_bytes, refl};
 ghost use Rattle.std.proofs.Common.{rules};
 ghost use Rattle.graphql_core.specs.{Refusal, no_memory, max_length, too_long};
 ghost use Rattle.graphql_query.specs.{DocumentTree, document_view, erase, IsDocumentOf, IsReadBack, layout};

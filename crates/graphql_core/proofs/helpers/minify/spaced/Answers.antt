@@ -1,9 +1,8 @@
-use Rattle.std.proofs.Common.{◌≡◌, ℕ, Bool, List, [], ◌∷◌, ◌++◌, Option, Some, None, Result, Ok, Err, refl, sym, ap, ◌∙◌, subst, append_assoc, append-nil}
+use Rattle.std.proofs.Common.{◌≡◌, ℕ, Bool, List, ◌∷◌, ◌++◌, Some, Ok, refl, sym, ap, ◌∙◌, subst, append_assoc}
 use Rattle.graphql_core.specs.declared.tokenizer.token.Token.{Token as Cut}
-use Rattle.graphql_core.specs.{NextLexeme, EndOfInput, Item, item_at, Where, HasItems, Token, NextItem, IsEnd, split, token_of, IsBadPlaceOf, IsMinified}
+use Rattle.graphql_core.specs.{NextLexeme, Item, Token, NextItem, IsEnd, split, token_of, IsBadPlaceOf}
 use Rattle.graphql_core.specs.{is_spaced, space_if, spaced, spaced_after, kind_number}
 use Rattle.graphql_core.specs.declared.position.Pos.{Pos}
-use Rattle.graphql_core.specs.declared.tokenizer.token.Bad.{Bad}
 use Rattle.graphql_core.proofs.{next_of, spaced_alike, ends_alike, spaced_first}
 use Rattle.graphql_core.proofs.helpers.minify.spaced.Goals.{in-Some, in-None+in-Ok-Some}
 use Rattle.graphql_core.proofs.helpers.minify.spaced.Goals as goal
@@ -32,29 +31,6 @@ module _ (old new : List Item) (t : Cut) (next : NextLexeme old t new) where
 
   ends_after : IsEnd (split old).last → IsEnd (split new).last
   ends_after end = let (w, more, first, same) = next in ends_alike more new (sym same) (subst (λ (l : List Item). IsEnd (split l).last) first end)
-
--- the next item is the end
-at_end : (old was new : List Item) (r : Result (Option Cut) Bad) → was ≡ old → NextItem was r new → r ≡ Ok None
-    → (w : Where) × (old ≡ item_at EndOfInput w ∷ [])
-at_end old was new r same next is =
-    let (w, e, stays) = subst (λ (x : Result (Option Cut) Bad). NextItem was x new) is next in (w, sym same ∙ e)
-
--- the next item is a lexical error
-not_at_end : (old was new : List Item) (r : Result (Option Cut) Bad) (bad : Bad) → was ≡ old → NextItem was r new → r ≡ Err bad → IsEnd (split old).last → ⊥
-not_at_end old was new r bad same next is end =
-    let (w, e, stays) = subst (λ (x : Result (Option Cut) Bad). NextItem was x new) is next in
-    subst (λ (l : List Item). IsEnd (split l).last) (sym same ∙ e) end
-
--- at the end, all tokens are written
-all_written : (source text all : List ℕ) (items left : List Item) (before : ℕ) (w : Where) → HasItems source items → left ≡ item_at EndOfInput w ∷ []
-    → spaced (split items).tokens ≡ text ++ spaced_after before (split left).tokens → (IsEnd (split left).last → IsEnd (split items).last)
-    → all ≡ text → IsMinified source all
-all_written source text all items left before w has last is ends same = (
-  items,
-  has,
-  ends (subst (λ (l : List Item). IsEnd (split l).last) (sym last) tt),
-  same ∙ sym (append-nil text) ∙ ap (λ (l : List Item). text ++ spaced_after before (split l).tokens) (sym last) ∙ sym is,
-)
 
 pub tokens-init : goal.tokens-init
 tokens-init c =
@@ -86,20 +62,6 @@ tokens-preserved c =
       ends = λ items has end. c.tokens.invariant.ends items has (ends_before c.tokens.tokens new cut following end);
       ends_left = λ items has end. ends_after c.tokens.tokens new cut following (c.tokens.invariant.ends_left items has end);
     }
-
-pub returns-in-Ok-None-clause-minified : goal.returns-in-Ok-None-clause-minified
-returns-in-Ok-None-clause-minified c =
-    let all = c.new-tokens.result in
-    let has = c.new-tokens.ensures.items in
-    let (w, last) = at_end c.tokens.tokens _ _ _ (c.in-None.ensures.stays refl) c.slow_token-after.ensures
-    (c.in-Ok-None.is ∙ ap Ok (rw c.in-Ok-None.is at c.in-Ok-None.field-0-is)) in
-    all_written c.args.source.now c.tokens.text _ all c.tokens.tokens (kind_number c.tokens.before) w has last (c.tokens.invariant.text all has)
-    (c.tokens.invariant.ends all has) c.into_string.ensures
-
-pub fault_of_tokens-requires : goal.fault_of_tokens-requires
-fault_of_tokens-requires c end =
-    not_at_end c.tokens.tokens _ _ _ c.in-Err.field-0 (c.in-None.ensures.stays refl) c.slow_token-after.ensures c.in-Err.is
-    (c.tokens.invariant.ends_left c.new.result c.new.ensures.items end)
 
 pub returns-in-Err-clause-first_error : goal.returns-in-Err-clause-first_error
 returns-in-Err-clause-first_error c items has =

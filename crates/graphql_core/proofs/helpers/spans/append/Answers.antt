@@ -17,13 +17,6 @@ next g c = elim c.match-fast_token.branch [
       (w.in-Ok-Some.is ∙ ap Ok (rw w.in-Ok-Some.is at w.in-Ok-Some.field-0-is)))
 ]
 
-pub tokens-init : goal.tokens-init
-tokens-init g c = record {
-  appends = λ text left. record { marks = λ marked. marked; left = left; items = refl };
-  count = refl;
-  capacity = refl;
-}
-
 pub span_of-span-requires : goal.span_of-span-requires
 span_of-span-requires g c =
     let (text, first) = c.requires.left in
@@ -82,29 +75,7 @@ returns-in-Ok-None-clause-appends g c text left =
     let (w, is, same) = rw none at c.slow_token-after.ensures in
     rw (same ∙ c.in-None.ensures.stays refl) (c.tokens.invariant.appends text left)
 
-pub returns-in-Ok-None-clause-count : goal.returns-in-Ok-None-clause-count
-returns-in-Ok-None-clause-count g c =
-    let none = c.in-Ok-None.is ∙ ap Ok (rw c.in-Ok-None.is at c.in-Ok-None.field-0-is) in
-    let (w, is, same) = rw none at c.slow_token-after.ensures in
-    rw (same ∙ c.in-None.ensures.stays refl) c.tokens.invariant.count
-
-pub returns-in-Ok-None-clause-last : goal.returns-in-Ok-None-clause-last
-returns-in-Ok-None-clause-last g c less =
-    let none = c.in-Ok-None.is ∙ ap Ok (rw c.in-Ok-None.is at c.in-Ok-None.field-0-is) in
-    let (w, is, same) = rw none at c.slow_token-after.ensures in
-    (w, same ∙ is)
-
 pub returns-in-Err-clause-appends : goal.returns-in-Err-clause-appends
 returns-in-Err-clause-appends g c text left =
     let (w, is, same) = rw c.in-Err.is at c.slow_token-after.ensures in
     rw (same ∙ c.in-None.ensures.stays refl) (c.tokens.invariant.appends text left)
-
-pub returns-in-Err-clause-count : goal.returns-in-Err-clause-count
-returns-in-Err-clause-count g c =
-    let (w, is, same) = rw c.in-Err.is at c.slow_token-after.ensures in
-    rw (same ∙ c.in-None.ensures.stays refl) c.tokens.invariant.count
-
-pub returns-in-Err-clause-last : goal.returns-in-Err-clause-last
-returns-in-Err-clause-last g c less =
-    let (w, is, same) = rw c.in-Err.is at c.slow_token-after.ensures in
-    (w, same ∙ is)

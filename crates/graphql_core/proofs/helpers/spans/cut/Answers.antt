@@ -19,9 +19,6 @@ batches-init g c =
       some = omega (arith, c.in_ok-spans.ensures.exact, c.in_ok-spans.ensures.len);
     }
 
-pub append-after-requires : goal.append-after-requires
-append-after-requires g c = record { left = (c.args.text.now, c.batches.invariant.left) }
-
 pub returns-then-len-capacity : goal.returns-then-len-capacity
 returns-then-len-capacity g c items has =
     let text = c.args.text.now in

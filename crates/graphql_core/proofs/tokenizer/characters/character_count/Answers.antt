@@ -4,11 +4,6 @@ use Rattle.graphql_core.specs.{continues_character}
 use Rattle.graphql_core.proofs.{continuing_bytes}
 use Rattle.graphql_core.proofs.tokenizer.characters.character_count.Goals as goal
 
-pub overflow_sub-result : goal.overflow_sub-result
-overflow_sub-result c =
-    let same = ap (count_by continues_character) c.as_bytes.ensures.value in
-    omega (arith, same, c.continuing_count.ensures, continuing_bytes c.args.text.now c.utf8.text)
-
 pub returns-clause-is : goal.returns-clause-is
 returns-clause-is c =
     let same = ap (count_by continues_character) c.as_bytes.ensures.value in

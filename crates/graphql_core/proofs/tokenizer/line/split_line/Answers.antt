@@ -1,13 +1,7 @@
 use Rattle.std.proofs.Common.{arith}
 use Rattle.std.proofs.lemmas.Str.Pattern.{strip_prefix_char}
-use Rattle.graphql_core.proofs.{line_parts, line_shorter}
+use Rattle.graphql_core.proofs.{line_parts}
 use Rattle.graphql_core.proofs.tokenizer.line.split_line.Goals as goal
-
-pub returns-clause-shorter : goal.returns-clause-shorter
-returns-clause-shorter c =
-    let after = c.split_at.result.1.now in
-    line_shorter c.args.text.now after _ c.strip_prefix.result c.split_at.ensures.back
-    (strip_prefix_char 10 after c.strip_prefix.result c.strip_prefix.ensures.cases (omega arith))
 
 pub returns-clause-lines : goal.returns-clause-lines
 returns-clause-lines c =

@@ -1,12 +1,8 @@
 use Rattle.std.proofs.Common.{◌≡◌, refl, [], ◌∙◌}
 use Rattle.graphql_core.specs.{directives_symbol, directive_view}
-use Rattle.graphql_core.proofs.{begun, fills, whole, fails_last}
+use Rattle.graphql_core.proofs.{begun, fills, whole}
 use Rattle.graphql_core.proofs.common.read.directives.directives.Goals.{then-sees_punctuator+in_ok-reserve_exact, else-sees_punctuator}
 use Rattle.graphql_core.proofs.common.read.directives.directives.Goals as goal
-
-pub returns-in_err-read_many : goal.returns-in_err-read_many
-returns-in_err-read_many g c =
-    fails_last _ _ _ _ (begun directives_symbol (λ x. refl)) c.in_err-read_many.ensures c.from_residual-in_err-read_many.ensures.1
 
 pub returns : goal.returns
 returns g c =

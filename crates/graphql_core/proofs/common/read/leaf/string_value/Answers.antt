@@ -8,13 +8,6 @@ pub returns-in_err-token : goal.returns-in_err-token
 returns-in_err-token g c = not_shown g.S.TokenSource.bytes StringValue _ _ _ c.in_err-token.field-0.0 c.in_err-token.ensures
     c.from_residual.ensures.1
 
-pub unquote_string-requires : goal.unquote_string-requires
-unquote_string-requires g c =
-    let t = c.in_ok-token.token in
-    let n = c.in_ok-token.ensures in
-    let spelled = next_spelled g.S.TokenSource.bytes StringValue (g.S.TokenSource.items c.args.source.now) t n in
-    (without_ends 1 (g.S.TokenSource.bytes t.text), c.as_str.ensures ∙ spelled)
-
 pub returns-in-Ok : goal.returns-in-Ok
 returns-in-Ok g c =
     let t = c.in_ok-token.token in

@@ -14,10 +14,6 @@ returns-in_err-read_enclosed g c k m n s o =
     let lead = there (begun_by s) (sym c.sees_punctuator.ensures ∙ c.if-not-sees_punctuator.false) in
     fails_last _ _ _ _ lead (c.in_err-read_enclosed.ensures.reads k m s) c.from_residual.ensures.1
 
-pub split_list-requires : goal.split_list-requires
-split_list-requires g c =
-    omega (arith, c.in_ok-read_enclosed.ensures.grows, c.len-count.ensures, c.args.others.now.ok.0)
-
 pub returns-in_err-split_list : goal.returns-in_err-split_list
 returns-in_err-split_list g c k m n s o =
     gives_error_by reason_of _ _ _ _ _ _ Memory (c.in_ok-read_enclosed.ensures.reads k m s).1.1 c.from_residual-in_err-split_list.ensures.1

@@ -1,6 +1,5 @@
-use Rattle.std.proofs.Common.{sym, ap, ◌∙◌, [], ◌∷◌, ◌++◌, map, arith}
-use Rattle.graphql_core.specs.{each_of}
-use Rattle.graphql_core.proofs.{Stops-before, Stops-after, opened, list_begun, adds_more, took, past, taken_both, whole, fails, lacks, lacks_last, no_fewer}
+use Rattle.std.proofs.Common.{sym, ap, ◌∙◌, [], ◌∷◌, ◌++◌, map}
+use Rattle.graphql_core.proofs.{Stops-before, Stops-after, opened, list_begun, adds_more, took, past, taken_both, whole, fails, lacks, lacks_last}
 use Rattle.graphql_core.proofs.common.read.lists.read_enclosed.Goals as goal
 
 pub returns-in_err-expect_punctuator-clause-reads : goal.returns-in_err-expect_punctuator-clause-reads
@@ -29,12 +28,3 @@ returns-clause-reads g c k m s =
     let (u, closes, at) = c.in_ok-expect_punctuator-2.ensures in
     whole (past (opened s c.in_ok-expect_punctuator.ensures.1) (taken_both takes turns)) (took closes (s.closes u))
     (adds_more e.view _ _ _ (e.means x ∷ []) _ one more ∙ ap (λ l. map e.view c.args.items.now.items ++ l) (sym (s.means _ u x xs turns.0)))
-
-pub returns-clause-grows : goal.returns-clause-grows
-returns-clause-grows g c =
-    let (x, first, adds) = c.in_ok-read.ensures.reads in
-    let (y, others, more) = c.in_ok-read_many.ensures in
-    let e = g.E.Elements in
-    let one = no_fewer e.view c.args.items.now.items c.read.new.items.items (e.means x ∷ []) adds in
-    let all = no_fewer e.view c.read.new.items.items c.read_many.new.items.items (each_of e.means y) more in
-    omega (arith, one, all)

@@ -1,4 +1,4 @@
-use Rattle.std.proofs.Common.{◌≡◌, sym, ap, ◌∙◌, drop, arith, rules}
+use Rattle.std.proofs.Common.{arith, rules}
 use Rattle.std.specs.Str.Lines.{lines}
 use Rattle.graphql_core.proofs.{some_left, left_after}
 use Rattle.graphql_core.proofs.common.strings.block.after_lines.Goals as goal
@@ -13,8 +13,3 @@ lines-preserved c = record {
   left = left_after (lines c.args.content.now) c.lines.index c.lines.rest.now c.first_line.result.0.now c.first_line.result.1.now
       c.lines.invariant.left c.first_line.ensures.lines;
 }
-
-pub returns : goal.returns
-returns c =
-    let all : c.lines.index ≡ c.args.count = omega arith in
-    sym c.lines.invariant.left ∙ ap (λ n. drop n (lines c.args.content.now)) all

@@ -1,17 +1,8 @@
-use Rattle.std.proofs.Common.{◌≡◌, ◌∙◌, length, refl, sym, subst, eqb-true, arith, rules}
+use Rattle.std.proofs.Common.{◌≡◌, ◌∙◌, length, sym, subst, eqb-true, arith, rules}
 use Rattle.std.specs.Str.Lines.{lines}
 use Rattle.graphql_core.specs.steps.BlockShape.{IsShape}
 use Rattle.graphql_core.proofs.{is_within, line_at, left_after, none_left}
 use Rattle.graphql_core.proofs.common.strings.block.shape_of.Goals as goal
-
-pub lines-init : goal.lines-init
-lines-init c = record {
-  text = search rules;
-  short = omega arith;
-  within = omega arith;
-  left = refl;
-  is = record { least = refl; first = refl; through = refl };
-}
 
 pub lines-preserved : goal.lines-preserved
 lines-preserved c =

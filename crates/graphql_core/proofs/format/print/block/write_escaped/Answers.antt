@@ -1,10 +1,7 @@
-use Rattle.std.proofs.Common.{◌∷◌, ◌++◌, ◌∙◌, [], take, drop, arith, rules, refl, sym, ap, append_assoc}
+use Rattle.std.proofs.Common.{◌∷◌, ◌++◌, ◌∙◌, [], take, drop, arith, rules, sym, ap, append_assoc}
 use Rattle.graphql_core.specs.{escaped_quotes}
 use Rattle.graphql_core.proofs.{and_alone, and_last, and_part, alike, escaped_at, escaped_none, unquoted}
 use Rattle.graphql_core.proofs.format.print.block.write_escaped.Goals as goal
-
-pub quotes-init : goal.quotes-init
-quotes-init g c = record { text = search rules; written = ([], g.met.S.Sink.took_nil _, refl) }
 
 pub quotes-preserved : goal.quotes-preserved
 quotes-preserved g c =

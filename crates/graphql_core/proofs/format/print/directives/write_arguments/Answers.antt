@@ -1,8 +1,7 @@
 use Rattle.std.proofs.Common.{arith, ◌∙◌, ◌++◌, ◌^◌, ap, sym, refl, codes}
 use Rattle.std.proofs.lemmas.List.{at_drop_all}
-use Rattle.std.proofs.lemmas.Grind.{common_steps}
-use Rattle.graphql_core.specs.{text_of, AreLawfulArguments, value_view, arguments_view, parts, value_layout, pair_layout, each_argument}
-use Rattle.graphql_core.proofs.{argument_here, alike, and_last, all_done, on_ok, all_hold, narrower, pair_text}
+use Rattle.graphql_core.specs.{text_of, value_view, arguments_view, parts, value_layout, pair_layout, each_argument}
+use Rattle.graphql_core.proofs.{argument_here, alike, and_last, all_done, narrower, pair_text}
 use Rattle.graphql_core.proofs.{enclosed_text, and_next, some_items, arguments_fit, filled_layout}
 use Rattle.graphql_core.proofs.format.print.directives.write_arguments.Goals as goal
 
@@ -73,15 +72,3 @@ returns-clause-text g c =
     and_last g.S.Sink.took g.met.S.Sink.took_more _ _ _ _ _ _ _ all c.write_closer.ensures
     (enclosed_text style c.args.margin margin (codes "(") (codes ")") (λ m. each_argument style m (arguments_view bytes xs)) c.inside-indented.ensures
     ∙ ap text_of (filled_layout (λ a. (bytes a.0, value_view bytes a.1)) style c.args.margin xs some))
-
-pub returns-clause-lawful : goal.returns-clause-lawful
-returns-clause-lawful g c =
-    on_ok c.write_closer.result
-    (all_hold (arguments_view g.N.Names.bytes) c.args.arguments.now c.args.arguments.now c.arguments.argument-index (omega arith) refl
-    AreLawfulArguments tt c.arguments.invariant.lawful)
-
-pub returns-then-is_empty-clause-text : goal.returns-then-is_empty-clause-text
-returns-then-is_empty-clause-text g c = grind (arith, common_steps)
-
-pub returns-then-is_empty-clause-lawful : goal.returns-then-is_empty-clause-lawful
-returns-then-is_empty-clause-lawful g c = grind (arith, common_steps)

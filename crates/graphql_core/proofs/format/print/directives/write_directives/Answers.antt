@@ -1,18 +1,7 @@
-use Rattle.std.proofs.Common.{arith, ◌∙◌, ◌++◌, ◌^◌, ap, sym, refl, []}
-use Rattle.graphql_core.specs.{text_of, AreLawfulDirectives, directive_view, directives_view, directives_layout}
-use Rattle.graphql_core.proofs.{directive_here, and_part, all_hold, narrower, directives_more}
+use Rattle.std.proofs.Common.{arith, ◌∙◌, ◌++◌, ◌^◌, ap, sym}
+use Rattle.graphql_core.specs.{text_of, directive_view, directives_layout}
+use Rattle.graphql_core.proofs.{directive_here, and_part, narrower, directives_more}
 use Rattle.graphql_core.proofs.format.print.directives.write_directives.Goals as goal
-
-pub directives-init : goal.directives-init
-directives-init g c = record { bound = c.requires; wrote = ([], g.met.S.Sink.took_nil _, refl); lawful = λ h. h }
-
-pub write_directive-requires : goal.write_directive-requires
-write_directive-requires g c =
-    let here = directive_here _ _ g.N.Names.bytes c.args.directives.now c.directives.directive-index c.directive-item.result
-    (omega arith) c.directive-item.is in
-    let bound = rw here at c.directives.invariant.bound in
-    let fits = narrower _ _ _ c.args.style.now.indent (2 ^ 32) bound in
-    fits.0
 
 pub directives-preserved : goal.directives-preserved
 directives-preserved g c =
@@ -33,8 +22,3 @@ directives-preserved g c =
           ∙ ap (λ ds. text_of (directives_layout style margin ds)) (sym here)) ∙ rest);
       lawful = λ h. c.directives.invariant.lawful (rw here (c.in_ok-write_directive.ensures.lawful, h));
     }
-
-pub returns-clause-lawful : goal.returns-clause-lawful
-returns-clause-lawful g c =
-    all_hold (directives_view g.N.Names.bytes) c.args.directives.now c.args.directives.now c.directives.directive-index (omega arith) refl
-    AreLawfulDirectives tt c.directives.invariant.lawful

@@ -1,5 +1,4 @@
 use Rattle.std.proofs.Common.{◌-◌, ◌^◌, ◌∙◌, arith, refl, sym, ap, min}
-use Rattle.std.proofs.lemmas.Grind.{common_steps}
 use Rattle.graphql_core.specs.{value_view, arguments_view, most_levels}
 use Rattle.graphql_core.proofs.{all_counted, argument_here, some_items, filled_levels}
 use Rattle.graphql_core.proofs.format.print.levels.levels_in_arguments.Goals as goal
@@ -26,6 +25,3 @@ returns g c =
     in
     c.levels_around.ensures (most_levels style (arguments_view bytes xs)) most
     ∙ ap (λ n. min n (2 ^ 64 - 1)) (sym (filled_levels (λ a. (bytes a.0, value_view bytes a.1)) style xs some))
-
-pub returns-then-is_empty : goal.returns-then-is_empty
-returns-then-is_empty g c = grind (arith, common_steps)

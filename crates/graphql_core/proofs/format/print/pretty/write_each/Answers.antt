@@ -4,12 +4,6 @@ use Rattle.std.specs.List.{flat_map}
 use Rattle.graphql_core.proofs.{text_append, and_part, item_here, narrower}
 use Rattle.graphql_core.proofs.format.print.pretty.write_each.Goals as goal
 
-pub write-requires : goal.write-requires
-write-requires g c =
-    let l = c.parts in
-    let here = item_here c.args.parts.now l.part-index c.part-item.result (omega arith) c.part-item.is in
-    (narrower _ _ _ c.args.style.now.indent (2 ^ 32) (rw here at l.invariant.bound)).0
-
 pub parts-preserved : goal.parts-preserved
 parts-preserved g c =
     let l = c.parts in

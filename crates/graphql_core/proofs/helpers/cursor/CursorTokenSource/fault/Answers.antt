@@ -5,6 +5,3 @@ pub returns-in-Open : goal.returns-in-Open
 returns-in-Open g c =
     let s = c.self.inside in
     rw (← c.self.view_is, c.in-Open.is) (c.unexpected.ensures (items_since s.first_cuts (record { items = s.tokens; cuts = s.cuts })))
-
-pub returns-in-Wrong : goal.returns-in-Wrong
-returns-in-Wrong g c = rw (← c.self.view_is, c.in-Wrong.is) c.bad_place.ensures

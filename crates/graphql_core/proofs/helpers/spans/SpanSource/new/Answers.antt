@@ -1,4 +1,4 @@
-use Rattle.std.proofs.Common.{sym, arith}
+use Rattle.std.proofs.Common.{arith}
 use Rattle.graphql_core.specs.{Marks}
 use Rattle.std.proofs.lemmas.List.Elements.{All-same}
 use Rattle.graphql_core.proofs.lexical.{has_items}
@@ -12,6 +12,3 @@ front_of-front-requires g c =
 pub invariant_of-result : goal.invariant_of-result
 invariant_of-result g c =
     ((c.in_ok-spans.ensures _ (has_items c.args.text.now)).marks, rw c.as_slice.ensures.value at c.front_of-front.ensures, omega arith)
-
-pub returns : goal.returns
-returns g c items has = sym (c.in_ok-spans.ensures items has).items

@@ -3,10 +3,6 @@ use Rattle.graphql_core.specs.{Where, is_too_deep, past, past_token}
 use Rattle.graphql_core.proofs.{one_bracket, few_open, token_then_rest}
 use Rattle.graphql_core.proofs.tokenizer.tokens.Tokens.fast_token.Goals as goal
 
-pub position_after_flat-end-requires-clause-flat : goal.position_after_flat-end-requires-clause-flat
-position_after_flat-end-requires-clause-flat c =
-    rw c.split_at.ensures.front c.in_ok-taken.ensures.flat
-
 pub invariant_of-self : goal.invariant_of-self
 invariant_of-self c =
     let s = c.self.inside in

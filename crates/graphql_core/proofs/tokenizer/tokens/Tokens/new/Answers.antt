@@ -1,10 +1,7 @@
-use Rattle.std.proofs.Common.{refl, sym, ap, ◌∙◌, arith, zero-add}
+use Rattle.std.proofs.Common.{refl, sym, ap, ◌∙◌, zero-add}
 use Rattle.graphql_core.specs.{start, depth_of}
 use Rattle.graphql_core.proofs.{has_items, items_only, next_place_items}
 use Rattle.graphql_core.proofs.tokenizer.tokens.Tokens.new.Goals as goal
-
-pub invariant_of-result : goal.invariant_of-result
-invariant_of-result c = (omega arith, omega arith, omega arith, omega arith, omega arith, c.skip_ignored.ensures.first, omega arith)
 
 pub returns-clause-items : goal.returns-clause-items
 returns-clause-items c =

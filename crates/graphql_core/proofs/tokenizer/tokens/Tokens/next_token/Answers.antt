@@ -5,10 +5,6 @@ use Rattle.graphql_core.specs.steps.Front.{AtEnd, Takes, Stops}
 use Rattle.graphql_core.proofs.{items_at, last_some, taken_front, one_bracket, few_open, end_front, stops_front, token_then_rest}
 use Rattle.graphql_core.proofs.tokenizer.tokens.Tokens.next_token.Goals as goal
 
-pub position_after_token-end-requires-clause-flat : goal.position_after_token-end-requires-clause-flat
-position_after_token-end-requires-clause-flat c =
-    rw c.split_at.ensures.front c.in-Some.ensures.flat
-
 pub invariant_of-self : goal.invariant_of-self
 invariant_of-self c =
     let s = c.self.inside in

@@ -1,10 +1,7 @@
 use Rattle.std.proofs.Common.{Some, refl, ap, ◌∙◌, arith}
 use Rattle.graphql_core.specs.steps.BlockShape.{least_indent}
-use Rattle.graphql_core.proofs.{first_added, text_added}
+use Rattle.graphql_core.proofs.{text_added}
 use Rattle.graphql_core.proofs.common.strings.block.BlockShape.with_text_line.Goals as goal
-
-pub returns-then-index-eq0 : goal.returns-then-index-eq0
-returns-then-index-eq0 c ls within text spaces is = first_added ls c.args.index c.args.self _ within is text (omega arith) refl refl (omega arith)
 
 pub returns : goal.returns
 returns c ls within text spaces is =

@@ -1,11 +1,6 @@
 use Rattle.graphql_core.specs.{DirectiveTree, Layout, arguments_levels, directive_layout, directive_view}
-use Rattle.graphql_core.proofs.{displays, fits_outside}
+use Rattle.graphql_core.proofs.{displays}
 use Rattle.graphql_core.proofs.format.print.display.DirectiveDisplay.fmt.Goals as goal
-
-pub write_directive-requires : goal.write_directive-requires
-write_directive-requires g c =
-    let levels = rw c.deref.ensures.value at c.levels_in_arguments.ensures in
-    fits_outside c.default-style.result c.levels_in_arguments.result _ levels c.in_ok-check_width.ensures
 
 pub returns : goal.returns
 returns g c =

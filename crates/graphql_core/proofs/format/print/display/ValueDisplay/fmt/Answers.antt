@@ -1,9 +1,6 @@
 use Rattle.graphql_core.specs.{Layout, value_layout, value_levels, value_view}
-use Rattle.graphql_core.proofs.{displays, fits_outside}
+use Rattle.graphql_core.proofs.{displays}
 use Rattle.graphql_core.proofs.format.print.display.ValueDisplay.fmt.Goals as goal
-
-pub write_value-requires : goal.write_value-requires
-write_value-requires g c = fits_outside c.default-style.result c.levels_in_value.result _ c.levels_in_value.ensures c.in_ok-check_width.ensures
 
 pub returns : goal.returns
 returns g c =
