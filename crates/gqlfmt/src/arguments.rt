@@ -184,11 +184,10 @@ fn inputs_of(
         let name = stdin_path.unwrap_or(STANDARD_INPUT);
         return Ok(Inputs::Standard(String::from_str(alloc, name)?));
     }
-    let mut owned = Vec::new(alloc);
-    for path in paths {
-        owned.push(String::from_str(alloc, path)?)?;
-    }
-    Ok(Inputs::Paths(owned))
+    let paths = paths
+        .iter()
+        .map(|path| -> Result<String, AllocError> { String::from_str(alloc, path) });
+    Ok(Inputs::Paths(paths.try_collect(alloc)?))
 }
 
 /// Reads the arguments, of which the first is the program's name. The error is also help or the version, if the

@@ -43,11 +43,7 @@ struct Hunk {
 
 /// The lines of a text, each with its line end.
 fn lines_of<'a>(alloc: Global, text: &'a str) -> Result<Vec<&'a str>, AllocError> {
-    let mut lines = Vec::new(alloc);
-    for line in text.split_inclusive('\n') {
-        lines.push(line)?;
-    }
-    Ok(lines)
+    text.split_inclusive('\n').collect(alloc)
 }
 
 /// The first elements, at most this many.
@@ -87,17 +83,22 @@ fn meet(old: &[&str], new: &[&str]) -> bool {
     }
 }
 
+/// How many of these lines ahead are removed if both texts meet after them. `None` if they do not meet.
+fn meeting(old: &[&str], new: &[&str], ahead: usize) -> Option<usize> {
+    (0..=ahead).find(|removed| {
+        let added = ahead.saturating_sub(*removed);
+        meet(after(old, *removed), after(new, added))
+    })
+}
+
 /// How many lines of each text come before the next line that both have, as far as it is looked for.
 fn lines_ahead(old: &[&str], new: &[&str]) -> (usize, usize) {
     if old.is_empty() || new.is_empty() {
         return (old.len(), new.len());
     }
-    for sum in 1..REACH {
-        for removed in 0..=sum {
-            let added = sum.saturating_sub(removed);
-            if meet(after(old, removed), after(new, added)) {
-                return (removed, added);
-            }
+    for ahead in 1..REACH {
+        if let Some(removed) = meeting(old, new, ahead) {
+            return (removed, ahead.saturating_sub(removed));
         }
     }
     (REACH, REACH)

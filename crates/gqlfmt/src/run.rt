@@ -127,6 +127,13 @@ fn format_standard_input<R: Files<File = File> + AllocGlobal + Eprint, I: Read, 
     }
 }
 
+/// Says which files and folders could not be read, and why.
+fn report_faults<R: Eprint>(rt: &R, faults: &[(String, InputError)], tally: &mut Tally) {
+    for (path, error) in faults {
+        tally.count(fail(rt, path.as_str(), error));
+    }
+}
+
 /// Formats a file, or the files below a folder. The error is that of standard output.
 fn format_path<R: Files<File = File> + AllocGlobal + Eprint + Clone + Drop, W: Write>(
     rt: &R,
@@ -142,9 +149,7 @@ fn format_path<R: Files<File = File> + AllocGlobal + Eprint + Clone + Drop, W: W
             return Ok(());
         }
     };
-    for (path, error) in &found.faults {
-        tally.count(fail(rt, path.as_str(), error));
-    }
+    report_faults(rt, &found.faults, tally);
     if found.files.is_empty() && found.faults.is_empty() {
         let path = Shown(path);
         let _ = eprintln!(rt; "{path}: has no files that end in .graphql, .graphqls or .gql");

@@ -89,6 +89,19 @@ fn add_entries<R: Files + AllocGlobal + Clone + Drop>(
     Ok(())
 }
 
+/// Adds the entries of these folders. Returns the folders that are in them.
+fn read_level<R: Files + AllocGlobal + Clone + Drop>(
+    rt: &R,
+    folders: &[String],
+    found: &mut Found,
+) -> Result<Vec<String>, AllocError> {
+    let mut below = Vec::new(rt.alloc());
+    for folder in folders {
+        add_entries(rt, folder.as_str(), found, &mut below)?;
+    }
+    Ok(below)
+}
+
 /// Adds the entries of a folder and of all folders below it, one level after another.
 fn walk<R: Files + AllocGlobal + Clone + Drop>(
     rt: &R,
@@ -97,11 +110,7 @@ fn walk<R: Files + AllocGlobal + Clone + Drop>(
 ) -> Result<(), AllocError> {
     let mut level = vec![in rt.alloc(); String::from_str(rt.alloc(), folder)?]?;
     for _ in 0..MAX_DEPTH {
-        let mut below = Vec::new(rt.alloc());
-        for folder in &level {
-            add_entries(rt, folder.as_str(), found, &mut below)?;
-        }
-        level = below;
+        level = read_level(rt, &level, found)?;
         if level.is_empty() {
             return Ok(());
         }
