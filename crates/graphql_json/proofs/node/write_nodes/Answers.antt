@@ -2,11 +2,8 @@ use Rattle.std.proofs.Common.{◌∙◌, ◌++◌, ap, refl, sym, map, arith, ap
 use Rattle.graphql_core.proofs.{item_here}
 use Rattle.graphql_json.specs.{elements_of}
 use Rattle.graphql_json.specs.Json.{elements_text}
-use Rattle.graphql_json.proofs.{◌▹◌, then_last, begun, next_element, list_appended, later-one, text-array}
+use Rattle.graphql_json.proofs.{then_last, next_element, list_appended, later-one, text-array}
 use Rattle.graphql_json.proofs.node.write_nodes.Goals as goal
-
-pub nodes-init : goal.nodes-init
-nodes-init g c = begun _ _ _ _ (c.in_ok-write_label.ensures ▹ c.in_ok-write_text.ensures).grown
 
 pub nodes-preserved : goal.nodes-preserved
 nodes-preserved g c =

@@ -1,9 +1,9 @@
-use Rattle.std.proofs.Common.{◌≡◌, ◌∙◌, ◌++◌, ap, refl, sym, arith, rules, append_assoc, false, codes}
+use Rattle.std.proofs.Common.{◌∙◌, ◌++◌, ap, refl, sym, arith, rules, append_assoc, false, codes}
 use Rattle.graphql_core.proofs.{item_here}
 use Rattle.graphql_core.specs.values.ValueViews.{items_view, members_view}
 use Rattle.graphql_json.specs.{items_json, fields_json}
 use Rattle.graphql_json.specs.Json.{elements_text}
-use Rattle.graphql_json.proofs.{◌▹◌, then_last, begun, next_element, appended, list_appended, later-one, later-append, text-array, text-node}
+use Rattle.graphql_json.proofs.{◌▹◌, then_last, next_element, appended, list_appended, later-one, later-append, text-array, text-node}
 use Rattle.graphql_json.proofs.values.+value.Goals as goal
 
 -- ---- lists
@@ -12,9 +12,6 @@ pub write_list-returns : goal.write_list-returns
 write_list-returns g t c =
     then_last _ _ _ (c.in_ok-open_node.ensures ▹ c.in_ok-write_label.ensures ▹ c.in_ok-write_items.ensures) c.close_node.ensures
     (simp (text-node, later-one, append_assoc))
-
-pub write_items-items-init : goal.write_items-items-init
-write_items-items-init g t c = begun _ _ _ _ c.in_ok-write_text.ensures.grown
 
 pub write_items-items-preserved : goal.write_items-items-preserved
 write_items-items-preserved g t c =
@@ -38,13 +35,6 @@ pub write_object-returns : goal.write_object-returns
 write_object-returns g t c =
     then_last _ _ _ (c.in_ok-open_node.ensures ▹ c.in_ok-write_label.ensures ▹ c.in_ok-write_fields.ensures) c.close_node.ensures
     (simp (text-node, later-one, append_assoc))
-
-pub write_fields-members-init : goal.write_fields-members-init
-write_fields-members-init g t c =
-    let bytes = g.N.Names.bytes in
-    let whole : members_view bytes c.into_iter-name-iterator.result ≡ members_view bytes c.args.members.now.entries = search rules in
-    begun _ _ _ _ c.in_ok-write_text.ensures.grown
-    ∙ ap (λ ms. c.args.out.now ++ (codes "[" ++ elements_text false (fields_json ms))) whole
 
 pub write_fields-members-preserved : goal.write_fields-members-preserved
 write_fields-members-preserved g t c =

@@ -3,11 +3,8 @@ use Rattle.graphql_core.proofs.{item_here}
 use Rattle.graphql_core.specs.{arguments_view}
 use Rattle.graphql_json.specs.{elements_of, argument_json}
 use Rattle.graphql_json.specs.Json.{elements_text}
-use Rattle.graphql_json.proofs.{◌▹◌, then_last, begun, next_element, list_appended, later-one, text-array}
+use Rattle.graphql_json.proofs.{then_last, next_element, list_appended, later-one, text-array}
 use Rattle.graphql_json.proofs.values.write_arguments.Goals as goal
-
-pub arguments-init : goal.arguments-init
-arguments-init g c = begun _ _ _ _ (c.in_ok-write_label.ensures ▹ c.in_ok-write_text.ensures).grown
 
 pub arguments-preserved : goal.arguments-preserved
 arguments-preserved g c =

@@ -9,6 +9,3 @@ returns-in-Err-clause-complete g c x others h =
 pub returns-in-Err-clause-first_error : goal.returns-in-Err-clause-first_error
 returns-in-Err-clause-first_error g c =
     least_refusal _ (g.S.TokenSource.items c.definition.new.source) c.in-Err.error _ c.in-Err.ensures c.fault_of.ensures
-
-pub returns-in-Ok-clause-complete : goal.returns-in-Ok-clause-complete
-returns-in-Ok-clause-complete g c x others h = tt

@@ -2,11 +2,8 @@ use Rattle.std.proofs.Common.{◌∙◌, ◌++◌, ap, refl, sym, map, arith, ap
 use Rattle.graphql_core.proofs.{item_here}
 use Rattle.graphql_json.specs.{elements_of, named_type_json}
 use Rattle.graphql_json.specs.Json.{elements_text}
-use Rattle.graphql_json.proofs.{◌▹◌, then_last, begun, next_element, list_appended, later-one, text-array}
+use Rattle.graphql_json.proofs.{then_last, next_element, list_appended, later-one, text-array}
 use Rattle.graphql_json.proofs.schema.parts.write_named_types.Goals as goal
-
-pub names-init : goal.names-init
-names-init g c = begun _ _ _ _ (c.in_ok-write_label.ensures ▹ c.in_ok-write_text.ensures).grown
 
 pub names-preserved : goal.names-preserved
 names-preserved g c =

@@ -1,6 +1,4 @@
-use Rattle.std.proofs.Common.{Err}
-use Rattle.graphql_core.specs.{reason_of}
-use Rattle.graphql_core.proofs.{gives_kept, read_whole, read_stopped, read_left}
+use Rattle.graphql_core.proofs.{read_whole, read_stopped, read_left}
 use Rattle.graphql_query.specs.{queries}
 use Rattle.graphql_query.proofs.{readable}
 use Rattle.graphql_query.proofs.document.DocumentReadDocument.read.Goals as goal
@@ -19,6 +17,3 @@ returns-else-is_at_end-clause-reads g c =
 
 pub returns-then-is_at_end-clause-end : goal.returns-then-is_at_end-clause-end
 returns-then-is_at_end-clause-end g c = c.is_at_end.ensures.0 c.if-is_at_end.true
-
-pub returns-in-Err-clause-kept : goal.returns-in-Err-clause-kept
-returns-in-Err-clause-kept g c = gives_kept {A = Unit {0}} reason_of _ _ _ _ (λ v x. Unit {0}) (Err c.in-Err.error) c.in-Err.ensures

@@ -1,7 +1,6 @@
-use Rattle.std.proofs.Common.{◌-◌, ◌^◌, arith, refl}
-use Rattle.graphql_core.specs.{most}
-use Rattle.graphql_core.proofs.{all_counted, item_here}
-use Rattle.graphql_query.specs.{definition_view, definitions_view, definition_depth, in_sets}
+use Rattle.std.proofs.Common.{◌-◌, arith}
+use Rattle.graphql_core.proofs.{item_here}
+use Rattle.graphql_query.specs.{definition_view}
 use Rattle.graphql_query.proofs.{sets_alone}
 use Rattle.graphql_query.proofs.print.width.sets_in_document.Goals as goal
 
@@ -13,9 +12,3 @@ definitions-preserved g c =
     let alone = sets_alone (definition_view g.N.Names.bytes c.definition-item.result) in
     let first = rw (c.selection_set_of-set.ensures, ← alone) at c.levels_in_selection_set.ensures in
     omega (arith, left, first, c.max-most.ensures)
-
-pub returns : goal.returns
-returns g c =
-    let l = c.definitions in
-    all_counted (definitions_view g.N.Names.bytes) c.deref-definition-items.result.now _ l.definition-index (omega arith) c.deref-definition-items.ensures.value
-    (most (definition_depth in_sets)) l.most (2 ^ 64 - 1) refl l.invariant

@@ -16,12 +16,6 @@ returns-then-not-sees_punctuator g c =
     let none = takes_none reading second _ refl (sym c.sees_punctuator.ensures ∙ c.if-not-sees_punctuator.true) in
     whole (past here (took named refl)) (none, refl) (rw spelled refl)
 
-pub returns-in_err-expect_punctuator : goal.returns-in_err-expect_punctuator
-returns-in_err-expect_punctuator g c =
-    let side = side_first reading second Empty (punctuator_class (codes ":")) _ refl (sym c.sees_punctuator.ensures ∙ c.if-not-sees_punctuator.false) in
-    lacks _ _ _ _ _ (into (past here (took c.in_ok-first.ensures.1 refl)) side) c.in_err-expect_punctuator.ensures
-    c.from_residual-in_err-expect_punctuator.ensures.1
-
 pub returns-in_err-name : goal.returns-in_err-name
 returns-in_err-name g c =
     let side = side_first reading second Empty (punctuator_class (codes ":")) _ refl (sym c.sees_punctuator.ensures ∙ c.if-not-sees_punctuator.false) in

@@ -1,12 +1,9 @@
 use Rattle.std.proofs.Common.{refl, sym, ◌∙◌}
 use Rattle.graphql_core.specs.{ParseTree, written, each_of}
-use Rattle.graphql_core.proofs.{adds_reserved, fills, here, after, fails, fails_last, turn_fails, pushes_none, turn_appends, some_taken, fewer}
+use Rattle.graphql_core.proofs.{adds_reserved, fills, here, after, fails_last, turn_fails, pushes_none, turn_appends, some_taken, fewer}
 use Rattle.graphql_query.specs.{definition_view, reading, changes, definition_of, tables}
 use Rattle.graphql_query.proofs.{read_definition, begins_definition, readable}
 use Rattle.graphql_query.proofs.read.definition.definitions.Goals as goal
-
-pub returns-in_err-first : goal.returns-in_err-first
-returns-in_err-first g c = fails _ _ _ _ here c.in_err-first.ensures c.from_residual.ensures.1
 
 pub more-init : goal.more-init
 more-init g c = record { pushes = pushes_none reading _ read_definition (definition_view g.S.Names.Names.bytes) _ _ }

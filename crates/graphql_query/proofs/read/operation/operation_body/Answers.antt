@@ -4,14 +4,6 @@ use Rattle.graphql_query.specs.{operation_body_symbol}
 use Rattle.graphql_query.proofs.{begun, lifted, stops_lifted, same_operation_body}
 use Rattle.graphql_query.proofs.read.operation.operation_body.Goals as goal
 
-pub returns-in_err-name : goal.returns-in_err-name
-returns-in_err-name g c = fails _ _ _ _ (begun operation_body_symbol) c.in_err-name.ensures c.from_residual.ensures.1
-
-pub returns-in_err-variable_definitions : goal.returns-in_err-variable_definitions
-returns-in_err-variable_definitions g c =
-    fails _ _ _ _ (after (begun operation_body_symbol) c.in_ok-name.ensures) c.in_err-variable_definitions.ensures
-    c.from_residual-in_err-variable_definitions.ensures.1
-
 pub returns-in_err-directives : goal.returns-in_err-directives
 returns-in_err-directives g c =
     let varied = after (after (begun operation_body_symbol) c.in_ok-name.ensures) c.in_ok-variable_definitions.ensures in

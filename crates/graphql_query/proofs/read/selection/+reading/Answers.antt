@@ -1,6 +1,6 @@
 use Rattle.std.proofs.Common.{◌≡◌, [], ◌∷◌, ◌++◌, length, map, refl, sym, ap, ◌∙◌, arith, rules}
 use Rattle.graphql_core.specs.{Sym, Both, optional, peek, written, place_of, arguments_symbol, directives_symbol}
-use Rattle.graphql_core.proofs.{Stops-before, Stops-after, gives_error_by, adds_none, adds_reserved, fewer, no_more, pushed, adds_more, here, took, past, after}
+use Rattle.graphql_core.proofs.{Stops-before, Stops-after, gives_error_by, adds_reserved, fewer, no_more, pushed, adds_more, here, took, past, after}
 use Rattle.graphql_core.proofs.{fails, fails_last, lacks, begins_at, leads_in, into, gives_led, lacks_last, some_given, none_given, pushes_none, turn_appends}
 use Rattle.graphql_core.proofs.{turn_fails, taken_both, whole}
 use Rattle.graphql_core.proofs.readers.TakenOff.{no_fewer, stays}
@@ -68,9 +68,6 @@ optional_selection_set-returns-then-not-sees_punctuator-clause-reads g t c =
     let here = place_of c.args.position in
     none_given selection_set_begins (sym c.sees_punctuator.ensures ∙ c.if-not-sees_punctuator.true)
     (selection_set_made bytes _ _ _ ∙ ap (λ l. set here here (trees_of (map (selection_view bytes) l))) c.new.ensures.items)
-
-pub optional_selection_set-returns-then-not-sees_punctuator-clause-restored : goal.optional_selection_set-returns-then-not-sees_punctuator-clause-restored
-optional_selection_set-returns-then-not-sees_punctuator-clause-restored g t c = adds_none (selection_view g.S.Names.Names.bytes) _
 
 pub optional_selection_set-returns-clause-reads : goal.optional_selection_set-returns-clause-reads
 optional_selection_set-returns-clause-reads g t c =
@@ -201,9 +198,6 @@ selections_in_braces-returns g t c =
     (selection_at x ∷ p.means, adds_more view_one _ _ _ _ p.means view p.adds, rw (at, until, all) refl)
 
 -- ---- selections in braces, alone
-
-pub selection_set-returns-in_err-span-clause-reads : goal.selection_set-returns-in_err-span-clause-reads
-selection_set-returns-in_err-span-clause-reads g t c = fails_last _ _ _ _ here c.in_err-span.ensures c.from_residual.ensures.1
 
 pub selection_set-split_list-requires : goal.selection_set-split_list-requires
 selection_set-split_list-requires g t c =

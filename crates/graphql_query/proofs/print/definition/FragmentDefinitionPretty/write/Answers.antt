@@ -1,5 +1,4 @@
 use Rattle.graphql_core.specs.{directives_layout, directives_view}
-use Rattle.std.proofs.lemmas.Result.{on_ok_weaker}
 use Rattle.graphql_core.proofs.{and_last}
 use Rattle.graphql_query.specs.{type_condition_view, selection_set_view, type_condition_layout, selection_set_layout}
 use Rattle.graphql_query.proofs.{fragment_definition_text}
@@ -16,8 +15,3 @@ returns-clause-text g c =
     let text = fragment_definition_text (bytes f.name) (type_condition_layout (type_condition_view bytes f.type_condition))
     (directives_layout style 0 (directives_view bytes f.directives.items)) (selection_set_layout style 0 (selection_set_view bytes f.selection_set)) in
     and_last g.S.Sink.took more _ _ _ _ _ _ _ on c.write_selection_set.ensures.text (rw c.view.ensures text)
-
-pub returns-clause-lawful : goal.returns-clause-lawful
-returns-clause-lawful g c =
-    let directives = rw c.deref.ensures.value at c.in_ok-write_directives.ensures.lawful in
-    on_ok_weaker c.write_selection_set.result (λ set. (directives, set)) c.write_selection_set.ensures.lawful

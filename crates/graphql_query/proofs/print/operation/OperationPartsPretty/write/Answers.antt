@@ -11,18 +11,6 @@ write_variable_definitions-requires g c =
     let fits = (narrower _ _ _ c.args.style.now.indent (2 ^ 32) c.requires).0 in
     rw c.deref.ensures.value (omega (arith, fits))
 
-pub write_directives-requires : goal.write_directives-requires
-write_directives-requires g c =
-    let later = (narrower _ _ _ c.args.style.now.indent (2 ^ 32) c.requires).1 in
-    let fits = (narrower _ _ _ c.args.style.now.indent (2 ^ 32) later).0 in
-    rw c.deref-2.ensures.value (omega (arith, fits))
-
-pub write_selection_set-requires : goal.write_selection_set-requires
-write_selection_set-requires g c =
-    let later = (narrower _ _ _ c.args.style.now.indent (2 ^ 32) c.requires).1 in
-    let fits = (narrower _ _ _ c.args.style.now.indent (2 ^ 32) later).1 in
-    omega (arith, fits)
-
 pub returns-clause-text : goal.returns-clause-text
 returns-clause-text g c =
     let more = g.met.S.Sink.took_more in

@@ -1,20 +1,8 @@
-use Rattle.std.proofs.Common.{◌^◌, option_map, arith}
+use Rattle.std.proofs.Common.{option_map}
 use Rattle.graphql_core.specs.{value_view, type_view, directives_view, type_layout, directives_layout, default_layout}
-use Rattle.graphql_core.proofs.{and_last, narrower}
+use Rattle.graphql_core.proofs.{and_last}
 use Rattle.graphql_query.proofs.{variable_definition_text}
 use Rattle.graphql_query.proofs.print.operation.VariableDefinitionPretty.write.Goals as goal
-
-pub write_default-requires : goal.write_default-requires
-write_default-requires g c =
-    let typed = (narrower _ _ _ c.args.style.now.indent (2 ^ 32) c.requires).1 in
-    let default = (narrower _ _ _ c.args.style.now.indent (2 ^ 32) typed).0 in
-    omega (arith, default)
-
-pub write_directives-requires : goal.write_directives-requires
-write_directives-requires g c =
-    let typed = (narrower _ _ _ c.args.style.now.indent (2 ^ 32) c.requires).1 in
-    let directives = (narrower _ _ _ c.args.style.now.indent (2 ^ 32) typed).1 in
-    rw c.deref.ensures.value (omega (arith, directives))
 
 pub returns-clause-text : goal.returns-clause-text
 returns-clause-text g c =
