@@ -1,9 +1,8 @@
-use Rattle.std.proofs.Common.{◌≡◌, ◌<◌, ◌^◌, ◌∙◌, [], ap, length, map, sym, refl}
-use Rattle.std.proofs.lemmas.Bool.{eqb-true}
-use Rattle.std.proofs.lemmas.List.{length-map, nil_from_length}
+use Rattle.std.proofs.Common.{◌<◌, ◌^◌, ◌∙◌, ap, length, map, sym, refl}
+use Rattle.std.proofs.lemmas.List.{length-map}
 use Rattle.graphql_core.specs.{text_of}
 use Rattle.std.specs.List.{flat_map}
-use Rattle.graphql_core.proofs.{and_last, on_ok, some_items}
+use Rattle.graphql_core.proofs.{and_last, some_items}
 use Rattle.graphql_schema.specs.{input_field_layout, input_value_levels, input_value_view}
 use Rattle.graphql_schema.proofs.{lines_text, filled_block, lines_fit}
 use Rattle.graphql_schema.proofs.print.parts.write_input_block.Goals as goal
@@ -27,13 +26,3 @@ returns-clause-text g c =
     let inside = rw c.indentation.ensures at c.in_ok-write_input_fields.ensures.text in
     and_last g.S.Sink.took more _ _ _ _ _ _ _ (more _ _ _ _ _ c.in_ok-push_str.ensures inside) c.push_str-3.ensures
     (lines_text (flat_map lines fields) ∙ ap text_of (filled_block 0 lines fields seen))
-
-pub returns-then-is_empty-clause-text : goal.returns-then-is_empty-clause-text
-returns-then-is_empty-clause-text g c =
-    let none : c.args.fields.now ≡ [] = nil_from_length _ (eqb-true _ _ (sym c.is_empty.ensures ∙ c.if-is_empty.true)) in
-    rw none c.push_str.ensures
-
-pub returns-then-is_empty-clause-lawful : goal.returns-then-is_empty-clause-lawful
-returns-then-is_empty-clause-lawful g c =
-    let none : c.args.fields.now ≡ [] = nil_from_length _ (eqb-true _ _ (sym c.is_empty.ensures ∙ c.if-is_empty.true)) in
-    rw none (on_ok c.push_str.result tt)

@@ -1,14 +1,9 @@
 use Rattle.std.proofs.Common.{refl, sym, ◌∙◌, codes, Some, None, arith}
 use Rattle.graphql_core.specs.{Then, Sym, punctuator, separated_of}
-use Rattle.graphql_core.proofs.{adds_one, begun, after, fails, fails_last, pushes_none, turn_fails, turn_appends, whole, fewer, no_more}
+use Rattle.graphql_core.proofs.{adds_one, begun, after, fails_last, pushes_none, turn_fails, turn_appends, whole, fewer, no_more}
 use Rattle.graphql_schema.specs.{location_symbol, locations_symbol, location_at, as_written}
 use Rattle.graphql_schema.proofs.{reading, all_present, joined_taken, readable}
 use Rattle.graphql_schema.proofs.read.directive.locations.Goals as goal
-
-pub returns-in_err-location : goal.returns-in_err-location
-returns-in_err-location g c =
-    let mark = after (begun locations_symbol (λ x. refl)) c.in_ok-optional_punctuator.ensures in
-    fails _ _ _ _ mark c.in_err-location.ensures c.from_residual-in_err-location.ensures.1
 
 pub more-init : goal.more-init
 more-init g c = record {

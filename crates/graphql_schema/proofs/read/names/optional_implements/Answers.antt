@@ -1,16 +1,11 @@
 use Rattle.std.proofs.Common.{refl, sym, ap, ◌∙◌, map}
-use Rattle.graphql_core.proofs.{took, past, none_given, gives_led, lacks}
+use Rattle.graphql_core.proofs.{took, past, none_given, gives_led}
 use Rattle.graphql_schema.proofs.{implements_begins, opens}
 use Rattle.graphql_schema.proofs.read.names.optional_implements.Goals as goal
 
 pub returns-then-not-sees_keyword : goal.returns-then-not-sees_keyword
 returns-then-not-sees_keyword g c =
     none_given implements_begins (sym c.sees_keyword.ensures ∙ c.if-not-sees_keyword.true) (ap (map g.S.Names.Names.bytes) c.new.ensures.items)
-
-pub returns-in_err-expect_keyword : goal.returns-in_err-expect_keyword
-returns-in_err-expect_keyword g c =
-    let lead = opens implements_begins (λ x. refl) (sym c.sees_keyword.ensures ∙ c.if-not-sees_keyword.false) in
-    lacks _ _ _ _ _ lead c.in_err-expect_keyword.ensures c.from_residual.ensures.1
 
 pub returns : goal.returns
 returns g c =

@@ -1,16 +1,11 @@
 use Rattle.std.proofs.Common.{refl, sym, ap, ◌∙◌, map}
-use Rattle.graphql_core.proofs.{took, past, none_given, gives_led, lacks}
+use Rattle.graphql_core.proofs.{took, past, none_given, gives_led}
 use Rattle.graphql_schema.proofs.{members_begins, opens}
 use Rattle.graphql_schema.proofs.read.names.optional_members.Goals as goal
 
 pub returns-then-not-sees_punctuator : goal.returns-then-not-sees_punctuator
 returns-then-not-sees_punctuator g c =
     none_given members_begins (sym c.sees_punctuator.ensures ∙ c.if-not-sees_punctuator.true) (ap (map g.S.Names.Names.bytes) c.new.ensures.items)
-
-pub returns-in_err-expect_punctuator : goal.returns-in_err-expect_punctuator
-returns-in_err-expect_punctuator g c =
-    let lead = opens members_begins (λ x. refl) (sym c.sees_punctuator.ensures ∙ c.if-not-sees_punctuator.false) in
-    lacks _ _ _ _ _ lead c.in_err-expect_punctuator.ensures c.from_residual.ensures.1
 
 pub returns : goal.returns
 returns g c =

@@ -1,16 +1,11 @@
 use Rattle.std.proofs.Common.{[], ◌∷◌, refl, sym, ◌∙◌}
-use Rattle.graphql_core.proofs.{Stops-before, Stops-after, none_given, took, taken_both, past, fails, lacks, lacks_last, whole}
+use Rattle.graphql_core.proofs.{Stops-before, Stops-after, none_given, took, taken_both, past, fails, lacks_last, whole}
 use Rattle.graphql_schema.proofs.{turn_of, roots_begin, opens}
 use Rattle.graphql_schema.proofs.read.schema.optional_roots.Goals as goal
 
 pub returns-then-not-sees_punctuator : goal.returns-then-not-sees_punctuator
 returns-then-not-sees_punctuator g c =
     none_given roots_begin (sym c.sees_punctuator.ensures ∙ c.if-not-sees_punctuator.true) c.no_roots-roots.ensures
-
-pub returns-in_err-expect_punctuator : goal.returns-in_err-expect_punctuator
-returns-in_err-expect_punctuator g c =
-    let begun = opens roots_begin (λ x. refl) (sym c.sees_punctuator.ensures ∙ c.if-not-sees_punctuator.false) in
-    lacks _ _ _ _ _ begun c.in_err-expect_punctuator.ensures c.from_residual.ensures.1
 
 pub returns-in_err-root_type : goal.returns-in_err-root_type
 returns-in_err-root_type g c =

@@ -1,7 +1,7 @@
-use Rattle.std.proofs.Common.{◌≡◌, ◌∙◌, [], ◌∷◌, ◌++◌, List, arith, refl, sym, subst, append_assoc, append-nil}
+use Rattle.std.proofs.Common.{◌≡◌, ◌∙◌, [], ◌∷◌, ◌++◌, List, arith, refl, sym, subst, append_assoc}
 use Rattle.graphql_core.specs.{Token, Sym, peek, first, sees, any, tables as core_tables, each_of}
 use Rattle.graphql_core.specs.declared.tokenizer.token.Kind.TheVariants.{Name}
-use Rattle.graphql_core.proofs.{Turns-start, Turns-more, Turns-stop, Stops-turn, here, fails_last, each_means, fewer, no_more}
+use Rattle.graphql_core.proofs.{Turns-more, Turns-stop, Stops-turn, here, fails_last, each_means, fewer, no_more}
 use Rattle.graphql_schema.specs.{Root, root_at, tables, root_type_symbol, HasRoots, as_written}
 use Rattle.graphql_schema.proofs.{reading, turn_of, readable}
 use Rattle.graphql_schema.proofs.read.schema.root_types.Goals as goal
@@ -9,16 +9,6 @@ use Rattle.graphql_schema.proofs.read.schema.root_types.Goals as goal
 begins : (ts : List Token) → sees (first reading.rows (Sym root_type_symbol)) (peek ts) ≡ sees (any Name ∷ []) (peek ts)
 unfolding tables core_tables
 begins ts = refl
-
-pub more-init : goal.more-init
-more-init g c = record {
-  roots = (
-    [],
-    Turns-start reading _ turn_of _,
-    λ rs h. subst (HasRoots g.S.Names.Names.bytes c.args.roots.now) (sym (append-nil rs)) h,
-  );
-  within = omega arith;
-}
 
 pub more-preserved : goal.more-preserved
 more-preserved g c =

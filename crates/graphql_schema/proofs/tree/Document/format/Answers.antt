@@ -1,5 +1,4 @@
-use Rattle.std.proofs.Common.{◌≡◌, ◌∙◌, ap, is_ok, rules, sym, subst, string_bytes}
-use Rattle.std.proofs.lemmas.Bool.{false≢true}
+use Rattle.std.proofs.Common.{◌≡◌, ◌∙◌, rules, sym, subst, string_bytes}
 use Rattle.graphql_schema.specs.{IsReadBack, layout, document_view}
 use Rattle.graphql_schema.proofs.{way_back, are_read_back}
 use Rattle.graphql_schema.proofs.tree.Document.format.Goals as goal
@@ -15,7 +14,3 @@ returns-clause-one_document g c printable e other law same =
     let d = document_view g.N.Names.bytes c.args.self.now in
     let printed : string_bytes c.into_string.result ≡ layout c.args.style.now d = search rules in
     are_read_back.one_text c.args.style.now e d (other, law) (printable, c.in_ok-write.ensures.lawful) (same ∙ printed)
-
-pub returns-clause-too_wide : goal.returns-clause-too_wide
-returns-clause-too_wide g c =
-    (λ h. absurd (false≢true (sym (ap is_ok h))), λ wide. absurd (false≢true (sym c.if-is_document_too_wide.false ∙ c.is_document_too_wide.ensures.1 wide)))

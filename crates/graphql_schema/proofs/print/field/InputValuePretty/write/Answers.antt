@@ -4,13 +4,6 @@ use Rattle.graphql_schema.specs.{input_value_view}
 use Rattle.graphql_schema.proofs.{input_value_text}
 use Rattle.graphql_schema.proofs.print.field.InputValuePretty.write.Goals as goal
 
-pub write_default-requires : goal.write_default-requires
-write_default-requires g c =
-    let style = c.args.style.now in
-    let described = (narrower c.args.margin _ _ style.indent (2 ^ 32) c.requires).1 in
-    let typed = (narrower c.args.margin _ _ style.indent (2 ^ 32) described).1 in
-    (narrower c.args.margin _ _ style.indent (2 ^ 32) typed).0
-
 pub write_directives-requires : goal.write_directives-requires
 write_directives-requires g c =
     let style = c.args.style.now in
