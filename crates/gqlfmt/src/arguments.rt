@@ -184,9 +184,9 @@ fn inputs_of(
         let name = stdin_path.unwrap_or(STANDARD_INPUT);
         return Ok(Inputs::Standard(String::from_str(alloc, name)?));
     }
-    let paths = paths
-        .iter()
-        .map(|path| -> Result<String, AllocError> { String::from_str(alloc, path) });
+    let paths = paths.iter().map(|path| -> Result<String, AllocError> {
+        String::from_str(alloc, path)
+    });
     Ok(Inputs::Paths(paths.try_collect(alloc)?))
 }
 

@@ -78,22 +78,6 @@ fn visible(character: char) -> char {
     }
 }
 
-/// Puts the first characters of a line at the end of a text, and `...` if there are more. `shown` is how each is shown.
-fn push_first(
-    text: &mut String,
-    line: &str,
-    most: usize,
-    shown: impl Fn(char) -> char,
-) -> Result<(), AllocError> {
-    for character in line.chars().take(most) {
-        text.push(shown(character))?;
-    }
-    if line.chars().nth(most).is_some() {
-        text.push_str("...")?;
-    }
-    Ok(())
-}
-
 /// Puts blanks as wide as a character at the end of a text.
 fn push_blank(blanks: &mut String, character: char) -> Result<(), AllocError> {
     if character == '\t' {
@@ -118,8 +102,18 @@ fn excerpt(alloc: Global, place: Place<'_>) -> Result<String, AllocError> {
         text.push(visible(character))?;
         push_blank(&mut blanks, character)?;
     }
-    let after = place.after.split(is_line_end).next().unwrap_or("");
-    push_first(&mut text, after, REACH, visible)?;
+    let mut shown = 0usize;
+    for character in place.after.chars() {
+        if is_line_end(character) {
+            break;
+        }
+        if shown == REACH {
+            text.push_str("...")?;
+            break;
+        }
+        text.push(visible(character))?;
+        shown = shown.saturating_add(1);
+    }
     write!(&mut text, "\n{blanks}^\n")?;
     Ok(text)
 }
@@ -128,9 +122,16 @@ fn excerpt(alloc: Global, place: Place<'_>) -> Result<String, AllocError> {
 fn cause_in_one_line(alloc: Global, cause: &Cause) -> Result<String, AllocError> {
     let message = format!(in alloc; "{cause}")?;
     let mut text = String::new(alloc);
-    push_first(&mut text, &message, CAUSE_LENGTH, |character| {
-        if character == '\t' { ' ' } else { visible(character) }
-    })?;
+    for character in message.chars().take(CAUSE_LENGTH) {
+        text.push(if character == '\t' {
+            ' '
+        } else {
+            visible(character)
+        })?;
+    }
+    if message.chars().nth(CAUSE_LENGTH).is_some() {
+        text.push_str("...")?;
+    }
     Ok(text)
 }
 
