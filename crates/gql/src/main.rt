@@ -18,7 +18,11 @@ use std::{env, io};
 
 /// The command and the style from the arguments; `None` if the arguments are invalid or cannot be read.
 fn words(rt: &HostRuntime) -> Option<(Command, Style)> {
-    let words = env::args(rt).ok()?.skip(1).collect(rt.alloc()).ok()?;
+    let mut words = Vec::new(rt.alloc());
+    let args = env::args(rt).ok()?;
+    for word in args.skip(1) {
+        words.push(word).ok()?;
+    }
     read_words(words)
 }
 
