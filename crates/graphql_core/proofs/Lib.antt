@@ -30,11 +30,11 @@ pub use lexical.{Sees, cut_of, front_sees, has_items, items_unique, no_front, st
 pub use sources.{stands_before, token_follows}
 pub use sources.{EndsInMark, HasItemAt, Rise, TokensKept, boundary, ends_after, holds_first, holds_on, items_rise}
 pub use sources.{more_items, one_minified, one_position, other_position, place_after, prefix, rise_on, same_position}
-pub use sources.{stands_before_same, token_next, tokens_kept}
+pub use sources.{stands_before_same, tokens_kept}
 pub use readers.{BegunBy, FailsUnseen, IsSide, Leads, Pushes, Stops-after, Stops-before, Stops-node, Stops-turn}
 pub use readers.{TakesNone, Turns, Turns-more, Turns-start, Turns-stop, adds_more, adds_none, adds_one, adds_reserved}
 pub use readers.{after, before, begun, consumed, each_means, fails, fails_last, fewer, fills, gives_error_by}
-pub use readers.{gives_kept, gives_led, halts, here, into, is_list, lacks, lacks_last, leads_in, many_means}
+pub use readers.{gives_led, halts, here, into, is_list, lacks, lacks_last, leads_in, many_means}
 pub use readers.{next_matches, none_given, no_more, none_within, past, placed, pushed, pushes_none, rest_stops}
 pub use readers.{same_text_spelling, sees_both, sees_neither, side_first, side_in, side_left, side_node, side_nth}
 pub use readers.{side_right, side_second, some_given, some_taken, spelling_differs, stops_one, taken_both, takes_none}

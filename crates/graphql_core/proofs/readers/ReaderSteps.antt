@@ -1,10 +1,10 @@
 -- The steps of a function that reads: a loop over a repetition, an error that is returned, and a choice.
-use Rattle.std.proofs.Common.{◌≡◌, ℕ, true, false, not, ◌&&◌, List, [], ◌∷◌, ◌++◌, Option, Some, None, Result, Ok, Err}
+use Rattle.std.proofs.Common.{◌≡◌, ℕ, true, false, not, ◌&&◌, List, [], ◌∷◌, ◌++◌, Option, Some, None}
 use Rattle.std.proofs.Common.{refl, sym, ◌∙◌, append_assoc, append-nil}
 use Rattle.std.proofs.lemmas.Bool.{and_parts}
 use Rattle.graphql_core.specs.{Token, all_apart, Expr, Then, Either, Many, Sym, ParseTree, Stop, More, Row, Grammar, row, peek, nullable, first, decides, sees}
 use Rattle.graphql_core.specs.{choose, Left, Right, Neither, Takes, takes_stop, takes_more, Reason, Fails, fails_before, fails_after, fails_first, fails_second}
-use Rattle.graphql_core.specs.{fails_node, fails_turn, fails_later, each_of, Items, kept, Consumes, TakesSome, StopsFor, GivesBy}
+use Rattle.graphql_core.specs.{fails_node, fails_turn, fails_later, each_of, Items, kept, Consumes, TakesSome, StopsFor}
 use Rattle.graphql_core.proofs.grammar.{sees-parts, sees-apart}
 
 -- the error of a part, which begins at mid, is an error of the whole
@@ -12,16 +12,6 @@ pub halts : {g h : Grammar} {e f : Expr} {old mid : Items} (new : Items) (o : Op
     → ((why : Reason) → Fails h f mid.tokens why new.tokens → Fails g e old.tokens why new.tokens) → StopsFor h f mid new o → StopsFor g e old new o
 halts new None same fails h = h ∙ same
 halts new (Some why) same fails (h, k) = (fails why h, k ∙ same)
-
--- the end of the input, or the lexical error in its place, is as before
-stops_kept : (g : Grammar) (e : Expr) (old new : Items) (o : Option Reason) → StopsFor g e old new o → kept new ≡ kept old
-stops_kept g e old new None h = h
-stops_kept g e old new (Some why) h = h.1
-
-pub gives_kept : {A E : Type 0} (reason : E → Option Reason) (g : Grammar) (e : Expr) (old new : Items) (P : A → ParseTree → Type 0) (r : Result A E)
-    → GivesBy reason g e old new P r → kept new ≡ kept old
-gives_kept reason g e old new P (Ok v) h = h.1.1
-gives_kept reason g e old new P (Err d) h = stops_kept g e old new (reason d) h
 
 -- A loop over `Many a` began at `start` and has reached `now`: the whole takes what the rest takes.
 -- `f` is what one repetition denotes, and `items` what those so far denote.

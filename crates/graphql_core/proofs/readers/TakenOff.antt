@@ -1,13 +1,10 @@
 -- A list to which values were appended, and the appended values split off again.
-use Rattle.std.proofs.Common.{◌≡◌, ◌≤◌, ℕ, List, [], ◌++◌, length, map, take, drop, sym, ap, ◌∙◌, arith}
-use Rattle.std.proofs.lemmas.List.{take-map, drop-map, length-map, length-append, append-nil}
+use Rattle.std.proofs.Common.{◌≡◌, ℕ, List, [], ◌++◌, length, map, take, drop, sym, ap, ◌∙◌}
+use Rattle.std.proofs.lemmas.List.{take-map, drop-map, length-map, append-nil}
 use Rattle.std.proofs.Math.Seq.{take-append_seam, drop-append_seam}
 use Rattle.graphql_core.specs.steps.Answers.{Adds}
 
 module _ {V A : Type 0} (f : V → A) (start found : List V) (xs : List A) (added : Adds f start found xs) where
-  pub no_fewer : length start ≤ length found
-  no_fewer = omega (arith, length-map found f, ap length added, length-append (map f start) xs, length-map start f)
-
   -- what was in the list before stays
   pub stays : (n : ℕ) → n ≡ length start → (left : List V) → left ≡ take n found → Adds f start left []
   stays n is left taken =

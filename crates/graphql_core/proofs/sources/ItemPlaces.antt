@@ -200,13 +200,6 @@ holds_on old new (Ok (Some t)) p o (w, is) h other =
 holds_on old new (Ok None) p o (w, is, same) h other = absurd (only_item old _ p o is h other)
 holds_on old new (Err b) p o (w, is, same) h other = absurd (only_item old _ p o is h other)
 
--- if the item that is sought comes later, a token is next
-pub token_next : (old new : List Item) (r : Result (Option Token) Bad) (p : Pos) (o : ℕ) → NextItem old r new → HasItemAt old p o
-    → ((next_place old).position ≡ p → ⊥) → (t : Token) × (r ≡ Ok (Some t))
-token_next old new (Ok (Some t)) p o n h other = (t, refl)
-token_next old new (Ok None) p o (w, is, same) h other = absurd (only_item old _ p o is h other)
-token_next old new (Err b) p o (w, is, same) h other = absurd (only_item old _ p o is h other)
-
 -- an item begins at a character boundary of the input
 pub boundary : (whole : List ℕ) (items : List Item) → IsUtf8 whole → Rise whole items → IsCharBoundary whole (next_place items).offset
 boundary whole [] utf8 rise = IsCharBoundary-start whole utf8

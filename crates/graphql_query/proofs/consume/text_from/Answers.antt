@@ -1,7 +1,6 @@
 use Rattle.std.proofs.Common.{◌≡◌, ◌<◌, ℕ, List, length, drop, sym, ap, subst, ◌∙◌}
-use Rattle.graphql_core.proofs.{items_rise, holds_first, rise_on, holds_on, token_next, boundary, other_position, same_position}
+use Rattle.graphql_core.proofs.{items_rise, holds_first, rise_on, holds_on, boundary, other_position, same_position}
 use Rattle.graphql_core.specs.{Item, next_place}
-use Rattle.graphql_query.proofs.consume.text_from.Goals.{in_default-via-in-Ok+in_default, in_default-via-in_default}
 use Rattle.graphql_query.proofs.consume.text_from.Goals as goal
 
 pub items-init : goal.items-init
@@ -23,15 +22,6 @@ items-preserved c = record {
       holds_on c.items.stream.items _ _ c.args.position _ c.next_token.ensures.item (c.items.invariant.holds items n has some at)
       (λ e. other_position c.position.result c.args.position (sym c.ne.ensures ∙ c.items-test.true) (c.position.ensures ∙ e));
 }
-
-pub returns-in_default : goal.returns-in_default
-returns-in_default c items n has some at =
-    let (t, is) = token_next c.items.stream.items _ _ c.args.position _ c.next_token.ensures.item (c.items.invariant.holds items n has some at)
-    (λ e. other_position c.position.result c.args.position (sym c.ne.ensures ∙ c.items-test.true) (c.position.ensures ∙ e)) in
-    elim c.in_default.branch [
-      | in_default-via-in-Ok+in_default w ↦ let none = w.in_default.is in absurd cc
-      | in_default-via-in_default w ↦ let bad = w.in_default.is in absurd cc
-    ]
 
 pub split_at-requires : goal.split_at-requires
 split_at-requires c = rw c.offset.ensures (boundary c.args.source.now c.items.stream.items c.utf8.source c.items.invariant.rise)

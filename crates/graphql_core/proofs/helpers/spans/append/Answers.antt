@@ -79,3 +79,8 @@ pub returns-in-Err-clause-appends : goal.returns-in-Err-clause-appends
 returns-in-Err-clause-appends g c text left =
     let (w, is, same) = rw c.in-Err.is at c.slow_token-after.ensures in
     rw (same ∙ c.in-None.ensures.stays refl) (c.tokens.invariant.appends text left)
+
+pub returns-in-Err-clause-last : goal.returns-in-Err-clause-last
+returns-in-Err-clause-last g c less =
+    let (w, is, same) = rw c.in-Err.is at c.slow_token-after.ensures in
+    (w, same ∙ is)

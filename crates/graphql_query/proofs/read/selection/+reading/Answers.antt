@@ -3,7 +3,7 @@ use Rattle.graphql_core.specs.{Sym, Both, optional, peek, written, place_of, arg
 use Rattle.graphql_core.proofs.{Stops-before, Stops-after, gives_error_by, adds_reserved, fewer, no_more, pushed, adds_more, here, took, past, after}
 use Rattle.graphql_core.proofs.{fails, fails_last, lacks, begins_at, leads_in, into, gives_led, lacks_last, some_given, none_given, pushes_none, turn_appends}
 use Rattle.graphql_core.proofs.{turn_fails, taken_both, whole}
-use Rattle.graphql_core.proofs.readers.TakenOff.{no_fewer, stays}
+use Rattle.graphql_core.proofs.readers.TakenOff.{stays}
 use Rattle.graphql_core.specs.declared.helpers.read_error.ReadError.TheVariants.{Memory}
 use Rattle.graphql_query.specs.{more, trees_of, selection_view, set, reading, changes, selection_set_symbol}
 use Rattle.graphql_query.specs.{inline_fragment_rest, selections_of, queries, first_names}
@@ -198,12 +198,6 @@ selections_in_braces-returns g t c =
     (selection_at x ∷ p.means, adds_more view_one _ _ _ _ p.means view p.adds, rw (at, until, all) refl)
 
 -- ---- selections in braces, alone
-
-pub selection_set-split_list-requires : goal.selection_set-split_list-requires
-selection_set-split_list-requires g t c =
-    let (x, takes, (xs, added, is)) = c.in_ok-span.ensures in
-    let fewer = no_fewer (selection_view g.S.Names.Names.bytes) _ _ xs added in
-    omega (arith, fewer, c.len-start.ensures, c.selections_in_braces.new.selections.ok.0, c.args.selections.now.ok.0)
 
 pub selection_set-returns-clause-reads : goal.selection_set-returns-clause-reads
 selection_set-returns-clause-reads g t c =

@@ -1,7 +1,4 @@
-use Rattle.std.proofs.Common.{Err}
-use Rattle.graphql_core.specs.{halt_reason}
-use Rattle.graphql_core.specs.declared.common.read.node_error.NodeError.TheVariants.{Stopped, Refused}
-use Rattle.graphql_core.proofs.{read_whole, read_stopped, read_refused, read_left, gives_kept}
+use Rattle.graphql_core.proofs.{read_whole, read_stopped, read_refused, read_left}
 use Rattle.graphql_schema.specs.{schemas, refusals}
 use Rattle.graphql_schema.proofs.{readable}
 use Rattle.graphql_schema.proofs.document.DocumentReadDocument.read.Goals as goal
@@ -28,13 +25,3 @@ returns-else-is_at_end-clause-reads g c =
 
 pub returns-then-is_at_end-clause-end : goal.returns-then-is_at_end-clause-end
 returns-then-is_at_end-clause-end g c = c.is_at_end.ensures.0 c.if-is_at_end.true
-
-pub returns-in-Err-Stopped-clause-kept : goal.returns-in-Err-Stopped-clause-kept
-returns-in-Err-Stopped-clause-kept g c =
-    let e = c.in-Err-Stopped in
-    gives_kept {A = Unit {0}} (halt_reason refusals) _ _ _ _ (λ v x. Unit {0}) (Err (Stopped e.error)) (rw e.field-0-is at e.ensures).gives
-
-pub returns-in-Err-Refused-clause-kept : goal.returns-in-Err-Refused-clause-kept
-returns-in-Err-Refused-clause-kept g c =
-    let e = c.in-Err-Refused in
-    gives_kept {A = Unit {0}} (halt_reason refusals) _ _ _ _ (λ v x. Unit {0}) (Err (Refused e.node)) (rw e.field-0-is at e.ensures).gives
