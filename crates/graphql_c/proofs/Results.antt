@@ -7,7 +7,7 @@ use Rattle.graphql_core.specs.declared.format.error.FormatError.TheVariants.{Too
 use Rattle.graphql_c.specs.declared.call_result.CallResult.{CallResult}
 use Rattle.graphql_c.specs.declared.failure.Failure.{Failure}
 use Rattle.graphql_c.specs.{status_of, layout_status, line_of, column_of, HasNumbers, Explains, refused, too_wide, not_utf8, ran_out, Fails, IsResultOf, Writes}
-use Rattle.graphql_c.specs.{written, too_short, Finds, done, failed, Returns, for_error}
+use Rattle.graphql_c.specs.{written, too_short, Finds, done, failed, Returns}
 use Rattle.graphql_core.proofs.{none_parsed}
 
 -- ---- failures
@@ -36,12 +36,6 @@ module _ {R : Refusal → Type 0} {W : Type 0} {text : List ℕ} where
   pub refused_at : {s l n : ℕ} {c : CauseText} {p : Option Place} (e : Refusal) → R e → c ≡ e.cause → p ≡ e.place
       → (s ≡ status_of c) × (l ≡ line_of p) × (n ≡ column_of p) → Explains R W text s l n
   refused_at e h cause place (p, q, r) = explains_as (p ∙ ap status_of cause, q ∙ ap line_of place, r ∙ ap column_of place) (refused e h)
-
--- the failure of an allocation that `?` returns
-pub halts_without_memory : {T : Type 0} (r : Result T Failure) (P : T → Type 0) (R : Refusal → Type 0) (W : Type 0) (text : List ℕ) (f : Failure)
-    → HasNumbers (status_of out_of_memory) None f → IsErrAnd r (λ y. y ≡ f) → MatchResult r P (Fails R W text)
-halts_without_memory (Ok v) P R W text f h up = absurd up
-halts_without_memory (Err y) P R W text f h up = explains_as (subst (HasNumbers (status_of out_of_memory) None) (sym up) h) ran_out
 
 -- an input that parses to no document
 pub no_document : {D V W : Type 0} {l : Language D} {view : V → D} {text bytes : List ℕ} {e : Refusal} {s m n : ℕ} {c : CauseText} {p : Option Place}

@@ -16,11 +16,11 @@ pub struct StatusName {
 #[repr(C)]
 #[derive(Drop)]
 pub struct Version {
-    /// It grows with each change that can break a caller.
+    /// The first number of the version.
     pub major: u32,
-    /// It grows with each addition.
+    /// The second number of the version.
     pub minor: u32,
-    /// It grows with each correction.
+    /// The third number of the version.
     pub patch: u32,
 }
 
