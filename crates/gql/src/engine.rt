@@ -39,6 +39,7 @@ fn read_all<R: Read>(alloc: Global, reader: &mut Counted<R>) -> Result<Vec<u8>, 
             count => bytes.extend_from_slice(&piece[..count])?,
         }
     }
+    // Each piece has a byte, and no vector takes `u64::MAX` bytes.
     unreachable!()
 }
 
@@ -59,6 +60,7 @@ fn write_all<W: Write>(writer: &mut Counted<W>, bytes: &[u8]) -> Result<(), RunE
             count => rest = rest.split_at(count).1,
         }
     }
+    // Each piece has a byte, and `bytes` has fewer than `u64::MAX`.
     unreachable!()
 }
 

@@ -83,16 +83,16 @@ symbol_derived g ok tight full tokens n samples k below =
     returns_derived g g (λ x. x) (Sym k) (reads_itself g ok tight full tokens (Sym k) refl (sampled_at g n k samples below))
 
 -- a language, which is read by its factored rules
-reads_language : {D : Type 0} (l : Language D) → IsReadable l → (e : Expr) → decides l.second_rows e ≡ true → has_samples (reading l) e ≡ true
+reads_language : {D : Type 0} (l : Language D) → IsReadable l → (e : Expr) → decides l.factored_rows e ≡ true → has_samples (reading l) e ≡ true
     → ReadsFor l.grammar (reading l) (written l.changes) e
 reads_language l r e d s =
-    let exact : IsExactFor l.grammar l.second_rows l.changes e =
-    exact_for l.grammar l.second_rows l.changes r.each r.each_unchecked r.each_lax r.ll1 r.productive e d s in
+    let exact : IsExactFor l.grammar l.factored_rows l.changes e =
+    exact_for l.grammar l.factored_rows l.changes r.each r.each_unchecked r.each_lax r.ll1 r.productive e d s in
     record {
       sound = exact.sound;
       longest = λ ts us x takes y more derives next. (exact.longest ts us x takes y more derives next).1;
       parts = λ ts us why fails. let first = exact.earliest ts us why fails in (first.front, first.parts);
-      least = least_for l.grammar l.second_rows l.changes r.each r.each_lax r.ll1 r.tight r.productive r.refuses_tokens e d s;
+      least = least_for l.grammar l.factored_rows l.changes r.each r.each_lax r.ll1 r.tight r.productive r.refuses_tokens e d s;
     }
 
 pub symbol_derived_for : {D : Type 0} (l : Language D) → IsReadable l → (n : ℕ) → sampled_below (reading l) n ≡ true → (k : ℕ) → k < n

@@ -24,8 +24,8 @@ unfoldable pub use round_trip.*
 unfoldable pub use documents.*
 unfoldable pub use ByGrammar.*
 pub use grammar.{same_spelling-true, sees-apart, sees-parts, sees-within, take-or_fail}
-pub use rules.{IsSecond-head, IsSecond-prefix, IsSecond-second, IsSecond-sides, IsSecond-symbols, alone_before}
-pub use rules.{each_is_second, tests_alike, unchanged_then, with_more}
+pub use rules.{IsFactored-head, IsFactored-prefix, IsFactored-second, IsFactored-sides, IsFactored-symbols, alone_before}
+pub use rules.{each_is_factored, tests_alike, unchanged_then, with_more}
 pub use lexical.{Sees, cut_of, front_sees, has_items, items_unique, no_front, stands_front}
 pub use sources.{stands_before, token_follows}
 pub use sources.{EndsInMark, HasItemAt, Rise, TokensKept, boundary, ends_after, holds_first, holds_on, items_rise}

@@ -1,10 +1,10 @@
-pub mod SecondSides
-pub mod SecondRules
+pub mod FactoredSides
+pub mod FactoredRules
 pub mod Unchanged
 pub mod Extending
 pub mod GrownTrees
-unfoldable pub use SecondSides.*
-unfoldable pub use SecondRules.*
+unfoldable pub use FactoredSides.*
+unfoldable pub use FactoredRules.*
 unfoldable pub use Unchanged.*
 unfoldable pub use Extending.*
 unfoldable pub use GrownTrees.*

@@ -21,8 +21,8 @@ unfoldable pub use theory.*
 unfoldable pub use examples.*
 pub use grammar.{AnyOf, Both, Class, Either, Empty, Except, Expr, First, Fits, Grammar, Improper, IsLeast, Leaf, Many}
 pub use grammar.{More, Node, Nothing, One, ParseTree, Place, Reason, Refused, Row, Second, Spelled, Stop, Sym, Then}
-pub use grammar.{Token, Unexpected, accepts, all_apart, all_within, fits_both, fits_first, fits_leaf, fits_more}
-pub use grammar.{fits_node, fits_nothing, fits_second, fits_stop, in_any, is_listed, lax, leads_node, leaves, matches}
+pub use grammar.{Token, Unexpected, accepts, fits_both, fits_first, fits_leaf, fits_more}
+pub use grammar.{fits_node, fits_nothing, fits_second, fits_stop, is_listed, lax, leads_node, leaves, matches}
 pub use grammar.{nowhere, optional, peek, replaced, row, row_at, same_spelling, some_of, with_tables}
 pub use lexical.{BeginsNone, BeginsWithElement, HasItems, Ignored, IsCutInto, IsName, Item, LexicalError, Meaning}
 pub use lexical.{Piece, Stands, Stream, TokenContent, Where, Word, depth_of, is_in_line, is_too_deep, item_at}
@@ -36,11 +36,11 @@ pub use sources.{split, text_too_long, token_of, tokens_then, too_long, unexpect
 pub use sources.{unknown_location, unknown_operation, unplaced}
 pub use steps.{Adds, Consumes, Gives, IsBadPlaceOf, IsFaultFor, IsList, IsNext, IsReadable, MayFollow, Reads, Refusals}
 pub use steps.{SaysNode, Shows, StopsFor, TakesOne, TakesSome, TakesToken, after, halt_reason, ignored_front}
-pub use steps.{items_of_stream, kept, lexeme_token, line_end, reason_of, sees_class, spelling_of}
+pub use steps.{arguments_brackets, directives_brackets, items_of_stream, kept, lexeme_token, line_end, reason_of, sees_class, spelling_of}
 pub use values.{AreLawfulArguments, AreLawfulDirectives, DirectiveTree, IsLawful, IsNameBut, IsPrintableArgument}
 pub use values.{IsPrintableDefault, IsPrintableDirective, IsPrintableType, TypeTree, ValueTree, Weights, any}
-pub use values.{argument_view, arguments_brackets, arguments_depth, arguments_symbol, arguments_view, default_depth}
-pub use values.{default_symbol, directive_symbol, directive_view, directives_brackets, directives_depth, directives_of}
+pub use values.{argument_view, arguments_depth, arguments_symbol, arguments_view, default_depth}
+pub use values.{default_symbol, directive_symbol, directive_view, directives_depth, directives_of}
 pub use values.{directives_symbol, directives_view, each_of, enclosed_of, erase, erase_all, first_place, has_any}
 pub use values.{in_brackets, is_there, joined_of, keyword, location_class, most, most_around, most_enclosed, name}
 pub use values.{named, no_place, optional_arguments_of, optional_default_of, optional_list_of, optional_of, place_at}
@@ -53,10 +53,10 @@ pub use layouts.{in_levels, in_parentheses, name_part, punctuator_part, quoted, 
 pub use layouts.{text_of, token, type_layout, with_indent, with_multiline}
 unfoldable pub use steps.{block_end, comment, front, items, items_in, number, other_token, quoted_front, string_end}
 pub use documents.{AnswersUnlessMemory, AreAlike, AreReadBack, HasNoValue, HasNone, HasOneFaultEach, IsDocument}
-pub use documents.{IsDocumentOf, IsLeastFault, IsParsed, IsReadBack, IsRefusalFor, IsRefusalOf, IsWide, IsWrittenOf}
+pub use documents.{IsDocumentOf, IsFirstError, IsParsed, IsReadBack, IsRefusalFor, IsRefusalOf, IsWide, IsWrittenOf}
 pub use documents.{Language, NoneGoesOn, ParsesDocument, ParsesStream, ReadsDocument, numbered, past_bound, reading}
-pub use theory.{After, AsFirst, Before, Change, EachIsSecond, Extends, Fails, Growth, InParts, InSides, RefusesTokens}
+pub use theory.{After, AsFirst, Before, Change, EachIsFactored, Extends, Fails, Growth, InParts, InSides, RefusesTokens}
 pub use theory.{Same, Takes, TestsAlike, change_at, cont, decides, either_way, fails_after, fails_before, fails_check}
 pub use theory.{fails_node, fails_one, fails_value, first, grown, growth_at, in_second, is_below, is_row, out_of_head}
-pub use theory.{out_of_prefix, out_of_sides, out_of_symbols, sees, solve, takes_both, takes_first, takes_leaf}
-pub use theory.{takes_node, takes_nothing, takes_second, takes_stop, unchanged, with_rows, written}
+pub use theory.{all_within, out_of_prefix, out_of_sides, out_of_symbols, sees, solve, takes_both, takes_first, takes_leaf}
+pub use theory.{all_apart, in_any, takes_node, takes_nothing, takes_second, takes_stop, unchanged, with_rows, written}

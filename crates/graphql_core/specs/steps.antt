@@ -12,6 +12,7 @@ pub mod Front
 pub mod Joined
 pub mod Minifying
 pub mod NextLeaf
+pub mod Levels
 pub mod Lists
 pub mod Matching
 pub mod Numbers
@@ -39,6 +40,7 @@ unfoldable pub use Front.*
 unfoldable pub use Joined.*
 unfoldable pub use Minifying.*
 unfoldable pub use NextLeaf.*
+unfoldable pub use Levels.*
 unfoldable pub use Lists.*
 unfoldable pub use Matching.*
 unfoldable pub use Numbers.*

@@ -1,3 +1,4 @@
+pub mod Classes
 pub mod Tables
 pub mod Solve
 pub mod Reading
@@ -6,6 +7,7 @@ pub mod Factored
 pub mod Extended
 pub mod WholeTexts
 pub mod Grown
+unfoldable pub use Classes.*
 unfoldable pub use Tables.*
 unfoldable pub use Solve.*
 unfoldable pub use Reading.*

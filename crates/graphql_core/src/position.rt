@@ -12,7 +12,8 @@ use std::fmt;
 pub struct Pos {
     /// The line, from 1. LF ends a line. CR ends a line only at the end of a comment.
     pub line: usize,
-    /// The column in characters, from 1. In ignored text a tab counts 8 columns, and CR and U+FEFF count none.
+    /// The column in characters, from 1. In ignored text a tab counts 8 columns, and CR and U+FEFF count none. A
+    /// comment at the end of the input counts none, so the end has the position of its `#`.
     pub column: usize,
 }
 

@@ -6,7 +6,7 @@ use Rattle.std.proofs.lemmas.Bool.{and_parts, or_cases}
 use Rattle.std.proofs.lemmas.Bool.Decides.{nat_tests}
 use Rattle.std.proofs.lemmas.List.{drop_more}
 use Rattle.graphql_core.specs.declared.tokenizer.piece.Move.TheVariants.{Over, Down}
-use Rattle.graphql_core.specs.declared.tokenizer.piece.Nesting.TheVariants.{Level}
+use Rattle.graphql_core.specs.declared.tokenizer.piece.Nesting.TheVariants.{Unchanged}
 use Rattle.graphql_core.specs.steps.Front.{AtEnd}
 use Rattle.graphql_core.specs.declared.tokenizer.token.Kind.{Kind}
 use Rattle.graphql_core.specs.declared.tokenizer.token.Kind.TheVariants.{Punctuator, Name, IntValue, FloatValue, StringValue, BlockString}
@@ -148,7 +148,7 @@ pub block_written : (p : Piece) (margin : ℕ) (value : List ℕ) → p.kind ≡
 block_written p margin value kind is lines =
     let s = in_block_form margin margin value in
     let same : block_string_of s ≡ block_string_of p.text.now = block_lines_mean margin margin value lines ∙ is in (
-      subst (λ (k : PieceKind). IsSpelling k s) (sym kind) (Level, [], block_word margin margin value [] tt),
+      subst (λ (k : PieceKind). IsSpelling k s) (sym kind) (Unchanged, [], block_word margin margin value [] tt),
       ap (λ (k : PieceKind). kept_by k s) kind ∙ ap KeptBlock same ∙ sym (ap (λ (k : PieceKind). kept_by k p.text.now) kind),
       subst (λ (k : PieceKind). KeepsApart k p.text.now s) (sym kind) (λ before gap h. apart_block before gap p.text.now s h),
     )

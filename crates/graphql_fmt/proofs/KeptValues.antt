@@ -1,7 +1,7 @@
 -- Inputs with the same tokens and comments have tokens of the same kinds and values, and the same end.
 use Rattle.std.proofs.Common.{◌≡◌, ℕ, ◌==◌, Bool, true, false, not, ◌&&◌, if◌then◌else◌, List, [], ◌∷◌, ◌++◌, length, map, slice_index, refl, sym, ◌∙◌, subst}
 use Rattle.graphql_core.specs.declared.tokenizer.piece.Nesting.{Nesting}
-use Rattle.graphql_core.specs.declared.tokenizer.piece.Nesting.TheVariants.{Level, Opens, Closes}
+use Rattle.graphql_core.specs.declared.tokenizer.piece.Nesting.TheVariants.{Unchanged, Opens, Closes}
 use Rattle.graphql_core.specs.declared.tokenizer.token.Kind.{Kind}
 use Rattle.graphql_core.specs.declared.tokenizer.token.Kind.TheVariants.{Punctuator, Name, IntValue, FloatValue, StringValue, BlockString}
 use Rattle.graphql_core.specs.declared.tokenizer.element.ElementKind.TheVariants as element
@@ -20,17 +20,17 @@ use Rattle.graphql_fmt.specs.{Kept, KeptToken, KeptBlock, KeptComment, kept_toke
 -- ---- how a token changes the number of open brackets, by its spelling
 
 abbrev punctuator_nesting : List ℕ → Nesting
-punctuator_nesting [] = Level
+punctuator_nesting [] = Unchanged
 punctuator_nesting (b ∷ []) = nesting_of b
-punctuator_nesting (b ∷ c ∷ cs) = Level
+punctuator_nesting (b ∷ c ∷ cs) = Unchanged
 
 abbrev nesting : Kind → List ℕ → Nesting
 nesting Punctuator s = punctuator_nesting s
-nesting Name s = Level
-nesting IntValue s = Level
-nesting FloatValue s = Level
-nesting StringValue s = Level
-nesting BlockString s = Level
+nesting Name s = Unchanged
+nesting IntValue s = Unchanged
+nesting FloatValue s = Unchanged
+nesting StringValue s = Unchanged
+nesting BlockString s = Unchanged
 
 nesting_is : {s : List ℕ} {k : Kind} {n : Nesting} {rest : List ℕ} → Stands s (Word k n) rest → nesting k s ≡ n
 nesting_is (name_token first continues ends) = refl
@@ -73,7 +73,7 @@ SaysItems w items ks =
     (map valued (split items).tokens ≡ tokens_by w.openers w.closers ks) × (is_end (split items).last ≡ ends_by w.openers w.closers ks)
 
 past_is : (n : Nesting) (w : Where) → is_past n w.openers w.closers ≡ is_too_deep n w
-past_is Level w = refl
+past_is Unchanged w = refl
 past_is Opens w = refl
 past_is Closes w = refl
 
@@ -90,12 +90,12 @@ says_word : (k : Kind) (s : List ℕ) (w : Where) (more : Where → List Item) (
     → SaysItems w (piece_then (Word k (nesting k s)) more w s) (kept_token k s ∷ ks)
 says_word Punctuator s w more ks h =
     says_token (is_too_deep (punctuator_nesting s) w) Punctuator s w _ ks (past_is (punctuator_nesting s) w) refl (h (past_token (punctuator_nesting s) s w))
-says_word Name s w more ks h = says_token false Name s w _ ks refl refl (h (past_token Level s w))
-says_word IntValue s w more ks h = says_token false IntValue s w _ ks refl refl (h (past_token Level s w))
-says_word FloatValue s w more ks h = says_token false FloatValue s w _ ks refl refl (h (past_token Level s w))
-says_word StringValue s w more ks h = says_token false StringValue s w _ ks refl refl (h (past_token Level s w))
+says_word Name s w more ks h = says_token false Name s w _ ks refl refl (h (past_token Unchanged s w))
+says_word IntValue s w more ks h = says_token false IntValue s w _ ks refl refl (h (past_token Unchanged s w))
+says_word FloatValue s w more ks h = says_token false FloatValue s w _ ks refl refl (h (past_token Unchanged s w))
+says_word StringValue s w more ks h = says_token false StringValue s w _ ks refl refl (h (past_token Unchanged s w))
 says_word BlockString s w more ks h =
-    let (tokens, end) = h (past_token Level s w) in
+    let (tokens, end) = h (past_token Unchanged s w) in
     ((λ i. token_by BlockString (block_string_of s) ∷ tokens i), end)
 
 -- of ignored text only comments are kept, and they are no tokens
@@ -147,7 +147,7 @@ same_values source text items others (ks, mine, theirs) has more =
 all_piece : (m : Meaning) (w : Where) (bytes stop : List ℕ) (more : Where → List Item) → ((v : Where) → IsEnd (split (more v)).last → stop ≡ [])
     → IsEnd (split (piece_then m more w bytes)).last → stop ≡ []
 all_piece (Ignored m) w bytes stop more f end = f (past_ignored m (length bytes) w) end
-all_piece (Word k Level) w bytes stop more f end = f (past_token Level bytes w) end
+all_piece (Word k Unchanged) w bytes stop more f end = f (past_token Unchanged bytes w) end
 all_piece (Word k Closes) w bytes stop more f end = f (past_token Closes bytes w) end
 all_piece (Word k Opens) w bytes stop more f end = all_opened (is_too_deep Opens w) end
   where

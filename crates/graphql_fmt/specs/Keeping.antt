@@ -14,13 +14,13 @@ abbrev pub trimmed_after : ℕ → List ℕ → List ℕ
 trimmed_after b [] = if is_ascii_whitespace b then [] else b ∷ []
 trimmed_after b (c ∷ cs) = b ∷ c ∷ cs
 
--- without the white space and line ends at the end
+-- without the ASCII white space at the end: spaces, tabs, line feeds, form feeds and carriage returns
 abbrev pub trimmed : List ℕ → List ℕ
 trimmed [] = []
 trimmed (b ∷ bs) = trimmed_after b (trimmed bs)
 
 -- A block string is kept by its value, and any other token by its kind and its spelling.
--- A comment is kept from its `#` on, without the white space and the line end at its end.
+-- A comment is kept from its `#` on, without the ASCII white space at its end.
 pub data Kept : Type 0 where
   KeptToken : Kind → List ℕ → Kept
   KeptBlock : List ℕ → Kept

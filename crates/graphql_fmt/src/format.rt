@@ -108,6 +108,7 @@ pub fn format_source(
     check(alloc, language, source)?;
     match formatted(alloc, source, language, options)? {
         Some(text) => Ok(text),
+        // The input has been parsed, so it has no lexical error.
         None => unreachable!(),
     }
 }

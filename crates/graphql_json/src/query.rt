@@ -4,7 +4,8 @@ ghost use Rattle.graphql_core.specs.{place_of, directives_view};
 ghost use Rattle.graphql_query.specs.Tree.{type_condition_view, fragment_spread_view, field_view, inline_fragment_view};
 ghost use Rattle.graphql_query.specs.Tree.{selection_view, selections_view, selection_set_view};
 ghost use Rattle.graphql_query.specs.Tree.{variable_definition_view};
-ghost use Rattle.graphql_query.specs.Tree.{variable_definitions_view, operation_view, fragment_definition_view};
+ghost use Rattle.graphql_query.specs.Tree.{variable_definitions_view, operation_definition_view};
+ghost use Rattle.graphql_query.specs.Tree.{fragment_definition_view};
 ghost use Rattle.graphql_query.specs.Tree.{definition_view, document_view, query_view, mutation_view};
 ghost use Rattle.graphql_query.specs.Tree.{subscription_view, short, operation, fragment};
 ghost use Rattle.graphql_json.specs.steps.Pieces.{Appends};
@@ -244,7 +245,7 @@ impl<N: Names> Node for Subscription<N> {
 }
 
 impl<N: Names> Node for OperationDefinition<N> {
-    ghost as_json = { λ o. definition_json (operation_view N.bytes o) };
+    ghost as_json = { λ o. definition_json (operation_definition_view N.bytes o) };
 
     fn write(&self, out: &mut Buffer) -> Result<(), AllocError> {
         match self {

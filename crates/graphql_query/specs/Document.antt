@@ -3,7 +3,7 @@ use Rattle.std.specs.Prelude.{ℕ, List, Result}
 use Rattle.graphql_core.specs.{Refusal, Items, FaultText, Language}
 use Rattle.graphql_query.specs.Tree.{DocumentTree, erase}
 use Rattle.graphql_query.specs.Grammar.{query, document_symbol}
-use Rattle.graphql_query.specs.steps.SecondRules.{second_rows, changes}
+use Rattle.graphql_query.specs.steps.FactoredRules.{factored_rows, changes}
 use Rattle.graphql_query.specs.Meanings.{document_of}
 use Rattle.graphql_core.specs.documents.Document as document
 use Rattle.graphql_core.specs.documents.Faults as fault
@@ -17,7 +17,7 @@ queries = record {
   erase = erase;
   lacks = λ c. fault.HasNoValue;
   refuses = λ node f. ⊥;
-  second_rows = second_rows;
+  factored_rows = factored_rows;
   changes = changes;
 }
 
@@ -46,9 +46,9 @@ AreAlike = document.AreAlike queries
 -- ---- errors
 
 -- the first error of the input
-abbrev pub IsLeastFaultOf : List ℕ → FaultText → Type 0
-IsLeastFaultOf = fault.IsLeastFaultOf queries
+abbrev pub IsFirstErrorOf : List ℕ → FaultText → Type 0
+IsFirstErrorOf = fault.IsFirstErrorOf queries
 
 -- the tokens before this error are a prefix of some document; with the offending token or end they are not
-abbrev pub IsFirstFaultOf : List ℕ → FaultText → Type 0
-IsFirstFaultOf = fault.IsFirstFaultOf queries
+abbrev pub StopsAllDocumentsOf : List ℕ → FaultText → Type 0
+StopsAllDocumentsOf = fault.StopsAllDocumentsOf queries

@@ -27,7 +27,7 @@ query_0_4_1 = record {
   samples = query.samples;
 }
 
--- no input is parsed by this grammar, so the second rules are ignored
+-- no input is parsed by this grammar, so the factored rules are ignored
 abbrev pub queries_0_4_1 : Language DocumentTree
 queries_0_4_1 = record queries { grammar = query_0_4_1 }
 

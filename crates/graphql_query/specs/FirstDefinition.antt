@@ -16,7 +16,7 @@ one_definition_of l = record {
   erase = erase_definition;
   lacks = l.lacks;
   refuses = l.refuses;
-  second_rows = l.second_rows;
+  factored_rows = l.factored_rows;
   changes = l.changes;
 }
 

@@ -109,16 +109,16 @@ operation_body_of (Node k (Both n (Both vs (Both ds s)))) =
 operation_body_of _ = record { name = None; variables = []; directives = []; selected = no_selection_set nowhere }
 
 -- the position of an operation is that of its keyword
-abbrev pub keyword_of : OperationKind → ParseTree → OperationTree
-keyword_of kind (Both w c) = with_body kind (place_at w) (operation_body_of c)
-keyword_of kind _ = with_body kind nowhere
+abbrev pub keyword_operation_of : OperationKind → ParseTree → OperationTree
+keyword_operation_of kind (Both w c) = with_body kind (place_at w) (operation_body_of c)
+keyword_operation_of kind _ = with_body kind nowhere
     (record { name = None; variables = []; directives = []; selected = no_selection_set nowhere })
 
 abbrev pub operation_of : ParseTree → DefinitionTree
 operation_of (Node k (First s)) = short (selection_set_of s)
-operation_of (Node k (Second (First o))) = operation (keyword_of query_kind o)
-operation_of (Node k (Second (Second (First o)))) = operation (keyword_of mutation_kind o)
-operation_of (Node k (Second (Second (Second o)))) = operation (keyword_of subscription_kind o)
+operation_of (Node k (Second (First o))) = operation (keyword_operation_of query_kind o)
+operation_of (Node k (Second (Second (First o)))) = operation (keyword_operation_of mutation_kind o)
+operation_of (Node k (Second (Second (Second o)))) = operation (keyword_operation_of subscription_kind o)
 operation_of _ = short (no_selection_set nowhere)
 
 -- the position of a fragment is that of its keyword

@@ -1,8 +1,7 @@
 -- The errors and the output of minifying.
-use Rattle.std.specs.Prelude.{◌≡◌, ◌≤◌, ◌<◌, ℕ, List, length, Some, string_bytes, String, Result, Ok, Err}
+use Rattle.std.specs.Prelude.{◌≡◌, ◌≤◌, ◌<◌, ℕ, List, length, Some}
 use Rattle.graphql_core.specs.{LastIsError, Place, CauseText, Item, HasItems, split, no_memory, max_length, too_long}
 use Rattle.graphql_core.specs.{Refusal}
-use Rattle.std.specs.Global.{Global}
 
 -- an allocation failed, the source is too long, or the source has a lexical error with this cause at this position
 pub data IsMinifyRefusalOf (text : List ℕ) : Refusal → Type 0 where
@@ -10,8 +9,3 @@ pub data IsMinifyRefusalOf (text : List ℕ) : Refusal → Type 0 where
   past_bound : max_length < length text → IsMinifyRefusalOf text too_long
   bad_place : {items : List Item} {p : Place} {c : CauseText} → length text ≤ max_length → HasItems text items
       → (split items).last ≡ LastIsError p c → IsMinifyRefusalOf text (record { cause = c; place = Some p })
-
--- the output is this one, unless an allocation failed
-abbrev pub TellsUnlessMemory : List ℕ → Result (String Global) Refusal → Type 0
-TellsUnlessMemory text (Ok s) = string_bytes s ≡ text
-TellsUnlessMemory text (Err e) = e ≡ no_memory

@@ -1,5 +1,5 @@
 -- Printable documents: those whose layouts parse back to them, if their values satisfy the invariants of their types.
-use Rattle.std.specs.Prelude.{ℕ, ◌≤◌, List, [], ◌∷◌, codes}
+use Rattle.std.specs.Prelude.{ℕ, ◌≤◌, [], ◌∷◌, codes}
 use Rattle.std.specs.List.{AllByRecursion}
 use Rattle.std.specs.Option.{IfSome}
 use Rattle.graphql_core.specs.{IsName, IsNameBut, IsPrintableArgument, IsPrintableDirective, IsPrintableType}
@@ -7,8 +7,7 @@ use Rattle.graphql_core.specs.{IsPrintableDefault, in_brackets, most}
 use Rattle.graphql_query.specs.Tree.{spread, more, SelectionTree, field, inline, SelectionSetTree, set, SelectionTrees}
 use Rattle.graphql_query.specs.Tree.{none, VariableDefinitionTree, OperationTree, FragmentDefinitionTree}
 use Rattle.graphql_query.specs.Tree.{DefinitionTree, short, operation, fragment, DocumentTree}
-use Rattle.graphql_query.specs.TreeDepth.{selection_depth, selected_depth, selection_set_depth, selections_depth}
-use Rattle.graphql_query.specs.TreeDepth.{variable_definition_depth, variable_definitions_depth, definition_depth}
+use Rattle.graphql_query.specs.TreeDepth.{definition_depth}
 
 -- ---- names, types and values
 
@@ -74,24 +73,6 @@ abbrev pub DefinitionSelects : DefinitionTree → Type 0
 DefinitionSelects d = Selects (selection_set_of_definition d) × SelectInside (selection_set_of_definition d)
 
 -- ---- brackets that are open at once
-
-abbrev pub selection_brackets : SelectionTree → ℕ
-selection_brackets = selection_depth in_brackets
-
-abbrev pub selected_brackets : SelectionSetTree → ℕ
-selected_brackets = selected_depth in_brackets
-
-abbrev pub selection_set_brackets : SelectionSetTree → ℕ
-selection_set_brackets = selection_set_depth in_brackets
-
-abbrev pub selections_brackets : SelectionTrees → ℕ
-selections_brackets = selections_depth in_brackets
-
-abbrev pub variable_definition_brackets : VariableDefinitionTree → ℕ
-variable_definition_brackets = variable_definition_depth in_brackets
-
-abbrev pub variable_definitions_brackets : List VariableDefinitionTree → ℕ
-variable_definitions_brackets = variable_definitions_depth in_brackets
 
 abbrev pub definition_brackets : DefinitionTree → ℕ
 definition_brackets = definition_depth in_brackets

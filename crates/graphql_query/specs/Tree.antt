@@ -203,14 +203,14 @@ module _ {N T : Type 0} (bytes : T → List ℕ) where
     selected = selection_set_view f.selection_set;
   }
 
-  abbrev pub operation_view : OperationDefinition N T → DefinitionTree
-  operation_view (operations.SelectionSet s) = short (selection_set_view s)
-  operation_view (operations.Query o) = operation (query_view o)
-  operation_view (operations.Mutation o) = operation (mutation_view o)
-  operation_view (operations.Subscription o) = operation (subscription_view o)
+  abbrev pub operation_definition_view : OperationDefinition N T → DefinitionTree
+  operation_definition_view (operations.SelectionSet s) = short (selection_set_view s)
+  operation_definition_view (operations.Query o) = operation (query_view o)
+  operation_definition_view (operations.Mutation o) = operation (mutation_view o)
+  operation_definition_view (operations.Subscription o) = operation (subscription_view o)
 
   abbrev pub definition_view : Definition N T → DefinitionTree
-  definition_view (definitions.Operation o) = operation_view o
+  definition_view (definitions.Operation o) = operation_definition_view o
   definition_view (definitions.Fragment f) = fragment (fragment_definition_view f)
 
   abbrev pub definitions_view : List (Definition N T) → DocumentTree

@@ -1,8 +1,10 @@
-pub mod SecondRules
+pub mod Brackets
+pub mod FactoredRules
 pub mod Sets
 pub mod Operations
 pub mod Readers
-unfoldable pub use SecondRules.*
+unfoldable pub use Brackets.*
+unfoldable pub use FactoredRules.*
 unfoldable pub use Sets.*
 unfoldable pub use Operations.*
 unfoldable pub use Readers.*

@@ -40,7 +40,7 @@ impl<N: Names> ReadDocument<N> for Document<N> {
 /// allocation failed. Every other error describes the first token (or the end of the input) that is wrong. `BadToken`
 /// means an invalid token, and `TooDeep` the 51st bracket that is open at once. `UnexpectedToken` and `UnexpectedEnd`
 /// mean that no document can continue with the token, or end there. `IntOutOfRange`, `MalformedFloat` and `BadEscape`
-/// mean an integer outside `i64`, a float whose exponent has no digit, and an escape without a character.
+/// mean an integer outside `i64`, a float whose exponent is only a sign (`1e+`), and an escape without a character.
 pub fn parse_query<'a, S: Text<'a>>(
     alloc: Global,
     source: &'a str,

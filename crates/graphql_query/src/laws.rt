@@ -1,27 +1,27 @@
 //! Theorems about the specification of errors, of minifying, of readers and of first definitions.
 ghost use Rattle.std.specs.Prelude.{◌≡◌, ◌<◌, ℕ, true, List, length, Result};
-ghost use Rattle.graphql_core.specs.{Item, is_unexpected, IsMinified, FaultText, split, IsLeastFault, NoneGoesOn};
+ghost use Rattle.graphql_core.specs.{Item, is_unexpected, IsMinified, FaultText, split, IsFirstError, NoneGoesOn};
 ghost use Rattle.graphql_core.specs.{Refusal, Sym, ParseTree, Items, reason_of, HasOneFaultEach};
 ghost use Rattle.graphql_core.specs.documents.ByGrammar.{ReturnsDerived};
 ghost use Rattle.graphql_core.specs.declared.helpers.read_error.ReadError.{ReadError};
-ghost use Rattle.graphql_query.specs.{DocumentTree, queries, IsParsed, AreAlike, IsFirstFaultOf, IsLeastFaultOf};
-ghost use Rattle.graphql_query.specs.{one_definition, Reads, second_rows, DefinitionTree, IsFirstDefinition};
+ghost use Rattle.graphql_query.specs.{DocumentTree, queries, IsParsed, AreAlike, StopsAllDocumentsOf, IsFirstErrorOf};
+ghost use Rattle.graphql_query.specs.{one_definition, Reads, factored_rows, DefinitionTree, IsFirstDefinition};
 ghost use Rattle.graphql_query.specs.{NoneBeginsAnother};
 
 /// An input has at most one first error (the one at the lowest token index). The tokens before it are a prefix of some
 /// document. With the offending token, or the end of the input, they are not.
-pub fn least_faults_are_first()
-    ensures one { (text : List ℕ) (f g : FaultText) → IsLeastFaultOf text f → IsLeastFaultOf text g → f ≡ g }
-    ensures first { (text : List ℕ) (f : FaultText) → IsLeastFaultOf text f → IsFirstFaultOf text f }
+pub fn first_errors_stop_all_documents()
+    ensures one { (text : List ℕ) (f g : FaultText) → IsFirstErrorOf text f → IsFirstErrorOf text g → f ≡ g }
+    ensures first { (text : List ℕ) (f : FaultText) → IsFirstErrorOf text f → StopsAllDocumentsOf text f }
 {}
 
 /// If the first error is an unexpected token or end, the tokens before it are a prefix of some list that the plain
 /// grammar accepts. With the offending token or end they are not. The plain grammar also accepts literals without a
 /// value. The theorem holds for an input and for the rest of a stream.
 pub fn none_goes_on_with_an_unexpected_item()
-    ensures documents { (items : List Item) (f : FaultText) → IsLeastFault queries (split items) f
+    ensures documents { (items : List Item) (f : FaultText) → IsFirstError queries (split items) f
         → is_unexpected f.cause ≡ true → NoneGoesOn queries (split items) f }
-    ensures definitions { (items : List Item) (f : FaultText) → IsLeastFault one_definition (split items) f
+    ensures definitions { (items : List Item) (f : FaultText) → IsFirstError one_definition (split items) f
         → is_unexpected f.cause ≡ true → NoneGoesOn one_definition (split items) f }
 {}
 
@@ -30,8 +30,8 @@ pub fn minified_texts_are_parsed_alike()
     ensures alike { (source text : List ℕ) (r s : Result DocumentTree Refusal) → IsMinified source text
         → IsParsed source r → IsParsed text s → AreAlike r s }
     // The two errors have the same cause.
-    ensures one_cause { (source text : List ℕ) (f g : FaultText) → IsMinified source text → IsLeastFaultOf source f
-        → IsLeastFaultOf text g → f.cause ≡ g.cause }
+    ensures one_cause { (source text : List ℕ) (f g : FaultText) → IsMinified source text → IsFirstErrorOf source f
+        → IsFirstErrorOf text g → f.cause ≡ g.cause }
 {}
 
 /// What a reader of a symbol promises by the factored rules implies what is said by the written grammar alone. A
@@ -39,7 +39,7 @@ pub fn minified_texts_are_parsed_alike()
 /// that the symbol derives begins with these tokens and the next. Or the error is the first error for the symbol.
 pub fn readers_return_what_is_derived<V, M>()
     ensures { (k : ℕ) (old new : Items) (view : V → M) (means : ParseTree → M) (r : Result V ReadError)
-        → k < length second_rows → Reads (Sym k) old new (λ v x. view v ≡ means x) r
+        → k < length factored_rows → Reads (Sym k) old new (λ v x. view v ≡ means x) r
         → ReturnsDerived queries.grammar (Sym k) old new reason_of (λ v x. view v ≡ means x) r }
 {}
 

@@ -16,8 +16,8 @@ pub use document::{parse_query, parse_query_from};
 pub use error::ParseError;
 pub use graphql_core::common::{Names, Text};
 pub use laws::{
-    definition_errors_have_different_indexes, first_definition_is_unique, least_faults_are_first,
-    minified_texts_are_parsed_alike, no_definition_begins_another,
+    definition_errors_have_different_indexes, first_definition_is_unique,
+    first_errors_stop_all_documents, minified_texts_are_parsed_alike, no_definition_begins_another,
     none_goes_on_with_an_unexpected_item, readers_return_what_is_derived,
 };
 pub use minify::{MinifyError, minify_query};

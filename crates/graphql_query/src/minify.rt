@@ -1,7 +1,9 @@
-//! Minifying: the tokens of a source, with a space only where two tokens would otherwise run together.
+//! Minifying: the tokens of a source, with a space between two tokens that are not punctuators, and between a number
+//! and `...`.
 ghost use Rattle.std.specs.Prelude.{◌<◌, ◌≤◌, ℕ, List, length, IfOk, IfErr, IsErrOf, string_bytes};
 ghost use Rattle.graphql_core.specs.{HasTokens, HasItems, Item, split, IsMinified, max_length, too_long};
-ghost use Rattle.graphql_query.specs.{IsDocumentOf, IsReadBack, DocumentTree, IsMinifyRefusalOf, TellsUnlessMemory};
+ghost use Rattle.graphql_core.specs.{AnswersUnlessMemory};
+ghost use Rattle.graphql_query.specs.{IsDocumentOf, IsReadBack, DocumentTree, IsMinifyRefusalOf};
 
 mod error;
 
@@ -36,7 +38,7 @@ pub fn minify_query(alloc: Global, source: String) -> Result<String, MinifyError
     // Every source of at most `MAX_LENGTH` bytes without a lexical error is minified, or the call returns
     // `OutOfMemory`.
     ensures complete { (text : List ℕ) → length (string_bytes source) ≤ max_length
-        → IsMinified (string_bytes source) text → TellsUnlessMemory text result }
+        → IsMinified (string_bytes source) text → AnswersUnlessMemory string_bytes text result }
 
     // An error is the lexical error of the source, `TextTooLong` or `OutOfMemory`. A source that is too long is
     // rejected before any allocation.

@@ -32,7 +32,7 @@ schema_0_4_1 =
       samples = schema_grammar.samples;
     }
 
--- no input is parsed by this grammar, so the second rules are ignored
+-- no input is parsed by this grammar, so the factored rules are ignored
 abbrev pub schemas_0_4_1 : Language DocumentTree
 schemas_0_4_1 = record schemas { grammar = schema_0_4_1 }
 

@@ -99,7 +99,8 @@ roots_symbol = schema_extension_symbol + 1
 
 -- ---- single tokens
 
--- a token has a value as a leaf of this class; a location has one if its name is a directive location
+-- A token has a value as a leaf of this class. A location has one if its name is a directive location: `Except k []` is
+-- `location_class`.
 abbrev pub is_good : Class → Token → Bool
 is_good (Except k []) t = is_location t.spelling
 is_good c t = leaves.is_good c t

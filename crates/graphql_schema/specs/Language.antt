@@ -7,11 +7,12 @@ use Rattle.graphql_schema.specs.Tree.{SchemaTree, DefinitionTree, extension, sch
 use Rattle.graphql_schema.specs.Meanings.{no_schema, schema_of, schema_extension_of, extension_of, document_of}
 use Rattle.graphql_schema.specs.Roots.{RootFault, root_fault_of, extension_fault_of, root_cause}
 use Rattle.graphql_schema.specs.Grammar.{schema_grammar, document_symbol, schema_symbol, schema_extension_symbol}
-use Rattle.graphql_schema.specs.steps.SecondRules.{second_rows, changes}
+use Rattle.graphql_schema.specs.steps.FactoredRules.{factored_rows, changes}
 use Rattle.graphql_core.specs.documents.Document as document
 use Rattle.graphql_core.specs.documents.Faults as fault
 
--- why a leaf is rejected: its name is no directive location, or its token has no value
+-- Why a leaf is rejected: its name is no directive location (`Except k []` is `location_class`), or its token has no
+-- value.
 abbrev pub Lacks : Class → Token → CauseText → Type 0
 Lacks (Except k []) t c = (location_of t.spelling ≡ None) × (c ≡ unknown_location)
 Lacks leaf t c = HasNoValue t c
@@ -21,10 +22,10 @@ abbrev pub said_at : SchemaTree → RootFault → FaultText
 said_at s f = record { cause = root_cause f; place = s.position }
 
 -- the position of the keyword after `extend`
-abbrev pub keyword_of : DefinitionTree → Place
-keyword_of (extension b) = b.position
-keyword_of (schema_extension s) = s.position
-keyword_of _ = no_schema.position
+abbrev pub keyword_place_of : DefinitionTree → Place
+keyword_place_of (extension b) = b.position
+keyword_place_of (schema_extension s) = s.position
+keyword_place_of _ = no_schema.position
 
 -- The error of a rejected node. For a schema or an extension of it: the first wrong operation, at the keyword.
 -- For an extension that adds nothing: at the keyword after `extend`.
@@ -33,7 +34,7 @@ said_of (Node k x) =
     if k == schema_symbol then option_map (said_at (schema_of (Node k x))) (root_fault_of x)
     else if k == schema_extension_symbol
     then option_map (said_at (schema_extension_of (Node k x))) (extension_fault_of x)
-    else Some (record { cause = empty_extension; place = keyword_of (extension_of (Node k x)) })
+    else Some (record { cause = empty_extension; place = keyword_place_of (extension_of (Node k x)) })
 said_of _ = None
 
 abbrev pub schemas : Language DocumentTree
@@ -44,7 +45,7 @@ schemas = record {
   erase = erase;
   lacks = Lacks;
   refuses = λ node f. said_of node ≡ Some f;
-  second_rows = second_rows;
+  factored_rows = factored_rows;
   changes = changes;
 }
 
@@ -61,5 +62,5 @@ IsReadBack = document.IsReadBack schemas
 -- ---- errors
 
 -- the first error of the input
-abbrev pub IsLeastFaultOf : List ℕ → FaultText → Type 0
-IsLeastFaultOf = fault.IsLeastFaultOf schemas
+abbrev pub IsFirstErrorOf : List ℕ → FaultText → Type 0
+IsFirstErrorOf = fault.IsFirstErrorOf schemas

@@ -72,7 +72,7 @@ input_value_layout style margin v =
 abbrev pub arguments_layout : Layout → ℕ → List InputValueTree → List Part
 arguments_layout style margin = in_parentheses (input_value_layout style margin)
 
--- the line of a field of an input object
+-- a field of an input object, at the margin and with a line end
 abbrev pub input_field_layout : Layout → ℕ → InputValueTree → List Part
 input_field_layout style margin v = gap (spaces margin) ++ (input_value_layout style margin v ++ gap (codes "\n"))
 

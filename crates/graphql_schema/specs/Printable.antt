@@ -6,8 +6,7 @@ use Rattle.graphql_core.specs.{IsName, IsPrintableDirective, IsPrintableType, Is
 use Rattle.graphql_core.specs.{has_any}
 use Rattle.graphql_schema.specs.Tree.{InputValueTree, FieldTree, EnumValueTree, SchemaTree, PartsTree, scalar, object}
 use Rattle.graphql_schema.specs.Tree.{interface, union, enum, input, BodyTree, DefinitionTree, schema, type_definition}
-use Rattle.graphql_schema.specs.Tree.{extension, schema_extension, directive, DocumentTree, adds, adds_to_schema}
-use Rattle.graphql_schema.specs.TreeDepth.{input_value_depth, field_depth, enum_value_depth, parts_depth, body_depth}
+use Rattle.graphql_schema.specs.Tree.{extension, schema_extension, directive, DocumentTree, adds_something, adds_to_schema}
 use Rattle.graphql_schema.specs.TreeDepth.{definition_depth}
 
 -- ---- names, types and values
@@ -52,27 +51,12 @@ IsPrintableDefinition (directive d) = IsName d.name × AllByRecursion IsPrintabl
 
 -- an extension adds something, and a directive has a location
 abbrev pub IsWholeDefinition : DefinitionTree → Type 0
-IsWholeDefinition (extension b) = adds b ≡ true
+IsWholeDefinition (extension b) = adds_something b ≡ true
 IsWholeDefinition (schema_extension s) = adds_to_schema s ≡ true
 IsWholeDefinition (directive d) = has_any d.locations ≡ true
 IsWholeDefinition _ = Unit {0}
 
 -- ---- brackets that are open at once
-
-abbrev pub input_value_brackets : InputValueTree → ℕ
-input_value_brackets = input_value_depth in_brackets
-
-abbrev pub field_brackets : FieldTree → ℕ
-field_brackets = field_depth in_brackets
-
-abbrev pub enum_value_brackets : EnumValueTree → ℕ
-enum_value_brackets = enum_value_depth in_brackets
-
-abbrev pub parts_brackets : PartsTree → ℕ
-parts_brackets = parts_depth in_brackets
-
-abbrev pub body_brackets : BodyTree → ℕ
-body_brackets = body_depth in_brackets
 
 abbrev pub definition_brackets : DefinitionTree → ℕ
 definition_brackets = definition_depth in_brackets

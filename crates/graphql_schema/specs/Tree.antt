@@ -93,8 +93,8 @@ DocumentTree = List DefinitionTree
 -- ---- what an extension adds
 
 -- a directive or a part; interfaces count for an object type, but not for an interface
-abbrev pub adds : BodyTree → Bool
-adds b = has_any b.directives || has_parts b.parts
+abbrev pub adds_something : BodyTree → Bool
+adds_something b = has_any b.directives || has_parts b.parts
   where
     has_parts : PartsTree → Bool
     has_parts scalar = false
@@ -114,7 +114,7 @@ adds_to_schema s = has_any s.directives || has_operation s
 
 -- an extension adds something
 abbrev pub extends : DefinitionTree → Bool
-extends (extension b) = adds b
+extends (extension b) = adds_something b
 extends (schema_extension s) = adds_to_schema s
 extends _ = true
 

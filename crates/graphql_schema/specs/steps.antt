@@ -1,11 +1,13 @@
-pub mod SecondRules
+pub mod Brackets
+pub mod FactoredRules
 pub mod RootsRead
 pub mod Body
 pub mod TypeBodies
 pub mod Readers
 pub mod Refusals
 pub mod Keywords
-unfoldable pub use SecondRules.*
+unfoldable pub use Brackets.*
+unfoldable pub use FactoredRules.*
 unfoldable pub use RootsRead.*
 unfoldable pub use Body.*
 unfoldable pub use TypeBodies.*

@@ -42,11 +42,12 @@ impl<N: Names> ReadDocument<N> for Document<N> {
 /// allocation failed. Every other error describes the first token (or the end of the input) that is wrong. `BadToken`
 /// means an invalid token, and `TooDeep` the 51st bracket that is open at once. `UnexpectedToken` and `UnexpectedEnd`
 /// mean that no document can continue with the token, or end there. `IntOutOfRange`, `MalformedFloat` and `BadEscape`
-/// mean an integer outside `i64`, a float whose exponent has no digit, and an escape without a character.
+/// mean an integer outside `i64`, a float whose exponent is only a sign (`1e+`), and an escape without a character.
 /// `UnknownLocation` means a name that is not a directive location. `UnknownOperation` means an operation other than
 /// `query`, `mutation` and `subscription`. `DuplicateOperation` means an operation that appears twice in the braces.
-/// `EmptyExtension` means an extension that adds nothing. The last three are errors of the last token of a definition,
-/// and their position is that of the keyword `schema`, or of the keyword after `extend`.
+/// `EmptyExtension` means an extension that adds nothing, or an extension of an interface that adds only interfaces.
+/// The last three are errors of the last token of a definition, and their position is that of the keyword `schema`, or
+/// of the keyword after `extend`.
 pub fn parse_schema<'a, S: Text<'a>>(
     alloc: Global,
     source: &'a str,

@@ -1,7 +1,7 @@
 //! Theorems about the specification of errors, of minifying and of readers.
 ghost use Rattle.std.specs.Prelude.{◌≡◌, ◌<◌, ℕ, true, List, length, Result};
 ghost use Rattle.graphql_core.specs.{Item, HasItems, is_unexpected, IsMinified, FaultText, split, IsParsed, AreAlike};
-ghost use Rattle.graphql_core.specs.{IsLeastFault, NoneGoesOn, Refusal, IsRefusalOf, Sym, ParseTree, Items, reason_of};
+ghost use Rattle.graphql_core.specs.{IsFirstError, NoneGoesOn, Refusal, IsRefusalOf, Sym, ParseTree, Items, reason_of};
 ghost use Rattle.graphql_core.specs.{halt_reason};
 ghost use Rattle.graphql_core.specs.sources.Refusals.{Tells};
 ghost use Rattle.graphql_core.specs.documents.Faults.{IsFaultAt};
@@ -9,14 +9,14 @@ ghost use Rattle.graphql_core.specs.documents.ByGrammar.{ReturnsDerived};
 ghost use Rattle.graphql_core.specs.declared.helpers.read_error.ReadError.{ReadError};
 ghost use Rattle.graphql_core.specs.declared.common.read.node_error.NodeError.{NodeError};
 ghost use Rattle.graphql_schema.specs.declared.read.invalid_node.InvalidNode.{InvalidNode};
-ghost use Rattle.graphql_schema.specs.{schemas, IsDocumentOf, IsReadBack, IsLeastFaultOf, DocumentTree, RefersTo};
-ghost use Rattle.graphql_schema.specs.{Reads, ReadsNode, refusals, second_rows};
+ghost use Rattle.graphql_schema.specs.{schemas, IsDocumentOf, IsReadBack, IsFirstErrorOf, DocumentTree, RefersTo};
+ghost use Rattle.graphql_schema.specs.{Reads, ReadsNode, refusals, factored_rows};
 
 /// If the first error is an unexpected token or end, the tokens before it are a prefix of some list that the plain
 /// grammar accepts. With the offending token or end they are not. The plain grammar also accepts literals without a
 /// value and nodes that are rejected. The theorem holds for an input and for the rest of a stream.
 pub fn none_goes_on_with_an_unexpected_item()
-    ensures { (items : List Item) (f : FaultText) → IsLeastFault schemas (split items) f → is_unexpected f.cause ≡ true
+    ensures { (items : List Item) (f : FaultText) → IsFirstError schemas (split items) f → is_unexpected f.cause ≡ true
         → NoneGoesOn schemas (split items) f }
 {}
 
@@ -30,8 +30,8 @@ pub fn minified_texts_are_parsed_alike()
     ensures alike { (source text : List ℕ) (r s : Result DocumentTree Refusal) → IsMinified source text
         → IsParsed schemas source r → IsParsed schemas text s → AreAlike schemas r s }
     // The two errors have the same cause.
-    ensures one_cause { (source text : List ℕ) (f g : FaultText) → IsMinified source text → IsLeastFaultOf source f
-        → IsLeastFaultOf text g → f.cause ≡ g.cause }
+    ensures one_cause { (source text : List ℕ) (f g : FaultText) → IsMinified source text → IsFirstErrorOf source f
+        → IsFirstErrorOf text g → f.cause ≡ g.cause }
 {}
 
 /// What the error of a rejected node says is in the input, at the error's position. For an unknown or a repeated
@@ -51,11 +51,11 @@ pub fn rejected_nodes_are_in_the_input()
 /// that the symbol derives begins with these tokens and the next. Or the error is the first error for the symbol.
 pub fn readers_return_what_is_derived<V, M>()
     ensures plain { (k : ℕ) (old new : Items) (view : V → M) (means : ParseTree → M) (r : Result V ReadError)
-        → k < length second_rows → Reads (Sym k) old new (λ v x. view v ≡ means x) r
+        → k < length factored_rows → Reads (Sym k) old new (λ v x. view v ≡ means x) r
         → ReturnsDerived schemas.grammar (Sym k) old new reason_of (λ v x. view v ≡ means x) r }
     // of readers that can reject a node
     ensures nodes { (k : ℕ) (old new : Items) (view : V → M) (means : ParseTree → M)
         (r : Result V (NodeError InvalidNode))
-        → k < length second_rows → ReadsNode (Sym k) old new (λ v x. view v ≡ means x) r
+        → k < length factored_rows → ReadsNode (Sym k) old new (λ v x. view v ≡ means x) r
         → ReturnsDerived schemas.grammar (Sym k) old new (halt_reason refusals) (λ v x. view v ≡ means x) r }
 {}

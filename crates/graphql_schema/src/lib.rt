@@ -14,7 +14,7 @@ pub use graphql_core::common::{Names, Text};
 pub use location::{DirectiveLocation, InvalidDirectiveLocation, are_same_location};
 pub use text_laws::{
     brackets_are_those_of_the_layout, locations_are_named, printed_documents_are_read_back,
-    text_has_no_positions, three_symbols_have_second_rules, worked_examples, worked_layouts,
+    text_has_no_positions, three_symbols_have_factored_rules, worked_examples, worked_layouts,
     worked_refusals,
 };
 

@@ -8,7 +8,7 @@ ghost use Rattle.graphql_schema.specs.{WorkedLayouts, WorkedRefusals};
 ghost use Rattle.graphql_schema.specs.declared.location.DirectiveLocation.{DirectiveLocation};
 
 /// Only three of the written rules cannot be parsed with one token of lookahead.
-pub fn three_symbols_have_second_rules()
+pub fn three_symbols_have_factored_rules()
     ensures { unread written_rows 0 written_rows ≡ item_symbol ∷ extension_symbol ∷ described_symbol ∷ [] }
 {}
 

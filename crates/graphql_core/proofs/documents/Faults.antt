@@ -7,8 +7,8 @@ use Rattle.graphql_core.specs.{Begins, Grammar, Sym, ParseTree, Node, unchecked,
 use Rattle.graphql_core.specs.{bad_place, leaf_refused, node_refused, index_of, unexpected_item, IsLeast, Content, TokenContent, item_at, Where, Item, fault_at}
 use Rattle.graphql_core.specs.{LastIsError, Items, Last, LastIsEnd, IsEnd, FaultText, fault_by, place_next, split, int_out_of_range, malformed_float}
 use Rattle.graphql_core.specs.{bad_escape, CauseText, is_unexpected, no_value, ending_of, numbered, HasNoValue, out_of_range, malformed, escaped_badly, Says}
-use Rattle.graphql_core.specs.{IsFaultAt, IsLeastFault, NoneGoesOn, IsFaultOf, IsLeastFaultOf, HasOneFaultAt, HasOneFaultEach, HasNoFault, IsFaultAfter}
-use Rattle.graphql_core.specs.{IsFirstFault, IsFirstFaultOf, unexpected, Token, Class, AnyOf, matches, any, is_good, unquoted, without_ends, reading, Language}
+use Rattle.graphql_core.specs.{IsFaultAt, IsFirstError, NoneGoesOn, IsFaultOf, IsFirstErrorOf, HasOneFaultAt, HasOneFaultEach, HasNoFault, IsFaultAfter}
+use Rattle.graphql_core.specs.{StopsAllDocuments, StopsAllDocumentsOf, unexpected, Token, Class, AnyOf, matches, any, is_good, unquoted, without_ends, reading, Language}
 use Rattle.graphql_core.specs.{IsDocument, IsReadable}
 use Rattle.graphql_core.proofs.first_errors.{one_node_for}
 use Rattle.std.proofs.lemmas.Bool.Decides.{nat_tests}
@@ -89,11 +89,11 @@ module _ {D : Type 0} (l : Language D) (r : IsReadable l) where
 
   -- j is i after n tokens
   module _ (i j : Items) (n : ℕ) (later : drop n i.tokens ≡ j.tokens) (last : i.last ≡ j.last) (f : FaultText) where
-    pub unexpected_here : IsLeast l.grammar (Sym l.document) (numbered i) Unexpected (suc n) → f ≡ fault_at j → IsLeastFault l i f
+    pub unexpected_here : IsLeast l.grammar (Sym l.document) (numbered i) Unexpected (suc n) → f ≡ fault_at j → IsFirstError l i f
     unexpected_here w h = (suc n, Unexpected, w, h ∙ sym (λ k. fault_by (later k) (last k)))
 
     pub no_value_here : (c : Class) (k : CauseText) → Misses c k → IsLeast l.grammar (Sym l.document) (numbered i) (Improper c) (suc n)
-        → f.cause ≡ k → f.place ≡ place_next j → IsLeastFault l i f
+        → f.cause ≡ k → f.place ≡ place_next j → IsFirstError l i f
     no_value_here c k lacks w cause place =
         let (u, us, front, p, m, is, not_good) = refused_leaf (numbered i) c (suc n) w.0 in
         let here : drop n i.tokens ≡ u ∷ us = ap (drop n) p ∙ drop_at front (u ∷ us) n (omega (arith, m)) in
@@ -111,7 +111,7 @@ module _ {D : Type 0} (l : Language D) (r : IsReadable l) where
       let place_is = at ∙ ap (λ (v : Token). v.place) (sym same) ∙ sym at' in
       λ k. record { cause = cause_is k; place = place_is k }
   one_said (Refused k) i n f g fault (before, us, x, refused, at, said) (before', us', y, refused', at', said') =
-      let same = one_node_for l.grammar l.second_rows l.changes r.each r.each_lax r.ll1 r.tight r.productive (Sym l.document) r.decides r.samples
+      let same = one_node_for l.grammar l.factored_rows l.changes r.each r.each_lax r.ll1 r.tight r.productive (Sym l.document) r.decides r.samples
       i.tokens before us before' us' k x y refused refused' (sym at ∙ at') in
       r.one_said (Node k x) f g said (subst (λ (z : ParseTree). l.refuses (Node k z) g) (sym same) said')
 
@@ -124,7 +124,7 @@ module _ {D : Type 0} (l : Language D) (r : IsReadable l) where
   one_each text f g n (items, has, fault) (others, has', other) =
       one_at (split items) f g n fault (subst (λ (is : List Item). IsFaultAt l (split is) g n) (items_unique text others items has' has) other)
 
-  pub one_least : (text : List ℕ) (f g : FaultText) → IsLeastFaultOf l text f → IsLeastFaultOf l text g → f ≡ g
+  pub one_least : (text : List ℕ) (f g : FaultText) → IsFirstErrorOf l text f → IsFirstErrorOf l text g → f ≡ g
   one_least text f g (items, has, (n, why, x, said)) (others, has', (m, other, y, said')) =
       let same = subst (λ (is : List Item). IsLeast l.grammar (Sym l.document) (numbered (split is)) other m) (items_unique text others items has' has) y in
       let at = ((least l r).one (numbered (split items)) why other n m x same).1 in
@@ -165,7 +165,7 @@ module _ {D : Type 0} (l : Language D) (r : IsReadable l) where
       none_by items f n (Improper c) cause fault (t, rest, is, lacks, at) = absurd (both_ways _ (leaves_not c t f.cause lacks) cause)
       none_by items f n (Refused k) cause fault (before, us, x, refused, at, said) = absurd (both_ways _ (nodes_not (Node k x) f said) cause)
 
-      pub none_goes_on : (items : List Item) (f : FaultText) → IsLeastFault l (split items) f → is_unexpected f.cause ≡ true → NoneGoesOn l (split items) f
+      pub none_goes_on : (items : List Item) (f : FaultText) → IsFirstError l (split items) f → is_unexpected f.cause ≡ true → NoneGoesOn l (split items) f
       none_goes_on items f (n, why, least_one, said) cause = none_by items f n why cause least_one.0 said
 
   -- ---- the error of lowest index is the first error, if no node is rejected
@@ -194,7 +194,7 @@ module _ {D : Type 0} (l : Language D) (r : IsReadable l) where
       after_first (Refused k) w x said = absurd (none_refused (numbered i) k place x)
 
     first_by : (i : Items) (f : FaultText) (n : ℕ) (why : Reason) → IsLeast l.grammar (Sym l.document) (numbered i) why n → Says l why i n f
-        → (a : Answer) → Answers (reading l) (Sym l.document) (numbered i) a → IsFirstFault l i f
+        → (a : Answer) → Answers (reading l) (Sym l.document) (numbered i) a → StopsAllDocuments l i f
     first_by i f n why w said (results.Tree x) a = absurd ((least l r).tree (numbered i) x a why n w.0)
     first_by i f n why w said (results.Rejected other place) a =
         let is = (least l r).wrong (numbered i) other place a in
@@ -205,7 +205,7 @@ module _ {D : Type 0} (l : Language D) (r : IsReadable l) where
         let begins = subst (λ (g : Grammar). Begins g (Sym l.document) (take place i.tokens)) no_checks x.begins in
         (place, x.within, begins, x.ends, after_first i f place other x is.0 said_other)
 
-    pub least_is_first : (text : List ℕ) (f : FaultText) → IsLeastFaultOf l text f → IsFirstFaultOf l text f
+    pub least_is_first : (text : List ℕ) (f : FaultText) → IsFirstErrorOf l text f → StopsAllDocumentsOf l text f
     least_is_first text f (items, has, (n, why, w, said)) =
         let a = (whole_reading l r).answer (numbered (split items)) in
         (items, has, first_by (split items) f n why w said a.0 a.1)

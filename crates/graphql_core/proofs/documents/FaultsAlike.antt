@@ -6,8 +6,8 @@ use Rattle.graphql_core.specs.{Begins, Ends, Grammar, Fits, Expr, Then, Many, Sy
 use Rattle.graphql_core.specs.{leads_later, leads_before, leads_second, leads_first, Leads, leads_node, Text, IsRefused, IsFault, bad_place, unexpected_item}
 use Rattle.graphql_core.specs.{leaf_refused, node_refused, IsLeast, unexpected_token, CauseText, IsInQuotes, LastIsError, Items, Last, LastIsEnd, IsEnd, split}
 use Rattle.graphql_core.specs.{fault_by, FaultText, Token, Class, matches, Reason, Unexpected, Improper, Refused, lax, Item, unplaced, IsMinified}
-use Rattle.graphql_core.specs.{IsFloatLiteral, int_of, numbered, from_item, HasNoValue, out_of_range, malformed, escaped_badly, Says, IsLeastFault}
-use Rattle.graphql_core.specs.{IsLeastFaultOf, Language, IsReadable}
+use Rattle.graphql_core.specs.{IsFloatLiteral, int_of, numbered, from_item, HasNoValue, out_of_range, malformed, escaped_badly, Says, IsFirstError}
+use Rattle.graphql_core.specs.{IsFirstErrorOf, Language, IsReadable}
 use Rattle.graphql_core.proofs.lexical.{items_unique}
 use Rattle.graphql_core.proofs.sources.{minified_tokens}
 use Rattle.graphql_core.proofs.values.{SameTrees, left_tree, right_tree, SameLeaf, unplaced_leaf, matches_same, Alike}
@@ -204,8 +204,8 @@ module _ {D : Type 0} (l : Language D) (p : DependsOnValues l) (q : RefusesAlike
       let (g, told, cause) = q.refuses k s f (subst (λ (y : ParseTree). l.refuses (Node k y) f) (sym left) said) in
       (g, (front, after, right_tree s, same, at ∙ sym here, told), cause)
 
-  pub least_fault_alike : (a b : Items) → Alike b.tokens a.tokens → IsEnd a.last → IsEnd b.last → (f : FaultText) → IsLeastFault l a f
-      → (g : FaultText) × IsLeastFault l b g × (g.cause ≡ f.cause)
+  pub least_fault_alike : (a b : Items) → Alike b.tokens a.tokens → IsEnd a.last → IsEnd b.last → (f : FaultText) → IsFirstError l a f
+      → (g : FaultText) × IsFirstError l b g × (g.cause ≡ f.cause)
   least_fault_alike a b h end last f (n, why, least, said) =
       let (g, told, cause) = says_alike why a b h end last n f said in (
         g,
@@ -214,10 +214,10 @@ module _ {D : Type 0} (l : Language D) (p : DependsOnValues l) (q : RefusesAlike
       )
 
   -- a minified output and its source are rejected for one cause
-  pub one_cause_alike : IsReadable l → (source text : List ℕ) (f g : FaultText) → IsMinified source text → IsLeastFaultOf l source f → IsLeastFaultOf l text g
+  pub one_cause_alike : IsReadable l → (source text : List ℕ) (f g : FaultText) → IsMinified source text → IsFirstErrorOf l source f → IsFirstErrorOf l text g
       → f.cause ≡ g.cause
   one_cause_alike r source text f g (items, has, last, is) (mine, k, fault) other =
       let (others, h, alike, end) = minified_tokens source text (items, has, last, is) items has in
       let (found, least, cause) = least_fault_alike (split items) (split others) alike last end f
-      (subst (λ (is : List Item). IsLeastFault l (split is) f) (items_unique source mine items k has) fault) in
+      (subst (λ (is : List Item). IsFirstError l (split is) f) (items_unique source mine items k has) fault) in
       sym cause ∙ ap (λ (x : FaultText). x.cause) (one_least l r text found g (others, h, least) other)

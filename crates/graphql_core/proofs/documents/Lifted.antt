@@ -13,10 +13,10 @@ first_of (t ∷ xs) ts us l parts h = rw parts refl
 
 module _ {D : Type 0} (l : Language D) (r : IsReadable l) where
   -- the written tree of what is read begins at the next item, if something is read
-  pub begins_at : (e : Expr) (old new : Items) (x : ParseTree) → nullable l.second_rows e ≡ false → Takes (reading l) e old.tokens x new.tokens
+  pub begins_at : (e : Expr) (old new : Items) (x : ParseTree) → nullable l.factored_rows e ≡ false → Takes (reading l) e old.tokens x new.tokens
       → first_place (leaves (written l.changes x)) ≡ place_next old
   begins_at e old new x something h =
-      ap first_place (written-leaves l.grammar l.second_rows l.changes r.each (takes-fits (reading l) h))
+      ap first_place (written-leaves l.grammar l.factored_rows l.changes r.each (takes-fits (reading l) h))
       ∙ first_of (leaves x) old.tokens new.tokens old.last (takes-leaves (reading l) h)
       (shorter (reading l) r.ll1 e old.tokens new.tokens x (ap not something) h)
 

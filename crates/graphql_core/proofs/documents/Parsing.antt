@@ -3,7 +3,7 @@ use Rattle.std.proofs.Common.{◌≡◌, ◌<◌, ◌≤◌, ◌↔◌, ℕ, Boo
 use Rattle.std.proofs.lemmas.Result.{IfOk-weaker, IfErr-weaker}
 use Rattle.graphql_core.specs.{EndOfInput, Content, LexicalError, Stream, TokenContent, item_at, Where, Item, last_alone, asked_once, only_last, Items, Last}
 use Rattle.graphql_core.specs.{Spent, IsEnd, IsAtEnd, split, items_of_stream, kept, IsNextFault, Refusal, at, max_length, too_long, past_bound, IsRefusalFor}
-use Rattle.graphql_core.specs.{IsRefusalOf, ParseTree, Node, written, TakesSome, StopsFor, IsFaultFor, reason_of, reading, document_rule, Language, IsDocument}
+use Rattle.graphql_core.specs.{IsRefusalOf, ParseTree, Node, written, TakesSome, StopsFor, IsFaultFor, reason_of, reading, factored_document_rule, Language, IsDocument}
 use Rattle.graphql_core.specs.{ReadsDocument, ParsesDocument, ParsesStream, Refusals, Reads, IsReadable}
 use Rattle.std.proofs.lemmas.Bool.{false≢true}
 use Rattle.graphql_core.specs.declared.helpers.read_error.ReadError.{ReadError}
@@ -110,7 +110,7 @@ module _
 module _ {D V : Type 0} (l : Language D) (r : IsReadable l) (view : V → D) (i j : Items) where
   -- what a reader took denotes this document
   abbrev pub TakesAll : D → Type 0
-  TakesAll d = TakesSome (reading l) (document_rule l) i j (λ x. d ≡ l.means (written l.changes (Node l.document x)))
+  TakesAll d = TakesSome (reading l) (factored_document_rule l) i j (λ x. d ≡ l.means (written l.changes (Node l.document x)))
 
   pub read_whole : (v : V) (b : Bool) → TakesAll (view v) → IsTrue b ↔ IsAtEnd j → b ≡ true → ReadsDocument l view i (Ok v)
   read_whole v b (x, (takes, last), is) at_end ended =
@@ -126,14 +126,14 @@ module _ {D V : Type 0} (l : Language D) (r : IsReadable l) (view : V → D) (i 
         first_error = least_left l r i j e x takes last other is;
       }
 
-  pub read_stopped : (s : ReadError) (e : Refusal) → StopsFor (reading l) (document_rule l) i j (reason_of s) → IsFaultFor s j e
+  pub read_stopped : (s : ReadError) (e : Refusal) → StopsFor (reading l) (factored_document_rule l) i j (reason_of s) → IsFaultFor s j e
       → ReadsDocument l view i (Err e)
   read_stopped s e stops is =
       record { sound = tt; complete = λ d k. memory_only l r i j s e d stops is k; first_error = least_stop l r i j s e stops is }
 
   -- or rejected a node
   pub read_refused : {A R : Type 0} (w : Refusals R) (P : A → ParseTree → Type 0) (n : R) (e : Refusal)
-      → Reads l w (document_rule l) i j P (Err (Refused n)) → e ≡ at (w.fault n) → ReadsDocument l view i (Err e)
+      → Reads l w (factored_document_rule l) i j P (Err (Refused n)) → e ≡ at (w.fault n) → ReadsDocument l view i (Err e)
   read_refused w P n e h is = record {
     sound = tt;
     complete = λ d k. absurd (none_refused l r i j (w.symbol n) d h.gives.0 k);

@@ -1,9 +1,9 @@
 -- What a language must show once, and what the theory of grammars then states about it.
 use Rattle.std.proofs.Common.{◌≡◌, true, false, List, [], ◌∷◌, ◌++◌, length, replicate, refl, arith}
-use Rattle.graphql_core.specs.{sees, Unexpected, Fails, lax, IsExact, AreSecond, IsExactFor, Change, unchanged, IsWhole, IsWholeFor, AnswersLeast}
+use Rattle.graphql_core.specs.{sees, Unexpected, Fails, lax, IsExact, AreFactored, IsExactFor, Change, unchanged, IsWhole, IsWholeFor, AnswersLeast}
 use Rattle.graphql_core.specs.{RefusesTokens, nullable, first, decides, has_samples, Grammar, Expr, Sym, Row, peek, CauseText, Token, reading, Language}
 use Rattle.graphql_core.specs.{HasNoValue, out_of_range, malformed, escaped_badly, IsReadable}
-use Rattle.graphql_core.proofs.rules.{IsSecond-unchanged, exact_for, whole_for}
+use Rattle.graphql_core.proofs.rules.{IsFactored-unchanged, exact_for, whole_for}
 use Rattle.graphql_core.proofs.first_errors.{least_for, refuses_tokens_for}
 use Rattle.graphql_core.proofs.grammar.Exact as theory
 use Rattle.graphql_core.proofs.grammar.WholeTexts as whole_theory
@@ -23,28 +23,28 @@ one_cause t c d (escaped_badly e r) (malformed f s) = absurd (omega (arith, e, f
 one_cause t c d (escaped_badly e r) (escaped_badly f s) = refl
 
 -- Rows that both lists of rules share. Those of core come first in each.
-pub shared_rows : (g : Grammar) (rs : List Row) (cs : List Change) (shared ws qs : List Row) (others : List Change) → AreSecond g rs cs ws qs others
-    → AreSecond g rs cs (shared ++ ws) (shared ++ qs) (replicate (length shared) unchanged ++ others)
+pub shared_rows : (g : Grammar) (rs : List Row) (cs : List Change) (shared ws qs : List Row) (others : List Change) → AreFactored g rs cs ws qs others
+    → AreFactored g rs cs (shared ++ ws) (shared ++ qs) (replicate (length shared) unchanged ++ others)
 shared_rows g rs cs [] ws qs others h = h
-shared_rows g rs cs (r ∷ shared) ws qs others h = (IsSecond-unchanged g rs cs r.rule, shared_rows g rs cs shared ws qs others h)
+shared_rows g rs cs (r ∷ shared) ws qs others h = (IsFactored-unchanged g rs cs r.rule, shared_rows g rs cs shared ws qs others h)
 
 -- ---- what the theory states
 
 module _ {D : Type 0} (l : Language D) (r : IsReadable l) where
-  pub exact : IsExactFor l.grammar l.second_rows l.changes (Sym l.document)
-  exact = exact_for l.grammar l.second_rows l.changes r.each r.each_unchecked r.each_lax r.ll1 r.productive (Sym l.document) r.decides r.samples
+  pub exact : IsExactFor l.grammar l.factored_rows l.changes (Sym l.document)
+  exact = exact_for l.grammar l.factored_rows l.changes r.each r.each_unchecked r.each_lax r.ll1 r.productive (Sym l.document) r.decides r.samples
 
   -- the same, whatever values the leaves have
-  pub exact_lax : IsExactFor (lax l.grammar) l.second_rows l.changes (Sym l.document)
+  pub exact_lax : IsExactFor (lax l.grammar) l.factored_rows l.changes (Sym l.document)
   exact_lax =
-      exact_for (lax l.grammar) l.second_rows l.changes r.each_lax r.each_lax r.each_lax r.ll1 r.productive_lax (Sym l.document) r.decides r.samples_lax
+      exact_for (lax l.grammar) l.factored_rows l.changes r.each_lax r.each_lax r.each_lax r.ll1 r.productive_lax (Sym l.document) r.decides r.samples_lax
 
-  pub whole_texts : IsWholeFor l.grammar l.second_rows l.changes (Sym l.document)
-  whole_texts = whole_for l.grammar l.second_rows l.changes r.each r.each_unchecked r.each_lax r.ll1 r.productive (Sym l.document) r.decides r.samples
+  pub whole_texts : IsWholeFor l.grammar l.factored_rows l.changes (Sym l.document)
+  whole_texts = whole_for l.grammar l.factored_rows l.changes r.each r.each_unchecked r.each_lax r.ll1 r.productive (Sym l.document) r.decides r.samples
 
   pub least : AnswersLeast l.grammar (reading l) (Sym l.document)
   least =
-      least_for l.grammar l.second_rows l.changes r.each r.each_lax r.ll1 r.tight r.productive r.refuses_tokens (Sym l.document) r.decides r.samples
+      least_for l.grammar l.factored_rows l.changes r.each r.each_lax r.ll1 r.tight r.productive r.refuses_tokens (Sym l.document) r.decides r.samples
 
   -- the rules that are read, as a separate grammar
   pub exact_reading : IsExact (reading l) (Sym l.document)
@@ -55,9 +55,9 @@ module _ {D : Type 0} (l : Language D) (r : IsReadable l) where
 
   -- no node without tokens is rejected where it is read
   pub refuses_read : RefusesTokens (reading l)
-  refuses_read k x fits bad empty = refuses_tokens_for l.grammar l.second_rows l.changes r.each r.each_lax r.refuses_tokens k x fits bad empty
+  refuses_read k x fits bad empty = refuses_tokens_for l.grammar l.factored_rows l.changes r.each r.each_lax r.refuses_tokens k x fits bad empty
 
   -- if the next item begins no list of an expression, the expression fails there
-  pub unseen : (e : Expr) → decides l.second_rows e ≡ true → has_samples (reading l) e ≡ true → nullable l.second_rows e ≡ false → (ts : List Token)
-      → sees (first l.second_rows e) (peek ts) ≡ false → Fails (reading l) e ts Unexpected ts
+  pub unseen : (e : Expr) → decides l.factored_rows e ≡ true → has_samples (reading l) e ≡ true → nullable l.factored_rows e ≡ false → (ts : List Token)
+      → sees (first l.factored_rows e) (peek ts) ≡ false → Fails (reading l) e ts Unexpected ts
   unseen = theory_of_unseen.grammar_unseen (reading l) r.ll1 r.productive refuses_read

@@ -4,8 +4,8 @@ use Rattle.std.proofs.lemmas.List.{drop_at}
 use Rattle.graphql_core.specs.{Done, Fault as Stopped, Takes, takes_node, Reason, Unexpected, Improper, Refused, Fails, fails_node, IsRefused, Answers}
 use Rattle.graphql_core.specs.{asked_once, fault_at, items_of_text, spending, tokens_then, LastIsError, Items, Last, LastIsEnd, IsEnd, IsAtEnd, FaultText, kept}
 use Rattle.graphql_core.specs.{place_next, split, here, IsFaultFor, IsNextFault, Refusal, at, no_memory, max_length, Token, Class, AnyOf, Sym, ParseTree, Node}
-use Rattle.graphql_core.specs.{leaves, written, change_at, StopsFor, CauseText, HasItems, start, items, reason_of, reading, document_rule, Language, IsDocument}
-use Rattle.graphql_core.specs.{IsDocumentOf, IsUnambiguous, AreUnambiguous, ending_of, numbered, Says, IsLeastFault, IsRefusalFor, IsRefusalOf, ran_out, faulty}
+use Rattle.graphql_core.specs.{leaves, written, change_at, StopsFor, CauseText, HasItems, start, items, reason_of, reading, factored_document_rule, Language, IsDocument}
+use Rattle.graphql_core.specs.{IsDocumentOf, IsUnambiguous, AreUnambiguous, ending_of, numbered, Says, IsFirstError, IsRefusalFor, IsRefusalOf, ran_out, faulty}
 use Rattle.graphql_core.specs.{Spent, IsReadable}
 use Rattle.graphql_core.proofs.first_errors.{node_refused_for}
 use Rattle.graphql_core.specs.declared.helpers.read_error.ReadError.TheVariants.{Item, Memory, Integer, Float, Escape, Location}
@@ -53,16 +53,16 @@ module _ {D : Type 0} (l : Language D) (r : IsReadable l) where
   IsWrong why i j = Answers (reading l) (Sym l.document) (numbered i) (results.Rejected why (length i.tokens - length j.tokens))
 
   -- a whole document that is taken passes its check
-  node_taken : {ts us : List Token} {x : ParseTree} → Takes (reading l) (document_rule l) ts x us → Takes (reading l) (Sym l.document) ts (Node l.document x) us
+  node_taken : {ts us : List Token} {x : ParseTree} → Takes (reading l) (factored_document_rule l) ts x us → Takes (reading l) (Sym l.document) ts (Node l.document x) us
   node_taken {x = x} h = takes_node h (r.passes ((change_at l.changes l.document).to_written (written l.changes x)))
 
   -- ---- where the reader stops
 
-  at_fault : (why : Reason) (i j : Items) → Fails (reading l) (document_rule l) i.tokens why j.tokens → IsWrong why i j
+  at_fault : (why : Reason) (i j : Items) → Fails (reading l) (factored_document_rule l) i.tokens why j.tokens → IsWrong why i j
   at_fault why i j h = (Stopped why j.tokens, fails_node h, refl)
 
   -- a reader that is done before the end
-  at_rest : (i : Items) (us : List Token) (last : Last) (x : ParseTree) → Takes (reading l) (document_rule l) i.tokens x us → last ≡ i.last
+  at_rest : (i : Items) (us : List Token) (last : Last) (x : ParseTree) → Takes (reading l) (factored_document_rule l) i.tokens x us → last ≡ i.last
       → (IsAtEnd (tokens_then us last) → ⊥) → IsWrong Unexpected i (tokens_then us last)
   at_rest i (u ∷ us) last x h e other = (Done (Node l.document x) (u ∷ us), node_taken h, refl)
   at_rest i [] (LastIsEnd p) x h e other = absurd (other (refl, tt))
@@ -80,11 +80,11 @@ module _ {D : Type 0} (l : Language D) (r : IsReadable l) where
     left : drop (length i.tokens - length j.tokens) i.tokens ≡ j.tokens
     left = dropped front i.tokens j.tokens parts
 
-    unexpected_left : IsWrong Unexpected i j → f ≡ fault_at j → IsLeastFault l i f
+    unexpected_left : IsWrong Unexpected i j → f ≡ fault_at j → IsFirstError l i f
     unexpected_left a h = unexpected_here l r i j _ left (sym (last_kept i j last)) f ((least l r).wrong (numbered i) Unexpected _ a) h
 
     no_value_left : (c : Class) (k : CauseText) → Misses l r c k → IsWrong (Improper c) i j → f.cause ≡ k → f.place ≡ place_next j
-        → IsLeastFault l i f
+        → IsFirstError l i f
     no_value_left c k lacks a cause place =
         no_value_here l r i j _ left (sym (last_kept i j last)) f c k lacks ((least l r).wrong (numbered i) (Improper c) _ a) cause place
 
@@ -100,7 +100,7 @@ module _ {D : Type 0} (l : Language D) (r : IsReadable l) where
 
   -- ---- what a reader's exits state
 
-  pub memory_only : (i j : Items) (s : ReadError) (e : Refusal) (d : D) → StopsFor (reading l) (document_rule l) i j (reason_of s)
+  pub memory_only : (i j : Items) (s : ReadError) (e : Refusal) (d : D) → StopsFor (reading l) (factored_document_rule l) i j (reason_of s)
       → IsFaultFor s j e → IsDocument l i d → e ≡ no_memory
   memory_only i j Memory e d h f k = f
   memory_only i j Item e d (h, same) f k = absurd (none_wrong Unexpected i j d (at_fault Unexpected i j h) k)
@@ -115,20 +115,20 @@ module _ {D : Type 0} (l : Language D) (r : IsReadable l) where
 
   -- a reader that stops for a token without a value
   valueless : (i j : Items) (leaf : Class) (c : CauseText) (e : Refusal) → Misses l r leaf c
-      → Fails (reading l) (document_rule l) i.tokens (Improper leaf) j.tokens
+      → Fails (reading l) (factored_document_rule l) i.tokens (Improper leaf) j.tokens
       → e ≡ at (here c j) → kept j ≡ kept i → IsRefusalFor l i e
   valueless i j leaf c e misses h f last =
       let first = ((exact_reading l r).earliest i.tokens j.tokens _ (fails_node h)).fault in
       subst (IsRefusalFor l i) (sym f) (no_value_left i j _ first.parts last (here c j) leaf c misses (at_fault _ i j h) refl refl)
 
   -- or for an unexpected token or end of input
-  misplaced : (i j : Items) (e : Refusal) → Fails (reading l) (document_rule l) i.tokens Unexpected j.tokens → IsNextFault j e → kept j ≡ kept i
+  misplaced : (i j : Items) (e : Refusal) → Fails (reading l) (factored_document_rule l) i.tokens Unexpected j.tokens → IsNextFault j e → kept j ≡ kept i
       → IsRefusalFor l i e
   misplaced i j e h f last =
       let first = ((exact_reading l r).earliest i.tokens j.tokens _ (fails_node h)).fault in
-      tells_weaker (λ k. k ≡ fault_at j) (IsLeastFault l i) (λ k is. unexpected_left i j _ first.parts last k (at_fault _ i j h) is) e f
+      tells_weaker (λ k. k ≡ fault_at j) (IsFirstError l i) (λ k is. unexpected_left i j _ first.parts last k (at_fault _ i j h) is) e f
 
-  pub least_stop : (i j : Items) (s : ReadError) (e : Refusal) → StopsFor (reading l) (document_rule l) i j (reason_of s) → IsFaultFor s j e
+  pub least_stop : (i j : Items) (s : ReadError) (e : Refusal) → StopsFor (reading l) (factored_document_rule l) i j (reason_of s) → IsFaultFor s j e
       → IsRefusalFor l i e
   least_stop i j Memory e last f = subst (IsRefusalFor l i) (sym f) refl
   least_stop i j Item e (h, last) f = misplaced i j e h f last
@@ -138,15 +138,15 @@ module _ {D : Type 0} (l : Language D) (r : IsReadable l) where
   least_stop i j Location e (h, last) f = valueless i j _ _ e (λ t m none. r.location t none) h f last
 
   -- a reader that stops after a node that is rejected
-  pub none_refused : (i j : Items) (k : ℕ) (d : D) → Fails (reading l) (document_rule l) i.tokens (Refused k) j.tokens → IsDocument l i d → ⊥
+  pub none_refused : (i j : Items) (k : ℕ) (d : D) → Fails (reading l) (factored_document_rule l) i.tokens (Refused k) j.tokens → IsDocument l i d → ⊥
   none_refused i j k d h = none_wrong (Refused k) i j d (at_fault (Refused k) i j h)
 
   pub least_refused : (i j : Items) (k : ℕ) (f : FaultText) (before : List Token) (x : ParseTree)
-      → Fails (reading l) (document_rule l) i.tokens (Refused k) j.tokens
-      → IsRefused (reading l) (document_rule l) i.tokens k x before j.tokens → l.refuses (written l.changes (Node k x)) f → IsLeastFault l i f
+      → Fails (reading l) (factored_document_rule l) i.tokens (Refused k) j.tokens
+      → IsRefused (reading l) (factored_document_rule l) i.tokens k x before j.tokens → l.refuses (written l.changes (Node k x)) f → IsFirstError l i f
   least_refused i j k f before x h refused said =
       let n : ℕ = length i.tokens - length j.tokens in
-      let (inside, is, node) = node_refused_for l.grammar l.second_rows l.changes r.each r.each_lax l.document i.tokens k x before j.tokens refused in (
+      let (inside, is, node) = node_refused_for l.grammar l.factored_rows l.changes r.each r.each_lax l.document i.tokens k x before j.tokens refused in (
         n,
         Refused k,
         (least l r).wrong (numbered i) (Refused k) n (at_fault (Refused k) i j h),
@@ -166,24 +166,24 @@ module _ {D : Type 0} (l : Language D) (r : IsReadable l) where
         ),
       )
 
-  pub none_rest : (i j : Items) (d : D) (x : ParseTree) → Takes (reading l) (document_rule l) i.tokens x j.tokens → kept j ≡ kept i → (IsAtEnd j → ⊥)
+  pub none_rest : (i j : Items) (d : D) (x : ParseTree) → Takes (reading l) (factored_document_rule l) i.tokens x j.tokens → kept j ≡ kept i → (IsAtEnd j → ⊥)
       → IsDocument l i d → ⊥
   none_rest i j d x h last other = none_wrong Unexpected i j d (at_rest i j.tokens j.last x h (last_kept i j last) other)
 
-  pub least_left : (i j : Items) (e : Refusal) (x : ParseTree) → Takes (reading l) (document_rule l) i.tokens x j.tokens → kept j ≡ kept i → (IsAtEnd j → ⊥)
+  pub least_left : (i j : Items) (e : Refusal) (x : ParseTree) → Takes (reading l) (factored_document_rule l) i.tokens x j.tokens → kept j ≡ kept i → (IsAtEnd j → ⊥)
       → IsNextFault j e → IsRefusalFor l i e
   least_left i j e x h last other s =
       let first = (exact_reading l r).sound i.tokens j.tokens (Node l.document x) (node_taken h) in
       let wrong = at_rest i j.tokens j.last x h (last_kept i j last) other in
-      tells_weaker (λ k. k ≡ fault_at j) (IsLeastFault l i) (λ k is. unexpected_left i j _ first.1 last k wrong is) e s
+      tells_weaker (λ k. k ≡ fault_at j) (IsFirstError l i) (λ k is. unexpected_left i j _ first.1 last k wrong is) e s
 
   -- ---- what is returned
 
-  pub found : (i j : Items) (d : D) (x : ParseTree) → Takes (reading l) (document_rule l) i.tokens x j.tokens → kept j ≡ kept i → IsAtEnd j
+  pub found : (i j : Items) (d : D) (x : ParseTree) → Takes (reading l) (factored_document_rule l) i.tokens x j.tokens → kept j ≡ kept i → IsAtEnd j
       → d ≡ l.means (written l.changes (Node l.document x)) → IsDocument l i d
   found i j d x h last at_end means =
       let e = sym (ap ending_of (sym (last_kept i j last)) ∙ ends j.last at_end.1) in
-      let taken = node_taken (subst (λ (us : List Token). Takes (reading l) (document_rule l) i.tokens x us) at_end.0 h) in
+      let taken = node_taken (subst (λ (us : List Token). Takes (reading l) (factored_document_rule l) i.tokens x us) at_end.0 h) in
       let s = (whole_texts l r).sound (numbered i) (Node l.document x) (Done (Node l.document x) [], taken, answer (ending_of i.last) e) in
       (written l.changes (Node l.document x), s.0, ended i.last s.1, means)
     where
@@ -213,11 +213,11 @@ module _ {D : Type 0} (l : Language D) where
   said_spent (Improper c) s i n f h = h
   said_spent (Refused k) s i n f h = h
 
-  least_spent : (s : Spent) (i : Items) (f : FaultText) → IsLeastFault l (spending s i) f → IsLeastFault l i f
+  least_spent : (s : Spent) (i : Items) (f : FaultText) → IsFirstError l (spending s i) f → IsFirstError l i f
   least_spent s i f (n, why, least_one, said) = (n, why, least_one, said_spent why s i n f said)
 
   pub refusal_for : (s : Spent) (i : Items) (e : Refusal) → IsRefusalFor l (spending s i) e → IsRefusalFor l i e
-  refusal_for s i = tells_weaker (IsLeastFault l (spending s i)) (IsLeastFault l i) (least_spent s i)
+  refusal_for s i = tells_weaker (IsFirstError l (spending s i)) (IsFirstError l i) (least_spent s i)
 
   pub text_document : (text : List ℕ) (i : Items) (d : D) → AreItems text i → IsDocument l i d → IsDocumentOf l text d
   text_document text i d are h =
@@ -232,5 +232,5 @@ module _ {D : Type 0} (l : Language D) where
       let has = has_items text in
       let cut = items start text in
       let (s, is) = are cut has in
-      by_fault (IsLeastFault l i) (IsRefusalOf l text) ran_out
-      (λ f h. faulty f bound (cut, has, least_spent s (split cut) f (subst (λ (j : Items). IsLeastFault l j f) is h))) e
+      by_fault (IsFirstError l i) (IsRefusalOf l text) ran_out
+      (λ f h. faulty f bound (cut, has, least_spent s (split cut) f (subst (λ (j : Items). IsFirstError l j f) is h))) e

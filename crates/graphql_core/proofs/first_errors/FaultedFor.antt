@@ -1,7 +1,7 @@
--- The errors of an input by a written grammar are those by its second rules.
+-- The errors of an input by a written grammar are those by its factored rules.
 use Rattle.std.proofs.Common.{◌≡◌, ℕ, true, false, List, [], ◌∷◌, ◌++◌, length, Option, refl, sym, ap, subst, ◌∙◌}
 use Rattle.graphql_core.specs.{Token, Expr, Then, Many, Sym, ParseTree, Node, Row, Grammar, row_at, row, leaves, peek, Fits, Begins, Ends, decides, is_ll1}
-use Rattle.graphql_core.specs.{is_tight, has_samples, is_productive, Reason, Refused, lax, Change, change_at, written, with_rows, EachIsSecond, leads_here}
+use Rattle.graphql_core.specs.{is_tight, has_samples, is_productive, Reason, Refused, lax, Change, change_at, written, with_rows, EachIsFactored, leads_here}
 use Rattle.graphql_core.specs.{leads_before, leads_after, leads_first, leads_second, leads_turn, leads_later, leads_node, IsTested, Leads, Text, IsFault}
 use Rattle.graphql_core.specs.{bad_place, unexpected_item, leaf_refused, node_refused, IsRefused, AnswersLeast, RefusesTokens}
 use Rattle.graphql_core.proofs.rules.{seconds, written-fits, written-leaves, seconds-fits, written-seconds, to-second, begins-written, ends-written}
@@ -12,11 +12,11 @@ abbrev inside : ParseTree → ParseTree
 inside (Node k x) = x
 inside x = x
 
-module _ (g : Grammar) (rs : List Row) (cs : List Change) (each : EachIsSecond g rs cs) (each_lax : EachIsSecond (lax g) rs cs) where
+module _ (g : Grammar) (rs : List Row) (cs : List Change) (each : EachIsFactored g rs cs) (each_lax : EachIsFactored (lax g) rs cs) where
   seconds-leaves : {e : Expr} {y : ParseTree} → Fits (lax g) e y → leaves (seconds cs y) ≡ leaves y
   seconds-leaves f = sym (written-leaves (lax g) rs cs each_lax (seconds-fits (lax g) rs cs each_lax f)) ∙ ap leaves (written-seconds (lax g) rs cs each_lax f)
 
-  -- a place in a tree of the second rules is the same place in the written tree
+  -- a place in a tree of the factored rules is the same place in the written tree
   leads-written : {e d : Expr} {ts : List Token} → IsTested g d → Leads (lax (with_rows g rs cs)) e ts d → Leads (lax g) e ts d
   leads-written w leads_here = leads_here
   leads-written w (leads_before l f) = leads_before (leads-written w l) (written-fits (lax g) rs cs each_lax f)
@@ -68,7 +68,7 @@ module _ (g : Grammar) (rs : List Row) (cs : List Change) (each : EachIsSecond g
   rule-check k x = refl
 
   from-rule : ℕ → ParseTree → ParseTree
-  from-rule k x = (change_at cs k).to_second (seconds cs x)
+  from-rule k x = (change_at cs k).to_factored (seconds cs x)
 
   from-fits : (k : ℕ) (x : ParseTree) → Fits g (row g k).rule x → Fits (with_rows g rs cs) (row_at rs k).rule (from-rule k x)
   unfolding from-rule
@@ -144,7 +144,7 @@ module _ (g : Grammar) (rs : List Row) (cs : List Change) (each : EachIsSecond g
             (fault-second e t why m x.0, λ w i z. x.1 w i (fault-written e t w i z)) (fault-second e t other n y.0, λ w i z. y.1 w i (fault-written e t w i z));
       }
 
-  -- If a node is rejected in the second rule of a symbol, the written node is rejected in that symbol.
+  -- If a node is rejected in the factored rule of a symbol, the written node is rejected in that symbol.
   pub node_refused_for : (j : ℕ) (ts : List Token) (k : ℕ) (x : ParseTree) (before us : List Token)
       → IsRefused (with_rows g rs cs) (row_at rs j).rule ts k x before us
       → (y : ParseTree) × (written cs (Node k x) ≡ Node k y) × IsRefused g (Sym j) ts k y before us

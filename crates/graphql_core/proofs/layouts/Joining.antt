@@ -14,13 +14,13 @@ use Rattle.std.specs.List.{list_all}
 use Rattle.graphql_core.specs.declared.tokenizer.token.Kind.{Kind}
 use Rattle.graphql_core.specs.declared.tokenizer.token.Kind.TheVariants.{Punctuator}
 use Rattle.graphql_core.specs.declared.tokenizer.piece.Nesting.{Nesting}
-use Rattle.graphql_core.specs.declared.tokenizer.piece.Nesting.TheVariants.{Level, Opens, Closes}
+use Rattle.graphql_core.specs.declared.tokenizer.piece.Nesting.TheVariants.{Unchanged, Opens, Closes}
 
 -- ---- parts that can follow each other
 
 -- a token that is no bracket, if white space, a comma, a punctuator of one character or the end follows it
 abbrev pub IsWord : Kind → List ℕ → Type 0
-IsWord k s = (rest : List ℕ) → EndsRun rest → Stands s (Word k Level) rest
+IsWord k s = (rest : List ℕ) → EndsRun rest → Stands s (Word k Unchanged) rest
 
 -- ignored text of layouts: spaces, line feeds and commas
 abbrev pub is_blank : ℕ → Bool
@@ -28,7 +28,7 @@ is_blank b = b == 32 || (b == 10 || b == 44)
 
 -- a punctuator takes depth d to depth e; at most 50 brackets are open
 abbrev pub Deepens : Nesting → ℕ → ℕ → Type 0
-Deepens Level d e = d ≡ e
+Deepens Unchanged d e = d ≡ e
 Deepens Opens d e = (d < 50) × (e ≡ d + 1)
 Deepens Closes d e = d ≡ e + 1
 
@@ -131,7 +131,7 @@ cut_token k t s ps w fits st (pieces, cut, spells, end) =
 
 cut_punctuator : (b : ℕ) (t : Nesting) (ps : List Part) (d e : ℕ) (w : Where) → Deepens t d e → IsDeep d w → Stands (b ∷ []) (Word Punctuator t) (text_of ps)
     → ((v : Where) → IsDeep e v → IsCut v ps) → IsCut w (token Punctuator (b ∷ []) ∷ ps)
-cut_punctuator b Level ps d e w n deep st k = cut_token Punctuator Level (b ∷ []) ps w refl st (k _ (omega arith))
+cut_punctuator b Unchanged ps d e w n deep st k = cut_token Punctuator Unchanged (b ∷ []) ps w refl st (k _ (omega arith))
 cut_punctuator b Opens ps d e w n deep st k = cut_token Punctuator Opens (b ∷ []) ps w (grind (arith, nat_tests)) st (k _ (omega arith))
 cut_punctuator b Closes ps d e w n deep st k = cut_token Punctuator Closes (b ∷ []) ps w refl st (k _ (omega arith))
 
@@ -156,9 +156,9 @@ cut done w deep = ([], (refl, no_piece), refl, tt)
 cut (as_word l) w deep = cut l w deep
 cut (margin {d = d} {text = text} {ps = ps} h l) w deep = cut_blank text h ps d (λ v i. cut l v i) w deep
 cut (gap {d = d} {b = b} {text = text} {ps = ps} h l) w deep = cut_blank (b ∷ text) h ps d (λ v i. cut l v i) w deep
-cut (word {k = k} {s = s} {ps = ps} is l) w deep = cut_token k Level s ps w refl (is (text_of ps) (ends_run l)) (cut l _ deep)
+cut (word {k = k} {s = s} {ps = ps} is l) w deep = cut_token k Unchanged s ps w refl (is (text_of ps) (ends_run l)) (cut l _ deep)
 cut (punctuator_laid {d = d} {e = e} {b = b} {ps = ps} m n l) w deep = cut_punctuator b (nesting_of b) ps d e w n deep (punctuator_token m) (λ v i. cut l v i)
-cut (dots {ps = ps} l) w deep = cut_token Punctuator Level (46 ∷ 46 ∷ 46 ∷ []) ps w refl spread_token (cut l _ deep)
+cut (dots {ps = ps} l) w deep = cut_token Punctuator Unchanged (46 ∷ 46 ∷ 46 ∷ []) ps w refl spread_token (cut l _ deep)
 
 -- The output of parts that can follow each other has their tokens as its items, and then the end.
 abbrev pub HasTokens : List ℕ → List Part → Type 0

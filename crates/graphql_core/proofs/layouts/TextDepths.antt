@@ -2,7 +2,7 @@
 use Rattle.std.proofs.Common.{◌≡◌, ℕ, suc, ◌+◌, ◌-◌, ◌≤◌, max, Bool, true, false, if◌then◌else◌, List, [], ◌∷◌, ◌++◌, ap, ◌∙◌, subst, arith, append_assoc}
 use Rattle.std.proofs.Common.{append-nil}
 use Rattle.graphql_core.specs.declared.tokenizer.token.Kind.{Kind}
-use Rattle.graphql_core.specs.declared.tokenizer.piece.Nesting.TheVariants.{Level, Opens, Closes}
+use Rattle.graphql_core.specs.declared.tokenizer.piece.Nesting.TheVariants.{Unchanged, Opens, Closes}
 use Rattle.graphql_core.specs.{Part, token, ignored, bracket_of, open_after, deepest_from, deepest}
 
 -- parts that leave as many brackets open as before them, and open at most n more
@@ -28,7 +28,7 @@ none_rise = record { deep = λ d rest. let least = at_least d rest in omega (ari
 pub gap_rises : {n : ℕ} {ps : List Part} (text : List ℕ) → Rises n ps → Rises n (ignored text ∷ ps)
 gap_rises text h = record { deep = h.deep }
 
-pub level_rises : {n : ℕ} {k : Kind} {s : List ℕ} {ps : List Part} → bracket_of k s ≡ Level → Rises n ps → Rises n (token k s ∷ ps)
+pub level_rises : {n : ℕ} {k : Kind} {s : List ℕ} {ps : List Part} → bracket_of k s ≡ Unchanged → Rises n ps → Rises n (token k s ∷ ps)
 level_rises {n} {k} {s} {ps} e h = record {
   deep = λ d rest.
       let same : open_after (bracket_of k s) d ≡ d = ap (λ b. open_after b d) e in

@@ -7,7 +7,7 @@ use Rattle.graphql_core.specs.declared.tokenizer.token.Kind.TheVariants.{Punctua
 use Rattle.graphql_core.specs.declared.tokenizer.piece.Move.{Move}
 use Rattle.graphql_core.specs.declared.tokenizer.piece.Move.TheVariants.{Stay, Down}
 use Rattle.graphql_core.specs.steps.Front.{FrontElement, Skips, Takes}
-use Rattle.graphql_core.specs.declared.tokenizer.piece.Nesting.TheVariants.{Level}
+use Rattle.graphql_core.specs.declared.tokenizer.piece.Nesting.TheVariants.{Unchanged}
 use Rattle.graphql_core.specs.{front, front_of, other_token, comment, line_end, starts_number, number, is_name_start, is_name_continue, is_in_line}
 use Rattle.graphql_core.specs.{is_punctuator_byte, nesting_of, Meaning, Ignored, Word, Stands, ignored_tab, ignored_line_feed, ignored_carriage_return}
 use Rattle.graphql_core.specs.{ignored_space, ignored_comma, ignored_byte_order_mark, comment_at_end, comment_feed, comment_return_feed, comment_return}
@@ -21,7 +21,7 @@ abbrev pub ahead_of : Meaning → ℕ → FrontElement
 ahead_of (Ignored m) n = Skips n m
 ahead_of (Word k t) n = Takes n k t
 
-name_first : (b : ℕ) (bs : List ℕ) → is_name_start b ≡ true → front_of b bs ≡ Takes (prefix_len is_name_continue bs + 1) Name Level
+name_first : (b : ℕ) (bs : List ℕ) → is_name_start b ≡ true → front_of b bs ≡ Takes (prefix_len is_name_continue bs + 1) Name Unchanged
 name_first b bs h =
     let d = λ (k : ℕ) (other : is_name_start k ≡ false). differs is_name_start b k h other in
     rw (d 9 refl, d 10 refl, d 13 refl, d 32 refl, d 44 refl, h) refl
@@ -84,12 +84,12 @@ stands_front (comment_return_feed line {rest} all) = ended line (13 ∷ 10 ∷ [
 stands_front (comment_return line {rest} all stop) =
     ended line (13 ∷ []) rest all refl ∙ rw (not_equal _ _ stop) (skips_same (length line + 2) _ Down (omega (arith, length-append line (13 ∷ []))))
 stands_front (name_token {b} {bs} {rest} first more stop) = name_first b (bs ++ rest) first
-    ∙ rw (run is_name_continue bs rest more stop) (ap (λ n. Takes n Name Level) (omega arith))
+    ∙ rw (run is_name_continue bs rest more stop) (ap (λ n. Takes n Name Unchanged) (omega arith))
 stands_front (punctuator_token {b} {rest} h) = punctuator_first b rest h
 stands_front spread_token = refl
 stands_front (integer_token {run} {rest} h ends) = run_first run rest (integer_run run h) ∙ integer_front run rest h ends
 stands_front (float_token {run} {rest} h ends) = run_first run rest (float_run h) ∙ float_front run rest h ends
 stands_front (string_token body {rest} valid some) =
     ap (λ l. front (34 ∷ l)) (append_assoc body (34 ∷ []) rest) ∙ string_front valid rest some
-    ∙ ap (λ n. Takes n StringValue Level) (omega (arith, length-append body (34 ∷ [])))
-stands_front (block_string_token {body} {rest} closes) = block_front closes rest ∙ ap (λ n. Takes n BlockString Level) (omega arith)
+    ∙ ap (λ n. Takes n StringValue Unchanged) (omega (arith, length-append body (34 ∷ [])))
+stands_front (block_string_token {body} {rest} closes) = block_front closes rest ∙ ap (λ n. Takes n BlockString Unchanged) (omega arith)

@@ -10,7 +10,7 @@ use Rattle.std.proofs.lemmas.List.{take_at, drop_at, take-append-drop, append-ni
 use Rattle.std.proofs.lemmas.List.Sums.{prefix_len-le-length, prefix_len_stops}
 use Rattle.std.proofs.lemmas.Str.{IsCharBoundary-end, IsCharBoundary-before_ascii}
 use Rattle.graphql_core.specs.declared.tokenizer.token.Kind.TheVariants.{IntValue, FloatValue}
-use Rattle.graphql_core.specs.declared.tokenizer.piece.Nesting.TheVariants.{Level}
+use Rattle.graphql_core.specs.declared.tokenizer.piece.Nesting.TheVariants.{Unchanged}
 use Rattle.graphql_core.specs.steps.Front.{Takes}
 use Rattle.graphql_core.specs.{is_in_run, is_delimiter, is_natural, is_integer, is_fraction, is_exponent, is_in, EndsRun, IsFloat, with_fraction, with_exponent}
 use Rattle.graphql_core.specs.{with_both, run_at, is_flat, starts_number, digits_len, is_exponent_or_none, is_after_dot, is_after_integer, is_unsigned}
@@ -301,13 +301,13 @@ number_front : (xs rest : List ℕ) → list_all is_in_run xs ≡ true → EndsR
 unfolding number
 number_front xs rest all ends = rw (run_front xs rest all ends, take_at xs rest (length xs) refl) refl
 
-pub integer_front : (xs rest : List ℕ) → is_integer xs ≡ true → EndsRun rest → number (xs ++ rest) ≡ Takes (length xs) IntValue Level
+pub integer_front : (xs rest : List ℕ) → is_integer xs ≡ true → EndsRun rest → number (xs ++ rest) ≡ Takes (length xs) IntValue Unchanged
 integer_front xs rest h ends = number_front xs rest (integer_run xs h).in_run ends ∙ rw h refl
 
 float_no_integer : (xs : List ℕ) → is_float xs ≡ true → is_integer xs ≡ false
 float_no_integer xs h = elim (cases_Bool (is_integer xs)) [ inl i ↦ absurd (let none = integer_no_float xs i in cc) | inr none ↦ none ]
 
-pub float_front : (xs rest : List ℕ) → IsFloat xs → EndsRun rest → number (xs ++ rest) ≡ Takes (length xs) FloatValue Level
+pub float_front : (xs rest : List ℕ) → IsFloat xs → EndsRun rest → number (xs ++ rest) ≡ Takes (length xs) FloatValue Unchanged
 float_front xs rest h ends =
     number_front xs rest (float_run h).in_run ends ∙ rw (float_no_integer xs (float_found h), float_found h) refl
 

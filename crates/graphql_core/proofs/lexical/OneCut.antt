@@ -6,7 +6,7 @@ use Rattle.std.proofs.Common.{get_or, drop, refl, sym, ap, ◌∙◌, subst, inl
 use Rattle.std.proofs.lemmas.Bool.{cases_eq}
 use Rattle.std.proofs.lemmas.Bool.Decides.{nat_tests}
 use Rattle.std.proofs.lemmas.List.{take_at, drop_at}
-use Rattle.graphql_core.specs.declared.tokenizer.piece.Nesting.TheVariants.{Level}
+use Rattle.graphql_core.specs.declared.tokenizer.piece.Nesting.TheVariants.{Unchanged}
 use Rattle.graphql_core.specs.declared.tokenizer.token.Kind.TheVariants.{Punctuator, Name, IntValue, FloatValue, StringValue, BlockString}
 use Rattle.graphql_core.specs.declared.tokenizer.piece.Move.TheVariants.{Stay, Down}
 use Rattle.graphql_core.specs.steps.Front.{FrontElement, AtEnd, Skips, Takes, Stops}
@@ -100,7 +100,7 @@ not_continue (c ∷ cs) h = h (omega arith)
 sees_name : (b : ℕ) (bs : List ℕ) → is_name_start b ≡ true → HasPiece (b ∷ bs)
 sees_name b bs h =
     let r = run_of is_name_continue bs in
-    (b ∷ r.0, Word Name Level, r.1, ap (λ l. b ∷ l) r.2, name_token h r.3 (not_continue r.1 r.5))
+    (b ∷ r.0, Word Name Unchanged, r.1, ap (λ l. b ∷ l) r.2, name_token h r.3 (not_continue r.1 r.5))
 
 sees_byte_order_mark : (b : ℕ) (bs : List ℕ) → (b == 239 && (get_or bs 0 0 == 187 && get_or bs 1 0 == 191)) ≡ true → HasPiece (b ∷ bs)
 sees_byte_order_mark b [] h = absurd (grind (arith, nat_tests))
@@ -124,7 +124,7 @@ sees_dots b (x ∷ []) e h = absurd (grind (arith, nat_tests))
 sees_dots b (x ∷ y ∷ rest) e h =
     let e1 : x ≡ 46 = grind (arith, nat_tests) in
     let e2 : y ≡ 46 = grind (arith, nat_tests) in
-    (46 ∷ 46 ∷ 46 ∷ [], Word Punctuator Level, rest, rw (e, e1, e2) refl, spread_token)
+    (46 ∷ 46 ∷ 46 ∷ [], Word Punctuator Unchanged, rest, rw (e, e1, e2) refl, spread_token)
 
 -- after the two quotes of an empty string comes no other quote
 no_more_quotes : (body rest : List ℕ) → begins_quotes (34 ∷ (body ++ 34 ∷ rest)) ≡ false → body ≡ [] → get_or rest 0 0 ≢ 34
@@ -135,7 +135,7 @@ no_more_quotes (b ∷ body) rest h e = absurd cc
 has_string : (bs : List ℕ) (m : ℕ) → begins_quotes (34 ∷ bs) ≡ false → HasBody false 0 m bs → HasPiece (34 ∷ bs)
 has_string bs m none f = (
   34 ∷ (f.body ++ 34 ∷ []),
-  Word StringValue Level,
+  Word StringValue Unchanged,
   f.rest,
   ap (λ l. 34 ∷ l) (f.is ∙ sym (append_assoc f.body (34 ∷ []) f.rest)),
   string_token f.body f.valid (no_more_quotes f.body f.rest (rw f.is at none)),
@@ -149,7 +149,7 @@ sees_closed : (bs : List ℕ) (x : Option ℕ) → block_end 0 0 bs ≡ x → Se
 sees_closed bs None e = tt
 sees_closed bs (Some m) e =
     let f = block_found bs 0 m e in
-    (34 ∷ 34 ∷ 34 ∷ f.body, Word BlockString Level, f.rest, ap (λ l. 34 ∷ 34 ∷ 34 ∷ l) f.is, block_string_token f.closes)
+    (34 ∷ 34 ∷ 34 ∷ f.body, Word BlockString Unchanged, f.rest, ap (λ l. 34 ∷ 34 ∷ 34 ∷ l) f.is, block_string_token f.closes)
 
 sees_block : (bs : List ℕ) → begins_quotes bs ≡ true → Sees bs (closed BlockString 3 (block_end 0 0 (drop 3 bs)))
 sees_block [] h = absurd cc
@@ -173,9 +173,9 @@ unfolding number
 sees_number bs =
     let (rest, e, ends) = run_parts bs in
     look bs (is_integer (run_at bs)) _ _
-    (λ t. (run_at bs, Word IntValue Level, rest, e, integer_token t ends))
+    (λ t. (run_at bs, Word IntValue Unchanged, rest, e, integer_token t ends))
     (λ _. look bs (is_float (run_at bs)) _ _
-    (λ t. (run_at bs, Word FloatValue Level, rest, e, float_token (float_is (run_at bs) t) ends))
+    (λ t. (run_at bs, Word FloatValue Unchanged, rest, e, float_token (float_is (run_at bs) t) ends))
     (λ _. tt))
 
 sees_token : (b : ℕ) (bs : List ℕ) → Sees (b ∷ bs) (other_token b (b ∷ bs))

@@ -7,7 +7,7 @@ use Rattle.std.proofs.lemmas.Bool.{and_parts}
 use Rattle.std.proofs.lemmas.Bool.Decides.{nat_tests}
 use Rattle.std.proofs.lemmas.List.{take_at, take-append-drop, length-take, get_or_append_left}
 use Rattle.graphql_core.specs.declared.tokenizer.token.Kind.TheVariants.{IntValue, FloatValue}
-use Rattle.graphql_core.specs.declared.tokenizer.piece.Nesting.TheVariants.{Level}
+use Rattle.graphql_core.specs.declared.tokenizer.piece.Nesting.TheVariants.{Unchanged}
 use Rattle.graphql_core.specs.steps.Front.{Takes}
 use Rattle.graphql_core.specs.{is_natural, is_integer, is_fraction, EndsRun, with_fraction, digits_len, number}
 use Rattle.graphql_core.proofs.lexical.Runs.{run_of}
@@ -50,16 +50,16 @@ fraction_taken b bs n e len some =
 -- ---- in the input
 
 pub whole_number : (bs rest : List ℕ) (n : ℕ) → n ≤ length bs → is_integer (take n bs) ≡ true → rest ≡ drop n bs → EndsRun rest
-    → number bs ≡ Takes n IntValue Level
+    → number bs ≡ Takes n IntValue Unchanged
 whole_number bs rest n le h e ends =
     ap number (sym (take-append-drop n bs)) ∙ integer_front (take n bs) (drop n bs) h (subst EndsRun e ends)
-    ∙ ap (λ m. Takes m IntValue Level) (omega (arith, length-take n bs))
+    ∙ ap (λ m. Takes m IntValue Unchanged) (omega (arith, length-take n bs))
 
 pub number_with_fraction : (bs rest tail : List ℕ) (n m : ℕ) → n ≤ length bs → m ≤ length rest → is_integer (take n bs) ≡ true → rest ≡ drop n bs
-    → is_fraction (take m rest) ≡ true → tail ≡ drop m rest → EndsRun tail → number bs ≡ Takes (n + m) FloatValue Level
+    → is_fraction (take m rest) ≡ true → tail ≡ drop m rest → EndsRun tail → number bs ≡ Takes (n + m) FloatValue Unchanged
 number_with_fraction bs rest tail n m le lt i e f d ends =
     let after : drop n bs ≡ take m rest ++ tail = sym e ∙ sym (take-append-drop m rest) ∙ ap (λ l. take m rest ++ l) (sym d) in
     let whole : bs ≡ (take n bs ++ take m rest) ++ tail = sym (take-append-drop n bs) ∙ ap (λ l. take n bs ++ l) after
     ∙ sym (append_assoc (take n bs) (take m rest) tail) in
     ap number whole ∙ float_front (take n bs ++ take m rest) tail (with_fraction (take n bs) (take m rest) i f) ends
-    ∙ ap (λ k. Takes k FloatValue Level) (omega (arith, length-append (take n bs) (take m rest), length-take n bs, length-take m rest))
+    ∙ ap (λ k. Takes k FloatValue Unchanged) (omega (arith, length-append (take n bs) (take m rest), length-take n bs, length-take m rest))

@@ -53,9 +53,9 @@ spaces_boundary bytes (suc n) utf8 e =
     let more : n + 1 ≡ suc n = omega arith in
     subst (IsCharBoundary bytes) more (IsCharBoundary-after_ascii bytes n utf8 (omega (arith, prefix_len-le-length is_space bytes)) (omega arith))
 
-pub some_boundary : (bytes : List ℕ) (x : Option ℕ) → IsUtf8 bytes → IfSome x (λ n. n ≡ prefix_len is_space bytes) → IfSome x (λ n. IsCharBoundary bytes n)
-some_boundary bytes None utf8 e = tt
-some_boundary bytes (Some n) utf8 e = spaces_boundary bytes n utf8 e
+pub found_boundary : (bytes : List ℕ) (x : Option ℕ) → IsUtf8 bytes → IfSome x (λ n. n ≡ prefix_len is_space bytes) → IfSome x (λ n. IsCharBoundary bytes n)
+found_boundary bytes None utf8 e = tt
+found_boundary bytes (Some n) utf8 e = spaces_boundary bytes n utf8 e
 
 -- flat bytes end before a character
 pub flat_boundary : (bytes : List ℕ) (n : ℕ) → IsUtf8 bytes → n ≡ prefix_len is_flat bytes → IsCharBoundary bytes n

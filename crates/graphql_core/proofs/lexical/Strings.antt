@@ -8,7 +8,7 @@ use Rattle.std.proofs.lemmas.List.{at_drop_more, at_drop_all, length-drop, take_
 use Rattle.graphql_core.specs.{begins_quotes, begins_escape, IsStringBody, body_ends, body_character, body_escape, ClosesBlock, closing, escape, unit, is_flat}
 use Rattle.graphql_core.specs.{is_plain_in_string, is_plain_in_block, string_end, block_end, quoted_front}
 use Rattle.graphql_core.specs.declared.tokenizer.token.Kind.TheVariants.{StringValue, BlockString}
-use Rattle.graphql_core.specs.declared.tokenizer.piece.Nesting.TheVariants.{Level}
+use Rattle.graphql_core.specs.declared.tokenizer.piece.Nesting.TheVariants.{Unchanged}
 use Rattle.graphql_core.specs.steps.Front.{Takes}
 use Rattle.graphql_core.proofs.lexical.Runs.{not_equal, run_of, all_weaken, all_append}
 
@@ -261,15 +261,15 @@ string_quotes (body_character {b} {more} q k l body) rest h = no_second_quote 34
 string_quotes (body_escape {b} {more} l body) rest h = refl
 
 pub string_front : {body : List ℕ} → IsStringBody body → (rest : List ℕ) → (body ≡ [] → get_or rest 0 0 ≢ 34)
-    → quoted_front (34 ∷ (body ++ 34 ∷ rest)) ≡ Takes (length body + 2) StringValue Level
+    → quoted_front (34 ∷ (body ++ 34 ∷ rest)) ≡ Takes (length body + 2) StringValue Unchanged
 unfolding quoted_front
 string_front {body} valid rest h =
-    rw (string_quotes valid rest h, string_closes valid 0 rest) (ap (λ n. Takes n StringValue Level) (omega arith))
+    rw (string_quotes valid rest h, string_closes valid 0 rest) (ap (λ n. Takes n StringValue Unchanged) (omega arith))
 
 pub block_front : {body : List ℕ} → ClosesBlock body → (rest : List ℕ)
-    → quoted_front (34 ∷ 34 ∷ 34 ∷ (body ++ rest)) ≡ Takes (length body + 3) BlockString Level
+    → quoted_front (34 ∷ 34 ∷ 34 ∷ (body ++ rest)) ≡ Takes (length body + 3) BlockString Unchanged
 unfolding quoted_front
-block_front {body} closes rest = rw (block_closed closes 0 rest) (ap (λ n. Takes n BlockString Level) (omega arith))
+block_front {body} closes rest = rw (block_closed closes 0 rest) (ap (λ n. Takes n BlockString Unchanged) (omega arith))
 
 -- ---- strings in ASCII with no escape
 
@@ -304,12 +304,12 @@ plain_run bs k e last =
     record { run = r.0; rest = rest; is = r.2 ∙ ap (λ l. r.0 ++ l) is; all = r.3; len = sym (e ∙ r.4) }
 
 pub plain_string : (bs : List ℕ) (k : ℕ) → k ≡ prefix_len is_plain_in_string bs → get_or bs k 0 ≡ 34 → k ≢ 0
-    → quoted_front (34 ∷ bs) ≡ Takes (k + 1 + 1) StringValue Level
+    → quoted_front (34 ∷ bs) ≡ Takes (k + 1 + 1) StringValue Unchanged
 plain_string bs k e last some =
     let r = plain_run bs k e last in
     ap (λ l. quoted_front (34 ∷ l)) r.is
     ∙ string_front (plain_body r.run r.all) r.rest (λ none. absurd (some (sym r.len ∙ ap length none)))
-    ∙ ap (λ n. Takes n StringValue Level) (omega (arith, r.len))
+    ∙ ap (λ n. Takes n StringValue Unchanged) (omega (arith, r.len))
 
 pub plain_flat : (bs : List ℕ) (k : ℕ) → k ≡ prefix_len is_plain_in_string bs → get_or bs k 0 ≡ 34 → list_all is_flat (take (k + 1) bs) ≡ true
 plain_flat bs k e last =

@@ -12,13 +12,13 @@ use Rattle.graphql_core.specs.declared.tokenizer.token.Kind.TheVariants.{Punctua
 use Rattle.graphql_core.specs.declared.tokenizer.piece.Move.{Move}
 use Rattle.graphql_core.specs.declared.tokenizer.piece.Move.TheVariants.{Stay, Over, Down}
 use Rattle.graphql_core.specs.declared.tokenizer.piece.Nesting.{Nesting}
-use Rattle.graphql_core.specs.declared.tokenizer.piece.Nesting.TheVariants.{Level, Opens, Closes}
+use Rattle.graphql_core.specs.declared.tokenizer.piece.Nesting.TheVariants.{Unchanged, Opens, Closes}
 use Rattle.graphql_core.specs.declared.tokenizer.piece.Taken.{Taken}
 use Rattle.graphql_core.specs.steps.Front.{FrontElement, AtEnd, Skips, Takes, Stops}
 use Rattle.graphql_core.specs.{is_name_start, is_name_continue, is_punctuator_byte, nesting_of, is_in_line, too_deep, Where, Item, Content, item_at}
 use Rattle.graphql_core.specs.{TokenContent, EndOfInput, LexicalError, is_token, is_too_deep, openers_after, closers_after, past_token, token_then, items}
 use Rattle.graphql_core.specs.{items_by, BeginsWithNext, AreItemsOfRest, further, front, other_token, comment, line_end, FitsIn, IsItem, taken, FitsTaken}
-use Rattle.graphql_core.specs.{is_blank, is_line_feed, is_spacing, is_ignored, columns_of, moved}
+use Rattle.graphql_core.specs.{is_space_or_comma, is_line_feed, is_spacing, can_begin_ignored, columns_of, moved}
 use Rattle.graphql_core.proofs.lexical.Runs.{differs}
 use Rattle.graphql_core.proofs.lexical.FrontFits.{further_skip, front_fits, front_within, items_at, next_place_items, PieceFits}
 use Rattle.graphql_core.proofs.lexical.OneCut.{has_items_from}
@@ -26,7 +26,7 @@ use Rattle.graphql_core.proofs.lexical.Spaces.{no_front, item_first}
 
 -- ---- tokens
 
-pub name_front : (b : ℕ) (bs : List ℕ) → is_name_start b ≡ true → front (b ∷ bs) ≡ Takes (prefix_len is_name_continue bs + 1) Name Level
+pub name_front : (b : ℕ) (bs : List ℕ) → is_name_start b ≡ true → front (b ∷ bs) ≡ Takes (prefix_len is_name_continue bs + 1) Name Unchanged
 unfolding front
 name_front b bs h =
     rw (
@@ -62,9 +62,9 @@ fits_parts bytes (Takes n k t) h = h
 pub taken_fits : (bytes : List ℕ) (x : Option Taken) → x ≡ taken (front bytes) → IsUtf8 bytes → FitsTaken bytes x
 taken_fits bytes x e utf8 = rw e (fits_parts bytes (front bytes) (front_fits bytes (front bytes) refl utf8))
 
-pub some_fits : (bytes : List ℕ) (x : Option Taken) → IfSome x (λ t. Some t ≡ taken (front bytes)) → IsUtf8 bytes → FitsTaken bytes x
-some_fits bytes None e utf8 = tt
-some_fits bytes (Some t) e utf8 = taken_fits bytes (Some t) e utf8
+pub found_fits : (bytes : List ℕ) (x : Option Taken) → IfSome x (λ t. Some t ≡ taken (front bytes)) → IsUtf8 bytes → FitsTaken bytes x
+found_fits bytes None e utf8 = tt
+found_fits bytes (Some t) e utf8 = taken_fits bytes (Some t) e utf8
 
 back : Option Taken → FrontElement
 back None = Stops
@@ -173,14 +173,14 @@ items_of_rest w bytes h few = rw (next_place_items w bytes h) (has_items_from w 
 
 -- a token opens and closes at most one bracket
 pub one_bracket : (n : Nesting) (k : ℕ) → (openers_after n k ≤ k + 1) × (closers_after n k ≤ k + 1)
-one_bracket Level k = (omega arith, omega arith)
+one_bracket Unchanged k = (omega arith, omega arith)
 one_bracket Opens k = (omega arith, omega arith)
 one_bracket Closes k = (omega arith, omega arith)
 
 -- a token that is not too deep leaves at most 50 brackets open
 pub few_open : (n : Nesting) (w : Where) → is_too_deep n w ≡ false → w.openers ≤ w.closers + 50
     → openers_after n w.openers ≤ closers_after n w.closers + 50
-few_open Level w deep few = few
+few_open Unchanged w deep few = few
 few_open Opens w deep few = omega (arith, eqb-false w.openers (w.closers + 50) deep)
 few_open Closes w deep few = omega (arith, few)
 
@@ -198,11 +198,11 @@ token_then_rest w text value after rest size t place is deep value_is after_is m
 
 -- ---- plain ignored text
 
-blank : (b : ℕ) (bs : List ℕ) → is_blank b ≡ true → front (b ∷ bs) ≡ Skips 1 (Over 1)
+blank : (b : ℕ) (bs : List ℕ) → is_space_or_comma b ≡ true → front (b ∷ bs) ≡ Skips 1 (Over 1)
 unfolding front
-blank b bs h = rw (differs is_blank b 9 h refl, differs is_blank b 10 h refl, differs is_blank b 13 h refl, h) refl
+blank b bs h = rw (differs is_space_or_comma b 9 h refl, differs is_space_or_comma b 10 h refl, differs is_space_or_comma b 13 h refl, h) refl
 
-pub blank_front : (bytes : List ℕ) → is_blank (get_or bytes 0 0) ≡ true → front bytes ≡ Skips 1 (Over 1)
+pub blank_front : (bytes : List ℕ) → is_space_or_comma (get_or bytes 0 0) ≡ true → front bytes ≡ Skips 1 (Over 1)
 blank_front [] h = absurd cc
 blank_front (b ∷ bs) h = blank b bs h
 
@@ -234,7 +234,7 @@ spacing_front (b ∷ bs) h =
       | inr no_tab ↦ elim (cases_Bool (b == 13)) [
         | inl is_return ↦ rw (eqb-true b 13 is_return) (return bs)
         | inr no_return ↦
-            let blank_is : is_blank b ≡ true = rw (no_tab, no_return) at h in
+            let blank_is : is_space_or_comma b ≡ true = rw (no_tab, no_return) at h in
             rw (no_return, no_tab, blank_is) (blank b bs blank_is)
       ]
     ]
@@ -259,7 +259,7 @@ pub columns_most : (b : ℕ) → columns_of b ≤ 8
 columns_most b =
     elim (cases_Bool (b == 9)) [
       | inl is_tab ↦ rw is_tab (omega arith)
-      | inr no_tab ↦ rw no_tab (elim (cases_Bool (is_blank b)) [ inl blank_is ↦ rw blank_is (omega arith) | inr other ↦ rw other (omega arith) ])
+      | inr no_tab ↦ rw no_tab (elim (cases_Bool (is_space_or_comma b)) [ inl blank_is ↦ rw blank_is (omega arith) | inr other ↦ rw other (omega arith) ])
     ]
 
 -- past one byte of ignored text
@@ -277,8 +277,8 @@ pub first_told : (p : ℕ → Bool) (bytes : List ℕ) {byte : ℕ} {found answe
     → p (get_or bytes 0 0) ≡ answer
 first_told p bytes first found told = ap p (sym first) ∙ sym found ∙ told
 
-none_of : (b : ℕ) → is_ignored b ≡ false
-    → ((b == 9) ≡ false) × ((b == 10) ≡ false) × ((b == 13) ≡ false) × (is_blank b ≡ false) × ((b == 35) ≡ false) × ((b == 239) ≡ false)
+none_of : (b : ℕ) → can_begin_ignored b ≡ false
+    → ((b == 9) ≡ false) × ((b == 10) ≡ false) × ((b == 13) ≡ false) × (is_space_or_comma b ≡ false) × ((b == 35) ≡ false) × ((b == 239) ≡ false)
 none_of b h =
     (grind (arith, nat_tests), grind (arith, nat_tests), grind (arith, nat_tests), grind (arith, nat_tests), grind (arith, nat_tests), grind (arith, nat_tests))
 
@@ -287,7 +287,7 @@ unfolding front
 at_end = tt
 
 -- an input that begins with no ignored byte
-pub item_front : (bytes : List ℕ) → is_ignored (get_or bytes 0 0) ≡ false → IsItem (front bytes)
+pub item_front : (bytes : List ℕ) → can_begin_ignored (get_or bytes 0 0) ≡ false → IsItem (front bytes)
 item_front [] h = at_end
 item_front (b ∷ bs) h =
     let n = none_of b h in

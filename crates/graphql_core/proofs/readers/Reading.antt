@@ -172,4 +172,4 @@ stops_until g a c f start now new items o un t s = halts new o t.kept (λ why h.
     (λ unseen. let r = Turns-stop g a f start now items t unseen in fails_after r.1.0 (fails_one s)) h)
 
 -- for errors that are returned
-pub ruleset reading = (exits, stops_one)
+pub ruleset reader_steps = (exits, stops_one)

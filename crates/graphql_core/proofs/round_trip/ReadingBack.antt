@@ -10,7 +10,7 @@ use Rattle.std.specs.List.{list_all}
 use Rattle.graphql_core.specs.declared.tokenizer.token.Kind.{Kind}
 use Rattle.graphql_core.specs.declared.tokenizer.token.Kind.TheVariants.{Punctuator}
 use Rattle.graphql_core.specs.declared.tokenizer.piece.Nesting.{Nesting}
-use Rattle.graphql_core.specs.declared.tokenizer.piece.Nesting.TheVariants.{Level, Opens, Closes}
+use Rattle.graphql_core.specs.declared.tokenizer.piece.Nesting.TheVariants.{Unchanged, Opens, Closes}
 use Rattle.graphql_core.proofs.layouts.{IsWord, is_blank, Deepens, Laid, done, as_word, margin, gap, word, punctuator_laid}
 use Rattle.graphql_core.proofs.layouts.{dots, anywhere, laid_after, Spells, spells_split, has_tokens}
 
@@ -97,9 +97,9 @@ bracket_back {c = c} {d = d} {e = e} n (b ∷ []) (m, is) nests takes =
 bracket_back n (b ∷ c ∷ cs) h nests takes = absurd h
 
 -- A punctuator that is no bracket; an opening bracket, if fewer than 50 are open; and a closing bracket.
-pub punctuator_back : {g : Grammar} {c : Class} {p : Bool} {d : ℕ} (s : List ℕ) → IsMark Level s → Takes g c Punctuator s
+pub punctuator_back : {g : Grammar} {c : Class} {p : Bool} {d : ℕ} (s : List ℕ) → IsMark Unchanged s → Takes g c Punctuator s
     → Back g (One c) p d (token Punctuator s ∷ []) false d Any
-punctuator_back s m takes = bracket_back Level s m refl takes
+punctuator_back s m takes = bracket_back Unchanged s m refl takes
 
 pub open_back : {g : Grammar} {c : Class} {p : Bool} {d : ℕ} (s : List ℕ) → IsMark Opens s → d < 50 → Takes g c Punctuator s
     → Back g (One c) p d (token Punctuator s ∷ []) false (d + 1) Any

@@ -1,10 +1,10 @@
--- Second rules of which most are the written ones.
+-- Factored rules of which most are the written ones.
 use Rattle.std.proofs.Common.{◌≡◌, ℕ, zero, suc, Bool, true, false, ◌&&◌, eqb, List, [], ◌∷◌, ◌++◌, drop, replicate, refl, ap, ap₂, subst}
 use Rattle.std.proofs.lemmas.Bool.{eqb-true, and_parts}
 use Rattle.graphql_core.specs.{Class, Spelled, AnyOf, Except, same_spelling, same_spellings, Expr, Empty, One, Then, Either, Many, Sym, Row, Grammar}
-use Rattle.graphql_core.specs.{same_class, same_rule, Change, unchanged, IsSecond, AreSecond}
+use Rattle.graphql_core.specs.{same_class, same_rule, Change, unchanged, IsFactored, AreFactored}
 use Rattle.graphql_core.proofs.grammar.{same_spelling-true, same_spellings-true}
-use Rattle.graphql_core.proofs.rules.SecondRules.{IsSecond-unchanged}
+use Rattle.graphql_core.proofs.rules.FactoredRules.{IsFactored-unchanged}
 
 -- ---- the test that two expressions are the same
 
@@ -42,12 +42,12 @@ same_rules _ _ _ = false
 module _ (g : Grammar) (rs : List Row) (cs : List Change) where
   -- n rows that are read as they are written, and others after them
   pub unchanged_then : (n : ℕ) (ws more : List Row) (others : List Change) → same_rules n ws more ≡ true
-      → AreSecond g rs cs (drop n ws) (drop n more) others
-      → AreSecond g rs cs ws more (replicate n unchanged ++ others)
+      → AreFactored g rs cs (drop n ws) (drop n more) others
+      → AreFactored g rs cs ws more (replicate n unchanged ++ others)
   unchanged_then zero ws more others h after = after
   unchanged_then (suc n) (w ∷ ws) (r ∷ more) others h after =
       let p = and_parts (same_rule w.rule r.rule) (same_rules n ws more) h in (
-        subst (λ (e : Expr). IsSecond g rs cs w.rule e unchanged) (same_rule-true w.rule r.rule p.0) (IsSecond-unchanged g rs cs w.rule),
+        subst (λ (e : Expr). IsFactored g rs cs w.rule e unchanged) (same_rule-true w.rule r.rule p.0) (IsFactored-unchanged g rs cs w.rule),
         unchanged_then n ws more others p.1 after,
       )
   unchanged_then (suc n) [] more others h after = absurd cc

@@ -11,11 +11,11 @@ use Rattle.graphql_core.specs.declared.tokenizer.token.Kind.{Kind}
 use Rattle.graphql_core.specs.declared.tokenizer.piece.Move.{Move}
 use Rattle.graphql_core.specs.declared.tokenizer.piece.Move.TheVariants.{Over, Down}
 use Rattle.graphql_core.specs.declared.tokenizer.piece.Nesting.{Nesting}
-use Rattle.graphql_core.specs.declared.tokenizer.piece.Nesting.TheVariants.{Level, Opens, Closes}
+use Rattle.graphql_core.specs.declared.tokenizer.piece.Nesting.TheVariants.{Unchanged, Opens, Closes}
 use Rattle.graphql_core.specs.declared.tokenizer.piece.Taken.{Taken}
 use Rattle.graphql_core.specs.steps.Front.{FrontElement, AtEnd, Skips, Takes, Stops}
 use Rattle.graphql_core.specs.{Where, Item, Content, item_at, TokenContent, LexicalError, is_too_deep, openers_after, closers_after, past_token, past_ignored}
-use Rattle.graphql_core.specs.{last_item, token_then, contents, taken, is_space, is_blank, is_gap, HasContentsOf, too_deep, items, items_in, items_by, front}
+use Rattle.graphql_core.specs.{last_item, token_then, contents, taken, is_space, is_space_or_comma, is_gap, HasContentsOf, too_deep, items, items_in, items_by, front}
 use Rattle.graphql_core.proofs.lexical.{items_at, items_skip, taken_front, blank_front, feed_front}
 
 -- equally many brackets were opened and closed before both
@@ -23,7 +23,7 @@ abbrev pub SameBrackets : Where → Where → Type 0
 SameBrackets w v = (w.openers ≡ v.openers) × (w.closers ≡ v.closers)
 
 same_depth : (t : Nesting) (w v : Where) → SameBrackets w v → is_too_deep t w ≡ is_too_deep t v
-same_depth Level w v e = refl
+same_depth Unchanged w v e = refl
 same_depth Opens w v e = rw (e.0, e.1) refl
 same_depth Closes w v e = refl
 
@@ -63,7 +63,7 @@ skip_contents bytes n m e w =
 -- past one space, comma or line feed
 one_gap : (b : ℕ) (bs : List ℕ) → is_gap b ≡ true → HasContentsOf bs (b ∷ bs)
 one_gap b bs gap w =
-    elim (cases_Bool (is_blank b)) [
+    elim (cases_Bool (is_space_or_comma b)) [
       | inl blank ↦ skip_contents (b ∷ bs) 1 (Over 1) (blank_front (b ∷ bs) blank) w
       | inr other ↦ skip_contents (b ∷ bs) 1 Down (feed_front (b ∷ bs) (rw other at gap)) w
     ]

@@ -13,7 +13,7 @@ use Rattle.graphql_core.specs.declared.tokenizer.token.Kind.{Kind}
 use Rattle.graphql_core.specs.declared.tokenizer.token.Kind.TheVariants.{Punctuator, Name, IntValue, FloatValue, StringValue, BlockString}
 use Rattle.graphql_core.specs.declared.tokenizer.piece.Move.TheVariants.{Over}
 use Rattle.graphql_core.specs.declared.tokenizer.piece.Nesting.{Nesting}
-use Rattle.graphql_core.specs.declared.tokenizer.piece.Nesting.TheVariants.{Level, Opens, Closes}
+use Rattle.graphql_core.specs.declared.tokenizer.piece.Nesting.TheVariants.{Unchanged, Opens, Closes}
 
 -- ---- what can follow a token
 
@@ -90,7 +90,7 @@ token_follows k (block_string_token closes) p more = word_follows k _
 -- ---- tokens of the lexical grammar
 
 past_is : (n : Nesting) (w : Where) → is_too_deep n w ≡ is_past n w.openers w.closers
-past_is Level w = refl
+past_is Unchanged w = refl
 past_is Opens w = refl
 past_is Closes w = refl
 

@@ -7,7 +7,7 @@ use Rattle.graphql_core.specs.{Token, Class, matches, Expr, Empty, One, Then, Ei
 use Rattle.graphql_core.specs.{Node, Row, Grammar, row_at, row, accepts, Fits, fits_nothing, fits_leaf, fits_both, fits_first, fits_second, fits_stop}
 use Rattle.graphql_core.specs.{fits_more, fits_node, is_below, TestsAlike, Extends, IsLexeme}
 use Rattle.graphql_core.specs.declared.tokenizer.piece.Nesting.{Nesting}
-use Rattle.graphql_core.specs.declared.tokenizer.piece.Nesting.TheVariants.{Level, Opens, Closes}
+use Rattle.graphql_core.specs.declared.tokenizer.piece.Nesting.TheVariants.{Unchanged, Opens, Closes}
 use Rattle.graphql_core.proofs.values.NestingDepth.{Past, NestsTree, class_nesting, has_nesting, past_class}
 
 -- ---- brackets of an expression
@@ -33,7 +33,7 @@ closers _ = 0
 
 -- how many brackets can be opened after a token, if n can be opened before it
 abbrev pub room_past : Nesting → ℕ → ℕ
-room_past Level n = n
+room_past Unchanged n = n
 room_past Opens n = n - 1
 room_past Closes n = n + 1
 
@@ -82,7 +82,7 @@ abbrev IsRoomAfter : Expr → ℕ → Type 0
 IsRoomAfter e n = room_after e n + openers e ≡ n + closers e
 
 after_leaf : (s : Nesting) (n : ℕ) (P : ℕ → Type 0) → Past s n P → (opened s ≤ n) × (room_past s n + opened s ≡ n + closed s) × P (room_past s n)
-after_leaf Level n P h = (omega arith, refl, h)
+after_leaf Unchanged n P h = (omega arith, refl, h)
 after_leaf Opens n P (m, is, h) = (omega arith, omega arith, subst P (omega arith) h)
 after_leaf Closes n P h = (omega arith, omega arith, subst P (omega arith) h)
 

@@ -15,7 +15,7 @@ use Rattle.graphql_core.proofs.grammar.{all_within-sound, apart_from-sound}
 use Rattle.graphql_core.specs.declared.tokenizer.token.Kind.{Kind}
 use Rattle.graphql_core.specs.declared.tokenizer.token.Kind.TheVariants.{Punctuator, Name}
 use Rattle.graphql_core.specs.declared.tokenizer.piece.Nesting.{Nesting}
-use Rattle.graphql_core.specs.declared.tokenizer.piece.Nesting.TheVariants.{Level, Opens, Closes}
+use Rattle.graphql_core.specs.declared.tokenizer.piece.Nesting.TheVariants.{Unchanged, Opens, Closes}
 
 -- ---- how a token changes the depth
 
@@ -26,11 +26,11 @@ abbrev pub closings : List Class
 closings = Spelled (kind_number Punctuator) (codes ")") ∷ Spelled (kind_number Punctuator) (codes "]") ∷ Spelled (kind_number Punctuator) (codes "}") ∷ []
 
 abbrev pub nesting_of : Token → Nesting
-nesting_of t = cond (in_any openings t) Opens (cond (in_any closings t) Closes Level)
+nesting_of t = cond (in_any openings t) Opens (cond (in_any closings t) Closes Unchanged)
 
 -- P holds of how many brackets can be opened after a token, if n can be opened before it
 abbrev pub Past : Nesting → ℕ → (ℕ → Type 0) → Type 0
-Past Level n P = P n
+Past Unchanged n P = P n
 Past Opens n P = (m : ℕ) × (n ≡ suc m) × P m
 Past Closes n P = P (suc n)
 
@@ -123,9 +123,9 @@ module _ (whole stop : List ℕ) (last : Last) (others : List Token) where
       → (more : Where → List Item) → LeavesLater rest more → (t : Token) (ts : List Token) → LeavesAfter (t ∷ ts) n (piece_then m more w bytes)
   leaves_piece (Ignored m) bytes rest st w n e there more h t ts =
       h (past_ignored m (length bytes) w) n (past_bytes w.offset whole bytes rest there) e (t ∷ ts)
-  leaves_piece (Word k Level) bytes rest st w n e there more h t ts =
-      let v = past_token Level bytes w in
-      leaves_token k Level bytes rest w n (more v) t ts st (h v n (past_bytes w.offset whole bytes rest there) e ts)
+  leaves_piece (Word k Unchanged) bytes rest st w n e there more h t ts =
+      let v = past_token Unchanged bytes w in
+      leaves_token k Unchanged bytes rest w n (more v) t ts st (h v n (past_bytes w.offset whole bytes rest there) e ts)
   leaves_piece (Word k Closes) bytes rest st w n e there more h t ts =
       let v = past_token Closes bytes w in
       leaves_token k Closes bytes rest w n (more v) t ts st (h v (suc n) (past_bytes w.offset whole bytes rest there) (omega arith) ts)
@@ -176,7 +176,7 @@ nests_before text items (ps, stop, cut, e) front others =
     rw e (λ is. leaves_items text stop _ others ps text cut start 50 refl refl front is refl)
 
 past_map : (s : Nesting) (n : ℕ) (P Q : ℕ → Type 0) → ((m : ℕ) → P m → Q m) → Past s n P → Past s n Q
-past_map Level n P Q f h = f n h
+past_map Unchanged n P Q f h = f n h
 past_map Opens n P Q f (m, e, h) = (m, e, f m h)
 past_map Closes n P Q f h = f (suc n) h
 
@@ -200,7 +200,7 @@ nests_from w n text items room (ps, stop, cut, e) =
     subst (λ (is : List Item). Nests (split is).tokens n Anything) (sym e) found
 
 past_inside : (s : Nesting) (n : ℕ) (P : ℕ → Type 0) → Past s n P → (m : ℕ) × P m
-past_inside Level n P h = (n, h)
+past_inside Unchanged n P h = (n, h)
 past_inside Opens n P (m, e, h) = (m, h)
 past_inside Closes n P h = (suc n, h)
 
@@ -220,7 +220,7 @@ pub rest_lexemes : (items : List Item) (text : List ℕ) → AreItemsOfRest item
 rest_lexemes items text are = nests-lexemes _ _ Anything (nests_rest items text are)
 
 past_more : (s : Nesting) (n k : ℕ) (P Q : ℕ → Type 0) → ((m : ℕ) → P m → Q (m + k)) → Past s n P → Past s (n + k) Q
-past_more Level n k P Q f h = f n h
+past_more Unchanged n k P Q f h = f n h
 past_more Opens n k P Q f (m, e, h) = (m + k, omega (arith, e), f m h)
 past_more Closes n k P Q f h = subst Q (omega arith) (f (suc n) h)
 
@@ -267,7 +267,7 @@ nests_tree (Node k x) n P h = nests_tree x n P h
 -- ---- what the class of a token states
 
 abbrev pub class_nesting : Class → Nesting
-class_nesting c = cond (within_any c openings) Opens (cond (within_any c closings) Closes Level)
+class_nesting c = cond (within_any c openings) Opens (cond (within_any c closings) Closes Unchanged)
 
 -- all tokens of the class have one nesting
 abbrev pub has_nesting : Class → Bool
@@ -289,7 +289,7 @@ pub past_class : (c : Class) (t : Token) (n : ℕ) (P : ℕ → Type 0) → has_
     → Past (class_nesting c) n P
 past_class c t n P h m p =
     let (o, k) = and_parts (within_any c openings || apart_from c openings) _ h in
-    subst (λ s. Past s n P) (ap₂ (λ (a b : Bool). cond a Opens (cond b Closes Level)) (in_any-class c openings t o m) (in_any-class c closings t k m)) p
+    subst (λ s. Past s n P) (ap₂ (λ (a b : Bool). cond a Opens (cond b Closes Unchanged)) (in_any-class c openings t o m) (in_any-class c closings t k m)) p
 
 name-bytes : {bytes : List ℕ} {k : Kind} {s : Nesting} {rest : List ℕ} → Stands bytes (Word k s) rest → kind_number k ≡ kind_number Name → IsName bytes
 name-bytes (name_token first more stop) e = (first, more)

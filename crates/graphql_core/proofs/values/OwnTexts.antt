@@ -2,7 +2,7 @@
 use Rattle.std.proofs.Common.{◌≡◌, ℕ, ◌+◌, Bool, true, false, List, [], ◌∷◌, ◌++◌, length, drop, refl, sym, ap, subst, ◌∙◌, arith}
 use Rattle.graphql_core.specs.{LexicalError, items_of, TokenContent, past_ignored, past_token, is_too_deep, token_then, piece_then, item_at, Where, Item}
 use Rattle.graphql_core.specs.{HasItems, start, token_of, split, IsEnd, too_deep, Meaning, Ignored, Word, Stands, Piece, IsCutInto, Token, next_place, unplaced}
-use Rattle.graphql_core.specs.declared.tokenizer.piece.Nesting.TheVariants.{Opens, Closes, Level}
+use Rattle.graphql_core.specs.declared.tokenizer.piece.Nesting.TheVariants.{Opens, Closes, Unchanged}
 use Rattle.graphql_core.specs.declared.tokenizer.piece.Nesting.{Nesting}
 use Rattle.graphql_core.proofs.values.NestingDepth.{past_bytes}
 use Rattle.std.proofs.lemmas.Bool.Decides.{nat_tests}
@@ -16,12 +16,12 @@ abbrev pub AsDeep : Where → Where → Type 0
 AsDeep v w = v.openers + w.closers ≡ w.openers + v.closers
 
 deep_alike : (s : Nesting) (v w : Where) → AsDeep v w → is_too_deep s v ≡ is_too_deep s w
-deep_alike Level v w e = refl
+deep_alike Unchanged v w e = refl
 deep_alike Opens v w e = grind (arith, nat_tests)
 deep_alike Closes v w e = refl
 
 deep_after : (s : Nesting) (bytes : List ℕ) (v w : Where) → AsDeep v w → AsDeep (past_token s bytes v) (past_token s bytes w)
-deep_after Level bytes v w e = e
+deep_after Unchanged bytes v w e = e
 deep_after Opens bytes v w e = omega (arith, e)
 deep_after Closes bytes v w e = omega (arith, e)
 

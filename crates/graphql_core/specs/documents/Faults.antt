@@ -61,8 +61,8 @@ module _ {D : Type 0} (l : Language D) where
   IsFaultAt i f n = (why : Reason) × IsFault l.grammar (Sym l.document) (numbered i) why n × Says why i n f
 
   -- the first error: the one at the lowest token index
-  abbrev pub IsLeastFault : Items → FaultText → Type 0
-  IsLeastFault i f = (n : ℕ) × (why : Reason) × IsLeast l.grammar (Sym l.document) (numbered i) why n × Says why i n f
+  abbrev pub IsFirstError : Items → FaultText → Type 0
+  IsFirstError i f = (n : ℕ) × (why : Reason) × IsLeast l.grammar (Sym l.document) (numbered i) why n × Says why i n f
 
   -- The error is at the first token or end of input that the plain grammar (`lax`) rejects, just after `front`.
   abbrev pub NoneGoesOn : Items → FaultText → Type 0
@@ -72,7 +72,7 @@ module _ {D : Type 0} (l : Language D) where
 
   -- The error is out of memory, or the first error of the items.
   abbrev pub IsRefusalFor : Items → Refusal → Type 0
-  IsRefusalFor i r = Tells (IsLeastFault i) r
+  IsRefusalFor i r = Tells (IsFirstError i) r
 
   -- no two errors of the items have the same index
   abbrev pub HasOneFaultAt : Items → Type 0
@@ -82,8 +82,8 @@ module _ {D : Type 0} (l : Language D) where
   abbrev pub IsFaultOf : List ℕ → FaultText → ℕ → Type 0
   IsFaultOf text f n = (items : List Item) × HasItems text items × IsFaultAt (split items) f n
 
-  abbrev pub IsLeastFaultOf : List ℕ → FaultText → Type 0
-  IsLeastFaultOf text f = (items : List Item) × HasItems text items × IsLeastFault (split items) f
+  abbrev pub IsFirstErrorOf : List ℕ → FaultText → Type 0
+  IsFirstErrorOf text f = (items : List Item) × HasItems text items × IsFirstError (split items) f
 
   -- no two errors of an input have the same index, so the first error is unique
   abbrev pub HasOneFaultEach : List ℕ → Type 0
@@ -97,7 +97,7 @@ module _ {D : Type 0} (l : Language D) where
   pub data IsRefusalOf (text : List ℕ) : Refusal → Type 0 where
     ran_out : IsRefusalOf text no_memory
     past_bound : max_length < length text → IsRefusalOf text too_long
-    faulty : (f : FaultText) → length text ≤ max_length → IsLeastFaultOf text f → IsRefusalOf text (at f)
+    faulty : (f : FaultText) → length text ≤ max_length → IsFirstErrorOf text f → IsRefusalOf text (at f)
 
   -- ---- the first error, if the language rejects no node
 
@@ -113,11 +113,11 @@ module _ {D : Type 0} (l : Language D) where
         → IsFaultAfter front (t ∷ after) last (record { cause = c; place = t.place })
 
   -- Some document begins with the first `n` tokens, and none continues with the next. The error there is `f`.
-  abbrev pub IsFirstFault : Items → FaultText → Type 0
-  IsFirstFault i f = (n : ℕ) × (n ≤ length i.tokens) × Begins l.grammar (Sym l.document) (take n i.tokens)
+  abbrev pub StopsAllDocuments : Items → FaultText → Type 0
+  StopsAllDocuments i f = (n : ℕ) × (n ≤ length i.tokens) × Begins l.grammar (Sym l.document) (take n i.tokens)
       × texts.EndsAt l.grammar (Sym l.document) (take n i.tokens) (drop n i.tokens) (ending_of i.last)
       × IsFaultAfter (take n i.tokens) (drop n i.tokens) i.last f
 
   -- the same for an input
-  abbrev pub IsFirstFaultOf : List ℕ → FaultText → Type 0
-  IsFirstFaultOf text f = (items : List Item) × HasItems text items × IsFirstFault (split items) f
+  abbrev pub StopsAllDocumentsOf : List ℕ → FaultText → Type 0
+  StopsAllDocumentsOf text f = (items : List Item) × HasItems text items × StopsAllDocuments (split items) f

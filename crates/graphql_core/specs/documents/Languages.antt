@@ -1,7 +1,7 @@
 -- A language: its grammar, the documents that its parse trees denote, and the rules by which it is parsed.
 use Rattle.std.specs.Prelude.{ℕ, List}
 use Rattle.graphql_core.specs.theory.{with_rows, Change}
-use Rattle.graphql_core.specs.grammar.{Token, Class, ParseTree, Expr, Row, Grammar, row}
+use Rattle.graphql_core.specs.grammar.{Token, Class, ParseTree, Row, Grammar}
 use Rattle.graphql_core.specs.sources.{CauseText, FaultText}
 
 -- `D` is the type of its documents.
@@ -17,13 +17,9 @@ pub record Language (D : Type 0) : Type 1 where
   -- what is reported of a rejected node
   pub refuses : ParseTree → FaultText → Type 0
   -- the factored rules for the same symbols, by which it is parsed, and how their parse trees become those as written
-  pub second_rows : List Row
+  pub factored_rows : List Row
   pub changes : List Change
 
 -- the factored grammar, by which a parser reads
 abbrev pub reading : {D : Type 0} → Language D → Grammar
-reading l = with_rows l.grammar l.second_rows l.changes
-
--- the factored rule of a whole document
-abbrev pub document_rule : {D : Type 0} → Language D → Expr
-document_rule l = (row (reading l) l.document).rule
+reading l = with_rows l.grammar l.factored_rows l.changes

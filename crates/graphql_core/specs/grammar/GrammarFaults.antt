@@ -17,8 +17,8 @@ pub data Reason : Type 0 where
 abbrev pub StopsBefore : Grammar → Expr → List Token → List Token → Type 0
 StopsBefore g e ts us = (u : Token) (rest : List Token) → us ≡ u ∷ rest → Begins g e (ts ++ u ∷ []) → ⊥
 
--- A node of the symbol `k` between these tokens fails its check, though everything in the node passes. After `before`,
--- `k` can come next. No list of `k` begins with the tokens of the node and the next token.
+-- A node of the symbol `k` between these tokens fails its check, though everything in the node passes. The node has a
+-- token. After `before`, `k` can come next. No list of `k` begins with the tokens of the node and the next token.
 abbrev pub IsRefused : Grammar → Expr → List Token → ℕ → ParseTree → List Token → List Token → Type 0
 IsRefused g e ts k x before us =
     (ts ≡ before ++ (leaves x ++ us)) × (leaves x ≡ [] → ⊥) × Leads (lax g) e before (Sym k)

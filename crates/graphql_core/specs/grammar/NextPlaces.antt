@@ -1,7 +1,7 @@
 -- What can come next after some tokens.
-use Rattle.std.specs.Prelude.{◌≡◌, ℕ, false, List, [], ◌++◌}
+use Rattle.std.specs.Prelude.{ℕ, List, [], ◌++◌}
 use Rattle.graphql_core.specs.grammar.Tokens.{Token}
-use Rattle.graphql_core.specs.grammar.Trees.{Expr, One, Then, Either, Many, Sym, ParseTree, Grammar, row, leaves, Fits}
+use Rattle.graphql_core.specs.grammar.Trees.{Expr, Then, Either, Many, Sym, ParseTree, Grammar, row, leaves, Fits}
 
 -- `Leads g e ts d`: a leftmost derivation from `e` reaches `ts d ..`, so after the tokens `ts`, `d` can come next.
 pub data Leads (g : Grammar) : Expr → List Token → Expr → Type 0 where
@@ -16,9 +16,3 @@ pub data Leads (g : Grammar) : Expr → List Token → Expr → Type 0 where
   leads_later : {a d : Expr} {ts : List Token} {x : ParseTree} → Fits g a x → Leads g (Many a) ts d
       → Leads g (Many a) (leaves x ++ ts) d
   leads_node : {k : ℕ} {d : Expr} {ts : List Token} → Leads g (row g k).rule ts d → Leads g (Sym k) ts d
-
--- the grammar can reject what the expression derives: a leaf, or a node of a symbol whose check can fail
-abbrev pub IsTested : Grammar → Expr → Type 0
-IsTested g (One c) = Unit {0}
-IsTested g (Sym k) = (x : ParseTree) × (g.check k x ≡ false)
-IsTested g _ = ⊥

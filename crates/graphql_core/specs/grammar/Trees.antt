@@ -37,17 +37,6 @@ leaves Stop = []
 leaves (More x y) = leaves x ++ leaves y
 leaves (Node k x) = leaves x
 
--- A parse tree with each node changed, inner nodes first: `f` takes a symbol, the old content and the changed content.
-abbrev pub with_nodes : (ℕ → ParseTree → ParseTree → ParseTree) → ParseTree → ParseTree
-with_nodes f Nothing = Nothing
-with_nodes f (Leaf t) = Leaf t
-with_nodes f (Both x y) = Both (with_nodes f x) (with_nodes f y)
-with_nodes f (First x) = First (with_nodes f x)
-with_nodes f (Second y) = Second (with_nodes f y)
-with_nodes f Stop = Stop
-with_nodes f (More x y) = More (with_nodes f x) (with_nodes f y)
-with_nodes f (Node k x) = Node k (f k x (with_nodes f x))
-
 -- a symbol: its rule, and the tables that `is_row` compares with the rule
 pub record Row : Type 0 where
   pub rule : Expr

@@ -3,18 +3,18 @@ use Rattle.std.specs.Prelude.{ℕ, suc, ◌-◌, max, List, [], ◌∷◌}
 use Rattle.graphql_core.specs.declared.tokenizer.token.Kind.{Kind}
 use Rattle.graphql_core.specs.declared.tokenizer.token.Kind.TheVariants.{Punctuator}
 use Rattle.graphql_core.specs.declared.tokenizer.piece.Nesting.{Nesting}
-use Rattle.graphql_core.specs.declared.tokenizer.piece.Nesting.TheVariants.{Level, Opens, Closes}
+use Rattle.graphql_core.specs.declared.tokenizer.piece.Nesting.TheVariants.{Unchanged, Opens, Closes}
 use Rattle.graphql_core.specs.lexical.{nesting_of}
 use Rattle.graphql_core.specs.layouts.TextParts.{Part, token, ignored}
 
 -- how a token changes the depth: only a punctuator of one character can be a bracket
 abbrev pub bracket_of : Kind → List ℕ → Nesting
 bracket_of Punctuator (b ∷ []) = nesting_of b
-bracket_of _ _ = Level
+bracket_of _ _ = Unchanged
 
 -- the number of open brackets after a token
 abbrev pub open_after : Nesting → ℕ → ℕ
-open_after Level d = d
+open_after Unchanged d = d
 open_after Opens d = suc d
 open_after Closes d = d - 1
 

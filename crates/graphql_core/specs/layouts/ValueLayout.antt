@@ -12,8 +12,8 @@ use Rattle.graphql_core.specs.layouts.Style.{Layout, default_style, spaces}
 use Rattle.graphql_core.specs.layouts.TextParts.{Part, token, name_part, punctuator_part, gap, new_line}
 use Rattle.graphql_core.specs.values.{float, string, item, enum, object, int, ValueTree, variable, boolean, null, list}
 use Rattle.graphql_core.specs.values.{ValueItems, no_items, ValueMembers, no_members, member, TypeTree, named, list_of}
-use Rattle.graphql_core.specs.values.{non_null, DirectiveTree, Weights, most, value_depth, items_depth, members_depth}
-use Rattle.graphql_core.specs.values.{argument_depth, arguments_depth, directives_depth, default_depth}
+use Rattle.graphql_core.specs.values.{non_null, DirectiveTree, Weights, value_depth}
+use Rattle.graphql_core.specs.values.{arguments_depth, directives_depth, default_depth}
 use Rattle.graphql_core.specs.layouts.Lines.{each_after}
 
 -- ---- strings in quotes
@@ -219,15 +219,6 @@ in_levels style = record {
 
 abbrev pub value_levels : Layout → ValueTree → ℕ
 value_levels style = value_depth (in_levels style)
-
-abbrev pub items_levels : Layout → ValueItems → ℕ
-items_levels style = items_depth (in_levels style)
-
-abbrev pub members_levels : Layout → ValueMembers → ℕ
-members_levels style = members_depth (in_levels style)
-
-abbrev pub most_levels : Layout → List (List ℕ × ValueTree) → ℕ
-most_levels style = most (argument_depth (in_levels style))
 
 abbrev pub arguments_levels : Layout → List (List ℕ × ValueTree) → ℕ
 arguments_levels style = arguments_depth (in_levels style)

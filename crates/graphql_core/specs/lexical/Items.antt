@@ -9,7 +9,7 @@ use Rattle.graphql_core.specs.declared.tokenizer.token.Kind.{Kind}
 use Rattle.graphql_core.specs.declared.tokenizer.piece.Move.{Move}
 use Rattle.graphql_core.specs.declared.tokenizer.piece.Move.TheVariants.{Stay, Over, Down}
 use Rattle.graphql_core.specs.declared.tokenizer.piece.Nesting.{Nesting}
-use Rattle.graphql_core.specs.declared.tokenizer.piece.Nesting.TheVariants.{Level, Opens, Closes}
+use Rattle.graphql_core.specs.declared.tokenizer.piece.Nesting.TheVariants.{Unchanged, Opens, Closes}
 use Rattle.graphql_core.specs.lexical.BadTexts.{BadText, bad_character, bare_dot, bad_integer, bad_float}
 use Rattle.graphql_core.specs.lexical.BadTexts.{unterminated_string, unterminated_block_string, too_deep}
 use Rattle.graphql_core.specs.lexical.Lexical.{Meaning, Ignored, Word, Piece, IsCutInto, is_in_run, begins_quotes}
@@ -59,12 +59,12 @@ abbrev pub past : List ℕ → Pos → Pos
 past bytes p = past_characters (chars bytes) p
 
 abbrev pub openers_after : Nesting → ℕ → ℕ
-openers_after Level n = n
+openers_after Unchanged n = n
 openers_after Opens n = n + 1
 openers_after Closes n = n
 
 abbrev pub closers_after : Nesting → ℕ → ℕ
-closers_after Level n = n
+closers_after Unchanged n = n
 closers_after Opens n = n
 closers_after Closes n = n + 1
 
@@ -86,7 +86,7 @@ abbrev pub is_full : Where → Bool
 is_full w = w.openers == w.closers + 50
 
 abbrev pub is_too_deep : Nesting → Where → Bool
-is_too_deep Level w = false
+is_too_deep Unchanged w = false
 is_too_deep Opens w = is_full w
 is_too_deep Closes w = false
 

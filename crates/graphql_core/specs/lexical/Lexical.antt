@@ -10,7 +10,7 @@ use Rattle.graphql_core.specs.declared.tokenizer.token.Kind.TheVariants.{StringV
 use Rattle.graphql_core.specs.declared.tokenizer.piece.Move.{Move}
 use Rattle.graphql_core.specs.declared.tokenizer.piece.Move.TheVariants.{Stay, Over, Down}
 use Rattle.graphql_core.specs.declared.tokenizer.piece.Nesting.{Nesting}
-use Rattle.graphql_core.specs.declared.tokenizer.piece.Nesting.TheVariants.{Level, Opens, Closes}
+use Rattle.graphql_core.specs.declared.tokenizer.piece.Nesting.TheVariants.{Unchanged, Opens, Closes}
 
 -- NameStart (section 2.1.9): a letter or `_`
 abbrev pub is_name_start : ℕ → Bool
@@ -44,7 +44,7 @@ is_punctuator_byte b =
     is_opener b || is_closer b || b == 33 || b == 36 || b == 38 || b == 58 || b == 61 || b == 64 || b == 124
 
 abbrev pub nesting_of : ℕ → Nesting
-nesting_of b = if is_opener b then Opens else if is_closer b then Closes else Level
+nesting_of b = if is_opener b then Opens else if is_closer b then Closes else Unchanged
 
 -- ---- numbers (sections 2.9.1 and 2.9.2, in this project's profile)
 
@@ -150,18 +150,18 @@ pub data Stands : List ℕ → Meaning → List ℕ → Type 0 where
       → Stands (35 ∷ (line ++ 13 ∷ [])) (Ignored Down) rest
   -- a name is as long as possible
   name_token : {b : ℕ} {bs rest : List ℕ} → is_name_start b ≡ true → list_all is_name_continue bs ≡ true
-      → is_name_continue (slice_index rest 0) ≡ false → Stands (b ∷ bs) (Word Name Level) rest
+      → is_name_continue (slice_index rest 0) ≡ false → Stands (b ∷ bs) (Word Name Unchanged) rest
   punctuator_token : {b : ℕ} {rest : List ℕ} → is_punctuator_byte b ≡ true
       → Stands (b ∷ []) (Word Punctuator (nesting_of b)) rest
-  spread_token : {rest : List ℕ} → Stands (46 ∷ 46 ∷ 46 ∷ []) (Word Punctuator Level) rest
+  spread_token : {rest : List ℕ} → Stands (46 ∷ 46 ∷ 46 ∷ []) (Word Punctuator Unchanged) rest
   -- a number takes its whole run
-  integer_token : {run rest : List ℕ} → is_integer run ≡ true → EndsRun rest → Stands run (Word IntValue Level) rest
-  float_token : {run rest : List ℕ} → IsFloat run → EndsRun rest → Stands run (Word FloatValue Level) rest
+  integer_token : {run rest : List ℕ} → is_integer run ≡ true → EndsRun rest → Stands run (Word IntValue Unchanged) rest
+  float_token : {run rest : List ℕ} → IsFloat run → EndsRun rest → Stands run (Word FloatValue Unchanged) rest
   -- a string; an empty string only if no other quote follows
   string_token : (body : List ℕ) {rest : List ℕ} → IsStringBody body → (body ≡ [] → slice_index rest 0 ≢ 34)
-      → Stands (34 ∷ (body ++ 34 ∷ [])) (Word StringValue Level) rest
+      → Stands (34 ∷ (body ++ 34 ∷ [])) (Word StringValue Unchanged) rest
   block_string_token : {body rest : List ℕ} → ClosesBlock body
-      → Stands (34 ∷ 34 ∷ 34 ∷ body) (Word BlockString Level) rest
+      → Stands (34 ∷ 34 ∷ 34 ∷ body) (Word BlockString Unchanged) rest
 
 -- no lexical element begins this input
 abbrev pub BeginsNone : List ℕ → Type 0

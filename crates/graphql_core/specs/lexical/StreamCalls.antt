@@ -1,17 +1,12 @@
 -- What the calls of a token stream return.
 use Rattle.std.specs.Prelude.{◌≡◌, ℕ, ◌+◌, ◌-◌, ◌≤◌, ◌^◌, min, if◌then◌else◌, List, [], ◌∷◌, length, take, Option, Some}
 use Rattle.std.specs.Prelude.{None, Result, Ok, Err}
-use Rattle.graphql_core.specs.declared.position.Pos.{Pos}
 use Rattle.graphql_core.specs.declared.tokenizer.token.Kind.{Kind}
 use Rattle.graphql_core.specs.declared.tokenizer.token.Token.{Token}
 use Rattle.graphql_core.specs.declared.tokenizer.token.Bad.{Bad}
 use Rattle.graphql_core.specs.lexical.BadTexts.{bad_text}
 use Rattle.graphql_core.specs.lexical.Items.{Where, start, Item, item_at, TokenContent, EndOfInput, LexicalError}
 use Rattle.graphql_core.specs.lexical.Items.{is_token, HasItemsFrom, Stream}
-
--- the place `n` bytes further, at the position `p`, with no bracket in between
-abbrev pub further : Pos → ℕ → Where → Where
-further p n w = record { position = p; offset = w.offset + n; openers = w.openers; closers = w.closers }
 
 abbrev pub next_place : List Item → Where
 next_place [] = start

@@ -1,4 +1,5 @@
--- A minified output: the spellings of the tokens, with a space only where two tokens would otherwise run together.
+-- A minified output: the spellings of the tokens, with a space between two tokens that are not punctuators, and
+-- between a number and `...`.
 use Rattle.std.specs.Prelude.{◌≡◌, ℕ, Bool, true, false, not, ◌&&◌, ◌||◌, ◌==◌, List, [], ◌∷◌, ◌++◌, map}
 use Rattle.graphql_core.specs.grammar.{Token, Spelled, matches, nowhere}
 use Rattle.graphql_core.specs.declared.tokenizer.token.Kind.TheVariants.{Punctuator, IntValue, FloatValue}
@@ -32,7 +33,7 @@ abbrev pub spaced_after : (kind : ℕ) → List Token → List ℕ
 spaced_after kind [] = []
 spaced_after kind (t ∷ ts) = space_if (is_spaced kind t) ++ (t.spelling ++ spaced_after t.kind ts)
 
--- the spellings of the tokens, with a space only where it is needed
+-- the spellings of the tokens, with the spaces that `is_spaced` names
 abbrev pub spaced : List Token → List ℕ
 spaced [] = []
 spaced (t ∷ ts) = t.spelling ++ spaced_after t.kind ts

@@ -3,7 +3,7 @@ use Rattle.std.specs.Prelude.{◌≡◌, ℕ, ◌+◌, ◌-◌, ◌*◌, ◌^◌
 use Rattle.std.specs.Prelude.{if◌then◌else◌, List, ◌∷◌, length, map, slice_index, Option, Some, None}
 use Rattle.std.specs.Int.{w64, trailing_zeros}
 use Rattle.graphql_core.specs.steps.Front.{FrontElement, AtEnd, Skips, Takes, Stops, Cuts, is_flat}
-use Rattle.graphql_core.specs.lexical.{steps_over, Where, Item, Content, item_at, TokenContent, further}
+use Rattle.graphql_core.specs.lexical.{steps_over, Where, Item, Content, item_at, TokenContent}
 use Rattle.graphql_core.specs.steps.Cut.{items}
 use Rattle.graphql_core.specs.declared.position.Pos.{Pos}
 use Rattle.graphql_core.specs.declared.tokenizer.piece.Skipped.{Skipped}
@@ -31,8 +31,8 @@ is_no_backslash b = not (b == 92)
 abbrev pub continues_character : ℕ → Bool
 continues_character b = nat_le 128 b && nat_lt b 192
 
-abbrev pub is_blank : ℕ → Bool
-is_blank b = b == 32 || b == 44
+abbrev pub is_space_or_comma : ℕ → Bool
+is_space_or_comma b = b == 32 || b == 44
 
 -- U+FEFF
 abbrev pub is_byte_order_mark : ℕ → List ℕ → Bool
@@ -76,23 +76,27 @@ is_line_feed b = b == 10
 
 -- a tab, a carriage return, a space or a comma
 abbrev pub is_spacing : ℕ → Bool
-is_spacing b = b == 9 || b == 13 || is_blank b
+is_spacing b = b == 9 || b == 13 || is_space_or_comma b
 
 -- the columns that a byte of ignored text takes; a carriage return takes none
 abbrev pub columns_of : ℕ → ℕ
-columns_of b = if b == 9 then 8 else if is_blank b then 1 else 0
+columns_of b = if b == 9 then 8 else if is_space_or_comma b then 1 else 0
 
 -- a byte that can begin ignored text; 239 is the first byte of a byte order mark
-abbrev pub is_ignored : ℕ → Bool
-is_ignored b = is_blank b || is_line_feed b || b == 9 || b == 13 || b == 35 || b == 239
+abbrev pub can_begin_ignored : ℕ → Bool
+can_begin_ignored b = is_space_or_comma b || is_line_feed b || b == 9 || b == 13 || b == 35 || b == 239
 
 -- a space, a comma or a line feed
 abbrev pub is_gap : ℕ → Bool
-is_gap b = is_blank b || is_line_feed b
+is_gap b = is_space_or_comma b || is_line_feed b
 
 -- the input at a position is so short that no line, column or offset overflows
 abbrev pub HasRoom : List ℕ → Pos → Type 0
 HasRoom text at = (length text < 2 ^ 62) × (at.line + length text < 2 ^ 62) × (at.column + 8 * length text < 2 ^ 63)
+
+-- the place `n` bytes further, at the position `p`, with no bracket in between
+abbrev pub further : Pos → ℕ → Where → Where
+further p n w = record { position = p; offset = w.offset + n; openers = w.openers; closers = w.closers }
 
 -- Between `text` at `at` and `rest` at `place` there is only ignored text.
 -- Each byte of the ignored text moves the position by at most one line or eight columns.

@@ -14,7 +14,7 @@ use Rattle.graphql_core.specs.declared.tokenizer.token.Kind.TheVariants.{StringV
 use Rattle.graphql_core.specs.declared.tokenizer.piece.Move.{Move}
 use Rattle.graphql_core.specs.declared.tokenizer.piece.Move.TheVariants.{Stay, Over, Down}
 use Rattle.graphql_core.specs.declared.tokenizer.piece.Nesting.{Nesting}
-use Rattle.graphql_core.specs.declared.tokenizer.piece.Nesting.TheVariants.{Level}
+use Rattle.graphql_core.specs.declared.tokenizer.piece.Nesting.TheVariants.{Unchanged}
 
 -- `AtEnd`: the input is empty. `Skips`: ignored text of this length. `Takes`: a token of this length.
 -- `Stops`: no lexical element.
@@ -35,12 +35,12 @@ comment bs = line_end (prefix_len is_in_line bs) (drop (prefix_len is_in_line bs
 
 -- an input that begins with a dot
 abbrev pub dots : List ℕ → FrontElement
-dots bytes = if slice_index bytes 1 == 46 && slice_index bytes 2 == 46 then Takes 3 Punctuator Level else Stops
+dots bytes = if slice_index bytes 1 == 46 && slice_index bytes 2 == 46 then Takes 3 Punctuator Unchanged else Stops
 
 -- a run of `n` bytes
 abbrev pub number_of : ℕ → List ℕ → FrontElement
-number_of n run = if is_integer run then Takes n IntValue Level
-    else if is_float run then Takes n FloatValue Level else Stops
+number_of n run = if is_integer run then Takes n IntValue Unchanged
+    else if is_float run then Takes n FloatValue Unchanged else Stops
 
 unfoldable pub number : List ℕ → FrontElement
 number bytes = number_of (prefix_len is_in_run bytes) (run_at bytes)
@@ -48,7 +48,7 @@ number bytes = number_of (prefix_len is_in_run bytes) (run_at bytes)
 -- a string of this kind, after this many opening quotes
 abbrev pub closed : Kind → ℕ → Option ℕ → FrontElement
 closed k quotes None = Stops
-closed k quotes (Some n) = Takes (n + quotes) k Level
+closed k quotes (Some n) = Takes (n + quotes) k Unchanged
 
 unfoldable pub quoted_front : List ℕ → FrontElement
 quoted_front bytes =
@@ -70,7 +70,7 @@ front_of b bs =
     else if b == 10 then Skips 1 Down
     else if b == 13 then Skips 1 Stay
     else if b == 32 || b == 44 then Skips 1 (Over 1)
-    else if is_name_start b then Takes (prefix_len is_name_continue bs + 1) Name Level
+    else if is_name_start b then Takes (prefix_len is_name_continue bs + 1) Name Unchanged
     else if b == 35 then comment bs
     else if b == 239 && (slice_index bs 0 == 187 && slice_index bs 1 == 191) then Skips 3 Stay
     else other_token b (b ∷ bs)

@@ -3,13 +3,13 @@ use Rattle.std.specs.Prelude.{◌≡◌, ℕ, Bool, false, ◌==◌, ◌+◌, Li
 use Rattle.graphql_core.specs.grammar.Tokens.{Token}
 use Rattle.graphql_core.specs.declared.tokenizer.token.Kind.{Kind}
 use Rattle.graphql_core.specs.declared.tokenizer.piece.Nesting.{Nesting}
-use Rattle.graphql_core.specs.declared.tokenizer.piece.Nesting.TheVariants.{Level, Opens, Closes}
+use Rattle.graphql_core.specs.declared.tokenizer.piece.Nesting.TheVariants.{Unchanged, Opens, Closes}
 use Rattle.graphql_core.specs.lexical.{Stands, Word, openers_after, closers_after}
 use Rattle.graphql_core.specs.sources.{kind_number, Items, LastIsError, Refusal, Tells}
 
 -- the depth is 50, so an opening bracket here is too deep
 abbrev pub is_past : Nesting → (openers closers : ℕ) → Bool
-is_past Level o c = false
+is_past Unchanged o c = false
 is_past Opens o c = o == c + 50
 is_past Closes o c = false
 

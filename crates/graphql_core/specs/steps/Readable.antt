@@ -1,27 +1,31 @@
 -- What a language must show once, so that the theory of grammars holds for it.
 use Rattle.std.specs.Prelude.{◌≡◌, ℕ, true, false}
-use Rattle.graphql_core.specs.grammar.{unchecked, lax, Sym, ParseTree, Token, Class, AnyOf}
-use Rattle.graphql_core.specs.theory.{with_rows, EachIsSecond, RefusesTokens, LeavesAlone, Extends}
+use Rattle.graphql_core.specs.grammar.{unchecked, lax, row, Expr, Sym, ParseTree, Token, Class, AnyOf}
+use Rattle.graphql_core.specs.theory.{with_rows, EachIsFactored, RefusesTokens, LeavesAlone, Extends}
 use Rattle.graphql_core.specs.theory.{is_tight, is_ll1, is_productive, decides, has_samples}
 use Rattle.graphql_core.specs.sources.{CauseText, FaultText, unknown_location}
 use Rattle.graphql_core.specs.values.{is_good, shared, shared_symbols, location_class}
 use Rattle.graphql_core.specs.documents.Languages.{Language, reading}
 use Rattle.graphql_core.specs.documents.Faults.{HasNoValue}
 
+-- the factored rule of a whole document
+abbrev pub factored_document_rule : {D : Type 0} → Language D → Expr
+factored_document_rule l = (row (reading l) l.document).rule
+
 pub record IsReadable {D : Type 0} (l : Language D) : Type 0 where
-  -- computed tests of the second rows
-  pub ll1 : is_ll1 l.second_rows ≡ true
-  pub tight : is_tight l.second_rows ≡ true
+  -- computed tests of the factored rules
+  pub ll1 : is_ll1 l.factored_rows ≡ true
+  pub tight : is_tight l.factored_rows ≡ true
   pub productive : is_productive (reading l) ≡ true
-  pub productive_lax : is_productive (with_rows (lax l.grammar) l.second_rows l.changes) ≡ true
+  pub productive_lax : is_productive (with_rows (lax l.grammar) l.factored_rows l.changes) ≡ true
   -- a whole document can be read, and has samples
-  pub decides : decides l.second_rows (Sym l.document) ≡ true
+  pub decides : decides l.factored_rows (Sym l.document) ≡ true
   pub samples : has_samples (reading l) (Sym l.document) ≡ true
-  pub samples_lax : has_samples (with_rows (lax l.grammar) l.second_rows l.changes) (Sym l.document) ≡ true
-  -- the second rules have the trees of the written ones, whatever is tested
-  pub each : EachIsSecond l.grammar l.second_rows l.changes
-  pub each_unchecked : EachIsSecond (unchecked l.grammar) l.second_rows l.changes
-  pub each_lax : EachIsSecond (lax l.grammar) l.second_rows l.changes
+  pub samples_lax : has_samples (with_rows (lax l.grammar) l.factored_rows l.changes) (Sym l.document) ≡ true
+  -- the factored rules have the trees of the written ones, whatever is tested
+  pub each : EachIsFactored l.grammar l.factored_rows l.changes
+  pub each_unchecked : EachIsFactored (unchecked l.grammar) l.factored_rows l.changes
+  pub each_lax : EachIsFactored (lax l.grammar) l.factored_rows l.changes
   -- the grammar extends that of values, types and directives, and leaves its trees alone
   pub goes_on : Extends shared_symbols shared (reading l)
   pub alone : LeavesAlone shared_symbols shared l.changes

@@ -1,26 +1,37 @@
 -- A written grammar, and factored rules for the same symbols, which can be read with one token of lookahead.
 use Rattle.std.specs.Prelude.{◌≡◌, ℕ, zero, suc, false, List, [], ◌∷◌, ◌++◌}
 use Rattle.graphql_core.specs.grammar.Tokens.{Token}
-use Rattle.graphql_core.specs.grammar.Trees.{Expr, ParseTree, Both, First, Second, Node, Row, Grammar, row_at, leaves}
-use Rattle.graphql_core.specs.grammar.Trees.{peek, with_nodes, Fits, Derives, lax}
+use Rattle.graphql_core.specs.grammar.Trees.{Expr, One, Sym, ParseTree, Nothing, Leaf, Both, First, Second, Stop, More}
+use Rattle.graphql_core.specs.grammar.Trees.{Node, Row, Grammar, row_at, leaves, peek, Fits, Derives, lax}
 use Rattle.graphql_core.specs.theory.Tables.{cont}
 use Rattle.graphql_core.specs.theory.Reading.{sees, Takes, Fails}
 use Rattle.graphql_core.specs.grammar.GrammarFaults.{Reason}
 use Rattle.graphql_core.specs.theory.Theorems.{IsFirstFaultFor, classes, ReadsAlike}
-use Rattle.graphql_core.specs.grammar.NextPlaces.{Leads, IsTested}
+use Rattle.graphql_core.specs.grammar.NextPlaces.{Leads}
 
 -- converts a parse tree of a symbol's factored rule to one of its written rule, and back
 pub record Change : Type 0 where
   pub to_written : ParseTree → ParseTree
-  pub to_second : ParseTree → ParseTree
+  pub to_factored : ParseTree → ParseTree
 
 abbrev pub unchanged : Change
-unchanged = record { to_written = λ x. x; to_second = λ x. x }
+unchanged = record { to_written = λ x. x; to_factored = λ x. x }
 
 abbrev pub change_at : List Change → ℕ → Change
 change_at [] k = unchanged
 change_at (c ∷ cs) zero = c
 change_at (c ∷ cs) (suc k) = change_at cs k
+
+-- A parse tree with each node changed, inner nodes first: `f` takes a symbol, the old content and the changed content.
+abbrev pub with_nodes : (ℕ → ParseTree → ParseTree → ParseTree) → ParseTree → ParseTree
+with_nodes f Nothing = Nothing
+with_nodes f (Leaf t) = Leaf t
+with_nodes f (Both x y) = Both (with_nodes f x) (with_nodes f y)
+with_nodes f (First x) = First (with_nodes f x)
+with_nodes f (Second y) = Second (with_nodes f y)
+with_nodes f Stop = Stop
+with_nodes f (More x y) = More (with_nodes f x) (with_nodes f y)
+with_nodes f (Node k x) = Node k (f k x (with_nodes f x))
 
 -- converts a whole parse tree by the factored rules to one by the written rules
 abbrev pub written : List Change → ParseTree → ParseTree
@@ -35,33 +46,40 @@ with_rows g rs cs = record {
   samples = g.samples;
 }
 
+-- the grammar can reject what the expression derives: a leaf, or a node of a symbol whose check can fail
+abbrev pub IsTested : Grammar → Expr → Type 0
+IsTested g (One c) = Unit {0}
+IsTested g (Sym k) = (x : ParseTree) × (g.check k x ≡ false)
+IsTested g _ = ⊥
+
 -- The factored rule `q` has the same parse trees as the written rule `e`, converted by `c`. The conversion keeps
 -- the tokens and their classes. Tested leaves and nodes come after the same tokens.
-pub record IsSecond (g : Grammar) (rs : List Row) (cs : List Change) (e q : Expr) (c : Change) : Type 0 where
+pub record IsFactored (g : Grammar) (rs : List Row) (cs : List Change) (e q : Expr) (c : Change) : Type 0 where
   pub fits : (x : ParseTree) → Fits g q x → Fits g e (c.to_written x)
   pub leaves : (x : ParseTree) → Fits g q x → leaves (c.to_written x) ≡ leaves x
   pub classes : (x : ParseTree) → Fits g q x → classes g e (c.to_written x) ≡ classes g q x
-  pub fits_back : (y : ParseTree) → Fits (with_rows g rs cs) e y → Fits (with_rows g rs cs) q (c.to_second y)
+  pub fits_back : (y : ParseTree) → Fits (with_rows g rs cs) e y → Fits (with_rows g rs cs) q (c.to_factored y)
   pub leads : (ts : List Token) (d : Expr) → IsTested g d → Leads (lax g) q ts d → Leads (lax g) e ts d
   pub leads_back : (ts : List Token) (d : Expr) → IsTested g d → Leads (lax (with_rows g rs cs)) e ts d
       → Leads (lax (with_rows g rs cs)) q ts d
-  pub back : (y : ParseTree) → Fits (with_rows g rs cs) e y → c.to_written (written cs (c.to_second y)) ≡ written cs y
+  pub back : (y : ParseTree) → Fits (with_rows g rs cs) e y → c.to_written (written cs (c.to_factored y)) ≡ written cs y
 
 -- the same for lists of rules
-abbrev pub AreSecond : Grammar → List Row → List Change → List Row → List Row → List Change → Type 0
-AreSecond g rs cs [] [] [] = Unit {0}
-AreSecond g rs cs (w ∷ ws) (r ∷ more) (c ∷ others) = IsSecond g rs cs w.rule r.rule c × AreSecond g rs cs ws more others
-AreSecond g rs cs _ _ _ = ⊥
+abbrev pub AreFactored : Grammar → List Row → List Change → List Row → List Row → List Change → Type 0
+AreFactored g rs cs [] [] [] = Unit {0}
+AreFactored g rs cs (w ∷ ws) (r ∷ more) (c ∷ others) =
+    IsFactored g rs cs w.rule r.rule c × AreFactored g rs cs ws more others
+AreFactored g rs cs _ _ _ = ⊥
 
 -- the same for every symbol
-abbrev pub EachIsSecond : Grammar → List Row → List Change → Type 0
-EachIsSecond g rs cs = (k : ℕ) → IsSecond g rs cs (row_at g.rows k).rule (row_at rs k).rule (change_at cs k)
+abbrev pub EachIsFactored : Grammar → List Row → List Change → Type 0
+EachIsFactored g rs cs = (k : ℕ) → IsFactored g rs cs (row_at g.rows k).rule (row_at rs k).rule (change_at cs k)
 
 -- ways to factor
 
 -- `h x | h y`, factored to `h (x | y)`
 abbrev pub out_of_head : Change
-out_of_head = record { to_written = spread; to_second = gather }
+out_of_head = record { to_written = spread; to_factored = gather }
   where
     spread : ParseTree → ParseTree
     spread (Both h (First x)) = First (Both h x)
@@ -75,7 +93,7 @@ out_of_head = record { to_written = spread; to_second = gather }
 
 -- `h x | y | k` with `k = h v | h w`, factored to `h (x | v | w) | y`
 abbrev pub out_of_sides : ℕ → Change
-out_of_sides k = record { to_written = spread; to_second = gather }
+out_of_sides k = record { to_written = spread; to_factored = gather }
   where
     spread : ParseTree → ParseTree
     spread (First (Both h (First x))) = First (Both h x)
@@ -91,7 +109,7 @@ out_of_sides k = record { to_written = spread; to_second = gather }
 
 -- a change in the second side of a choice
 abbrev pub in_second : Change → Change
-in_second c = record { to_written = at_second c.to_written; to_second = at_second c.to_second }
+in_second c = record { to_written = at_second c.to_written; to_factored = at_second c.to_factored }
   where
     at_second : (ParseTree → ParseTree) → ParseTree → ParseTree
     at_second f (Second y) = Second (f y)
@@ -99,7 +117,7 @@ in_second c = record { to_written = at_second c.to_written; to_second = at_secon
 
 -- `k? n r` with `k = n c`, factored to `n (c n)? r`
 abbrev pub out_of_prefix : ℕ → Change
-out_of_prefix k = record { to_written = spread; to_second = gather }
+out_of_prefix k = record { to_written = spread; to_factored = gather }
   where
     spread : ParseTree → ParseTree
     spread (Both n (Both (First (Both c m)) r)) = Both (First (Node k (Both n c))) (Both m r)
@@ -113,7 +131,7 @@ out_of_prefix k = record { to_written = spread; to_second = gather }
 
 -- `j | k` with `j = h x` and `k = h y`, factored to `h (x | y)`
 abbrev pub out_of_symbols : ℕ → ℕ → Change
-out_of_symbols j k = record { to_written = spread; to_second = gather }
+out_of_symbols j k = record { to_written = spread; to_factored = gather }
   where
     spread : ParseTree → ParseTree
     spread (Both h (First x)) = First (Node j (Both h x))

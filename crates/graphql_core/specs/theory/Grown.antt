@@ -2,9 +2,11 @@
 -- The parse trees are the same, except for new parts, which are empty.
 use Rattle.std.specs.Prelude.{◌≡◌, ℕ, zero, suc, Bool, true, false, ◌&&◌, ◌==◌, List, [], ◌∷◌, length, Option, Some}
 use Rattle.std.specs.Prelude.{None}
-use Rattle.graphql_core.specs.grammar.Tokens.{Token, Class, Spelled, AnyOf, Except, same_spelling, same_spellings}
+use Rattle.graphql_core.specs.grammar.Tokens.{Token, Class, Spelled, AnyOf, Except, same_spelling}
+use Rattle.graphql_core.specs.theory.Classes.{same_spellings}
 use Rattle.graphql_core.specs.grammar.Trees.{Expr, Empty, One, Then, Either, Many, Sym, ParseTree, Both, First, Second}
-use Rattle.graphql_core.specs.grammar.Trees.{More, Grammar, row, Fits, Derives, leaves, with_nodes}
+use Rattle.graphql_core.specs.grammar.Trees.{More, Grammar, row, Fits, Derives, leaves}
+use Rattle.graphql_core.specs.theory.Factored.{with_nodes}
 use Rattle.graphql_core.specs.theory.Tables.{has_tree}
 use Rattle.graphql_core.specs.theory.Extended.{is_below}
 

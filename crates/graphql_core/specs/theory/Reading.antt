@@ -1,6 +1,7 @@
 -- Reading from left to right with one token of lookahead (LL(1)).
 use Rattle.std.specs.Prelude.{◌≡◌, ℕ, Bool, true, false, cond, List, [], ◌∷◌, Option, Some, None}
-use Rattle.graphql_core.specs.grammar.Tokens.{Token, Class, matches, in_any}
+use Rattle.graphql_core.specs.grammar.Tokens.{Token, Class, matches}
+use Rattle.graphql_core.specs.theory.Classes.{in_any}
 use Rattle.graphql_core.specs.grammar.Trees.{Expr, Empty, One, Then, Either, Many, Sym, ParseTree, Nothing, Leaf, Both}
 use Rattle.graphql_core.specs.grammar.Trees.{First, Second, Stop, More, Node, Row, Grammar, row, accepts, peek}
 use Rattle.graphql_core.specs.grammar.GrammarFaults.{Reason, Unexpected, Improper, Refused}

@@ -1,6 +1,7 @@
 -- Computes the tables of rules by iteration. The test in `Tables` decides whether the tables are right.
 use Rattle.std.specs.Prelude.{ℕ, zero, suc, ◌+◌, max, Bool, false, cond, List, [], ◌∷◌, ◌++◌, map, Option, Some, None}
-use Rattle.graphql_core.specs.grammar.Tokens.{Token, Class, within_any}
+use Rattle.graphql_core.specs.grammar.Tokens.{Token, Class}
+use Rattle.graphql_core.specs.theory.Classes.{within_any}
 use Rattle.graphql_core.specs.grammar.Trees.{Expr, Empty, One, Then, Either, Many, Sym, ParseTree, Nothing, Leaf, Both}
 use Rattle.graphql_core.specs.grammar.Trees.{First, Second, Stop, Node, Row, row_at}
 use Rattle.graphql_core.specs.theory.Tables.{nullable, first, cont}

@@ -1,6 +1,7 @@
 -- The LL(1) test of a grammar's tables.
 use Rattle.std.specs.Prelude.{ℕ, Bool, true, false, not, ◌&&◌, ◌||◌, ◌==◌, nat_lt, cond, List, [], ◌∷◌, ◌++◌}
-use Rattle.graphql_core.specs.grammar.Tokens.{Token, Class, all_apart, all_within}
+use Rattle.graphql_core.specs.grammar.Tokens.{Token, Class}
+use Rattle.graphql_core.specs.theory.Classes.{all_apart, all_within}
 use Rattle.graphql_core.specs.grammar.Trees.{Expr, Empty, One, Then, Either, Many, Sym, ParseTree, Nothing, Leaf, Both}
 use Rattle.graphql_core.specs.grammar.Trees.{First, Second, Stop, More, Node, Row, Grammar, row_at, row, accepts}
 

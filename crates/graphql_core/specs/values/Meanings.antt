@@ -1,4 +1,4 @@
--- What the parse trees of values, types and directives denote, one line per production.
+-- What the parse trees of values, types and directives denote, one line for each alternative.
 use Rattle.std.specs.Prelude.{ℕ, true, false, List, [], ◌∷◌, Option}
 use Rattle.graphql_core.specs.grammar.{Token, Place, nowhere, ParseTree, Leaf, Both, First, Second, More, Node}
 use Rattle.graphql_core.specs.values.Values.{float, string, item, enum, object, int, ValueTree, variable, boolean, null}

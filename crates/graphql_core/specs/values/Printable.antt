@@ -5,8 +5,8 @@ use Rattle.graphql_core.specs.lexical.{IsName}
 use Rattle.graphql_core.specs.values.Values.{item, enum, object, ValueTree, variable, list, ValueItems, no_items}
 use Rattle.graphql_core.specs.values.Values.{ValueMembers, no_members, member, TypeTree, named, list_of, non_null}
 use Rattle.graphql_core.specs.values.Values.{DirectiveTree}
-use Rattle.graphql_core.specs.values.TreeDepth.{Weights, one_around, value_depth, items_depth, members_depth}
-use Rattle.graphql_core.specs.values.TreeDepth.{argument_depth, arguments_depth, directive_depth, directives_depth}
+use Rattle.graphql_core.specs.values.TreeDepth.{Weights, one_around, value_depth}
+use Rattle.graphql_core.specs.values.TreeDepth.{directive_depth}
 
 -- ---- names
 
@@ -88,20 +88,5 @@ in_brackets = record {
 abbrev pub value_brackets : ValueTree → ℕ
 value_brackets = value_depth in_brackets
 
-abbrev pub items_brackets : ValueItems → ℕ
-items_brackets = items_depth in_brackets
-
-abbrev pub members_brackets : ValueMembers → ℕ
-members_brackets = members_depth in_brackets
-
-abbrev pub argument_brackets : List ℕ × ValueTree → ℕ
-argument_brackets = argument_depth in_brackets
-
-abbrev pub arguments_brackets : List (List ℕ × ValueTree) → ℕ
-arguments_brackets = arguments_depth in_brackets
-
 abbrev pub directive_brackets : DirectiveTree → ℕ
 directive_brackets = directive_depth in_brackets
-
-abbrev pub directives_brackets : List DirectiveTree → ℕ
-directives_brackets = directives_depth in_brackets

@@ -70,7 +70,7 @@ pub enum Cause {
     /// An integer that does not fit an `i64`.
     #[error("number too large")]
     IntOutOfRange,
-    /// A float whose exponent has no digit.
+    /// A float whose exponent is only a sign, as in `1e+`.
     #[error("invalid float literal")]
     MalformedFloat,
     /// A string with an escape that denotes no character (GraphQL, October 2021, section 2.9.4).
@@ -79,13 +79,16 @@ pub enum Cause {
     /// A name that is no directive location (3.13).
     #[error("invalid directive location")]
     UnknownLocation,
-    /// An operation that a schema definition names twice (3.3). The position is that of the keyword `schema`.
+    /// An operation that a schema definition or an extension of the schema names twice (3.3, 3.3.2). The position is
+    /// that of the keyword `schema`.
     #[error("Unexpected duplicate `{0}` operation")]
     DuplicateOperation(String),
-    /// A name in a schema definition that is no operation (3.3). The position is that of the keyword `schema`.
+    /// A name in a schema definition or an extension of the schema that is no operation (3.3, 3.3.2). The position is
+    /// that of the keyword `schema`.
     #[error("Unexpected `{0}[Name]`")]
     UnknownOperation(String),
-    /// An extension that adds nothing. The position is that of the keyword after `extend`.
+    /// An extension that adds nothing (3.3.2, 3.4.3), or an extension of an interface that adds only interfaces. The
+    /// position is that of the keyword after `extend`.
     #[error("Unexpected empty extension")]
     EmptyExtension,
     /// An input of more than `MAX_LENGTH` bytes. The position is 1:1.

@@ -7,7 +7,7 @@ ghost use Rattle.graphql_core.specs.{is_tight, is_productive, decides, has_sampl
 ghost use Rattle.graphql_core.specs.{ReadsAlike, IsWhole, IsWholeFor, Extends, TestsAlike, ReadsOn, LeavesAlone};
 ghost use Rattle.graphql_core.specs.{is_below, Growth, Grows, DerivesOn, AnswersLeast, RefusesTokens, Change};
 ghost use Rattle.graphql_core.specs.{change_at, unchanged, out_of_head, in_second, out_of_prefix, out_of_symbols};
-ghost use Rattle.graphql_core.specs.{written, with_rows, IsSecond, AreSecond, EachIsSecond, IsExactFor};
+ghost use Rattle.graphql_core.specs.{written, with_rows, IsFactored, AreFactored, EachIsFactored, IsExactFor};
 
 /// If the tables of a grammar pass the LL(1) test, parsing with one token of lookahead is sound, complete and
 /// unambiguous.
@@ -22,11 +22,11 @@ pub fn reading()
 /// The same holds of a grammar as written, parsed by factored rules whose tables pass the LL(1) test.
 pub fn factored()
     ensures exact { (g : Grammar) (rs : List Row) (cs : List Change)
-        → EachIsSecond g rs cs → EachIsSecond (unchecked g) rs cs → EachIsSecond (lax g) rs cs
+        → EachIsFactored g rs cs → EachIsFactored (unchecked g) rs cs → EachIsFactored (lax g) rs cs
         → is_ll1 rs ≡ true → is_productive (with_rows g rs cs) ≡ true
         → (e : Expr) → decides rs e ≡ true → has_samples (with_rows g rs cs) e ≡ true → IsExactFor g rs cs e }
     ensures whole { (g : Grammar) (rs : List Row) (cs : List Change)
-        → EachIsSecond g rs cs → EachIsSecond (unchecked g) rs cs → EachIsSecond (lax g) rs cs
+        → EachIsFactored g rs cs → EachIsFactored (unchecked g) rs cs → EachIsFactored (lax g) rs cs
         → is_ll1 rs ≡ true → is_productive (with_rows g rs cs) ≡ true
         → (e : Expr) → decides rs e ≡ true → has_samples (with_rows g rs cs) e ≡ true → IsWholeFor g rs cs e }
 {}
@@ -36,33 +36,34 @@ pub fn factored()
 pub fn least()
     ensures read { (g : Grammar) → is_ll1 g.rows ≡ true → is_tight g.rows ≡ true → is_productive g ≡ true
         → RefusesTokens g → (e : Expr) → decides g.rows e ≡ true → has_samples g e ≡ true → AnswersLeast g g e }
-    ensures written { (g : Grammar) (rs : List Row) (cs : List Change) → EachIsSecond g rs cs
-        → EachIsSecond (lax g) rs cs → is_ll1 rs ≡ true → is_tight rs ≡ true → is_productive (with_rows g rs cs) ≡ true
-        → RefusesTokens g → (e : Expr) → decides rs e ≡ true → has_samples (with_rows g rs cs) e ≡ true
+    ensures written { (g : Grammar) (rs : List Row) (cs : List Change) → EachIsFactored g rs cs
+        → EachIsFactored (lax g) rs cs → is_ll1 rs ≡ true → is_tight rs ≡ true
+        → is_productive (with_rows g rs cs) ≡ true → RefusesTokens g
+        → (e : Expr) → decides rs e ≡ true → has_samples (with_rows g rs cs) e ≡ true
         → AnswersLeast g (with_rows g rs cs) e }
 {}
 
 /// Ways to factor a rule: no change, a head common to both alternatives, the second alternative, an optional prefix,
 /// and a head common to two symbols.
-pub fn second_rules()
-    ensures each { (g : Grammar) (rs : List Row) (cs : List Change) → AreSecond g rs cs g.rows rs cs
-        → EachIsSecond g rs cs }
-    ensures same { (g : Grammar) (rs : List Row) (cs : List Change) (e : Expr) → IsSecond g rs cs e e unchanged }
+pub fn factored_rules()
+    ensures each { (g : Grammar) (rs : List Row) (cs : List Change) → AreFactored g rs cs g.rows rs cs
+        → EachIsFactored g rs cs }
+    ensures same { (g : Grammar) (rs : List Row) (cs : List Change) (e : Expr) → IsFactored g rs cs e e unchanged }
     ensures head { (g : Grammar) (rs : List Row) (cs : List Change) (d p q : Expr)
-        → IsSecond g rs cs (Either (Then d p) (Then d q)) (Then d (Either p q)) out_of_head }
+        → IsFactored g rs cs (Either (Then d p) (Then d q)) (Then d (Either p q)) out_of_head }
     ensures second { (g : Grammar) (rs : List Row) (cs : List Change) (a e q : Expr) (c : Change)
-        → IsSecond g rs cs e q c → IsSecond g rs cs (Either a e) (Either a q) (in_second c) }
+        → IsFactored g rs cs e q c → IsFactored g rs cs (Either a e) (Either a q) (in_second c) }
     ensures prefix { (g : Grammar) (rs : List Row) (cs : List Change) (k : ℕ) (n c r : Expr)
         → (row_at g.rows k).rule ≡ Then n c → (row_at rs k).rule ≡ Then n c
         → ((x : ParseTree) → (change_at cs k).to_written x ≡ x) → ((x : ParseTree) → g.check k x ≡ true)
-        → IsSecond g rs cs (Then (Either (Sym k) Empty) (Then n r))
+        → IsFactored g rs cs (Then (Either (Sym k) Empty) (Then n r))
         (Then n (Then (Either (Then c n) Empty) r)) (out_of_prefix k) }
     ensures symbols { (g : Grammar) (rs : List Row) (cs : List Change) (j k : ℕ) (d p q : Expr)
         → (row_at g.rows j).rule ≡ Then d p
         → (row_at rs j).rule ≡ Then d p → (row_at g.rows k).rule ≡ Then d q → (row_at rs k).rule ≡ Then d q
         → ((x : ParseTree) → (change_at cs j).to_written x ≡ x) → ((x : ParseTree) → (change_at cs k).to_written x ≡ x)
         → ((x : ParseTree) → g.check j x ≡ true) → ((x : ParseTree) → g.check k x ≡ true)
-        → IsSecond g rs cs (Either (Sym j) (Sym k)) (Then d (Either p q)) (out_of_symbols j k) }
+        → IsFactored g rs cs (Either (Sym j) (Sym k)) (Then d (Either p q)) (out_of_symbols j k) }
 {}
 
 /// A grammar that extends another parses the expressions of the other alike. Factored rules for other symbols leave the

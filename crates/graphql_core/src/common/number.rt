@@ -26,7 +26,8 @@ fn is_float_literal(bytes: &[u8]) -> bool
     is_float(bytes) && ends_in_digit(bytes)
 }
 
-/// The spelling of a number with a fraction or an exponent (GraphQL, October 2021, section 2.9.2).
+/// The spelling of a number with a fraction or an exponent (GraphQL, October 2021, section 2.9.2). An exponent without
+/// a sign begins with 1 to 8 here: `1e+9` is a float literal, and `1e9` is not.
 #[derive(Debug, Drop)]
 pub struct FloatLiteral {
     text: String,

@@ -106,8 +106,8 @@ impl Filled {
         Ok(())
     }
 
-    /// Does the same. `from` must begin with `more`. If both `from` and the vector are long enough, up to `LOAD` bytes
-    /// are one load and one store.
+    /// Appends what `append_slow` appends. `from` must begin with `more`. If both `from` and the vector are long
+    /// enough, up to `LOAD` bytes are one load and one store.
     #[inline(always)]
     fn append_spaced(&mut self, is_spaced: bool, more: &[u8], from: &[u8]) -> Result<(), AllocError>
         requires { take (length more.now) from.now ≡ more.now }
@@ -123,7 +123,7 @@ impl Filled {
         Ok(())
     }
 
-    /// Does the same without a space.
+    /// Appends `more`, with which `from` must begin.
     #[inline(always)]
     fn append_start(&mut self, more: &[u8], from: &[u8]) -> Result<(), AllocError>
         requires { take (length more.now) from.now ≡ more.now }

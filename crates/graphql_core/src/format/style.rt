@@ -49,7 +49,8 @@ impl Style {
         self
     }
 
-    /// Sets whether arguments, lists and objects take a line for each part, and returns the same style.
+    /// Sets whether arguments, lists and objects take a line for each part, and returns the same style. Definitions of
+    /// variables and of arguments never do.
     pub fn multiline_arguments(&mut self, multiline_arguments: bool) -> &mut Self
         ensures same { result.ghost_name ≡ self.entry.ghost_name }
         ensures multiline { result.now ≡ with_multiline self.old multiline_arguments }

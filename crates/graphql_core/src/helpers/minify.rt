@@ -1,4 +1,4 @@
-//! The tokens of an input, with a space only where two tokens would otherwise run together.
+//! The tokens of an input, with a space between two tokens that are not punctuators, and between a number and `...`.
 ghost use Rattle.std.specs.Prelude.{◌≡◌, ◌≤◌, ◌/◌, ℕ, List, IfOk, IfErr, length, string_bytes};
 ghost use Rattle.graphql_core.specs.{Token, kind_number, HasItems, Item, IsEnd, split, token_of, AreLexemes, spaced};
 ghost use Rattle.graphql_core.specs.{is_number, is_spaced, IsMinified, HasTokens, IsBadPlaceOf};
@@ -27,7 +27,7 @@ pub fn is_spaced(before: Kind, kind: Kind, value: &str) -> bool
     are_words | ((is_number(before) & (value.len() == 3)) && value == "...")
 }
 
-/// The tokens of an input, joined with the spaces that they need.
+/// The tokens of an input, joined with the spaces that `is_spaced` names.
 ///
 /// Few inputs gain more spaces than they lose. So the buffer has the capacity of the input from the start, and a long
 /// output is not copied as it grows. The loop keeps no positions: after a lexical error the input is tokenized again.
@@ -95,7 +95,7 @@ pub fn minified(alloc: Global, source: &str) -> Result<String, Fault>
     spaced(alloc, source)
 }
 
-/// Tokens joined with the spaces that they need parse back to the same tokens.
+/// Tokens joined with these spaces are tokenized into the same tokens.
 pub fn spaced_tokens_are_cut()
     // Any valid tokens with at most 50 brackets open.
     ensures any { (ts : List Token) → AreLexemes 0 0 ts → HasTokens (spaced ts) ts }

@@ -16,7 +16,7 @@ pub enum ReadError {
     Item,
     /// The token is an integer that does not fit an `i64`.
     Integer,
-    /// The token is a float whose exponent has no digit.
+    /// The token is a float whose exponent is only a sign, as in `1e+`.
     Float,
     /// The token is a string with an invalid escape.
     Escape,

@@ -70,14 +70,14 @@ pub fn nesting_of(byte: u8) -> Nesting
     } else if is_closer(byte) {
         Nesting::Closes
     } else {
-        Nesting::Level
+        Nesting::Unchanged
     }
 }
 
 /// Whether ignored text can begin with this byte. A byte order mark has two more bytes.
 #[inline(always)]
-pub fn is_ignored(byte: u8) -> bool
-    ensures { result ≡ ahead.is_ignored byte }
+pub fn can_begin_ignored(byte: u8) -> bool
+    ensures { result ≡ ahead.can_begin_ignored byte }
 {
     CLASSES[byte as usize] >= b'n'
 }
@@ -92,8 +92,8 @@ pub fn is_line_feed(byte: u8) -> bool
 
 /// Whether the byte is a space or a comma.
 #[inline(always)]
-pub fn is_blank(byte: u8) -> bool
-    ensures { result ≡ ahead.is_blank byte }
+pub fn is_space_or_comma(byte: u8) -> bool
+    ensures { result ≡ ahead.is_space_or_comma byte }
 {
     CLASSES[byte as usize] == b's'
 }

@@ -3,7 +3,7 @@ ghost use Rattle.std.specs.Prelude.{◌≡◌, ◌≤◌, IfSome, length, slice_
 ghost use Rattle.graphql_core.specs.{front, IsItem, HasRoom, SkipsTo, HasContentsOf};
 
 use crate::position::Pos;
-use crate::tokenizer::class::{columns_of, is_ignored, is_line_feed, is_spacing};
+use crate::tokenizer::class::{can_begin_ignored, columns_of, is_line_feed, is_spacing};
 use crate::tokenizer::piece::{byte_at, ignored_of, spaces_in_one_load, spaces_of};
 use crate::tokenizer::place::{position_after_line, position_after_move, position_after_spaces};
 
@@ -28,7 +28,7 @@ fn skip_rare(text: &str, at: Pos) -> (&str, Pos)
 
 /// The first byte, or 0 for empty input.
 #[inline(always)]
-fn front_byte(text: &str) -> u8
+fn first_byte(text: &str) -> u8
     ensures { result ≡ slice_index text.now 0 }
 {
     byte_at(text.as_bytes(), 0)
@@ -46,8 +46,8 @@ fn skip_common(text: &str, at: Pos) -> (&str, Pos, bool)
     let mut rest = text;
     let mut place = at;
     'common: loop {
-        let byte = front_byte(rest);
-        if !is_ignored(byte) {
+        let byte = first_byte(rest);
+        if !can_begin_ignored(byte) {
             return (rest, place, true);
         }
         if is_line_feed(byte) {
@@ -77,8 +77,8 @@ pub fn after_common(text: &str) -> Option<&str>
 {
     let mut rest = text;
     'common: loop {
-        let byte = front_byte(rest);
-        if !is_ignored(byte) {
+        let byte = first_byte(rest);
+        if !can_begin_ignored(byte) {
             return Some(rest);
         }
         if is_line_feed(byte) {
@@ -98,7 +98,7 @@ pub fn after_common(text: &str) -> Option<&str>
 pub fn shows_item(text: &str) -> bool
     ensures { result ≡ true → IsItem (front text.now) }
 {
-    !text.is_empty() && !is_ignored(front_byte(text))
+    !text.is_empty() && !can_begin_ignored(first_byte(text))
 }
 
 /// Skips all ignored text.

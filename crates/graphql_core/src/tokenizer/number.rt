@@ -2,7 +2,7 @@
 ghost use Rattle.std.specs.Prelude.{◌≡◌, ◌≤◌, ◌||◌, ◌==◌, true, false, length, take, IfSome};
 ghost use Rattle.std.specs.List.{prefix_len, list_all};
 ghost use Rattle.graphql_core.specs.{is_quoted};
-ghost use Rattle.graphql_core.specs.declared.tokenizer.piece.Nesting.TheVariants.{Level};
+ghost use Rattle.graphql_core.specs.declared.tokenizer.piece.Nesting.TheVariants.{Unchanged};
 ghost use Rattle.graphql_core.specs.steps.Front.{Takes, number};
 ghost use Rattle.graphql_core.specs.steps.Ahead.{taken};
 ghost use Rattle.std.specs.Char as char;
@@ -145,7 +145,8 @@ fn is_unsigned(bytes: &[u8]) -> bool
     is_natural(&bytes[..len]) && is_after_integer(&bytes[len..])
 }
 
-/// Whether `run` is an integer with a fraction, an exponent, or both. A signed exponent can lack digits.
+/// Whether `run` is an integer with a fraction, an exponent, or both. A signed exponent can lack digits, and one
+/// without a sign begins with 1 to 8.
 #[tactic(auto, unfolding(crate::specs::steps::Numbers::is_float))]
 pub fn is_float(run: &[u8]) -> bool
     ensures { result ≡ spec.is_float run.now }
@@ -220,7 +221,7 @@ fn ends_run(bytes: &[u8]) -> bool
 /// The length and kind of the number at the start of `bytes`, if the number has no exponent.
 #[inline(never)]
 pub fn plain_number(bytes: &[u8]) -> Option<(usize, Kind)>
-    ensures is { IfSome result (λ t. number bytes.now ≡ Takes t.0 t.1 Level) }
+    ensures is { IfSome result (λ t. number bytes.now ≡ Takes t.0 t.1 Unchanged) }
     ensures kind { IfSome result (λ t. is_quoted t.1 ≡ false) }
 {
     let whole = integer_len(bytes)?;

@@ -2,7 +2,7 @@
 ghost use Rattle.std.specs.Prelude.{◌≡◌, ◌+◌, ◌<◌, ◌≤◌, ◌^◌, ◌∷◌, true, length, take, drop, slice_index, IfSome, Some};
 ghost use Rattle.std.specs.List.{prefix_len, list_all};
 ghost use Rattle.std.specs.Str.{IsCharBoundary};
-ghost use Rattle.graphql_core.specs.declared.tokenizer.piece.Nesting.TheVariants.{Level};
+ghost use Rattle.graphql_core.specs.declared.tokenizer.piece.Nesting.TheVariants.{Unchanged};
 ghost use Rattle.graphql_core.specs.steps.Front.{Takes};
 ghost use Rattle.graphql_core.specs.declared.tokenizer.token.Kind.TheVariants.{Name};
 ghost use Rattle.graphql_core.specs.steps.Ahead.{is_gap, is_space, is_byte_order_mark, ignored_front, FitsIgnored};
@@ -11,7 +11,7 @@ ghost use Rattle.graphql_core.specs.lexical.Lexical.{is_name_start};
 ghost use Rattle.graphql_core.specs.steps.Front as spec;
 ghost use Rattle.graphql_core.specs.lexical.Lexical as lexical;
 
-use crate::tokenizer::class::{is_blank, is_name_start, is_punctuator_byte, nesting_of};
+use crate::tokenizer::class::{is_name_start, is_punctuator_byte, is_space_or_comma, nesting_of};
 use crate::tokenizer::lanes::{LANES, gap_lanes_from, name_lanes};
 use crate::tokenizer::number::{number, plain_number, starts_number};
 use crate::tokenizer::quoted::{plain_string_len, quoted};
@@ -35,7 +35,7 @@ pub enum Move {
 #[derive(Clone, Copy)]
 pub enum Nesting {
     /// The token is no bracket.
-    Level,
+    Unchanged,
     /// The token opens a bracket.
     Opens,
     /// The token closes a bracket.
@@ -69,15 +69,15 @@ fn skip(len: usize, by: Move) -> Skipped
 /// A token that is no bracket.
 #[inline(always)]
 pub fn no_bracket(len: usize, kind: Kind) -> Taken
-    ensures { result ≡ record { len = len; kind = kind; nesting = Level } }
+    ensures { result ≡ record { len = len; kind = kind; nesting = Unchanged } }
 {
-    let nesting = Nesting::Level;
+    let nesting = Nesting::Unchanged;
     Taken { len, kind, nesting }
 }
 
 /// The length in bytes of a comment up to its line end.
 #[inline]
-fn line_len(bytes: &[u8]) -> usize
+fn comment_len(bytes: &[u8]) -> usize
     ensures len { result ≡ prefix_len lexical.is_in_line bytes.now }
     ensures within { result ≤ length bytes.now }
 {
@@ -99,7 +99,7 @@ fn comment(bytes: &[u8]) -> Skipped
     requires { length bytes.now < 2 ^ 62 }
     ensures { Some result ≡ ignored_front (spec.comment bytes.now) }
 {
-    let len = line_len(bytes);
+    let len = comment_len(bytes);
     match bytes[len..].split_first() {
         None => skip(len + 1, Move::Stay),
         Some((byte, rest)) => {
@@ -169,12 +169,12 @@ fn other_token_bytes(bytes: &[u8]) -> Option<Taken>
 }
 
 /// The length and kind of a string or number at the start of `bytes`, if the fast path recognizes it. This code is
-/// apart from `token_bytes_in_one_load`, because tokenizing is slower by a fifteenth with its parts there.
+/// apart from `fast_token_bytes`, because tokenizing is slower by a fifteenth with its parts there.
 #[inline(always)]
-fn value_in_one_load(byte: u8, rest: &[u8], bytes: &[u8]) -> Option<(usize, Kind)>
+fn fast_value(byte: u8, rest: &[u8], bytes: &[u8]) -> Option<(usize, Kind)>
     requires whole { bytes.now ≡ byte ∷ rest.now }
     requires small { length bytes.now < 2 ^ 62 }
-    ensures is { IfSome result (λ t. spec.front bytes.now ≡ Takes t.0 t.1 Level) }
+    ensures is { IfSome result (λ t. spec.front bytes.now ≡ Takes t.0 t.1 Unchanged) }
     ensures flat { IfSome result (λ t. list_all spec.is_flat (take t.0 bytes.now) ≡ true) }
 {
     if byte == b'"' {
@@ -190,7 +190,7 @@ fn value_in_one_load(byte: u8, rest: &[u8], bytes: &[u8]) -> Option<(usize, Kind
 /// The token at the start of `bytes`, if the fast path recognizes it: a short name, a punctuator of one character, a
 /// nonempty ASCII string without escapes, or a number without an exponent. Each is ASCII without a line feed.
 #[inline(always)]
-fn token_bytes_in_one_load(bytes: &[u8]) -> Option<Taken>
+fn fast_token_bytes(bytes: &[u8]) -> Option<Taken>
     requires { length bytes.now < 2 ^ 62 }
     ensures is { IfSome result (λ t. Some t ≡ taken (spec.front bytes.now)) }
     ensures flat { IfSome result (λ t. list_all spec.is_flat (take t.len bytes.now) ≡ true) }
@@ -207,7 +207,7 @@ fn token_bytes_in_one_load(bytes: &[u8]) -> Option<Taken>
             nesting: nesting_of(*byte),
         });
     }
-    let (len, kind) = value_in_one_load(*byte, rest, bytes)?;
+    let (len, kind) = fast_value(*byte, rest, bytes)?;
     Some(no_bracket(len, kind))
 }
 
@@ -226,7 +226,7 @@ fn token_bytes(bytes: &[u8]) -> Option<(Taken, bool)>
     ensures is { without_flat result ≡ taken (spec.front bytes.now) }
     ensures flat { IfSome result (λ t. t.1 ≡ true → list_all spec.is_flat (take t.0.len bytes.now) ≡ true) }
 {
-    if let Some(taken) = token_bytes_in_one_load(bytes) {
+    if let Some(taken) = fast_token_bytes(bytes) {
         return Some((taken, true));
     }
     let taken = other_token_bytes(bytes)?;
@@ -235,14 +235,14 @@ fn token_bytes(bytes: &[u8]) -> Option<(Taken, bool)>
 
 /// The token at the start of the input, if the fast path recognizes it.
 #[inline(always)]
-#[tactic(auto, using(crate::proofs::lexical::Tokens::some_fits))]
-pub fn token_in_one_load(text: &str) -> Option<Taken>
+#[tactic(auto, using(crate::proofs::lexical::Tokens::found_fits))]
+pub fn fast_token_at(text: &str) -> Option<Taken>
     requires { length text.now < 2 ^ 62 }
     ensures is { IfSome result (λ t. Some t ≡ taken (spec.front text.now)) }
     ensures fits { FitsTaken text.now result }
     ensures flat { IfSome result (λ t. list_all spec.is_flat (take t.len text.now) ≡ true) }
 {
-    token_bytes_in_one_load(text.as_bytes())
+    fast_token_bytes(text.as_bytes())
 }
 
 /// The token at the start of the input. The flag is true only if the token is ASCII without a line feed.
@@ -280,7 +280,7 @@ fn ignored_bytes(bytes: &[u8]) -> Option<Skipped>
                 Some(skip(1, Move::Down))
             } else if *byte == b'\r' {
                 Some(skip(1, Move::Stay))
-            } else if is_blank(*byte) {
+            } else if is_space_or_comma(*byte) {
                 Some(skip(1, Move::Over(1)))
             } else if *byte == b'#' {
                 Some(comment(rest))
@@ -306,7 +306,7 @@ pub fn ignored_of(text: &str) -> Option<Skipped>
 
 /// The number of spaces at the start of the input, if one load shows their end.
 #[inline(always)]
-#[tactic(auto, using(crate::proofs::lexical::Spaces::some_boundary))]
+#[tactic(auto, using(crate::proofs::lexical::Spaces::found_boundary))]
 pub fn spaces_in_one_load(text: &str) -> Option<usize>
     ensures len { IfSome result (λ n. n ≡ prefix_len is_space text.now) }
     ensures within { IfSome result (λ n. n ≤ length text.now) }
@@ -352,7 +352,7 @@ pub fn name_in_one_load(text: &str) -> Option<(usize, usize)>
     requires begins { is_name_start (slice_index text.now 0) ≡ true }
     requires long { 17 ≤ length text.now }
     requires small { length text.now < 2 ^ 62 }
-    ensures is { IfSome result (λ n. taken (Takes n.0 Name Level) ≡ taken (spec.front text.now)) }
+    ensures is { IfSome result (λ n. taken (Takes n.0 Name Unchanged) ≡ taken (spec.front text.now)) }
     ensures gap { IfSome result (λ n. n.1 ≤ prefix_len is_gap (drop n.0 text.now)) }
     ensures cuts { IfSome result (λ n. IsCharBoundary text.now n.0) }
 {

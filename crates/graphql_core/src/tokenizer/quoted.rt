@@ -3,7 +3,7 @@ ghost use Rattle.std.specs.Prelude.{◌≡◌, ◌+◌, ◌<◌, ◌≤◌, ◌^
 ghost use Rattle.std.specs.List.{list_all};
 ghost use Rattle.graphql_core.specs.{is_flat};
 ghost use Rattle.graphql_core.specs.declared.tokenizer.token.Kind.TheVariants.{StringValue};
-ghost use Rattle.graphql_core.specs.declared.tokenizer.piece.Nesting.TheVariants.{Level};
+ghost use Rattle.graphql_core.specs.declared.tokenizer.piece.Nesting.TheVariants.{Unchanged};
 ghost use Rattle.graphql_core.specs.steps.Front.{Takes, quoted_front};
 ghost use Rattle.graphql_core.specs.steps.Ahead.{taken};
 ghost use Rattle.graphql_core.specs.lexical.Lexical as lexical;
@@ -97,16 +97,11 @@ pub fn quoted(bytes: &[u8]) -> Option<Taken>
     ensures { result ≡ taken (quoted_front bytes.now) }
 {
     if begins_quotes(bytes) {
-        match block_len(&bytes[3..]) {
-            Some(len) => Some(no_bracket(len + 3, Kind::BlockString)),
-            None => None,
-        }
-    } else {
-        match string_len(&bytes[1..]) {
-            Some(len) => Some(no_bracket(len + 1, Kind::StringValue)),
-            None => None,
-        }
+        let len = block_len(&bytes[3..])?;
+        return Some(no_bracket(len + 3, Kind::BlockString));
     }
+    let len = string_len(&bytes[1..])?;
+    Some(no_bracket(len + 1, Kind::StringValue))
 }
 
 /// The length of a string after its opening quote, with the closing quote. `None` unless the string is nonempty ASCII
@@ -114,7 +109,7 @@ pub fn quoted(bytes: &[u8]) -> Option<Taken>
 #[inline(never)]
 pub fn plain_string_len(bytes: &[u8]) -> Option<usize>
     requires { length bytes.now < 2 ^ 62 }
-    ensures is { IfSome result (λ n. quoted_front (34 ∷ bytes.now) ≡ Takes (n + 1) StringValue Level) }
+    ensures is { IfSome result (λ n. quoted_front (34 ∷ bytes.now) ≡ Takes (n + 1) StringValue Unchanged) }
     ensures flat { IfSome result (λ n. list_all is_flat (take n bytes.now) ≡ true) }
     ensures within { IfSome result (λ n. n ≤ length bytes.now) }
 {

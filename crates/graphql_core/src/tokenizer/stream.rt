@@ -40,7 +40,7 @@ impl<'a> TokenStream<'a> {
         ensures items { HasItems source.now result.items }
         ensures only { (others : List Item) → HasItems source.now others → others ≡ result.items }
         // no bracket is open
-        ensures level { depth_of (next_place result.items) ≡ pos 0 }
+        ensures none_open { depth_of (next_place result.items) ≡ pos 0 }
         ensures cuts { result.cuts ≡ 0 }
     {
         TokenStream {

@@ -10,7 +10,8 @@ pub enum Kind {
     Name,
     /// A whole number (section 2.9.1).
     IntValue,
-    /// A number with a fraction or an exponent (section 2.9.2). A signed exponent can lack digits.
+    /// A number with a fraction or an exponent (section 2.9.2). A signed exponent can lack digits. An exponent without
+    /// a sign begins with 1 to 8.
     FloatValue,
     /// A string in quotes (section 2.9.4).
     StringValue,

@@ -10,7 +10,7 @@ use crate::tokenizer::bad::bad_at;
 use crate::tokenizer::brackets::Brackets;
 use crate::tokenizer::ignored::{after_common, shows_item, skip_ignored};
 use crate::tokenizer::lanes::LANES;
-use crate::tokenizer::piece::{begins_with_name, name_in_one_load, token_at, token_in_one_load};
+use crate::tokenizer::piece::{begins_with_name, fast_token_at, name_in_one_load, token_at};
 use crate::tokenizer::place::{position_after_flat, position_after_token};
 use crate::tokenizer::token::{Bad, Kind, Token};
 use std::marker::Model;
@@ -53,7 +53,7 @@ impl<'a> Tokens<'a> {
         requires { length source.now ≤ usize.MAX / 16 }
         ensures items { HasItems source.now result }
         ensures only { (others : List Item) → HasItems source.now others → others ≡ result }
-        ensures level { depth_of (next_place result) ≡ pos 0 }
+        ensures none_open { depth_of (next_place result) ≡ pos 0 }
     {
         let start = Pos { line: 1, column: 1 };
         let (rest, position) = skip_ignored(source, start);
@@ -120,7 +120,7 @@ impl<'a> Tokens<'a> {
         if self.rest.len() <= LANES {
             return None;
         }
-        let taken = token_in_one_load(self.rest)?;
+        let taken = fast_token_at(self.rest)?;
         if self.brackets.is_too_deep(taken.nesting) {
             return None;
         }
@@ -137,7 +137,7 @@ impl<'a> Tokens<'a> {
     }
 
     /// Returns the next token, if the fast path recognizes it. This call is faster than `fast_token`, because
-    /// `position` is not maintained: later positions are unspecified.
+    /// `position` is not maintained: what `position`, `offset` and `depth` return later is unspecified.
     ///
     /// `None` says nothing about the next token, and nothing changes: call `next_token`.
     #[inline(always)]
@@ -163,7 +163,7 @@ impl<'a> Tokens<'a> {
             self.rest = after_common(rest)?;
             return Some(name);
         }
-        let taken = token_in_one_load(self.rest)?;
+        let taken = fast_token_at(self.rest)?;
         if self.brackets.is_too_deep(taken.nesting) {
             return None;
         }

@@ -6,7 +6,7 @@ use Rattle.graphql_core.specs.{optional_list_of, enclosed_of, each_of, spelling_
 use Rattle.std.specs.List.{AllByRecursion}
 use Rattle.graphql_core.proofs.{IsGrown}
 use Rattle.graphql_query.specs.{OperationKind, query_kind, mutation_kind, subscription_kind, operation, document_symbol, definition_symbol, operation_symbol}
-use Rattle.graphql_query.specs.{operation_body_symbol, variable_definitions_symbol, variable_definition_symbol, variable_definition_of, keyword_of}
+use Rattle.graphql_query.specs.{operation_body_symbol, variable_definitions_symbol, variable_definition_symbol, variable_definition_of, keyword_operation_of}
 use Rattle.graphql_query.specs.{operation_of, definition_of, document_of, queries, query_0_4_1, queries_0_4_1, HasNoDirectives, HasNoNewPart, HasNoNewParts}
 
 -- a variable gets an empty list of directives after its default value; no other production gets a new part
@@ -40,7 +40,7 @@ name_grown (fits_first (fits_leaf n)) = refl
 name_grown (fits_second fits_nothing) = refl
 
 keyword_grown : {x : ParseTree} (kind : OperationKind) (w : ParseTree) → Fits query_0_4_1 (Sym operation_body_symbol) x
-    → keyword_of kind (Both w (grown new_parts x)) ≡ keyword_of kind (Both w x)
+    → keyword_operation_of kind (Both w (grown new_parts x)) ≡ keyword_operation_of kind (Both w x)
 keyword_grown kind w (fits_node (fits_both n (fits_both vs (fits_both {x = ds} (fits_node d e) (fits_node {x = s} f g)))) c) =
     rw (name_grown n, variable_definitions_grown vs) refl
 

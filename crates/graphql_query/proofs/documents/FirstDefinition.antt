@@ -5,7 +5,7 @@ use Rattle.graphql_core.specs.{no_memory, IsFaultFor, IsRefusalFor, reason_of, R
 use Rattle.graphql_core.specs.declared.helpers.read_error.ReadError.{ReadError}
 use Rattle.graphql_core.specs.declared.helpers.read_error.ReadError.TheVariants.{Memory, Integer, Float, Escape, Location, Item}
 use Rattle.graphql_core.proofs.{take-or_fail, exact_lax, least_stop, exact, halts}
-use Rattle.graphql_query.specs.{tables, second_rows, reading, changes, definition_symbol, one_definition, BeginsWith, NoneBeginsAnother}
+use Rattle.graphql_query.specs.{tables, factored_rows, reading, changes, definition_symbol, one_definition, BeginsWith, NoneBeginsAnother}
 use Rattle.graphql_query.proofs.readers.{readable}
 
 pub readable_one : IsReadable one_definition
@@ -47,7 +47,7 @@ least_refusal i j s e h = least_stop one_definition readable_one i j s e (halts 
 -- ---- what begins with a definition
 
 -- no token can continue a whole definition
-ends_there : (rest : List Token) → sees (cont second_rows (Sym definition_symbol)) (peek rest) ≡ false
+ends_there : (rest : List Token) → sees (cont factored_rows (Sym definition_symbol)) (peek rest) ≡ false
 unfolding tables
 ends_there [] = refl
 ends_there (t ∷ ts) = refl

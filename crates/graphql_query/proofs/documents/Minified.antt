@@ -1,9 +1,9 @@
 -- What the minifier returns.
 use Rattle.std.proofs.Common.{◌≡◌, ◌≤◌, ℕ, List, length, String, Result, IsErrAnd, subst}
-use Rattle.graphql_core.specs.{IsBadPlaceOf, Item, HasItems, FaultText, split, IsEnd, IsMinified, max_length, LastIsError, Refusal}
+use Rattle.graphql_core.specs.{IsBadPlaceOf, Item, HasItems, FaultText, split, IsEnd, IsMinified, max_length, LastIsError, Refusal, AnswersUnlessMemory}
 use Rattle.graphql_core.proofs.{by_fault, only_memory, as_error, has_items}
 use Rattle.std.specs.Global.{Global}
-use Rattle.graphql_query.specs.{IsMinifyRefusalOf, ran_out, bad_place, TellsUnlessMemory}
+use Rattle.graphql_query.specs.{IsMinifyRefusalOf, ran_out, bad_place}
 
 -- the error is the lexical error of the source, or an allocation failed
 abbrev pub IsBadPlace : List ℕ → Refusal → Type 0
@@ -15,7 +15,7 @@ refusal source e bound bad =
     by_fault _ (IsMinifyRefusalOf source) ran_out (λ f is. bad_place bound has is) e (bad _ has)
 
 pub tells_refusal : (source text : List ℕ) (e : Refusal) (r : Result (String Global) Refusal) → IsErrAnd r (λ y. y ≡ e) → IsBadPlace source e
-    → IsMinified source text → TellsUnlessMemory text r
+    → IsMinified source text → AnswersUnlessMemory string_bytes text r
 tells_refusal source text e r h bad (items, has, end, is) =
-    subst (TellsUnlessMemory text) (as_error r e h)
+    subst (AnswersUnlessMemory string_bytes text) (as_error r e h)
     (only_memory (λ (f : FaultText). (split items).last ≡ LastIsError f.place f.cause) (λ f wrong. absurd (subst IsEnd wrong end)) e (bad items has))

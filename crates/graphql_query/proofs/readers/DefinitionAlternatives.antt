@@ -4,8 +4,8 @@ use Rattle.graphql_core.specs.{Token, Class, Expr, Either, Sym, ParseTree, First
 use Rattle.graphql_core.specs.{sees, keyword, tables as shared_tables, Items, punctuator_class}
 use Rattle.graphql_core.proofs.{FailsUnseen, unseen_one, unseen_then, unseen_either, IsSide, side_left, unseen_symbol}
 use Rattle.graphql_core.proofs.{side_in, side_nth, sees_both, sees_neither}
-use Rattle.graphql_query.specs.{DefinitionTree, operation, OperationKind, query_kind, mutation_kind, subscription_kind, reading, changes, second_rows, tables}
-use Rattle.graphql_query.specs.{definition_symbol, operation_symbol, selection_set_symbol, fragment_definition_symbol, keyword_of, operation_of, definition_of}
+use Rattle.graphql_query.specs.{DefinitionTree, operation, OperationKind, query_kind, mutation_kind, subscription_kind, reading, changes, factored_rows, tables}
+use Rattle.graphql_query.specs.{definition_symbol, operation_symbol, selection_set_symbol, fragment_definition_symbol, keyword_operation_of, operation_of, definition_of}
 use Rattle.graphql_query.specs.{word_of, keyword_rule, Tells, sees_definition}
 
 abbrev brace : Class
@@ -34,7 +34,7 @@ kind_side query_kind ts seen = side_in operation_symbol (λ x. refl) (side_nth (
 kind_side mutation_kind ts seen = side_in operation_symbol (λ x. refl) (side_nth (word_of mutation_kind) _ 2 refl seen)
 kind_side subscription_kind ts seen = side_in operation_symbol (λ x. refl) (side_nth (word_of subscription_kind) _ 3 refl seen)
 
-pub kind_means : (kind : OperationKind) (x : ParseTree) → operation (keyword_of kind (written changes x)) ≡ operation_of (written changes (as_kind kind x))
+pub kind_means : (kind : OperationKind) (x : ParseTree) → operation (keyword_operation_of kind (written changes x)) ≡ operation_of (written changes (as_kind kind x))
 kind_means query_kind x = refl
 kind_means mutation_kind x = refl
 kind_means subscription_kind x = refl
@@ -80,7 +80,7 @@ fragment_definition_side ts seen = side_in definition_symbol (λ x. refl) (side_
 abbrev pub read_definition : ParseTree → DefinitionTree
 read_definition x = definition_of (written changes x)
 
-pub begins_definition : (i : Items) → sees (first second_rows (Sym definition_symbol)) (peek i.tokens) ≡ sees_definition i
+pub begins_definition : (i : Items) → sees (first factored_rows (Sym definition_symbol)) (peek i.tokens) ≡ sees_definition i
 unfolding tables shared_tables
 begins_definition i =
     let item = peek i.tokens in

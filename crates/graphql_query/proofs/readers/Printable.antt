@@ -12,7 +12,7 @@ use Rattle.graphql_query.specs.{DocumentTree, set, none, query, document_symbol,
 use Rattle.graphql_query.specs.{variable_definitions_symbol, variable_definition_symbol, selection_set_symbol, selection_symbol, field_symbol, alias_symbol}
 use Rattle.graphql_query.specs.{fragment_spread_symbol, inline_fragment_symbol, type_condition_symbol, alias_of, type_condition_of, fragment_spread_of}
 use Rattle.graphql_query.specs.{field_of, optional_selection_set_of, inline_fragment_of, selection_of, selection_set_of, selections_of, variable_definition_of}
-use Rattle.graphql_query.specs.{keyword_of, operation_of, definition_of, document_of, IsDocument, IsDocumentOf, queries, IsPrintable, IsPrintableSelection}
+use Rattle.graphql_query.specs.{keyword_operation_of, operation_of, definition_of, document_of, IsDocument, IsDocumentOf, queries, IsPrintable, IsPrintableSelection}
 use Rattle.graphql_query.specs.{IsPrintableSet, ArePrintableSelections, IsPrintableVariable, IsPrintableDefinition, Selects, SelectsInside, SelectInside}
 use Rattle.graphql_query.specs.{AllSelectInside, DefinitionSelects, selection_brackets, selected_brackets, selection_set_brackets, selections_brackets}
 use Rattle.graphql_query.specs.{variable_definition_brackets, variable_definitions_brackets, definition_brackets}
@@ -111,7 +111,7 @@ abbrev IsDefinition : ℕ → DefinitionTree → Type 0
 IsDefinition n d = IsPrintableDefinition d × DefinitionSelects d × (definition_brackets d ≤ n)
 
 keyword_printable : {n : ℕ} {x : ParseTree} (kind : OperationKind) (w : ParseTree) → HasRoom query n (Sym operation_body_symbol) x
-    → IsDefinition n (operation (keyword_of kind (Both w x)))
+    → IsDefinition n (operation (keyword_operation_of kind (Both w x)))
 keyword_printable kind w (room_node (room_both called (room_both vs (room_both ds s))) c) =
     let (variables, d) = variable_definitions_printable vs in
     let (are, b) = directives_printable (room_shared ds refl) in

@@ -1,25 +1,25 @@
 -- The grammar of queries is parsed exactly, and extends that of values, types and directives.
 use Rattle.std.proofs.Common.{◌+◌, Bool, true, List, [], length, drop, refl}
-use Rattle.graphql_core.proofs.{each_is_second, IsSecond-second, IsSecond-symbols, IsSecond-prefix, unchanged_then}
+use Rattle.graphql_core.proofs.{each_is_factored, IsFactored-second, IsFactored-symbols, IsFactored-prefix, unchanged_then}
 use Rattle.graphql_core.proofs.{tests_alike, with_more, alone_before, one_cause}
-use Rattle.graphql_core.specs.{Grammar, Token, Class, Expr, Row, row_at, EachIsSecond, RefusesTokens, Extends}
+use Rattle.graphql_core.specs.{Grammar, Token, Class, Expr, Row, row_at, EachIsFactored, RefusesTokens, Extends}
 use Rattle.graphql_core.specs.{TestsAlike, shared, tables as shared_tables, shared_symbols, unquoted, name, IsReadable}
-use Rattle.graphql_query.specs.{queries, query, second_rows, changes, reading, tables, samples, selection_symbol, field_symbol, fragment_spread_symbol}
+use Rattle.graphql_query.specs.{queries, query, factored_rows, changes, reading, tables, samples, selection_symbol, field_symbol, fragment_spread_symbol}
 use Rattle.graphql_query.specs.{inline_fragment_symbol, alias_symbol, fragment_spread_rest, inline_fragment_rest, field_rest}
 
 -- the written grammar with another test of leaves
 abbrev tested : (Class → Token → Bool) → Grammar
 tested good = record { rows = query.rows; good = good; check = λ k x. true; samples = samples }
 
-each : (good : Class → Token → Bool) → EachIsSecond (tested good) second_rows changes
-each good = each_is_second g second_rows changes (
-    unchanged_then g second_rows changes selection_symbol g.rows second_rows (drop selection_symbol changes) refl (
-      IsSecond-second g second_rows changes _ _ _ _
-          (IsSecond-symbols g second_rows changes fragment_spread_symbol inline_fragment_symbol _ fragment_spread_rest inline_fragment_rest refl refl refl refl
+each : (good : Class → Token → Bool) → EachIsFactored (tested good) factored_rows changes
+each good = each_is_factored g factored_rows changes (
+    unchanged_then g factored_rows changes selection_symbol g.rows factored_rows (drop selection_symbol changes) refl (
+      IsFactored-second g factored_rows changes _ _ _ _
+          (IsFactored-symbols g factored_rows changes fragment_spread_symbol inline_fragment_symbol _ fragment_spread_rest inline_fragment_rest refl refl refl refl
           (λ x. refl) (λ x. refl) (λ x. refl) (λ x. refl)),
       (
-        IsSecond-prefix g second_rows changes alias_symbol name _ field_rest refl refl (λ x. refl) (λ x. refl),
-        unchanged_then g second_rows changes (length after) (drop (field_symbol + 1) g.rows) after [] refl tt,
+        IsFactored-prefix g factored_rows changes alias_symbol name _ field_rest refl refl (λ x. refl) (λ x. refl),
+        unchanged_then g factored_rows changes (length after) (drop (field_symbol + 1) g.rows) after [] refl tt,
       ),
     )
     )
@@ -28,13 +28,13 @@ each good = each_is_second g second_rows changes (
     g = tested good
 
     after : List Row
-    after = drop (field_symbol + 1) second_rows
+    after = drop (field_symbol + 1) factored_rows
 
 -- no node is rejected
 none_refused : RefusesTokens query
 none_refused k x fits refused empty = absurd cc
 
--- leaves are tested as in the shared grammar, by the written and by the second rules
+-- leaves are tested as in the shared grammar, by the written and by the factored rules
 pub tested_alike : (e : Expr) → TestsAlike shared query e
 tested_alike e = tests_alike shared query (λ c t. refl) e
 

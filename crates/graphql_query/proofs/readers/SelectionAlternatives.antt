@@ -152,7 +152,7 @@ pub dots_mean : {ts us : List Token} {x : ParseTree} → Takes reading dots_rule
 dots_mean (takes_both (takes_leaf h) (takes_first c p)) = refl
 dots_mean (takes_both (takes_leaf h) (takes_second c p)) = refl
 
--- the selection that a parse tree of the second rules denotes
+-- the selection that a parse tree of the factored rules denotes
 abbrev pub selection_at : ParseTree → SelectionTree
 selection_at x = selection_of (written changes x)
 

@@ -8,12 +8,12 @@ use Rattle.graphql_core.specs.declared.position.Pos.{Pos}
 use Rattle.graphql_query.specs.Tree.{spread, VariableDefinitionTree, SelectionTree, SelectionSetTree, DefinitionTree}
 use Rattle.graphql_query.specs.Tree.{trees_of, selection_view, set}
 use Rattle.graphql_query.specs.Grammar.{definition_symbol}
-use Rattle.graphql_query.specs.steps.SecondRules.{reading, changes}
+use Rattle.graphql_query.specs.steps.FactoredRules.{reading, changes}
 use Rattle.graphql_query.specs.Meanings.{fragment_spread_rest_of, inline_fragment_rest_of, variable_definition_of}
 use Rattle.graphql_query.specs.Meanings.{definition_of}
 use Rattle.graphql_query.specs.declared.tree.Selection.{Selection}
 
--- the reader follows the second rules, and its result is what the written parse tree denotes
+-- the reader follows the factored rules, and its result is what the written parse tree denotes
 abbrev pub Reads : {A : Type 0} → Expr → Items → Items → (A → ParseTree → Type 0) → Result A ReadError → Type 0
 Reads e old new P r = Gives reading e old new (λ v x. P v (written changes x)) r
 
@@ -51,7 +51,7 @@ sees_definition i =
     || sees_class (keyword (codes "mutation")) i
     || sees_class (keyword (codes "subscription")) i || sees_class (keyword (codes "fragment")) i
 
--- a definition that denotes d was read by the second rules
+-- a definition that denotes d was read by the factored rules
 abbrev pub TakesDefinition : Items → Items → DefinitionTree → Type 0
 TakesDefinition old new d =
     TakesSome reading (Sym definition_symbol) old new (λ x. d ≡ definition_of (written changes x))

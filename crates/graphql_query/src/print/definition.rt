@@ -2,7 +2,8 @@
 ghost use Rattle.graphql_query.specs.{IsLawfulFragment, IsLawfulDefinition, IsLawfulDocument};
 ghost use Rattle.graphql_query.specs.{fragment_definition_layout, definition_layout, document_layout};
 ghost use Rattle.graphql_query.specs.{fragment_definition_levels, definition_levels, levels};
-ghost use Rattle.graphql_query.specs.{fragment_definition_view, operation_view, definition_view, document_view};
+ghost use Rattle.graphql_query.specs.{fragment_definition_view, operation_definition_view, definition_view};
+ghost use Rattle.graphql_query.specs.{document_view};
 
 use crate::print::operation::parts;
 use crate::print::selection::{write_selection_set, write_type_condition};
@@ -15,11 +16,11 @@ use graphql_core::format::{Sink, Style};
 
 /// An operation, in short form or with a keyword.
 impl<N: Names> Pretty for OperationDefinition<N> {
-    ghost lines = { λ style _ o. definition_layout style (operation_view N.bytes o) };
+    ghost lines = { λ style _ o. definition_layout style (operation_definition_view N.bytes o) };
 
-    ghost opens = { λ style o. definition_levels style (operation_view N.bytes o) };
+    ghost opens = { λ style o. definition_levels style (operation_definition_view N.bytes o) };
 
-    ghost lawful = { λ o. IsLawfulDefinition (operation_view N.bytes o) };
+    ghost lawful = { λ o. IsLawfulDefinition (operation_definition_view N.bytes o) };
 
     fn levels(&self, style: &Style) -> usize {
         match self {

@@ -3,7 +3,8 @@ ghost use Rattle.std.specs.Prelude.{Some};
 ghost use Rattle.graphql_core.specs.{text_of, default_style, Displays};
 ghost use Rattle.graphql_query.specs.{fragment_spread_view, field_view, inline_fragment_view, selection_set_view};
 ghost use Rattle.graphql_query.specs.{type_condition_view, variable_definition_view, query_view, mutation_view};
-ghost use Rattle.graphql_query.specs.{subscription_view, fragment_definition_view, operation_view, definition_view};
+ghost use Rattle.graphql_query.specs.{subscription_view, fragment_definition_view, operation_definition_view};
+ghost use Rattle.graphql_query.specs.{definition_view};
 ghost use Rattle.graphql_query.specs.{document_view, selection_layout, selection_set_layout, type_condition_layout};
 ghost use Rattle.graphql_query.specs.{variable_definition_layout, operation_layout, fragment_definition_layout};
 ghost use Rattle.graphql_query.specs.{definition_layout, document_layout, layout, selection_levels};
@@ -47,13 +48,14 @@ impl<N: Names> fmt::Display for Definition<N> {
 }
 
 impl<N: Names> fmt::Display for OperationDefinition<N> {
-    ghost output = { λ t. Some (text_of (definition_layout default_style (operation_view N.bytes t))) };
+    ghost output = { λ t. Some (text_of (definition_layout default_style (operation_definition_view N.bytes t))) };
 
-    ghost styled_output = { λ t spec. Some (text_of (definition_layout default_style (operation_view N.bytes t))) };
+    ghost styled_output = { λ t spec.
+        Some (text_of (definition_layout default_style (operation_definition_view N.bytes t))) };
 
     fn fmt<W: fmt::Write>(&self, f: &mut fmt::Formatter<W>) -> fmt::Result
         ensures { Displays W.write_str_gives f.old result definition_layout definition_levels
-            (operation_view N.bytes self.now) f.new }
+            (operation_definition_view N.bytes self.now) f.new }
     {
         fmt_in_default_style(self, f)
     }

@@ -40,6 +40,7 @@ fn levels_in_counted_directives<N: Names, const ALL: bool>(
     levels_in_directives(directives, style)
 }
 
+/// How many levels a fragment spread opens at once.
 #[inline(always)]
 pub fn levels_in_fragment_spread<N: Names, const ALL: bool>(
     spread: &FragmentSpread<N>,
@@ -88,6 +89,7 @@ fn levels_in_selection<N: Names, const ALL: bool>(selection: &Selection<N>, styl
     }
 }
 
+/// How many levels a field opens at once.
 #[cycle(levels)]
 #[inline(always)]
 pub fn levels_in_field<N: Names, const ALL: bool>(field: &Field<N>, style: &Style) -> usize
@@ -112,6 +114,7 @@ fn levels_in_selected<N: Names, const ALL: bool>(set: &SelectionSet<N>, style: &
     levels_in_selection_set::<N, ALL>(set, style)
 }
 
+/// How many levels an inline fragment opens at once.
 #[cycle(levels)]
 #[inline(always)]
 pub fn levels_in_inline_fragment<N: Names, const ALL: bool>(

@@ -54,7 +54,7 @@ fn write_optional_type_condition<S: Sink, N: Names>(
     write_type_condition(out, condition)
 }
 
-/// Appends a fragment spread in one line.
+/// Appends a fragment spread and a line end.
 fn write_fragment_spread<S: Sink, N: Names>(
     out: &mut S,
     spread: &FragmentSpread<N>,

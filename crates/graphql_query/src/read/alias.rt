@@ -7,7 +7,7 @@ use graphql_core::helpers::{Punctuator, ReadError, TokenSource, expect_name, exp
 use std::alloc::Global;
 
 /// `Alias? Name`, where `Alias = Name ":"`.
-#[tactic(auto, using(graphql_core::proofs::readers::Reading::reading))]
+#[tactic(auto, using(graphql_core::proofs::readers::Reading::reader_steps))]
 pub fn alias_and_name<S: TokenSource>(
     alloc: Global,
     source: &mut S,

@@ -17,7 +17,7 @@ use std::alloc::Global;
 
 /// `FragmentDefinition = "fragment" Name TypeCondition Directives SelectionSet`.
 /// Selections are collected at the end of `scratch`.
-#[tactic(auto, using(graphql_core::proofs::readers::Reading::reading))]
+#[tactic(auto, using(graphql_core::proofs::readers::Reading::reader_steps))]
 fn fragment_definition<S: TokenSource>(
     alloc: Global,
     source: &mut S,
@@ -41,7 +41,7 @@ fn fragment_definition<S: TokenSource>(
 }
 
 /// `Definition = OperationDefinition | FragmentDefinition`. Selections are collected at the end of `scratch`.
-#[tactic(auto, using(graphql_core::proofs::readers::Reading::reading))]
+#[tactic(auto, using(graphql_core::proofs::readers::Reading::reader_steps))]
 pub fn definition<S: TokenSource>(
     alloc: Global,
     source: &mut S,
@@ -68,7 +68,7 @@ fn sees_definition<S: TokenSource>(source: &S) -> bool
 }
 
 /// `QueryDocument = Definition+`, without the end of the input after it.
-#[tactic(auto, using(graphql_core::proofs::readers::Reading::reading))]
+#[tactic(auto, using(graphql_core::proofs::readers::Reading::reader_steps))]
 pub fn definitions<S: TokenSource>(
     alloc: Global,
     source: &mut S,

@@ -12,7 +12,7 @@ use graphql_core::helpers::{ReadError, TokenSource, expect_keyword, expect_name,
 use std::alloc::Global;
 
 /// `TypeCondition = "on" Name`
-#[tactic(auto, using(graphql_core::proofs::readers::Reading::reading))]
+#[tactic(auto, using(graphql_core::proofs::readers::Reading::reader_steps))]
 pub fn type_condition<S: TokenSource>(
     alloc: Global,
     source: &mut S,
@@ -25,7 +25,7 @@ pub fn type_condition<S: TokenSource>(
 }
 
 /// `TypeCondition?`
-#[tactic(auto, using(graphql_core::proofs::readers::Reading::reading))]
+#[tactic(auto, using(graphql_core::proofs::readers::Reading::reader_steps))]
 pub fn optional_type_condition<S: TokenSource>(
     alloc: Global,
     source: &mut S,
@@ -47,7 +47,7 @@ pub fn sees_spread_name<S: TokenSource>(source: &S) -> bool
 }
 
 /// `SpreadName = Name other than "on"`
-#[tactic(auto, using(graphql_core::proofs::readers::Reading::reading))]
+#[tactic(auto, using(graphql_core::proofs::readers::Reading::reader_steps))]
 fn spread_name<S: TokenSource>(
     alloc: Global,
     source: &mut S,
@@ -62,7 +62,7 @@ fn spread_name<S: TokenSource>(
 }
 
 /// `SpreadName Directives`: what follows the `...` of a spread. Appends the spread to `selections`.
-#[tactic(auto, using(graphql_core::proofs::readers::Reading::reading))]
+#[tactic(auto, using(graphql_core::proofs::readers::Reading::reader_steps))]
 pub fn fragment_spread_after_dots<S: TokenSource>(
     alloc: Global,
     source: &mut S,

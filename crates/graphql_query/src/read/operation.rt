@@ -2,12 +2,13 @@
 ghost use Rattle.std.specs.Prelude.{◌≡◌, map, option_map};
 ghost use Rattle.graphql_core.specs.{Sym, optional, place_of, spelling_at, optional_of};
 ghost use Rattle.graphql_core.specs.{optional_list_of, enclosed_of};
-ghost use Rattle.graphql_query.specs.Tree.{variable_definition_view, operation_view, operation, with_body};
+ghost use Rattle.graphql_query.specs.Tree.{variable_definition_view, operation_definition_view, operation, with_body};
 ghost use Rattle.graphql_query.specs.Tree.{VariableDefinitionTree};
 ghost use Rattle.graphql_query.specs.Grammar.{operation_body_symbol, variable_definitions_symbol};
 ghost use Rattle.graphql_query.specs.Grammar.{variable_definition_symbol, operation_symbol};
-ghost use Rattle.graphql_query.specs.steps.SecondRules.{reading};
-ghost use Rattle.graphql_query.specs.Meanings.{operation_body_of, keyword_of, operation_of, variable_definition_of};
+ghost use Rattle.graphql_query.specs.steps.FactoredRules.{reading};
+ghost use Rattle.graphql_query.specs.Meanings.{operation_body_of, keyword_operation_of, operation_of};
+ghost use Rattle.graphql_query.specs.Meanings.{variable_definition_of};
 ghost use Rattle.graphql_query.specs.steps.Operations.{kind_of, keyword_rule, operation_body_view};
 ghost use Rattle.graphql_query.specs.steps.Readers.{Reads, read_variable_definition};
 ghost use Rattle.graphql_core.specs.values.Grammar as shared;
@@ -49,7 +50,7 @@ macro_rules! operation {
 impl<N: Names> OperationBody<N> {
     /// The operation with this body; `position` is that of the keyword.
     fn into_operation(self, keyword: Keyword, position: Pos) -> OperationDefinition<N>
-        ensures { operation_view N.bytes result
+        ensures { operation_definition_view N.bytes result
             ≡ operation (with_body (kind_of keyword) (place_of position) (operation_body_view N.bytes self)) }
     {
         match keyword {
@@ -61,7 +62,7 @@ impl<N: Names> OperationBody<N> {
 }
 
 /// `Name?`
-#[tactic(auto, using(graphql_core::proofs::readers::Reading::reading))]
+#[tactic(auto, using(graphql_core::proofs::readers::Reading::reader_steps))]
 fn optional_name<S: TokenSource>(
     alloc: Global,
     source: &mut S,
@@ -78,7 +79,7 @@ fn optional_name<S: TokenSource>(
 // The variables between the parentheses of an operation.
 struct VariableDefinitionList;
 
-#[tactic(auto, using(graphql_core::proofs::readers::Reading::reading))]
+#[tactic(auto, using(graphql_core::proofs::readers::Reading::reader_steps))]
 impl<S: TokenSource> Elements<S> for VariableDefinitionList {
     type Item = VariableDefinition<S::Names>;
 
@@ -92,7 +93,7 @@ impl<S: TokenSource> Elements<S> for VariableDefinitionList {
 
     ghost view = { variable_definition_view S.Names.bytes };
 
-    #[tactic(auto, unfolding(crate::specs::steps::SecondRules::tables, graphql_core::specs::values::Grammar::tables))]
+    #[tactic(auto, unfolding(crate::specs::steps::FactoredRules::tables, graphql_core::specs::values::Grammar::tables))]
     fn comes_next(source: &S) -> bool {
         source.sees_punctuator(Punctuator::Dollar)
     }
@@ -136,7 +137,7 @@ fn optional_variable_definitions<S: TokenSource>(
 
 /// `OperationBody = Name? VariableDefinitions? Directives SelectionSet`.
 /// Selections are collected at the end of `scratch`.
-#[tactic(auto, using(graphql_core::proofs::readers::Reading::reading))]
+#[tactic(auto, using(graphql_core::proofs::readers::Reading::reader_steps))]
 fn operation_body<S: TokenSource>(
     alloc: Global,
     source: &mut S,
@@ -158,7 +159,7 @@ fn operation_body<S: TokenSource>(
 }
 
 /// `"query" OperationBody`, `"mutation" OperationBody` or `"subscription" OperationBody`, as `keyword` says.
-#[tactic(auto, using(graphql_core::proofs::readers::Reading::reading))]
+#[tactic(auto, using(graphql_core::proofs::readers::Reading::reader_steps))]
 fn keyword_operation<S: TokenSource>(
     alloc: Global,
     source: &mut S,
@@ -166,7 +167,8 @@ fn keyword_operation<S: TokenSource>(
     keyword: Keyword,
 ) -> Result<OperationDefinition<S::Names>, ReadError>
     ensures { Reads (keyword_rule (kind_of keyword)) (S.items source.old) (S.items source.new)
-        (λ v x. operation_view S.Names.bytes v ≡ operation (keyword_of (kind_of keyword) x)) result }
+        (λ v x. operation_definition_view S.Names.bytes v
+        ≡ operation (keyword_operation_of (kind_of keyword) x)) result }
 {
     let position = expect_keyword(source, keyword.word())?;
     let body = operation_body(alloc, source, scratch)?;
@@ -175,14 +177,14 @@ fn keyword_operation<S: TokenSource>(
 
 /// `OperationDefinition = SelectionSet | "query" OperationBody | "mutation" OperationBody
 /// | "subscription" OperationBody`
-#[tactic(auto, using(graphql_core::proofs::readers::Reading::reading))]
+#[tactic(auto, using(graphql_core::proofs::readers::Reading::reader_steps))]
 pub fn operation_definition<S: TokenSource>(
     alloc: Global,
     source: &mut S,
     scratch: &mut Vec<Selection<S::Names>>,
 ) -> Result<OperationDefinition<S::Names>, ReadError>
     ensures { Reads (Sym operation_symbol) (S.items source.old) (S.items source.new)
-        (λ v x. operation_view S.Names.bytes v ≡ operation_of x) result }
+        (λ v x. operation_definition_view S.Names.bytes v ≡ operation_of x) result }
 {
     match peek_keyword(source) {
         None => Ok(OperationDefinition::SelectionSet(selection_set(alloc, source, scratch)?)),

@@ -45,7 +45,7 @@ use std::alloc::Global;
 /// `Field = Alias? Name Arguments? Directives SelectionSet?`, where `Alias = Name ":"`.
 /// Appends the field to `selections`.
 #[cycle(reading)]
-#[tactic(auto, using(graphql_core::proofs::readers::Reading::reading))]
+#[tactic(auto, using(graphql_core::proofs::readers::Reading::reader_steps))]
 fn field<S: TokenSource>(
     alloc: Global,
     source: &mut S,
@@ -76,7 +76,7 @@ fn field<S: TokenSource>(
 /// start and the end of its span.
 #[cycle(reading)]
 #[inline(always)]
-#[tactic(auto, using(graphql_core::proofs::readers::Reading::reading))]
+#[tactic(auto, using(graphql_core::proofs::readers::Reading::reader_steps))]
 fn optional_selection_set<S: TokenSource>(
     alloc: Global,
     source: &mut S,
@@ -100,7 +100,7 @@ fn optional_selection_set<S: TokenSource>(
 /// `TypeCondition? Directives SelectionSet`: what follows the `...` of an inline fragment. Appends the fragment to
 /// `selections`; its position is that of the token after the dots.
 #[cycle(reading)]
-#[tactic(auto, using(graphql_core::proofs::readers::Reading::reading))]
+#[tactic(auto, using(graphql_core::proofs::readers::Reading::reader_steps))]
 fn inline_fragment_after_dots<S: TokenSource>(
     alloc: Global,
     source: &mut S,
@@ -127,7 +127,7 @@ fn inline_fragment_after_dots<S: TokenSource>(
 /// `FragmentSpread = "..." SpreadName Directives` or `InlineFragment = "..." TypeCondition? Directives SelectionSet`:
 /// a name other than `on` after the dots decides for the first. Appends the selection to `selections`.
 #[cycle(reading)]
-#[tactic(auto, using(graphql_core::proofs::readers::Reading::reading))]
+#[tactic(auto, using(graphql_core::proofs::readers::Reading::reader_steps))]
 fn fragment_selection<S: TokenSource>(
     alloc: Global,
     source: &mut S,
@@ -147,7 +147,7 @@ fn fragment_selection<S: TokenSource>(
 
 /// `Selection = Field | FragmentSpread | InlineFragment`. Appends the selection to `selections`.
 #[cycle(reading)]
-#[tactic(auto, using(graphql_core::proofs::readers::Reading::reading))]
+#[tactic(auto, using(graphql_core::proofs::readers::Reading::reader_steps))]
 fn selection<S: TokenSource>(
     alloc: Global,
     source: &mut S,
@@ -173,7 +173,7 @@ fn sees_selection<S: TokenSource>(source: &S) -> bool
 
 /// `"{" Selection+ "}"`. Returns the positions of the braces, and appends the selections to `selections`.
 #[cycle(reading)]
-#[tactic(auto, using(graphql_core::proofs::readers::Reading::reading))]
+#[tactic(auto, using(graphql_core::proofs::readers::Reading::reader_steps))]
 fn selections_in_braces<S: TokenSource>(
     alloc: Global,
     source: &mut S,
@@ -194,7 +194,7 @@ fn selections_in_braces<S: TokenSource>(
 /// `SelectionSet = "{" Selection+ "}"`. The selections are appended to `selections` and then split off.
 #[cycle(reading)]
 #[inline(always)]
-#[tactic(auto, using(graphql_core::proofs::readers::Reading::reading))]
+#[tactic(auto, using(graphql_core::proofs::readers::Reading::reader_steps))]
 pub fn selection_set<S: TokenSource>(
     alloc: Global,
     source: &mut S,

@@ -12,7 +12,7 @@ use Rattle.graphql_schema.specs.{scalar_of, object_of, interface_of, union_of, e
 use Rattle.graphql_schema.specs.{directive_definition_of, extension_of, described_of, item_of, document_of, Root, root_at, roots_of, roots_in, type_in}
 use Rattle.graphql_schema.specs.{RootFault, root_cause, root_fault, root_fault_of, extension_fault_of, location_of, PartsTree, object, interface, union, enum}
 use Rattle.graphql_schema.specs.{input, BodyTree, SchemaTree, extends, schema, type_definition, extension, schema_extension, directive, erase_input_value}
-use Rattle.graphql_schema.specs.{erase_field, erase_enum_value, erase_schema, erase_body, erase_directive, erase_definition, erase, Lacks, said_at, keyword_of}
+use Rattle.graphql_schema.specs.{erase_field, erase_enum_value, erase_schema, erase_body, erase_directive, erase_definition, erase, Lacks, said_at, keyword_place_of}
 use Rattle.graphql_schema.specs.{said_of, schemas}
 use Rattle.graphql_schema.proofs.readers.{extends_alike}
 use Rattle.graphql_schema.specs.Grammar as grammar
@@ -265,7 +265,7 @@ cause_by false false o p s e f = refl
 said_cause : (k : ℕ) (x : ParseTree) → option_map cause (said_of (Node k x)) ≡ cause_of k x
 said_cause k x =
     cause_by (k == grammar.schema_symbol) (k == grammar.schema_extension_symbol) (root_fault_of x) (extension_fault_of x)
-    (schema_of (Node k x)) (schema_extension_of (Node k x)) (record { cause = empty_extension; place = keyword_of (extension_of (Node k x)) })
+    (schema_of (Node k x)) (schema_extension_of (Node k x)) (record { cause = empty_extension; place = keyword_place_of (extension_of (Node k x)) })
 
 cause_same : (k : ℕ) (s : SameTrees) → cause_of k (right_tree s) ≡ cause_of k (left_tree s)
 cause_same k s =

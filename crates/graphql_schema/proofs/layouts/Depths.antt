@@ -1,7 +1,7 @@
 -- The bracket depth of a document is the bracket depth of its layout.
 use Rattle.std.proofs.Common.{◌≡◌, ℕ, max, cond, Bool, true, false, List, [], ◌∷◌, Option, Some, None, codes, map, refl, arith}
 use Rattle.graphql_core.specs.{bracket_of, Part, gap, Layout, most_enclosed, most}
-use Rattle.graphql_core.specs.declared.tokenizer.piece.Nesting.TheVariants.{Level}
+use Rattle.graphql_core.specs.declared.tokenizer.piece.Nesting.TheVariants.{Unchanged}
 use Rattle.graphql_core.specs.declared.tokenizer.token.Kind.TheVariants.{Punctuator}
 use Rattle.graphql_core.proofs.{Rises, rises_as, none_rise, flat_rise, gap_rises, level_rises, both_rise, string_rises, type_rises, directives_rise}
 use Rattle.graphql_core.proofs.{braces_rise, line_end_rises, default_rises, lines_rise, separated_rise, in_parentheses_rise}
@@ -30,11 +30,11 @@ inline_rises : (style : Layout) (margin : ℕ) (t : Option (List ℕ)) → Rises
 inline_rises style margin None = none_rise
 inline_rises style margin (Some text) = line_end_rises _ (string_rises style margin text)
 
-later_names_rise : (s : List ℕ) → bracket_of Punctuator s ≡ Level → (ns : List (List ℕ)) → Rises 0 (later_names s ns)
+later_names_rise : (s : List ℕ) → bracket_of Punctuator s ≡ Unchanged → (ns : List (List ℕ)) → Rises 0 (later_names s ns)
 later_names_rise s flat [] = none_rise
 later_names_rise s flat (n ∷ ns) = gap_rises _ (level_rises flat (gap_rises _ (level_rises refl (later_names_rise s flat ns))))
 
-joined_rise : (s : List ℕ) → bracket_of Punctuator s ≡ Level → (ns : List (List ℕ)) → Rises 0 (joined_names s ns)
+joined_rise : (s : List ℕ) → bracket_of Punctuator s ≡ Unchanged → (ns : List (List ℕ)) → Rises 0 (joined_names s ns)
 joined_rise s flat [] = none_rise
 joined_rise s flat (n ∷ ns) = level_rises refl (later_names_rise s flat ns)
 

@@ -13,7 +13,7 @@ use Rattle.graphql_core.proofs.{quoted_word, quoted_takes, quoted_means, block_w
 use Rattle.graphql_core.proofs.{directives_back, optional_default_back, Back}
 use Rattle.std.specs.List.{AllByRecursion, flat_map}
 use Rattle.graphql_core.specs.declared.tokenizer.token.Kind.TheVariants.{Punctuator, StringValue, BlockString}
-use Rattle.graphql_core.specs.declared.tokenizer.piece.Nesting.TheVariants.{Level}
+use Rattle.graphql_core.specs.declared.tokenizer.piece.Nesting.TheVariants.{Unchanged}
 use Rattle.graphql_schema.specs.{InputValueTree, FieldTree, EnumValueTree, PartsTree, scalar, object, interface, union, enum, input, BodyTree}
 use Rattle.graphql_schema.specs.{erase_input_value, erase_field, erase_enum_value, erase_parts, erase_body, joined_by, description_symbol, type_body_symbol}
 use Rattle.graphql_schema.specs.{implements_symbol, fields_symbol, field_symbol, argument_definitions_symbol, input_value_symbol, members_symbol}
@@ -37,7 +37,7 @@ pub named_back : (n : List ℕ) (d : ℕ) → IsName n → Back schema_grammar n
 named_back n d is = word_back (name_word n is) (λ p. refl) (λ t e. e)
 
 -- words separated by a punctuator, each of which parses back
-module _ {A : Type 0} (s : List ℕ) (is : IsMark Level s) (takes : Takes schema_grammar (punctuator_class s) Punctuator s)
+module _ {A : Type 0} (s : List ℕ) (is : IsMark Unchanged s) (takes : Takes schema_grammar (punctuator_class s) Punctuator s)
     (one : Expr) (f : ParseTree → A) (none : A)
     (g : List ℕ → A) (P : List ℕ → Type 0) (each : (n : List ℕ) (d : ℕ) → P n → Back schema_grammar one false d (name_part n) true d (λ x. f x ≡ g n)) where
   later_names_back : (ns : List (List ℕ)) (d : ℕ) → AllByRecursion P ns
@@ -53,7 +53,7 @@ module _ {A : Type 0} (s : List ℕ) (is : IsMark Level s) (takes : Takes schema
       three_back {P = Any} (second_back (nothing_back tt)) (each n d here) (later_names_back ns d others)
       (λ m x y hm hx hy. ap₂ (λ t ts. t ∷ ts) hx hy)
 
-names_back : (s : List ℕ) → IsMark Level s → Takes schema_grammar (punctuator_class s) Punctuator s → (n : List ℕ) (ns : List (List ℕ)) (d : ℕ) → IsName n
+names_back : (s : List ℕ) → IsMark Unchanged s → Takes schema_grammar (punctuator_class s) Punctuator s → (n : List ℕ) (ns : List (List ℕ)) (d : ℕ) → IsName n
     → AllByRecursion IsName ns
     → Back schema_grammar (joined_by s name) false d (joined_names s (n ∷ ns)) true d (λ x. joined_of spelling_at [] x ≡ n ∷ ns)
 names_back s is takes n ns d here others =

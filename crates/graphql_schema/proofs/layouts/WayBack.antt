@@ -16,7 +16,7 @@ use Rattle.graphql_schema.specs.{IsLawfulDefinition, IsLawfulDocument, joined_na
 use Rattle.graphql_schema.specs.{directive_definition_layout, definition_layout, layout, word_of, location_of, is_location, IsPrintable, IsPrintableSchema}
 use Rattle.graphql_schema.specs.{IsPrintableBody, IsPrintableDefinition, IsWholeDefinition, IsPrintableInputValue, input_value_brackets, body_brackets}
 use Rattle.graphql_schema.specs.{definition_brackets, InputValueTree, SchemaTree, BodyTree, DirectiveDefinitionTree, DefinitionTree, schema, type_definition}
-use Rattle.graphql_schema.specs.{extension, schema_extension, directive, DocumentTree, adds, has_operation, adds_to_schema, extends, erase_schema, erase_body}
+use Rattle.graphql_schema.specs.{extension, schema_extension, directive, DocumentTree, adds_something, has_operation, adds_to_schema, extends, erase_schema, erase_body}
 use Rattle.graphql_schema.specs.{erase_directive, erase_definition}
 use Rattle.graphql_schema.specs.declared.location.DirectiveLocation.{DirectiveLocation}
 use Rattle.graphql_schema.proofs.readers.{extends_alike, location_named, location_name, readable}
@@ -221,7 +221,7 @@ extended_back style t some inside =
     checked_back {P = λ x. erase_definition (extension_of (Node extension_symbol x)) ≡ erase_definition t}
     (λ x p. sym (extends_alike (extension_of (Node extension_symbol x))) ∙ ap extends p ∙ extends_alike t ∙ some) (λ x p. p) inside
 
-extension_back : (style : Layout) (b : BodyTree) → IsPrintableBody b → adds b ≡ true → IsLawfulBody b → body_brackets b ≤ 50
+extension_back : (style : Layout) (b : BodyTree) → IsPrintableBody b → adds_something b ≡ true → IsLawfulBody b → body_brackets b ≤ 50
     → Back schema_grammar (Sym extension_symbol) false 0 (definition_layout style (extension b)) false 0
     (λ x. erase_definition (extension_of x) ≡ extension (erase_body b))
 extension_back style b is some law deep =

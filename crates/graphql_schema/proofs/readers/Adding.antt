@@ -1,7 +1,7 @@
 -- Whether an extension adds something does not depend on positions.
 use Rattle.std.proofs.Common.{◌≡◌, ◌||◌, false, List, [], ◌∷◌, map, refl, ap, ap₂}
 use Rattle.graphql_core.specs.{DirectiveTree, no_place, erase as erase_one, has_any}
-use Rattle.graphql_schema.specs.{PartsTree, scalar, object, interface, union, enum, input, BodyTree, adds, has_operation, extends, DefinitionTree, schema}
+use Rattle.graphql_schema.specs.{PartsTree, scalar, object, interface, union, enum, input, BodyTree, adds_something, has_operation, extends, DefinitionTree, schema}
 use Rattle.graphql_schema.specs.{type_definition, extension, schema_extension, directive, erase_input_value, erase_field, erase_enum_value, erase_body}
 use Rattle.graphql_schema.specs.{erase_definition}
 
@@ -13,7 +13,7 @@ any_alike f (x ∷ xs) = refl
 abbrev body_of_parts : List DirectiveTree → PartsTree → BodyTree
 body_of_parts ds parts = record { position = no_place; name = []; directives = ds; parts = parts }
 
-adds_as : (ds : List DirectiveTree) (parts : PartsTree) → adds (erase_body (body_of_parts ds parts)) ≡ adds (body_of_parts ds parts)
+adds_as : (ds : List DirectiveTree) (parts : PartsTree) → adds_something (erase_body (body_of_parts ds parts)) ≡ adds_something (body_of_parts ds parts)
 adds_as ds scalar = ap (λ a. a || false) (any_alike erase_one ds)
 adds_as ds (object is fs) = ap₂ (λ a c. a || (has_any is || c)) (any_alike erase_one ds) (any_alike erase_field fs)
 adds_as ds (interface is fs) = ap₂ (λ a c. a || c) (any_alike erase_one ds) (any_alike erase_field fs)

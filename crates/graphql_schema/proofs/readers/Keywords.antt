@@ -37,7 +37,7 @@ is_keyword (OfType Enum) = refl
 is_keyword (OfType InputObject) = refl
 is_keyword Directive = refl
 
-pub is_told : (i : Items) (told : Option Keyword) → Tells i told → is_some told ≡ sees keywords (peek i.tokens)
-is_told i None h = sym h
-is_told i (Some k) h =
+pub keyword_is_seen : (i : Items) (told : Option Keyword) → Tells i told → is_some told ≡ sees keywords (peek i.tokens)
+keyword_is_seen i None h = sym h
+keyword_is_seen i (Some k) h =
     sym (true_from_ne_false _ (λ none. both_ways _ (sees-within (class_of k ∷ []) keywords (peek i.tokens) (is_keyword k) none) h))

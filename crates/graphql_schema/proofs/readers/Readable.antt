@@ -2,18 +2,18 @@
 use Rattle.std.proofs.Common.{codes, ◌≡◌, ◌<◌, ◌-◌, ◌==◌, ◌&&◌, ℕ, zero, suc, Bool, true, false, List, [], ◌∷◌, length, drop, Option, Some, inl, inr, refl, sym}
 use Rattle.std.proofs.Common.{subst, ◌∙◌, arith}
 use Rattle.std.proofs.lemmas.Bool.{both_ways, cases_Bool, and_parts}
-use Rattle.graphql_core.proofs.{each_is_second, IsSecond-head, unchanged_then, with_more, alone_before}
-use Rattle.graphql_core.proofs.{IsSecond-sides, none_there, shared_rows, one_cause}
+use Rattle.graphql_core.proofs.{each_is_factored, IsFactored-head, unchanged_then, with_more, alone_before}
+use Rattle.graphql_core.proofs.{IsFactored-sides, none_there, shared_rows, one_cause}
 use Rattle.graphql_core.specs.{Grammar, Token, Class, Spelled, AnyOf, Except, Expr, Empty, One, Then, Either, Many, Sym, ParseTree, Row, row, row_at, optional}
-use Rattle.graphql_core.specs.{leaves, Fits, fits_both, fits_leaf, fits_first, fits_second, with_tables, EachIsSecond, change_at, written, RefusesTokens}
+use Rattle.graphql_core.specs.{leaves, Fits, fits_both, fits_leaf, fits_first, fits_second, with_tables, EachIsFactored, change_at, written, RefusesTokens}
 use Rattle.graphql_core.specs.{Extends, TestsAlike, CauseText, FaultText, shared, tables as core_tables, shared_symbols, word, unquoted, is_good as leaves_good}
 use Rattle.graphql_core.specs.{reading, IsReadable}
 use Rattle.std.proofs.lemmas.Bool.Decides.{nat_tests}
-use Rattle.graphql_schema.specs.{location_of, is_good, rules, second_rules, second_rows, tables, changes, passes, document_symbol, item_symbol, schema_symbol}
+use Rattle.graphql_schema.specs.{location_of, is_good, rules, factored_rules, factored_rows, tables, changes, passes, document_symbol, item_symbol, schema_symbol}
 use Rattle.graphql_schema.specs.{extension_symbol, described_symbol, description_symbol, type_body_symbol, directive_definition_symbol, schema_extension_symbol}
 use Rattle.graphql_schema.specs.{schema_grammar, schemas, Lacks, said_of}
 
--- ---- the second rules have the trees of the written ones, for any test of leaves and nodes
+-- ---- the factored rules have the trees of the written ones, for any test of leaves and nodes
 
 -- the rules from this symbol on
 abbrev from : ℕ → List Row → List Row
@@ -21,22 +21,22 @@ from k rs = drop (k - shared_symbols) rs
 
 -- if every node with an optional description is accepted
 each : (good : Class → Token → Bool) (check : ℕ → ParseTree → Bool) → ((x : ParseTree) → check described_symbol x ≡ true)
-    → EachIsSecond (record { rows = schema_grammar.rows; good = good; check = check; samples = schema_grammar.samples }) second_rows changes
+    → EachIsFactored (record { rows = schema_grammar.rows; good = good; check = check; samples = schema_grammar.samples }) factored_rows changes
 each good check pass =
     let g : Grammar = record { rows = schema_grammar.rows; good = good; check = check; samples = schema_grammar.samples } in
     let ws : List Row = with_tables rules [] in
-    let qs : List Row = with_tables second_rules tables in
+    let qs : List Row = with_tables factored_rules tables in
     let described : Expr = optional (Sym description_symbol) in
-    each_is_second g second_rows changes (shared_rows g second_rows changes shared.rows ws qs (drop shared_symbols changes)
-    (unchanged_then g second_rows changes (item_symbol - document_symbol) ws qs (drop item_symbol changes) refl (
-      IsSecond-sides g second_rows changes described_symbol described (Sym schema_symbol) (Sym extension_symbol) (Sym type_body_symbol)
+    each_is_factored g factored_rows changes (shared_rows g factored_rows changes shared.rows ws qs (drop shared_symbols changes)
+    (unchanged_then g factored_rows changes (item_symbol - document_symbol) ws qs (drop item_symbol changes) refl (
+      IsFactored-sides g factored_rows changes described_symbol described (Sym schema_symbol) (Sym extension_symbol) (Sym type_body_symbol)
           (Sym directive_definition_symbol) refl refl (λ x. refl) pass,
-      unchanged_then g second_rows changes (extension_symbol - schema_symbol) (from schema_symbol ws) (from schema_symbol qs)
+      unchanged_then g factored_rows changes (extension_symbol - schema_symbol) (from schema_symbol ws) (from schema_symbol qs)
           (drop extension_symbol changes) refl (
-            IsSecond-head g second_rows changes (word (codes "extend")) (Sym type_body_symbol) (Sym schema_extension_symbol),
+            IsFactored-head g factored_rows changes (word (codes "extend")) (Sym type_body_symbol) (Sym schema_extension_symbol),
             (
-              IsSecond-head g second_rows changes described (Sym type_body_symbol) (Sym directive_definition_symbol),
-              unchanged_then g second_rows changes (length (from description_symbol ws)) (from description_symbol ws) (from description_symbol qs) [] refl tt,
+              IsFactored-head g factored_rows changes described (Sym type_body_symbol) (Sym directive_definition_symbol),
+              unchanged_then g factored_rows changes (length (from description_symbol ws)) (from description_symbol ws) (from description_symbol qs) [] refl tt,
             ),
           ),
     )))

@@ -3,10 +3,10 @@ use Rattle.std.specs.Prelude.{Bool, ◌||◌, Result}
 use Rattle.graphql_core.specs.{Expr, ParseTree, written, sees_class, any, reading, Gives, Items}
 use Rattle.graphql_core.specs.declared.helpers.read_error.ReadError.{ReadError}
 use Rattle.graphql_core.specs.declared.tokenizer.token.Kind.TheVariants.{Name, StringValue, BlockString}
-use Rattle.graphql_schema.specs.steps.SecondRules.{changes}
+use Rattle.graphql_schema.specs.steps.FactoredRules.{changes}
 use Rattle.graphql_schema.specs.Language.{schemas}
 
--- the reader follows the second rules, and its result is what the written parse tree denotes
+-- the reader follows the factored rules, and its result is what the written parse tree denotes
 abbrev pub Reads : {A : Type 0} → Expr → Items → Items → (A → ParseTree → Type 0) → Result A ReadError → Type 0
 Reads e old new P r = Gives (reading schemas) e old new (λ v x. P v (written changes x)) r
 

@@ -22,7 +22,7 @@ fault_said (Extension p) = record { cause = empty_extension; place = place_of p 
 abbrev pub refusals : Refusals InvalidNode
 refusals = record { symbol = refused_symbol; fault = fault_said }
 
--- The reader follows the second rules, and its result is what the written parse tree denotes. Or it stops, or it
+-- The reader follows the factored rules, and its result is what the written parse tree denotes. Or it stops, or it
 -- rejects a node with the error of that node.
 abbrev pub ReadsNode : {A : Type 0} → Expr → Items → Items → (A → ParseTree → Type 0)
     → Result A (NodeError InvalidNode) → Type 0

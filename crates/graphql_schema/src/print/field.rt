@@ -42,7 +42,7 @@ impl<N: Names> Pretty for InputValue<N> {
     }
 }
 
-/// Appends arguments in parentheses, on one line in every style. Without arguments it appends nothing.
+/// Appends arguments in parentheses, joined by `, ` in every style. Without arguments it appends nothing.
 pub fn write_arguments<S: Sink, N: Names>(
     out: &mut S,
     arguments: &[InputValue<N>],

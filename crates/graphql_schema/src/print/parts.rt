@@ -55,7 +55,7 @@ impl<'a, N: Names> Parts<'a, N> {
     }
 }
 
-/// Appends the fields of an input object, each on a separate line.
+/// Appends the fields of an input object, each at the margin and with a line end.
 fn write_input_fields<S: Sink, N: Names>(
     out: &mut S,
     fields: &[InputValue<N>],

@@ -18,7 +18,7 @@ use std::alloc::Global;
 /// `SchemaItem = Description? Schema | Extension | Described`,
 /// where `Described = Description? TypeBody | Description? DirectiveDef`
 /// and `TypeBody = Scalar | Object | Interface | Union | Enum | Input`. Parts of a type are collected in `scratch`.
-#[tactic(auto, using(graphql_core::proofs::readers::Reading::reading))]
+#[tactic(auto, using(graphql_core::proofs::readers::Reading::reader_steps))]
 fn definition<S: TokenSource>(
     alloc: Global,
     source: &mut S,
@@ -58,7 +58,7 @@ fn sees_definition<S: TokenSource>(source: &S) -> bool
 }
 
 /// `SchemaDocument = SchemaItem+`, without the end of the input after it.
-#[tactic(auto, using(graphql_core::proofs::readers::Reading::reading))]
+#[tactic(auto, using(graphql_core::proofs::readers::Reading::reader_steps))]
 pub fn definitions<S: TokenSource>(
     alloc: Global,
     source: &mut S,

@@ -37,7 +37,7 @@ pub fn sees_described_name<S: TokenSource>(source: &S) -> bool
 
 /// `Description = String | Block`
 #[inline(never)]
-#[tactic(auto, using(graphql_core::proofs::readers::Reading::reading))]
+#[tactic(auto, using(graphql_core::proofs::readers::Reading::reader_steps))]
 fn description<S: TokenSource>(alloc: Global, source: &mut S) -> Result<String, ReadError>
     ensures { Reads (Sym description_symbol) (S.items source.old) (S.items source.new)
         (λ v x. string_bytes v ≡ description_of x) result }
@@ -50,7 +50,7 @@ fn description<S: TokenSource>(alloc: Global, source: &mut S) -> Result<String, 
 
 /// `Description?`
 #[inline(always)]
-#[tactic(auto, using(graphql_core::proofs::readers::Reading::reading))]
+#[tactic(auto, using(graphql_core::proofs::readers::Reading::reader_steps))]
 pub fn optional_description<S: TokenSource>(
     alloc: Global,
     source: &mut S,

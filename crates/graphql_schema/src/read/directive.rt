@@ -18,7 +18,7 @@ use graphql_core::tokenizer::Kind;
 use std::alloc::Global;
 
 /// `Location = Name`, where the name is that of a directive location.
-#[tactic(auto, using(graphql_core::proofs::readers::Reading::reading))]
+#[tactic(auto, using(graphql_core::proofs::readers::Reading::reader_steps))]
 fn location<S: TokenSource>(source: &mut S) -> Result<DirectiveLocation, ReadError>
     ensures { Reads (Sym location_symbol) (S.items source.old) (S.items source.new)
         (λ v x. Some v ≡ location_at x) result }
@@ -32,7 +32,7 @@ fn location<S: TokenSource>(source: &mut S) -> Result<DirectiveLocation, ReadErr
 }
 
 /// `"|" Location`. Appends the location to `locations`.
-#[tactic(auto, using(graphql_core::proofs::readers::Reading::reading))]
+#[tactic(auto, using(graphql_core::proofs::readers::Reading::reader_steps))]
 fn separated_location<S: TokenSource>(
     source: &mut S,
     locations: &mut Vec<DirectiveLocation>,
@@ -47,7 +47,7 @@ fn separated_location<S: TokenSource>(
 }
 
 /// `Locations = "|"? Location ("|" Location)*`
-#[tactic(auto, using(graphql_core::proofs::readers::Reading::reading))]
+#[tactic(auto, using(graphql_core::proofs::readers::Reading::reader_steps))]
 fn locations<S: TokenSource>(
     alloc: Global,
     source: &mut S,
@@ -66,7 +66,7 @@ fn locations<S: TokenSource>(
 }
 
 /// `"repeatable"?`
-#[tactic(auto, using(graphql_core::proofs::readers::Reading::reading))]
+#[tactic(auto, using(graphql_core::proofs::readers::Reading::reader_steps))]
 fn repeatable<S: TokenSource>(source: &mut S) -> Result<bool, ReadError>
     ensures { Reads (optional (word (codes "repeatable"))) (S.items source.old) (S.items source.new)
         (λ v x. v ≡ is_there x) result }
@@ -79,7 +79,7 @@ fn repeatable<S: TokenSource>(source: &mut S) -> Result<bool, ReadError>
 }
 
 /// `DirectiveDef = "directive" "@" Name ArgumentDefs? "repeatable"? "on" Locations`, without its description.
-#[tactic(auto, using(graphql_core::proofs::readers::Reading::reading))]
+#[tactic(auto, using(graphql_core::proofs::readers::Reading::reader_steps))]
 pub fn directive_definition<S: TokenSource>(
     alloc: Global,
     source: &mut S,

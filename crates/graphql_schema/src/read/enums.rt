@@ -18,7 +18,7 @@ use std::alloc::Global;
 // The values between the braces of an enum.
 struct EnumValueList;
 
-#[tactic(auto, using(graphql_core::proofs::readers::Reading::reading))]
+#[tactic(auto, using(graphql_core::proofs::readers::Reading::reader_steps))]
 impl<S: TokenSource> Elements<S> for EnumValueList {
     type Item = EnumValue<S::Names>;
 
@@ -32,7 +32,7 @@ impl<S: TokenSource> Elements<S> for EnumValueList {
 
     ghost view = { enum_value_view S.Names.bytes };
 
-    #[tactic(auto, using(crate::proofs::begins_described_name), unfolding(crate::specs::steps::SecondRules::tables))]
+    #[tactic(auto, using(crate::proofs::begins_described_name), unfolding(crate::specs::steps::FactoredRules::tables))]
     fn comes_next(source: &S) -> bool {
         sees_described_name(source)
     }

@@ -24,9 +24,9 @@ fn adds_to_schema<N: Names>(added: &SchemaExtension<N>) -> bool
         || added.subscription.is_some()
 }
 
-/// `Extension = "extend" TypeBody | "extend" SchemaExt`. An extension that adds nothing is rejected.
-/// Parts of a type are collected in `scratch`.
-#[tactic(auto, using(graphql_core::proofs::readers::Reading::reading))]
+/// `Extension = "extend" TypeBody | "extend" SchemaExt`. An extension for which
+/// `adds_something` or `adds_to_schema` is false is rejected. Parts of a type are collected in `scratch`.
+#[tactic(auto, using(graphql_core::proofs::readers::Reading::reader_steps))]
 pub fn extension<S: TokenSource>(
     alloc: Global,
     source: &mut S,
@@ -46,7 +46,7 @@ pub fn extension<S: TokenSource>(
         }
         Some(Keyword::OfType(kind)) => {
             let body = type_body(alloc, source, kind, scratch)?;
-            if !body.adds() {
+            if !body.adds_something() {
                 return Err(NodeError::Refused(InvalidNode::Extension(body.position)));
             }
             Ok(Definition::TypeExtension(body.into_extension()))

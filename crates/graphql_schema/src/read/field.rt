@@ -20,7 +20,7 @@ use std::alloc::Global;
 // The fields between the braces of an object type or of an interface.
 struct FieldList;
 
-#[tactic(auto, using(graphql_core::proofs::readers::Reading::reading))]
+#[tactic(auto, using(graphql_core::proofs::readers::Reading::reader_steps))]
 impl<S: TokenSource> Elements<S> for FieldList {
     type Item = Field<S::Names>;
 
@@ -34,7 +34,7 @@ impl<S: TokenSource> Elements<S> for FieldList {
 
     ghost view = { field_view S.Names.bytes };
 
-    #[tactic(auto, using(crate::proofs::begins_described_name), unfolding(crate::specs::steps::SecondRules::tables))]
+    #[tactic(auto, using(crate::proofs::begins_described_name), unfolding(crate::specs::steps::FactoredRules::tables))]
     fn comes_next(source: &S) -> bool {
         sees_described_name(source)
     }

@@ -22,7 +22,7 @@ const FEW_ARGUMENTS: usize = 2;
 // The arguments between parentheses, or the fields between the braces of an input object.
 struct InputValueList;
 
-#[tactic(auto, using(graphql_core::proofs::readers::Reading::reading))]
+#[tactic(auto, using(graphql_core::proofs::readers::Reading::reader_steps))]
 impl<S: TokenSource> Elements<S> for InputValueList {
     type Item = InputValue<S::Names>;
 
@@ -36,7 +36,7 @@ impl<S: TokenSource> Elements<S> for InputValueList {
 
     ghost view = { input_value_view S.Names.bytes };
 
-    #[tactic(auto, using(crate::proofs::begins_described_name), unfolding(crate::specs::steps::SecondRules::tables))]
+    #[tactic(auto, using(crate::proofs::begins_described_name), unfolding(crate::specs::steps::FactoredRules::tables))]
     fn comes_next(source: &S) -> bool {
         sees_described_name(source)
     }

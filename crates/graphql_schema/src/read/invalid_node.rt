@@ -13,7 +13,7 @@ pub enum InvalidNode {
     Schema(Cause, Pos),
     /// An extension of the schema with a wrong operation: the cause, and the position of the keyword after `extend`.
     SchemaExtension(Cause, Pos),
-    /// An extension that adds nothing: the position of the keyword after `extend`.
+    /// An extension that adds nothing, or only interfaces to an interface: the position of the keyword after `extend`.
     Extension(Pos),
 }
 

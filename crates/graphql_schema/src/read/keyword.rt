@@ -80,7 +80,7 @@ pub fn peek_keyword<S: TokenSource>(source: &S) -> Option<Keyword>
 }
 
 /// Whether the next token is a definition keyword.
-#[tactic(auto, using(crate::proofs::readers::Keywords::is_told))]
+#[tactic(auto, using(crate::proofs::readers::Keywords::keyword_is_seen))]
 pub fn sees_definition_keyword<S: TokenSource>(source: &S) -> bool
     ensures { result ≡ sees keywords (peek (S.items source.now).tokens) }
 {

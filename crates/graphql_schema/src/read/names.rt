@@ -13,7 +13,7 @@ use graphql_core::helpers::{
 use std::alloc::Global;
 
 /// Consumes a punctuator if it is the next token.
-#[tactic(auto, using(graphql_core::proofs::readers::Reading::reading))]
+#[tactic(auto, using(graphql_core::proofs::readers::Reading::reader_steps))]
 pub fn optional_punctuator<S: TokenSource>(
     source: &mut S,
     separator: Punctuator,
@@ -28,7 +28,7 @@ pub fn optional_punctuator<S: TokenSource>(
 }
 
 /// A punctuator and a name. Appends the name to `names`.
-#[tactic(auto, using(graphql_core::proofs::readers::Reading::reading))]
+#[tactic(auto, using(graphql_core::proofs::readers::Reading::reader_steps))]
 fn separated_name<S: TokenSource>(
     alloc: Global,
     source: &mut S,
@@ -45,7 +45,7 @@ fn separated_name<S: TokenSource>(
 }
 
 /// Names separated by a punctuator, which can also precede the first.
-#[tactic(auto, using(graphql_core::proofs::readers::Reading::reading))]
+#[tactic(auto, using(graphql_core::proofs::readers::Reading::reader_steps))]
 fn joined_names<S: TokenSource>(
     alloc: Global,
     source: &mut S,
@@ -65,7 +65,7 @@ fn joined_names<S: TokenSource>(
 }
 
 /// `Implements?`, `Implements = "implements" "&"? Name ("&" Name)*`
-#[tactic(auto, using(graphql_core::proofs::readers::Reading::reading))]
+#[tactic(auto, using(graphql_core::proofs::readers::Reading::reader_steps))]
 pub fn optional_implements<S: TokenSource>(
     alloc: Global,
     source: &mut S,
@@ -81,7 +81,7 @@ pub fn optional_implements<S: TokenSource>(
 }
 
 /// `Members?`, `Members = "=" "|"? Name ("|" Name)*`
-#[tactic(auto, using(graphql_core::proofs::readers::Reading::reading))]
+#[tactic(auto, using(graphql_core::proofs::readers::Reading::reader_steps))]
 pub fn optional_members<S: TokenSource>(
     alloc: Global,
     source: &mut S,

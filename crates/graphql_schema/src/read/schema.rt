@@ -88,7 +88,7 @@ fn add_root<N: Names>(
 }
 
 /// `RootType = Name ":" Name`. Adds the operation to `roots`.
-#[tactic(auto, using(graphql_core::proofs::readers::Reading::reading))]
+#[tactic(auto, using(graphql_core::proofs::readers::Reading::reader_steps))]
 fn root_type<S: TokenSource>(
     alloc: Global,
     source: &mut S,
@@ -106,7 +106,7 @@ fn root_type<S: TokenSource>(
 }
 
 /// `RootType*`. Adds the operations to `roots`.
-#[tactic(auto, using(graphql_core::proofs::readers::Reading::reading))]
+#[tactic(auto, using(graphql_core::proofs::readers::Reading::reader_steps))]
 fn root_types<S: TokenSource>(
     alloc: Global,
     source: &mut S,
@@ -124,7 +124,7 @@ fn root_types<S: TokenSource>(
 
 /// `Schema = "schema" Directives "{" RootType* "}"`, without its description.
 /// Unknown and duplicate operations are rejected.
-#[tactic(auto, using(graphql_core::proofs::readers::Reading::reading))]
+#[tactic(auto, using(graphql_core::proofs::readers::Reading::reader_steps))]
 pub fn schema_definition<S: TokenSource>(
     alloc: Global,
     source: &mut S,
@@ -158,7 +158,7 @@ pub fn schema_definition<S: TokenSource>(
 }
 
 /// `Roots?`, `Roots = "{" RootType+ "}"`
-#[tactic(auto, using(graphql_core::proofs::readers::Reading::reading))]
+#[tactic(auto, using(graphql_core::proofs::readers::Reading::reader_steps))]
 fn optional_roots<S: TokenSource>(
     alloc: Global,
     source: &mut S,
@@ -178,7 +178,7 @@ fn optional_roots<S: TokenSource>(
 }
 
 /// `SchemaExt = "schema" Directives Roots?`. Unknown and duplicate operations are rejected.
-#[tactic(auto, using(graphql_core::proofs::readers::Reading::reading))]
+#[tactic(auto, using(graphql_core::proofs::readers::Reading::reader_steps))]
 pub fn schema_extension<S: TokenSource>(
     alloc: Global,
     source: &mut S,

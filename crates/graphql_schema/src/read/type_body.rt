@@ -1,6 +1,6 @@
 //! The common part of a type definition and a type extension.
 ghost use Rattle.std.specs.Prelude.{◌≡◌, option_map, string_bytes};
-ghost use Rattle.graphql_schema.specs.Tree.{type_definition, extension, adds};
+ghost use Rattle.graphql_schema.specs.Tree.{type_definition, extension, adds_something};
 ghost use Rattle.graphql_schema.specs.Views.{type_definition_view, type_extension_view};
 ghost use Rattle.graphql_schema.specs.steps.TypeBodies.{type_body_view};
 
@@ -101,8 +101,8 @@ impl<N: Names> TypeBody<N> {
 
     /// Whether an extension with this body adds something: a directive or a part.
     /// The interfaces count for an object type, but not for an interface.
-    pub fn adds(&self) -> bool
-        ensures { result ≡ adds (type_body_view N.bytes self.now) }
+    pub fn adds_something(&self) -> bool
+        ensures { result ≡ adds_something (type_body_view N.bytes self.now) }
     {
         let has_parts = match &self.parts {
             TypeParts::Scalar => false,

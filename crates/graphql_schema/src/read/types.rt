@@ -36,7 +36,7 @@ impl<N: Names> Scratch<N> {
 }
 
 /// `Implements?` if the kind can have it.
-#[tactic(auto, using(graphql_core::proofs::readers::Reading::reading))]
+#[tactic(auto, using(graphql_core::proofs::readers::Reading::reader_steps))]
 fn interfaces<S: TokenSource>(
     alloc: Global,
     source: &mut S,
@@ -53,7 +53,7 @@ fn interfaces<S: TokenSource>(
 
 /// `Fields?`, `Members?`, `EnumValues?` or `InputFields?`, as `kind` says. The result also holds `interfaces`.
 /// Parts are collected in `scratch`.
-#[tactic(auto, using(graphql_core::proofs::readers::Reading::reading))]
+#[tactic(auto, using(graphql_core::proofs::readers::Reading::reader_steps))]
 fn parts<S: TokenSource>(
     alloc: Global,
     source: &mut S,
@@ -92,7 +92,7 @@ fn parts<S: TokenSource>(
 /// `Scalar`, `Object`, `Interface`, `Union`, `Enum` or `Input`, as `kind` says:
 /// the keyword, `Name`, `Implements?` if the kind can have it, `Directives`, and the parts.
 /// Parts are collected in `scratch`.
-#[tactic(auto, using(graphql_core::proofs::readers::Reading::reading))]
+#[tactic(auto, using(graphql_core::proofs::readers::Reading::reader_steps))]
 pub fn type_body<S: TokenSource>(
     alloc: Global,
     source: &mut S,

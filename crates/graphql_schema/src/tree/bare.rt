@@ -85,7 +85,7 @@ impl<N: Names> InputObjectType<N> {
 }
 
 impl<N: Names> ScalarTypeExtension<N> {
-    /// Returns an extension of a scalar type with this name and nothing else, at position 0:0.
+    /// Returns an extension of a scalar type with this name and nothing else, at position 0:0. It is not printable.
     pub fn new(alloc: Global, name: N::Value) -> ScalarTypeExtension<N>
         ensures { scalar_extension_view N.bytes result ≡ extension (bare (N.bytes name) scalar) }
     {
@@ -94,7 +94,7 @@ impl<N: Names> ScalarTypeExtension<N> {
 }
 
 impl<N: Names> ObjectTypeExtension<N> {
-    /// Returns an extension of an object type with this name and nothing else, at position 0:0.
+    /// Returns an extension of an object type with this name and nothing else, at position 0:0. It is not printable.
     pub fn new(alloc: Global, name: N::Value) -> ObjectTypeExtension<N>
         ensures { object_extension_view N.bytes result ≡ extension (bare (N.bytes name) (object [] [])) }
     {
@@ -103,7 +103,7 @@ impl<N: Names> ObjectTypeExtension<N> {
 }
 
 impl<N: Names> InterfaceTypeExtension<N> {
-    /// Returns an extension of an interface with this name and nothing else, at position 0:0.
+    /// Returns an extension of an interface with this name and nothing else, at position 0:0. It is not printable.
     pub fn new(alloc: Global, name: N::Value) -> InterfaceTypeExtension<N>
         ensures { interface_extension_view N.bytes result ≡ extension (bare (N.bytes name) (interface [] [])) }
     {
@@ -112,7 +112,7 @@ impl<N: Names> InterfaceTypeExtension<N> {
 }
 
 impl<N: Names> UnionTypeExtension<N> {
-    /// Returns an extension of a union with this name and nothing else, at position 0:0.
+    /// Returns an extension of a union with this name and nothing else, at position 0:0. It is not printable.
     pub fn new(alloc: Global, name: N::Value) -> UnionTypeExtension<N>
         ensures { union_extension_view N.bytes result ≡ extension (bare (N.bytes name) (union [])) }
     {
@@ -121,7 +121,7 @@ impl<N: Names> UnionTypeExtension<N> {
 }
 
 impl<N: Names> EnumTypeExtension<N> {
-    /// Returns an extension of an enum with this name and nothing else, at position 0:0.
+    /// Returns an extension of an enum with this name and nothing else, at position 0:0. It is not printable.
     pub fn new(alloc: Global, name: N::Value) -> EnumTypeExtension<N>
         ensures { enum_extension_view N.bytes result ≡ extension (bare (N.bytes name) (enum [])) }
     {
@@ -130,7 +130,7 @@ impl<N: Names> EnumTypeExtension<N> {
 }
 
 impl<N: Names> InputObjectTypeExtension<N> {
-    /// Returns an extension of an input object with this name and nothing else, at position 0:0.
+    /// Returns an extension of an input object with this name and nothing else, at position 0:0. It is not printable.
     pub fn new(alloc: Global, name: N::Value) -> InputObjectTypeExtension<N>
         ensures { input_extension_view N.bytes result ≡ extension (bare (N.bytes name) (input [])) }
     {

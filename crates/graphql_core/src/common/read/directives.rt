@@ -22,7 +22,7 @@ const FEW_ARGUMENTS: usize = 2;
 
 struct ArgumentList;
 
-#[tactic(auto, using(crate::proofs::readers::Reading::reading))]
+#[tactic(auto, using(crate::proofs::readers::Reading::reader_steps))]
 impl<S: TokenSource> Elements<S> for ArgumentList {
     type Item = (<S::Names as Names>::Value, Value<S::Names>);
 
@@ -58,7 +58,7 @@ impl<S: TokenSource> Elements<S> for ArgumentList {
 
 /// `Arguments?`, `Arguments = "(" Argument+ ")"`: an empty list if they are missing.
 #[inline(always)]
-#[tactic(auto, using(crate::proofs::readers::Reading::reading))]
+#[tactic(auto, using(crate::proofs::readers::Reading::reader_steps))]
 pub fn optional_arguments<S: TokenSource>(
     alloc: Global,
     source: &mut S,
@@ -78,7 +78,7 @@ pub fn optional_arguments<S: TokenSource>(
 
 struct DirectiveList;
 
-#[tactic(auto, using(crate::proofs::readers::Reading::reading))]
+#[tactic(auto, using(crate::proofs::readers::Reading::reader_steps))]
 impl<S: TokenSource> Elements<S> for DirectiveList {
     type Item = Directive<S::Names>;
 
@@ -119,7 +119,7 @@ impl<S: TokenSource> Elements<S> for DirectiveList {
 
 /// `Directives = Directive*`
 #[inline(always)]
-#[tactic(auto, using(crate::proofs::readers::Reading::reading))]
+#[tactic(auto, using(crate::proofs::readers::Reading::reader_steps))]
 pub fn directives<S: TokenSource>(
     alloc: Global,
     source: &mut S,
@@ -137,7 +137,7 @@ pub fn directives<S: TokenSource>(
 
 /// `Default = "=" Const`
 #[inline(never)]
-#[tactic(auto, using(crate::proofs::readers::Reading::reading))]
+#[tactic(auto, using(crate::proofs::readers::Reading::reader_steps))]
 fn default_value<S: TokenSource>(
     alloc: Global,
     source: &mut S,
@@ -151,7 +151,7 @@ fn default_value<S: TokenSource>(
 
 /// `Default?`
 #[inline(always)]
-#[tactic(auto, using(crate::proofs::readers::Reading::reading))]
+#[tactic(auto, using(crate::proofs::readers::Reading::reader_steps))]
 pub fn optional_default<S: TokenSource>(
     alloc: Global,
     source: &mut S,

@@ -25,8 +25,8 @@ pub fn next_of<S: TokenSource>(source: &S, kind: Kind) -> Result<Lexeme<S::Text>
 }
 
 /// `Int`
-#[tactic(auto, using(crate::proofs::readers::Reading::reading))]
-pub fn int_value<S: TokenSource>(alloc: Global, source: &mut S) -> Result<Number, ReadError>
+#[tactic(auto, using(crate::proofs::readers::Reading::reader_steps))]
+pub fn int_value<S: TokenSource>(source: &mut S) -> Result<Number, ReadError>
     ensures { Gives shared (One (any IntValue)) (S.items source.old) (S.items source.new)
         (λ v x. v ≡ int_of (spelling_at x)) result }
 {
@@ -39,7 +39,7 @@ pub fn int_value<S: TokenSource>(alloc: Global, source: &mut S) -> Result<Number
 }
 
 /// `Float`
-#[tactic(auto, using(crate::proofs::readers::Reading::reading))]
+#[tactic(auto, using(crate::proofs::readers::Reading::reader_steps))]
 pub fn float_value<S: TokenSource>(alloc: Global, source: &mut S) -> Result<FloatLiteral, ReadError>
     ensures { Gives shared (One (any FloatValue)) (S.items source.old) (S.items source.new)
         (λ v x. v ≡ spelling_at x) result }
@@ -54,7 +54,7 @@ pub fn float_value<S: TokenSource>(alloc: Global, source: &mut S) -> Result<Floa
 }
 
 /// `String`
-#[tactic(auto, using(crate::proofs::readers::Reading::reading))]
+#[tactic(auto, using(crate::proofs::readers::Reading::reader_steps))]
 pub fn string_value<S: TokenSource>(alloc: Global, source: &mut S) -> Result<String, ReadError>
     ensures { Gives shared (One (any StringValue)) (S.items source.old) (S.items source.new)
         (λ v x. string_bytes v ≡ string_of (spelling_at x)) result }
@@ -71,7 +71,7 @@ pub fn string_value<S: TokenSource>(alloc: Global, source: &mut S) -> Result<Str
 }
 
 /// `Block`
-#[tactic(auto, using(crate::proofs::readers::Reading::reading))]
+#[tactic(auto, using(crate::proofs::readers::Reading::reader_steps))]
 pub fn block_string_value<S: TokenSource>(
     alloc: Global,
     source: &mut S,
@@ -93,7 +93,7 @@ fn is_enum_word(text: &str) -> bool
 }
 
 /// `EnumName = Name` other than `true`, `false` and `null`
-#[tactic(auto, using(crate::proofs::readers::Reading::reading))]
+#[tactic(auto, using(crate::proofs::readers::Reading::reader_steps))]
 pub fn enum_value<S: TokenSource>(
     alloc: Global,
     source: &mut S,
@@ -123,7 +123,7 @@ fn word_value<S: TokenSource>(alloc: Global, text: S::Text) -> Result<Value<S::N
 }
 
 /// `Plain = "true" | "false" | "null" | EnumName | Int | Float | String | Block`
-#[tactic(auto, using(crate::proofs::readers::Reading::reading))]
+#[tactic(auto, using(crate::proofs::readers::Reading::reader_steps))]
 pub fn plain_value<S: TokenSource>(
     alloc: Global,
     source: &mut S,
@@ -140,7 +140,7 @@ pub fn plain_value<S: TokenSource>(
             source.advance();
             Ok(value)
         }
-        Kind::IntValue => Ok(Value::Int(int_value(alloc, source)?)),
+        Kind::IntValue => Ok(Value::Int(int_value(source)?)),
         Kind::FloatValue => Ok(Value::Float(float_value(alloc, source)?)),
         Kind::StringValue => Ok(Value::String(string_value(alloc, source)?)),
         Kind::BlockString => Ok(Value::String(block_string_value(alloc, source)?)),

@@ -48,7 +48,7 @@ pub trait Elements<S: TokenSource> {
 
 /// Reads elements as long as one comes next, and appends them to `items`.
 #[inline(always)]
-#[tactic(auto, using(crate::proofs::readers::Reading::reading))]
+#[tactic(auto, using(crate::proofs::readers::Reading::reader_steps))]
 pub fn read_many<S: TokenSource, E: Elements<S>>(
     alloc: Global,
     source: &mut S,
@@ -65,7 +65,7 @@ pub fn read_many<S: TokenSource, E: Elements<S>>(
 
 /// Reads at least one element between `opener` and `closer`, and appends them to `items`.
 #[inline(never)]
-#[tactic(auto, using(crate::proofs::readers::Reading::reading))]
+#[tactic(auto, using(crate::proofs::readers::Reading::reader_steps))]
 pub fn read_enclosed<S: TokenSource, E: Elements<S>>(
     alloc: Global,
     source: &mut S,
@@ -89,7 +89,7 @@ pub fn read_enclosed<S: TokenSource, E: Elements<S>>(
 /// Reads what `read_enclosed` reads, or nothing if `opener` does not come next. The elements are collected at the end
 /// of `others` and then split off, so their list is allocated once.
 #[inline(always)]
-#[tactic(auto, using(crate::proofs::readers::Reading::reading))]
+#[tactic(auto, using(crate::proofs::readers::Reading::reader_steps))]
 pub fn optional_split_list<S: TokenSource, E: Elements<S>>(
     alloc: Global,
     source: &mut S,
@@ -113,7 +113,7 @@ pub fn optional_split_list<S: TokenSource, E: Elements<S>>(
 /// Reads what `read_enclosed` reads, or nothing if `opener` does not come next. The list starts with this capacity. For
 /// a long source its unused capacity is given back.
 #[inline(always)]
-#[tactic(auto, using(crate::proofs::readers::Reading::reading))]
+#[tactic(auto, using(crate::proofs::readers::Reading::reader_steps))]
 pub fn optional_list<S: TokenSource, E: Elements<S>>(
     alloc: Global,
     source: &mut S,

@@ -8,7 +8,7 @@ use crate::helpers::{Punctuator, ReadError, TokenSource, expect_name, expect_pun
 use std::alloc::Global;
 
 /// `"!"?`: returns `inner` as a non-null type if `!` comes next, else unchanged.
-#[tactic(auto, using(crate::proofs::readers::Reading::reading))]
+#[tactic(auto, using(crate::proofs::readers::Reading::reader_steps))]
 fn optional_non_null<S: TokenSource>(
     alloc: Global,
     source: &mut S,
@@ -25,7 +25,7 @@ fn optional_non_null<S: TokenSource>(
 }
 
 /// `Type = Name "!"? | "[" Type "]" "!"?`
-#[tactic(auto, using(crate::proofs::readers::Reading::reading))]
+#[tactic(auto, using(crate::proofs::readers::Reading::reader_steps))]
 pub fn type_reference<S: TokenSource>(
     alloc: Global,
     source: &mut S,

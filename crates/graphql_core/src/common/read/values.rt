@@ -53,7 +53,7 @@ fn sees_variable<S: TokenSource>(source: &S, constness: Constness) -> bool
 }
 
 /// `"$" Name`
-#[tactic(auto, using(crate::proofs::readers::Reading::reading))]
+#[tactic(auto, using(crate::proofs::readers::Reading::reader_steps))]
 fn variable<S: TokenSource>(alloc: Global, source: &mut S) -> Result<Value<S::Names>, ReadError>
     ensures { Gives shared variable_rule (S.items source.old) (S.items source.new)
         (λ v x. value_view S.Names.bytes v ≡ value_of (as_variable x)) result }
@@ -64,7 +64,7 @@ fn variable<S: TokenSource>(alloc: Global, source: &mut S) -> Result<Value<S::Na
 
 /// `Value`, for constants `Const`
 #[cycle(values)]
-#[tactic(auto, using(crate::proofs::readers::Reading::reading))]
+#[tactic(auto, using(crate::proofs::readers::Reading::reader_steps))]
 fn value_by_constness<S: TokenSource>(
     alloc: Global,
     source: &mut S,
@@ -87,7 +87,7 @@ fn value_by_constness<S: TokenSource>(
 
 /// `"[" Value* "]"`, for constants `"[" Const* "]"`
 #[cycle(values)]
-#[tactic(auto, using(crate::proofs::readers::Reading::reading))]
+#[tactic(auto, using(crate::proofs::readers::Reading::reader_steps))]
 fn list<S: TokenSource>(
     alloc: Global,
     source: &mut S,
@@ -107,7 +107,7 @@ fn list<S: TokenSource>(
 
 /// `"{" Argument* "}"`, for constants `"{" ConstPair* "}"`
 #[cycle(values)]
-#[tactic(auto, using(crate::proofs::readers::Reading::reading))]
+#[tactic(auto, using(crate::proofs::readers::Reading::reader_steps))]
 fn object<S: TokenSource>(
     alloc: Global,
     source: &mut S,
@@ -127,7 +127,7 @@ fn object<S: TokenSource>(
 
 /// `Name ":" Value`, for constants `Name ":" Const`: a field, which replaces a field of the same name in `fields`.
 #[cycle(values)]
-#[tactic(auto, using(crate::proofs::readers::Reading::reading))]
+#[tactic(auto, using(crate::proofs::readers::Reading::reader_steps))]
 fn member<S: TokenSource>(
     alloc: Global,
     source: &mut S,

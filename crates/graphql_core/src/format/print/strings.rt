@@ -6,7 +6,7 @@ use crate::format::print::block::{has_block_form, write_block};
 use crate::format::print::quotes::write_quoted;
 use crate::format::{Sink, Style};
 
-/// Appends a string: in block form if it parses back from that, else in quotes.
+/// Appends a string: in block form if `has_block_form` returns true, else in quotes.
 pub fn write_string<S: Sink>(
     out: &mut S,
     text: &str,

@@ -1,15 +1,15 @@
 use Rattle.std.proofs.Common.{◌≡◌, true, length, refl}
 use Rattle.graphql_core.specs.{reason_of, tables as shared_tables, unquoted, reading}
 use Rattle.graphql_core.proofs.ByGrammar.{sampled_below, symbol_derived_for}
-use Rattle.graphql_query.specs.{queries, second_rows, tables}
+use Rattle.graphql_query.specs.{queries, factored_rows, tables}
 use Rattle.graphql_query.proofs.{readable}
 use Rattle.graphql_query.proofs.laws.readers_return_what_is_derived.Goals as goal
 
 -- each symbol has a sample
-sampled : sampled_below (reading queries) (length second_rows) ≡ true
+sampled : sampled_below (reading queries) (length factored_rows) ≡ true
 unfolding tables shared_tables unquoted
 sampled = refl
 
 pub returns : goal.returns
 returns g c k old new view means r below reads =
-    symbol_derived_for queries readable (length second_rows) sampled k below old new reason_of (λ v x. view v ≡ means x) r reads
+    symbol_derived_for queries readable (length factored_rows) sampled k below old new reason_of (λ v x. view v ≡ means x) r reads

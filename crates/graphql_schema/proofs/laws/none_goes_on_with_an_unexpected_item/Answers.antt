@@ -2,7 +2,7 @@ use Rattle.std.proofs.Common.{◌≡◌, Bool, true, false, ◌==◌, [], ◌∷
 use Rattle.graphql_core.specs.{Token, Class, AnyOf, Spelled, Except, ParseTree, Nothing, Leaf, Both, First, Second, Stop}
 use Rattle.graphql_core.specs.{More, Node, CauseText, is_unexpected, empty_extension, FaultText}
 use Rattle.graphql_core.proofs.{none_goes_on, valueless_not}
-use Rattle.graphql_schema.specs.{SchemaTree, schema_symbol, schema_extension_symbol, schemas, said_at, keyword_of, schema_of, schema_extension_of, extension_of}
+use Rattle.graphql_schema.specs.{SchemaTree, schema_symbol, schema_extension_symbol, schemas, said_at, keyword_place_of, schema_of, schema_extension_of, extension_of}
 use Rattle.graphql_schema.specs.{RootFault, unknown, duplicate, root_fault_of, extension_fault_of, root_cause}
 use Rattle.graphql_schema.proofs.{readable}
 use Rattle.graphql_schema.proofs.laws.none_goes_on_with_an_unexpected_item.Goals as goal
@@ -35,7 +35,7 @@ nodes_not : (node : ParseTree) (f : FaultText) → schemas.refuses node f → is
 nodes_not (Node k x) f h =
     either_not (k == schema_symbol) (option_map (said_at (schema_of (Node k x))) (root_fault_of x)) _ f (braces_not _ (schema_of (Node k x)) f)
     (either_not (k == schema_extension_symbol) (option_map (said_at (schema_extension_of (Node k x))) (extension_fault_of x))
-    (Some (record { cause = empty_extension; place = keyword_of (extension_of (Node k x)) })) f
+    (Some (record { cause = empty_extension; place = keyword_place_of (extension_of (Node k x)) })) f
     (braces_not _ (schema_extension_of (Node k x)) f) (empty_not _ f refl)) h
 nodes_not Nothing f h = absurd cc
 nodes_not (Leaf t) f h = absurd cc

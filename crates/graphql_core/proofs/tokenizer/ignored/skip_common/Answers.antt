@@ -7,8 +7,8 @@ use Rattle.graphql_core.proofs.tokenizer.ignored.skip_common.Goals as goal
 pub common-preserved : goal.common-preserved
 common-preserved c =
     let rest = c.common.rest.now in
-    let spacing = first_told is_spacing rest c.front_byte-byte.ensures c.is_spacing.ensures c.if-is_spacing.true in
-    let columns = c.columns_of.ensures.is ∙ ap columns_of c.front_byte-byte.ensures in
+    let spacing = first_told is_spacing rest c.first_byte-byte.ensures c.is_spacing.ensures c.if-is_spacing.true in
+    let columns = c.columns_of.ensures.is ∙ ap columns_of c.first_byte-byte.ensures in
     record {
       text = search rules;
       skipped = (
@@ -26,7 +26,7 @@ common-preserved c =
 pub returns-in_default-clause-skips : goal.returns-in_default-clause-skips
 returns-in_default-clause-skips c =
     let rest = c.common.rest.now in
-    let feed = first_told is_line_feed rest c.front_byte-byte.ensures c.is_line_feed.ensures c.if-is_line_feed.true in
+    let feed = first_told is_line_feed rest c.first_byte-byte.ensures c.is_line_feed.ensures c.if-is_line_feed.true in
     let passed = length c.args.text.now - length rest in
     let all : length c.args.text.now - length c.split_at.result.1.now ≡ passed + 1 = omega arith in (
       (λ w at. rw (all, c.split_at.ensures.back, c.position_after_line-place.ensures)
@@ -39,7 +39,7 @@ returns-in_default-clause-skips c =
 pub common-preserved-then-is_line_feed : goal.common-preserved-then-is_line_feed
 common-preserved-then-is_line_feed c =
     let rest = c.common.rest.now in
-    let feed = first_told is_line_feed rest c.front_byte-byte.ensures c.is_line_feed.ensures c.if-is_line_feed.true in
+    let feed = first_told is_line_feed rest c.first_byte-byte.ensures c.is_line_feed.ensures c.if-is_line_feed.true in
     record {
       text = search rules;
       skipped = (

@@ -2,9 +2,9 @@ use Rattle.std.specs.List.{prefix_len}
 use Rattle.std.proofs.Common.{◌≡◌, ℕ, suc, ◌+◌, ◌-◌, ◌<◌, ◌≤◌, List, ◌∷◌, true, drop, take, length, get_or, sym, ap, ◌∙◌, arith}
 use Rattle.graphql_core.specs.{front, taken, is_gap, is_name_start, is_name_continue}
 use Rattle.graphql_core.specs.declared.tokenizer.token.Kind.TheVariants.{Name}
-use Rattle.graphql_core.specs.declared.tokenizer.piece.Nesting.TheVariants.{Level}
+use Rattle.graphql_core.specs.declared.tokenizer.piece.Nesting.TheVariants.{Unchanged}
 use Rattle.graphql_core.specs.steps.Front.{Takes}
-use Rattle.graphql_core.proofs.{name_front, some_fits, ends_short, ends_within, front_run}
+use Rattle.graphql_core.proofs.{name_front, found_fits, ends_short, ends_within, front_run}
 use Rattle.graphql_core.proofs.tokenizer.piece.name_in_one_load.Goals as goal
 
 pub overflow_add-result : goal.overflow_add-result
@@ -15,7 +15,7 @@ gap_lanes_from-requires-clause-within c = ends_short is_name_continue 16 _ c.in_
 
 -- the name at the front
 stands : (text rest : List ℕ) (b n : ℕ) → text ≡ b ∷ rest → is_name_start (get_or text 0 0) ≡ true → n ≡ prefix_len is_name_continue (take 16 rest) → n < 16
-    → 16 ≤ length rest → front text ≡ Takes (n + 1) Name Level
+    → 16 ≤ length rest → front text ≡ Takes (n + 1) Name Unchanged
 stands text rest b n whole begins is few long =
     let len : prefix_len is_name_continue rest ≡ n = ends_within is_name_continue 16 rest long (omega (arith, is)) ∙ sym is in
     rw (whole, ← len) (name_front b rest (rw whole at begins))
@@ -40,4 +40,4 @@ returns-clause-gap c =
 
 pub returns-clause-cuts : goal.returns-clause-cuts
 returns-clause-cuts c =
-    (some_fits c.args.text.now (taken (Takes (c.name_lanes-len.result + 1) Name Level)) (returns-clause-is c) c.utf8.text).2
+    (found_fits c.args.text.now (taken (Takes (c.name_lanes-len.result + 1) Name Unchanged)) (returns-clause-is c) c.utf8.text).2

@@ -1,4 +1,4 @@
-use Rattle.std.proofs.Common.{◌-◌, arith}
+use Rattle.std.proofs.Common.{arith}
 use Rattle.graphql_core.proofs.{item_here}
 use Rattle.graphql_query.specs.{definition_view}
 use Rattle.graphql_query.proofs.{sets_alone}

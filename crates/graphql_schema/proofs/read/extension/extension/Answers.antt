@@ -1,7 +1,7 @@
 use Rattle.std.proofs.Common.{◌∙◌, Some, ap, refl, sym}
 use Rattle.graphql_core.specs.{Place, empty_extension}
 use Rattle.graphql_core.proofs.{node_stops, node_lacks, node_passes, node_refused, here, before, past, took, consumed, rest_stops}
-use Rattle.graphql_schema.specs.{extension_symbol, schemas, SchemaTree, BodyTree, schema_extension, extension, adds, adds_to_schema, refusals}
+use Rattle.graphql_schema.specs.{extension_symbol, schemas, SchemaTree, BodyTree, schema_extension, extension, adds_something, adds_to_schema, refusals}
 use Rattle.graphql_schema.proofs.{readable, of_schema, of_body, node_halts, none_extended, directive_extended, not_extended, body_means}
 use Rattle.graphql_schema.proofs.read.extension.extension.Goals as goal
 
@@ -39,24 +39,24 @@ returns-in_err-body-in-Some-OfType g c =
     let lead = of_body c.in-Some-OfType.kind (past here (took c.in_ok-expect_keyword.ensures.1 refl)) seen in
     node_stops schemas refusals _ _ _ _ _ _ (rest_stops lead _ _ c.in_err-body-in-Some-OfType.ensures) c.from_residual-in_err-body-in-Some-OfType.ensures.1
 
-pub returns-then-not-adds : goal.returns-then-not-adds
-returns-then-not-adds g c =
+pub returns-then-not-adds_something : goal.returns-then-not-adds_something
+returns-then-not-adds_something g c =
     let (x, takes, is) = c.in_ok-body-in-Some-OfType.ensures in
     let kind = c.in-Some-OfType.kind in
     let lead = of_body kind (past here (took c.in_ok-expect_keyword.ensures.1 refl)) (rw c.in-Some-OfType.field-0-is at c.in-Some-OfType.ensures) in
     let same = is ∙ body_means kind x in
-    let bad = ap adds (sym same) ∙ sym c.adds.ensures ∙ c.if-not-adds.true in
+    let bad = ap adds_something (sym same) ∙ sym c.adds_something.ensures ∙ c.if-not-adds_something.true in
     node_refused schemas refusals readable _ _ _ _ _ (consumed lead takes) bad
     (ap (λ (p : Place). Some (record { cause = empty_extension; place = p })) (sym (ap (λ (b : BodyTree). b.position) same)))
 
-pub returns-else-not-adds : goal.returns-else-not-adds
-returns-else-not-adds g c =
+pub returns-else-not-adds_something : goal.returns-else-not-adds_something
+returns-else-not-adds_something g c =
     let (x, takes, is) = c.in_ok-body-in-Some-OfType.ensures in
     let kind = c.in-Some-OfType.kind in
     let lead = of_body kind (past here (took c.in_ok-expect_keyword.ensures.1 refl)) (rw c.in-Some-OfType.field-0-is at c.in-Some-OfType.ensures) in
     let same = is ∙ body_means kind x in
     node_passes schemas refusals _ _ _ _ _ _ (consumed lead takes)
-    (ap adds (sym same) ∙ sym c.adds.ensures ∙ c.if-not-adds.false) (c.into_extension.ensures ∙ ap extension same)
+    (ap adds_something (sym same) ∙ sym c.adds_something.ensures ∙ c.if-not-adds_something.false) (c.into_extension.ensures ∙ ap extension same)
 
 -- ---- of neither
 

@@ -1,9 +1,9 @@
 use Rattle.std.proofs.Common.{◌≡◌, ◌==◌, ◌∙◌, ℕ, List, [], ◌∷◌, arith, ap, length, map, not, refl, sym}
 use Rattle.std.proofs.lemmas.Bool.{ne_eqb}
 use Rattle.graphql_core.specs.{has_any, directive_view}
-use Rattle.graphql_schema.proofs.read.type_body.TypeBody.adds.Goals.{in-Scalar, in-Object+then-not-is_empty, in-Object+else-not-is_empty, in-Interface}
-use Rattle.graphql_schema.proofs.read.type_body.TypeBody.adds.Goals.{in-Union, in-Enum, in-InputObject}
-use Rattle.graphql_schema.proofs.read.type_body.TypeBody.adds.Goals as goal
+use Rattle.graphql_schema.proofs.read.type_body.TypeBody.adds_something.Goals.{in-Scalar, in-Object+then-not-is_empty, in-Object+else-not-is_empty, in-Interface}
+use Rattle.graphql_schema.proofs.read.type_body.TypeBody.adds_something.Goals.{in-Union, in-Enum, in-InputObject}
+use Rattle.graphql_schema.proofs.read.type_body.TypeBody.adds_something.Goals as goal
 
 -- the model of a list of n elements is empty only if n is 0
 any_seen : {A B : Type 0} (f : A → B) (xs : List A) (n : ℕ) → n ≡ length xs → has_any (map f xs) ≡ not (n == 0)

@@ -17,16 +17,16 @@ selection_second =
 abbrev pub field_second : Expr
 field_second = Then name (Then (optional (Then (punctuator (codes ":")) name)) field_rest)
 
-abbrev pub second_rules : List Expr
-second_rules = with_rule selection_symbol selection_second (with_rule field_symbol field_second rules)
+abbrev pub factored_rules : List Expr
+factored_rules = with_rule selection_symbol selection_second (with_rule field_symbol field_factored rules)
 
 unfoldable pub tables : List Row
-tables = drop shared_symbols (solve matches samples 9 (shared.rules ++ second_rules))
+tables = drop shared_symbols (solve matches samples 9 (shared.rules ++ factored_rules))
 
-abbrev pub second_rows : List Row
-second_rows = shared.rows ++ with_tables second_rules tables
+abbrev pub factored_rows : List Row
+factored_rows = shared.rows ++ with_tables factored_rules tables
 
--- how parse trees of the second rules become parse trees of the written ones
+-- how parse trees of the factored rules become parse trees of the written ones
 abbrev pub changes : List Change
 changes =
     replaced selection_symbol (in_second (out_of_symbols fragment_spread_symbol inline_fragment_symbol))
@@ -34,4 +34,4 @@ changes =
 
 -- the grammar that the parser follows
 abbrev pub reading : Grammar
-reading = with_rows query second_rows changes
+reading = with_rows query factored_rows changes

@@ -1,7 +1,7 @@
 -- What comes before one alternative of a choice, and before both alternatives of a symbol, is read before the choice.
 use Rattle.std.proofs.Common.{◌≡◌, ℕ, true, List, refl, sym, ap, subst}
 use Rattle.std.proofs.lemmas.Bool.{both_ways}
-use Rattle.graphql_core.specs.{classes, IsSecond, Change, change_at, written, with_rows, out_of_head, out_of_sides, leads_here, leads_after, IsTested}
+use Rattle.graphql_core.specs.{classes, IsFactored, Change, change_at, written, with_rows, out_of_head, out_of_sides, leads_here, leads_after, IsTested}
 use Rattle.graphql_core.specs.{leads_before, leads_first, leads_second, leads_node, Leads, Grammar, Expr, Then, Either, Sym, ParseTree, Both, First, Second}
 use Rattle.graphql_core.specs.{Node, Row, row_at, leaves, Fits, fits_both, fits_first, fits_second, fits_node, Token, lax}
 
@@ -56,7 +56,7 @@ module _ (g : Grammar) (rs : List Row) (cs : List Change) (k : ℕ) (d s a p q :
   leading ts v w (leads_first (leads_after f (leads_second (leads_second l)))) = leads_in_symbol ts v (leads_second (leads_after f l))
   leading ts v w (leads_second l) = leads_second (leads_first l)
 
-  -- what the symbol's second rule leads to
+  -- what the symbol's factored rule leads to
   from_symbol : (ts : List Token) (v : Expr) → IsTested g v → Leads (lax (with_rows g rs cs)) (Then d (Either p q)) ts v
       → Leads (lax (with_rows g rs cs)) second ts v
   from_symbol ts v w leads_here = absurd w
@@ -74,7 +74,7 @@ module _ (g : Grammar) (rs : List Row) (cs : List Change) (k : ℕ) (d s a p q :
   leading_back ts v w (leads_second (leads_second (leads_node l))) =
       from_symbol ts v w (subst (λ (e : Expr). Leads (lax (with_rows g rs cs)) e ts v) sk l)
 
-  -- a tree of the symbol's second rule
+  -- a tree of the symbol's factored rule
   in_node : (z : ParseTree) → Fits (with_rows g rs cs) (Sym k) z
       → (x : ParseTree) × (y : ParseTree) × (z ≡ Node k (Both x y)) × Fits (with_rows g rs cs) d x × Fits (with_rows g rs cs) (Either p q) y
   in_node _ (fits_node {x = x} h c) = go x (subst (λ (e : Expr). Fits (with_rows g rs cs) e x) sk h)
@@ -83,22 +83,22 @@ module _ (g : Grammar) (rs : List Row) (cs : List Change) (k : ℕ) (d s a p q :
           × Fits (with_rows g rs cs) d y × Fits (with_rows g rs cs) (Either p q) z
       go _ (fits_both {x = y} {y = z} f h) = (y, z, refl, f, h)
 
-  fit_back : (y : ParseTree) → Fits (with_rows g rs cs) rule y → Fits (with_rows g rs cs) second (the_change.to_second y)
+  fit_back : (y : ParseTree) → Fits (with_rows g rs cs) rule y → Fits (with_rows g rs cs) second (the_change.to_factored y)
   fit_back _ (fits_first (fits_both f h)) = fits_first (fits_both f (fits_first h))
   fit_back _ (fits_second (fits_first h)) = fits_second h
   fit_back _ (fits_second (fits_second {y = z} h)) =
       let i = in_node z h in
-      subst (λ (y : ParseTree). Fits (with_rows g rs cs) second (the_change.to_second (Second (Second y)))) (sym i.2)
+      subst (λ (y : ParseTree). Fits (with_rows g rs cs) second (the_change.to_factored (Second (Second y)))) (sym i.2)
       (fits_first (fits_both i.3 (fits_second i.4)))
 
-  again : (y : ParseTree) → Fits (with_rows g rs cs) rule y → the_change.to_written (written cs (the_change.to_second y)) ≡ written cs y
+  again : (y : ParseTree) → Fits (with_rows g rs cs) rule y → the_change.to_written (written cs (the_change.to_factored y)) ≡ written cs y
   again _ (fits_first (fits_both f h)) = refl
   again _ (fits_second (fits_first h)) = refl
   again _ (fits_second (fits_second {y = z} h)) =
       let i = in_node z h in
-      subst (λ (y : ParseTree). the_change.to_written (written cs (the_change.to_second (Second (Second y)))) ≡ written cs (Second (Second y))) (sym i.2)
+      subst (λ (y : ParseTree). the_change.to_written (written cs (the_change.to_factored (Second (Second y)))) ≡ written cs (Second (Second y))) (sym i.2)
       (ap (λ (y : ParseTree). Second (Second (Node k y))) (sym (ck (Both (written cs i.0) (written cs i.1)))))
 
-  pub IsSecond-sides : IsSecond g rs cs rule second the_change
-  IsSecond-sides =
+  pub IsFactored-sides : IsFactored g rs cs rule second the_change
+  IsFactored-sides =
       record { fits = fit; leaves = same; classes = alike; leads = leading; leads_back = leading_back; fits_back = fit_back; back = again }

@@ -26,10 +26,10 @@ abbrev pub described_second : Expr
 described_second =
     Then (optional (Sym description_symbol)) (Either (Sym type_body_symbol) (Sym directive_definition_symbol))
 
-abbrev pub second_rules : List Expr
-second_rules =
+abbrev pub factored_rules : List Expr
+factored_rules =
     with_rule item_symbol item_second
-    (with_rule extension_symbol extension_second (with_rule described_symbol described_second rules))
+    (with_rule extension_symbol extension_second (with_rule described_symbol described_factored rules))
 
 -- `extend scalar a @a`: the parse tree of an accepted extension
 abbrev pub least_extension : ParseTree
@@ -59,19 +59,20 @@ takes c t = matches c t && is_good c t
 unfoldable pub tables : List Row
 tables =
     drop shared_symbols (with_least extension_symbol least_extension
-    (with_least schema_extension_symbol least_schema_extension (solve takes samples 12 (shared.rules ++ second_rules))))
+    (with_least schema_extension_symbol least_schema_extension
+    (solve takes samples 12 (shared.rules ++ factored_rules))))
 
-abbrev pub second_rows : List Row
-second_rows = shared.rows ++ with_tables second_rules tables
+abbrev pub factored_rows : List Row
+factored_rows = shared.rows ++ with_tables factored_rules tables
 
--- how parse trees of the second rules become parse trees of the written ones
+-- how parse trees of the factored rules become parse trees of the written ones
 abbrev pub changes : List Change
 changes =
     replaced item_symbol (out_of_sides described_symbol)
     (replaced extension_symbol out_of_head
     (replaced described_symbol out_of_head (replicate (shared_symbols + length rules) unchanged)))
 
--- ---- why there are second rules
+-- ---- why there are factored rules
 
 -- the written rules, with computed tables
 abbrev pub written_rows : List Row

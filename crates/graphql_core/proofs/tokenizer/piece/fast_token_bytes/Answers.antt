@@ -1,18 +1,18 @@
 use Rattle.std.proofs.Common.{◌≡◌, ◌+◌, sym, ap, ◌∙◌, refl}
 use Rattle.graphql_core.specs.{nesting_of, front, taken}
 use Rattle.graphql_core.specs.declared.tokenizer.token.Kind.TheVariants.{Punctuator, Name}
-use Rattle.graphql_core.specs.declared.tokenizer.piece.Nesting.TheVariants.{Level}
+use Rattle.graphql_core.specs.declared.tokenizer.piece.Nesting.TheVariants.{Unchanged}
 use Rattle.graphql_core.specs.steps.Front.{Takes}
 use Rattle.graphql_core.proofs.{name_front, punctuator_front, token_flat}
-use Rattle.graphql_core.proofs.tokenizer.piece.token_bytes_in_one_load.Goals as goal
+use Rattle.graphql_core.proofs.tokenizer.piece.fast_token_bytes.Goals as goal
 
 pub returns-then-is_name_start : goal.returns-then-is_name_start
 returns-then-is_name_start c =
     let bytes = c.args.bytes.now in
     let len = c.in_ok-len.len in
-    let name : front bytes ≡ Takes (len + 1) Name Level = rw (c.in_ok-byte.ensures.cases.0, c.in_ok-len.ensures.len)
+    let name : front bytes ≡ Takes (len + 1) Name Unchanged = rw (c.in_ok-byte.ensures.cases.0, c.in_ok-len.ensures.len)
     (name_front c.in_ok-byte.byte.now c.in_ok-byte.rest.now (sym c.is_name_start.ensures ∙ c.if-is_name_start.true)) in
-    rw c.no_bracket.ensures (record { is = sym (ap taken name); flat = token_flat bytes (len + 1) Name Level name refl })
+    rw c.no_bracket.ensures (record { is = sym (ap taken name); flat = token_flat bytes (len + 1) Name Unchanged name refl })
 
 pub returns-then-is_punctuator_byte : goal.returns-then-is_punctuator_byte
 returns-then-is_punctuator_byte c =

@@ -1,16 +1,16 @@
--- Trees of the second rules and trees of the written rules correspond one to one.
+-- Trees of the factored rules and trees of the written rules correspond one to one.
 use Rattle.std.proofs.Common.{◌≡◌, ℕ, zero, suc, true, List, [], ◌∷◌, ◌++◌, take, drop, Option, Some, None, refl, sym, ap, ap₂, subst, ◌∙◌, append_assoc}
 use Rattle.std.proofs.lemmas.Bool.{both_ways}
 use Rattle.graphql_core.specs.{Token, Class, Expr, Empty, Then, Either, Sym, ParseTree, Both, First, Second, More, Node, Row, Grammar, row_at, leaves, peek}
 use Rattle.graphql_core.specs.{Derives, Begins, Ends, Fits, fits_nothing, fits_leaf, fits_both, fits_first, fits_second, fits_stop, fits_more, fits_node}
 use Rattle.graphql_core.specs.{with_nodes, decides, is_ll1, has_samples, is_productive, unchecked, lax, IsValue, classes, Change, unchanged, change_at, written}
-use Rattle.graphql_core.specs.{with_rows, IsSecond, AreSecond, EachIsSecond, out_of_head, in_second, out_of_prefix, out_of_symbols, IsExactFor, leads_here}
+use Rattle.graphql_core.specs.{with_rows, IsFactored, AreFactored, EachIsFactored, out_of_head, in_second, out_of_prefix, out_of_symbols, IsExactFor, leads_here}
 use Rattle.graphql_core.specs.{leads_before, leads_after, leads_first, leads_second, leads_node, IsTested, Leads, Ending, InputEnds, InvalidToken, EndsAt}
 use Rattle.graphql_core.specs.{IsWholeFor}
 use Rattle.graphql_core.proofs.grammar.{grammar_exact, value_in, reads_alike, grammar_whole}
 
-pub IsSecond-unchanged : (g : Grammar) (rs : List Row) (cs : List Change) (e : Expr) → IsSecond g rs cs e e unchanged
-IsSecond-unchanged g rs cs e =
+pub IsFactored-unchanged : (g : Grammar) (rs : List Row) (cs : List Change) (e : Expr) → IsFactored g rs cs e e unchanged
+IsFactored-unchanged g rs cs e =
     record {
       fits = λ x h. h;
       leaves = λ x h. refl;
@@ -22,20 +22,20 @@ IsSecond-unchanged g rs cs e =
           h. refl;
     }
 
-second-at : (g : Grammar) (rs : List Row) (cs : List Change) (ws more : List Row) (others : List Change) → AreSecond g rs cs ws more others → (k : ℕ)
-    → IsSecond g rs cs (row_at ws k).rule (row_at more k).rule (change_at others k)
-second-at g rs cs [] [] [] h k = IsSecond-unchanged g rs cs Empty
+second-at : (g : Grammar) (rs : List Row) (cs : List Change) (ws more : List Row) (others : List Change) → AreFactored g rs cs ws more others → (k : ℕ)
+    → IsFactored g rs cs (row_at ws k).rule (row_at more k).rule (change_at others k)
+second-at g rs cs [] [] [] h k = IsFactored-unchanged g rs cs Empty
 second-at g rs cs (w ∷ ws) (r ∷ more) (c ∷ others) h zero = h.0
 second-at g rs cs (w ∷ ws) (r ∷ more) (c ∷ others) h (suc k) = second-at g rs cs ws more others h.1 k
 second-at g rs cs _ _ _ h k = absurd h
 
-pub each_is_second : (g : Grammar) (rs : List Row) (cs : List Change) → AreSecond g rs cs g.rows rs cs → EachIsSecond g rs cs
-each_is_second g rs cs h k = second-at g rs cs g.rows rs cs h k
+pub each_is_factored : (g : Grammar) (rs : List Row) (cs : List Change) → AreFactored g rs cs g.rows rs cs → EachIsFactored g rs cs
+each_is_factored g rs cs h k = second-at g rs cs g.rows rs cs h k
 
 abbrev pub seconds : List Change → ParseTree → ParseTree
-seconds cs = with_nodes (λ k x y. (change_at cs k).to_second y)
+seconds cs = with_nodes (λ k x y. (change_at cs k).to_factored y)
 
-module _ (g : Grammar) (rs : List Row) (cs : List Change) (each : EachIsSecond g rs cs) where
+module _ (g : Grammar) (rs : List Row) (cs : List Change) (each : EachIsFactored g rs cs) where
   pub written-fits : {e : Expr} {x : ParseTree} → Fits (with_rows g rs cs) e x → Fits g e (written cs x)
   written-fits fits_nothing = fits_nothing
   written-fits (fits_leaf h) = fits_leaf h
@@ -88,7 +88,7 @@ module _ (g : Grammar) (rs : List Row) (cs : List Change) (each : EachIsSecond g
   pub classes-second : {e : Expr} {y : ParseTree} → Fits g e y → classes (with_rows g rs cs) e (seconds cs y) ≡ classes g e y
   classes-second {e} h = sym (written-classes (seconds-fits h)) ∙ ap (classes g e) (written-seconds h)
 
-  -- a derivation by the written rules is one by the second rules
+  -- a derivation by the written rules is one by the factored rules
   pub to-second : (e : Expr) (ts : List Token) (y : ParseTree) → Derives g e ts y → Derives (with_rows g rs cs) e ts (seconds cs y)
   to-second e ts y h = (seconds-fits h.0, h.1 ∙ ap leaves (sym (written-seconds h.0)) ∙ written-leaves (seconds-fits h.0))
 
@@ -108,12 +108,12 @@ module _ (g : Grammar) (rs : List Row) (cs : List Change) (each : EachIsSecond g
   ends_at-written e front (u ∷ us) InputEnds h = ends-written e front (Some u) h
 
 -- a token without a value that would continue a list if all values were good
-value-written : (g : Grammar) (rs : List Row) (cs : List Change) → EachIsSecond (lax g) rs cs → (e : Expr) (front us : List Token) (c : Class)
+value-written : (g : Grammar) (rs : List Row) (cs : List Change) → EachIsFactored (lax g) rs cs → (e : Expr) (front us : List Token) (c : Class)
     → IsValue (with_rows g rs cs) e front c us → IsValue g e front c us
 value-written g rs cs each_lax e front us c v = value_in v v.not_good (begins-written (lax g) rs cs each_lax e (front ++ v.token ∷ []) v.begins)
 
-module _ (g : Grammar) (rs : List Row) (cs : List Change) (each : EachIsSecond g rs cs) (each_unchecked : EachIsSecond (unchecked g) rs cs)
-    (each_lax : EachIsSecond (lax g) rs cs) where
+module _ (g : Grammar) (rs : List Row) (cs : List Change) (each : EachIsFactored g rs cs) (each_unchecked : EachIsFactored (unchecked g) rs cs)
+    (each_lax : EachIsFactored (lax g) rs cs) where
   pub exact_for : is_ll1 rs ≡ true → is_productive (with_rows g rs cs) ≡ true → (e : Expr) → decides rs e ≡ true → has_samples (with_rows g rs cs) e ≡ true
       → IsExactFor g rs cs e
   exact_for ok full e d f =
@@ -166,9 +166,9 @@ module _ (g : Grammar) (rs : List Row) (cs : List Change) (each : EachIsSecond g
 
 -- ---- ways to factor
 
-pub IsSecond-head : (g : Grammar) (rs : List Row) (cs : List Change) (d p q : Expr)
-    → IsSecond g rs cs (Either (Then d p) (Then d q)) (Then d (Either p q)) out_of_head
-IsSecond-head g rs cs d p q =
+pub IsFactored-head : (g : Grammar) (rs : List Row) (cs : List Change) (d p q : Expr)
+    → IsFactored g rs cs (Either (Then d p) (Then d q)) (Then d (Either p q)) out_of_head
+IsFactored-head g rs cs d p q =
     record { fits = fit; leaves = same; classes = alike; leads = leading; leads_back = leading_back; fits_back = fit_back; back = again }
   where
     fit : (x : ParseTree) → Fits g (Then d (Either p q)) x → Fits g (Either (Then d p) (Then d q)) (out_of_head.to_written x)
@@ -203,21 +203,21 @@ IsSecond-head g rs cs d p q =
     leading_back ts v w (leads_second (leads_after f l)) = leads_after f (leads_second l)
 
     fit_back : (y : ParseTree) → Fits (with_rows g rs cs) (Either (Then d p) (Then d q)) y
-        → Fits (with_rows g rs cs) (Then d (Either p q)) (out_of_head.to_second y)
+        → Fits (with_rows g rs cs) (Then d (Either p q)) (out_of_head.to_factored y)
     fit_back _ (fits_first (fits_both h x)) = fits_both h (fits_first x)
     fit_back _ (fits_second (fits_both h y)) = fits_both h (fits_second y)
 
     again : (y : ParseTree) → Fits (with_rows g rs cs) (Either (Then d p) (Then d q)) y
-        → out_of_head.to_written (written cs (out_of_head.to_second y)) ≡ written cs y
+        → out_of_head.to_written (written cs (out_of_head.to_factored y)) ≡ written cs y
     again _ (fits_first (fits_both h x)) = refl
     again _ (fits_second (fits_both h y)) = refl
 
-pub IsSecond-symbols : (g : Grammar) (rs : List Row) (cs : List Change) (j k : ℕ) (d p q : Expr)
+pub IsFactored-symbols : (g : Grammar) (rs : List Row) (cs : List Change) (j k : ℕ) (d p q : Expr)
     → (row_at g.rows j).rule ≡ Then d p → (row_at rs j).rule ≡ Then d p → (row_at g.rows k).rule ≡ Then d q → (row_at rs k).rule ≡ Then d q
     → ((x : ParseTree) → (change_at cs j).to_written x ≡ x) → ((x : ParseTree) → (change_at cs k).to_written x ≡ x) → ((x : ParseTree) → g.check j x ≡ true)
     → ((x : ParseTree) → g.check k x ≡ true)
-    → IsSecond g rs cs (Either (Sym j) (Sym k)) (Then d (Either p q)) (out_of_symbols j k)
-IsSecond-symbols g rs cs j k d p q wj sj wk sk uj uk passj passk =
+    → IsFactored g rs cs (Either (Sym j) (Sym k)) (Then d (Either p q)) (out_of_symbols j k)
+IsFactored-symbols g rs cs j k d p q wj sj wk sk uj uk passj passk =
     record { fits = fit; leaves = same; classes = alike; leads = leading; leads_back = leading_back; fits_back = fit_back; back = again }
   where
     fit : (x : ParseTree) → Fits g (Then d (Either p q)) x → Fits g (Either (Sym j) (Sym k)) ((out_of_symbols j k).to_written x)
@@ -276,30 +276,30 @@ IsSecond-symbols g rs cs j k d p q wj sj wk sk uj uk passj passk =
         go _ (fits_both {x = a} {y = b} f f') = (a, b, refl, f, f')
 
     fit_back : (y : ParseTree) → Fits (with_rows g rs cs) (Either (Sym j) (Sym k)) y
-        → Fits (with_rows g rs cs) (Then d (Either p q)) ((out_of_symbols j k).to_second y)
+        → Fits (with_rows g rs cs) (Then d (Either p q)) ((out_of_symbols j k).to_factored y)
     fit_back _ (fits_first {x = z} h) =
         let i = in_node j p sj z h in
-        subst (λ (y : ParseTree). Fits (with_rows g rs cs) (Then d (Either p q)) ((out_of_symbols j k).to_second (First y))) (sym i.2)
+        subst (λ (y : ParseTree). Fits (with_rows g rs cs) (Then d (Either p q)) ((out_of_symbols j k).to_factored (First y))) (sym i.2)
         (fits_both i.3 (fits_first i.4))
     fit_back _ (fits_second {y = z} h) =
         let i = in_node k q sk z h in
-        subst (λ (y : ParseTree). Fits (with_rows g rs cs) (Then d (Either p q)) ((out_of_symbols j k).to_second (Second y))) (sym i.2)
+        subst (λ (y : ParseTree). Fits (with_rows g rs cs) (Then d (Either p q)) ((out_of_symbols j k).to_factored (Second y))) (sym i.2)
         (fits_both i.3 (fits_second i.4))
 
     again : (y : ParseTree) → Fits (with_rows g rs cs) (Either (Sym j) (Sym k)) y
-        → (out_of_symbols j k).to_written (written cs ((out_of_symbols j k).to_second y)) ≡ written cs y
+        → (out_of_symbols j k).to_written (written cs ((out_of_symbols j k).to_factored y)) ≡ written cs y
     again _ (fits_first {x = z} h) =
         let i = in_node j p sj z h in
-        subst (λ (y : ParseTree). (out_of_symbols j k).to_written (written cs ((out_of_symbols j k).to_second (First y))) ≡ written cs (First y)) (sym i.2)
+        subst (λ (y : ParseTree). (out_of_symbols j k).to_written (written cs ((out_of_symbols j k).to_factored (First y))) ≡ written cs (First y)) (sym i.2)
         (ap (λ (y : ParseTree). First (Node j y)) (sym (uj (Both (written cs i.0) (written cs i.1)))))
     again _ (fits_second {y = z} h) =
         let i = in_node k q sk z h in
-        subst (λ (y : ParseTree). (out_of_symbols j k).to_written (written cs ((out_of_symbols j k).to_second (Second y))) ≡ written cs (Second y)) (sym i.2)
+        subst (λ (y : ParseTree). (out_of_symbols j k).to_written (written cs ((out_of_symbols j k).to_factored (Second y))) ≡ written cs (Second y)) (sym i.2)
         (ap (λ (y : ParseTree). Second (Node k y)) (sym (uk (Both (written cs i.0) (written cs i.1)))))
 
-pub IsSecond-second : (g : Grammar) (rs : List Row) (cs : List Change) (a e q : Expr) (c : Change) → IsSecond g rs cs e q c
-    → IsSecond g rs cs (Either a e) (Either a q) (in_second c)
-IsSecond-second g rs cs a e q c i =
+pub IsFactored-second : (g : Grammar) (rs : List Row) (cs : List Change) (a e q : Expr) (c : Change) → IsFactored g rs cs e q c
+    → IsFactored g rs cs (Either a e) (Either a q) (in_second c)
+IsFactored-second g rs cs a e q c i =
     record { fits = fit; leaves = same; classes = alike; leads = leading; leads_back = leading_back; fits_back = fit_back; back = again }
   where
     fit : (x : ParseTree) → Fits g (Either a q) x → Fits g (Either a e) ((in_second c).to_written x)
@@ -325,18 +325,18 @@ IsSecond-second g rs cs a e q c i =
     leading_back ts v w (leads_first l) = leads_first l
     leading_back ts v w (leads_second l) = leads_second (i.leads_back ts v w l)
 
-    fit_back : (y : ParseTree) → Fits (with_rows g rs cs) (Either a e) y → Fits (with_rows g rs cs) (Either a q) ((in_second c).to_second y)
+    fit_back : (y : ParseTree) → Fits (with_rows g rs cs) (Either a e) y → Fits (with_rows g rs cs) (Either a q) ((in_second c).to_factored y)
     fit_back _ (fits_first h) = fits_first h
     fit_back _ (fits_second {y = y} h) = fits_second (i.fits_back y h)
 
-    again : (y : ParseTree) → Fits (with_rows g rs cs) (Either a e) y → (in_second c).to_written (written cs ((in_second c).to_second y)) ≡ written cs y
+    again : (y : ParseTree) → Fits (with_rows g rs cs) (Either a e) y → (in_second c).to_written (written cs ((in_second c).to_factored y)) ≡ written cs y
     again _ (fits_first h) = refl
     again _ (fits_second {y = y} h) = ap Second (i.back y h)
 
-pub IsSecond-prefix : (g : Grammar) (rs : List Row) (cs : List Change) (k : ℕ) (n c r : Expr) → (row_at g.rows k).rule ≡ Then n c
+pub IsFactored-prefix : (g : Grammar) (rs : List Row) (cs : List Change) (k : ℕ) (n c r : Expr) → (row_at g.rows k).rule ≡ Then n c
     → (row_at rs k).rule ≡ Then n c → ((x : ParseTree) → (change_at cs k).to_written x ≡ x) → ((x : ParseTree) → g.check k x ≡ true)
-    → IsSecond g rs cs (Then (Either (Sym k) Empty) (Then n r)) (Then n (Then (Either (Then c n) Empty) r)) (out_of_prefix k)
-IsSecond-prefix g rs cs k n c r w s u pass =
+    → IsFactored g rs cs (Then (Either (Sym k) Empty) (Then n r)) (Then n (Then (Either (Then c n) Empty) r)) (out_of_prefix k)
+IsFactored-prefix g rs cs k n c r w s u pass =
     record { fits = fit; leaves = same; classes = alike; leads = leading; leads_back = leading_back; fits_back = fit_back; back = again }
   where
     fit : (x : ParseTree) → Fits g (Then n (Then (Either (Then c n) Empty) r)) x
@@ -427,19 +427,19 @@ IsSecond-prefix g rs cs k n c r w s u pass =
         go _ (fits_both {x = a} {y = b} p q) = (a, b, refl, p, q)
 
     fit_back : (y : ParseTree) → Fits (with_rows g rs cs) (Then (Either (Sym k) Empty) (Then n r)) y
-        → Fits (with_rows g rs cs) (Then n (Then (Either (Then c n) Empty) r)) ((out_of_prefix k).to_second y)
+        → Fits (with_rows g rs cs) (Then n (Then (Either (Then c n) Empty) r)) ((out_of_prefix k).to_factored y)
     fit_back _ (fits_both (fits_first {x = z} h) (fits_both {x = m'} {y = d} m t)) =
         let i = in_node z h in
         subst (λ (y : ParseTree). Fits (with_rows g rs cs) (Then n (Then (Either (Then c n) Empty) r))
-        ((out_of_prefix k).to_second (Both (First y) (Both m' d)))) (sym i.2)
+        ((out_of_prefix k).to_factored (Both (First y) (Both m' d)))) (sym i.2)
         (fits_both i.3 (fits_both (fits_first (fits_both i.4 m)) t))
     fit_back _ (fits_both (fits_second z) (fits_both m t)) = fits_both m (fits_both (fits_second z) t)
 
     again : (y : ParseTree) → Fits (with_rows g rs cs) (Then (Either (Sym k) Empty) (Then n r)) y
-        → (out_of_prefix k).to_written (written cs ((out_of_prefix k).to_second y)) ≡ written cs y
+        → (out_of_prefix k).to_written (written cs ((out_of_prefix k).to_factored y)) ≡ written cs y
     again _ (fits_both (fits_first {x = z} h) (fits_both {x = m'} {y = d} m t)) =
         let i = in_node z h in
-        subst (λ (y : ParseTree). (out_of_prefix k).to_written (written cs ((out_of_prefix k).to_second (Both (First y) (Both m' d)))) ≡ written cs
+        subst (λ (y : ParseTree). (out_of_prefix k).to_written (written cs ((out_of_prefix k).to_factored (Both (First y) (Both m' d)))) ≡ written cs
         (Both (First y) (Both m' d))) (sym i.2)
         (ap (λ (y : ParseTree). Both (First (Node k y)) (Both (written cs m') (written cs d))) (sym (u (Both (written cs i.0) (written cs i.1)))))
     again _ (fits_both (fits_second z) (fits_both m t)) = refl

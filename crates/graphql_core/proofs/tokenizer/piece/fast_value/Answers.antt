@@ -1,7 +1,7 @@
 use Rattle.std.proofs.Common.{◌≡◌, sym, ◌∙◌}
 use Rattle.graphql_core.specs.{front, number}
 use Rattle.graphql_core.proofs.{string_begins, number_begins, number_is, number_flat}
-use Rattle.graphql_core.proofs.tokenizer.piece.value_in_one_load.Goals as goal
+use Rattle.graphql_core.proofs.tokenizer.piece.fast_value.Goals as goal
 
 pub returns-then-byte-eq34-clause-is : goal.returns-then-byte-eq34-clause-is
 returns-then-byte-eq34-clause-is c =
