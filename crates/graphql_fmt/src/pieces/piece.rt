@@ -24,7 +24,7 @@ pub struct Piece<'a> {
     pub after_blank: bool,
     /// Whether it begins a line, after a space or a tab.
     pub after_indent: bool,
-    /// The spelling of a token. A comment from its `#` on, without white space at its end.
+    /// The spelling of a token. A comment from its `#` on, without ASCII white space at its end.
     pub text: &'a str,
 }
 

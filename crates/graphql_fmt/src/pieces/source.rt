@@ -12,7 +12,7 @@ use graphql_core::format::print::has_block_lines;
 use graphql_core::tokenizer::{Element, ElementKind, Kind, first_element};
 use std::alloc::{AllocError, Global};
 
-/// A comment without the white space and the line end at its end.
+/// A comment without the ASCII white space at its end.
 fn trimmed(comment: &str) -> &str
     ensures { result.now ≡ trimmed comment.now }
 {
