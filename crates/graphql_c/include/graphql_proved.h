@@ -14,9 +14,10 @@
  *  - No call is made from a signal handler, or in the forked child of a process with threads.
  *
  * What a call takes:
- *  - 64 KB of stack are enough.
+ *  - Reserve 64 KB of stack. No tool of the library measures the stack.
  *  - Its time and memory grow about in proportion to the input and the output.
- *  - Brackets nest up to 50 deep, so an output can be about fifty times as long as its input with an `indent` of 2.
+ *  - With an `indent` of 2, an output can be about 76 times as long as its input, and with `multiline` about 100 times,
+ *    since brackets nest up to 50 deep.
  *  - JSON can be about 120 times as long as its input.
  *  - `indent` has no limit: `{a}` takes 4 GB with an `indent` of UINT32_MAX. A program that lets others choose `indent`
  *    must limit it.
@@ -73,7 +74,7 @@ enum graphql_proved_status {
 /* The result of a call. A field that is not named for a status is 0. */
 typedef struct graphql_proved_result {
     /* An `enum graphql_proved_status`. Its type is uint32_t, since compilers differ in the size of an enum, and an enum
-     * of C++ cannot have the numbers of later versions. */
+     * of C++ cannot have every number of a later version. */
     uint32_t status;
 
     /* With GRAPHQL_PROVED_OK, the length of the output, which is at the beginning of the buffer. With
@@ -151,7 +152,8 @@ graphql_proved_result graphql_proved_schema_to_json_nonnull(const uint8_t *text,
     size_t capacity);
 
 /* Formats a query document, with `indent` spaces for each level. `multiline`, which is 0 or 1, writes each argument,
- * list item and object field on its own line. With a capacity of 0 it returns the length of the output. */
+ * list item and object field on its own line. Comments are dropped: no function of this library keeps them. With a
+ * capacity of 0 it returns the length of the output. */
 static inline graphql_proved_result graphql_proved_format_query(const uint8_t *text, size_t length, uint32_t indent,
     bool multiline, uint8_t *out, size_t capacity) {
     uint8_t none = 0;
@@ -159,7 +161,7 @@ static inline graphql_proved_result graphql_proved_format_query(const uint8_t *t
         capacity > 0 ? out : &none, capacity);
 }
 
-/* Formats a schema document, in the same way. */
+/* Formats a schema document, in the same way, without its comments. */
 static inline graphql_proved_result graphql_proved_format_schema(const uint8_t *text, size_t length, uint32_t indent,
     bool multiline, uint8_t *out, size_t capacity) {
     uint8_t none = 0;
