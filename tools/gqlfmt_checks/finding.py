@@ -76,6 +76,21 @@ def deep_folders():
 
 
 @test
+def long_paths():
+    """A folder whose path is too long for Linux is an error, and the other files are formatted."""
+    name, start = "d" * 255, os.getcwd()
+    for _ in range(17):
+        os.mkdir(name)
+        os.chdir(name)
+    os.chdir(start)
+    new(f"{name}/a.graphql")
+    status, out, err = gqlfmt("--write", name)
+    message = f"{'/'.join([name] * 16)}: cannot be read: File name too long (os error 36)"
+    expect("its message", (status, out, err.splitlines()[0]), (2, b"", message))
+    expect("the other file", read(f"{name}/a.graphql"), FORMATTED)
+
+
+@test
 def other_kinds_of_files():
     os.mkfifo("fifo")
     rejected = (2, b"", "fifo: cannot be rewritten: not a regular file\n")
