@@ -35,6 +35,23 @@ def format_options():
 
 
 @test
+def ranges_of_numbers():
+    """docs/GQLFMT.md has the least and the greatest number of each option, and the default."""
+    found = re.findall(r"(?m)^\| `--(\w+) N` \|.*: (\d+) to (\d+), (\d+) by default", text_of("docs/GQLFMT.md"))
+    expect("options with a number", [name for name, *_ in found], ["indent", "width"])
+    # A line of 80 columns with the indentation, and one of 81.
+    text = b"{a(" + b"b" * 72 + b":1)c(" + b"d" * 73 + b":1)}\n"
+    plain = gqlfmt(text=text)
+    for name, least, most, standard in found:
+        expect(f"--{name} {standard}", gqlfmt(f"--{name}", standard, text=text), plain)
+        expect(f"--{name}={standard}", gqlfmt(f"--{name}={standard}", text=text), plain)
+        others = [str(int(standard) - 1), str(int(standard) + 1)]
+        expect(f"--{name} {others}", [gqlfmt(f"--{name}", it, text=text) != plain for it in others], [True, True])
+        statuses = [gqlfmt(f"--{name}", it, text=text)[0] for it in (least, most, str(int(most) + 1))]
+        expect(f"--{name}: from {least} to {most}", (int(least), statuses), (0, [0, 0, 2]))
+
+
+@test
 def invalid_arguments():
     new("a.graphql")
     wrong = [
@@ -60,7 +77,7 @@ def invalid_arguments():
 
 @test
 def manual_page_and_completions():
-    """Each has the options of the help, and no others."""
+    """Each has the options of the help, and no others. So has docs/GQLFMT.md."""
     shown = gqlfmt("--help")[1].decode()
     options = set(re.findall(r"(?m)^ +(?:-\w, )?--([\w-]+)", shown))
     expect("the number of options", len(options) >= 9)
@@ -69,6 +86,7 @@ def manual_page_and_completions():
         "gqlfmt.bash": re.search(r"options='(.*)'", text_of("packaging/gqlfmt.bash"))[1].replace("--", "").split(),
         "gqlfmt.fish": re.findall(r" -l (\S+)", text_of("packaging/gqlfmt.fish")),
         "_gqlfmt": re.findall(r"--([\w-]+)\[", text_of("packaging/_gqlfmt")),
+        "GQLFMT.md": re.findall(r"(?m)^\| (?:`-\w`, )?`--([\w-]+)", text_of("docs/GQLFMT.md")),
     }
     for name, listed in found.items():
         expect(name, {option.replace("\\", "") for option in listed}, options)
