@@ -89,11 +89,12 @@ def hook():
     expect("a link, a removal and another kind of file", repository.commit(), (0, ""))
     os.remove("link.graphql")
     repository.stage({"link.graphql": SHORT})
-    said = "link.graphql\nNot committed: gqlfmt --write formats files.\n"
-    expect("a file in place of a link", repository.commit(), (1, said))
+    last = "Not committed: see above. gqlfmt --write formats each valid file."
+    expect("a file in place of a link", repository.commit(), (1, f"link.graphql\n{last}\n"))
     repository.stage({"link.graphql": BROKEN})
     status, said = repository.commit()
-    expect("a file that is rejected", (status, said.splitlines()[0]), (1, "link.graphql:2:1: Unexpected end of input"))
+    wanted = (1, "link.graphql:2:1: Unexpected end of input", last)
+    expect("a file that is rejected", (status, *said.splitlines()[::len(said.splitlines()) - 1]), wanted)
     alone = other(".git/hooks/pre-commit", env={**repository.env, "GIT_DIR": "/nowhere"})
     expect("git fails", alone.returncode != 0)
 

@@ -102,5 +102,8 @@ def other_kinds_of_files():
     new("a.graphql", b"{a \xff}\n")
     for task in ("--check", "--write", "--diff"):
         expect(f"{task}, not UTF-8", gqlfmt(task, "a.graphql"), (2, b"", "a.graphql: is not UTF-8\n"))
-    new("empty.graphql", b"")
-    expect("an empty file", gqlfmt("--write", "empty.graphql")[0], 1)
+    for name, text, place in (("empty.graphql", b"", "1:1"), ("comments.graphql", b"# c\n", "2:1")):
+        new(name, text)
+        status, out, err = gqlfmt("--write", name)
+        wanted = (1, b"", f"{name}:{place}: Unexpected end of input")
+        expect(f"{name}: no definition", (status, out, err.splitlines()[0]), wanted)
