@@ -94,7 +94,8 @@ def documents(version, source, layout):
     """The pages, the examples, and what was proved."""
     folder = f"{layout.prefix}share/doc/{names.DEBIAN}"
     tree = {f"{folder}/PROVED": File(proof(version, source).encode())}
-    pages = [names.TOP / "README.md", names.TOP / "CHANGELOG.md", *sorted((names.TOP / "docs").glob("*.md"))]
+    heads = [names.TOP / f"{name}.md" for name in ("README", "CHANGELOG", "CONTRIBUTING")]
+    pages = [*heads, *sorted((names.TOP / "docs").glob("*.md"))]
     examples = [*sorted((names.TOP / "examples/c").glob("*.c")), *sorted((names.TOP / "examples/python").glob("*.py"))]
     for path in [*pages, *examples]:
         tree[f"{folder}/{path.relative_to(names.TOP)}"] = file_of(path)
