@@ -1,5 +1,5 @@
 -- Levels and brackets of the parts of values, arguments and directives.
-use Rattle.std.specs.Prelude.{ℕ, ◌×◌, List}
+use Rattle.std.specs.Prelude.{ℕ, List}
 use Rattle.graphql_core.specs.values.{ValueItems, ValueMembers, ValueTree, DirectiveTree, items_depth, members_depth}
 use Rattle.graphql_core.specs.values.{argument_depth, arguments_depth, directives_depth, in_brackets, most}
 use Rattle.graphql_core.specs.layouts.{Layout, in_levels}

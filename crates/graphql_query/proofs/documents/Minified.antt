@@ -1,5 +1,5 @@
 -- What the minifier returns.
-use Rattle.std.proofs.Common.{◌≡◌, ◌≤◌, ℕ, List, length, String, Result, IsErrAnd, subst}
+use Rattle.std.proofs.Common.{◌≡◌, ◌≤◌, ℕ, List, length, String, string_bytes, Result, IsErrAnd, subst}
 use Rattle.graphql_core.specs.{IsBadPlaceOf, Item, HasItems, FaultText, split, IsEnd, IsMinified, max_length, LastIsError, Refusal, AnswersUnlessMemory}
 use Rattle.graphql_core.proofs.{by_fault, only_memory, as_error, has_items}
 use Rattle.std.specs.Global.{Global}

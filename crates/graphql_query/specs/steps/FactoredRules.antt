@@ -9,16 +9,16 @@ use Rattle.graphql_query.specs.Grammar.{inline_fragment_symbol, field_rest, frag
 use Rattle.graphql_query.specs.Grammar.{rules, samples, query}
 
 -- a field, or "..." and then the rest of a spread or of an inline fragment
-abbrev pub selection_second : Expr
-selection_second =
+abbrev pub selection_factored : Expr
+selection_factored =
     Either (Sym field_symbol) (Then (punctuator (codes "...")) (Either fragment_spread_rest inline_fragment_rest))
 
 -- a name, optionally a colon and another name, and the rest of a field
-abbrev pub field_second : Expr
-field_second = Then name (Then (optional (Then (punctuator (codes ":")) name)) field_rest)
+abbrev pub field_factored : Expr
+field_factored = Then name (Then (optional (Then (punctuator (codes ":")) name)) field_rest)
 
 abbrev pub factored_rules : List Expr
-factored_rules = with_rule selection_symbol selection_second (with_rule field_symbol field_factored rules)
+factored_rules = with_rule selection_symbol selection_factored (with_rule field_symbol field_factored rules)
 
 unfoldable pub tables : List Row
 tables = drop shared_symbols (solve matches samples 9 (shared.rules ++ factored_rules))

@@ -12,24 +12,24 @@ use Rattle.graphql_schema.specs.Grammar.{description_symbol, type_body_symbol, s
 use Rattle.graphql_schema.specs.Grammar.{directive_definition_symbol, schema_extension_symbol, is_good, rules, samples}
 
 -- an optional description and then a schema, a type or a directive definition; or an extension
-abbrev pub item_second : Expr
-item_second =
+abbrev pub item_factored : Expr
+item_factored =
     Either (Then (optional (Sym description_symbol)) (Either (Sym schema_symbol)
     (Either (Sym type_body_symbol) (Sym directive_definition_symbol)))) (Sym extension_symbol)
 
 -- `extend`, and then a type or an extension of the schema
-abbrev pub extension_second : Expr
-extension_second = Then (word (codes "extend")) (Either (Sym type_body_symbol) (Sym schema_extension_symbol))
+abbrev pub extension_factored : Expr
+extension_factored = Then (word (codes "extend")) (Either (Sym type_body_symbol) (Sym schema_extension_symbol))
 
 -- an optional description, and then a type or a directive definition
-abbrev pub described_second : Expr
-described_second =
+abbrev pub described_factored : Expr
+described_factored =
     Then (optional (Sym description_symbol)) (Either (Sym type_body_symbol) (Sym directive_definition_symbol))
 
 abbrev pub factored_rules : List Expr
 factored_rules =
-    with_rule item_symbol item_second
-    (with_rule extension_symbol extension_second (with_rule described_symbol described_factored rules))
+    with_rule item_symbol item_factored
+    (with_rule extension_symbol extension_factored (with_rule described_symbol described_factored rules))
 
 -- `extend scalar a @a`: the parse tree of an accepted extension
 abbrev pub least_extension : ParseTree

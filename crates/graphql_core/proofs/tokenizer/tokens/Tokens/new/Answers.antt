@@ -13,5 +13,5 @@ returns-clause-only c others h =
     let e = rw zero-add at (c.skip_ignored.ensures.skips.0 start refl) in
     items_only c.args.source.now others h ∙ sym e
 
-pub returns-clause-level : goal.returns-clause-level
-returns-clause-level c = ap depth_of (next_place_items _ _ c.skip_ignored.ensures.first)
+pub returns-clause-none_open : goal.returns-clause-none_open
+returns-clause-none_open c = ap depth_of (next_place_items _ _ c.skip_ignored.ensures.first)
