@@ -1,8 +1,9 @@
 //! The result of a call, and what the call writes into the caller's buffer.
 ghost use Rattle.std.specs.Prelude.{◌≡◌, length, string_bytes, nat_le, MatchResult};
-ghost use Rattle.graphql_c.specs.{put, Writes, Finds, IsResultOf};
+ghost use Rattle.graphql_c.specs.{put, for_output, Writes, Finds, IsResultOf};
 
 use crate::failure::Failure;
+use crate::status::Status;
 
 /// The result of a call. A length or an offset that the call does not return is 0.
 #[repr(C)]
@@ -36,18 +37,28 @@ pub fn put(out: &mut [u8], text: &str) -> bool
     true
 }
 
-/// The result for an output, which is written if it fits.
-fn written(out: &mut [u8], output: &str) -> CallResult
-    ensures { Writes (λ text. text ≡ output.now) out.old out.new result }
+/// The result for an output of this length.
+fn for_output(status: u32, length: usize) -> CallResult
+    ensures { result ≡ for_output status length }
 {
-    let status = if put(out, output) { 0 } else { 16 };
     CallResult {
         status,
-        output_length: output.len(),
+        output_length: length,
         message_length: 0,
         offset: 0,
         line: 0,
         column: 0,
+    }
+}
+
+/// The result for an output, which is written if it fits.
+fn written(out: &mut [u8], output: &str) -> CallResult
+    ensures { Writes (λ text. text ≡ output.now) out.old out.new result }
+{
+    if put(out, output) {
+        for_output(Status::Ok as u32, output.len())
+    } else {
+        for_output(Status::BufferTooShort as u32, output.len())
     }
 }
 
@@ -90,7 +101,7 @@ pub fn of_offset(out: &mut [u8], found: Result<usize, Failure>) -> CallResult
 {
     match found {
         Ok(offset) => CallResult {
-            status: 0,
+            status: Status::Ok as u32,
             output_length: 0,
             message_length: 0,
             offset,

@@ -3,6 +3,7 @@ ghost use Rattle.std.specs.Prelude.{◌≡◌, None, option_map};
 ghost use Rattle.graphql_core.specs.{cause_text, place_of, out_of_memory};
 ghost use Rattle.graphql_c.specs.{status_of, status_not_utf8, layout_status, HasNumbers};
 
+use crate::status::Status;
 use graphql_core::common::Cause;
 use graphql_core::format::FormatError;
 use graphql_core::position::Pos;
@@ -27,19 +28,19 @@ fn status_of(cause: &Cause) -> u32
     ensures { result ≡ status_of (cause_text cause.now) }
 {
     match cause {
-        Cause::BadToken(_) => 1,
-        Cause::UnexpectedToken { .. } => 2,
-        Cause::UnexpectedEnd => 3,
-        Cause::TooDeep => 4,
-        Cause::IntOutOfRange => 5,
-        Cause::MalformedFloat => 6,
-        Cause::BadEscape => 7,
-        Cause::UnknownLocation => 8,
-        Cause::DuplicateOperation(_) => 9,
-        Cause::UnknownOperation(_) => 10,
-        Cause::EmptyExtension => 11,
-        Cause::TextTooLong => 12,
-        Cause::OutOfMemory => 13,
+        Cause::BadToken(_) => Status::BadToken as u32,
+        Cause::UnexpectedToken { .. } => Status::UnexpectedToken as u32,
+        Cause::UnexpectedEnd => Status::UnexpectedEnd as u32,
+        Cause::TooDeep => Status::TooDeep as u32,
+        Cause::IntOutOfRange => Status::IntOutOfRange as u32,
+        Cause::MalformedFloat => Status::MalformedFloat as u32,
+        Cause::BadEscape => Status::BadEscape as u32,
+        Cause::UnknownLocation => Status::UnknownLocation as u32,
+        Cause::DuplicateOperation(_) => Status::DuplicateOperation as u32,
+        Cause::UnknownOperation(_) => Status::UnknownOperation as u32,
+        Cause::EmptyExtension => Status::EmptyExtension as u32,
+        Cause::TextTooLong => Status::TextTooLong as u32,
+        Cause::OutOfMemory => Status::OutOfMemory as u32,
     }
 }
 
@@ -85,8 +86,8 @@ impl Failure {
         ensures { HasNumbers (layout_status error.now) None result }
     {
         let status = match error {
-            FormatError::TooWide => 14,
-            FormatError::OutOfMemory => 13,
+            FormatError::TooWide => Status::TooWide as u32,
+            FormatError::OutOfMemory => Status::OutOfMemory as u32,
         };
         Failure::nowhere(alloc, status, error)
     }
@@ -95,13 +96,13 @@ impl Failure {
     pub fn not_utf8(alloc: Global) -> Failure
         ensures { HasNumbers status_not_utf8 None result }
     {
-        Failure::nowhere(alloc, 15, &"text is not UTF-8")
+        Failure::nowhere(alloc, Status::NotUtf8 as u32, &"text is not UTF-8")
     }
 
     /// The failure of an allocation.
     pub fn out_of_memory(alloc: Global) -> Failure
         ensures { HasNumbers (status_of out_of_memory) None result }
     {
-        Failure::nowhere(alloc, 13, &"out of memory")
+        Failure::nowhere(alloc, Status::OutOfMemory as u32, &"out of memory")
     }
 }

@@ -16,6 +16,7 @@ mod call_result;
 mod calls;
 mod failure;
 mod names;
+mod status;
 
 pub use call_result::CallResult;
 use call_result::{of_offset, of_output};
