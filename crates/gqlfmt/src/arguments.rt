@@ -13,6 +13,8 @@ static LANGUAGES: [&str; 2] = ["query", "schema"];
 
 /// The last lines of the help.
 const AFTER_HELP: &str = "\
+Without --check, --write or --diff, the formatted texts go to standard output.
+
 A folder stands for the files below it whose names end in .graphql, .graphqls or .gql.
 Hidden files, hidden folders and symbolic links in a folder are left alone.
 

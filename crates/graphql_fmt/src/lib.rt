@@ -16,3 +16,6 @@ pub use error::FormatSourceError;
 pub use format::{format_source, language_of};
 pub use laws::kept_tokens_have_one_document;
 pub use options::{FormatOptions, Language};
+
+#[cfg(test)]
+mod tests;

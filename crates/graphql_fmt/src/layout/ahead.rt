@@ -29,7 +29,15 @@ fn can_begin_line(within: Enclosure, before: Symbol, role: Role) -> bool {
     }
 }
 
+/// Whether the first token of these pieces continues locations.
+fn is_of_locations(context: Context, pieces: &[Piece<'_>]) -> bool {
+    matches!(next_role(context, pieces), Role::Spaced | Role::Member)
+}
+
 /// Whether the pieces after a token fit in its line, up to where the line can end. The token ends at `column`.
+///
+/// The line can end before the first location of a directive only if the locations cannot be in one line: if a leading
+/// `|` or a comment is among them, or if they do not fit behind a closing bracket either.
 pub fn fits(
     context: Context,
     before: Symbol,
@@ -41,19 +49,29 @@ pub fn fits(
     let outer = context.within;
     let mut depth = 0usize;
     let mut before = before;
+    let start = column;
     let mut column = column;
+    let mut in_locations = false;
+    let mut count = 0usize;
     'pieces: for piece in pieces {
         let symbol = symbol_of(piece);
+        if symbol == Symbol::Comment {
+            let rest = pieces.get(count..).unwrap_or(&[]);
+            return column <= width || is_of_locations(context, rest);
+        }
+        count = count.saturating_add(1);
+        in_locations |= context.begins_locations() && symbol == Symbol::Name;
         let within = context.within;
         let role = context.read(symbol, piece);
-        if symbol == Symbol::Comment || can_begin_line(within, before, role) {
-            return true;
+        let is_location = in_locations && role == Role::Member;
+        if can_begin_line(within, before, role) && !is_location {
+            return column <= width;
         }
         column = column
             .saturating_add(inline_gap(before, role, symbol).width())
             .saturating_add(columns(symbol, piece));
-        if column > width {
-            return false;
+        if column > width && (!in_locations || column.saturating_sub(start) >= width) {
+            return in_locations;
         }
         if has_lines(symbol, piece) {
             return true;
@@ -68,5 +86,5 @@ pub fn fits(
         }
         before = symbol;
     }
-    true
+    column <= width
 }

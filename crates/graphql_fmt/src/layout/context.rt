@@ -90,6 +90,11 @@ impl Context {
         }
     }
 
+    /// Whether the next token can be the first location of a directive that is defined.
+    pub fn begins_locations(&self) -> bool {
+        self.next_name == NextName::Location
+    }
+
     /// Whether a definition of a query document begins with the next token.
     fn begins_operation(&self) -> bool {
         self.language == Language::Query

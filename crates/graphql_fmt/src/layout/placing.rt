@@ -28,8 +28,12 @@ pub struct Placer {
     role_after_comments: Option<Role>,
     /// Whether the last piece is a comment on a separate line before an item.
     follows_item_comment: bool,
+    /// Whether the last piece is a comment after an opening bracket, in its line.
+    follows_opener_comment: bool,
     /// Whether a comment that comes next can belong to the definition before it.
     can_end_definition: bool,
+    /// The indentation in the input of the last definition.
+    definition_indent: usize,
 }
 
 impl Placer {
@@ -49,7 +53,9 @@ impl Placer {
             before: Symbol::Comment,
             role_after_comments: None,
             follows_item_comment: false,
+            follows_opener_comment: false,
             can_end_definition: false,
+            definition_indent: 0,
         })
     }
 
@@ -69,7 +75,7 @@ impl Placer {
 
     /// Whether an empty line comes before a line that begins with a piece at the place of an item or at the end.
     fn is_blank_before(&self, piece: &Piece<'_>) -> bool {
-        piece.after_blank && !self.before.is_opener()
+        piece.after_blank && !self.before.is_opener() && !self.follows_opener_comment
     }
 
     /// Whether an empty line comes before a line that begins with an item, or with a comment before an item.
@@ -123,6 +129,7 @@ impl Placer {
         self.before = symbol;
         self.role_after_comments = None;
         self.follows_item_comment = false;
+        self.follows_opener_comment = false;
         Ok(())
     }
 
@@ -156,7 +163,7 @@ impl Placer {
         self.can_end_definition
             && self.frames.is_document()
             && matches!(role, Role::Item | Role::End)
-            && piece.after_indent
+            && piece.indent > self.definition_indent
             && self.options.indent > 0
     }
 
@@ -184,6 +191,7 @@ impl Placer {
             Gap::Space
         };
         self.place_gap(gap)?;
+        self.follows_opener_comment = self.before.is_opener() && !piece.begins_line;
         self.before = Symbol::Comment;
         Ok(())
     }
@@ -196,6 +204,9 @@ impl Placer {
             return Ok(0);
         }
         let role = self.reader.read(symbol, piece)?;
+        if role == Role::Item && self.frames.is_document() {
+            self.definition_indent = piece.indent;
+        }
         if role == Role::Directive && !self.frames.is_item_broken() {
             return self.place_directives(piece, rest);
         }

@@ -22,8 +22,8 @@ pub struct Piece<'a> {
     pub begins_line: bool,
     /// Whether an empty line comes right before it.
     pub after_blank: bool,
-    /// Whether it begins a line, after a space or a tab.
-    pub after_indent: bool,
+    /// The number of spaces and tabs before it in the line that it begins; 0 if it begins no line.
+    pub indent: usize,
     /// The spelling of a token. A comment from its `#` on, without ASCII white space at its end.
     pub text: &'a str,
 }

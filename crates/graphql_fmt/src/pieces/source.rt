@@ -31,34 +31,58 @@ fn is_indentable(alloc: Global, spelling: &str) -> Result<bool, AllocError>
 /// What comes between the last piece and the next one.
 #[derive(Clone, Copy)]
 struct Between {
-    /// The number of line ends. A comment before them ends a line.
+    /// The number of line ends. A comment before them ends a line. A line of only commas counts as none.
     line_ends: usize,
-    /// Whether a space or a tab comes after the last line end or piece.
-    has_space: bool,
+    /// The number of spaces and tabs after the last line end or piece.
+    spaces: usize,
+    /// Whether a comma comes after the last line end or piece.
+    has_comma: bool,
 }
 
 impl Between {
     /// Before the input, as if a line ended there.
     const START: Between = Between {
         line_ends: 1,
-        has_space: false,
+        spaces: 0,
+        has_comma: false,
     };
 
     /// With one more character of ignored text, which comes before `rest`.
     fn extended(self, ignored: &str, rest: &str) -> Self {
         match ignored.as_bytes().first().copied() {
             Some(b' ' | b'\t') => Between {
-                has_space: true,
+                spaces: self.spaces.saturating_add(1),
+                ..self
+            },
+            Some(b',') => Between {
+                has_comma: true,
                 ..self
             },
             // CR LF is one line end.
             Some(b'\r') if rest.as_bytes().first().copied() == Some(b'\n') => self,
-            Some(b'\n' | b'\r') => Between {
-                line_ends: self.line_ends.saturating_add(1),
-                has_space: false,
-            },
+            Some(b'\n' | b'\r') => self.after_line_end(),
             _ => self,
         }
+    }
+
+    /// After one more line end.
+    fn after_line_end(self) -> Self {
+        let is_only_commas = self.has_comma && self.line_ends > 0;
+        let line_ends = if is_only_commas {
+            self.line_ends
+        } else {
+            self.line_ends.saturating_add(1)
+        };
+        Between {
+            line_ends,
+            spaces: 0,
+            has_comma: false,
+        }
+    }
+
+    /// The number of spaces and tabs before a piece that comes next, in the line that it begins; 0 if it begins no line.
+    fn indent(self) -> usize {
+        if self.line_ends > 0 { self.spaces } else { 0 }
     }
 
     /// After this element.
@@ -70,7 +94,8 @@ impl Between {
         };
         Between {
             line_ends,
-            has_space: false,
+            spaces: 0,
+            has_comma: false,
         }
     }
 }
@@ -101,7 +126,7 @@ fn push_element<'a>(
         is_indented,
         begins_line: between.line_ends > 0,
         after_blank: between.line_ends > 1,
-        after_indent: between.line_ends > 0 && between.has_space,
+        indent: between.indent(),
         text,
     })?;
     Ok(())

@@ -162,12 +162,12 @@ impl Placer {
     /// Places what is in the brackets that the last token opens if that stays in the line, and enters them otherwise.
     pub fn place_brackets(&mut self, rest: &[Piece<'_>]) -> Result<usize, AllocError> {
         let within = self.reader.within();
-        if within == Enclosure::Block {
+        let is_empty = rest.first().is_some_and(|next| symbol_of(next).is_closer());
+        if within == Enclosure::Block && !is_empty {
             let level = self.frames.level();
             self.frames.enter(level)?;
             return Ok(0);
         }
-        let is_empty = rest.first().is_some_and(|next| symbol_of(next).is_closer());
         let width = if is_empty || within == Enclosure::Type {
             usize::MAX
         } else {
@@ -180,14 +180,19 @@ impl Placer {
         Ok(0)
     }
 
-    /// Places the members after the last token if they stay in the line.
-    /// Otherwise each begins a line, and so does each directive after them.
+    /// Places the members after the last token if they stay in the line: if they fit, and none comes after a leading
+    /// `|`. Otherwise each begins a line, and so does each directive after them.
     pub fn place_members(&mut self, rest: &[Piece<'_>]) -> Result<usize, AllocError> {
         if self.frames.is_item_broken() {
             return Ok(0);
         }
-        if let Some(count) = self.place_chain(Chain::Members, rest)? {
-            return Ok(count);
+        let has_bar = rest
+            .first()
+            .is_some_and(|next| symbol_of(next) == Symbol::Pipe);
+        if !has_bar {
+            if let Some(count) = self.place_chain(Chain::Members, rest)? {
+                return Ok(count);
+            }
         }
         self.frames.break_item();
         Ok(0)
