@@ -89,9 +89,6 @@ token_spelling k bytes (Word j n, rest, st, is) = let same : j ≡ k = cc in (n,
 pub block_quotes : (spelling : List ℕ) → IsSpelling (piece.Token BlockString) spelling → IsInTripleQuotes spelling (without_ends 3 spelling)
 block_quotes spelling (n, rest, st) = spelled_as st
 
-pub is_element : (text : List ℕ) (kind : ElementKind) (bytes rest : List ℕ) → BeginsWithElement text kind bytes rest → IsElement kind bytes
-is_element text kind bytes rest (m, e, st, k) = (m, rest, st, k)
-
 -- ---- an input has one division into elements
 
 same_length : (m k : Meaning) (i j : ℕ) → ahead_of m i ≡ ahead_of k j → i ≡ j

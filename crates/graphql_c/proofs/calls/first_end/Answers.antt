@@ -1,6 +1,6 @@
-use Rattle.std.proofs.Common.{◌≡◌, ◌∙◌, ◌++◌, length, drop, MatchResult, append_assoc, sym, ap, subst}
+use Rattle.std.proofs.Common.{◌≡◌, ◌∙◌, ◌++◌, length, drop, append_assoc, sym, ap, subst}
 use Rattle.std.proofs.lemmas.Option.{MatchOption-at_some}
-use Rattle.graphql_c.specs.{Fails, HasNoFirst, EndsAt, not_utf8, ran_out}
+use Rattle.graphql_c.specs.{EndsAt, not_utf8, ran_out}
 use Rattle.graphql_c.proofs.{begins, explains_as, halts}
 use Rattle.graphql_c.proofs.calls.first_end.Goals as goal
 
@@ -16,10 +16,6 @@ returns-in-Some c =
 
 pub returns-in_err-end : goal.returns-in_err-end
 returns-in_err-end c = halts _ _ _ _ _ (λ e no. no) (explains_as c.in_err-end.ensures ran_out) c.from_residual.ensures.1
-
-pub returns-in-Ok : goal.returns-in-Ok
-returns-in-Ok c =
-    subst (λ t. MatchResult c.end_of.result (EndsAt t) (Fails (HasNoFirst t) ⊥ t)) c.in-Ok.ensures.cases.0 c.end_of.ensures
 
 pub returns-in_err-end-in-Err : goal.returns-in_err-end-in-Err
 returns-in_err-end-in-Err c =

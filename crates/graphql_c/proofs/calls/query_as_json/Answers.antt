@@ -1,11 +1,8 @@
 use Rattle.graphql_json.specs.Query.{document_json}
 use Rattle.graphql_json.specs.Json.{json_text}
 use Rattle.graphql_query.specs.{queries}
-use Rattle.graphql_c.proofs.{halts, written_as_json}
+use Rattle.graphql_c.proofs.{written_as_json}
 use Rattle.graphql_c.proofs.calls.query_as_json.Goals as goal
-
-pub returns-in_err-document : goal.returns-in_err-document
-returns-in_err-document c = halts _ _ _ _ _ (λ e no. no) c.in_err-document.ensures c.from_residual.ensures.1
 
 pub returns : goal.returns
 returns c =

@@ -5,9 +5,6 @@ use Rattle.graphql_fmt.specs.steps.Joining.{gap_bytes}
 use Rattle.graphql_fmt.proofs.Joining.{gap_white, leads_first, leads_on, leads_end, none_joined}
 use Rattle.graphql_fmt.proofs.pieces.join.joined.Goals as goal
 
-pub push_spelling-requires : goal.push_spelling-requires
-push_spelling-requires c = (subst ArePieces c.in-Some.ensures.cases.0 c.requires).0
-
 pub returns-in_default : goal.returns-in_default
 returns-in_default c = none_joined _ _ c.in_default.ensures.cases c.new-out.ensures.bytes
 
@@ -19,10 +16,6 @@ pieces-init c =
       leads = leads_first _ c.in-Some.first.now _ _ _ s parts c.new-out.ensures.bytes e written;
       left = (subst ArePieces parts c.requires).1;
     }
-
-pub push_spelling-requires-in-pieces : goal.push_spelling-requires-in-pieces
-push_spelling-requires-in-pieces c =
-    let l = c.pieces in (subst ArePieces (drop_more c.in-Some.others.now l.piece-index _ (omega arith)) l.invariant.left).0
 
 pub pieces-preserved : goal.pieces-preserved
 pieces-preserved c =

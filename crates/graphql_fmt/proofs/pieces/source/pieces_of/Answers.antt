@@ -1,9 +1,6 @@
 use Rattle.std.proofs.Common.{arith, rules}
-use Rattle.graphql_fmt.proofs.Elements.{is_element, come_on, all_come, some_left, nothing_left, something_left}
+use Rattle.graphql_fmt.proofs.Elements.{come_on, all_come, some_left, nothing_left, something_left}
 use Rattle.graphql_fmt.proofs.pieces.source.pieces_of.Goals as goal
-
-pub push_element-requires : goal.push_element-requires
-push_element-requires c = record { element = is_element _ _ _ _ c.in-Some.ensures.first }
 
 pub elements-preserved : goal.elements-preserved
 elements-preserved c = record {
