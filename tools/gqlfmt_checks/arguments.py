@@ -18,7 +18,7 @@ def standard_input():
     expect("an error", (status, out, err), (1, b"", "<stdin>:2:1: Unexpected end of input\n\n^\n"))
     err = gqlfmt("--stdin-path", "n.graphql", text=BROKEN)[2]
     expect("an error with a name", err.split(":")[0], "n.graphql")
-    expect("not UTF-8", gqlfmt(text=b"{a \xff}"), (2, b"", "<stdin>: is not UTF-8\n"))
+    expect("not UTF-8", gqlfmt(text=b"{a \xff}"), (2, b"", "<stdin>: is not UTF-8 (line 1)\n"))
 
 
 @test

@@ -101,7 +101,7 @@ def other_kinds_of_files():
         writer.join(timeout=60)
     new("a.graphql", b"{a \xff}\n")
     for task in ("--check", "--write", "--diff"):
-        expect(f"{task}, not UTF-8", gqlfmt(task, "a.graphql"), (2, b"", "a.graphql: is not UTF-8\n"))
+        expect(f"{task}, not UTF-8", gqlfmt(task, "a.graphql"), (2, b"", "a.graphql: is not UTF-8 (line 1)\n"))
     for name, text, place in (("empty.graphql", b"", "1:1"), ("comments.graphql", b"# c\n", "2:1")):
         new(name, text)
         status, out, err = gqlfmt("--write", name)

@@ -11,7 +11,7 @@ PARTS = {"PATH": ".+", "LINE": "[1-9][0-9]*", "COLUMN": "[1-9][0-9]*", "CAUSE": 
 # Ways to the messages, except those of other tests, of folders that are too deep, and of allocations that fail.
 WAYS = {
     "PATH:LINE:COLUMN: CAUSE": ["echo '{' | gqlfmt", "gqlfmt --language schema a.graphql"],
-    "PATH: is not UTF-8": ["printf '\\xff' | gqlfmt"],
+    "PATH: is not UTF-8 (line LINE)": ["printf '\\xff' | gqlfmt"],
     "PATH: cannot be read: REASON": ["gqlfmt none", "gqlfmt < ."],
     "PATH: has no files that end in .graphql, .graphqls or .gql": ["mkdir empty; gqlfmt --check empty"],
     "PATH: cannot be rewritten: not a regular file": ["cat a.graphql | gqlfmt --write /dev/stdin"],
@@ -92,6 +92,9 @@ def messages():
         status, _, err = gqlfmt("--check", "m.graphql")
         first, *rest = err.split("\n")
         expect(f"{text[:60]}", (status, first.split(" ")[0], rest), (1, f"m.graphql:{place}:", [line, caret, ""]))
+    for text, line in ((b"{\xff}", 1), (b"{\r\n\r\n\xff}", 3), (b"# \xc3\xa9\r{\xc3}", 2), (b"{a}\n\xf0\x9f", 2)):
+        status, _, err = gqlfmt(text=text)
+        expect(f"{text}", (status, err), (2, f"<stdin>: is not UTF-8 (line {line})\n"))
     err = gqlfmt(text=b'{a """' + b"long\n" * 1000 + b'"""}')[2]
     expect("a long token is one short line", (err.count("\n"), len(err) < 500), (3, True))
     status, _, err = gqlfmt("--stdin-path", "a\nb", text=BROKEN)

@@ -14,8 +14,11 @@ pub enum InputError {
     #[error("contains a name that is not UTF-8")]
     EntryName,
     /// The input is not UTF-8.
-    #[error("is not UTF-8")]
-    NotUtf8,
+    #[error("is not UTF-8 (line {line})")]
+    NotUtf8 {
+        /// The line of the first byte that is not.
+        line: usize,
+    },
     /// Folders are nested too deeply.
     #[error("has too many folders in one another")]
     TooDeep,

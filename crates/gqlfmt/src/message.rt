@@ -69,6 +69,11 @@ fn place_at(source: &str, offset: usize) -> Place<'_> {
     }
 }
 
+/// The line after a text that begins a source, from 1.
+pub fn line_after(text: &str) -> usize {
+    place_at(text, text.len()).line
+}
+
 /// A character as it is shown, in one line.
 fn visible(character: char) -> char {
     if character.is_control() && character != '\t' {

@@ -2,10 +2,12 @@
 ghost use Rattle.std.specs.Prelude.{◌≡◌, IfOk, IfSome, string_bytes};
 
 use crate::error::InputError;
+use crate::message::line_after;
 use std::alloc::Global;
 use std::fs::{File, Metadata, OpenFile};
 use std::io::Read;
 use std::rt::Files;
+use std::string::FromUtf8Error;
 
 /// A file that was read.
 #[derive(Drop)]
@@ -14,6 +16,13 @@ pub struct Source {
     pub text: String,
     /// The metadata from before the text was read.
     pub metadata: Metadata,
+}
+
+/// The line of the first byte that is not UTF-8.
+fn line_of(error: &FromUtf8Error) -> usize {
+    let len = error.utf8_error().valid_up_to();
+    let before = error.as_bytes().get(..len).unwrap_or(&[]);
+    line_after(str::from_utf8(before).unwrap_or(""))
 }
 
 /// Reads a text to its end.
@@ -26,7 +35,9 @@ pub fn read_text<R: Read>(alloc: Global, reader: &mut R) -> Result<String, Input
     }
     match String::from_utf8(bytes) {
         Ok(text) => Ok(text),
-        Err(_) => Err(InputError::NotUtf8),
+        Err(error) => Err(InputError::NotUtf8 {
+            line: line_of(&error),
+        }),
     }
 }
 
