@@ -3,12 +3,12 @@ use Rattle.std.proofs.Common.{◌≡◌, ℕ, suc, true, false, List, [], ◌∷
 use Rattle.std.proofs.Common.{le_refl, arith}
 use Rattle.std.proofs.lemmas.List.{drop_at, drop_all}
 use Rattle.std.proofs.lemmas.Bool.{both_ways, and_parts}
-use Rattle.graphql_core.specs.{Begins, Grammar, Sym, ParseTree, Node, unchecked, Reason, Unexpected, Improper, Refused, lax, Answers, Answer, IsFault}
+use Rattle.graphql_core.specs.{Begins, Grammar, Sym, ParseTree, Node, unchecked, Reason, Unexpected, Improper, Refused, lax, Answers, Answer, IsFault, Language}
 use Rattle.graphql_core.specs.{bad_place, leaf_refused, node_refused, index_of, unexpected_item, IsLeast, Content, TokenContent, item_at, Where, Item, fault_at}
 use Rattle.graphql_core.specs.{LastIsError, Items, Last, LastIsEnd, IsEnd, FaultText, fault_by, place_next, split, int_out_of_range, malformed_float}
 use Rattle.graphql_core.specs.{bad_escape, CauseText, is_unexpected, no_value, ending_of, numbered, HasNoValue, out_of_range, malformed, escaped_badly, Says}
 use Rattle.graphql_core.specs.{IsFaultAt, IsFirstError, NoneGoesOn, IsFaultOf, IsFirstErrorOf, HasOneFaultAt, HasOneFaultEach, HasNoFault, IsFaultAfter}
-use Rattle.graphql_core.specs.{StopsAllDocuments, StopsAllDocumentsOf, unexpected, Token, Class, AnyOf, matches, any, is_good, unquoted, without_ends, reading, Language}
+use Rattle.graphql_core.specs.{StopsAllDocuments, StopsAllDocumentsOf, unexpected, Token, Class, AnyOf, matches, any, is_good, unquoted, without_ends, reading}
 use Rattle.graphql_core.specs.{IsDocument, IsReadable}
 use Rattle.graphql_core.proofs.first_errors.{one_node_for}
 use Rattle.std.proofs.lemmas.Bool.Decides.{nat_tests}

@@ -3,8 +3,8 @@ use Rattle.std.proofs.Common.{◌≡◌, ◌<◌, ◌≤◌, ◌↔◌, ℕ, Boo
 use Rattle.std.proofs.lemmas.Result.{IfOk-weaker, IfErr-weaker}
 use Rattle.graphql_core.specs.{EndOfInput, Content, LexicalError, Stream, TokenContent, item_at, Where, Item, last_alone, asked_once, only_last, Items, Last}
 use Rattle.graphql_core.specs.{Spent, IsEnd, IsAtEnd, split, items_of_stream, kept, IsNextFault, Refusal, at, max_length, too_long, past_bound, IsRefusalFor}
-use Rattle.graphql_core.specs.{IsRefusalOf, ParseTree, Node, written, TakesSome, StopsFor, IsFaultFor, reason_of, reading, factored_document_rule, Language, IsDocument}
-use Rattle.graphql_core.specs.{ReadsDocument, ParsesDocument, ParsesStream, Refusals, Reads, IsReadable}
+use Rattle.graphql_core.specs.{IsRefusalOf, ParseTree, Node, written, TakesSome, StopsFor, IsFaultFor, reason_of, reading, factored_document_rule, Language}
+use Rattle.graphql_core.specs.{ReadsDocument, ParsesDocument, ParsesStream, Refusals, Reads, IsReadable, IsDocument}
 use Rattle.std.proofs.lemmas.Bool.{false≢true}
 use Rattle.graphql_core.specs.declared.helpers.read_error.ReadError.{ReadError}
 use Rattle.graphql_core.specs.declared.common.read.node_error.NodeError.TheVariants.{Refused}

@@ -4,9 +4,9 @@ use Rattle.std.proofs.lemmas.List.{drop_at}
 use Rattle.graphql_core.specs.{Done, Fault as Stopped, Takes, takes_node, Reason, Unexpected, Improper, Refused, Fails, fails_node, IsRefused, Answers}
 use Rattle.graphql_core.specs.{asked_once, fault_at, items_of_text, spending, tokens_then, LastIsError, Items, Last, LastIsEnd, IsEnd, IsAtEnd, FaultText, kept}
 use Rattle.graphql_core.specs.{place_next, split, here, IsFaultFor, IsNextFault, Refusal, at, no_memory, max_length, Token, Class, AnyOf, Sym, ParseTree, Node}
-use Rattle.graphql_core.specs.{leaves, written, change_at, StopsFor, CauseText, HasItems, start, items, reason_of, reading, factored_document_rule, Language, IsDocument}
+use Rattle.graphql_core.specs.{leaves, written, change_at, StopsFor, CauseText, HasItems, start, items, reason_of, reading, factored_document_rule, Language}
 use Rattle.graphql_core.specs.{IsDocumentOf, IsUnambiguous, AreUnambiguous, ending_of, numbered, Says, IsFirstError, IsRefusalFor, IsRefusalOf, ran_out, faulty}
-use Rattle.graphql_core.specs.{Spent, IsReadable}
+use Rattle.graphql_core.specs.{Spent, IsReadable, IsDocument}
 use Rattle.graphql_core.proofs.first_errors.{node_refused_for}
 use Rattle.graphql_core.specs.declared.helpers.read_error.ReadError.TheVariants.{Item, Memory, Integer, Float, Escape, Location}
 use Rattle.graphql_core.proofs.lexical.{has_items, items_unique}
@@ -53,7 +53,8 @@ module _ {D : Type 0} (l : Language D) (r : IsReadable l) where
   IsWrong why i j = Answers (reading l) (Sym l.document) (numbered i) (results.Rejected why (length i.tokens - length j.tokens))
 
   -- a whole document that is taken passes its check
-  node_taken : {ts us : List Token} {x : ParseTree} → Takes (reading l) (factored_document_rule l) ts x us → Takes (reading l) (Sym l.document) ts (Node l.document x) us
+  node_taken : {ts us : List Token} {x : ParseTree} → Takes (reading l) (factored_document_rule l) ts x us
+      → Takes (reading l) (Sym l.document) ts (Node l.document x) us
   node_taken {x = x} h = takes_node h (r.passes ((change_at l.changes l.document).to_written (written l.changes x)))
 
   -- ---- where the reader stops
@@ -170,8 +171,8 @@ module _ {D : Type 0} (l : Language D) (r : IsReadable l) where
       → IsDocument l i d → ⊥
   none_rest i j d x h last other = none_wrong Unexpected i j d (at_rest i j.tokens j.last x h (last_kept i j last) other)
 
-  pub least_left : (i j : Items) (e : Refusal) (x : ParseTree) → Takes (reading l) (factored_document_rule l) i.tokens x j.tokens → kept j ≡ kept i → (IsAtEnd j → ⊥)
-      → IsNextFault j e → IsRefusalFor l i e
+  pub least_left : (i j : Items) (e : Refusal) (x : ParseTree) → Takes (reading l) (factored_document_rule l) i.tokens x j.tokens
+      → kept j ≡ kept i → (IsAtEnd j → ⊥) → IsNextFault j e → IsRefusalFor l i e
   least_left i j e x h last other s =
       let first = (exact_reading l r).sound i.tokens j.tokens (Node l.document x) (node_taken h) in
       let wrong = at_rest i j.tokens j.last x h (last_kept i j last) other in

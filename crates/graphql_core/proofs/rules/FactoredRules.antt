@@ -4,9 +4,9 @@ use Rattle.std.proofs.lemmas.Bool.{both_ways}
 use Rattle.graphql_core.specs.{Token, Class, Expr, Empty, Then, Either, Sym, ParseTree, Both, First, Second, More, Node, Row, Grammar, row_at, leaves, peek}
 use Rattle.graphql_core.specs.{Derives, Begins, Ends, Fits, fits_nothing, fits_leaf, fits_both, fits_first, fits_second, fits_stop, fits_more, fits_node}
 use Rattle.graphql_core.specs.{with_nodes, decides, is_ll1, has_samples, is_productive, unchecked, lax, IsValue, classes, Change, unchanged, change_at, written}
-use Rattle.graphql_core.specs.{with_rows, IsFactored, AreFactored, EachIsFactored, out_of_head, in_second, out_of_prefix, out_of_symbols, IsExactFor, leads_here}
+use Rattle.graphql_core.specs.{with_rows, IsFactored, AreFactored, EachIsFactored, out_of_head, in_second, out_of_prefix, out_of_symbols, IsExactFor}
 use Rattle.graphql_core.specs.{leads_before, leads_after, leads_first, leads_second, leads_node, IsTested, Leads, Ending, InputEnds, InvalidToken, EndsAt}
-use Rattle.graphql_core.specs.{IsWholeFor}
+use Rattle.graphql_core.specs.{IsWholeFor, leads_here}
 use Rattle.graphql_core.proofs.grammar.{grammar_exact, value_in, reads_alike, grammar_whole}
 
 pub IsFactored-unchanged : (g : Grammar) (rs : List Row) (cs : List Change) (e : Expr) → IsFactored g rs cs e e unchanged

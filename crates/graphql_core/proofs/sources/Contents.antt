@@ -15,7 +15,8 @@ use Rattle.graphql_core.specs.declared.tokenizer.piece.Nesting.TheVariants.{Unch
 use Rattle.graphql_core.specs.declared.tokenizer.piece.Taken.{Taken}
 use Rattle.graphql_core.specs.steps.Front.{FrontElement, AtEnd, Skips, Takes, Stops}
 use Rattle.graphql_core.specs.{Where, Item, Content, item_at, TokenContent, LexicalError, is_too_deep, openers_after, closers_after, past_token, past_ignored}
-use Rattle.graphql_core.specs.{last_item, token_then, contents, taken, is_space, is_space_or_comma, is_gap, HasContentsOf, too_deep, items, items_in, items_by, front}
+use Rattle.graphql_core.specs.{last_item, token_then, contents, taken, is_space, is_space_or_comma, is_gap, HasContentsOf, too_deep, items, items_in, items_by}
+use Rattle.graphql_core.specs.{front}
 use Rattle.graphql_core.proofs.lexical.{items_at, items_skip, taken_front, blank_front, feed_front}
 
 -- equally many brackets were opened and closed before both

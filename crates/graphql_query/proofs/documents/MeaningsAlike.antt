@@ -9,8 +9,8 @@ use Rattle.graphql_query.specs.{spread, more, OperationKind, query_kind, mutatio
 use Rattle.graphql_query.specs.{erase_selection, erase_selection_set, erase_selections, erase_variable_definition, erase_operation, erase_fragment_definition}
 use Rattle.graphql_query.specs.{erase_definition, erase, field, inline, set, queries, alias_of, type_condition_of, spread_name_of, fragment_spread_rest_of}
 use Rattle.graphql_query.specs.{fragment_spread_of, field_of, optional_selection_set_of, inline_fragment_rest_of, inline_fragment_of, selection_of}
-use Rattle.graphql_query.specs.{selection_set_of, selections_of, variable_definition_of, operation_body_of, keyword_operation_of, operation_of, fragment_definition_of}
-use Rattle.graphql_query.specs.{definition_of, document_of}
+use Rattle.graphql_query.specs.{selection_set_of, selections_of, variable_definition_of, operation_body_of, keyword_operation_of, operation_of}
+use Rattle.graphql_query.specs.{definition_of, document_of, fragment_definition_of}
 
 -- ---- selections
 

@@ -5,8 +5,8 @@ use Rattle.graphql_core.specs.{sees, keyword, tables as shared_tables, Items, pu
 use Rattle.graphql_core.proofs.{FailsUnseen, unseen_one, unseen_then, unseen_either, IsSide, side_left, unseen_symbol}
 use Rattle.graphql_core.proofs.{side_in, side_nth, sees_both, sees_neither}
 use Rattle.graphql_query.specs.{DefinitionTree, operation, OperationKind, query_kind, mutation_kind, subscription_kind, reading, changes, factored_rows, tables}
-use Rattle.graphql_query.specs.{definition_symbol, operation_symbol, selection_set_symbol, fragment_definition_symbol, keyword_operation_of, operation_of, definition_of}
-use Rattle.graphql_query.specs.{word_of, keyword_rule, Tells, sees_definition}
+use Rattle.graphql_query.specs.{definition_symbol, operation_symbol, selection_set_symbol, fragment_definition_symbol, keyword_operation_of, operation_of}
+use Rattle.graphql_query.specs.{word_of, keyword_rule, Tells, sees_definition, definition_of}
 
 abbrev brace : Class
 brace = punctuator_class (codes "{")
@@ -34,7 +34,8 @@ kind_side query_kind ts seen = side_in operation_symbol (λ x. refl) (side_nth (
 kind_side mutation_kind ts seen = side_in operation_symbol (λ x. refl) (side_nth (word_of mutation_kind) _ 2 refl seen)
 kind_side subscription_kind ts seen = side_in operation_symbol (λ x. refl) (side_nth (word_of subscription_kind) _ 3 refl seen)
 
-pub kind_means : (kind : OperationKind) (x : ParseTree) → operation (keyword_operation_of kind (written changes x)) ≡ operation_of (written changes (as_kind kind x))
+pub kind_means : (kind : OperationKind) (x : ParseTree)
+    → operation (keyword_operation_of kind (written changes x)) ≡ operation_of (written changes (as_kind kind x))
 kind_means query_kind x = refl
 kind_means mutation_kind x = refl
 kind_means subscription_kind x = refl

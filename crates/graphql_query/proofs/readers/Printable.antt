@@ -12,10 +12,10 @@ use Rattle.graphql_query.specs.{DocumentTree, set, none, query, document_symbol,
 use Rattle.graphql_query.specs.{variable_definitions_symbol, variable_definition_symbol, selection_set_symbol, selection_symbol, field_symbol, alias_symbol}
 use Rattle.graphql_query.specs.{fragment_spread_symbol, inline_fragment_symbol, type_condition_symbol, alias_of, type_condition_of, fragment_spread_of}
 use Rattle.graphql_query.specs.{field_of, optional_selection_set_of, inline_fragment_of, selection_of, selection_set_of, selections_of, variable_definition_of}
-use Rattle.graphql_query.specs.{keyword_operation_of, operation_of, definition_of, document_of, IsDocument, IsDocumentOf, queries, IsPrintable, IsPrintableSelection}
+use Rattle.graphql_query.specs.{keyword_operation_of, operation_of, definition_of, document_of, IsDocument, IsDocumentOf, queries, IsPrintable}
 use Rattle.graphql_query.specs.{IsPrintableSet, ArePrintableSelections, IsPrintableVariable, IsPrintableDefinition, Selects, SelectsInside, SelectInside}
 use Rattle.graphql_query.specs.{AllSelectInside, DefinitionSelects, selection_brackets, selected_brackets, selection_set_brackets, selections_brackets}
-use Rattle.graphql_query.specs.{variable_definition_brackets, variable_definitions_brackets, definition_brackets}
+use Rattle.graphql_query.specs.{variable_definition_brackets, variable_definitions_brackets, definition_brackets, IsPrintableSelection}
 use Rattle.graphql_query.proofs.readers.Readable.{tested_alike, written_goes_on}
 use Rattle.graphql_core.proofs.values.Printable as values
 

@@ -15,8 +15,8 @@ each : (good : Class → Token → Bool) → EachIsFactored (tested good) factor
 each good = each_is_factored g factored_rows changes (
     unchanged_then g factored_rows changes selection_symbol g.rows factored_rows (drop selection_symbol changes) refl (
       IsFactored-second g factored_rows changes _ _ _ _
-          (IsFactored-symbols g factored_rows changes fragment_spread_symbol inline_fragment_symbol _ fragment_spread_rest inline_fragment_rest refl refl refl refl
-          (λ x. refl) (λ x. refl) (λ x. refl) (λ x. refl)),
+          (IsFactored-symbols g factored_rows changes fragment_spread_symbol inline_fragment_symbol _ fragment_spread_rest inline_fragment_rest
+          refl refl refl refl (λ x. refl) (λ x. refl) (λ x. refl) (λ x. refl)),
       (
         IsFactored-prefix g factored_rows changes alias_symbol name _ field_rest refl refl (λ x. refl) (λ x. refl),
         unchanged_then g factored_rows changes (length after) (drop (field_symbol + 1) g.rows) after [] refl tt,

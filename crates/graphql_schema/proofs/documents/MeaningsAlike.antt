@@ -8,11 +8,11 @@ use Rattle.graphql_core.proofs.{SameTrees, same_both, same_first, same_second, s
 use Rattle.graphql_core.proofs.{DependsOnValues, RefusesAlike, accepted_same, valueless_alike, there_same, optional_same, optional_list_same, each_same}
 use Rattle.graphql_core.proofs.{each_alike, enclosed_same, enclosed_alike, joined_same, spelling_same, type_same, optional_default_same, directives_same}
 use Rattle.graphql_schema.specs.{schema_by, description_of, input_value_of, field_of, enum_value_of, interfaces_of, members_of, schema_of, schema_extension_of}
-use Rattle.graphql_schema.specs.{scalar_of, object_of, interface_of, union_of, enum_of, input_of, body_of, location_at, present, locations_of}
+use Rattle.graphql_schema.specs.{scalar_of, object_of, interface_of, union_of, enum_of, input_of, body_of, location_at, present, locations_of, keyword_place_of}
 use Rattle.graphql_schema.specs.{directive_definition_of, extension_of, described_of, item_of, document_of, Root, root_at, roots_of, roots_in, type_in}
 use Rattle.graphql_schema.specs.{RootFault, root_cause, root_fault, root_fault_of, extension_fault_of, location_of, PartsTree, object, interface, union, enum}
 use Rattle.graphql_schema.specs.{input, BodyTree, SchemaTree, extends, schema, type_definition, extension, schema_extension, directive, erase_input_value}
-use Rattle.graphql_schema.specs.{erase_field, erase_enum_value, erase_schema, erase_body, erase_directive, erase_definition, erase, Lacks, said_at, keyword_place_of}
+use Rattle.graphql_schema.specs.{erase_field, erase_enum_value, erase_schema, erase_body, erase_directive, erase_definition, erase, Lacks, said_at}
 use Rattle.graphql_schema.specs.{said_of, schemas}
 use Rattle.graphql_schema.proofs.readers.{extends_alike}
 use Rattle.graphql_schema.specs.Grammar as grammar

@@ -9,14 +9,14 @@ use Rattle.graphql_core.proofs.{some_back, document_back, Back}
 use Rattle.std.specs.List.{AllByRecursion}
 use Rattle.std.specs.Option.{IfSome}
 use Rattle.graphql_schema.specs.{schema_by, schema_of, schema_extension_of, location_at, present, locations_of, directive_definition_of, extension_of, item_of}
-use Rattle.graphql_schema.specs.{Root, root_at, roots_of, roots_in, type_in, RootFault, root_fault, root_fault_of, extension_fault_of, item_symbol}
+use Rattle.graphql_schema.specs.{Root, root_at, roots_of, roots_in, type_in, RootFault, root_fault, root_fault_of, extension_fault_of, item_symbol, erase_body}
 use Rattle.graphql_schema.specs.{schema_symbol, root_type_symbol, extension_symbol, directive_definition_symbol, locations_symbol, location_symbol}
 use Rattle.graphql_schema.specs.{schema_extension_symbol, roots_symbol, schema_grammar, schemas, IsReadBack, IsLawfulInputValue, IsLawfulBody}
 use Rattle.graphql_schema.specs.{IsLawfulDefinition, IsLawfulDocument, joined_names, root_layout, roots_layout, schema_layout, repeatable_layout}
 use Rattle.graphql_schema.specs.{directive_definition_layout, definition_layout, layout, word_of, location_of, is_location, IsPrintable, IsPrintableSchema}
 use Rattle.graphql_schema.specs.{IsPrintableBody, IsPrintableDefinition, IsWholeDefinition, IsPrintableInputValue, input_value_brackets, body_brackets}
 use Rattle.graphql_schema.specs.{definition_brackets, InputValueTree, SchemaTree, BodyTree, DirectiveDefinitionTree, DefinitionTree, schema, type_definition}
-use Rattle.graphql_schema.specs.{extension, schema_extension, directive, DocumentTree, adds_something, has_operation, adds_to_schema, extends, erase_schema, erase_body}
+use Rattle.graphql_schema.specs.{extension, schema_extension, directive, DocumentTree, adds_something, has_operation, adds_to_schema, extends, erase_schema}
 use Rattle.graphql_schema.specs.{erase_directive, erase_definition}
 use Rattle.graphql_schema.specs.declared.location.DirectiveLocation.{DirectiveLocation}
 use Rattle.graphql_schema.proofs.readers.{extends_alike, location_named, location_name, readable}

@@ -1,8 +1,8 @@
 -- Whether an extension adds something does not depend on positions.
 use Rattle.std.proofs.Common.{◌≡◌, ◌||◌, false, List, [], ◌∷◌, map, refl, ap, ap₂}
 use Rattle.graphql_core.specs.{DirectiveTree, no_place, erase as erase_one, has_any}
-use Rattle.graphql_schema.specs.{PartsTree, scalar, object, interface, union, enum, input, BodyTree, adds_something, has_operation, extends, DefinitionTree, schema}
-use Rattle.graphql_schema.specs.{type_definition, extension, schema_extension, directive, erase_input_value, erase_field, erase_enum_value, erase_body}
+use Rattle.graphql_schema.specs.{PartsTree, scalar, object, interface, union, enum, input, BodyTree, adds_something, has_operation, extends, DefinitionTree}
+use Rattle.graphql_schema.specs.{type_definition, extension, schema_extension, directive, erase_input_value, erase_field, erase_enum_value, erase_body, schema}
 use Rattle.graphql_schema.specs.{erase_definition}
 
 any_alike : {A B : Type 0} (f : A → B) (xs : List A) → has_any (map f xs) ≡ has_any xs

@@ -9,9 +9,9 @@ use Rattle.graphql_core.specs.{leaves, Fits, fits_both, fits_leaf, fits_first, f
 use Rattle.graphql_core.specs.{Extends, TestsAlike, CauseText, FaultText, shared, tables as core_tables, shared_symbols, word, unquoted, is_good as leaves_good}
 use Rattle.graphql_core.specs.{reading, IsReadable}
 use Rattle.std.proofs.lemmas.Bool.Decides.{nat_tests}
-use Rattle.graphql_schema.specs.{location_of, is_good, rules, factored_rules, factored_rows, tables, changes, passes, document_symbol, item_symbol, schema_symbol}
+use Rattle.graphql_schema.specs.{location_of, is_good, rules, factored_rules, factored_rows, tables, changes, passes, document_symbol, item_symbol}
 use Rattle.graphql_schema.specs.{extension_symbol, described_symbol, description_symbol, type_body_symbol, directive_definition_symbol, schema_extension_symbol}
-use Rattle.graphql_schema.specs.{schema_grammar, schemas, Lacks, said_of}
+use Rattle.graphql_schema.specs.{schema_grammar, schemas, Lacks, said_of, schema_symbol}
 
 -- ---- the factored rules have the trees of the written ones, for any test of leaves and nodes
 

@@ -2,8 +2,8 @@ use Rattle.std.proofs.Common.{◌≡◌, Bool, true, false, ◌==◌, [], ◌∷
 use Rattle.graphql_core.specs.{Token, Class, AnyOf, Spelled, Except, ParseTree, Nothing, Leaf, Both, First, Second, Stop}
 use Rattle.graphql_core.specs.{More, Node, CauseText, is_unexpected, empty_extension, FaultText}
 use Rattle.graphql_core.proofs.{none_goes_on, valueless_not}
-use Rattle.graphql_schema.specs.{SchemaTree, schema_symbol, schema_extension_symbol, schemas, said_at, keyword_place_of, schema_of, schema_extension_of, extension_of}
-use Rattle.graphql_schema.specs.{RootFault, unknown, duplicate, root_fault_of, extension_fault_of, root_cause}
+use Rattle.graphql_schema.specs.{SchemaTree, schema_symbol, schema_extension_symbol, schemas, said_at, keyword_place_of, schema_of, schema_extension_of}
+use Rattle.graphql_schema.specs.{RootFault, unknown, duplicate, root_fault_of, extension_fault_of, root_cause, extension_of}
 use Rattle.graphql_schema.proofs.{readable}
 use Rattle.graphql_schema.proofs.laws.none_goes_on_with_an_unexpected_item.Goals as goal
 

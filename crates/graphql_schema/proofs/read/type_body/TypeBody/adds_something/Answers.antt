@@ -1,8 +1,8 @@
 use Rattle.std.proofs.Common.{◌≡◌, ◌==◌, ◌∙◌, ℕ, List, [], ◌∷◌, arith, ap, length, map, not, refl, sym}
 use Rattle.std.proofs.lemmas.Bool.{ne_eqb}
 use Rattle.graphql_core.specs.{has_any, directive_view}
-use Rattle.graphql_schema.proofs.read.type_body.TypeBody.adds_something.Goals.{in-Scalar, in-Object+then-not-is_empty, in-Object+else-not-is_empty, in-Interface}
-use Rattle.graphql_schema.proofs.read.type_body.TypeBody.adds_something.Goals.{in-Union, in-Enum, in-InputObject}
+use Rattle.graphql_schema.proofs.read.type_body.TypeBody.adds_something.Goals.{in-Scalar, in-Object+then-not-is_empty, in-Object+else-not-is_empty}
+use Rattle.graphql_schema.proofs.read.type_body.TypeBody.adds_something.Goals.{in-Union, in-Enum, in-InputObject, in-Interface}
 use Rattle.graphql_schema.proofs.read.type_body.TypeBody.adds_something.Goals as goal
 
 -- the model of a list of n elements is empty only if n is 0
