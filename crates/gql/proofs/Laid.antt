@@ -2,7 +2,7 @@
 use Rattle.std.proofs.Common.{◌≡◌, ℕ, List, Result, Ok, Err, MatchResult, IfOk, IfErr, String, string_bytes, refl}
 use Rattle.std.specs.Result.{IsErrAnd}
 use Rattle.std.specs.Global.{Global}
-use Rattle.graphql_core.specs.{Layout, IsDocumentOf, ParsesDocument, Language, IsWrittenOf, IsWide}
+use Rattle.graphql_core.specs.{StyleOptions, IsDocumentOf, ParsesDocument, Language, IsWrittenOf, IsWide}
 use Rattle.graphql_core.specs.declared.format.error.FormatError.{FormatError}
 use Rattle.graphql_core.specs.declared.format.error.FormatError.TheVariants.{TooWide, OutOfMemory}
 use Rattle.gql.specs.declared.command.Command.{Command}
@@ -11,14 +11,14 @@ use Rattle.gql.specs.declared.error.RunError.TheVariants.{Format}
 use Rattle.gql.specs.{HasNoLayout, HasDocument, HasOne, EndsEngine}
 
 -- formatting fails only if the document is too wide or an allocation failed
-pub not_laid_out : {A : Type 0} (command : Command) (style : Layout) (text : List ℕ) (made : Result A FormatError) → HasDocument command text
+pub not_laid_out : {A : Type 0} (command : Command) (style : StyleOptions) (text : List ℕ) (made : Result A FormatError) → HasDocument command text
     → (made ≡ Err TooWide → HasNoLayout command style text) → IfErr made (λ e. EndsEngine command style text (Format e))
 not_laid_out command style text (Ok x) some wide = tt
 not_laid_out command style text (Err TooWide) some wide = wide refl
 not_laid_out command style text (Err OutOfMemory) some wide = some
 
 -- the formatted document, or the error that it is too wide or that an allocation failed
-pub laid_out : {D V : Type 0} {l : Language D} {view : V → D} {text : List ℕ} {v : V} (command : Command) (style : Layout) (lay : D → List ℕ)
+pub laid_out : {D V : Type 0} {l : Language D} {view : V → D} {text : List ℕ} {v : V} (command : Command) (style : StyleOptions) (lay : D → List ℕ)
     (IsTooWide : D → Type 0) (made : Result (String Global) FormatError) (r : Result (String Global) RunError)
     → (HasOne (IsDocumentOf l) text → HasDocument command text) → (IsWide (IsDocumentOf l) IsTooWide text → HasNoLayout command style text)
     → ParsesDocument l view text (Ok v) → IfOk made (λ s. string_bytes s ≡ lay (view v)) → (made ≡ Err TooWide → IsTooWide (view v))

@@ -1,7 +1,7 @@
 -- The output of each command, and the errors.
 use Rattle.std.specs.Prelude.{◌≡◌, ◌++◌, ℕ, List, [], ◌∷◌, Option, IfSome}
 use Rattle.std.specs.Io.KnownBytes.{Appends, IsAtEnd}
-use Rattle.graphql_core.specs.{Refusal, Layout, IsMinified, IsDocumentOf, IsWrittenOf, HasNone, IsWide}
+use Rattle.graphql_core.specs.{Refusal, StyleOptions, IsMinified, IsDocumentOf, IsWrittenOf, HasNone, IsWide}
 use Rattle.graphql_query.specs.{queries, DefinitionTree, one_definition, IsFirstDefinition, IsMinifyRefusalOf}
 use Rattle.graphql_query.specs.Layout as query
 use Rattle.graphql_schema.specs.{schemas}
@@ -19,17 +19,17 @@ use Rattle.gql.specs.declared.command.Command.TheVariants.{Query, Schema, Minify
 -- ---- first definitions
 
 -- a definition formatted as a document, and then the rest unchanged
-abbrev pub definition_and_rest : Layout → DefinitionTree × List ℕ → List ℕ
+abbrev pub definition_and_rest : StyleOptions → DefinitionTree × List ℕ → List ℕ
 definition_and_rest style (d, rest) = query.layout style (d ∷ []) ++ rest
 
 -- a definition is too wide as a document
-abbrev pub IsTooWideAlone : Layout → DefinitionTree × List ℕ → Type 0
+abbrev pub IsTooWideAlone : StyleOptions → DefinitionTree × List ℕ → Type 0
 IsTooWideAlone style (d, rest) = query.IsTooWide style (d ∷ [])
 
 -- ---- commands
 
 -- the command has this output for this input
-abbrev pub IsOutputOf : Command → Layout → List ℕ → List ℕ → Type 0
+abbrev pub IsOutputOf : Command → StyleOptions → List ℕ → List ℕ → Type 0
 IsOutputOf Query style text output = IsWrittenOf (IsDocumentOf queries) (query.layout style) text output
 IsOutputOf Schema style text output = IsWrittenOf (IsDocumentOf schemas) (schema.layout style) text output
 IsOutputOf Minify style text output = IsMinified text output
@@ -75,7 +75,7 @@ TakesMemory Minify text = ⊥
 TakesMemory First text = HasOne IsFirstDefinition text
 
 -- the document of the input, or its first definition, is too wide for the style
-abbrev pub HasNoLayout : Command → Layout → List ℕ → Type 0
+abbrev pub HasNoLayout : Command → StyleOptions → List ℕ → Type 0
 HasNoLayout Query style text = IsWide (IsDocumentOf queries) (query.IsTooWide style) text
 HasNoLayout Schema style text = IsWide (IsDocumentOf schemas) (schema.IsTooWide style) text
 HasNoLayout Minify style text = ⊥
@@ -105,12 +105,12 @@ EndsReading old new (Format e) = ⊥
 EndsReading old new Write = ⊥
 
 -- what an error of formatting says of the input: `OutOfMemory` comes only if there was a document to format
-abbrev pub RefusesLayout : Command → Layout → List ℕ → FormatError → Type 0
+abbrev pub RefusesLayout : Command → StyleOptions → List ℕ → FormatError → Type 0
 RefusesLayout command style text TooWide = HasNoLayout command style text
 RefusesLayout command style text layout_error.OutOfMemory = HasDocument command text
 
 -- what an error of the engine says of the input
-abbrev pub EndsEngine : Command → Layout → List ℕ → RunError → Type 0
+abbrev pub EndsEngine : Command → StyleOptions → List ℕ → RunError → Type 0
 EndsEngine command style text (error.Query e) = HasNoQuery command text e
 EndsEngine command style text (error.Schema e) = HasNoSchema command text e
 EndsEngine command style text (error.Minify e) = HasBadPlace command text e

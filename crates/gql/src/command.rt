@@ -2,7 +2,7 @@
 ghost use Rattle.std.specs.Prelude.{◌≡◌, ◌↔◌, Some, map, string_bytes};
 ghost use Rattle.std.specs.List.{list_all};
 ghost use Rattle.std.specs.Char.{is_ascii_digit};
-ghost use Rattle.graphql_core.specs.{Layout};
+ghost use Rattle.graphql_core.specs.{StyleOptions};
 ghost use Rattle.gql.specs.{is_indent, is_multiline, number_of, style_said, styled_command, SaysStyle, Means};
 
 use graphql_parser::Style;
@@ -69,7 +69,7 @@ fn is_multiline(word: &str) -> bool
 
 /// The style with these options, each at most once and in any order; `None` if an option is invalid.
 fn style_of(options: &[String]) -> Option<Style>
-    ensures { (style : Layout) → result ≡ Some style ↔ SaysStyle (map string_bytes options.now) style }
+    ensures { (style : StyleOptions) → result ≡ Some style ↔ SaysStyle (map string_bytes options.now) style }
 {
     let mut indent = None;
     let mut multiline = false;
@@ -106,7 +106,7 @@ fn styled_command(word: &str) -> Option<Command>
 
 /// The command and the style from the arguments after the program's name; `None` if the arguments are invalid.
 pub fn read_words(words: Vec<String>) -> Option<(Command, Style)>
-    ensures { (said : Command × Layout) → result ≡ Some said ↔ Means (map string_bytes words.items) said }
+    ensures { (said : Command × StyleOptions) → result ≡ Some said ↔ Means (map string_bytes words.items) said }
 {
     match words.as_slice() {
         [word] if word.as_str() == "minify" => Some((Command::Minify, Style::default())),

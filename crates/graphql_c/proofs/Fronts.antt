@@ -7,7 +7,7 @@ use Rattle.std.proofs.lemmas.Bool.{cases_Bool, and_parts, false≢true}
 use Rattle.std.proofs.lemmas.Str.{is_utf8-from_IsUtf8}
 use Rattle.std.proofs.Math.Seq.{drop-append-add}
 use Rattle.graphql_core.specs.steps.Front.{FrontElement, AtEnd, Skips, Takes, Stops}
-use Rattle.graphql_core.specs.{front, line_end, comment, BeginsNone, is_in_line, items_of, Token, too_deep, Meaning, Ignored, Word, Piece, IsCutInto, Stands}
+use Rattle.graphql_core.specs.{front, line_end, comment, BeginsNone, is_in_line, items_of, Token, too_deep, Meaning, Ignored, TokenOf, Piece, IsCutInto, Stands}
 use Rattle.graphql_core.specs.{Where, Item, past_ignored, past_token, is_too_deep, token_then, piece_then, next_place, split, ignored_front, LexicalError}
 use Rattle.graphql_core.specs.{item_at, TokenContent, token_of}
 use Rattle.graphql_core.specs.declared.tokenizer.token.Kind.{Kind}
@@ -88,7 +88,7 @@ token_placed false k bytes w more = refl
 piece_placed : (m : Meaning) (bytes rest : List ℕ) (w : Where) (more : Where → List Item) → Stands bytes m rest → ignored_front (front (bytes ++ rest)) ≡ None
     → (next_place (piece_then m more w bytes)).offset ≡ w.offset
 piece_placed (Ignored m) bytes rest w more st none = let skips = ap ignored_front (sym (stands_front st)) ∙ none in absurd cc
-piece_placed (Word k t) bytes rest w more st none = token_placed (is_too_deep t w) k bytes w (more (past_token t bytes w))
+piece_placed (TokenOf k t) bytes rest w more st none = token_placed (is_too_deep t w) k bytes w (more (past_token t bytes w))
 
 -- if no ignored token comes first, the first token is at the first byte
 placed : (w : Where) (ps : List Piece) (text stop : List ℕ) → IsCutInto text ps stop → ignored_front (front text) ≡ None
@@ -158,7 +158,7 @@ module _ (qs : List Piece) (stop rest bytes text : List ℕ) (w : Where) (e : te
     abbrev KeptLater : Type 0
     KeptLater = (v : Where) (front : List Token) → (split (items_of v qs stop)).tokens ≡ front ++ others → Kept v rest (items_of v qs stop) front
 
-    word_kept : (b : Bool) (k : Kind) (t : Nesting) (front : List Token) → is_too_deep t w ≡ b → Stands bytes (Word k t) rest
+    word_kept : (b : Bool) (k : Kind) (t : Nesting) (front : List Token) → is_too_deep t w ≡ b → Stands bytes (TokenOf k t) rest
         → (split (token_then b (item_at (LexicalError too_deep) w) (item_at (TokenContent k bytes) w) (items_of (past_token t bytes w) qs stop))).tokens
         ≡ front ++ others → KeptLater
         → Kept w text (token_then b (item_at (LexicalError too_deep) w) (item_at (TokenContent k bytes) w) (items_of (past_token t bytes w) qs stop)) front
@@ -168,7 +168,7 @@ module _ (qs : List Piece) (stop rest bytes text : List ℕ) (w : Where) (e : te
     word_kept true k t (u ∷ us) deep st is f = absurd cc
     word_kept false k t (u ∷ us) deep st is f =
         let first : token_of w.position k bytes ≡ u = cc in
-        after_piece (Word k t) (past_token t bytes w) (u ∷ us) us _ st refl refl
+        after_piece (TokenOf k t) (past_token t bytes w) (u ∷ us) us _ st refl refl
         (λ ps end vs tokens. rw deep ((λ i. first i ∷ tokens i), refl))
         (f (past_token t bytes w) us (ap (drop 1) is))
 
@@ -178,7 +178,7 @@ module _ (qs : List Piece) (stop rest bytes text : List ℕ) (w : Where) (e : te
     piece_kept (Ignored m) front st is f =
         after_piece (Ignored m) (past_ignored m (length bytes) w) front front _ st refl refl (λ ps end us tokens. (tokens, refl))
         (f (past_ignored m (length bytes) w) front is)
-    piece_kept (Word k t) front st is f = word_kept (is_too_deep t w) k t front refl st is f
+    piece_kept (TokenOf k t) front st is f = word_kept (is_too_deep t w) k t front refl st is f
 
 pub kept : (ps : List Piece) (text stop : List ℕ) (w : Where) (front others : List Token) → IsCutInto text ps stop
     → (split (items_of w ps stop)).tokens ≡ front ++ others → Kept w text (items_of w ps stop) front

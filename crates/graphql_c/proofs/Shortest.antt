@@ -1,6 +1,6 @@
 -- A minified output is at most twice as long as its input, so a buffer of this length is never too short.
 use Rattle.std.proofs.Common.{◌≡◌, ◌≢◌, ◌*◌, ◌<◌, ◌≤◌, ℕ, Bool, true, false, List, [], ◌∷◌, ◌++◌, length, ap, arith, length-append}
-use Rattle.graphql_core.specs.{items_of, Token, Meaning, Ignored, Word, Piece, IsCutInto, Stands, Where, Item, past_ignored, past_token, is_too_deep}
+use Rattle.graphql_core.specs.{items_of, Token, Meaning, Ignored, TokenOf, Piece, IsCutInto, Stands, Where, Item, past_ignored, past_token, is_too_deep}
 use Rattle.graphql_core.specs.{token_then, piece_then, split, LexicalError, item_at, TokenContent, token_of, kind_number, IsMinified, start, CauseText}
 use Rattle.graphql_core.specs.{no_token, too_deep, unexpected_token, unexpected_end, int_out_of_range, malformed_float, bad_escape, unknown_location}
 use Rattle.graphql_core.specs.{duplicate_operation, unknown_operation, empty_extension, text_too_long, out_of_memory, Refusal}
@@ -22,13 +22,13 @@ abbrev IsShort : Where → List Piece → (stop text : List ℕ) → Type 0
 IsShort w ps stop text = (before : ℕ) → length (spaced_after before (split (items_of w ps stop)).tokens) ≤ 2 * length text
 
 module _ (qs : List Piece) (stop rest bytes text : List ℕ) (w : Where) (e : text ≡ bytes ++ rest) where
-  word_short : (deep : Bool) (k : Kind) (t : Nesting) (before : ℕ) → Stands bytes (Word k t) rest
+  word_short : (deep : Bool) (k : Kind) (t : Nesting) (before : ℕ) → Stands bytes (TokenOf k t) rest
       → IsShort (past_token t bytes w) qs stop rest
       → length (spaced_after before (split (token_then deep (item_at (LexicalError too_deep) w) (item_at (TokenContent k bytes) w)
       (items_of (past_token t bytes w) qs stop))).tokens) ≤ 2 * length text
   word_short true k t before st more = omega arith
   word_short false k t before st more =
-      let some : 0 < length bytes = (part (Word k t) bytes rest st).0 in
+      let some : 0 < length bytes = (part (TokenOf k t) bytes rest st).0 in
       let space = space_if (is_spaced before (token_of w.position k bytes)) in
       let others = spaced_after (kind_number k) (split (items_of (past_token t bytes w) qs stop)).tokens in
       omega (
@@ -46,7 +46,7 @@ module _ (qs : List Piece) (stop rest bytes text : List ℕ) (w : Where) (e : te
       → (before : ℕ) → length (spaced_after before (split (piece_then m (λ v. items_of v qs stop) w bytes)).tokens) ≤ 2 * length text
   piece_short (Ignored m) st more before =
       omega (arith, more (past_ignored m (length bytes) w) before, ap length e, length-append bytes rest)
-  piece_short (Word k t) st more before = word_short (is_too_deep t w) k t before st (more (past_token t bytes w))
+  piece_short (TokenOf k t) st more before = word_short (is_too_deep t w) k t before st (more (past_token t bytes w))
 
 short : (ps : List Piece) (text stop : List ℕ) (w : Where) → IsCutInto text ps stop → IsShort w ps stop text
 unfolding items_of

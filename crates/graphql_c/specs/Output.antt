@@ -1,6 +1,6 @@
 -- The output of each call, and why a call has no output.
 use Rattle.std.specs.Prelude.{◌≤◌, ℕ, Bool, List, [], length, drop}
-use Rattle.graphql_core.specs.{Refusal, Layout, IsDocumentOf, IsWrittenOf, HasNone, IsWide}
+use Rattle.graphql_core.specs.{Refusal, StyleOptions, IsDocumentOf, IsWrittenOf, HasNone, IsWide}
 use Rattle.graphql_query.specs.{queries, DefinitionTree, one_definition, IsFirstDefinition}
 use Rattle.graphql_query.specs.Layout as query
 use Rattle.graphql_schema.specs.{schemas}
@@ -12,14 +12,14 @@ use Rattle.graphql_json.specs.Schema as schema_json
 -- ---- documents
 
 -- the style with these two settings
-abbrev pub layout_in : ℕ → Bool → Layout
+abbrev pub layout_in : ℕ → Bool → StyleOptions
 layout_in indent multiline = record { indent = indent; multiline = multiline }
 
 -- the output is the formatted document of the input
-abbrev pub IsQueryLaidOut : Layout → List ℕ → List ℕ → Type 0
+abbrev pub IsQueryLaidOut : StyleOptions → List ℕ → List ℕ → Type 0
 IsQueryLaidOut style = IsWrittenOf (IsDocumentOf queries) (query.layout style)
 
-abbrev pub IsSchemaLaidOut : Layout → List ℕ → List ℕ → Type 0
+abbrev pub IsSchemaLaidOut : StyleOptions → List ℕ → List ℕ → Type 0
 IsSchemaLaidOut style = IsWrittenOf (IsDocumentOf schemas) (schema.layout style)
 
 -- the input parses to a document, and the output is empty
@@ -44,10 +44,10 @@ abbrev pub HasNoSchema : List ℕ → Refusal → Type 0
 HasNoSchema = HasNone (IsDocumentOf schemas) schemas
 
 -- the document of the input is too wide for the style
-abbrev pub IsQueryTooWide : Layout → List ℕ → Type 0
+abbrev pub IsQueryTooWide : StyleOptions → List ℕ → Type 0
 IsQueryTooWide style = IsWide (IsDocumentOf queries) (query.IsTooWide style)
 
-abbrev pub IsSchemaTooWide : Layout → List ℕ → Type 0
+abbrev pub IsSchemaTooWide : StyleOptions → List ℕ → Type 0
 IsSchemaTooWide style = IsWide (IsDocumentOf schemas) (schema.IsTooWide style)
 
 -- ---- first definitions

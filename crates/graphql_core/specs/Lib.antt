@@ -25,7 +25,7 @@ pub use grammar.{Token, Unexpected, accepts, fits_both, fits_first, fits_leaf, f
 pub use grammar.{fits_node, fits_nothing, fits_second, fits_stop, is_listed, lax, leads_node, leaves, matches}
 pub use grammar.{nowhere, optional, peek, replaced, row, row_at, same_spelling, some_of, with_tables}
 pub use lexical.{BeginsNone, BeginsWithElement, HasItems, Ignored, IsCutInto, IsName, Item, LexicalError, Meaning}
-pub use lexical.{Piece, Stands, Stream, TokenContent, Where, Word, depth_of, is_in_line, is_too_deep, item_at}
+pub use lexical.{Piece, Stands, Stream, TokenContent, Where, TokenOf, depth_of, is_in_line, is_too_deep, item_at}
 pub use lexical.{next_place, past_ignored, past_token, piece_then, start, token_then, too_deep}
 unfoldable pub use lexical.{items_of}
 unfoldable pub use strings.{common_indent}
@@ -36,7 +36,8 @@ pub use sources.{split, text_too_long, token_of, tokens_then, too_long, unexpect
 pub use sources.{unknown_location, unknown_operation, unplaced}
 pub use steps.{Adds, Consumes, Gives, IsBadPlaceOf, IsFaultFor, IsList, IsNext, IsReadable, MayFollow, Reads, Refusals}
 pub use steps.{SaysNode, Shows, StopsFor, TakesOne, TakesSome, TakesToken, after, halt_reason, ignored_front}
-pub use steps.{arguments_brackets, directives_brackets, items_of_stream, kept, lexeme_token, line_end, reason_of, sees_class, spelling_of}
+pub use steps.{arguments_brackets, directives_brackets, items_of_stream, kept, lexeme_token, line_end, reason_of}
+pub use steps.{sees_class, spelling_of}
 pub use values.{AreLawfulArguments, AreLawfulDirectives, DirectiveTree, IsLawful, IsNameBut, IsPrintableArgument}
 pub use values.{IsPrintableDefault, IsPrintableDirective, IsPrintableType, TypeTree, ValueTree, Weights, any}
 pub use values.{argument_view, arguments_depth, arguments_symbol, arguments_view, default_depth}
@@ -47,7 +48,8 @@ pub use values.{named, no_place, optional_arguments_of, optional_default_of, opt
 pub use values.{punctuator, punctuator_class, sample, separated_of, shared, shared_symbols, spelling_at, type_of}
 pub use values.{type_symbol, type_view, value_brackets, value_view, valued, variable, with_rule, word}
 unfoldable pub use values.{block_string_of, is_good, string_of, tables, unquoted}
-pub use layouts.{Displays, IsNarrow, Layout, Part, arguments_layout, bracket_of, deepest, default_layout, default_style}
+pub use layouts.{Displays, IsNarrow, StyleOptions, Part, arguments_layout, bracket_of, deepest, default_layout}
+pub use layouts.{default_style}
 pub use layouts.{description_levels, directives_layout, gap, has_block_form, has_block_lines, in_block_form, in_braces}
 pub use layouts.{in_levels, in_parentheses, name_part, punctuator_part, quoted, separated, spaces, string_layout}
 pub use layouts.{text_of, token, type_layout, with_indent, with_multiline}
@@ -58,5 +60,6 @@ pub use documents.{Language, NoneGoesOn, ParsesDocument, ParsesStream, ReadsDocu
 pub use theory.{After, AsFirst, Before, Change, EachIsFactored, Extends, Fails, Growth, InParts, InSides, RefusesTokens}
 pub use theory.{Same, Takes, TestsAlike, change_at, cont, decides, either_way, fails_after, fails_before, fails_check}
 pub use theory.{fails_node, fails_one, fails_value, first, grown, growth_at, in_second, is_below, is_row, out_of_head}
-pub use theory.{all_within, out_of_prefix, out_of_sides, out_of_symbols, sees, solve, takes_both, takes_first, takes_leaf}
+pub use theory.{all_within, out_of_prefix, out_of_sides, out_of_symbols, sees, solve, takes_both, takes_first}
+pub use theory.{takes_leaf}
 pub use theory.{all_apart, in_any, takes_node, takes_nothing, takes_second, takes_stop, unchanged, with_rows, written}

@@ -4,7 +4,6 @@ pub mod BlockBytes
 pub mod BlockShape
 pub mod Constness
 pub mod Cut
-pub mod Endings
 pub mod Escapes
 pub mod Following
 pub mod FormatterSink
@@ -14,6 +13,7 @@ pub mod Minifying
 pub mod NextLeaf
 pub mod Levels
 pub mod Lists
+pub mod Lookahead
 pub mod Matching
 pub mod Numbers
 pub mod Places
@@ -32,7 +32,6 @@ unfoldable pub use BlockBytes.*
 unfoldable pub use BlockShape.*
 unfoldable pub use Constness.*
 unfoldable pub use Cut.*
-unfoldable pub use Endings.*
 unfoldable pub use Escapes.*
 unfoldable pub use Following.*
 unfoldable pub use FormatterSink.*
@@ -42,6 +41,7 @@ unfoldable pub use Minifying.*
 unfoldable pub use NextLeaf.*
 unfoldable pub use Levels.*
 unfoldable pub use Lists.*
+unfoldable pub use Lookahead.*
 unfoldable pub use Matching.*
 unfoldable pub use Numbers.*
 unfoldable pub use Places.*

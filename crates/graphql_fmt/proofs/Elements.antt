@@ -11,7 +11,7 @@ use Rattle.graphql_core.specs.declared.tokenizer.token.Kind.{Kind}
 use Rattle.graphql_core.specs.declared.tokenizer.token.Kind.TheVariants.{BlockString}
 use Rattle.graphql_core.specs.declared.tokenizer.element.ElementKind.{ElementKind}
 use Rattle.graphql_core.specs.declared.tokenizer.element.ElementKind.TheVariants as element
-use Rattle.graphql_core.specs.{front, is_in_line, Meaning, Ignored, Word, Stands, BeginsNone, BeginsWithElement, IsCutInto}
+use Rattle.graphql_core.specs.{front, is_in_line, Meaning, Ignored, TokenOf, Stands, BeginsNone, BeginsWithElement, IsCutInto}
 use Rattle.graphql_core.specs.lexical.Elements.{ignored_kind}
 use Rattle.graphql_core.specs.lexical.Lexical.{Piece as Element, ignored_tab, ignored_line_feed, ignored_carriage_return, ignored_space, ignored_comma}
 use Rattle.graphql_core.specs.lexical.Lexical.{ignored_byte_order_mark, comment_at_end, comment_feed, comment_return_feed, comment_return}
@@ -80,11 +80,11 @@ no_token (b ∷ bs) k h = either (b == 35) h where
 
 pub comment_spelling : (bytes : List ℕ) → IsElement element.Comment bytes → IsSpelling piece.Comment (trimmed bytes)
 comment_spelling bytes (Ignored m, rest, st, is) = a_comment st is
-comment_spelling bytes (Word k n, rest, st, is) = absurd cc
+comment_spelling bytes (TokenOf k n, rest, st, is) = absurd cc
 
 pub token_spelling : (k : Kind) (bytes : List ℕ) → IsElement (element.Token k) bytes → IsSpelling (piece.Token k) bytes
 token_spelling k bytes (Ignored m, rest, st, is) = absurd (no_token bytes k is)
-token_spelling k bytes (Word j n, rest, st, is) = let same : j ≡ k = cc in (n, rest, subst (λ (i : Kind). Stands bytes (Word i n) rest) same st)
+token_spelling k bytes (TokenOf j n, rest, st, is) = let same : j ≡ k = cc in (n, rest, subst (λ (i : Kind). Stands bytes (TokenOf i n) rest) same st)
 
 pub block_quotes : (spelling : List ℕ) → IsSpelling (piece.Token BlockString) spelling → IsInTripleQuotes spelling (without_ends 3 spelling)
 block_quotes spelling (n, rest, st) = spelled_as st
@@ -93,9 +93,9 @@ block_quotes spelling (n, rest, st) = spelled_as st
 
 same_length : (m k : Meaning) (i j : ℕ) → ahead_of m i ≡ ahead_of k j → i ≡ j
 same_length (Ignored m) (Ignored k) i j e = cc
-same_length (Ignored m) (Word k t) i j e = absurd cc
-same_length (Word k t) (Ignored m) i j e = absurd cc
-same_length (Word k t) (Word j u) i j' e = cc
+same_length (Ignored m) (TokenOf k t) i j e = absurd cc
+same_length (TokenOf k t) (Ignored m) i j e = absurd cc
+same_length (TokenOf k t) (TokenOf j u) i j' e = cc
 
 same_front : (text a b r s : List ℕ) (m k : Meaning) → text ≡ a ++ r → text ≡ b ++ s → Stands a m r → Stands b k s
     → ahead_of m (length a) ≡ ahead_of k (length b)

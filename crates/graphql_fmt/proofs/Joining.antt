@@ -10,7 +10,7 @@ use Rattle.graphql_core.specs.declared.tokenizer.piece.Nesting.TheVariants.{Unch
 use Rattle.graphql_core.specs.steps.Front.{AtEnd}
 use Rattle.graphql_core.specs.declared.tokenizer.token.Kind.{Kind}
 use Rattle.graphql_core.specs.declared.tokenizer.token.Kind.TheVariants.{Punctuator, Name, IntValue, FloatValue, StringValue, BlockString}
-use Rattle.graphql_core.specs.{front, Meaning, Ignored, Word, Stands, BeginsNone, block_string_of, in_block_form, has_block_lines, nowhere, MayFollow}
+use Rattle.graphql_core.specs.{front, Meaning, Ignored, TokenOf, Stands, BeginsNone, block_string_of, in_block_form, has_block_lines, nowhere, MayFollow}
 use Rattle.graphql_core.specs.lexical.Elements.{element_kind}
 use Rattle.graphql_core.specs.sources.Minified.{space_if}
 use Rattle.graphql_core.specs.lexical.Lexical.{ignored_line_feed, ignored_space, ignored_comma, comment_feed}
@@ -31,7 +31,7 @@ use Rattle.graphql_fmt.proofs.Trimmed.{trimmed_white}
 begins_none_at_end : BeginsNone []
 unfolding front
 begins_none_at_end bytes (Ignored m) rest st e = let h : AtEnd ≡ ahead_of (Ignored m) (length bytes) = ap front e ∙ stands_front st in absurd cc
-begins_none_at_end bytes (Word k t) rest st e = let h : AtEnd ≡ ahead_of (Word k t) (length bytes) = ap front e ∙ stands_front st in absurd cc
+begins_none_at_end bytes (TokenOf k t) rest st e = let h : AtEnd ≡ ahead_of (TokenOf k t) (length bytes) = ap front e ∙ stands_front st in absurd cc
 
 has_none : HasKept [] []
 has_none = ([], (refl, begins_none_at_end), refl)
@@ -61,7 +61,7 @@ white_kept (b ∷ gap) rest ks h has =
 
 token_kept : (k : Kind) (s rest : List ℕ) (ks : List Kept) → IsSpelling (piece.Token k) s → MayFollow k rest → HasKept rest ks
     → HasKept (s ++ rest) (kept_token k s ∷ ks)
-token_kept k s rest ks (n, more, st) f has = then_kept (Word k n) s rest (kept_token k s ∷ []) ks (stands_before st rest f) refl has
+token_kept k s rest ks (n, more, st) f has = then_kept (TokenOf k n) s rest (kept_token k s ∷ []) ks (stands_before st rest f) refl has
 
 -- a comment, and the end of its line
 comment_kept : (s rest : List ℕ) (ks : List Kept) → IsSpelling piece.Comment s → HasKept rest ks → HasKept (s ++ 10 ∷ rest) (KeptComment s ∷ ks)

@@ -5,7 +5,7 @@ use Rattle.graphql_core.specs.declared.tokenizer.piece.Nesting.TheVariants.{Unch
 use Rattle.graphql_core.specs.declared.tokenizer.token.Kind.{Kind}
 use Rattle.graphql_core.specs.declared.tokenizer.token.Kind.TheVariants.{Punctuator, Name, IntValue, FloatValue, StringValue, BlockString}
 use Rattle.graphql_core.specs.declared.tokenizer.element.ElementKind.TheVariants as element
-use Rattle.graphql_core.specs.{Meaning, Ignored, Word, Stands, IsCutInto, Piece, start, Item, HasItems, Where, item_at, TokenContent, LexicalError, too_deep}
+use Rattle.graphql_core.specs.{Meaning, Ignored, TokenOf, Stands, IsCutInto, Piece, start, Item, HasItems, Where, item_at, TokenContent, LexicalError, too_deep}
 use Rattle.graphql_core.specs.{is_too_deep, token_then, piece_then, items_of, past_ignored, past_token, split, Last, LastIsError, IsEnd, Token, nowhere}
 use Rattle.graphql_core.specs.{kind_number, token_of, valued, block_string_of}
 use Rattle.graphql_core.specs.lexical.Items.{openers_after, closers_after}
@@ -32,7 +32,7 @@ nesting FloatValue s = Unchanged
 nesting StringValue s = Unchanged
 nesting BlockString s = Unchanged
 
-nesting_is : {s : List ℕ} {k : Kind} {n : Nesting} {rest : List ℕ} → Stands s (Word k n) rest → nesting k s ≡ n
+nesting_is : {s : List ℕ} {k : Kind} {n : Nesting} {rest : List ℕ} → Stands s (TokenOf k n) rest → nesting k s ≡ n
 nesting_is (name_token first continues ends) = refl
 nesting_is (punctuator_token m) = refl
 nesting_is spread_token = refl
@@ -87,7 +87,7 @@ says_token true k s w more ks past same h = (rw past refl, rw past refl)
 says_token false k s w more ks past same h = (rw past (λ i. same i ∷ h.0 i), rw past h.1)
 
 says_word : (k : Kind) (s : List ℕ) (w : Where) (more : Where → List Item) (ks : List Kept) → ((v : Where) → SaysItems v (more v) ks)
-    → SaysItems w (piece_then (Word k (nesting k s)) more w s) (kept_token k s ∷ ks)
+    → SaysItems w (piece_then (TokenOf k (nesting k s)) more w s) (kept_token k s ∷ ks)
 says_word Punctuator s w more ks h =
     says_token (is_too_deep (punctuator_nesting s) w) Punctuator s w _ ks (past_is (punctuator_nesting s) w) refl (h (past_token (punctuator_nesting s) s w))
 says_word Name s w more ks h = says_token false Name s w _ ks refl refl (h (past_token Unchanged s w))
@@ -108,8 +108,8 @@ says_piece : (m : Meaning) (bytes rest : List ℕ) (w : Where) (more : Where →
     → ((v : Where) → SaysItems v (more v) ks) → SaysItems w (piece_then m more w bytes) (kept_element (element_kind bytes m) bytes ++ ks)
 says_piece (Ignored m) bytes rest w more ks st h =
     says_ignored (slice_index bytes 0 == 35) bytes w (more (past_ignored m (length bytes) w)) ks (h (past_ignored m (length bytes) w))
-says_piece (Word k n) bytes rest w more ks st h =
-    subst (λ (t : Nesting). SaysItems w (piece_then (Word k t) more w bytes) (kept_token k bytes ∷ ks)) (nesting_is st) (says_word k bytes w more ks h)
+says_piece (TokenOf k n) bytes rest w more ks st h =
+    subst (λ (t : Nesting). SaysItems w (piece_then (TokenOf k t) more w bytes) (kept_token k bytes ∷ ks)) (nesting_is st) (says_word k bytes w more ks h)
 
 -- ---- whole inputs
 
@@ -147,9 +147,9 @@ same_values source text items others (ks, mine, theirs) has more =
 all_piece : (m : Meaning) (w : Where) (bytes stop : List ℕ) (more : Where → List Item) → ((v : Where) → IsEnd (split (more v)).last → stop ≡ [])
     → IsEnd (split (piece_then m more w bytes)).last → stop ≡ []
 all_piece (Ignored m) w bytes stop more f end = f (past_ignored m (length bytes) w) end
-all_piece (Word k Unchanged) w bytes stop more f end = f (past_token Unchanged bytes w) end
-all_piece (Word k Closes) w bytes stop more f end = f (past_token Closes bytes w) end
-all_piece (Word k Opens) w bytes stop more f end = all_opened (is_too_deep Opens w) end
+all_piece (TokenOf k Unchanged) w bytes stop more f end = f (past_token Unchanged bytes w) end
+all_piece (TokenOf k Closes) w bytes stop more f end = f (past_token Closes bytes w) end
+all_piece (TokenOf k Opens) w bytes stop more f end = all_opened (is_too_deep Opens w) end
   where
     all_opened : (b : Bool)
         → IsEnd (split (token_then b (item_at (LexicalError too_deep) w) (item_at (TokenContent k bytes) w) (more (past_token Opens bytes w)))).last → stop ≡ []

@@ -1,6 +1,6 @@
 //! Theorems about the specification of formatting.
 ghost use Rattle.std.specs.Prelude.{◌≡◌};
-ghost use Rattle.graphql_core.specs.{deepest, Layout, most, AreReadBack};
+ghost use Rattle.graphql_core.specs.{deepest, StyleOptions, most, AreReadBack};
 ghost use Rattle.graphql_query.specs.{DocumentTree, erase, queries, IsLawfulDocument, document_layout, layout};
 ghost use Rattle.graphql_query.specs.{IsPrintable, definition_brackets};
 ghost use Rattle.graphql_query.specs.examples.QueryExamples as example;
@@ -20,12 +20,13 @@ pub fn worked_examples()
 
 /// The bracket depth counted on a document is the bracket depth of its layout, in every style.
 pub fn brackets_are_those_of_the_layout()
-    ensures { (style : Layout) (d : DocumentTree) → deepest (document_layout style d) ≡ most definition_brackets d }
+    ensures { (style : StyleOptions) (d : DocumentTree)
+        → deepest (document_layout style d) ≡ most definition_brackets d }
 {}
 
 /// The layout of a document does not depend on its positions.
 pub fn text_has_no_positions()
-    ensures { (style : Layout) (d : DocumentTree) → layout style (erase d) ≡ layout style d }
+    ensures { (style : StyleOptions) (d : DocumentTree) → layout style (erase d) ≡ layout style d }
 {}
 
 /// The layout of a printable document parses back to the document, ignoring positions.

@@ -1,6 +1,6 @@
 -- The layout of a document in a style. A line begins with a margin, a number of spaces.
 use Rattle.std.specs.Prelude.{ℕ, Bool, true, false, cond, List, [], ◌∷◌, ◌++◌, Option, Some, None, codes, map}
-use Rattle.graphql_core.specs.{name_part, punctuator_part, text_of, Layout, spaces, default_style, Part, gap}
+use Rattle.graphql_core.specs.{name_part, punctuator_part, text_of, StyleOptions, spaces, default_style, Part, gap}
 use Rattle.graphql_core.specs.{string_layout, type_layout, directives_layout, in_levels, in_braces, separated}
 use Rattle.graphql_core.specs.{in_parentheses, default_layout, most}
 use Rattle.std.specs.List.{flat_map}
@@ -17,13 +17,13 @@ use Rattle.graphql_core.specs.layouts.ValueLayout as values
 -- ---- descriptions
 
 -- above what it describes
-abbrev pub description_layout : Layout → ℕ → Option (List ℕ) → List Part
+abbrev pub description_layout : StyleOptions → ℕ → Option (List ℕ) → List Part
 description_layout style margin None = []
 description_layout style margin (Some text) =
     gap (spaces margin) ++ (string_layout style margin text ++ gap (codes "\n"))
 
 -- on the line of what it describes
-abbrev pub inline_layout : Layout → ℕ → Option (List ℕ) → List Part
+abbrev pub inline_layout : StyleOptions → ℕ → Option (List ℕ) → List Part
 inline_layout style margin None = []
 inline_layout style margin (Some text) = string_layout style margin text ++ gap (codes " ")
 
@@ -63,27 +63,27 @@ block_layout margin lines (x ∷ xs) = gap (codes " ") ++ in_braces margin (flat
 
 -- ---- arguments, fields and values
 
-abbrev pub input_value_layout : Layout → ℕ → InputValueTree → List Part
+abbrev pub input_value_layout : StyleOptions → ℕ → InputValueTree → List Part
 input_value_layout style margin v =
     inline_layout style margin v.description ++ (name_part v.name ++ (punctuator_part (codes ":") ++ (gap (codes " ")
     ++ (type_layout v.value_type
     ++ (default_layout style margin v.default_value ++ directives_layout style margin v.directives)))))
 
-abbrev pub arguments_layout : Layout → ℕ → List InputValueTree → List Part
+abbrev pub arguments_layout : StyleOptions → ℕ → List InputValueTree → List Part
 arguments_layout style margin = in_parentheses (input_value_layout style margin)
 
 -- a field of an input object, at the margin and with a line end
-abbrev pub input_field_layout : Layout → ℕ → InputValueTree → List Part
+abbrev pub input_field_layout : StyleOptions → ℕ → InputValueTree → List Part
 input_field_layout style margin v = gap (spaces margin) ++ (input_value_layout style margin v ++ gap (codes "\n"))
 
-abbrev pub field_layout : Layout → ℕ → FieldTree → List Part
+abbrev pub field_layout : StyleOptions → ℕ → FieldTree → List Part
 field_layout style margin f =
     description_layout style margin f.description
     ++ (gap (spaces margin) ++ (name_part f.name ++ (arguments_layout style margin f.arguments
     ++ (punctuator_part (codes ":") ++ (gap (codes " ")
     ++ (type_layout f.field_type ++ (directives_layout style margin f.directives ++ gap (codes "\n"))))))))
 
-abbrev pub enum_value_layout : Layout → ℕ → EnumValueTree → List Part
+abbrev pub enum_value_layout : StyleOptions → ℕ → EnumValueTree → List Part
 enum_value_layout style margin v =
     gap (spaces margin) ++ (inline_layout style margin v.description
     ++ (name_part v.name ++ (directives_layout style margin v.directives ++ gap (codes "\n"))))
@@ -97,18 +97,18 @@ root_layout margin word (Some n) = gap (spaces margin)
     ++ (name_part word ++ (punctuator_part (codes ":") ++ (gap (codes " ") ++ (name_part n ++ gap (codes "\n")))))
 
 -- the lines of the operations, in braces
-abbrev pub roots_layout : Layout → (query mutation subscription : Option (List ℕ)) → List Part
+abbrev pub roots_layout : StyleOptions → (query mutation subscription : Option (List ℕ)) → List Part
 roots_layout style q m s =
     gap (codes " ") ++ in_braces 0 (root_layout style.indent (codes "query") q
     ++ (root_layout style.indent (codes "mutation") m ++ root_layout style.indent (codes "subscription") s))
 
 -- a schema always has braces
-abbrev pub schema_layout : Layout → SchemaTree → List Part
+abbrev pub schema_layout : StyleOptions → SchemaTree → List Part
 schema_layout style s = name_part (codes "schema")
     ++ (directives_layout style 0 s.directives ++ roots_layout style s.query s.mutation s.subscription)
 
 -- an extension of the schema has braces only if it names an operation
-abbrev pub schema_extension_layout : Layout → SchemaTree → List Part
+abbrev pub schema_extension_layout : StyleOptions → SchemaTree → List Part
 schema_extension_layout style s =
     name_part (codes "extend")
     ++ (gap (codes " ") ++ (name_part (codes "schema") ++ (directives_layout style 0 s.directives
@@ -130,7 +130,7 @@ interfaces (interface is fs) = is
 interfaces _ = []
 
 -- the other parts, which come after the directives
-abbrev pub parts_layout : Layout → PartsTree → List Part
+abbrev pub parts_layout : StyleOptions → PartsTree → List Part
 parts_layout style scalar = gap (codes "\n")
 parts_layout style (object is fs) = block_layout 0 (field_layout style style.indent) fs
 parts_layout style (interface is fs) = block_layout 0 (field_layout style style.indent) fs
@@ -138,7 +138,7 @@ parts_layout style (union ts) = members_layout ts ++ gap (codes "\n")
 parts_layout style (enum vs) = block_layout 0 (enum_value_layout style style.indent) vs
 parts_layout style (input fs) = block_layout 0 (input_field_layout style style.indent) fs
 
-abbrev pub body_layout : Layout → BodyTree → List Part
+abbrev pub body_layout : StyleOptions → BodyTree → List Part
 body_layout style b =
     name_part (keyword b.parts) ++ (gap (codes " ") ++ (name_part b.name ++ (interfaces_layout (interfaces b.parts)
     ++ (directives_layout style 0 b.directives ++ parts_layout style b.parts))))
@@ -147,14 +147,14 @@ abbrev pub repeatable_layout : Bool → List Part
 repeatable_layout false = []
 repeatable_layout true = gap (codes " ") ++ name_part (codes "repeatable")
 
-abbrev pub directive_definition_layout : Layout → DirectiveDefinitionTree → List Part
+abbrev pub directive_definition_layout : StyleOptions → DirectiveDefinitionTree → List Part
 directive_definition_layout style d =
     description_layout style 0 d.description
     ++ (name_part (codes "directive") ++ (gap (codes " ") ++ (punctuator_part (codes "@") ++ (name_part d.name
     ++ (arguments_layout style 0 d.arguments
     ++ (repeatable_layout d.repeatable ++ (locations_layout d.locations ++ gap (codes "\n"))))))))
 
-abbrev pub definition_layout : Layout → DefinitionTree → List Part
+abbrev pub definition_layout : StyleOptions → DefinitionTree → List Part
 definition_layout style (schema d s) = description_layout style 0 d ++ schema_layout style s
 definition_layout style (type_definition d b) = description_layout style 0 d ++ body_layout style b
 definition_layout style (extension b) = name_part (codes "extend") ++ (gap (codes " ") ++ body_layout style b)
@@ -166,36 +166,36 @@ abbrev pub shown : DefinitionTree → Option (List ℕ)
 shown d = Some (text_of (definition_layout default_style d))
 
 -- the definitions, separated by empty lines
-abbrev pub document_layout : Layout → DocumentTree → List Part
+abbrev pub document_layout : StyleOptions → DocumentTree → List Part
 document_layout style = separated (definition_layout style)
 
 -- the formatted document
-abbrev pub layout : Layout → DocumentTree → List ℕ
+abbrev pub layout : StyleOptions → DocumentTree → List ℕ
 layout style d = text_of (document_layout style d)
 
 -- ---- levels that are open at once
 
-abbrev pub input_value_levels : Layout → InputValueTree → ℕ
+abbrev pub input_value_levels : StyleOptions → InputValueTree → ℕ
 input_value_levels style = input_value_depth (in_levels style)
 
-abbrev pub field_levels : Layout → FieldTree → ℕ
+abbrev pub field_levels : StyleOptions → FieldTree → ℕ
 field_levels style = field_depth (in_levels style)
 
-abbrev pub enum_value_levels : Layout → EnumValueTree → ℕ
+abbrev pub enum_value_levels : StyleOptions → EnumValueTree → ℕ
 enum_value_levels style = enum_value_depth (in_levels style)
 
-abbrev pub parts_levels : Layout → PartsTree → ℕ
+abbrev pub parts_levels : StyleOptions → PartsTree → ℕ
 parts_levels style = parts_depth (in_levels style)
 
-abbrev pub body_levels : Layout → BodyTree → ℕ
+abbrev pub body_levels : StyleOptions → BodyTree → ℕ
 body_levels style = body_depth (in_levels style)
 
-abbrev pub definition_levels : Layout → DefinitionTree → ℕ
+abbrev pub definition_levels : StyleOptions → DefinitionTree → ℕ
 definition_levels style = definition_depth (in_levels style)
 
-abbrev pub levels : Layout → DocumentTree → ℕ
+abbrev pub levels : StyleOptions → DocumentTree → ℕ
 levels style d = most (definition_levels style) d
 
 -- the levels open at once take more than `u32::MAX` spaces, even if no line is in the deepest of them
-abbrev pub IsTooWide : Layout → DocumentTree → Type 0
+abbrev pub IsTooWide : StyleOptions → DocumentTree → Type 0
 IsTooWide style d = values.IsTooWide style (levels style d)

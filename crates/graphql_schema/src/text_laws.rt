@@ -1,6 +1,6 @@
 //! Theorems about the specification: lookahead, directive locations, examples and formatting.
 ghost use Rattle.std.specs.Prelude.{◌≡◌, ℕ, List, [], ◌∷◌, Some};
-ghost use Rattle.graphql_core.specs.{deepest, Layout, most, AreReadBack};
+ghost use Rattle.graphql_core.specs.{deepest, StyleOptions, most, AreReadBack};
 ghost use Rattle.graphql_schema.specs.{DocumentTree, erase, schemas, IsLawfulDocument, document_layout, layout};
 ghost use Rattle.graphql_schema.specs.{IsPrintable, definition_brackets, item_symbol, extension_symbol};
 ghost use Rattle.graphql_schema.specs.{described_symbol, unread, written_rows, word_of, location_of, WorkedMeanings};
@@ -30,12 +30,13 @@ pub fn worked_layouts()
 
 /// The bracket depth counted on a document is the bracket depth of its layout, in every style.
 pub fn brackets_are_those_of_the_layout()
-    ensures { (style : Layout) (d : DocumentTree) → deepest (document_layout style d) ≡ most definition_brackets d }
+    ensures { (style : StyleOptions) (d : DocumentTree)
+        → deepest (document_layout style d) ≡ most definition_brackets d }
 {}
 
 /// The layout of a document does not depend on its positions.
 pub fn text_has_no_positions()
-    ensures { (style : Layout) (d : DocumentTree) → layout style (erase d) ≡ layout style d }
+    ensures { (style : StyleOptions) (d : DocumentTree) → layout style (erase d) ≡ layout style d }
 {}
 
 /// The layout of a printable document parses back to the document, ignoring positions.

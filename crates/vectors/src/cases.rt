@@ -38,7 +38,7 @@ pub enum Asked {
 #[derive(Clone, Copy)]
 pub enum Telling {
     /// The document formatted in a style.
-    Layout { indent: u32, multiline: bool },
+    StyleOptions { indent: u32, multiline: bool },
     /// The tree, as `Debug` shows it.
     Tree,
     /// The parts of the tree one by one, as `Display` shows them.
@@ -108,11 +108,11 @@ fn sized<'a>(text: &'a str, length: &str) -> Option<(&'a str, &'a str)> {
 
 /// The language and the report that a word asks for, with `indent` spaces a level.
 fn read_telling(word: &str, indent: u32) -> Option<(Language, Telling)> {
-    let lines = Telling::Layout {
+    let lines = Telling::StyleOptions {
         indent,
         multiline: true,
     };
-    let layout = Telling::Layout {
+    let layout = Telling::StyleOptions {
         indent,
         multiline: false,
     };

@@ -33,7 +33,7 @@ pub fn told_of_layouts(alloc: Global, language: Language, source: &str, telling:
         (2, true),
         (7, true),
     ] {
-        let telling = Telling::Layout { indent, multiline };
+        let telling = Telling::StyleOptions { indent, multiline };
         let layout = told_with::<&str>(alloc, language, source, telling);
         read_back(&mut told, language, &tree, &layout, telling);
     }
@@ -104,7 +104,7 @@ pub fn told_of_lines(alloc: Global, language: Language, lines: &str) -> Told {
 /// Reports a line for each prefix that is a document: its length. The documents must parse back, as above.
 pub fn told_of_prefixes(alloc: Global, language: Language, source: &str) -> Told {
     let mut told = Told::new(alloc);
-    let layout = Telling::Layout {
+    let layout = Telling::StyleOptions {
         indent: 2,
         multiline: false,
     };

@@ -181,7 +181,7 @@ fn are_equal_as<'a, D: Document<'a>>(alloc: Global, one: &'a str, other: &'a str
 /// Reports on a document what is asked for.
 fn tell<'a, D: Document<'a>>(told: &mut Told, document: &D, telling: Telling) {
     match telling {
-        Telling::Layout { indent, multiline } => {
+        Telling::StyleOptions { indent, multiline } => {
             told.tell_answer(&document.laid_out(told.alloc, &style_of(indent, multiline)));
         }
         Telling::Tree => told.show_debug(document),

@@ -87,7 +87,7 @@ fn told_of_tokens(alloc: Global, source: &str, asked: Asked) -> Told {
 /// The report on the input of a case.
 fn told_of_case(alloc: Global, case: &Case<'_>) -> Told {
     match case.asked {
-        Asked::Document(language, telling @ Telling::Layout { .. }) => told_of_layouts(
+        Asked::Document(language, telling @ Telling::StyleOptions { .. }) => told_of_layouts(
             alloc,
             language,
             case.source,

@@ -2,7 +2,7 @@
 use Rattle.std.proofs.Common.{◌≡◌, ◌<◌, ◌≤◌, length, List, ℕ, inl, inr, sym, ap, ◌∙◌, subst}
 use Rattle.std.proofs.lemmas.Bool.{cases_lt}
 use Rattle.graphql_core.proofs.lexical.{items_unique}
-use Rattle.graphql_core.specs.{Layout, Item, split, max_length, IsDocument, IsDocumentOf, IsReadBack, AreReadBack, Language, IsReadable}
+use Rattle.graphql_core.specs.{StyleOptions, Item, split, max_length, IsDocument, IsDocumentOf, IsReadBack, AreReadBack, Language, IsReadable}
 use Rattle.graphql_core.proofs.documents.Whole.{one_document}
 
 module _ {D : Type 0} (l : Language D) where
@@ -17,10 +17,10 @@ module _
     {D : Type 0}
     (l : Language D)
     (r : IsReadable l)
-    (layout : Layout → D → List ℕ)
-    (alike : (style : Layout) (d : D) → layout style (l.erase d) ≡ layout style d)
+    (layout : StyleOptions → D → List ℕ)
+    (alike : (style : StyleOptions) (d : D) → layout style (l.erase d) ≡ layout style d)
     (IsPrinted : D → Type 0)
-    (back : (style : Layout) (d : D) → IsPrinted d → IsReadBack l (layout style d) d)
+    (back : (style : StyleOptions) (d : D) → IsPrinted d → IsReadBack l (layout style d) d)
   where
     -- an input has one document
     only_document : (text : List ℕ) (d e : D) → IsDocumentOf l text d → IsDocumentOf l text e → d ≡ e
@@ -28,10 +28,11 @@ module _
         one_document l r (split i) d e is (subst (λ (items : List Item). IsDocument l (split items) e) (items_unique text j i k h) other)
 
     -- documents that are equal ignoring positions have one output in each style
-    same_text : (style : Layout) (d e : D) → l.erase d ≡ l.erase e → layout style d ≡ layout style e
+    same_text : (style : StyleOptions) (d e : D) → l.erase d ≡ l.erase e → layout style d ≡ layout style e
     same_text style d e same = sym (alike style d) ∙ ap (layout style) same ∙ alike style e
 
-    printed_again : (style : Layout) (d e : D) → IsPrinted d → IsDocumentOf l (layout style d) e → (l.erase e ≡ l.erase d) × (layout style e ≡ layout style d)
+    printed_again : (style : StyleOptions) (d e : D) → IsPrinted d → IsDocumentOf l (layout style d) e
+        → (l.erase e ≡ l.erase d) × (layout style e ≡ layout style d)
     printed_again style d e is h =
         let w = back style d is in
         let same : l.erase e ≡ l.erase d = ap l.erase (only_document (layout style d) e w.0 h w.1) ∙ w.2 in

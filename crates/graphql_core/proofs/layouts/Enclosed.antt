@@ -3,7 +3,7 @@ use Rattle.std.proofs.Common.{◌≡◌, ◌++◌, ◌∙◌, ap, sym, refl, ℕ
 use Rattle.std.proofs.Common.{codes, append_assoc, append-nil, arith}
 use Rattle.std.proofs.lemmas.Bool.{eqb-false}
 use Rattle.std.proofs.Math.Nat.{mul-le-mul_left}
-use Rattle.graphql_core.specs.{punctuator_part, text_of, Part, gap, new_line, Layout, spaces, inside, opened, before_part, parts, after_parts, enclosed}
+use Rattle.graphql_core.specs.{punctuator_part, text_of, Part, gap, new_line, StyleOptions, spaces, inside, opened, before_part, parts, after_parts, enclosed}
 use Rattle.graphql_core.specs.{pair_layout, each_argument, arguments_layout, arguments_levels, most_levels, directive_layout, directives_layout, in_braces}
 use Rattle.graphql_core.specs.{ValueTree, DirectiveTree}
 use Rattle.graphql_core.proofs.layouts.Appending.{text_append, and_part}
@@ -16,7 +16,7 @@ inside_fits_at true indent margin levels most h = omega arith
 inside_fits_at false indent margin levels most h = h
 
 -- what fits in a level fits inside
-pub inside_fits : (style : Layout) (margin levels most : ℕ) → margin + opened style levels * style.indent < most
+pub inside_fits : (style : StyleOptions) (margin levels most : ℕ) → margin + opened style levels * style.indent < most
     → inside style margin + levels * style.indent < most
 inside_fits style margin levels most h = inside_fits_at style.multiline style.indent margin levels most h
 
@@ -51,30 +51,30 @@ pub first_text : (one later : List Part) → (codes "(" ++ text_of one)
 first_text one later = simp (text_append, append_assoc)
 
 -- before a part, if each part takes a line
-pub before_first : (style : Layout) (margin : ℕ) (later : Bool) → style.multiline ≡ true → later ≡ false
+pub before_first : (style : StyleOptions) (margin : ℕ) (later : Bool) → style.multiline ≡ true → later ≡ false
     → text_of (new_line margin) ≡ text_of (before_part style margin later)
 before_first style margin later m l = rw (l, m) refl
 
-pub before_later : (style : Layout) (margin : ℕ) (later : Bool) → style.multiline ≡ true → later ≡ true → codes ","
+pub before_later : (style : StyleOptions) (margin : ℕ) (later : Bool) → style.multiline ≡ true → later ≡ true → codes ","
     ++ text_of (new_line margin) ≡ text_of (before_part style margin later)
 before_later style margin later m l = rw (l, m) refl
 
 -- after the parts, if each part takes a line and if none does
-pub after_lines : (style : Layout) (margin : ℕ) → style.multiline ≡ true → text_of (new_line margin) ≡ text_of (after_parts style margin)
+pub after_lines : (style : StyleOptions) (margin : ℕ) → style.multiline ≡ true → text_of (new_line margin) ≡ text_of (after_parts style margin)
 after_lines style margin m = rw m refl
 
-pub after_none : (style : Layout) (margin : ℕ) → style.multiline ≡ false → [] ≡ text_of (after_parts style margin)
+pub after_none : (style : StyleOptions) (margin : ℕ) → style.multiline ≡ false → [] ≡ text_of (after_parts style margin)
 after_none style margin m = rw m refl
 
 pub closed_text : (ps : List Part) (closer : List ℕ) → text_of ps ++ closer ≡ text_of (ps ++ punctuator_part closer)
 closed_text ps closer = sym (text_append ps (punctuator_part closer) ∙ ap (λ r. text_of ps ++ r) (append-nil closer))
 
-parts_more : (style : Layout) (margin : ℕ) (later : Bool) (p : List Part) (ps : List (List Part))
+parts_more : (style : StyleOptions) (margin : ℕ) (later : Bool) (p : List Part) (ps : List (List Part))
     → text_of (parts style margin later (p ∷ ps)) ≡ text_of (before_part style margin later) ++ (text_of p ++ text_of (parts style margin true ps))
 parts_more style margin later p ps = text_append (before_part style margin later) (p ++ parts style margin true ps)
     ∙ ap (λ r. text_of (before_part style margin later) ++ r) (text_append p (parts style margin true ps))
 
-pub enclosed_text : (style : Layout) (margin indented : ℕ) (opener closer : List ℕ) (layouts : ℕ → List (List Part)) → indented ≡ inside style margin
+pub enclosed_text : (style : StyleOptions) (margin indented : ℕ) (opener closer : List ℕ) (layouts : ℕ → List (List Part)) → indented ≡ inside style margin
     → (opener ++ text_of (parts style indented false (layouts indented)))
     ++ text_of (after_parts style margin ++ punctuator_part closer) ≡ text_of (enclosed style margin opener closer (layouts (inside style margin)))
 enclosed_text style margin indented opener closer layouts e =
@@ -87,7 +87,7 @@ enclosed_text style margin indented opener closer layouts e =
 module _ {S : Type 0} (took : S → List ℕ → S → Type 0)
     (more : (s : S) (a : List ℕ) (t : S) (b : List ℕ) (u : S) → took s a t → took t b u → took s (a ++ b) u) where
   -- one more part, with what comes before it
-  pub and_next : (style : Layout) (margin : ℕ) (later : Bool) (p : List Part) (ps : List (List Part)) (s out mid new : S) (done whole : List ℕ)
+  pub and_next : (style : StyleOptions) (margin : ℕ) (later : Bool) (p : List Part) (ps : List (List Part)) (s out mid new : S) (done whole : List ℕ)
       → took s done out → took out (text_of (before_part style margin later)) mid → took mid (text_of p) new → done
       ++ text_of (parts style margin later (p ∷ ps)) ≡ whole
       → (now : List ℕ) × took s now new × (now ++ text_of (parts style margin true ps) ≡ whole)
@@ -106,26 +106,27 @@ some_items n xs e h = omega (arith, eqb-false _ _ h, e)
 
 module _ {X : Type 0} (f : X → List ℕ × ValueTree) where
   -- the levels of a non-empty list of arguments
-  pub filled_levels : (style : Layout) (xs : List X) → 0 < length xs → arguments_levels style (map f xs) ≡ opened style (most_levels style (map f xs))
+  pub filled_levels : (style : StyleOptions) (xs : List X) → 0 < length xs → arguments_levels style (map f xs) ≡ opened style (most_levels style (map f xs))
   filled_levels style [] h = absurd (omega arith)
   filled_levels style (x ∷ xs) h = refl
 
   -- what fits in a level fits inside
-  pub arguments_fit : (style : Layout) (margin most : ℕ) (xs : List X) → 0 < length xs → margin + arguments_levels style (map f xs) * style.indent < most
+  pub arguments_fit : (style : StyleOptions) (margin most : ℕ) (xs : List X) → 0 < length xs → margin + arguments_levels style (map f xs) * style.indent < most
       → inside style margin + most_levels style (map f xs) * style.indent < most
   arguments_fit style margin most xs h within = inside_fits style margin (most_levels style (map f xs)) most (rw (filled_levels style xs h) at within)
 
-  pub filled_layout : (style : Layout) (margin : ℕ) (xs : List X) → 0 < length xs
+  pub filled_layout : (style : StyleOptions) (margin : ℕ) (xs : List X) → 0 < length xs
       → enclosed style margin (codes "(") (codes ")") (each_argument style (inside style margin) (map f xs)) ≡ arguments_layout style margin (map f xs)
   filled_layout style margin [] h = absurd (omega arith)
   filled_layout style margin (x ∷ xs) h = refl
 
 -- a directive, and a list of directives
-pub directive_text : (style : Layout) (margin : ℕ) (d : DirectiveTree) → (codes "@" ++ d.name)
+pub directive_text : (style : StyleOptions) (margin : ℕ) (d : DirectiveTree) → (codes "@" ++ d.name)
     ++ text_of (arguments_layout style margin d.arguments) ≡ text_of (directive_layout style margin d)
 directive_text style margin d = append_assoc (codes "@") d.name (text_of (arguments_layout style margin d.arguments))
 
-pub directives_more : (style : Layout) (margin : ℕ) (d : DirectiveTree) (ds : List DirectiveTree) → (codes " " ++ text_of (directive_layout style margin d))
+pub directives_more : (style : StyleOptions) (margin : ℕ) (d : DirectiveTree) (ds : List DirectiveTree)
+    → (codes " " ++ text_of (directive_layout style margin d))
     ++ text_of (directives_layout style margin ds) ≡ text_of (directives_layout style margin (d ∷ ds))
 directives_more style margin d ds = append_assoc (codes " ") (text_of (directive_layout style margin d)) (text_of (directives_layout style margin ds))
     ∙ ap (λ r. codes " " ++ r) (sym (text_append (directive_layout style margin d) (directives_layout style margin ds)))

@@ -1,7 +1,8 @@
 -- With arguments in one line, values, defaults, arguments and directives open at most one level: a block string.
 use Rattle.std.proofs.Common.{◌≡◌, ◌≤◌, ℕ, Bool, true, false, if◌then◌else◌, List, [], ◌∷◌, Option, Some, None, arith}
 use Rattle.graphql_core.specs.{float, string, item, enum, object, no_items, int, ValueTree, ValueItems, ValueMembers, DirectiveTree, variable, boolean, null}
-use Rattle.graphql_core.specs.{list, no_members, member, Layout, has_block_form, opened, string_levels, value_levels, items_levels, members_levels, most_levels}
+use Rattle.graphql_core.specs.{list, no_members, member, StyleOptions, has_block_form, opened, string_levels, value_levels, items_levels, members_levels}
+use Rattle.graphql_core.specs.{most_levels}
 use Rattle.graphql_core.specs.{arguments_levels, directives_levels, default_levels, most}
 
 -- ---- lists of trees
@@ -20,7 +21,7 @@ one_or_none false = omega arith
 pub string_bounded : (text : List ℕ) → string_levels text ≤ 1
 string_bounded text = one_or_none (has_block_form text)
 
-module _ (style : Layout) (one_line : style.multiline ≡ false) where
+module _ (style : StyleOptions) (one_line : style.multiline ≡ false) where
   opened_bounded : (n : ℕ) → n ≤ 1 → opened style n ≤ 1
   opened_bounded n h = rw one_line h
 

@@ -5,7 +5,7 @@ use Rattle.std.proofs.lemmas.Bool.{cases_eq, and_parts}
 use Rattle.std.proofs.lemmas.Bool.Decides.{nat_tests}
 use Rattle.graphql_core.specs.steps.Front.{AtEnd}
 use Rattle.graphql_core.specs.{is_delimiter, nesting_of, EndsRun, ignored_line_feed, ignored_comma, punctuator_token, BeginsNone, ignored_space}
-use Rattle.graphql_core.specs.{is_punctuator_byte, Ignored, Word, Stands, spread_token, Piece, IsCutInto, Token, kind_number, front, Where, Item, HasItems}
+use Rattle.graphql_core.specs.{is_punctuator_byte, Ignored, TokenOf, Stands, spread_token, Piece, IsCutInto, Token, kind_number, front, Where, Item, HasItems}
 use Rattle.graphql_core.specs.{start, past_ignored, past_token, is_too_deep, items_of, split, IsEnd, Part, token, ignored, text_of}
 use Rattle.graphql_core.proofs.lexical.{ahead_of, stands_front}
 use Rattle.graphql_core.specs.declared.tokenizer.piece.Move.{Move}
@@ -20,7 +20,7 @@ use Rattle.graphql_core.specs.declared.tokenizer.piece.Nesting.TheVariants.{Unch
 
 -- a token that is no bracket, if white space, a comma, a punctuator of one character or the end follows it
 abbrev pub IsWord : Kind → List ℕ → Type 0
-IsWord k s = (rest : List ℕ) → EndsRun rest → Stands s (Word k Unchanged) rest
+IsWord k s = (rest : List ℕ) → EndsRun rest → Stands s (TokenOf k Unchanged) rest
 
 -- ignored text of layouts: spaces, line feeds and commas
 abbrev pub is_blank : ℕ → Bool
@@ -93,7 +93,7 @@ IsCut w ps =
 no_piece : BeginsNone []
 unfolding front
 no_piece bytes (Ignored m) rest st e = let h : AtEnd ≡ ahead_of (Ignored m) (length bytes) = ap front e ∙ stands_front st in absurd cc
-no_piece bytes (Word k t) rest st e = let h : AtEnd ≡ ahead_of (Word k t) (length bytes) = ap front e ∙ stands_front st in absurd cc
+no_piece bytes (TokenOf k t) rest st e = let h : AtEnd ≡ ahead_of (TokenOf k t) (length bytes) = ap front e ∙ stands_front st in absurd cc
 
 -- d brackets are open there
 abbrev pub IsDeep : ℕ → Where → Type 0
@@ -123,13 +123,13 @@ cut_blank (b ∷ text) h ps d k w deep =
     ]
 
 -- a token that is not too deep
-cut_token : (k : Kind) (t : Nesting) (s : List ℕ) (ps : List Part) (w : Where) → is_too_deep t w ≡ false → Stands s (Word k t) (text_of ps)
+cut_token : (k : Kind) (t : Nesting) (s : List ℕ) (ps : List Part) (w : Where) → is_too_deep t w ≡ false → Stands s (TokenOf k t) (text_of ps)
     → IsCut (past_token t s w) ps → IsCut w (token k s ∷ ps)
 unfolding items_of
 cut_token k t s ps w fits st (pieces, cut, spells, end) =
-    (record { bytes = s; meaning = Word k t } ∷ pieces, (text_of ps, refl, st, cut), rw fits (refl, refl, spells), rw fits end)
+    (record { bytes = s; meaning = TokenOf k t } ∷ pieces, (text_of ps, refl, st, cut), rw fits (refl, refl, spells), rw fits end)
 
-cut_punctuator : (b : ℕ) (t : Nesting) (ps : List Part) (d e : ℕ) (w : Where) → Deepens t d e → IsDeep d w → Stands (b ∷ []) (Word Punctuator t) (text_of ps)
+cut_punctuator : (b : ℕ) (t : Nesting) (ps : List Part) (d e : ℕ) (w : Where) → Deepens t d e → IsDeep d w → Stands (b ∷ []) (TokenOf Punctuator t) (text_of ps)
     → ((v : Where) → IsDeep e v → IsCut v ps) → IsCut w (token Punctuator (b ∷ []) ∷ ps)
 cut_punctuator b Unchanged ps d e w n deep st k = cut_token Punctuator Unchanged (b ∷ []) ps w refl st (k _ (omega arith))
 cut_punctuator b Opens ps d e w n deep st k = cut_token Punctuator Opens (b ∷ []) ps w (grind (arith, nat_tests)) st (k _ (omega arith))

@@ -1,6 +1,6 @@
 -- Layouts do not depend on positions.
 use Rattle.std.proofs.Common.{◌≡◌, ◌++◌, ap₂, refl, codes, ℕ, List, [], ◌∷◌, map}
-use Rattle.graphql_core.specs.{punctuator_part, Part, gap, Layout, DirectiveTree, erase_all, erase, directive_layout}
+use Rattle.graphql_core.specs.{punctuator_part, Part, gap, StyleOptions, DirectiveTree, erase_all, erase, directive_layout}
 use Rattle.graphql_core.specs.{directives_layout, each_after, separated, in_parentheses}
 
 module _ {A : Type 0} (erased : A → A) (lines : A → List Part) (same : (x : A) → lines (erased x) ≡ lines x) where
@@ -17,6 +17,6 @@ module _ {A : Type 0} (erased : A → A) (lines : A → List Part) (same : (x : 
   in_parentheses_alike (x ∷ xs) =
       ap₂ (λ a b. punctuator_part (codes "(") ++ (a ++ (b ++ punctuator_part (codes ")")))) (same x) (each_after_alike (codes ", ") xs)
 
-pub directives_alike : (style : Layout) (margin : ℕ) (ds : List DirectiveTree)
+pub directives_alike : (style : StyleOptions) (margin : ℕ) (ds : List DirectiveTree)
     → directives_layout style margin (erase_all ds) ≡ directives_layout style margin ds
 directives_alike style margin = each_after_alike erase (directive_layout style margin) (λ d. refl) (codes " ")

@@ -9,7 +9,7 @@ use Rattle.graphql_core.specs.declared.tokenizer.piece.Skipped.{Skipped}
 use Rattle.graphql_core.specs.declared.tokenizer.piece.Taken.{Taken}
 use Rattle.graphql_core.specs.steps.Front.{FrontElement, Skips, Takes}
 use Rattle.graphql_core.specs.declared.tokenizer.token.Kind.{Kind}
-use Rattle.graphql_core.specs.{front, ignored_front, taken, Meaning, Ignored, Word, Stands, BeginsNone}
+use Rattle.graphql_core.specs.{front, ignored_front, taken, Meaning, Ignored, TokenOf, Stands, BeginsNone}
 use Rattle.graphql_core.specs.lexical.Elements.{ignored_kind, element_kind, BeginsWithElement}
 use Rattle.graphql_core.proofs.lexical.FrontIsPiece.{ahead_of, stands_front}
 use Rattle.graphql_core.proofs.lexical.OneCut.{Sees, front_sees}
@@ -28,11 +28,11 @@ at_length text bytes rest m n e st l =
 
 same_skip : (n i : ℕ) (m : Move) (k : Meaning) → Skips n m ≡ ahead_of k i → (k ≡ Ignored m) × (i ≡ n)
 same_skip n i m (Ignored o) e = (cc, cc)
-same_skip n i m (Word k t) e = absurd cc
+same_skip n i m (TokenOf k t) e = absurd cc
 
-same_take : (n i : ℕ) (k : Kind) (t : Nesting) (m : Meaning) → Takes n k t ≡ ahead_of m i → (m ≡ Word k t) × (i ≡ n)
+same_take : (n i : ℕ) (k : Kind) (t : Nesting) (m : Meaning) → Takes n k t ≡ ahead_of m i → (m ≡ TokenOf k t) × (i ≡ n)
 same_take n i k t (Ignored o) e = absurd cc
-same_take n i k t (Word j u) e = (cc, cc)
+same_take n i k t (TokenOf j u) e = (cc, cc)
 
 skipped : (text : List ℕ) (n : ℕ) (m : Move) → front text ≡ Skips n m → StandsFirst text n (Ignored m)
 skipped text n m e =
@@ -40,15 +40,15 @@ skipped text n m e =
     let (same, l) = same_skip n (length bytes) m k (sym e ∙ ap front is ∙ stands_front st) in
     at_length text bytes rest (Ignored m) n is (subst (λ (o : Meaning). Stands bytes o rest) same st) l
 
-took : (text : List ℕ) (n : ℕ) (k : Kind) (t : Nesting) → front text ≡ Takes n k t → StandsFirst text n (Word k t)
+took : (text : List ℕ) (n : ℕ) (k : Kind) (t : Nesting) → front text ≡ Takes n k t → StandsFirst text n (TokenOf k t)
 took text n k t e =
     let (bytes, m, rest, is, st) = subst (Sees text) e (front_sees text) in
     let (same, l) = same_take n (length bytes) k t m (sym e ∙ ap front is ∙ stands_front st) in
-    at_length text bytes rest (Word k t) n is (subst (λ (o : Meaning). Stands bytes o rest) same st) l
+    at_length text bytes rest (TokenOf k t) n is (subst (λ (o : Meaning). Stands bytes o rest) same st) l
 
 not_ahead : (m : Meaning) (n : ℕ) → ignored_front (ahead_of m n) ≡ None → taken (ahead_of m n) ≡ None → ⊥
 not_ahead (Ignored m) n h k = absurd cc
-not_ahead (Word j t) n h k = absurd cc
+not_ahead (TokenOf j t) n h k = absurd cc
 
 -- no lexical element begins an input whose front is neither ignored text nor a token
 pub begins_none : (text : List ℕ) → ignored_front (front text) ≡ None → taken (front text) ≡ None → BeginsNone text
@@ -68,4 +68,5 @@ ignored_element text first rest s kind e f h k =
 pub token_element : (text first rest : List ℕ) (t : Taken) → first ≡ take t.len text → rest ≡ drop t.len text → taken (front text) ≡ Some t
     → BeginsWithElement text (element.Token t.kind) first rest
 token_element text first rest t e f h =
-    as_element text first rest t.len (Word t.kind t.nesting) (element.Token t.kind) e f (took text t.len t.kind t.nesting (taken_front (front text) t h)) refl
+    as_element text first rest t.len (TokenOf t.kind t.nesting) (element.Token t.kind) e f
+    (took text t.len t.kind t.nesting (taken_front (front text) t h)) refl

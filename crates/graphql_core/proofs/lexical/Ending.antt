@@ -1,6 +1,6 @@
 -- Items are tokens, and then one last item.
 use Rattle.std.proofs.Common.{◌≡◌, ℕ, Bool, true, false, List, [], ◌∷◌, refl, sym, ap, subst}
-use Rattle.graphql_core.specs.{Piece, Meaning, Ignored, Word, Where, Item, EndsOnce, HasItems, is_token, is_too_deep}
+use Rattle.graphql_core.specs.{Piece, Meaning, Ignored, TokenOf, Where, Item, EndsOnce, HasItems, is_token, is_too_deep}
 use Rattle.graphql_core.specs.{items_of, last_item, piece_then, token_then}
 
 alone : (i : Item) → is_token i.content ≡ false → EndsOnce (i ∷ [])
@@ -18,7 +18,7 @@ token_ends false bad token more b t e =
 
 piece_ends : (m : Meaning) (more : Where → List Item) (w : Where) (bytes : List ℕ) → ((v : Where) → EndsOnce (more v)) → EndsOnce (piece_then m more w bytes)
 piece_ends (Ignored m) more w bytes e = e _
-piece_ends (Word k t) more w bytes e = token_ends (is_too_deep t w) _ _ _ refl refl (e _)
+piece_ends (TokenOf k t) more w bytes e = token_ends (is_too_deep t w) _ _ _ refl refl (e _)
 
 pieces_end : (w : Where) (pieces : List Piece) (stop : List ℕ) → EndsOnce (items_of w pieces stop)
 unfolding items_of

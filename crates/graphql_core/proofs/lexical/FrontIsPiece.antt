@@ -9,7 +9,7 @@ use Rattle.graphql_core.specs.declared.tokenizer.piece.Move.TheVariants.{Stay, D
 use Rattle.graphql_core.specs.steps.Front.{FrontElement, Skips, Takes}
 use Rattle.graphql_core.specs.declared.tokenizer.piece.Nesting.TheVariants.{Unchanged}
 use Rattle.graphql_core.specs.{front, front_of, other_token, comment, line_end, starts_number, number, is_name_start, is_name_continue, is_in_line}
-use Rattle.graphql_core.specs.{is_punctuator_byte, nesting_of, Meaning, Ignored, Word, Stands, ignored_tab, ignored_line_feed, ignored_carriage_return}
+use Rattle.graphql_core.specs.{is_punctuator_byte, nesting_of, Meaning, Ignored, TokenOf, Stands, ignored_tab, ignored_line_feed, ignored_carriage_return}
 use Rattle.graphql_core.specs.{ignored_space, ignored_comma, ignored_byte_order_mark, comment_at_end, comment_feed, comment_return_feed, comment_return}
 use Rattle.graphql_core.specs.{name_token, punctuator_token, spread_token, integer_token, float_token, string_token, block_string_token}
 use Rattle.graphql_core.proofs.lexical.Runs.{run, run_all, not_equal, differs}
@@ -19,7 +19,7 @@ use Rattle.graphql_core.proofs.lexical.Strings.{string_front, block_front}
 -- what the front is, if a lexical element with this `Meaning` has n bytes
 abbrev pub ahead_of : Meaning → ℕ → FrontElement
 ahead_of (Ignored m) n = Skips n m
-ahead_of (Word k t) n = Takes n k t
+ahead_of (TokenOf k t) n = Takes n k t
 
 name_first : (b : ℕ) (bs : List ℕ) → is_name_start b ≡ true → front_of b bs ≡ Takes (prefix_len is_name_continue bs + 1) Name Unchanged
 name_first b bs h =

@@ -12,7 +12,7 @@ use Rattle.graphql_core.specs.declared.tokenizer.piece.Move.TheVariants.{Stay, D
 use Rattle.graphql_core.specs.steps.Front.{FrontElement, AtEnd, Skips, Takes, Stops}
 use Rattle.graphql_core.specs.{front, other_token, comment, line_end, is_float, number, string_end, block_end, closed, quoted_front, Where, Item, HasItemsFrom}
 use Rattle.graphql_core.specs.{HasItems, start, past_ignored, past_token, last_item, piece_then, items_of, run_at, items_by, items, is_name_start}
-use Rattle.graphql_core.specs.{is_name_continue, is_in_line, is_punctuator_byte, nesting_of, is_integer, begins_quotes, Meaning, Ignored, Word, Stands}
+use Rattle.graphql_core.specs.{is_name_continue, is_in_line, is_punctuator_byte, nesting_of, is_integer, begins_quotes, Meaning, Ignored, TokenOf, Stands}
 use Rattle.graphql_core.specs.{ignored_tab, ignored_line_feed, ignored_carriage_return, ignored_space, ignored_comma, ignored_byte_order_mark, comment_at_end}
 use Rattle.graphql_core.specs.{comment_feed, comment_return_feed, comment_return, name_token, punctuator_token, spread_token, integer_token, float_token}
 use Rattle.graphql_core.specs.{string_token, block_string_token, BeginsNone, Piece, IsCutInto}
@@ -100,7 +100,7 @@ not_continue (c ∷ cs) h = h (omega arith)
 sees_name : (b : ℕ) (bs : List ℕ) → is_name_start b ≡ true → HasPiece (b ∷ bs)
 sees_name b bs h =
     let r = run_of is_name_continue bs in
-    (b ∷ r.0, Word Name Unchanged, r.1, ap (λ l. b ∷ l) r.2, name_token h r.3 (not_continue r.1 r.5))
+    (b ∷ r.0, TokenOf Name Unchanged, r.1, ap (λ l. b ∷ l) r.2, name_token h r.3 (not_continue r.1 r.5))
 
 sees_byte_order_mark : (b : ℕ) (bs : List ℕ) → (b == 239 && (get_or bs 0 0 == 187 && get_or bs 1 0 == 191)) ≡ true → HasPiece (b ∷ bs)
 sees_byte_order_mark b [] h = absurd (grind (arith, nat_tests))
@@ -124,7 +124,7 @@ sees_dots b (x ∷ []) e h = absurd (grind (arith, nat_tests))
 sees_dots b (x ∷ y ∷ rest) e h =
     let e1 : x ≡ 46 = grind (arith, nat_tests) in
     let e2 : y ≡ 46 = grind (arith, nat_tests) in
-    (46 ∷ 46 ∷ 46 ∷ [], Word Punctuator Unchanged, rest, rw (e, e1, e2) refl, spread_token)
+    (46 ∷ 46 ∷ 46 ∷ [], TokenOf Punctuator Unchanged, rest, rw (e, e1, e2) refl, spread_token)
 
 -- after the two quotes of an empty string comes no other quote
 no_more_quotes : (body rest : List ℕ) → begins_quotes (34 ∷ (body ++ 34 ∷ rest)) ≡ false → body ≡ [] → get_or rest 0 0 ≢ 34
@@ -135,7 +135,7 @@ no_more_quotes (b ∷ body) rest h e = absurd cc
 has_string : (bs : List ℕ) (m : ℕ) → begins_quotes (34 ∷ bs) ≡ false → HasBody false 0 m bs → HasPiece (34 ∷ bs)
 has_string bs m none f = (
   34 ∷ (f.body ++ 34 ∷ []),
-  Word StringValue Unchanged,
+  TokenOf StringValue Unchanged,
   f.rest,
   ap (λ l. 34 ∷ l) (f.is ∙ sym (append_assoc f.body (34 ∷ []) f.rest)),
   string_token f.body f.valid (no_more_quotes f.body f.rest (rw f.is at none)),
@@ -149,7 +149,7 @@ sees_closed : (bs : List ℕ) (x : Option ℕ) → block_end 0 0 bs ≡ x → Se
 sees_closed bs None e = tt
 sees_closed bs (Some m) e =
     let f = block_found bs 0 m e in
-    (34 ∷ 34 ∷ 34 ∷ f.body, Word BlockString Unchanged, f.rest, ap (λ l. 34 ∷ 34 ∷ 34 ∷ l) f.is, block_string_token f.closes)
+    (34 ∷ 34 ∷ 34 ∷ f.body, TokenOf BlockString Unchanged, f.rest, ap (λ l. 34 ∷ 34 ∷ 34 ∷ l) f.is, block_string_token f.closes)
 
 sees_block : (bs : List ℕ) → begins_quotes bs ≡ true → Sees bs (closed BlockString 3 (block_end 0 0 (drop 3 bs)))
 sees_block [] h = absurd cc
@@ -173,16 +173,16 @@ unfolding number
 sees_number bs =
     let (rest, e, ends) = run_parts bs in
     look bs (is_integer (run_at bs)) _ _
-    (λ t. (run_at bs, Word IntValue Unchanged, rest, e, integer_token t ends))
+    (λ t. (run_at bs, TokenOf IntValue Unchanged, rest, e, integer_token t ends))
     (λ _. look bs (is_float (run_at bs)) _ _
-    (λ t. (run_at bs, Word FloatValue Unchanged, rest, e, float_token (float_is (run_at bs) t) ends))
+    (λ t. (run_at bs, TokenOf FloatValue Unchanged, rest, e, float_token (float_is (run_at bs) t) ends))
     (λ _. tt))
 
 sees_token : (b : ℕ) (bs : List ℕ) → Sees (b ∷ bs) (other_token b (b ∷ bs))
 unfolding other_token
 sees_token b bs =
     let B = b ∷ bs in
-    look B (is_punctuator_byte b) _ _ (λ e. (b ∷ [], Word Punctuator (nesting_of b), bs, refl, punctuator_token e))
+    look B (is_punctuator_byte b) _ _ (λ e. (b ∷ [], TokenOf Punctuator (nesting_of b), bs, refl, punctuator_token e))
     (λ _. look B (b == 34) _ _ (λ e. sees_quoted b bs (eqb-true b 34 e))
     (λ _. look B (b == 46) _ _ (λ e. look B (get_or bs 0 0 == 46 && get_or bs 1 0 == 46) _ _ (λ d. sees_dots b bs (eqb-true b 46 e) d) (λ _. tt))
     (λ _. look B (b == 45 || is_ascii_digit b) _ _ (λ _. sees_number B)
@@ -214,7 +214,7 @@ last_by w text (Takes n k t) f s none = absurd (none s.0 s.1 s.2 s.4 s.3)
 one_piece : (m : Meaning) (w : Where) (bytes rest : List ℕ) (more : Where → List Item) → ((v : Where) → items v rest ≡ more v)
     → items_by items w (bytes ++ rest) (ahead_of m (length bytes)) ≡ piece_then m more w bytes
 one_piece (Ignored m) w bytes rest more h = rw (drop_at bytes rest (length bytes) refl) (h (past_ignored m (length bytes) w))
-one_piece (Word k t) w bytes rest more h = rw (take_at bytes rest (length bytes) refl, drop_at bytes rest (length bytes) refl, h (past_token t bytes w)) refl
+one_piece (TokenOf k t) w bytes rest more h = rw (take_at bytes rest (length bytes) refl, drop_at bytes rest (length bytes) refl, h (past_token t bytes w)) refl
 
 -- the items of an input are those of its lexical elements
 pub items_cut : (ps : List Piece) (text stop : List ℕ) → IsCutInto text ps stop → (w : Where) → items w text ≡ items_of w ps stop
@@ -248,7 +248,7 @@ some_bytes (block_string_token closes) = omega arith
 
 not_ahead : (m : Meaning) (n : ℕ) (x : FrontElement) → x ≡ ahead_of m n → (x ≡ AtEnd) ⊎ (x ≡ Stops) → ⊥
 not_ahead (Ignored m) n x e h = elim h [ inl a ↦ cc | inr b ↦ cc ]
-not_ahead (Word k t) n x e h = elim h [ inl a ↦ cc | inr b ↦ cc ]
+not_ahead (TokenOf k t) n x e h = elim h [ inl a ↦ cc | inr b ↦ cc ]
 
 begins_none : (text : List ℕ) → (front text ≡ AtEnd) ⊎ (front text ≡ Stops) → BeginsNone text
 begins_none text h bytes m rest st e = not_ahead m (length bytes) (front text) (ap front e ∙ stands_front st) h

@@ -13,7 +13,7 @@ use Rattle.graphql_core.specs.declared.tokenizer.token.Kind.{Kind}
 use Rattle.graphql_core.specs.declared.tokenizer.piece.Nesting.{Nesting}
 use Rattle.graphql_core.specs.steps.Front.{FrontElement, AtEnd, Skips, Takes, Stops}
 use Rattle.graphql_core.specs.{front, is_flat, is_no_line_feed, IsFlat, past, past_character, past_characters, is_name_start, is_name_continue}
-use Rattle.graphql_core.specs.{is_punctuator_byte, Meaning, Ignored, Word, Stands, ignored_tab, ignored_line_feed, ignored_carriage_return, ignored_space}
+use Rattle.graphql_core.specs.{is_punctuator_byte, Meaning, Ignored, TokenOf, Stands, ignored_tab, ignored_line_feed, ignored_carriage_return, ignored_space}
 use Rattle.graphql_core.specs.{ignored_comma, ignored_byte_order_mark, comment_at_end, comment_feed, comment_return_feed, comment_return, name_token}
 use Rattle.graphql_core.specs.{punctuator_token, spread_token, integer_token, float_token, string_token, block_string_token}
 use Rattle.graphql_core.proofs.lexical.Runs.{all_weaken}
@@ -98,7 +98,7 @@ punctuator_flat b h = grind (arith, nat_tests)
 
 abbrev FlatAs : Meaning → List ℕ → Type 0
 FlatAs (Ignored m) bytes = Unit {0}
-FlatAs (Word k t) bytes = IsFlat k bytes
+FlatAs (TokenOf k t) bytes = IsFlat k bytes
 
 stands_flat : {bytes : List ℕ} {m : Meaning} {rest : List ℕ} → Stands bytes m rest → FlatAs m bytes
 stands_flat ignored_tab = tt
@@ -121,7 +121,7 @@ stands_flat (block_string_token closes) = λ e. absurd cc
 
 same_word : (m : Meaning) (n i : ℕ) (k : Kind) (t : Nesting) (bytes : List ℕ) → ahead_of m n ≡ Takes i k t → FlatAs m bytes → IsFlat k bytes × (n ≡ i)
 same_word (Ignored m) n i k t bytes e h = absurd cc
-same_word (Word l u) n i k t bytes e h = (let same : l ≡ k = cc in subst (λ x. IsFlat x bytes) same h, cc)
+same_word (TokenOf l u) n i k t bytes e h = (let same : l ≡ k = cc in subst (λ x. IsFlat x bytes) same h, cc)
 
 flat_by : (text : List ℕ) (n : ℕ) (k : Kind) (t : Nesting) (x : FrontElement) → front text ≡ x → x ≡ Takes n k t → Sees text x → IsFlat k (take n text)
 flat_by text n k t AtEnd e f s = absurd cc

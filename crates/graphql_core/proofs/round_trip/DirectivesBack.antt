@@ -1,6 +1,7 @@
 -- The layouts of arguments, directives and defaults parse back.
 use Rattle.std.proofs.Common.{◌≡◌, ℕ, ◌+◌, ◌≤◌, Bool, true, false, List, [], ◌∷◌, ◌++◌, Option, Some, None, codes, refl, ap, ap₂, arith}
-use Rattle.graphql_core.specs.{punctuator_part, gap, Many, Sym, optional, Layout, ValueTree, DirectiveTree, no_place, erase, erase_all, value_layout, parts}
+use Rattle.graphql_core.specs.{punctuator_part, gap, Many, Sym, optional, StyleOptions, ValueTree, DirectiveTree, no_place, erase, erase_all, value_layout}
+use Rattle.graphql_core.specs.{parts}
 use Rattle.graphql_core.specs.{inside, each_argument, arguments_layout, directive_layout, directives_layout, default_layout, shared, argument_symbol}
 use Rattle.graphql_core.specs.{arguments_symbol, directive_symbol, directives_symbol, default_symbol, spelling_at, pairs_of, optional_arguments_of}
 use Rattle.graphql_core.specs.{directive_of, directives_of, default_of, optional_default_of, IsPrintableArgument, IsPrintableDirective, IsPrintableDefault}
@@ -15,7 +16,7 @@ use Rattle.graphql_core.proofs.round_trip.LeavesBack.{name_word}
 use Rattle.graphql_core.proofs.round_trip.ValuesBack.{to_word, before_back, closer_back, pair_back, value_back}
 use Rattle.graphql_core.proofs.round_trip.ListsBack.{each_after_back}
 
-module _ (style : Layout) where
+module _ (style : StyleOptions) where
   each_back : (margin : ℕ) (later : Bool) (args : List (List ℕ × ValueTree)) (d : ℕ) → AllByRecursion IsPrintableArgument args → AreLawfulArguments args
       → d + most argument_brackets args ≤ 50
       → Back shared (Many (Sym argument_symbol)) later d (parts style margin later (each_argument style margin args)) true d (λ x. pairs_of x ≡ args)

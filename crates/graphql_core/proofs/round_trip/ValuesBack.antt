@@ -2,7 +2,7 @@
 use Rattle.std.proofs.Common.{◌≡◌, ℕ, ◌+◌, ◌≤◌, Bool, true, false, if◌then◌else◌, zero, suc, List, [], ◌∷◌, ◌++◌, codes, refl, ap, ap₂, ◌∙◌, arith}
 use Rattle.graphql_core.specs.{name_part, punctuator_part, Part, token, gap, new_line, float, string, item, enum, object, no_items, int, ValueTree, ValueItems}
 use Rattle.graphql_core.specs.{ValueMembers, variable, boolean, null, list, no_members, member, Class, Expr, One, Many, Sym, ParseTree, Leaf, Both, First}
-use Rattle.graphql_core.specs.{Second, Stop, More, Node, IsName, Layout, spaces, symbol_of, pair_symbol_of, list_rule, object_rule, pair_rule, tree_of}
+use Rattle.graphql_core.specs.{Second, Stop, More, Node, IsName, StyleOptions, spaces, symbol_of, pair_symbol_of, list_rule, object_rule, pair_rule, tree_of}
 use Rattle.graphql_core.specs.{trees_of, pair_of, pairs_by, as_list, as_object, value_layout, items_layout, members_layout, pair_layout, before_part, parts}
 use Rattle.graphql_core.specs.{after_parts, inside, boolean_name, has_block_form, in_block_form, quoted, shared, plain_symbol, spelling_at, plain_of, put_all}
 use Rattle.graphql_core.specs.{block_string_of, IsPrintableValue, ArePrintableItems, ArePrintableMembers, IsConstant, AreConstant, HoldConstants}
@@ -45,14 +45,14 @@ choose_comma true n h = gap_back refl (gap_back (spaces_blank n) h)
 choose_comma false n h = gap_back refl h
 
 -- white space before a part, for the first part and for a later one
-pub before_back : {e : Expr} {q : Bool} {d f : ℕ} {ps : List Part} {R : ParseTree → Type 0} (style : Layout) (margin : ℕ) (later : Bool)
+pub before_back : {e : Expr} {q : Bool} {d f : ℕ} {ps : List Part} {R : ParseTree → Type 0} (style : StyleOptions) (margin : ℕ) (later : Bool)
     → Back shared e false d ps q f R
     → Back shared e later d (before_part style margin later ++ ps) q f R
 before_back style margin false h = choose_line style.multiline margin h
 before_back style margin true h = choose_comma style.multiline margin h
 
 -- the closer after all parts
-pub closer_back : {c : Class} {d : ℕ} (style : Layout) (margin : ℕ) (s : List ℕ) → Back shared (One c) true (d + 1) (punctuator_part s) false d Any
+pub closer_back : {c : Class} {d : ℕ} (style : StyleOptions) (margin : ℕ) (s : List ℕ) → Back shared (One c) true (d + 1) (punctuator_part s) false d Any
     → Back shared (One c) true (d + 1) (after_parts style margin ++ punctuator_part s) false d Any
 closer_back style margin s h = choose_line style.multiline margin h
 
@@ -109,7 +109,7 @@ pairs_means Value x y = refl
 pairs_means Constant x y = refl
 
 -- a name, a colon and a value
-pub pair_back : (s : Constness) (style : Layout) (margin : ℕ) (n : List ℕ) (v : ValueTree) (d : ℕ) → IsName n
+pub pair_back : (s : Constness) (style : StyleOptions) (margin : ℕ) (n : List ℕ) (v : ValueTree) (d : ℕ) → IsName n
     → Back shared (Sym (symbol_of s)) false d (value_layout style margin v) true d (λ x. tree_of s x ≡ v)
     → Back shared (Sym (pair_symbol_of s)) false d (pair_layout n (value_layout style margin v)) true d (λ x. pair_of s x ≡ (n, v))
 pair_back s style margin n v d is value =
@@ -154,7 +154,7 @@ boolean_back : (b : Bool) (d : ℕ) → Back shared (Sym plain_symbol) false d (
 boolean_back true d = node_back (λ x. refl) (first_back (word_back (name_word (codes "true") (refl, refl)) (λ p. refl) (λ t e. refl)))
 boolean_back false d = node_back (λ x. refl) (second_back (first_back (word_back (name_word (codes "false") (refl, refl)) (λ p. refl) (λ t e. refl))))
 
-module _ (style : Layout) where
+module _ (style : StyleOptions) where
   form_back : (margin : ℕ) (text : List ℕ) (d : ℕ) (b : Bool) → has_block_form text ≡ b
       → Back shared (Sym plain_symbol) false d (if b then token BlockString (in_block_form (margin + style.indent) margin text)
       ∷ [] else token StringValue (quoted text) ∷ []) true d (λ x. plain_of x ≡ string text)

@@ -1,7 +1,7 @@
 -- The position of the item that follows some tokens of an input.
 use Rattle.std.proofs.Common.{◌≡◌, ℕ, ◌<◌, Bool, true, false, List, [], ◌∷◌, ◌++◌, length, drop, refl, sym, ap, subst, ◌∙◌, arith}
 use Rattle.graphql_core.specs.{EndOfInput, LexicalError, Content, items_of, Where, Item, item_at, TokenContent, HasItems, start, past_ignored, past_token}
-use Rattle.graphql_core.specs.{is_too_deep, token_then, piece_then, tokens_then, split, place_of, place_next, Token, Place, too_deep, Meaning, Ignored, Word}
+use Rattle.graphql_core.specs.{is_too_deep, token_then, piece_then, tokens_then, split, place_of, place_next, Token, Place, too_deep, Meaning, Ignored, TokenOf}
 use Rattle.graphql_core.specs.{Piece, next_place}
 use Rattle.graphql_core.specs.declared.position.Pos.{Pos}
 
@@ -15,7 +15,7 @@ token_has_more false bad w k bytes more h = omega (arith, h)
 
 piece_has_more : (m : Meaning) (more : Where → List Item) (w : Where) (bytes : List ℕ) → ((v : Where) → HasMore (more v)) → HasMore (piece_then m more w bytes)
 piece_has_more (Ignored m) more w bytes f = f (past_ignored m (length bytes) w)
-piece_has_more (Word k t) more w bytes f = token_has_more (is_too_deep t w) w w k bytes (more (past_token t bytes w)) (f (past_token t bytes w))
+piece_has_more (TokenOf k t) more w bytes f = token_has_more (is_too_deep t w) w w k bytes (more (past_token t bytes w)) (f (past_token t bytes w))
 
 -- after the tokens comes one more item
 has_more : (ps : List Piece) (stop : List ℕ) (w : Where) → HasMore (items_of w ps stop)

@@ -9,9 +9,8 @@ use Rattle.graphql_core.specs.{place_of, shown}
 use Rattle.graphql_core.specs.declared.tokenizer.token.Bad.{Bad}
 use Rattle.graphql_core.specs.declared.position.Pos.{Pos}
 use Rattle.graphql_core.specs.declared.tokenizer.token.Kind.{Kind}
-use Rattle.graphql_core.specs.declared.helpers.cursor.Ending.{Ending}
-use Rattle.graphql_core.specs.declared.helpers.cursor.Ending.TheVariants.{Open}
-use Rattle.graphql_core.specs.declared.helpers.cursor.Ending.TheVariants as ending
+use Rattle.graphql_core.specs.declared.helpers.cursor.Lookahead.{Lookahead}
+use Rattle.graphql_core.specs.declared.helpers.cursor.Lookahead.TheVariants as lookahead
 use Rattle.graphql_core.specs.sources.Source as source
 
 -- a stream that was asked for a token is asked for one item less
@@ -55,16 +54,16 @@ fresh s items same none = λ i. record { items = sym same i; cuts = none i }
 -- ---- how often the stream was asked
 
 -- if no token is left, it asked for all items
-pub cut_all : (n : ℕ) (p : Pos) (t : Token) (e : Ending) (s : Stream) → (shown n p t e s).tokens ≡ [] → s ≡ (shown n p t e s).spent.stream
-cut_all n p t Open s none = absurd cc
-cut_all n p t ending.End s none = refl
-cut_all n p t (ending.Wrong b) s none = refl
+pub cut_all : (n : ℕ) (p : Pos) (t : Token) (e : Lookahead) (s : Stream) → (shown n p t e s).tokens ≡ [] → s ≡ (shown n p t e s).spent.stream
+cut_all n p t lookahead.Token s none = absurd cc
+cut_all n p t lookahead.End s none = refl
+cut_all n p t (lookahead.Error b) s none = refl
 
 -- ---- tokens of the lexical grammar
 
 -- the tokens after such a token are also such tokens
-pub later_lexemes : (n : ℕ) (old new : Stream) (p q : Pos) (t : Token) (e : Ending) (r : Result (Option Token) Bad)
-    → All IsLexeme (shown n p t e old).tokens → e ≡ Open → NextItem old.items r new.items → new.cuts ≡ one_more old.cuts
+pub later_lexemes : (n : ℕ) (old new : Stream) (p q : Pos) (t : Token) (e : Lookahead) (r : Result (Option Token) Bad)
+    → All IsLexeme (shown n p t e old).tokens → e ≡ lookahead.Token → NextItem old.items r new.items → new.cuts ≡ one_more old.cuts
     → q ≡ (next_place old.items).position → All IsLexeme (held n q r new).tokens
 later_lexemes n old new p q t e r all some item cut place =
     let after : All IsLexeme (split old.items).tokens = All-tail IsLexeme (token_of p t.kind t.value.now) (split old.items).tokens

@@ -6,7 +6,7 @@ use Rattle.std.proofs.lemmas.Str.{encodes-chars, IsUtf8-take, IsCharBoundary-sta
 use Rattle.std.proofs.lemmas.Bool.Decides.{nat_tests}
 use Rattle.graphql_core.specs.declared.tokenizer.piece.Move.TheVariants.{Stay, Down, Over}
 use Rattle.graphql_core.specs.{moved, past, past_character, past_characters, LexicalError, items_of, Where, Item, item_at, TokenContent, HasItems, start}
-use Rattle.graphql_core.specs.{past_ignored, past_token, is_too_deep, token_then, piece_then, NextItem, next_place, too_deep, Meaning, Ignored, Word, Stands}
+use Rattle.graphql_core.specs.{past_ignored, past_token, is_too_deep, token_then, piece_then, NextItem, next_place, too_deep, Meaning, Ignored, TokenOf, Stands}
 use Rattle.graphql_core.specs.{Piece, IsCutInto}
 use Rattle.graphql_core.specs.declared.tokenizer.token.Token.{Token}
 use Rattle.graphql_core.specs.declared.tokenizer.piece.Move.{Move}
@@ -117,9 +117,9 @@ some_characters : (cs bytes : List ℕ) (p : Pos) → chars bytes ≡ cs → IsU
 some_characters [] bytes p is utf8 some = let none = rw is at (encodes-chars bytes utf8) in absurd (omega (arith, some, ap length none))
 some_characters (c ∷ cs) bytes p is utf8 some = passed_some c cs p
 
-passed_token : (k : Kind) (t : Nesting) (bytes rest : List ℕ) (p : Pos) → Stands bytes (Word k t) rest → IsUtf8 (bytes ++ rest) → Before p (past bytes p)
+passed_token : (k : Kind) (t : Nesting) (bytes rest : List ℕ) (p : Pos) → Stands bytes (TokenOf k t) rest → IsUtf8 (bytes ++ rest) → Before p (past bytes p)
 passed_token k t bytes rest p st utf8 =
-    let h = part (Word k t) bytes rest st in
+    let h = part (TokenOf k t) bytes rest st in
     let own = subst IsUtf8 (take_at bytes rest (length bytes) refl) (IsUtf8-take (bytes ++ rest) (length bytes) utf8 (h.2 utf8)) in
     some_characters (chars bytes) bytes p refl own h.0
 
@@ -129,7 +129,7 @@ piece_from (Ignored m) bytes rest whole w more st at f =
     let v : Where = past_ignored m (length bytes) w in
     let h = f v (rest_at (Ignored m) bytes rest whole w v st at refl) in
     (all_from w.position v.position (more v) (passed_move m w.position) h.0, h.1)
-piece_from (Word k t) bytes rest whole w more st at f = by (is_too_deep t w)
+piece_from (TokenOf k t) bytes rest whole w more st at f = by (is_too_deep t w)
   where
     v : Where
     v = past_token t bytes w
@@ -140,7 +140,7 @@ piece_from (Word k t) bytes rest whole w more st at f = by (is_too_deep t w)
     by : (b : Bool) → From whole w (token_then b (item_at (LexicalError too_deep) w) (item_at (TokenContent k bytes) w) (more v))
     by true = ((stays w.position, tt), (seam, tt, tt))
     by false =
-        let h = f v (rest_at (Word k t) bytes rest whole w v st at refl) in
+        let h = f v (rest_at (TokenOf k t) bytes rest whole w v st at refl) in
         let b = passed_token k t bytes rest w.position st at.2 in (
           (stays w.position, all_from w.position v.position (more v) (before_not_after w.position v.position b) h.0),
           (seam, all_after w.position v.position (more v) b h.0, h.1),

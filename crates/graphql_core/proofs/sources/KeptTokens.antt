@@ -3,7 +3,7 @@ use Rattle.std.proofs.Common.{◌≡◌, ℕ, ◌+◌, ◌<◌, ◌≤◌, Bool,
 use Rattle.std.proofs.Common.{length-append, append_assoc}
 use Rattle.std.proofs.lemmas.List.{take_at, take-append-le, take-append-drop}
 use Rattle.graphql_core.specs.{ignored_tab, ignored_line_feed, ignored_carriage_return, ignored_comma, ignored_byte_order_mark, comment_feed}
-use Rattle.graphql_core.specs.{comment_return_feed, comment_return, name_token, punctuator_token, ignored_space, Meaning, Ignored, Word, Piece, IsCutInto}
+use Rattle.graphql_core.specs.{comment_return_feed, comment_return, name_token, punctuator_token, ignored_space, Meaning, Ignored, TokenOf, Piece, IsCutInto}
 use Rattle.graphql_core.specs.{Stands, spread_token, integer_token, float_token, string_token, block_string_token, LexicalError, items_of, Where, Item, item_at}
 use Rattle.graphql_core.specs.{TokenContent, past_ignored, past_token, is_too_deep, token_then, piece_then, token_of, split, Token, too_deep, next_place}
 use Rattle.graphql_core.specs.{kind_number}
@@ -41,8 +41,9 @@ stands_on [] b c some st = absurd (omega (arith, some))
 stands_on (x ∷ a) b c some st = stands_before_same st (a ++ c)
 
 -- any input can follow a punctuator
-punctuator_stands : {s : List ℕ} {k : Kind} {n : Nesting} {rest : List ℕ} → Stands s (Word k n) rest → kind_number k ≡ kind_number Punctuator → (more : List ℕ)
-    → Stands s (Word k n) more
+punctuator_stands : {s : List ℕ} {k : Kind} {n : Nesting} {rest : List ℕ} → Stands s (TokenOf k n) rest → kind_number k ≡ kind_number Punctuator
+    → (more : List ℕ)
+    → Stands s (TokenOf k n) more
 punctuator_stands (name_token first continues ends) e more = absurd (omega (arith, e))
 punctuator_stands (punctuator_token m) e more = punctuator_token m
 punctuator_stands spread_token e more = spread_token
@@ -84,7 +85,7 @@ token_there false k bytes w more = omega arith
 piece_there : (m : Meaning) (bytes : List ℕ) (w : Where) (more : Where → List Item) → ((v : Where) → v.offset ≤ (next_place (more v)).offset)
     → w.offset ≤ (next_place (piece_then m more w bytes)).offset
 piece_there (Ignored m) bytes w more f = omega (arith, f (past_ignored m (length bytes) w))
-piece_there (Word k t) bytes w more f = token_there (is_too_deep t w) k bytes w (more (past_token t bytes w))
+piece_there (TokenOf k t) bytes w more f = token_there (is_too_deep t w) k bytes w (more (past_token t bytes w))
 
 -- the next item is at the start of the input, or later
 goes_on : (ps : List Piece) (stop : List ℕ) (w : Where) → w.offset ≤ (next_place (items_of w ps stop)).offset
@@ -128,7 +129,7 @@ module _ (qs : List Piece) (stop rest : List ℕ) (others : List Token) where
   ignored_kept m bytes text w front e st =
       with_piece (Ignored m) bytes text w (past_ignored m (length bytes) w) _ _ front front e st refl refl (λ ps end us tokens. tokens)
 
-  module _ (kind : Kind) (t : Nesting) (bytes text : List ℕ) (w : Where) (e : text ≡ bytes ++ rest) (st : Stands bytes (Word kind t) rest)
+  module _ (kind : Kind) (t : Nesting) (bytes text : List ℕ) (w : Where) (e : text ≡ bytes ++ rest) (st : Stands bytes (TokenOf kind t) rest)
       (fits : is_too_deep t w ≡ false) where
     -- the token is the last one
     last_kept : (f : Token) → token_of w.position kind bytes ≡ f → f.kind ≡ kind_number Punctuator
@@ -138,11 +139,11 @@ module _ (qs : List Piece) (stop rest : List ℕ) (others : List Token) where
       a = bytes;
       b = rest;
       parts = e;
-      some = (part (Word kind t) bytes rest st).0;
+      some = (part (TokenOf kind t) bytes rest st).0;
       within = goes_on qs stop (past_token t bytes w);
       again = λ c.
           let (ps, end, cut) = cut_of c in (
-            record { bytes = bytes; meaning = Word kind t } ∷ ps,
+            record { bytes = bytes; meaning = TokenOf kind t } ∷ ps,
             end,
             (c, refl, punctuator_stands st (ap (λ (u : Token). u.kind) first ∙ is) c, cut),
             (split (items_of (past_token t bytes w) ps end)).tokens,
@@ -156,11 +157,11 @@ module _ (qs : List Piece) (stop rest : List ℕ) (others : List Token) where
         → TokensKept w text (item_at (TokenContent kind bytes) w ∷ items_of (past_token t bytes w) qs stop) (f ∷ front)
     unfolding items_of
     first_kept f front first =
-        with_piece (Word kind t) bytes text w (past_token t bytes w) _ _ (f ∷ front) front e st refl refl
+        with_piece (TokenOf kind t) bytes text w (past_token t bytes w) _ _ (f ∷ front) front e st refl refl
         (λ ps end us tokens. rw fits (λ i. first i ∷ tokens i))
 
   word_kept : (b : Bool) (kind : Kind) (t : Nesting) (bytes text : List ℕ) (w : Where) (front : List Token) → is_too_deep t w ≡ b
-      → text ≡ bytes ++ rest → Stands bytes (Word kind t) rest
+      → text ≡ bytes ++ rest → Stands bytes (TokenOf kind t) rest
       → (split (token_then b (item_at (LexicalError too_deep) w) (item_at (TokenContent kind bytes) w) (items_of (past_token t bytes w) qs stop))).tokens
       ≡ front ++ others → EndsInMark front → KeptLater → TokensKept w text
       (token_then b (item_at (LexicalError too_deep) w) (item_at (TokenContent kind bytes) w) (items_of (past_token t bytes w) qs stop)) front
@@ -177,7 +178,7 @@ module _ (qs : List Piece) (stop rest : List ℕ) (others : List Token) where
       → (split (piece_then m (λ v. items_of v qs stop) w bytes)).tokens ≡ front ++ others → EndsInMark front → KeptLater
       → TokensKept w text (piece_then m (λ v. items_of v qs stop) w bytes) front
   piece_kept (Ignored m) bytes text w front e st is ends f = ignored_kept m bytes text w front e st (f (past_ignored m (length bytes) w) front is ends)
-  piece_kept (Word k t) bytes text w front e st is ends f = word_kept (is_too_deep t w) k t bytes text w front refl e st is ends f
+  piece_kept (TokenOf k t) bytes text w front e st is ends f = word_kept (is_too_deep t w) k t bytes text w front refl e st is ends f
 
 pub tokens_kept : (ps : List Piece) (text stop : List ℕ) (w : Where) (front others : List Token) → IsCutInto text ps stop
     → (split (items_of w ps stop)).tokens ≡ front ++ others → EndsInMark front → TokensKept w text (items_of w ps stop) front

@@ -2,7 +2,7 @@
 use Rattle.std.proofs.Common.{◌≡◌, ℕ, Bool, true, false, not, ◌&&◌, ◌||◌, List, [], ◌∷◌, ◌++◌, length, map, refl, sym, ap, ◌∙◌, subst, arith}
 use Rattle.std.proofs.lemmas.Bool.Decides.{nat_tests}
 use Rattle.graphql_core.specs.steps.Front.{AtEnd}
-use Rattle.graphql_core.specs.{name_token, punctuator_token, BeginsNone, ignored_space, is_punctuator_byte, Meaning, Ignored, Word, Stands, spread_token}
+use Rattle.graphql_core.specs.{name_token, punctuator_token, BeginsNone, ignored_space, is_punctuator_byte, Meaning, Ignored, TokenOf, Stands, spread_token}
 use Rattle.graphql_core.specs.{integer_token, float_token, string_token, block_string_token, Piece, IsCutInto, LexicalError, openers_after, closers_after}
 use Rattle.graphql_core.specs.{Where, Item, item_at, TokenContent, HasItems, start, past_ignored, past_token, is_too_deep, token_then, piece_then, items_of}
 use Rattle.graphql_core.specs.{Token, Place, nowhere, kind_number, too_deep, front, split, token_of, IsEnd, is_past, AreLexemes, is_punctuator, is_number}
@@ -18,8 +18,8 @@ use Rattle.graphql_core.specs.declared.tokenizer.piece.Nesting.TheVariants.{Unch
 -- ---- what can follow a token
 
 -- if a token is found before one input, it is found before any other input that can follow it
-pub stands_before : {s : List ℕ} {k : Kind} {n : Nesting} {rest : List ℕ} → Stands s (Word k n) rest → (more : List ℕ) → MayFollow k more
-    → Stands s (Word k n) more
+pub stands_before : {s : List ℕ} {k : Kind} {n : Nesting} {rest : List ℕ} → Stands s (TokenOf k n) rest → (more : List ℕ) → MayFollow k more
+    → Stands s (TokenOf k n) more
 stands_before (name_token first continues ends) more f = name_token first continues f
 stands_before (punctuator_token m) more f = punctuator_token m
 stands_before spread_token more f = spread_token
@@ -77,7 +77,7 @@ spread_follows FloatValue more = space_follows FloatValue (46 ∷ more)
 spread_follows StringValue more = λ e. omega arith
 spread_follows BlockString more = tt
 
-pub token_follows : (k : Kind) {j : Kind} {n : Nesting} {s rest : List ℕ} → Stands s (Word j n) rest → (p : Place) (more : List ℕ)
+pub token_follows : (k : Kind) {j : Kind} {n : Nesting} {s rest : List ℕ} → Stands s (TokenOf j n) rest → (p : Place) (more : List ℕ)
     → MayFollow k (space_if (is_spaced (kind_number k) (record { kind = kind_number j; spelling = s; place = p })) ++ (s ++ more))
 token_follows k (name_token first continues ends) p more = word_follows k _
 token_follows k (punctuator_token {b} m) p more = spaced_follows k _ (b ∷ more) (punctuator_follows k b more m)
@@ -95,7 +95,7 @@ past_is Opens w = refl
 past_is Closes w = refl
 
 lexeme_kept : (b : Bool) (k : Kind) (n : Nesting) (bytes rest : List ℕ) (w : Where) (more : List Item) → is_past n w.openers w.closers ≡ b
-    → Stands bytes (Word k n) rest
+    → Stands bytes (TokenOf k n) rest
     → AreLexemes (openers_after n w.openers) (closers_after n w.closers) (split more).tokens
     → AreLexemes w.openers w.closers (split (token_then b (item_at (LexicalError too_deep) w) (item_at (TokenContent k bytes) w) more)).tokens
 lexeme_kept true k n bytes rest w more e st h = tt
@@ -106,7 +106,7 @@ piece_lexeme : (m : Meaning) (bytes rest : List ℕ) (w : Where) (more : Where �
     → ((v : Where) → AreLexemes v.openers v.closers (split (more v)).tokens)
     → AreLexemes w.openers w.closers (split (piece_then m more w bytes)).tokens
 piece_lexeme (Ignored m) bytes rest w more st f = f (past_ignored m (length bytes) w)
-piece_lexeme (Word k n) bytes rest w more st f =
+piece_lexeme (TokenOf k n) bytes rest w more st f =
     lexeme_kept (is_too_deep n w) k n bytes rest w (more (past_token n bytes w)) (sym (past_is n w)) st (f (past_token n bytes w))
 
 pub are_lexemes : (ps : List Piece) (text stop : List ℕ) → IsCutInto text ps stop → (w : Where)
@@ -127,7 +127,7 @@ IsSpacedCut w text ts =
 no_piece : BeginsNone []
 unfolding front
 no_piece bytes (Ignored m) rest st e = let h : AtEnd ≡ ahead_of (Ignored m) (length bytes) = ap front e ∙ stands_front st in absurd cc
-no_piece bytes (Word k t) rest st e = let h : AtEnd ≡ ahead_of (Word k t) (length bytes) = ap front e ∙ stands_front st in absurd cc
+no_piece bytes (TokenOf k t) rest st e = let h : AtEnd ≡ ahead_of (TokenOf k t) (length bytes) = ap front e ∙ stands_front st in absurd cc
 
 cut_spaced : (b : Bool) (o c : ℕ) (text : List ℕ) (ts : List Token) → ((v : Where) → v.openers ≡ o → v.closers ≡ c → IsSpacedCut v text ts)
     → (w : Where) → w.openers ≡ o → w.closers ≡ c → IsSpacedCut w (space_if b ++ text) ts
@@ -137,12 +137,12 @@ cut_spaced true o c text ts f w p q =
     let (pieces, cut, alike, end) = f (past_ignored (Over 1) 1 w) p q in
     (record { bytes = 32 ∷ []; meaning = Ignored (Over 1) } ∷ pieces, (text, refl, ignored_space, cut), alike, end)
 
-cut_token : (k : Kind) (n : Nesting) (s text : List ℕ) (t : Token) (ts : List Token) (w : Where) → is_too_deep n w ≡ false → Stands s (Word k n) text
+cut_token : (k : Kind) (n : Nesting) (s text : List ℕ) (t : Token) (ts : List Token) (w : Where) → is_too_deep n w ≡ false → Stands s (TokenOf k n) text
     → t.kind ≡ kind_number k → t.spelling ≡ s → IsSpacedCut (past_token n s w) text ts → IsSpacedCut w (s ++ text) (t ∷ ts)
 unfolding items_of
 cut_token k n s text t ts w fits st kind spelling (pieces, cut, alike, end) =
     let one : unplaced (token_of w.position k s) ≡ unplaced t = λ i. record { kind = sym kind i; spelling = sym spelling i; place = nowhere } in
-    (record { bytes = s; meaning = Word k n } ∷ pieces, (text, refl, st, cut), rw fits (λ i. one i ∷ alike i), rw fits end)
+    (record { bytes = s; meaning = TokenOf k n } ∷ pieces, (text, refl, st, cut), rw fits (λ i. one i ∷ alike i), rw fits end)
 
 -- the rest of the output after a token can follow that token
 spaced_may_follow : (k : Kind) (o c : ℕ) (ts : List Token) → AreLexemes o c ts → MayFollow k (spaced_after (kind_number k) ts)

@@ -12,13 +12,13 @@ use Rattle.graphql_core.specs.declared.position.Pos.{Pos}
 use Rattle.graphql_core.specs.declared.tokenizer.token.Kind.{Kind}
 use Rattle.graphql_core.specs.{Where, Item, item_at, TokenContent, EndOfInput, LexicalError, bad_text, HasItems, NextItem, next_place, Token, kind_number}
 use Rattle.graphql_core.specs.{Items, Last, IsLexeme, split, only_last, then_items, token_of, after, IsNextFault, max_length, Refusal, first_byte, Marks}
-use Rattle.graphql_core.specs.{span_token, then_left, span_items, last_at, IsLeft, IsLast, Word, peek}
+use Rattle.graphql_core.specs.{span_token, then_left, span_items, last_at, IsLeft, IsLast, TokenOf, peek}
 use Rattle.graphql_core.specs.declared.helpers.span.Span.{Span}
 use Rattle.graphql_core.proofs.sources.TokenPlaces.{IsToken, StandsIn, part, tokens_stand}
 
 -- a token has some bytes
 some_bytes : (t : Token) → IsLexeme t → 0 < length t.spelling
-some_bytes t (k, s, rest, kind, stands) = (part (Word k s) t.spelling rest stands).0
+some_bytes t (k, s, rest, kind, stands) = (part (TokenOf k s) t.spelling rest stands).0
 
 first_taken : (n : ℕ) (bytes : List ℕ) → 0 < length (take n bytes) → get_or bytes 0 0 ≡ first_byte (take n bytes)
 first_taken zero bytes some = absurd (omega arith)

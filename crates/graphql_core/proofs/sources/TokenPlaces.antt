@@ -5,7 +5,8 @@ use Rattle.std.proofs.lemmas.List.{drop_at, take_at, drop-drop}
 use Rattle.std.proofs.lemmas.List.Elements.{All-nil, All-cons}
 use Rattle.std.proofs.lemmas.Str.{IsUtf8-take, IsUtf8-drop, IsCharBoundary-from_drop}
 use Rattle.graphql_core.specs.declared.tokenizer.piece.Move.TheVariants.{Stay, Down, Over}
-use Rattle.graphql_core.specs.{steps_over, Meaning, Ignored, Word, Stands, Piece, IsCutInto, EndOfInput, LexicalError, past_character, past_characters, Content}
+use Rattle.graphql_core.specs.{steps_over, Meaning, Ignored, TokenOf, Stands, Piece, IsCutInto, EndOfInput, LexicalError, past_character, past_characters}
+use Rattle.graphql_core.specs.{Content}
 use Rattle.graphql_core.specs.{Where, Item, item_at, TokenContent, HasItems, start, past_ignored, past_token, is_too_deep, token_then, piece_then, items_of}
 use Rattle.graphql_core.specs.{too_deep, IsLexeme, token_of}
 use Rattle.graphql_core.proofs.lexical.{Part, PieceFits, front_within, stands_front, characters_fit, character_bounds}
@@ -20,7 +21,7 @@ use Rattle.graphql_core.specs.declared.tokenizer.piece.Nesting.{Nesting}
 -- a lexical element is not empty, and ends at a character boundary
 pub part : (m : Meaning) (bytes rest : List ℕ) → Stands bytes m rest → Part (bytes ++ rest) (length bytes)
 part (Ignored m) bytes rest st = (subst (PieceFits (bytes ++ rest)) (stands_front st) (front_within (bytes ++ rest))).0
-part (Word k t) bytes rest st = subst (PieceFits (bytes ++ rest)) (stands_front st) (front_within (bytes ++ rest))
+part (TokenOf k t) bytes rest st = subst (PieceFits (bytes ++ rest)) (stands_front st) (front_within (bytes ++ rest))
 
 -- ignored text takes at most eight columns
 few_columns : (m : Move) (bytes rest : List ℕ) → Stands bytes (Ignored m) rest → steps_over m ≤ 8
@@ -94,13 +95,13 @@ piece_stands (Ignored m) bytes rest whole w more st at low f =
     let v : Where = past_ignored m (length bytes) w in
     f v (rest_at (Ignored m) bytes rest whole w v st at refl)
     (ignored_low m (length bytes) w (part (Ignored m) bytes rest st).0 (few_columns m bytes rest st) low)
-piece_stands (Word k t) bytes rest whole w more st at low f = by (is_too_deep t w)
+piece_stands (TokenOf k t) bytes rest whole w more st at low f = by (is_too_deep t w)
   where
     v : Where
     v = past_token t bytes w
 
     cut : Part (bytes ++ rest) (length bytes)
-    cut = part (Word k t) bytes rest st
+    cut = part (TokenOf k t) bytes rest st
 
     own : IsUtf8 bytes
     own = subst IsUtf8 (take_at bytes rest (length bytes) refl) (IsUtf8-take (bytes ++ rest) (length bytes) at.2 (cut.2 at.2))
@@ -120,7 +121,7 @@ piece_stands (Word k t) bytes rest whole w more st at low f = by (is_too_deep t 
     by true = only whole (item_at (LexicalError too_deep) w) tt
     by false =
         All-cons (StandsIn whole) (item_at (TokenContent k bytes) w) (more v) token
-        (f v (rest_at (Word k t) bytes rest whole w v st at refl) (token_low t bytes w own low))
+        (f v (rest_at (TokenOf k t) bytes rest whole w v st at refl) (token_low t bytes w own low))
 
 items_stand : (ps : List Piece) (whole text stop : List ℕ) (w : Where) → IsCutInto text ps stop → IsAt whole w text → IsLow w
     → All (StandsIn whole) (items_of w ps stop)

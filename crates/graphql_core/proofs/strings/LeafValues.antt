@@ -7,7 +7,7 @@ use Rattle.std.proofs.lemmas.Bool.{eqb-true, leb-true, ltb-true, le-leb, lt-ltb,
 use Rattle.std.proofs.lemmas.List.{take_at}
 use Rattle.std.proofs.lemmas.List.Folds.{list_any-append}
 use Rattle.graphql_core.specs.{is_natural, is_fraction, is_exponent, IsFloat, with_fraction, with_exponent, with_both, ClosesBlock, closing, escape, unit}
-use Rattle.graphql_core.specs.{name_token, punctuator_token, Stands, Word, integer_token, block_string_token, float_token, string_token, spread_token}
+use Rattle.graphql_core.specs.{name_token, punctuator_token, Stands, TokenOf, integer_token, block_string_token, float_token, string_token, spread_token}
 use Rattle.graphql_core.specs.{is_integer, IsLexeme, is_whole_exponent, EndsFloat, fraction, exponent, both, IsFloatLiteral, IsInQuotes, IsInTripleQuotes}
 use Rattle.graphql_core.specs.{Token, kind_number, int_of, is_in_range, is_exponent_indicator, after_indicator, has_whole_exponent, without_ends}
 use Rattle.graphql_core.proofs.lexical.{natural_digits}
@@ -177,7 +177,7 @@ IsSpelledAs BlockString bytes = IsInTripleQuotes bytes (without_ends 3 bytes)
 IsSpelledAs Punctuator bytes = Unit {0}
 IsSpelledAs Name bytes = Unit {0}
 
-pub spelled_as : {bytes : List ℕ} {k : Kind} {s : Nesting} {rest : List ℕ} → Stands bytes (Word k s) rest → IsSpelledAs k bytes
+pub spelled_as : {bytes : List ℕ} {k : Kind} {s : Nesting} {rest : List ℕ} → Stands bytes (TokenOf k s) rest → IsSpelledAs k bytes
 spelled_as (name_token first more stop) = tt
 spelled_as (punctuator_token is) = tt
 spelled_as spread_token = tt

@@ -7,7 +7,7 @@ use Rattle.std.proofs.lemmas.List.Elements.{All-nil, All-cons}
 use Rattle.std.proofs.lemmas.Bool.{cases_Bool, and_parts, or_cases, false_from_ne_true, eq-eqb, both_ways}
 use Rattle.std.proofs.lemmas.List.{drop_at, drop-drop, length-replicate}
 use Rattle.graphql_core.specs.{class_kind, takes_spelling, in_any, apart_from, within_any, Token, Place, Class, Spelled, matches, name_token, punctuator_token}
-use Rattle.graphql_core.specs.{is_opener, is_closer, IsName, Meaning, Ignored, Word, Stands, spread_token, integer_token, float_token, string_token}
+use Rattle.graphql_core.specs.{is_opener, is_closer, IsName, Meaning, Ignored, TokenOf, Stands, spread_token, integer_token, float_token, string_token}
 use Rattle.graphql_core.specs.{block_string_token, Piece, IsCutInto, HasItemsFrom, depth_of, is_full, last_item, Where, Item, item_at, TokenContent, HasItems}
 use Rattle.graphql_core.specs.{start, past_ignored, past_token, piece_then, items_of, AreItemsOfRest, next_place, ParseTree, Nothing, Leaf, Both, First, Second}
 use Rattle.graphql_core.specs.{Stop, More, Node, leaves, kind_number, Last, split, place_of, token_of, IsLexeme}
@@ -65,7 +65,7 @@ closer_same : (b : ℕ) (p : Place) → in_any closings (punctuator_token_at b p
 closer_same b p = grind (arith, nat_tests)
 
 -- the kind and the bytes of a token decide its nesting
-stands-nesting : {bytes : List ℕ} {k : Kind} {s : Nesting} {rest : List ℕ} → Stands bytes (Word k s) rest → (p : Place)
+stands-nesting : {bytes : List ℕ} {k : Kind} {s : Nesting} {rest : List ℕ} → Stands bytes (TokenOf k s) rest → (p : Place)
     → nesting_of (record { kind = kind_number k; spelling = bytes; place = p }) ≡ s
 stands-nesting (name_token first more stop) p = refl
 stands-nesting (punctuator_token {b} is) p = rw (opener_same b p, closer_same b p) refl
@@ -110,7 +110,7 @@ module _ (whole stop : List ℕ) (last : Last) (others : List Token) where
   LeavesLater rest more = (v : Where) (n : ℕ) → drop v.offset whole ≡ rest → IsRoom v n → (front : List Token) → LeavesAfter front n (more v)
 
   leaves_token : (k : Kind) (s : Nesting) (bytes rest : List ℕ) (w : Where) (n : ℕ) (more : List Item) (t : Token) (ts : List Token)
-      → Stands bytes (Word k s) rest
+      → Stands bytes (TokenOf k s) rest
       → ((split more).tokens ≡ ts ++ others → (split more).last ≡ last → Past s n (λ m. Nests ts m (Left whole last (drop (length ts) more) others)))
       → LeavesAfter (t ∷ ts) n (item_at (TokenContent k bytes) w ∷ more)
   leaves_token k s bytes rest w n more t ts st h is ends =
@@ -123,13 +123,13 @@ module _ (whole stop : List ℕ) (last : Last) (others : List Token) where
       → (more : Where → List Item) → LeavesLater rest more → (t : Token) (ts : List Token) → LeavesAfter (t ∷ ts) n (piece_then m more w bytes)
   leaves_piece (Ignored m) bytes rest st w n e there more h t ts =
       h (past_ignored m (length bytes) w) n (past_bytes w.offset whole bytes rest there) e (t ∷ ts)
-  leaves_piece (Word k Unchanged) bytes rest st w n e there more h t ts =
+  leaves_piece (TokenOf k Unchanged) bytes rest st w n e there more h t ts =
       let v = past_token Unchanged bytes w in
       leaves_token k Unchanged bytes rest w n (more v) t ts st (h v n (past_bytes w.offset whole bytes rest there) e ts)
-  leaves_piece (Word k Closes) bytes rest st w n e there more h t ts =
+  leaves_piece (TokenOf k Closes) bytes rest st w n e there more h t ts =
       let v = past_token Closes bytes w in
       leaves_token k Closes bytes rest w n (more v) t ts st (h v (suc n) (past_bytes w.offset whole bytes rest there) (omega arith) ts)
-  leaves_piece (Word k Opens) bytes rest st w n e there more h t ts =
+  leaves_piece (TokenOf k Opens) bytes rest st w n e there more h t ts =
       elim (cases_Bool (is_full w)) [
         | inl full ↦ rw full (λ is ends. absurd cc)
         | inr f ↦
@@ -291,7 +291,7 @@ past_class c t n P h m p =
     let (o, k) = and_parts (within_any c openings || apart_from c openings) _ h in
     subst (λ s. Past s n P) (ap₂ (λ (a b : Bool). cond a Opens (cond b Closes Unchanged)) (in_any-class c openings t o m) (in_any-class c closings t k m)) p
 
-name-bytes : {bytes : List ℕ} {k : Kind} {s : Nesting} {rest : List ℕ} → Stands bytes (Word k s) rest → kind_number k ≡ kind_number Name → IsName bytes
+name-bytes : {bytes : List ℕ} {k : Kind} {s : Nesting} {rest : List ℕ} → Stands bytes (TokenOf k s) rest → kind_number k ≡ kind_number Name → IsName bytes
 name-bytes (name_token first more stop) e = (first, more)
 name-bytes (punctuator_token is) e = absurd (omega (arith, e))
 name-bytes spread_token e = absurd (omega (arith, e))

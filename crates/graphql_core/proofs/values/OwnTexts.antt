@@ -1,7 +1,8 @@
 -- The rest of an input from an item on, as an input itself.
 use Rattle.std.proofs.Common.{◌≡◌, ℕ, ◌+◌, Bool, true, false, List, [], ◌∷◌, ◌++◌, length, drop, refl, sym, ap, subst, ◌∙◌, arith}
 use Rattle.graphql_core.specs.{LexicalError, items_of, TokenContent, past_ignored, past_token, is_too_deep, token_then, piece_then, item_at, Where, Item}
-use Rattle.graphql_core.specs.{HasItems, start, token_of, split, IsEnd, too_deep, Meaning, Ignored, Word, Stands, Piece, IsCutInto, Token, next_place, unplaced}
+use Rattle.graphql_core.specs.{HasItems, start, token_of, split, IsEnd, too_deep, Meaning, Ignored, TokenOf, Stands, Piece, IsCutInto, Token, next_place}
+use Rattle.graphql_core.specs.{unplaced}
 use Rattle.graphql_core.specs.declared.tokenizer.piece.Nesting.TheVariants.{Opens, Closes, Unchanged}
 use Rattle.graphql_core.specs.declared.tokenizer.piece.Nesting.{Nesting}
 use Rattle.graphql_core.proofs.values.NestingDepth.{past_bytes}
@@ -38,7 +39,7 @@ token_alike false k bytes v w is js (same, end) = (ap (λ (ts : List Token). unp
 piece_alike : (m : Meaning) (bytes : List ℕ) (v w : Where) (more : Where → List Item) → AsDeep v w
     → ((a b : Where) → AsDeep a b → AreCutAlike (more a) (more b)) → AreCutAlike (piece_then m more v bytes) (piece_then m more w bytes)
 piece_alike (Ignored m) bytes v w more e h = h (past_ignored m (length bytes) v) (past_ignored m (length bytes) w) e
-piece_alike (Word k s) bytes v w more e h =
+piece_alike (TokenOf k s) bytes v w more e h =
     rw (deep_alike s v w e)
     (token_alike (is_too_deep s w) k bytes v w (more (past_token s bytes v)) (more (past_token s bytes w)) (h _ _ (deep_after s bytes v w e)))
 
@@ -87,9 +88,9 @@ from_piece : (m : Meaning) (bytes rest text stop whole : List ℕ) (qs : List Pi
 unfolding items_of
 from_piece (Ignored m) bytes rest text stop whole qs w e st cut there level h =
     h (past_ignored m (length bytes) w) (past_bytes w.offset whole bytes rest (there ∙ e)) level
-from_piece (Word k s) bytes rest text stop whole qs w e st cut there level h =
+from_piece (TokenOf k s) bytes rest text stop whole qs w e st cut there level h =
     let more = items_of (past_token s bytes w) qs stop in
-    from_here (record { bytes = bytes; meaning = Word k s } ∷ qs) text stop whole w _ (rest, e, st, cut) there level refl
+    from_here (record { bytes = bytes; meaning = TokenOf k s } ∷ qs) text stop whole w _ (rest, e, st, cut) there level refl
     (token_next (is_too_deep s w) [] [] k bytes w more) (λ none end. absurd (token_is_some (is_too_deep s w) k bytes w more none end))
 
 pub own_text : (ps : List Piece) (text stop whole : List ℕ) (w : Where) → IsCutInto text ps stop → drop w.offset whole ≡ text → w.openers ≡ w.closers

@@ -3,7 +3,7 @@ use Rattle.std.specs.Prelude.{◌≡◌, ℕ, List, Result, Ok, Err, IfOk}
 use Rattle.graphql_core.specs.grammar.{Derives, ParseTree, Sym, lax}
 use Rattle.graphql_core.specs.lexical.{Item, HasItems}
 use Rattle.graphql_core.specs.sources.{Items, IsEnd, split, no_memory, Refusal}
-use Rattle.graphql_core.specs.layouts.{Layout}
+use Rattle.graphql_core.specs.layouts.{StyleOptions}
 use Rattle.graphql_core.specs.documents.Languages.{Language}
 
 -- the result is this document, seen through `view`, or the error is out of memory
@@ -52,16 +52,16 @@ module _ {D : Type 0} (l : Language D) where
   AreAlike (Err f) (Err g) = Unit {0}
 
 -- Round trip: the output of a document, in any style, parses back to the same document, ignoring positions.
-pub record AreReadBack {D : Type 0} (l : Language D) (layout : Layout → D → List ℕ)
+pub record AreReadBack {D : Type 0} (l : Language D) (layout : StyleOptions → D → List ℕ)
     (IsPrinted : D → Type 0) : Type 0 where
   -- the output in any style parses back to the document
-  pub read_back : (style : Layout) (d : D) → IsPrinted d → IsReadBack l (layout style d) d
+  pub read_back : (style : StyleOptions) (d : D) → IsPrinted d → IsReadBack l (layout style d) d
   -- a document parsed from the output is the same, and has the same output in that style (formatting is idempotent)
-  pub printed_again : (style : Layout) (d e : D) → IsPrinted d → IsDocumentOf l (layout style d) e
+  pub printed_again : (style : StyleOptions) (d e : D) → IsPrinted d → IsDocumentOf l (layout style d) e
       → (l.erase e ≡ l.erase d) × (layout style e ≡ layout style d)
   -- documents parsed from the outputs in two styles are the same
-  pub styles_agree : (style other : Layout) (d e f : D) → IsPrinted d → IsDocumentOf l (layout style d) e
+  pub styles_agree : (style other : StyleOptions) (d e f : D) → IsPrinted d → IsDocumentOf l (layout style d) e
       → IsDocumentOf l (layout other d) f → l.erase e ≡ l.erase f
   -- documents with the same output are the same
-  pub one_text : (style : Layout) (d e : D) → IsPrinted d → IsPrinted e
+  pub one_text : (style : StyleOptions) (d e : D) → IsPrinted d → IsPrinted e
       → layout style d ≡ layout style e → l.erase d ≡ l.erase e

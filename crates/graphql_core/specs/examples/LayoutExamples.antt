@@ -1,6 +1,6 @@
 -- The outputs of some small values, types and directives, written out.
 use Rattle.std.specs.Prelude.{◌≡◌, ℕ, true, List, [], ◌∷◌, ◌++◌, codes}
-use Rattle.graphql_core.specs.layouts.Style.{Layout, default_style, with_multiline}
+use Rattle.graphql_core.specs.layouts.Style.{StyleOptions, default_style, with_multiline}
 use Rattle.graphql_core.specs.layouts.TextParts.{text_of}
 use Rattle.graphql_core.specs.values.{string, object, ValueTree, boolean, null, list, no_items, no_members, member}
 use Rattle.graphql_core.specs.values.{named, list_of, non_null, no_place}
@@ -54,7 +54,7 @@ pairs = object (member (codes "a") (boolean true) (member (codes "b") null no_me
 abbrev pub Object : Type 0
 Object = shown pairs ≡ codes "{a: true, b: null}"
 
-abbrev in_lines : Layout
+abbrev in_lines : StyleOptions
 in_lines = with_multiline default_style true
 
 abbrev pub ObjectInLines : Type 0

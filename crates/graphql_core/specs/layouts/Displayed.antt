@@ -3,7 +3,7 @@ use Rattle.std.specs.Prelude.{ℕ, List, Some, Result, OnOk}
 use Rattle.std.specs.declared.fmt.Error.{Error}
 use Rattle.std.specs.declared.fmt.Formatter.{Formatter}
 use Rattle.std.specs.Fmt.{DisplaysOnOk, DisplaysStyledOnOk}
-use Rattle.graphql_core.specs.layouts.Style.{Layout, default_style}
+use Rattle.graphql_core.specs.layouts.Style.{StyleOptions, default_style}
 use Rattle.graphql_core.specs.layouts.TextParts.{Part, text_of}
 use Rattle.graphql_core.specs.layouts.ValueLayout.{IsNarrow}
 
@@ -19,6 +19,6 @@ pub record HasDisplayed {W : Type 0} (took : W → List ℕ → W → Type 0) (f
 
 -- the same of a tree's layout in the default style
 abbrev pub Displays : {W T : Type 0} → (W → List ℕ → W → Type 0) → Formatter W → Result (Unit {0}) Error
-    → (Layout → T → List Part) → (Layout → T → ℕ) → T → Formatter W → Type 0
+    → (StyleOptions → T → List Part) → (StyleOptions → T → ℕ) → T → Formatter W → Type 0
 Displays took f r lines levels tree g =
     HasDisplayed took f r (text_of (lines default_style tree)) (levels default_style tree) g

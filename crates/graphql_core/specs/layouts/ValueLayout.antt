@@ -8,7 +8,7 @@ use Rattle.std.specs.Str.{chars}
 use Rattle.graphql_core.specs.declared.tokenizer.token.Kind.TheVariants.{IntValue, FloatValue, StringValue, BlockString}
 use Rattle.graphql_core.specs.lexical.{begins_quotes}
 use Rattle.graphql_core.specs.strings.{is_white, is_blank_line}
-use Rattle.graphql_core.specs.layouts.Style.{Layout, default_style, spaces}
+use Rattle.graphql_core.specs.layouts.Style.{StyleOptions, default_style, spaces}
 use Rattle.graphql_core.specs.layouts.TextParts.{Part, token, name_part, punctuator_part, gap, new_line}
 use Rattle.graphql_core.specs.values.{float, string, item, enum, object, int, ValueTree, variable, boolean, null, list}
 use Rattle.graphql_core.specs.values.{ValueItems, no_items, ValueMembers, no_members, member, TypeTree, named, list_of}
@@ -102,7 +102,7 @@ abbrev pub in_block_form : ℕ → ℕ → List ℕ → List ℕ
 in_block_form inside margin text =
     codes "\"\"\"\n" ++ (flat_map (block_line inside) (lines_of text) ++ (spaces margin ++ codes "\"\"\""))
 
-abbrev pub string_layout : Layout → ℕ → List ℕ → List Part
+abbrev pub string_layout : StyleOptions → ℕ → List ℕ → List Part
 string_layout style margin text =
     if has_block_form text then token BlockString (in_block_form (margin + style.indent) margin text) ∷ []
     else token StringValue (quoted text) ∷ []
@@ -110,24 +110,24 @@ string_layout style margin text =
 -- ---- parts between an opener and a closer
 
 -- the margin of the parts
-abbrev pub inside : Layout → ℕ → ℕ
+abbrev pub inside : StyleOptions → ℕ → ℕ
 inside style margin = if style.multiline then margin + style.indent else margin
 
 -- what comes before a part at `margin`: before the first part (`false`) or a later one (`true`)
-abbrev pub before_part : Layout → ℕ → Bool → List Part
+abbrev pub before_part : StyleOptions → ℕ → Bool → List Part
 before_part style margin false = if style.multiline then new_line margin else []
 before_part style margin true = if style.multiline then gap (codes ",") ++ new_line margin else gap (codes ", ")
 
 -- parts at `margin`; `later` says that other parts come before them
-abbrev pub parts : Layout → ℕ → Bool → List (List Part) → List Part
+abbrev pub parts : StyleOptions → ℕ → Bool → List (List Part) → List Part
 parts style margin later [] = []
 parts style margin later (p ∷ ps) = before_part style margin later ++ (p ++ parts style margin true ps)
 
 -- what comes after the last part, if the closer is at `margin`
-abbrev pub after_parts : Layout → ℕ → List Part
+abbrev pub after_parts : StyleOptions → ℕ → List Part
 after_parts style margin = if style.multiline then new_line margin else []
 
-abbrev pub enclosed : Layout → ℕ → List ℕ → List ℕ → List (List Part) → List Part
+abbrev pub enclosed : StyleOptions → ℕ → List ℕ → List ℕ → List (List Part) → List Part
 enclosed style margin opener closer ps = punctuator_part opener
     ++ (parts style (inside style margin) false ps ++ (after_parts style margin ++ punctuator_part closer))
 
@@ -142,7 +142,7 @@ abbrev pub pair_layout : List ℕ → List Part → List Part
 pair_layout n value = name_part n ++ (punctuator_part (codes ":") ++ (gap (codes " ") ++ value))
 
 abbrev mutual
-  pub value_layout : Layout → ℕ → ValueTree → List Part
+  pub value_layout : StyleOptions → ℕ → ValueTree → List Part
   value_layout style margin (variable n) = punctuator_part (codes "$") ++ name_part n
   value_layout style margin (int i) = token IntValue (signed_decimal i) ∷ []
   value_layout style margin (float literal) = token FloatValue literal ∷ []
@@ -155,11 +155,11 @@ abbrev mutual
   value_layout style margin (object ms) =
       enclosed style margin (codes "{") (codes "}") (members_layout style (inside style margin) ms)
 
-  pub items_layout : Layout → ℕ → ValueItems → List (List Part)
+  pub items_layout : StyleOptions → ℕ → ValueItems → List (List Part)
   items_layout style margin no_items = []
   items_layout style margin (item v vs) = value_layout style margin v ∷ items_layout style margin vs
 
-  pub members_layout : Layout → ℕ → ValueMembers → List (List Part)
+  pub members_layout : StyleOptions → ℕ → ValueMembers → List (List Part)
   members_layout style margin no_members = []
   members_layout style margin (member n v ms) =
       pair_layout n (value_layout style margin v) ∷ members_layout style margin ms
@@ -173,23 +173,23 @@ type_layout (non_null t) = type_layout t ++ punctuator_part (codes "!")
 
 -- ---- arguments and directives
 
-abbrev pub each_argument : Layout → ℕ → List (List ℕ × ValueTree) → List (List Part)
+abbrev pub each_argument : StyleOptions → ℕ → List (List ℕ × ValueTree) → List (List Part)
 each_argument style margin arguments = map (λ a. pair_layout a.0 (value_layout style margin a.1)) arguments
 
-abbrev pub arguments_layout : Layout → ℕ → List (List ℕ × ValueTree) → List Part
+abbrev pub arguments_layout : StyleOptions → ℕ → List (List ℕ × ValueTree) → List Part
 arguments_layout style margin [] = []
 arguments_layout style margin (a ∷ more) =
     enclosed style margin (codes "(") (codes ")") (each_argument style (inside style margin) (a ∷ more))
 
-abbrev pub directive_layout : Layout → ℕ → DirectiveTree → List Part
+abbrev pub directive_layout : StyleOptions → ℕ → DirectiveTree → List Part
 directive_layout style margin d =
     punctuator_part (codes "@") ++ (name_part d.name ++ arguments_layout style margin d.arguments)
 
 -- the directives, with a space before each
-abbrev pub directives_layout : Layout → ℕ → List DirectiveTree → List Part
+abbrev pub directives_layout : StyleOptions → ℕ → List DirectiveTree → List Part
 directives_layout style margin = each_after (codes " ") (directive_layout style margin)
 
-abbrev pub default_layout : Layout → ℕ → Option ValueTree → List Part
+abbrev pub default_layout : StyleOptions → ℕ → Option ValueTree → List Part
 default_layout style margin None = []
 default_layout style margin (Some v) =
     gap (codes " ") ++ (punctuator_part (codes "=") ++ (gap (codes " ") ++ value_layout style margin v))
@@ -197,7 +197,7 @@ default_layout style margin (Some v) =
 -- ---- levels that are open at once
 
 -- lists, objects and arguments open a level if each part takes a line
-abbrev pub opened : Layout → ℕ → ℕ
+abbrev pub opened : StyleOptions → ℕ → ℕ
 opened style n = if style.multiline then n + 1 else n
 
 -- a string in block form opens one level
@@ -208,7 +208,7 @@ abbrev pub description_levels : Option (List ℕ) → ℕ
 description_levels d = option_map_or string_levels d 0
 
 -- types open no level, and parentheses on one line open no level
-abbrev pub in_levels : Layout → Weights
+abbrev pub in_levels : StyleOptions → Weights
 in_levels style = record {
   of_string = string_levels;
   of_description = description_levels;
@@ -217,20 +217,20 @@ in_levels style = record {
   around_definitions = λ any n. n;
 }
 
-abbrev pub value_levels : Layout → ValueTree → ℕ
+abbrev pub value_levels : StyleOptions → ValueTree → ℕ
 value_levels style = value_depth (in_levels style)
 
-abbrev pub arguments_levels : Layout → List (List ℕ × ValueTree) → ℕ
+abbrev pub arguments_levels : StyleOptions → List (List ℕ × ValueTree) → ℕ
 arguments_levels style = arguments_depth (in_levels style)
 
-abbrev pub directives_levels : Layout → List DirectiveTree → ℕ
+abbrev pub directives_levels : StyleOptions → List DirectiveTree → ℕ
 directives_levels style = directives_depth (in_levels style)
 
-abbrev pub default_levels : Layout → Option ValueTree → ℕ
+abbrev pub default_levels : StyleOptions → Option ValueTree → ℕ
 default_levels style = default_depth (in_levels style)
 
 -- the spaces of this many levels exceed `u32::MAX`, even if no line is at the last level
-abbrev pub IsTooWide : Layout → ℕ → Type 0
+abbrev pub IsTooWide : StyleOptions → ℕ → Type 0
 IsTooWide style levels = 2 ^ 32 ≤ levels * style.indent
 
 -- this many levels are not too wide in the default style

@@ -5,7 +5,7 @@
 use Rattle.std.specs.Prelude.{◌≡◌, ℕ, ◌==◌, if◌then◌else◌, List, ◌++◌, slice_index}
 use Rattle.graphql_core.specs.declared.tokenizer.element.ElementKind.{ElementKind}
 use Rattle.graphql_core.specs.declared.tokenizer.element.ElementKind.TheVariants as element
-use Rattle.graphql_core.specs.lexical.Lexical.{Meaning, Ignored, Word, Stands}
+use Rattle.graphql_core.specs.lexical.Lexical.{Meaning, Ignored, TokenOf, Stands}
 
 -- A comment (section 2.1.4) begins with `#`. No white space, line end, comma or byte order mark does.
 abbrev pub ignored_kind : List ℕ → ElementKind
@@ -14,7 +14,7 @@ ignored_kind bytes = if slice_index bytes 0 == 35 then element.Comment else elem
 -- the kind of a lexical element with these bytes
 abbrev pub element_kind : List ℕ → Meaning → ElementKind
 element_kind bytes (Ignored m) = ignored_kind bytes
-element_kind bytes (Word k n) = element.Token k
+element_kind bytes (TokenOf k n) = element.Token k
 
 -- the input is a lexical element of this kind, and then the rest
 abbrev pub BeginsWithElement : (text : List ℕ) → ElementKind → (bytes rest : List ℕ) → Type 0

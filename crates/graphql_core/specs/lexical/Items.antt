@@ -12,7 +12,7 @@ use Rattle.graphql_core.specs.declared.tokenizer.piece.Nesting.{Nesting}
 use Rattle.graphql_core.specs.declared.tokenizer.piece.Nesting.TheVariants.{Unchanged, Opens, Closes}
 use Rattle.graphql_core.specs.lexical.BadTexts.{BadText, bad_character, bare_dot, bad_integer, bad_float}
 use Rattle.graphql_core.specs.lexical.BadTexts.{unterminated_string, unterminated_block_string, too_deep}
-use Rattle.graphql_core.specs.lexical.Lexical.{Meaning, Ignored, Word, Piece, IsCutInto, is_in_run, begins_quotes}
+use Rattle.graphql_core.specs.lexical.Lexical.{Meaning, Ignored, TokenOf, Piece, IsCutInto, is_in_run, begins_quotes}
 
 -- where an item is: its position, the bytes before it, and the opening and closing brackets before it
 pub record Where : Type 0 where
@@ -127,7 +127,7 @@ token_then false bad token more = token ∷ more
 
 abbrev pub piece_then : Meaning → (Where → List Item) → Where → List ℕ → List Item
 piece_then (Ignored m) more w bytes = more (past_ignored m (length bytes) w)
-piece_then (Word k t) more w bytes =
+piece_then (TokenOf k t) more w bytes =
     token_then (is_too_deep t w) (item_at (LexicalError too_deep) w) (item_at (TokenContent k bytes) w)
     (more (past_token t bytes w))
 

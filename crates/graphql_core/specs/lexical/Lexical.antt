@@ -129,7 +129,7 @@ steps_over Down = 0
 
 pub data Meaning : Type 0 where
   Ignored : Move → Meaning
-  Word : Kind → Nesting → Meaning
+  TokenOf : Kind → Nesting → Meaning
 
 -- `Stands bytes m rest`: the bytes are a lexical element of this meaning, if `rest` follows.
 -- Ignored text is U+FEFF, white space, line ends, comments and commas (sections 2.1.1 to 2.1.5, 2.1.7).
@@ -150,18 +150,19 @@ pub data Stands : List ℕ → Meaning → List ℕ → Type 0 where
       → Stands (35 ∷ (line ++ 13 ∷ [])) (Ignored Down) rest
   -- a name is as long as possible
   name_token : {b : ℕ} {bs rest : List ℕ} → is_name_start b ≡ true → list_all is_name_continue bs ≡ true
-      → is_name_continue (slice_index rest 0) ≡ false → Stands (b ∷ bs) (Word Name Unchanged) rest
+      → is_name_continue (slice_index rest 0) ≡ false → Stands (b ∷ bs) (TokenOf Name Unchanged) rest
   punctuator_token : {b : ℕ} {rest : List ℕ} → is_punctuator_byte b ≡ true
-      → Stands (b ∷ []) (Word Punctuator (nesting_of b)) rest
-  spread_token : {rest : List ℕ} → Stands (46 ∷ 46 ∷ 46 ∷ []) (Word Punctuator Unchanged) rest
+      → Stands (b ∷ []) (TokenOf Punctuator (nesting_of b)) rest
+  spread_token : {rest : List ℕ} → Stands (46 ∷ 46 ∷ 46 ∷ []) (TokenOf Punctuator Unchanged) rest
   -- a number takes its whole run
-  integer_token : {run rest : List ℕ} → is_integer run ≡ true → EndsRun rest → Stands run (Word IntValue Unchanged) rest
-  float_token : {run rest : List ℕ} → IsFloat run → EndsRun rest → Stands run (Word FloatValue Unchanged) rest
+  integer_token : {run rest : List ℕ} → is_integer run ≡ true → EndsRun rest
+      → Stands run (TokenOf IntValue Unchanged) rest
+  float_token : {run rest : List ℕ} → IsFloat run → EndsRun rest → Stands run (TokenOf FloatValue Unchanged) rest
   -- a string; an empty string only if no other quote follows
   string_token : (body : List ℕ) {rest : List ℕ} → IsStringBody body → (body ≡ [] → slice_index rest 0 ≢ 34)
-      → Stands (34 ∷ (body ++ 34 ∷ [])) (Word StringValue Unchanged) rest
+      → Stands (34 ∷ (body ++ 34 ∷ [])) (TokenOf StringValue Unchanged) rest
   block_string_token : {body rest : List ℕ} → ClosesBlock body
-      → Stands (34 ∷ 34 ∷ 34 ∷ body) (Word BlockString Unchanged) rest
+      → Stands (34 ∷ 34 ∷ 34 ∷ body) (TokenOf BlockString Unchanged) rest
 
 -- no lexical element begins this input
 abbrev pub BeginsNone : List ℕ → Type 0

@@ -2,15 +2,15 @@
 use Rattle.std.specs.Prelude.{ℕ, List}
 use Rattle.graphql_core.specs.values.{ValueItems, ValueMembers, ValueTree, DirectiveTree, items_depth, members_depth}
 use Rattle.graphql_core.specs.values.{argument_depth, arguments_depth, directives_depth, in_brackets, most}
-use Rattle.graphql_core.specs.layouts.{Layout, in_levels}
+use Rattle.graphql_core.specs.layouts.{StyleOptions, in_levels}
 
-abbrev pub items_levels : Layout → ValueItems → ℕ
+abbrev pub items_levels : StyleOptions → ValueItems → ℕ
 items_levels style = items_depth (in_levels style)
 
-abbrev pub members_levels : Layout → ValueMembers → ℕ
+abbrev pub members_levels : StyleOptions → ValueMembers → ℕ
 members_levels style = members_depth (in_levels style)
 
-abbrev pub most_levels : Layout → List (List ℕ × ValueTree) → ℕ
+abbrev pub most_levels : StyleOptions → List (List ℕ × ValueTree) → ℕ
 most_levels style = most (argument_depth (in_levels style))
 
 abbrev pub items_brackets : ValueItems → ℕ

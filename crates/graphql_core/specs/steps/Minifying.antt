@@ -4,7 +4,7 @@ use Rattle.graphql_core.specs.grammar.Tokens.{Token}
 use Rattle.graphql_core.specs.declared.tokenizer.token.Kind.{Kind}
 use Rattle.graphql_core.specs.declared.tokenizer.piece.Nesting.{Nesting}
 use Rattle.graphql_core.specs.declared.tokenizer.piece.Nesting.TheVariants.{Unchanged, Opens, Closes}
-use Rattle.graphql_core.specs.lexical.{Stands, Word, openers_after, closers_after}
+use Rattle.graphql_core.specs.lexical.{Stands, TokenOf, openers_after, closers_after}
 use Rattle.graphql_core.specs.sources.{kind_number, Items, LastIsError, Refusal, Tells}
 
 -- the depth is 50, so an opening bracket here is too deep
@@ -17,7 +17,7 @@ is_past Closes o c = false
 abbrev pub AreLexemes : (openers closers : ℕ) → List Token → Type 0
 AreLexemes o c [] = Unit {0}
 AreLexemes o c (t ∷ ts) =
-    (k : Kind) × (n : Nesting) × (rest : List ℕ) × (t.kind ≡ kind_number k) × Stands t.spelling (Word k n) rest
+    (k : Kind) × (n : Nesting) × (rest : List ℕ) × (t.kind ≡ kind_number k) × Stands t.spelling (TokenOf k n) rest
     × (is_past n o c ≡ false) × AreLexemes (openers_after n o) (closers_after n c) ts
 
 -- the error is out of memory, or it is the lexical error that ends the items

@@ -7,7 +7,7 @@ use Rattle.graphql_core.specs.declared.tokenizer.token.Bad.{Bad}
 use Rattle.graphql_core.specs.declared.tokenizer.token.Token.{Token as Cut}
 use Rattle.graphql_core.specs.declared.tokenizer.piece.Nesting.{Nesting}
 use Rattle.graphql_core.specs.declared.helpers.source.Lexeme.{Lexeme}
-use Rattle.graphql_core.specs.lexical.{Stands, Word, Item, Stream, asked_once, bad_text}
+use Rattle.graphql_core.specs.lexical.{Stands, TokenOf, Item, Stream, asked_once, bad_text}
 use Rattle.graphql_core.specs.sources.{no_token, kind_number, Last, LastIsEnd, LastIsError, Spent, Items, place_of}
 use Rattle.graphql_core.specs.sources.{token_of, then_items, only_last, split}
 
@@ -46,7 +46,8 @@ Peeks bytes None i = i.tokens ≡ []
 
 -- the token is one of the lexical grammar
 abbrev pub IsLexeme : Token → Type 0
-IsLexeme t = (k : Kind) × (s : Nesting) × (rest : List ℕ) × (t.kind ≡ kind_number k) × Stands t.spelling (Word k s) rest
+IsLexeme t =
+    (k : Kind) × (s : Nesting) × (rest : List ℕ) × (t.kind ≡ kind_number k) × Stands t.spelling (TokenOf k s) rest
 
 -- the items of a source, after a call of its stream returned this result and left the stream `s`; its `cuts` was `n`
 -- at first

@@ -15,7 +15,7 @@ impl Model for Style {
     ghost use Rattle.std.specs.Prelude.{◌<◌, ◌^◌};
     ghost use Rattle.graphql_core.specs.layouts.Style as spec;
 
-    ghost Value = { spec.Layout };
+    ghost Value = { spec.StyleOptions };
 
     ghost view = { λ s. record { indent = s.indent; multiline = s.multiline_arguments } };
 

@@ -5,7 +5,7 @@ ghost use Rattle.graphql_core.specs.lexical.BadTexts.{bad_text};
 ghost use Rattle.graphql_core.specs.lexical.Items.{HasItems, Item, Stream};
 ghost use Rattle.graphql_core.specs.sources.Causes.{no_token, cause_text};
 ghost use Rattle.graphql_core.specs.steps.Punctuators.{first_byte, front_byte};
-ghost use Rattle.graphql_core.specs.steps.Endings.{shown};
+ghost use Rattle.graphql_core.specs.steps.Lookahead.{shown};
 ghost use Rattle.graphql_core.specs.declared.position.Pos.{Pos};
 ghost use Rattle.graphql_core.specs.sources.Refusals.{IsNextFault};
 ghost use Rattle.graphql_core.specs.sources.Source.{Items, LastIsError};
@@ -23,13 +23,13 @@ use std::marker::{Model, PhantomData};
 
 /// What is next in the input.
 #[derive(Clone, Copy)]
-pub enum Ending<'a> {
+pub enum Lookahead<'a> {
     /// A token.
-    Open,
+    Token,
     /// The end of input.
     End,
     /// A lexical error.
-    Wrong(Bad<'a>),
+    Error(Bad<'a>),
 }
 
 /// A token stream with one token of lookahead.
@@ -43,7 +43,7 @@ pub struct Cursor<'a, T: Text<'a>> {
     position: Pos,
     // The next token, or a token with an empty spelling if there is none.
     token: Token<'a>,
-    ending: Ending<'a>,
+    lookahead: Lookahead<'a>,
     // The first byte of the next token, or 0 if there is none.
     front: u8,
     // Whether the rest of the input was long when the cursor was made.
@@ -54,18 +54,19 @@ pub struct Cursor<'a, T: Text<'a>> {
 impl<'a, T: Text<'a>> Model for Cursor<'a, T> {
     ghost use Rattle.std.specs.Prelude.{All, ◌≡◌, ◌-◌, ◌≤◌, ◌^◌};
     ghost use Rattle.graphql_core.specs.steps.Punctuators.{front_byte};
-    ghost use Rattle.graphql_core.specs.steps.Endings.{shown};
+    ghost use Rattle.graphql_core.specs.steps.Lookahead.{shown};
     ghost use Rattle.graphql_core.specs.sources.Source.{Items};
     ghost use Rattle.graphql_core.specs.steps.Sources.{IsLexeme};
 
     ghost Value = { Items };
 
-    ghost view = { λ c. shown c.first_cuts c.position c.token c.ending (record { items = c.tokens; cuts = c.cuts }) };
+    ghost view = { λ c. shown c.first_cuts c.position c.token c.lookahead
+        (record { items = c.tokens; cuts = c.cuts }) };
 
     ghost invariant = { λ c. All IsLexeme
-        (shown c.first_cuts c.position c.token c.ending (record { items = c.tokens; cuts = c.cuts })).tokens
+        (shown c.first_cuts c.position c.token c.lookahead (record { items = c.tokens; cuts = c.cuts })).tokens
         × (c.front ≡ front_byte
-        (shown c.first_cuts c.position c.token c.ending (record { items = c.tokens; cuts = c.cuts })).tokens)
+        (shown c.first_cuts c.position c.token c.lookahead (record { items = c.tokens; cuts = c.cuts })).tokens)
         × (c.first_cuts ≤ c.cuts) × (c.cuts ≤ 2 ^ 64 - 1) };
 }
 
@@ -82,7 +83,7 @@ pub fn first_byte(text: &str) -> u8
 
 /// What a cursor keeps of a result of its stream.
 #[inline(always)]
-fn kept_of<'a>(answer: Result<Option<Token<'a>>, Bad<'a>>) -> (Token<'a>, Ending<'a>)
+fn kept_of<'a>(answer: Result<Option<Token<'a>>, Bad<'a>>) -> (Token<'a>, Lookahead<'a>)
     ensures items { (n : ℕ) (place : Pos) (left : Stream)
         → shown n place result.0 result.1 left ≡ held n place answer.entry left }
     ensures front { (n : ℕ) (place : Pos) (left : Stream)
@@ -93,9 +94,9 @@ fn kept_of<'a>(answer: Result<Option<Token<'a>>, Bad<'a>>) -> (Token<'a>, Ending
         value: "",
     };
     match answer {
-        Ok(Some(token)) => (token, Ending::Open),
-        Ok(None) => (none, Ending::End),
-        Err(bad) => (none, Ending::Wrong(bad)),
+        Ok(Some(token)) => (token, Lookahead::Token),
+        Ok(None) => (none, Lookahead::End),
+        Err(bad) => (none, Lookahead::Error(bad)),
     }
 }
 
@@ -116,14 +117,14 @@ impl<'a, T: Text<'a>> Cursor<'a, T> {
         let (mut tokens, cuts) = stream.into_parts();
         let is_long = is_long(tokens.rest());
         let position = tokens.position();
-        let (token, ending) = kept_of(tokens.next_token());
+        let (token, lookahead) = kept_of(tokens.next_token());
         Cursor {
             tokens,
             first_cuts: cuts,
             cuts: one_more(cuts),
             position,
             token,
-            ending,
+            lookahead,
             front: first_byte(token.value),
             is_long,
             names: PhantomData,
@@ -144,13 +145,13 @@ impl<'a, T: Text<'a>> Cursor<'a, T> {
     fn advance_slow(&mut self)
         ensures { self.new ≡ after self.old }
     {
-        if let Ending::Open = self.ending {
+        if let Lookahead::Token = self.lookahead {
             let position = self.tokens.position();
-            let (token, ending) = kept_of(self.tokens.next_token());
+            let (token, lookahead) = kept_of(self.tokens.next_token());
             self.cuts = one_more(self.cuts);
             self.position = position;
             self.token = token;
-            self.ending = ending;
+            self.lookahead = lookahead;
             self.front = first_byte(token.value);
         }
     }
@@ -210,8 +211,8 @@ impl<'a, T: Text<'a>> TokenSource for Cursor<'a, T> {
 
     #[inline(always)]
     fn peek(&self) -> Option<Lexeme<&'a str>> {
-        match self.ending {
-            Ending::Open => Some(Lexeme {
+        match self.lookahead {
+            Lookahead::Token => Some(Lexeme {
                 kind: self.token.kind,
                 text: self.token.value,
                 position: self.position,
@@ -242,7 +243,7 @@ impl<'a, T: Text<'a>> TokenSource for Cursor<'a, T> {
 
     #[inline(always)]
     fn is_at_end(&self) -> bool {
-        matches!(self.ending, Ending::End)
+        matches!(self.lookahead, Lookahead::End)
     }
 
     #[inline(always)]
@@ -252,7 +253,7 @@ impl<'a, T: Text<'a>> TokenSource for Cursor<'a, T> {
 
     #[inline(never)]
     fn advance(&mut self) {
-        if let Ending::Open = self.ending {
+        if let Lookahead::Token = self.lookahead {
             self.position = self.tokens.position();
             match self.tokens.fast_token() {
                 Some(token) => {
@@ -268,10 +269,10 @@ impl<'a, T: Text<'a>> TokenSource for Cursor<'a, T> {
     #[cold]
     #[inline(never)]
     fn fault(&self, alloc: Global) -> Fault {
-        match self.ending {
-            Ending::Open => unexpected(alloc, self.token, self.position),
-            Ending::End => Fault::at(Cause::UnexpectedEnd, self.position),
-            Ending::Wrong(bad) => bad_place(alloc, bad, self.position),
+        match self.lookahead {
+            Lookahead::Token => unexpected(alloc, self.token, self.position),
+            Lookahead::End => Fault::at(Cause::UnexpectedEnd, self.position),
+            Lookahead::Error(bad) => bad_place(alloc, bad, self.position),
         }
     }
 

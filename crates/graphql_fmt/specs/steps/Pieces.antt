@@ -3,7 +3,7 @@ use Rattle.std.specs.Prelude.{◌≡◌, ℕ, true, List, [], ◌∷◌, ◌++�
 use Rattle.std.specs.List.{list_all}
 use Rattle.graphql_core.specs.declared.tokenizer.token.Kind.TheVariants.{BlockString}
 use Rattle.graphql_core.specs.declared.tokenizer.element.ElementKind.{ElementKind}
-use Rattle.graphql_core.specs.{Meaning, Word, Stands, IsCutInto, is_in_line, block_string_of, has_block_lines}
+use Rattle.graphql_core.specs.{Meaning, TokenOf, Stands, IsCutInto, is_in_line, block_string_of, has_block_lines}
 use Rattle.graphql_core.specs.lexical.Elements.{element_kind}
 use Rattle.graphql_core.specs.lexical.Lexical.{Piece as Element}
 use Rattle.graphql_core.specs.declared.tokenizer.piece.Nesting.{Nesting}
@@ -22,7 +22,7 @@ kept_piece p = kept_by p.kind p.text.now
 
 -- a token of the lexical grammar, or a comment without white space at its end
 abbrev pub IsSpelling : PieceKind → List ℕ → Type 0
-IsSpelling (piece.Token k) s = (n : Nesting) × (rest : List ℕ) × Stands s (Word k n) rest
+IsSpelling (piece.Token k) s = (n : Nesting) × (rest : List ℕ) × Stands s (TokenOf k n) rest
 IsSpelling piece.Comment s = (line : List ℕ) × (s ≡ 35 ∷ line) × (list_all is_in_line line ≡ true) × (trimmed s ≡ s)
 
 -- a block string whose value can be written with any indentation

@@ -3,7 +3,7 @@ use Rattle.std.proofs.Common.{◌≡◌, ◌++◌, ◌∙◌, ap, sym, refl, cod
 use Rattle.std.proofs.Common.{true, false, ◌==◌, vec_len}
 use Rattle.std.proofs.lemmas.Bool.{eqb-true, eqb-false}
 use Rattle.std.proofs.lemmas.List.{at_drop_more, nil_from_length}
-use Rattle.graphql_core.specs.{name_part, punctuator_part, text_of, place_of, Layout, Part, gap, arguments_view, directives_view, Weights}
+use Rattle.graphql_core.specs.{name_part, punctuator_part, text_of, place_of, StyleOptions, Part, gap, arguments_view, directives_view, Weights}
 use Rattle.graphql_core.proofs.{text_append}
 use Rattle.graphql_query.specs.{more, field, inline, set, type_condition_view, selection_view, selections_view, field_view, inline_fragment_view}
 use Rattle.graphql_query.specs.{selection_set_view, IsLawfulSet, selected_layout, selection_set_layout, selected_depth, selection_set_depth}
@@ -54,7 +54,7 @@ module _ {N T : Type 0} (bytes : T → List ℕ) where
   pub nothing_lawful : (s : SelectionSet N T) → items_of s ≡ [] → IsLawfulSet (selection_set_view bytes s)
   nothing_lawful s e = rw (selection_set_parts s, e) tt
 
-  pub nothing_layout : (s : SelectionSet N T) (style : Layout) (margin : ℕ) → items_of s ≡ []
+  pub nothing_layout : (s : SelectionSet N T) (style : StyleOptions) (margin : ℕ) → items_of s ≡ []
       → selected_layout style margin (selection_set_view bytes s) ≡ gap (codes "\n")
   nothing_layout s style margin e = rw (selection_set_parts s, e) refl
 
@@ -68,12 +68,12 @@ module _ {N T : Type 0} (bytes : T → List ℕ) where
       → selected_depth w (selection_set_view bytes s) ≡ selection_set_depth w (selection_set_view bytes s)
   some_levels s w h = some_levels_at s w _ refl h
 
-  some_layout_at : (s : SelectionSet N T) (style : Layout) (margin : ℕ) (xs : List (Selection N T)) → items_of s ≡ xs → 0 < length xs
+  some_layout_at : (s : SelectionSet N T) (style : StyleOptions) (margin : ℕ) (xs : List (Selection N T)) → items_of s ≡ xs → 0 < length xs
       → selected_layout style margin (selection_set_view bytes s) ≡ gap (codes " ") ++ selection_set_layout style margin (selection_set_view bytes s)
   some_layout_at s style margin [] e h = absurd (omega arith)
   some_layout_at s style margin (x ∷ xs) e h = rw (selection_set_parts s, e) refl
 
-  pub some_layout : (s : SelectionSet N T) (style : Layout) (margin : ℕ) → 0 < length (items_of s)
+  pub some_layout : (s : SelectionSet N T) (style : StyleOptions) (margin : ℕ) → 0 < length (items_of s)
       → selected_layout style margin (selection_set_view bytes s) ≡ gap (codes " ") ++ selection_set_layout style margin (selection_set_view bytes s)
   some_layout s style margin h = some_layout_at s style margin _ refl h
 

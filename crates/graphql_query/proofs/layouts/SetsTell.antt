@@ -1,6 +1,6 @@
 -- If arguments are in one line, a document opens at most one level more than its selection sets.
 use Rattle.std.proofs.Common.{◌≡◌, ◌≤◌, ◌+◌, ℕ, false, refl, List, [], ◌∷◌, arith}
-use Rattle.graphql_core.specs.{Layout, ValueTree, DirectiveTree, most, arguments_depth, directives_depth}
+use Rattle.graphql_core.specs.{StyleOptions, ValueTree, DirectiveTree, most, arguments_depth, directives_depth}
 use Rattle.graphql_core.proofs.{most_bounded, default_bounded, arguments_bounded, directives_bounded}
 use Rattle.graphql_query.specs.{spread, more, SelectionTree, SelectionSetTree, SelectionTrees, VariableDefinitionTree, DefinitionTree, short, operation}
 use Rattle.graphql_query.specs.{fragment, DocumentTree, field, inline, set, none, selection_levels, selected_levels, selection_set_levels, selections_levels}
@@ -24,7 +24,7 @@ sets_alone (fragment f) = rw (no_directives f.directives) (omega arith)
 
 -- ---- if arguments are in one line, all levels are at most one more
 
-module _ (style : Layout) (one_line : style.multiline ≡ false) where
+module _ (style : StyleOptions) (one_line : style.multiline ≡ false) where
   mutual
     selection_within : (s : SelectionTree) → selection_levels style s ≤ selection_depth in_sets s + 1
     selection_within (field p alias n arguments ds s) =

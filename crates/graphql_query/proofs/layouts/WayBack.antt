@@ -1,6 +1,6 @@
 -- The layouts of query documents parse back to them, ignoring positions.
 use Rattle.std.proofs.Common.{◌≡◌, ℕ, ◌+◌, ◌<◌, ◌≤◌, Bool, true, false, List, [], ◌∷◌, ◌++◌, Option, Some, None, codes, map, refl, ap, ap₂, arith}
-use Rattle.graphql_core.specs.{name_part, Place, Expr, Many, Sym, ParseTree, Both, leaves, optional, is_below, IsName, Layout, Part, gap, ValueTree}
+use Rattle.graphql_core.specs.{name_part, Place, Expr, Many, Sym, ParseTree, Both, leaves, optional, is_below, IsName, StyleOptions, Part, gap, ValueTree}
 use Rattle.graphql_core.specs.{DirectiveTree, no_place, erase_all, arguments_layout, directives_layout, shared, arguments_symbol, directives_symbol}
 use Rattle.graphql_core.specs.{shared_symbols, place_at, first_place, spelling_at, optional_arguments_of, directives_of, IsNameBut, IsPrintableArgument}
 use Rattle.graphql_core.specs.{IsPrintableDirective, arguments_brackets, directives_brackets, in_braces, AreLawfulArguments, AreLawfulDirectives, optional_of}
@@ -62,7 +62,7 @@ fragment_spread_takes n (is, other) p = rw (not_listed n (codes "on" ∷ []) oth
 
 -- ---- selections
 
-module _ (style : Layout) where
+module _ (style : StyleOptions) where
   args : (margin : ℕ) (arguments : List (List ℕ × ValueTree)) (d : ℕ) → AllByRecursion IsPrintableArgument arguments → AreLawfulArguments arguments
       → d + arguments_brackets arguments ≤ 50
       → Back query (optional (Sym arguments_symbol)) true d (arguments_layout style margin arguments) true d (λ x. optional_arguments_of x ≡ arguments)

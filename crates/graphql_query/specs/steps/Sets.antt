@@ -1,6 +1,6 @@
 -- The depth of selection sets alone, which often decides how many levels are open.
 use Rattle.std.specs.Prelude.{Bool, if◌then◌else◌}
-use Rattle.graphql_core.specs.{Layout, Weights, in_levels}
+use Rattle.graphql_core.specs.{StyleOptions, Weights, in_levels}
 
 -- only the braces of selection sets count
 abbrev pub in_sets : Weights
@@ -13,5 +13,5 @@ in_sets = record {
 }
 
 -- all levels of a style, or only those of selection sets
-abbrev pub counted : Bool → Layout → Weights
+abbrev pub counted : Bool → StyleOptions → Weights
 counted all style = if all then in_levels style else in_sets

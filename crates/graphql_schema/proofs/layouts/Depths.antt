@@ -1,6 +1,6 @@
 -- The bracket depth of a document is the bracket depth of its layout.
 use Rattle.std.proofs.Common.{◌≡◌, ℕ, max, cond, Bool, true, false, List, [], ◌∷◌, Option, Some, None, codes, map, refl, arith}
-use Rattle.graphql_core.specs.{bracket_of, Part, gap, Layout, most_enclosed, most}
+use Rattle.graphql_core.specs.{bracket_of, Part, gap, StyleOptions, most_enclosed, most}
 use Rattle.graphql_core.specs.declared.tokenizer.piece.Nesting.TheVariants.{Unchanged}
 use Rattle.graphql_core.specs.declared.tokenizer.token.Kind.TheVariants.{Punctuator}
 use Rattle.graphql_core.proofs.{Rises, rises_as, none_rise, flat_rise, gap_rises, level_rises, both_rise, string_rises, type_rises, directives_rise}
@@ -22,11 +22,11 @@ block_rises lines brackets rise margin (x ∷ xs) = gap_rises _ (braces_rise mar
 
 -- ---- descriptions and names
 
-description_rises : (style : Layout) (margin : ℕ) (t : Option (List ℕ)) → Rises 0 (description_layout style margin t)
+description_rises : (style : StyleOptions) (margin : ℕ) (t : Option (List ℕ)) → Rises 0 (description_layout style margin t)
 description_rises style margin None = none_rise
 description_rises style margin (Some text) = gap_rises _ (line_end_rises _ (string_rises style margin text))
 
-inline_rises : (style : Layout) (margin : ℕ) (t : Option (List ℕ)) → Rises 0 (inline_layout style margin t)
+inline_rises : (style : StyleOptions) (margin : ℕ) (t : Option (List ℕ)) → Rises 0 (inline_layout style margin t)
 inline_rises style margin None = none_rise
 inline_rises style margin (Some text) = line_end_rises _ (string_rises style margin text)
 
@@ -52,7 +52,7 @@ locations_rise (l ∷ ls) = gap_rises _ (level_rises refl (gap_rises _ (joined_r
 
 -- ---- arguments, fields and values
 
-module _ (style : Layout) where
+module _ (style : StyleOptions) where
   input_value_rises : (margin : ℕ) (v : InputValueTree) → Rises (input_value_brackets v) (input_value_layout style margin v)
   input_value_rises margin v =
       both_rise (inline_rises style margin v.description) (level_rises refl (level_rises refl (gap_rises _ (both_rise (type_rises v.value_type)

@@ -1,7 +1,7 @@
 -- If arguments are on one line, a document opens at most two levels: a block, and in it a block string.
 use Rattle.std.proofs.Common.{◌≡◌, ◌≤◌, ◌+◌, ℕ, cond, Bool, true, false, List, [], ◌∷◌, Option, Some, None, Result, Ok, Err, OnOk, arith, refl}
 use Rattle.std.proofs.Math.Nat.{mul-le-mul_left}
-use Rattle.graphql_core.specs.{Layout, default_style, IsNarrow, description_levels, most_enclosed}
+use Rattle.graphql_core.specs.{StyleOptions, default_style, IsNarrow, description_levels, most_enclosed}
 use Rattle.graphql_core.proofs.{most_bounded, string_bounded, default_bounded, directives_bounded}
 use Rattle.graphql_schema.specs.{input_value_levels, field_levels, enum_value_levels, parts_levels, body_levels, definition_levels, levels, IsTooWide}
 use Rattle.graphql_schema.specs.{InputValueTree, FieldTree, EnumValueTree, PartsTree, BodyTree, DefinitionTree, DocumentTree}
@@ -22,7 +22,7 @@ one_or_none : (b : Bool) → cond b 1 0 ≤ 1
 one_or_none true = omega arith
 one_or_none false = omega arith
 
-module _ (style : Layout) (one_line : style.multiline ≡ false) where
+module _ (style : StyleOptions) (one_line : style.multiline ≡ false) where
   -- ---- parts of definitions
 
   input_value_bounded : (v : InputValueTree) → input_value_levels style v ≤ 1

@@ -2,7 +2,7 @@
 use Rattle.std.proofs.Common.{◌≡◌, ℕ, ◌+◌, ◌<◌, ◌≤◌, Bool, true, false, if◌then◌else◌, List, [], ◌∷◌, Option, Some, None, codes, map, refl, sym, ap, ap₂}
 use Rattle.std.proofs.Common.{◌∙◌, subst, arith}
 use Rattle.std.proofs.lemmas.List.{map-id}
-use Rattle.graphql_core.specs.{name_part, Expr, Then, Many, Sym, ParseTree, Both, Node, optional, some_of, row, is_below, IsName, Layout, Part, token}
+use Rattle.graphql_core.specs.{name_part, Expr, Then, Many, Sym, ParseTree, Both, Node, optional, some_of, row, is_below, IsName, StyleOptions, Part, token}
 use Rattle.graphql_core.specs.{DirectiveTree, no_place, erase_all, directives_layout, has_block_form, in_block_form, string_layout, in_braces, shared}
 use Rattle.graphql_core.specs.{directives_symbol, shared_symbols, punctuator, string_of, block_string_of, spelling_at, directives_of, IsPrintableDirective}
 use Rattle.graphql_core.specs.{directives_brackets, most_enclosed, most, AreLawfulDirectives, optional_of, optional_list_of, each_of, enclosed_of, separated_of}
@@ -107,7 +107,7 @@ module _ {A : Type 0} {one : Expr} (f : ParseTree → A) (erase : A → A) (line
 
 -- ---- parts with descriptions, values and directives
 
-module _ (style : Layout) where
+module _ (style : StyleOptions) where
   pub directives_in : (margin : ℕ) (ds : List DirectiveTree) (d : ℕ) → AllByRecursion IsPrintableDirective ds → AreLawfulDirectives ds
       → d + directives_brackets ds ≤ 50
       → Back schema_grammar (Sym directives_symbol) true d (directives_layout style margin ds) true d (λ x. erase_all (directives_of x) ≡ erase_all ds)

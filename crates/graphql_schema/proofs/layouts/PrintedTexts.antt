@@ -3,7 +3,8 @@ use Rattle.std.proofs.Common.{◌≡◌, ◌<◌, ◌+◌, ◌*◌, ◌++◌, �
 use Rattle.std.proofs.Common.{append_assoc, arith, Bool, cond}
 use Rattle.std.proofs.lemmas.List.{at_drop_more}
 use Rattle.std.proofs.lemmas.List.Folds.{flat_map-map}
-use Rattle.graphql_core.specs.{name_part, text_of, Layout, spaces, Part, gap, in_braces, default_layout, most, type_layout, directives_layout, most_enclosed}
+use Rattle.graphql_core.specs.{name_part, text_of, StyleOptions, spaces, Part, gap, in_braces, default_layout, most, type_layout, directives_layout}
+use Rattle.graphql_core.specs.{most_enclosed}
 use Rattle.std.specs.List.{flat_map}
 use Rattle.graphql_core.proofs.{text_append, narrower, most_seen}
 use Rattle.graphql_schema.specs.{InputValueTree, FieldTree, EnumValueTree, SchemaTree, BodyTree, DirectiveDefinitionTree, schema, schema_extension}
@@ -42,47 +43,50 @@ pub root_text : (margin : ℕ) (word n : List ℕ)
     → (((spaces margin ++ word) ++ codes ": ") ++ n) ++ codes "\n" ≡ text_of (root_layout margin word (Some n))
 root_text margin word n = simp (text_append, append_assoc)
 
-pub input_value_text : (style : Layout) (margin : ℕ) (v : InputValueTree) → ((((text_of (inline_layout style margin v.description) ++ v.name) ++ codes ": ")
+pub input_value_text : (style : StyleOptions) (margin : ℕ) (v : InputValueTree)
+    → ((((text_of (inline_layout style margin v.description) ++ v.name) ++ codes ": ")
     ++ text_of (type_layout v.value_type)) ++ text_of (default_layout style margin v.default_value)) ++ text_of (directives_layout style margin v.directives)
     ≡ text_of (input_value_layout style margin v)
 input_value_text style margin v = simp (text_append, append_assoc)
 
-pub field_text : (style : Layout) (margin : ℕ) (f : FieldTree) → ((((((text_of (description_layout style margin f.description) ++ spaces margin) ++ f.name)
+pub field_text : (style : StyleOptions) (margin : ℕ) (f : FieldTree)
+    → ((((((text_of (description_layout style margin f.description) ++ spaces margin) ++ f.name)
     ++ text_of (arguments_layout style margin f.arguments)) ++ codes ": ") ++ text_of (type_layout f.field_type))
     ++ text_of (directives_layout style margin f.directives)) ++ codes "\n" ≡ text_of (field_layout style margin f)
 field_text style margin f = simp (text_append, append_assoc)
 
-pub input_field_text : (style : Layout) (margin : ℕ) (v : InputValueTree) → (spaces margin ++ text_of (input_value_layout style margin v)) ++ codes "\n"
+pub input_field_text : (style : StyleOptions) (margin : ℕ) (v : InputValueTree) → (spaces margin ++ text_of (input_value_layout style margin v)) ++ codes "\n"
     ≡ text_of (input_field_layout style margin v)
 input_field_text style margin v = simp (text_append, append_assoc)
 
-pub enum_value_text : (style : Layout) (margin : ℕ) (v : EnumValueTree) → (((spaces margin ++ text_of (inline_layout style margin v.description)) ++ v.name)
+pub enum_value_text : (style : StyleOptions) (margin : ℕ) (v : EnumValueTree)
+    → (((spaces margin ++ text_of (inline_layout style margin v.description)) ++ v.name)
     ++ text_of (directives_layout style margin v.directives)) ++ codes "\n" ≡ text_of (enum_value_layout style margin v)
 enum_value_text style margin v = simp (text_append, append_assoc)
 
-pub roots_text : (style : Layout) (q m s : Option (List ℕ)) → (((codes " {\n" ++ text_of (root_layout style.indent (codes "query") q))
+pub roots_text : (style : StyleOptions) (q m s : Option (List ℕ)) → (((codes " {\n" ++ text_of (root_layout style.indent (codes "query") q))
     ++ text_of (root_layout style.indent (codes "mutation") m)) ++ text_of (root_layout style.indent (codes "subscription") s)) ++ codes "}\n"
     ≡ text_of (roots_layout style q m s)
 roots_text style q m s = simp (text_append, append_assoc)
 
-pub schema_text : (style : Layout) (d : Option (List ℕ)) (s : SchemaTree)
+pub schema_text : (style : StyleOptions) (d : Option (List ℕ)) (s : SchemaTree)
     → ((text_of (description_layout style 0 d) ++ codes "schema") ++ text_of (directives_layout style 0 s.directives))
     ++ text_of (roots_layout style s.query s.mutation s.subscription) ≡ text_of (definition_layout style (schema d s))
 schema_text style d s = simp (text_append, append_assoc)
 
 -- an extension of the schema, with or without operations
-pub schema_extension_text : (style : Layout) (s : SchemaTree) (b : Bool) → b ≡ has_operation s
+pub schema_extension_text : (style : StyleOptions) (s : SchemaTree) (b : Bool) → b ≡ has_operation s
     → (codes "extend schema" ++ text_of (directives_layout style 0 s.directives))
     ++ text_of (cond b (roots_layout style s.query s.mutation s.subscription) (gap (codes "\n"))) ≡ text_of (definition_layout style (schema_extension s))
 schema_extension_text style s b is = rw (is) (simp (text_append, append_assoc))
 
-pub directive_definition_text : (style : Layout) (d : DirectiveDefinitionTree)
+pub directive_definition_text : (style : StyleOptions) (d : DirectiveDefinitionTree)
     → (((((text_of (description_layout style 0 d.description) ++ codes "directive @") ++ d.name) ++ text_of (arguments_layout style 0 d.arguments))
     ++ text_of (repeatable_layout d.repeatable)) ++ text_of (locations_layout d.locations)) ++ codes "\n" ≡ text_of (directive_definition_layout style d)
 directive_definition_text style d = simp (text_append, append_assoc)
 
 -- a type or a type extension
-pub body_text : (style : Layout) (b : BodyTree) → ((((keyword b.parts ++ codes " ") ++ b.name) ++ text_of (interfaces_layout (interfaces b.parts)))
+pub body_text : (style : StyleOptions) (b : BodyTree) → ((((keyword b.parts ++ codes " ") ++ b.name) ++ text_of (interfaces_layout (interfaces b.parts)))
     ++ text_of (directives_layout style 0 b.directives)) ++ text_of (parts_layout style b.parts) ≡ text_of (body_layout style b)
 body_text style b = simp (text_append, append_assoc)
 

@@ -1,7 +1,7 @@
 -- The layouts of schema documents parse back to them, ignoring positions.
 use Rattle.std.proofs.Common.{◌≡◌, ℕ, ◌≤◌, Bool, true, false, not, ◌||◌, cond, List, [], ◌∷◌, ◌++◌, Option, Some, None, is_some, codes, map, refl, sym, ap}
 use Rattle.std.proofs.Common.{ap₂, subst, ◌∙◌, arith, append-nil}
-use Rattle.graphql_core.specs.{name_part, Many, Sym, ParseTree, Both, Node, optional, some_of, row, IsName, Layout, Part, gap, word, directives_of}
+use Rattle.graphql_core.specs.{name_part, Many, Sym, ParseTree, Both, Node, optional, some_of, row, IsName, StyleOptions, Part, gap, word, directives_of}
 use Rattle.graphql_core.specs.{most_enclosed, no_place, erase_all, AreLawfulDirectives, directives_brackets, directives_layout, has_any, is_there, AreReadBack}
 use Rattle.graphql_core.proofs.{same_parts, checked_back, seven_back, Any, means, margin_back, gap_back, then_gap, word_back, punctuator_back, nothing_back}
 use Rattle.graphql_core.proofs.{both_back, first_back, second_back, node_back, stop_back, more_back, three_back, name_word, spaces_blank, both_of_each}
@@ -102,7 +102,7 @@ module _ (margin : ℕ) where
 abbrev IsSchema : SchemaTree → ParseTree → Type 0
 IsSchema s x = (root_fault_of x ≡ None) × (erase_schema (schema_of (Node schema_symbol x)) ≡ erase_schema s)
 
-schema_back : (style : Layout) (s : SchemaTree) → IsPrintableSchema s → AreLawfulDirectives s.directives → directives_brackets s.directives ≤ 50
+schema_back : (style : StyleOptions) (s : SchemaTree) → IsPrintableSchema s → AreLawfulDirectives s.directives → directives_brackets s.directives ≤ 50
     → Back schema_grammar (Sym schema_symbol) false 0 (schema_layout style s) false 0 (λ x. erase_schema (schema_of x) ≡ erase_schema s)
 schema_back style s (ds, q, m, b) law deep =
     checked_back {P = IsSchema s} (λ x p. ap (λ (f : Option RootFault). not (is_some f)) p.0) (λ x p. p.1)
@@ -114,7 +114,7 @@ schema_back style s (ds, q, m, b) law deep =
 
 -- ---- extensions of schemas
 
-module _ (style : Layout) where
+module _ (style : StyleOptions) where
   -- the line of an operation before the lines of others
   some_before : (w n : List ℕ) (ps : List Part) (rs : List Root) (d : ℕ) → IsName w → IsName n
       → Back schema_grammar (Many (Sym root_type_symbol)) false d ps false d (λ x. roots_of x ≡ rs)
@@ -147,7 +147,7 @@ abbrev IsSchemaExtension : SchemaTree → ParseTree → Type 0
 IsSchemaExtension s x = (extension_fault_of x ≡ None) × (erase_schema (schema_extension_of (Node schema_extension_symbol x)) ≡ erase_schema s)
 
 -- what follows `extend`
-after_extend_back : (style : Layout) (s : SchemaTree) → IsPrintableSchema s → AreLawfulDirectives s.directives → directives_brackets s.directives ≤ 50
+after_extend_back : (style : StyleOptions) (s : SchemaTree) → IsPrintableSchema s → AreLawfulDirectives s.directives → directives_brackets s.directives ≤ 50
     → Back schema_grammar (Sym schema_extension_symbol) false 0 (name_part (codes "schema") ++ (directives_layout style 0 s.directives
     ++ cond (has_operation s) (roots_layout style s.query s.mutation s.subscription) (gap (codes "\n")))) false 0
     (λ x. erase_schema (schema_extension_of x) ≡ erase_schema s)
@@ -194,7 +194,7 @@ abbrev directive_tree : Option (List ℕ) → List ℕ → List InputValueTree �
 directive_tree s n vs b ls = record { position = no_place; description = s; name = n; arguments = vs; repeatable = b; locations = ls }
 
 -- what follows the description of a directive
-directive_back : (style : Layout) (s : Option (List ℕ)) (n : List ℕ) (vs : List InputValueTree) (b : Bool) (ls : List DirectiveLocation) → IsName n
+directive_back : (style : StyleOptions) (s : Option (List ℕ)) (n : List ℕ) (vs : List InputValueTree) (b : Bool) (ls : List DirectiveLocation) → IsName n
     → AllByRecursion IsPrintableInputValue vs → has_any ls ≡ true → AllByRecursion IsLawfulInputValue vs → most_enclosed input_value_brackets vs ≤ 50
     → Back schema_grammar (Sym directive_definition_symbol) false 0 (directive_definition_layout style (directive_tree None n vs b ls)) false 0
     (λ x. (t : Option (List ℕ)) → t ≡ s → erase_directive (directive_definition_of t x) ≡ erase_directive (directive_tree s n vs b ls))
@@ -213,7 +213,7 @@ directive_back style s n vs b (l ∷ ls) named are some law deep =
 -- ---- extensions
 
 -- an extension that adds something parses back
-extended_back : (style : Layout) (t : DefinitionTree) → extends t ≡ true
+extended_back : (style : StyleOptions) (t : DefinitionTree) → extends t ≡ true
     → Back schema_grammar (row schema_grammar extension_symbol).rule false 0 (definition_layout style t) false 0
     (λ x. erase_definition (extension_of (Node extension_symbol x)) ≡ erase_definition t)
     → Back schema_grammar (Sym extension_symbol) false 0 (definition_layout style t) false 0 (λ x. erase_definition (extension_of x) ≡ erase_definition t)
@@ -221,7 +221,7 @@ extended_back style t some inside =
     checked_back {P = λ x. erase_definition (extension_of (Node extension_symbol x)) ≡ erase_definition t}
     (λ x p. sym (extends_alike (extension_of (Node extension_symbol x))) ∙ ap extends p ∙ extends_alike t ∙ some) (λ x p. p) inside
 
-extension_back : (style : Layout) (b : BodyTree) → IsPrintableBody b → adds_something b ≡ true → IsLawfulBody b → body_brackets b ≤ 50
+extension_back : (style : StyleOptions) (b : BodyTree) → IsPrintableBody b → adds_something b ≡ true → IsLawfulBody b → body_brackets b ≤ 50
     → Back schema_grammar (Sym extension_symbol) false 0 (definition_layout style (extension b)) false 0
     (λ x. erase_definition (extension_of x) ≡ extension (erase_body b))
 extension_back style b is some law deep =
@@ -230,7 +230,7 @@ extension_back style b is some law deep =
     (gap_back refl (body_back style b 0 is law (omega arith)))
     (λ w x hw hx. ap extension hx)))
 
-schema_extension_back : (style : Layout) (s : SchemaTree) → IsPrintableSchema s → adds_to_schema s ≡ true → AreLawfulDirectives s.directives
+schema_extension_back : (style : StyleOptions) (s : SchemaTree) → IsPrintableSchema s → adds_to_schema s ≡ true → AreLawfulDirectives s.directives
     → directives_brackets s.directives ≤ 50
     → Back schema_grammar (Sym extension_symbol) false 0 (definition_layout style (schema_extension s)) false 0
     (λ x. erase_definition (extension_of x) ≡ schema_extension (erase_schema s))
@@ -242,7 +242,8 @@ schema_extension_back style s is some law deep =
 
 -- ---- definitions
 
-definition_back : (style : Layout) (t : DefinitionTree) → IsPrintableDefinition t → IsWholeDefinition t → IsLawfulDefinition t → definition_brackets t ≤ 50
+definition_back : (style : StyleOptions) (t : DefinitionTree) → IsPrintableDefinition t → IsWholeDefinition t → IsLawfulDefinition t
+    → definition_brackets t ≤ 50
     → Back schema_grammar (Sym item_symbol) false 0 (definition_layout style t) false 0 (λ x. erase_definition (item_of x) ≡ erase_definition t)
 definition_back style (schema t s) is whole law deep =
     node_back (λ x. refl) (first_back
@@ -262,7 +263,7 @@ definition_back style (directive t) is whole law deep =
 -- ---- documents
 
 -- the layout of a printable document parses back to it, ignoring positions
-pub way_back : (style : Layout) (ts : DocumentTree) → IsPrintable ts → IsLawfulDocument ts → IsReadBack (layout style ts) ts
+pub way_back : (style : StyleOptions) (ts : DocumentTree) → IsPrintable ts → IsLawfulDocument ts → IsReadBack (layout style ts) ts
 way_back style [] is law = absurd cc
 way_back style (t ∷ ts) is law =
     document_back schemas (t ∷ ts) (node_back (λ x. refl) (some_back 0 item_of erase_definition (definition_layout style) IsPrintableDefinition

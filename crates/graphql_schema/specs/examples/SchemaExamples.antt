@@ -1,7 +1,8 @@
 -- The documents of some small inputs, how these documents are formatted, and where other inputs are rejected.
 use Rattle.std.specs.Prelude.{◌≡◌, ℕ, true, List, [], ◌∷◌, Option, Some, None, codes}
 use Rattle.graphql_core.specs.{with_indent, with_multiline, Place, Sym, IsLeast, Reason, Unexpected, Improper, Refused}
-use Rattle.graphql_core.specs.{Layout, default_style, Item, HasItems, split, numbered, named, location_class, variable}
+use Rattle.graphql_core.specs.{StyleOptions, default_style, Item, HasItems, split, numbered, named, location_class}
+use Rattle.graphql_core.specs.{variable}
 use Rattle.graphql_schema.specs.Tree.{EnumValueTree, SchemaTree, PartsTree, object, union, enum, schema, empty_schema}
 use Rattle.graphql_schema.specs.Tree.{type_definition, extension, schema_extension, DocumentTree}
 use Rattle.graphql_schema.specs.Grammar.{schema_grammar, document_symbol, schema_symbol, extension_symbol}
@@ -77,7 +78,7 @@ pub record WorkedMeanings : Type 0 where
 -- ---- layouts of documents
 
 -- the input parses to a document that is formatted like this in the style
-abbrev pub IsShown : Layout → List ℕ → List ℕ → Type 0
+abbrev pub IsShown : StyleOptions → List ℕ → List ℕ → Type 0
 IsShown style text shown = (d : DocumentTree) × IsDocumentOf text d × (layout style d ≡ shown)
 
 -- the same in the default style

@@ -1,7 +1,7 @@
 use Rattle.std.proofs.Common.{◌≡◌, ◌++◌, Err, List, ℕ, Option, Some, None, sym, subst, ◌∙◌, ap, append-nil}
 use Rattle.std.proofs.lemmas.Result.{err_from_is_err_and, IfErr-at_err, on_ok_weaker}
 use Rattle.std.specs.Io.KnownBytes.{Appends, Consumes, IsAtEnd}
-use Rattle.graphql_core.specs.{Layout}
+use Rattle.graphql_core.specs.{StyleOptions}
 use Rattle.graphql_parser.proofs.Mapped.{at_passed}
 use Rattle.gql.specs.{IsOutputOf, EndsEngine, ReadsAll, WritesPart}
 use Rattle.gql.specs.declared.command.Command.{Command}
@@ -18,7 +18,7 @@ reads_all (Some xs) (Some ys) text P h e p =
     (e, subst P (sym (h ∙ ap (λ l. text ++ l) e ∙ append-nil text)) p)
 
 -- the output for the bytes that were read is one for all that was left
-reads_for_output : (command : Command) (style : Layout) (old new : Option (List ℕ)) (text bytes made output : List ℕ) (P : List ℕ → Type 0) → text ≡ bytes
+reads_for_output : (command : Command) (style : StyleOptions) (old new : Option (List ℕ)) (text bytes made output : List ℕ) (P : List ℕ → Type 0) → text ≡ bytes
     → output ≡ made → Consumes old new bytes → IsAtEnd new → IsOutputOf command style text made → P output
     → ReadsAll old new (λ input. (x : List ℕ) × IsOutputOf command style input x × P x)
 reads_for_output command style old new text bytes made output P same_text same_output taken end is h =

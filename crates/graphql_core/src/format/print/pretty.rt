@@ -2,7 +2,7 @@
 ghost use Rattle.std.specs.Prelude.{◌≡◌, ℕ, ◌+◌, ◌-◌, ◌*◌, ◌^◌, ◌<◌, List, OnOk, min, map};
 ghost use Rattle.graphql_core.specs.layouts.TextParts.{text_of, Part};
 ghost use Rattle.std.specs.List.{AllByRecursion, flat_map};
-ghost use Rattle.graphql_core.specs.layouts.Style.{Layout};
+ghost use Rattle.graphql_core.specs.layouts.Style.{StyleOptions};
 ghost use Rattle.graphql_core.specs.values.TreeDepth.{most};
 ghost use Rattle.graphql_core.specs.layouts.Displayed.{Displays};
 ghost use Rattle.graphql_core.specs.steps.Joined.{joined};
@@ -14,10 +14,10 @@ use std::fmt;
 /// A tree that has a layout.
 pub trait Pretty {
     /// The layout in a style, at a margin of this many spaces.
-    ghost lines: { Layout → ℕ → Self → List Part };
+    ghost lines: { StyleOptions → ℕ → Self → List Part };
 
     /// How many levels the layout opens at once.
-    ghost opens: { Layout → Self → ℕ };
+    ghost opens: { StyleOptions → Self → ℕ };
 
     /// What holds of every such tree that a program can make.
     ghost lawful: { Self → Type 0 };

@@ -11,7 +11,7 @@ invariant_of-self g c =
     let others : Stream = record { items = c.next_token.new.self; cuts = c.one_more-self-inside.result } in
     let same = c.kept_of.ensures.items s.first_cuts c.position-position.result others in (
       All-same IsLexeme _ _ (ap (λ (i : Items). i.tokens) same)
-          (later_lexemes s.first_cuts old others _ _ s.token _ _ c.self.invariant.0 c.in-Open.is
+          (later_lexemes s.first_cuts old others _ _ s.token _ _ c.self.invariant.0 c.in-Token.is
           c.next_token.ensures c.one_more-self-inside.ensures c.position-position.ensures),
       c.first_byte-self-inside.ensures ∙ c.kept_of.ensures.front s.first_cuts _ others ∙ ap (λ (i : Items). front_byte i.tokens) (sym same),
       omega (arith, c.one_more-self-inside.ensures, c.self.invariant.2),
