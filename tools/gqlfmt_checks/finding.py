@@ -36,6 +36,7 @@ def names_that_are_not_utf8():
 def folders():
     wanted = ["t/a.graphql", "t/b.gql", "t/c.graphqls", "t/deep/er/d.graphql", "t/x.graphql/e.graphql"]
     others = ["t/.hidden.graphql", "t/.git/f.graphql", "t/deep/.x/j.gql", "outside/k.graphql"]
+    others += ["t/node_modules/l.graphql", "t/deep/node_modules/m/n.graphql"]
     others += ["t/g.txt", "t/graphql", "t/h.GRAPHQL", "t/i.graphql.bak"]
     for name in wanted + others:
         new(name)
@@ -53,6 +54,7 @@ def folders():
     expect("these are not", list(map(read, others)), [SHORT] * len(others))
     expect("a hidden folder that is named", gqlfmt("--check", "t/.git")[1], b"t/.git/f.graphql\n")
     expect("a hidden file that is named", gqlfmt("--check", "t/.hidden.graphql")[1], b"t/.hidden.graphql\n")
+    expect("node_modules that is named", gqlfmt("--check", "t/node_modules")[1], b"t/node_modules/l.graphql\n")
     expect("a link that is named", gqlfmt("--check", "t/folder_link")[1], b"t/folder_link/k.graphql\n")
     os.mkdir("empty")
     message = "empty: has no files that end in .graphql, .graphqls or .gql\n"
@@ -102,8 +104,21 @@ def other_kinds_of_files():
     new("a.graphql", b"{a \xff}\n")
     for task in ("--check", "--write", "--diff"):
         expect(f"{task}, not UTF-8", gqlfmt(task, "a.graphql"), (2, b"", "a.graphql: is not UTF-8 (line 1)\n"))
-    for name, text, place in (("empty.graphql", b"", "1:1"), ("comments.graphql", b"# c\n", "2:1")):
+
+
+@test
+def files_without_tokens():
+    formatted = {"empty.graphql": b"", "comments.graphql": b"# c\n\n# d\n"}
+    others = {"spaces.graphql": (b" \n,\t\n", b""), "more.graphql": (b"#c \r\n\n\n\xef\xbb\xbf  # d", b"#c\n\n# d\n")}
+    for name, text in formatted.items():
         new(name, text)
-        status, out, err = gqlfmt("--write", name)
-        wanted = (1, b"", f"{name}:{place}: Unexpected end of input")
-        expect(f"{name}: no definition", (status, out, err.splitlines()[0]), wanted)
+        expect(f"{name}, formatted", gqlfmt(name), (0, text, ""))
+        expect(f"{name}, --check", gqlfmt("--check", "--language", "query", name), (0, b"", ""))
+    for name, (text, wanted) in others.items():
+        new(name, text)
+        expect(f"{name}, --check", gqlfmt("--check", name), (1, name.encode() + b"\n", ""))
+        expect(f"{name}, --write", (*gqlfmt("--write", name), read(name)), (0, b"", "", wanted))
+    new("error.graphql", b"# c\n?")
+    status, out, err = gqlfmt("error.graphql")
+    message = "error.graphql:2:1: Unexpected unexpected character '?'"
+    expect("a lexical error", (status, out, err.splitlines()[0]), (1, b"", message))

@@ -4,3 +4,4 @@ pub mod Joining
 pub mod KeptValues
 pub mod Beginning
 pub mod Formatting
+pub mod NoTokens

@@ -1,6 +1,8 @@
-//! The whole call.
-ghost use Rattle.std.specs.Prelude.{◌≡◌, ◌≤◌, ◌/◌, List, length, IfOk, string_bytes, MatchOption};
-ghost use Rattle.graphql_fmt.specs.{Kept, HasKept, KeepsAll, FormatsIn, IsReadAs, IsLanguageOf, begins_query};
+//! The whole calls.
+ghost use Rattle.std.specs.Prelude.{◌≡◌, ◌≤◌, ◌/◌, ◌↔◌, List, length, IfOk, IsTrue, string_bytes, MatchOption};
+ghost use Rattle.graphql_core.specs.{max_length};
+ghost use Rattle.graphql_fmt.specs.{Kept, HasKept, HasNoToken, KeepsAll, FormatsIn, IsReadAs, IsLanguageOf};
+ghost use Rattle.graphql_fmt.specs.{begins_query};
 ghost use Rattle.graphql_fmt.specs.steps.Checking.{ChecksIn};
 
 use crate::error::FormatSourceError;
@@ -111,4 +113,33 @@ pub fn format_source(
         // The input has been parsed, so it has no lexical error.
         None => unreachable!(),
     }
+}
+
+/// Whether an input has no token and no lexical error.
+fn has_no_token(source: &str) -> bool
+    requires { length source.now ≤ usize.MAX / 16 }
+    ensures { IsTrue result ↔ HasNoToken source.now }
+{
+    matches!(Tokens::new(source).next_token(), Ok(None))
+}
+
+/// Formats source text that has no token, and keeps its comments. Such an input is no document, so [`format_source`]
+/// rejects it.
+///
+/// `None` if the input has a token or a lexical error, or more than `MAX_LENGTH` bytes. An error means that an
+/// allocation failed.
+pub fn format_comments(
+    alloc: Global,
+    source: &str,
+    options: &FormatOptions,
+) -> Result<Option<String>, AllocError>
+    // The output has the comments of the input, in the same order, and nothing else but white space.
+    ensures { IfOk result (λ found. MatchOption found
+        (length source.now ≤ max_length → HasNoToken source.now → ⊥)
+        (λ output. HasNoToken source.now × KeepsAll source.now (string_bytes output))) }
+{
+    if source.len() > MAX_LENGTH || !has_no_token(source) {
+        return Ok(None);
+    }
+    formatted(alloc, source, Language::Schema, options)
 }

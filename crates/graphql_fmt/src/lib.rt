@@ -13,7 +13,7 @@ mod options;
 mod pieces;
 
 pub use error::FormatSourceError;
-pub use format::{format_source, language_of};
+pub use format::{format_comments, format_source, language_of};
 pub use laws::kept_tokens_have_one_document;
 pub use options::{FormatOptions, Language};
 

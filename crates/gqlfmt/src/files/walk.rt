@@ -39,6 +39,11 @@ fn is_graphql(name: &str) -> bool {
     name.ends_with(".graphql") || name.ends_with(".graphqls") || name.ends_with(".gql")
 }
 
+/// Whether a file or a folder with this name is left out if it is in a folder: if it is hidden, or has packages of npm.
+fn is_left_out(name: &str) -> bool {
+    name.starts_with('.') || name == "node_modules"
+}
+
 /// Adds an entry of a folder: a file to those found, and a folder to those below.
 fn add_entry<R: Files + AllocGlobal>(
     alloc: Global,
@@ -47,7 +52,7 @@ fn add_entry<R: Files + AllocGlobal>(
     below: &mut Vec<String>,
 ) -> Result<(), AllocError> {
     let name = entry.file_name();
-    if name.starts_with('.') {
+    if is_left_out(name) {
         return Ok(());
     }
     let path = entry.path();
@@ -120,7 +125,8 @@ fn walk<R: Files + AllocGlobal + Clone + Drop>(
 
 /// The file with this path, or the GraphQL files below the folder with this path.
 ///
-/// In a folder, names that begin with a dot and symbolic links are left alone. A name that is not UTF-8 is an error.
+/// In a folder, names that begin with a dot, `node_modules` and symbolic links are left out. A name that is not UTF-8 is
+/// an error.
 pub fn find_files<R: Files + AllocGlobal + Clone + Drop>(
     rt: &R,
     path: &str,

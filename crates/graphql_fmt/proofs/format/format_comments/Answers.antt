@@ -1,0 +1,10 @@
+use Rattle.std.proofs.Common.{rules}
+use Rattle.graphql_fmt.specs.{HasNoToken}
+use Rattle.graphql_fmt.proofs.NoTokens.{comments_kept}
+use Rattle.graphql_fmt.proofs.format.format_comments.Goals as goal
+
+pub returns : goal.returns
+returns c =
+    let source = c.args.source.now in
+    let none : HasNoToken source = search rules in
+    comments_kept source c.formatted.result none c.formatted.ensures
