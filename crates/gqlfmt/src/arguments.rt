@@ -16,7 +16,7 @@ const AFTER_HELP: &str = "\
 Without --check, --write or --diff, the formatted texts go to standard output.
 
 A folder stands for the files below it whose names end in .graphql, .graphqls or .gql.
-Hidden files, hidden folders, folders named node_modules and symbolic links in a folder are left out.
+Hidden files and folders, node_modules, and symbolic links in a folder are left out.
 
 Status: 0 if all went well; 1 if an input is rejected, or would change under --check or --diff;
 2 if the arguments are invalid, or an input cannot be read or written.";
