@@ -1,5 +1,6 @@
 #!/usr/bin/env python3
-"""tools/peers/graphql_core.py FILE ROUNDS: the least time in microseconds that graphql-core takes to parse a document, and to print it."""
+"""tools/peers/graphql_core.py FILE ROUNDS: the least times, in microseconds, in which graphql-core parses and prints a
+query."""
 import sys
 import time
 

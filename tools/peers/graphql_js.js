@@ -1,5 +1,6 @@
-// node tools/peers/graphql_js.js FILE ROUNDS: the least time in microseconds that graphql-js takes to parse a document, and to print and
-// to minify it. NODE_PATH names the folder that has the package `graphql`, as /usr/share/nodejs for Debian's package node-graphql.
+// node tools/peers/graphql_js.js FILE ROUNDS: the least times, in microseconds, in which graphql-js parses, prints and
+// minifies a query. NODE_PATH names the folder that has the package `graphql`: /usr/share/nodejs for Debian's package
+// node-graphql.
 "use strict";
 const { readFileSync } = require("fs");
 const { parse, print, stripIgnoredCharacters, version } = require("graphql");
