@@ -1,4 +1,4 @@
-"""Random GraphQL documents for tools/check_fmt."""
+"""Random GraphQL documents for tools/check_fmt and tools/check_json."""
 
 
 class Maker:

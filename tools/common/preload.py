@@ -1,4 +1,4 @@
-"""A library of functions that a program calls in place of those of the C library, by `LD_PRELOAD`."""
+"""Builds a library for `LD_PRELOAD`, whose functions a program calls in place of those of the C library."""
 import pathlib
 import shutil
 import subprocess

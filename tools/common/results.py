@@ -1,4 +1,4 @@
-"""The count of a tool's checks, and the lines that it prints of them."""
+"""Counts the checks of a tool, and prints those that fail."""
 import shutil
 
 # How much of a value is shown.
@@ -11,10 +11,13 @@ def shown(value):
 
 
 class Results:
-    """How many checks passed and failed."""
+    """How many checks passed, failed and were skipped."""
 
     def __init__(self):
-        self.passed, self.failed = 0, 0
+        self.passed, self.failed, self.skipped = 0, 0, 0
+
+    def total(self):
+        return self.passed + self.failed + self.skipped
 
     def expect(self, what, found, wanted=True):
         """Counts a check. One that failed is printed."""
@@ -28,16 +31,18 @@ class Results:
         print(f"FAILED: {why}", flush=True)
 
     def skip(self, what, why):
+        """Prints that a check is skipped, and why."""
+        self.skipped += 1
         print(f"skipped: {what}: {why}", flush=True)
 
     def can(self, what, *programs):
-        """Whether these programs are there. If not, what they are for is skipped."""
+        """Whether these programs are installed. If not, the check that needs them is skipped."""
         lacking = [name for name in programs if not shutil.which(name)]
         if lacking:
             self.skip(what, f"no {lacking[0]}")
         return not lacking
 
     def status(self):
-        """The exit status of the tool, whose last line has the counts."""
+        """Prints the counts, and returns the exit status of the tool."""
         print(f"{self.passed} passed, {self.failed} failed")
         return 1 if self.failed else 0

@@ -82,7 +82,7 @@ def manual_page_and_completions():
     options = set(re.findall(r"(?m)^ +(?:-\w, )?--([\w-]+)", shown))
     expect("the number of options", len(options) >= 9)
     found = {
-        "gqlfmt.1": re.findall(r"(?m)^\.B\w* .*\\-\\-(\w\S*)", text_of("packaging/gqlfmt.1")),
+        "gqlfmt.1": re.findall(r"(?m)^\.TP\n\.B\w* .*\\-\\-(\w\S*)", text_of("packaging/gqlfmt.1")),
         "gqlfmt.bash": re.search(r"options='(.*)'", text_of("packaging/gqlfmt.bash"))[1].replace("--", "").split(),
         "gqlfmt.fish": re.findall(r" -l (\S+)", text_of("packaging/gqlfmt.fish")),
         "_gqlfmt": re.findall(r"--([\w-]+)\[", text_of("packaging/_gqlfmt")),

@@ -1,4 +1,4 @@
-"""How a test runs gqlfmt, makes files, and says what it wants."""
+"""What the tests use to run gqlfmt, to make files, and to compare results."""
 import dataclasses
 import functools
 import os
@@ -13,7 +13,7 @@ from common.results import Results
 SHORT = b"{a b}\n"
 FORMATTED = b"{\n  a\n  b\n}\n"
 BROKEN = b"{a\n"
-# Names that a careless command loses, takes for an option or for a pattern, or runs.
+# Names that a careless shell command loses, takes for an option or for a pattern, or executes.
 ODD_NAMES = ["a b", "it's", 'q"uote', "new\nline", "tab\there", "-dash", "--check", "--", "back\\slash", "$(x)", "é中"]
 ODD_NAMES += ["*", " ", "\x01\x7f\x85"]
 

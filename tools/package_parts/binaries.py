@@ -31,7 +31,7 @@ def run(*words):
 
 
 def glibc_of(file):
-    """The latest version of glibc in which a symbol came that the file takes from there."""
+    """The version of glibc that a file needs: the latest of those that its symbols name."""
     found = re.findall(r"@GLIBC_(\d+)\.(\d+)", run("readelf", "-W", "--dyn-syms", file))
     return max(((int(first), int(second)) for first, second in found), default=(2, 2))
 
@@ -56,7 +56,7 @@ def make_shared(room, archive, version):
 
 
 def made(version):
-    """All binaries, in a folder that goes."""
+    """All binaries."""
     with tempfile.TemporaryDirectory(prefix="package-") as folder:
         room = pathlib.Path(folder)
         archive = make_archive(room)

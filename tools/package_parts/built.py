@@ -53,7 +53,7 @@ def sum_of(data):
 
 
 def commit():
-    """The commit of this checkout, and whether all files are as there; None and False outside of git."""
+    """The commit of this checkout, and whether no file differs from it. None and False without git."""
     found = said("git", "rev-parse", "HEAD", cwd=names.TOP)
     return found, found is not None and said("git", "status", "--porcelain", cwd=names.TOP) == ""
 
@@ -69,13 +69,14 @@ def record():
     """Writes the record. Only the gate does this, after all else has passed."""
     found, is_clean = commit()
     changed = "" if is_clean else " with changes"
-    lines = [f"commit {found or 'unknown'}{changed}", f"toolchain {said('rt', 'version')}", *lines_of_files()]
+    toolchain = said("rt", "version") or stop("`rt version` fails, so the toolchain is unknown")
+    lines = [f"commit {found or 'unknown'}{changed}", f"toolchain {toolchain}", *lines_of_files()]
     RECORD.parent.mkdir(exist_ok=True)
     RECORD.write_text("".join(f"{line}\n" for line in lines), encoding="utf-8")
 
 
 def recorded(sums):
-    """The toolchain of the record, which has to be of this commit and of files with these sums."""
+    """The toolchain in the record. Stops unless the record has this commit and these sums."""
     if not RECORD.exists():
         stop(f"no {RECORD.relative_to(names.TOP)}: the gate (.ci/run) has to pass first")
     of_commit, of_toolchain, *of_files = RECORD.read_text(encoding="utf-8").splitlines()

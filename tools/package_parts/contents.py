@@ -40,7 +40,7 @@ def proof(version, source):
 
 
 def pkg_config(version, layout):
-    """How a C program is compiled and linked, from wherever the files are."""
+    """The file for pkg-config. Its paths are relative to the file, so the installation can be moved."""
     depth = "/".join([".."] * (len(layout.lib.removeprefix(layout.prefix).split("/")) + 1))
     return "\n".join([
         f"prefix=${{pcfiledir}}/{depth}",
@@ -57,7 +57,7 @@ def pkg_config(version, layout):
 
 
 def manual(name, version, source, layout):
-    """The manual page of a program, and the end of its name."""
+    """The end of the name of a program's manual page, and the bytes of the page."""
     date = time.strftime("%Y-%m-%d", time.gmtime(source.time))
     page = (names.PACKAGING / f"{name}.1").read_text(encoding="utf-8")
     data = page.replace("@DATE@", date).replace("@VERSION@", version).encode()

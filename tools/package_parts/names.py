@@ -1,4 +1,4 @@
-"""The names in the packages, each in one place, and what the header says of itself."""
+"""The names in the packages, and the version and the functions of the header."""
 import pathlib
 import re
 

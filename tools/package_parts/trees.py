@@ -1,4 +1,4 @@
-"""Trees of files in memory: a path, and what is there. From a tree the same bytes come each time."""
+"""Trees of files in memory: dictionaries from paths to files and links. Equal trees give equal archives."""
 import dataclasses
 import gzip
 import io

@@ -1,4 +1,4 @@
-"""A wheel for Python, made by hand: an archive of the package, its library, and what describes them."""
+"""A wheel for Python, made without a build tool: an archive of the package, its library, and their metadata."""
 import base64
 import hashlib
 import io
@@ -12,7 +12,7 @@ PYTHON = ">=3.8"
 
 
 def tags(binaries):
-    """The systems on which the library runs, by the glibc that it needs. No standard name is for one before 2.17."""
+    """The platform tags, by the glibc that the library needs. 2.17 is the earliest glibc that a tag here names."""
     minor = max(17, binaries.glibc_of_shared[1])
     platforms = [f"manylinux_2_{minor}_x86_64"]
     return ["manylinux2014_x86_64", *platforms] if minor == 17 else platforms
@@ -49,7 +49,7 @@ def described(platforms):
 
 
 def recorded(tree, path):
-    """The list of all files with their sums. It has itself without a sum."""
+    """The file RECORD: all files with their sums, and RECORD itself without one."""
     rows = []
     for name, it in sorted(tree.items()):
         digest = base64.urlsafe_b64encode(hashlib.sha256(it.data).digest()).rstrip(b"=").decode()
@@ -58,7 +58,7 @@ def recorded(tree, path):
 
 
 def zipped(tree, time):
-    """A zip of a tree, in the order of the paths. What describes the package comes last, as installers prefer it."""
+    """A zip of a tree, in the order of the paths. The metadata comes last, as the format recommends."""
     out = io.BytesIO()
     with zipfile.ZipFile(out, "w", zipfile.ZIP_DEFLATED, compresslevel=9) as archive:
         for path, it in sorted(tree.items(), key=lambda pair: (".dist-info/" in pair[0], pair[0])):
