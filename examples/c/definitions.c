@@ -47,8 +47,8 @@ static size_t definitions(const uint8_t *text, size_t length) {
     return count;
 }
 
-/* Whether taking the definitions of an input off finds all of them, and takes less time than so many checks of it. It
- * takes as long as two. It would take as long as 80 if each call read all that is left of the input. */
+/* Whether taking the definitions of an input off finds all of them, and takes less time than this number of checks of
+ * the input. It takes as long as two. It would take as long as 80 if each call read all that is left of the input. */
 static bool is_linear(const uint8_t *text, size_t length, clock_t checks) {
     clock_t begun = clock();
     bool checked = graphql_proved_check_query(text, length, NULL, 0).status == GRAPHQL_PROVED_OK;

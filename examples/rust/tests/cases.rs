@@ -45,7 +45,7 @@ impl<'a> Rest<'a> {
     }
 }
 
-/// Whether a case is one for these calls, and then what they answer is what is wanted.
+/// Whether a case is for these calls. If it is, their results must be the wanted ones.
 fn replayed(word: &str, indent: u32, text: &str, wanted: &Wanted) -> bool {
     let multiline = word.ends_with("lines");
     let style = Style { indent, multiline };
@@ -61,7 +61,7 @@ fn replayed(word: &str, indent: u32, text: &str, wanted: &Wanted) -> bool {
         (Wanted::Refused(Some(message)), Err(error)) => assert_eq!(&error.message, message, "of {word}: {text}"),
         (wanted, answer) => panic!("of {word}: {text}\nwanted {wanted:?}, found {answer:?}"),
     }
-    // A check answers as the layout does, but for one that is too wide.
+    // A check returns the error of the formatting call, except if the output would be too wide.
     match (&answer, checked) {
         (Err(error), Some(checked)) if error.cause != Cause::TooWide => {
             assert_eq!(checked.as_ref().err(), Some(error), "of {word}: {text}")
@@ -157,7 +157,7 @@ fn refusals_have_places() {
     assert_eq!((error.cause, error.position), (Cause::DuplicateOperation, Some(Position { line: 2, column: 1 })));
     let error = minify("{ a ; }").expect_err("no token");
     assert_eq!((error.cause, error.position), (Cause::BadToken, Some(Position { line: 1, column: 5 })));
-    // This message has no place of its own.
+    // The message of the library does not name the position.
     assert_eq!(error.to_string(), "query minify error: Unexpected unexpected character ';' at 1:5");
     let error = check_query("").expect_err("empty");
     assert_eq!(error.cause, Cause::UnexpectedEnd);
