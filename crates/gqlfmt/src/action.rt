@@ -1,14 +1,13 @@
 //! What is to be done about an input.
 ghost use Rattle.std.specs.Prelude.{IfOk, string_bytes};
 ghost use Rattle.gqlfmt.specs.{IsActionFor, IsActionOn};
-ghost use Rattle.gqlfmt.specs.declared.arguments.Task.{Task};
 
 use crate::arguments::{Request, Task};
 use crate::diff::unified;
 use crate::error::InputError;
 use crate::message::rejection;
 use crate::name::Shown;
-use graphql_fmt::{FormatSourceError, format_comments, format_source};
+use graphql_fmt::{format_comments, format_source};
 use std::alloc::{AllocError, Global};
 
 /// What is to be done about an input.
@@ -48,21 +47,6 @@ fn action_for(
     }
 }
 
-/// What is to be done about an input that is rejected with this error.
-fn reject(
-    alloc: Global,
-    name: &str,
-    source: &str,
-    error: &FormatSourceError,
-) -> Result<Action, InputError>
-    ensures { (task : Task) → IfOk result (IsActionOn task source.now) }
-{
-    match rejection(alloc, name, source, error)? {
-        Some(message) => Ok(Action::Reject(message)),
-        None => Err(InputError::OutOfMemory),
-    }
-}
-
 /// Formats an input, and decides what is to be done about it. An input without a token is formatted too.
 pub fn decide(
     alloc: Global,
@@ -72,11 +56,14 @@ pub fn decide(
 ) -> Result<Action, InputError>
     ensures { IfOk result (IsActionOn request.now.task source.now) }
 {
+    if let Some(formatted) = format_comments(alloc, source, &request.options)? {
+        return Ok(action_for(alloc, request.task, name, source, formatted)?);
+    }
     match format_source(alloc, source, &request.options) {
         Ok(formatted) => Ok(action_for(alloc, request.task, name, source, formatted)?),
-        Err(error) => match format_comments(alloc, source, &request.options)? {
-            Some(formatted) => Ok(action_for(alloc, request.task, name, source, formatted)?),
-            None => reject(alloc, name, source, &error),
+        Err(error) => match rejection(alloc, name, source, &error)? {
+            Some(message) => Ok(Action::Reject(message)),
+            None => Err(InputError::OutOfMemory),
         },
     }
 }
