@@ -1,4 +1,4 @@
-//! The whole calls.
+//! The calls of the library.
 ghost use Rattle.std.specs.Prelude.{◌≡◌, ◌≤◌, ◌/◌, ◌↔◌, List, length, IfOk, IsTrue, string_bytes, MatchOption};
 ghost use Rattle.graphql_core.specs.{max_length};
 ghost use Rattle.graphql_fmt.specs.{Kept, HasKept, HasNoToken, KeepsAll, FormatsIn, IsReadAs, IsLanguageOf};
@@ -133,7 +133,7 @@ pub fn format_comments(
     source: &str,
     options: &FormatOptions,
 ) -> Result<Option<String>, AllocError>
-    // The output has the comments of the input, in the same order, and nothing else but white space.
+    // The output has the comments of the input, in the same order, and no token.
     ensures { IfOk result (λ found. MatchOption found
         (length source.now ≤ max_length → HasNoToken source.now → ⊥)
         (λ output. HasNoToken source.now × KeepsAll source.now (string_bytes output))) }
