@@ -1,7 +1,7 @@
 -- Items as the spans of their tokens.
 use Rattle.std.proofs.Common.{◌≡◌, ℕ, zero, suc, ◌+◌, ◌-◌, ◌<◌, ◌≤◌, get_or, List, [], ◌∷◌, ◌++◌, length, take, drop, map, Option, Some, None, Result, Ok}
-use Rattle.std.proofs.Common.{◌*◌, All, refl, sym, ap, ap₂, ◌∙◌, subst, arith, append_assoc, add-zero, length-append, length-drop}
-use Rattle.std.proofs.lemmas.List.{take_at, drop_at, drop_all, map-append, length-map, length-take, get_or-drop}
+use Rattle.std.proofs.Common.{◌*◌, All, refl, sym, ap, ap₂, ◌∙◌, subst, arith, append_assoc, length-append, length-drop}
+use Rattle.std.proofs.lemmas.List.{take_at, drop_at, drop_all, map-append, length-map}
 use Rattle.std.proofs.lemmas.List.Elements.{All-head, All-same, All-drop, All-get_or, All-map, All-weaker}
 use Rattle.std.proofs.Math.Seq.{drop-cons}
 use Rattle.std.proofs.Math.Numerals.{suc-eq-add-one}
@@ -81,7 +81,7 @@ module _ {W : Type 0} (number : W → ℕ) (text : List ℕ) where
   -- a span of a token in the input
   module _ (s : Span W) (w : Where) (k : Kind) (bytes : List ℕ) (t : IsToken text w k bytes) (start : number s.start ≡ w.offset)
       (end : number s.end ≡ w.offset + length bytes) (line : number s.line ≡ w.position.line) (column : number s.column ≡ w.position.column)
-      (kind : s.kind ≡ k) where
+      (kind : s.kind ≡ k) (front : s.front ≡ first_byte bytes) where
     long : number s.end - number s.start ≡ length bytes
     long = omega (arith, start, end)
 
@@ -100,18 +100,8 @@ module _ {W : Type 0} (number : W → ℕ) (text : List ℕ) where
       starts = subst (IsCharBoundary text) (sym start) t.starts;
       ends = rw (follows, long) t.ends;
       lexeme = subst IsLexeme (sym is_token) t.lexeme;
+      front = front ∙ ap first_byte (sym spelled);
     }
-
-  -- the first byte of a token is where the span says
-  pub first_within : (s : Span W) → Marks number text s → number s.start < length text
-  first_within s m =
-      let some = some_bytes (span_token number text s) m.lexeme in
-      omega (arith, some, length-take (number s.end - number s.start) (drop (number s.start) text), length-drop (number s.start) text)
-
-  pub first_is : (s : Span W) → Marks number text s → get_or text (number s.start) 0 ≡ first_byte (span_token number text s).spelling
-  first_is s m =
-      ap (λ n. get_or text n 0) (sym (add-zero (number s.start))) ∙ sym (get_or-drop (number s.start) text 0 0)
-      ∙ first_taken _ (drop (number s.start) text) (some_bytes (span_token number text s) m.lexeme)
 
   -- one token on
   pub one_cut : (spans : List (Span W)) (s : Span W) (old new : List Item) (k : Kind) (bytes : List ℕ) (w : Where) (all : Items)

@@ -9,6 +9,7 @@ use Rattle.graphql_core.specs.lexical.{Where, Item, item_at, HasItems, bad_text}
 use Rattle.graphql_core.specs.lexical.Items as lexer
 use Rattle.graphql_core.specs.declared.helpers.span.Span.{Span}
 use Rattle.graphql_core.specs.sources.{kind_number, Items, Last, LastIsEnd, LastIsError, max_length, no_token}
+use Rattle.graphql_core.specs.steps.Punctuators.{first_byte}
 use Rattle.graphql_core.specs.steps.Sources.{IsLexeme}
 use Rattle.graphql_core.specs.sources.{only_last, place_of, split}
 
@@ -26,6 +27,7 @@ pub record Marks {W : Type 0} (number : W → ℕ) (text : List ℕ) (s : Span W
   pub starts : IsCharBoundary text (number s.start)
   pub ends : IsCharBoundary (drop (number s.start) text) (number s.end - number s.start)
   pub lexeme : IsLexeme (span_token number text s)
+  pub front : s.front ≡ first_byte (span_token number text s).spelling
 
 -- the tokens of the spans, then the items `i`
 abbrev pub then_left : {W : Type 0} → (W → ℕ) → List ℕ → List (Span W) → Items → Items

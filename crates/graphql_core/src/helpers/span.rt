@@ -63,11 +63,13 @@ impl Width for usize {
     }
 }
 
-/// The offsets, the position and the kind of a token.
+/// The kind, the first byte, the offsets and the position of a token.
 #[derive(Clone, Copy)]
 pub struct Span<W> {
     /// The kind.
     pub kind: Kind,
+    /// The first byte.
+    pub front: u8,
     /// The offset of the first byte.
     pub start: W,
     /// The offset of the byte after the last.

@@ -8,7 +8,7 @@ ghost use Rattle.graphql_core.specs.steps.Punctuators.{first_byte, front_byte};
 ghost use Rattle.graphql_core.specs.steps.Spans.{Marks, span_token, IsLeft, IsLast, AreAppended, IsCut};
 
 use crate::common::{Cause, Fault, Names, Text};
-use crate::helpers::cursor::{bad_place, unexpected};
+use crate::helpers::cursor::{bad_place, first_byte, unexpected};
 use crate::helpers::punctuator::Punctuator;
 use crate::helpers::room::is_long;
 use crate::helpers::source::{Lexeme, TokenSource};
@@ -63,6 +63,7 @@ fn span_of<W: Width>(start: usize, position: Pos, token: Token<'_>) -> Span<W>
     requires line { position.line ≤ W.most }
     requires column { position.column ≤ W.most }
     ensures kind { result.kind ≡ token.entry.kind }
+    ensures front { result.front ≡ first_byte token.entry.value.now }
     ensures start { W.number result.start ≡ start }
     ensures end { W.number result.end ≡ start + length token.entry.value.now }
     ensures line { W.number result.line ≡ position.line }
@@ -70,6 +71,7 @@ fn span_of<W: Width>(start: usize, position: Pos, token: Token<'_>) -> Span<W>
 {
     Span {
         kind: token.kind,
+        front: first_byte(token.value),
         start: W::narrow(start),
         end: W::narrow(start + token.value.len()),
         line: W::narrow(position.line),
@@ -135,22 +137,13 @@ fn cut<W: Width>(alloc: Global, text: &str) -> Result<Spans<'_, W>, AllocError>
     }
 }
 
-/// The first byte of a token.
-#[inline(always)]
-fn first_of<W: Width>(text: &str, span: Span<W>) -> u8
-    requires { Marks W.number text.now span }
-    ensures { result ≡ first_byte (span_token W.number text.now span).spelling }
-{
-    text.as_bytes()[span.start.wide()]
-}
-
 /// The first byte of the token after the first `taken` tokens, or 0 if there is none.
-fn front_of<W: Width>(text: &str, spans: &[Span<W>], taken: usize) -> u8
-    requires { All (Marks W.number text.now) spans.now }
-    ensures { result ≡ front_byte (map (span_token W.number text.now) (drop taken spans.now)) }
+fn front_of<W: Width>(spans: &[Span<W>], taken: usize) -> u8
+    ensures { (text : List ℕ) → All (Marks W.number text) spans.now
+        → result ≡ front_byte (map (span_token W.number text) (drop taken spans.now)) }
 {
     match spans.get(taken) {
-        Some(span) => first_of(text, *span),
+        Some(span) => span.front,
         None => 0,
     }
 }
@@ -164,7 +157,7 @@ impl<'a, T: Text<'a>, W: Width> SpanSource<'a, T, W> {
         ensures { (items : List Item) → HasItems text.now items → IfOk result (λ s. s ≡ split items) }
     {
         let spans = cut(alloc, text)?;
-        let front = front_of(text, spans.tokens.as_slice(), 0);
+        let front = front_of(spans.tokens.as_slice(), 0);
         Ok(SpanSource {
             text,
             spans,
@@ -253,7 +246,7 @@ impl<'a, T: Text<'a>, W: Width> TokenSource for SpanSource<'a, T, W> {
         let next = self.taken + 1;
         match self.spans.tokens.get(next) {
             Some(span) => {
-                self.front = first_of(self.text, *span);
+                self.front = span.front;
                 self.taken = next;
             }
             None => {

@@ -54,15 +54,16 @@ tokens-preserved g c =
           let line = c.span_of-span.ensures.line ∙ ap (λ (p : Pos). p.line) c.position-position.ensures in
           let column = c.span_of-span.ensures.column ∙ ap (λ (p : Pos). p.column) c.position-position.ensures in
           let kind = c.span_of-span.ensures.kind in
+          let front = c.span_of-span.ensures.front in
           record {
             marks = λ marked.
                 All-same (Marks number text) _ _ pushed
                 (All-push (Marks number text) spans span (so_far.marks marked)
-                (marks number text span w token.kind token.value.now stands start end line column kind));
+                (marks number text span w token.kind token.value.now stands start end line column kind front));
             left = more;
             items =
                 one_cut number text spans span old new token.kind token.value.now w _ so_far.items is
-                (is_token number text span w token.kind token.value.now stands start end line column kind)
+                (is_token number text span w token.kind token.value.now stands start end line column kind front)
                 ∙ sym (ap (λ (l : List (Span g.row.W.Denot)). then_left number text l (split new)) pushed);
           };
       count = taken old new token spans _ _ _ following pushed c.tokens.invariant.count;
