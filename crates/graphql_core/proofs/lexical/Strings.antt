@@ -6,7 +6,7 @@ use Rattle.std.proofs.lemmas.Bool.{cases_eq, cases_Bool, and_parts}
 use Rattle.std.proofs.lemmas.Bool.Decides.{nat_tests}
 use Rattle.std.proofs.lemmas.List.{at_drop_more, at_drop_all, length-drop, take_at, get_or-append-add}
 use Rattle.graphql_core.specs.{begins_quotes, begins_escape, IsStringBody, body_ends, body_character, body_escape, ClosesBlock, closing, escape, unit, is_flat}
-use Rattle.graphql_core.specs.{is_plain_in_string, is_plain_in_block, string_end, block_end, quoted_front}
+use Rattle.graphql_core.specs.{is_plain_in_string, is_plain_in_block, is_in_string, begins_escaped, string_end, block_end, quoted_front}
 use Rattle.graphql_core.specs.declared.tokenizer.token.Kind.TheVariants.{StringValue, BlockString}
 use Rattle.graphql_core.specs.declared.tokenizer.piece.Nesting.TheVariants.{Unchanged}
 use Rattle.graphql_core.specs.steps.Front.{Takes}
@@ -72,6 +72,42 @@ skips_plain n (suc k) (b ∷ bs) h =
           ∙ ap (λ m. block_end m 0 (drop k bs)) (omega arith)
       | inr stop ↦ absurd (omega (arith, rw stop at h))
     ]
+
+-- bytes that are neither quotes nor backslashes nor line feeds are skipped one after another
+character_on : (n b : ℕ) (bs : List ℕ) → is_in_string b ≡ true → string_end n false (b ∷ bs) ≡ string_end (n + 1) false bs
+unfolding string_end
+character_on n b bs h = grind (arith, nat_tests)
+
+pub skips_characters : (n k : ℕ) (bs : List ℕ) → k ≤ prefix_len is_in_string bs → string_end n false bs ≡ string_end (n + k) false (drop k bs)
+skips_characters n zero bs h = ap (λ m. string_end m false bs) (omega arith)
+skips_characters n (suc k) [] h = absurd (omega arith)
+skips_characters n (suc k) (b ∷ bs) h =
+    elim (cases_Bool (is_in_string b)) [
+      | inl pass ↦
+          let more : k ≤ prefix_len is_in_string bs = omega (arith, rw pass at h) in
+          character_on n b bs pass ∙ skips_characters (n + 1) k bs more ∙ ap (λ m. string_end m false (drop k bs)) (omega arith)
+      | inr stop ↦ absurd (omega (arith, rw stop at h))
+    ]
+
+pub string_ends : (n : ℕ) (bs : List ℕ) → get_or bs 0 0 ≡ 34 → string_end n false bs ≡ Some (n + 1)
+unfolding string_end
+string_ends n [] quote = absurd cc
+string_ends n (b ∷ bs) quote = grind (arith, nat_tests)
+
+-- a backslash and the byte after it are skipped together
+pub skips_escaped : (n : ℕ) (bs : List ℕ) → begins_escaped bs ≡ true → string_end n false bs ≡ string_end (n + 2) false (drop 2 bs)
+unfolding string_end
+skips_escaped n [] h = absurd cc
+skips_escaped n (a ∷ []) h = absurd cc
+skips_escaped n (a ∷ b ∷ more) h = grind (arith, nat_tests)
+
+-- any other byte but a quote ends the string
+pub no_character : (n : ℕ) (bs : List ℕ) → 0 < length bs → prefix_len is_in_string bs ≡ 0 → begins_escaped bs ≡ false → get_or bs 0 0 ≢ 34
+    → string_end n false bs ≡ None
+unfolding string_end
+no_character n [] some plain escaped other = refl
+no_character n (a ∷ []) some plain escaped other = grind (arith, nat_tests)
+no_character n (a ∷ b ∷ more) some plain escaped other = grind (arith, nat_tests)
 
 -- ---- strings
 

@@ -17,6 +17,10 @@ is_space b = b == 32
 abbrev pub is_plain_in_string : ℕ → Bool
 is_plain_in_string b = is_flat b && not (b == 34 || b == 92)
 
+-- neither a quote nor a backslash nor a line feed
+abbrev pub is_in_string : ℕ → Bool
+is_in_string b = not (b == 10) && not (b == 34 || b == 92)
+
 -- neither a quote nor a backslash
 abbrev pub is_plain_in_block : ℕ → Bool
 is_plain_in_block b = not (b == 34 || b == 92)

@@ -1,6 +1,6 @@
 -- Where a string ends, byte by byte. `IsStringBody` and `ClosesBlock` specify strings.
-use Rattle.std.specs.Prelude.{ℕ, zero, suc, ◌+◌, Bool, not, ◌&&◌, ◌==◌, if◌then◌else◌, List, [], ◌∷◌, Option, Some}
-use Rattle.std.specs.Prelude.{None}
+use Rattle.std.specs.Prelude.{ℕ, zero, suc, ◌+◌, Bool, false, not, ◌&&◌, ◌==◌, if◌then◌else◌, List, [], ◌∷◌}
+use Rattle.std.specs.Prelude.{Option, Some, None}
 use Rattle.graphql_core.specs.lexical.{begins_quotes, begins_escape}
 
 -- the bytes up to the closing quote, including it, after `n` bytes
@@ -11,6 +11,11 @@ string_end n escaped (b ∷ bs) =
     if b == 10 then None
     else if not escaped && b == 34 then Some (n + 1)
     else string_end (n + 1) (not escaped && b == 92) bs
+
+-- a backslash, and then a byte other than a line feed
+abbrev pub begins_escaped : List ℕ → Bool
+begins_escaped (a ∷ b ∷ more) = a == 92 && not (b == 10)
+begins_escaped _ = false
 
 -- the bytes up to the closing quotes, including them, after `n` bytes
 -- `left`: how many of the next bytes belong to the same unit

@@ -3,7 +3,7 @@ ghost use Rattle.std.specs.Prelude.{◌≡◌, ◌<◌, ◌≤◌, ◌-◌, ◌/
 ghost use Rattle.std.specs.List.{prefix_len, count_by};
 ghost use Rattle.std.specs.Char.{is_ascii_digit};
 ghost use Rattle.graphql_core.specs.{is_in_line, is_name_continue, is_gap, is_space, is_plain_in_string};
-ghost use Rattle.graphql_core.specs.{is_plain_in_block, first_set, is_flat};
+ghost use Rattle.graphql_core.specs.{is_in_string, is_plain_in_block, first_set, is_flat};
 ghost use Rattle.graphql_core.specs.{is_no_line_feed, is_no_backslash, continues_character};
 
 use std::simd::prelude::*;
@@ -126,6 +126,19 @@ pub fn string_lanes(bytes: &[u8]) -> usize
         | v.simd_eq(u8x16::splat(b'\\'))
         | v.simd_eq(u8x16::splat(b'\n'))
         | v.simd_ge(u8x16::splat(0x80));
+    first_set(stops.to_bitmask())
+}
+
+/// How many of the first 16 bytes come before a quote, a backslash or a line feed.
+#[inline(always)]
+pub fn in_string_lanes(bytes: &[u8]) -> usize
+    requires { 16 ≤ length bytes.now }
+    ensures { result ≡ prefix_len is_in_string (take 16 bytes.now) }
+{
+    let v = u8x16::from_slice(bytes);
+    let stops = v.simd_eq(u8x16::splat(b'"'))
+        | v.simd_eq(u8x16::splat(b'\\'))
+        | v.simd_eq(u8x16::splat(b'\n'));
     first_set(stops.to_bitmask())
 }
 

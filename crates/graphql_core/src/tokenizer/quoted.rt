@@ -1,5 +1,6 @@
 //! Strings and block strings.
-ghost use Rattle.std.specs.Prelude.{◌≡◌, ◌+◌, ◌<◌, ◌≤◌, ◌^◌, ◌∷◌, ℕ, true, false, length, take, drop, IfSome};
+ghost use Rattle.std.specs.Prelude.{◌≡◌, ◌≢◌, ◌+◌, ◌<◌, ◌≤◌, ◌^◌, ◌∷◌, ℕ, true, false, length, take, drop, IfSome};
+ghost use Rattle.std.specs.Prelude.{slice_index, None};
 ghost use Rattle.std.specs.List.{list_all};
 ghost use Rattle.graphql_core.specs.{is_flat};
 ghost use Rattle.graphql_core.specs.declared.tokenizer.token.Kind.TheVariants.{StringValue};
@@ -10,7 +11,7 @@ ghost use Rattle.graphql_core.specs.lexical.Lexical as lexical;
 ghost use Rattle.graphql_core.specs.steps.Quoted as spec;
 
 use crate::tokenizer::piece::{Taken, byte_at, no_bracket};
-use crate::tokenizer::run::{PlainInBlock, PlainInString, class_prefix_len};
+use crate::tokenizer::run::{InString, PlainInBlock, PlainInString, class_prefix_len};
 use crate::tokenizer::token::Kind;
 
 /// Whether the input begins with `"""`.
@@ -32,21 +33,52 @@ fn begins_escape(bytes: &[u8]) -> bool
     }
 }
 
+/// Whether the input begins with a backslash and a byte other than a line feed.
+#[inline]
+fn begins_escaped(bytes: &[u8]) -> bool
+    ensures { result ≡ spec.begins_escaped bytes.now }
+{
+    match bytes.split_first() {
+        None => false,
+        Some((byte, rest)) => *byte == b'\\' && !rest.is_empty() && byte_at(rest, 0) != b'\n',
+    }
+}
+
+/// How many bytes of a string to skip: those before the next quote, backslash or line feed, or a whole escape. `None`
+/// if the string cannot be continued.
+fn characters_len(bytes: &[u8]) -> Option<usize>
+    requires some { 0 < length bytes.now }
+    requires small { length bytes.now < 2 ^ 62 }
+    requires open { slice_index bytes.now 0 ≢ 34 }
+    ensures skips { IfSome result (λ k. (n : ℕ) → spec.string_end n false bytes.now
+        ≡ spec.string_end (n + k) false (drop k bytes.now)) }
+    ensures some { IfSome result (λ k. 0 < k) }
+    ensures within { IfSome result (λ k. k ≤ length bytes.now) }
+    ensures none { result ≡ None → (n : ℕ) → spec.string_end n false bytes.now ≡ None }
+{
+    let plain = class_prefix_len::<InString>(bytes);
+    if plain > 0 {
+        Some(plain)
+    } else if begins_escaped(bytes) {
+        Some(2)
+    } else {
+        None
+    }
+}
+
 /// The length of a string after its opening quote, with the closing quote. `None` if the string is unterminated.
 fn string_len(bytes: &[u8]) -> Option<usize>
     requires { length bytes.now < 2 ^ 62 }
     ensures end { result ≡ spec.string_end 0 false bytes.now }
     ensures within { IfSome result (λ n. n ≤ length bytes.now) }
 {
-    let mut is_escaped = false;
-    'characters: for (index, byte) in bytes.iter().enumerate() {
-        if *byte == b'\n' {
-            return None;
+    let mut len = 0;
+    'characters: while len < bytes.len() {
+        let rest = &bytes[len..];
+        if byte_at(rest, 0) == b'"' {
+            return Some(len + 1);
         }
-        if !is_escaped && *byte == b'"' {
-            return Some(index + 1);
-        }
-        is_escaped = !is_escaped && *byte == b'\\';
+        len += characters_len(rest)?;
     }
     None
 }

@@ -3,8 +3,8 @@ ghost use Rattle.std.specs.Prelude.{◌≡◌, ◌<◌, ◌≤◌, length, IfSom
 ghost use Rattle.std.specs.List.{prefix_len};
 
 use crate::tokenizer::lanes::{
-    LANES, block_lanes, digit_lanes, flat_lanes, line_lanes, name_lanes, no_backslash_lanes,
-    no_feed_lanes, space_lanes, string_lanes,
+    LANES, block_lanes, digit_lanes, flat_lanes, in_string_lanes, line_lanes, name_lanes,
+    no_backslash_lanes, no_feed_lanes, space_lanes, string_lanes,
 };
 
 /// A class of bytes.
@@ -59,6 +59,20 @@ impl Class for PlainInString {
     #[inline(always)]
     fn lanes(bytes: &[u8]) -> usize {
         string_lanes(bytes)
+    }
+}
+
+/// All bytes except quote, backslash and line feed.
+pub struct InString;
+
+impl Class for InString {
+    ghost use Rattle.graphql_core.specs.steps.Ahead.{is_in_string};
+
+    ghost has = { is_in_string };
+
+    #[inline(always)]
+    fn lanes(bytes: &[u8]) -> usize {
+        in_string_lanes(bytes)
     }
 }
 

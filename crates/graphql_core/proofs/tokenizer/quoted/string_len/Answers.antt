@@ -1,24 +1,15 @@
-use Rattle.std.proofs.Common.{arith}
-use Rattle.std.proofs.lemmas.Bool.Decides.{nat_tests}
-use Rattle.graphql_core.proofs.{string_step, string_none}
+use Rattle.std.proofs.Common.{◌≡◌, false, drop, get_or, sym, ap, ◌∙◌, arith}
+use Rattle.std.proofs.lemmas.List.{take_rest}
+use Rattle.graphql_core.proofs.{string_ends, string_none}
 use Rattle.graphql_core.proofs.tokenizer.quoted.string_len.Goals as goal
 
-pub returns-then-byte-eq10 : goal.returns-then-byte-eq10
-returns-then-byte-eq10 c =
-    let s = string_step c.characters.index c.args.bytes.now c.characters.is_escaped (omega arith) in
-    grind (arith, nat_tests)
+pub returns-then-byte_at-eq34-clause-end : goal.returns-then-byte_at-eq34-clause-end
+returns-then-byte_at-eq34-clause-end c =
+    let rest = drop c.characters.len c.args.bytes.now in
+    let quote : get_or rest 0 0 ≡ 34 = ap (λ l. get_or l 0 0) (sym (take_rest c.args.bytes.now c.characters.len))
+    ∙ sym c.byte_at.ensures ∙ c.if-byte_at-eq34.true in
+    sym (string_ends c.characters.len rest quote) ∙ c.characters.invariant.end
 
-pub returns-then-byte-eq34 : goal.returns-then-byte-eq34
-returns-then-byte-eq34 c =
-    let s = string_step c.characters.index c.args.bytes.now c.characters.is_escaped (omega arith) in
-    grind (arith, nat_tests)
-
-pub characters-preserved : goal.characters-preserved
-characters-preserved c =
-    let s = string_step c.characters.index c.args.bytes.now c.characters.is_escaped (omega arith) in
-    grind (arith, nat_tests)
-
-pub returns : goal.returns
-returns c =
-    let s = string_none c.characters.index c.args.bytes.now c.characters.is_escaped (omega arith) in
-    grind arith
+pub returns-clause-end : goal.returns-clause-end
+returns-clause-end c =
+    sym (string_none c.characters.len c.args.bytes.now false (omega (arith, c.characters-test.false))) ∙ c.characters.invariant.end
