@@ -1,5 +1,6 @@
 //! What no clause says and no case shows of calls, and every public call once with ample memory.
 
+mod building;
 mod callers;
 mod page;
 mod schemas;
