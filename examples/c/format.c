@@ -1,5 +1,5 @@
 /* A filter: reads a query document from standard input, and writes it formatted to standard output. The status is 1 if
- * the document is rejected, and 2 if a read, a write or an allocation fails. */
+ * the library returns an error, and 2 if a read, a write or an allocation of this program fails. */
 #include "graphql_proved.h"
 #include <errno.h>
 #include <stdio.h>

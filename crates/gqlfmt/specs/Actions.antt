@@ -13,8 +13,9 @@ use Rattle.gqlfmt.specs.declared.outcome.Outcome.TheVariants as outcome
 abbrev pub IsReport : Task → Type 0
 IsReport t = (t ≡ task.Check) ⊎ (t ≡ task.Diff)
 
--- An action fits a task, an input and its formatted text: the text of the action is the formatted text, and only a text
--- that differs from the input is reported, or takes its place.
+-- An action fits a task, an input and its formatted text: a text to print, or to take the place of the file, is the
+-- formatted text. An input is reported or replaced only if the formatted text differs from it. Nothing is said of the
+-- text of a report.
 abbrev pub IsActionFor : Task → (source formatted : List ℕ) → Action → Type 0
 IsActionFor t source formatted action.Keep = (t ≢ task.Print) × (formatted ≡ source)
 IsActionFor t source formatted (action.Print text) = (t ≡ task.Print) × (string_bytes text ≡ formatted)
@@ -23,8 +24,8 @@ IsActionFor t source formatted (action.Replace text) =
     (t ≡ task.Write) × (string_bytes text ≡ formatted) × (formatted ≢ source)
 IsActionFor t source formatted (action.Reject message) = ⊥
 
--- An action fits a task and an input: the text of the action has the tokens and the comments of the input. Nothing is
--- said of which inputs are rejected.
+-- An action fits a task and an input: a text to print, or to take the place of the file, has the tokens and the
+-- comments of the input. Nothing is said of the text of a report, or of which inputs are kept or rejected.
 abbrev pub IsActionOn : Task → (source : List ℕ) → Action → Type 0
 IsActionOn t source action.Keep = t ≢ task.Print
 IsActionOn t source (action.Print text) = (t ≡ task.Print) × KeepsAll source (string_bytes text)
@@ -41,8 +42,8 @@ IsDone (action.Report text) old new o = (o ≡ outcome.Differs) × Appends old n
 IsDone (action.Replace text) old new o = ((o ≡ outcome.Rewritten) ⊎ (o ≡ outcome.Failed)) × Keeps old new
 IsDone (action.Reject message) old new o = (o ≡ outcome.Rejected) × Keeps old new
 
--- What an outcome says of a task, an input, and what standard output had and has. Only a formatted text is printed,
--- and it has the tokens and the comments of the input.
+-- What an outcome says of a task, an input, and what standard output had and has. A text with the outcome `Printed` has
+-- the tokens and the comments of the input. A report can be any text.
 abbrev pub IsOutcomeOf : Task → (source : List ℕ) → (old new : Option (List ℕ)) → Outcome → Type 0
 IsOutcomeOf t source old new outcome.Printed =
     (t ≡ task.Print) × (text : List ℕ) × KeepsAll source text × Appends old new text

@@ -9,12 +9,14 @@ pub enum Language {
     Schema,
 }
 
-/// How source text is formatted.
+/// How source text is formatted. By default: two spaces for each level, lines of 80 columns, and the language that the
+/// first token decides.
 #[derive(Clone, Copy, Debug, PartialEq, Eq)]
 pub struct FormatOptions {
     /// The number of spaces for each level of indentation. A line begins with at most `u32::MAX` spaces.
     pub indent: usize,
-    /// The number of columns that a line can take. A longer line is broken where that is possible.
+    /// The number of terminal columns that a line can take, without a comment at its end. A longer line is broken where
+    /// that is possible.
     pub width: usize,
     /// The language of the input. `None`: the first token decides, see `language_of`.
     pub language: Option<Language>,

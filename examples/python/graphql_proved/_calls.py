@@ -58,7 +58,8 @@ def format_query(source: AnyStr, *, indent: int = 2, multiline: bool = False) ->
         The formatted document. It has no comments.
 
     Raises:
-        DocumentError: the source is not a valid query document, or the call ran out of memory.
+        DocumentError: the source is not a valid query document, the indentation is too wide, or the call ran out of
+            memory.
         ValueError: `indent` is out of range. (A `DocumentError` is a `ValueError` too.)
         TypeError: an argument has another type.
     """
@@ -77,7 +78,8 @@ def format_schema(source: AnyStr, *, indent: int = 2, multiline: bool = False) -
         The formatted document. It has no comments.
 
     Raises:
-        DocumentError: the source is not a valid schema document, or the call ran out of memory.
+        DocumentError: the source is not a valid schema document, the indentation is too wide, or the call ran out of
+            memory.
         ValueError: `indent` is out of range. (A `DocumentError` is a `ValueError` too.)
         TypeError: an argument has another type.
     """
