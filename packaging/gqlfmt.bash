@@ -20,4 +20,4 @@ _gqlfmt() {
         ;;
     esac
 }
-complete -F _gqlfmt gqlfmt
+complete -o default -F _gqlfmt gqlfmt

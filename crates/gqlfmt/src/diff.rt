@@ -64,6 +64,15 @@ fn common_start(old: &[&str], new: &[&str]) -> usize {
         .count()
 }
 
+/// How many lines both end with.
+fn common_end(old: &[&str], new: &[&str]) -> usize {
+    old.iter()
+        .rev()
+        .zip(new.iter().rev())
+        .take_while(|(left, right)| **left == **right)
+        .count()
+}
+
 /// Whether both begin with the same line, or both are empty.
 fn begin_alike(old: &[&str], new: &[&str]) -> bool {
     match (old.first(), new.first()) {
@@ -119,8 +128,8 @@ fn push_lines<'a>(
     Ok(())
 }
 
-/// The lines of both texts, in order; a line that both keep once.
-fn changes_between<'a>(
+/// The lines of two texts that do not end with the same line, as `changes_between` returns them.
+fn changes_before_end<'a>(
     alloc: Global,
     old: &[&'a str],
     new: &[&'a str],
@@ -151,6 +160,21 @@ fn changes_between<'a>(
             break;
         }
     }
+    Ok(changes)
+}
+
+/// The lines of both texts, in order; a line that both keep once.
+fn changes_between<'a>(
+    alloc: Global,
+    old: &[&'a str],
+    new: &[&'a str],
+) -> Result<Vec<Line<'a>>, AllocError> {
+    let start = common_start(old, new);
+    let end = common_end(after(old, start), after(new, start));
+    let old_end = old.len().saturating_sub(end);
+    let new_end = new.len().saturating_sub(end);
+    let mut changes = changes_before_end(alloc, first(old, old_end), first(new, new_end))?;
+    push_lines(&mut changes, Change::Kept, after(old, old_end))?;
     Ok(changes)
 }
 
@@ -235,6 +259,14 @@ fn push_hunk(text: &mut String, hunk: Hunk, changes: &[Line<'_>]) -> Result<(), 
     Ok(())
 }
 
+/// A path without `./` at its start, as `git apply -p0` requires it.
+fn without_dot(path: &str) -> &str {
+    match path.strip_prefix("./") {
+        Some(rest) if !rest.starts_with('/') => rest,
+        _ => path,
+    }
+}
+
 /// What changes from the old text of a file to the new one, as `patch` reads it. Empty if the texts are the same.
 pub fn unified(alloc: Global, name: &str, old: &str, new: &str) -> Result<String, AllocError> {
     let mut text = String::new(alloc);
@@ -244,7 +276,7 @@ pub fn unified(alloc: Global, name: &str, old: &str, new: &str) -> Result<String
     let old_lines = lines_of(alloc, old)?;
     let new_lines = lines_of(alloc, new)?;
     let changes = changes_between(alloc, &old_lines, &new_lines)?;
-    let name = InHeader(name);
+    let name = InHeader(without_dot(name));
     write!(&mut text, "--- {name}\n+++ {name}\n")?;
     for hunk in &hunks_of(alloc, &changes)? {
         push_hunk(&mut text, *hunk, &changes)?;

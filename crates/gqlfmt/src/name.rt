@@ -2,7 +2,7 @@
 
 use std::fmt;
 
-/// A file name in a message. A name with a control character is written in quotes, with escapes.
+/// A file name in a message. An empty name, or one with a control character, is written in quotes, with escapes.
 #[derive(Clone, Copy)]
 pub struct Shown<'a>(pub &'a str);
 
@@ -13,7 +13,7 @@ pub struct InHeader<'a>(pub &'a str);
 
 impl fmt::Display for Shown<'_> {
     fn fmt<W: fmt::Write>(&self, f: &mut fmt::Formatter<W>) -> fmt::Result {
-        if self.0.chars().any(|character| character.is_control()) {
+        if self.0.is_empty() || self.0.chars().any(|character| character.is_control()) {
             write_quoted(f, self.0)
         } else {
             f.write_str(self.0)

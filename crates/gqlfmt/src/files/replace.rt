@@ -43,6 +43,23 @@ fn check_unchanged<R: Files>(rt: &R, path: &str, before: &Metadata) -> Result<()
     }
 }
 
+/// The metadata of a file after it was opened for writing. It fails if the file is no longer a regular file with the
+/// same length and the same time of its last change of content.
+///
+/// On an overlay file system, opening a file for writing can copy it. Its other times, its device and its inode then
+/// change.
+fn after_opening<R: Files>(rt: &R, path: &str, before: &Metadata) -> Result<Metadata, InputError> {
+    let now = fs::symlink_metadata(rt, path).map_err(InputError::Write)?;
+    let is_same = now.is_file()
+        && before.len() == now.len()
+        && (before.mtime(), before.mtime_nsec()) == (now.mtime(), now.mtime_nsec());
+    if is_same {
+        Ok(now)
+    } else {
+        Err(InputError::Changed)
+    }
+}
+
 /// Makes a new file beside the file with this absolute path.
 fn new_file_beside<R: Files<File = File> + AllocGlobal>(
     rt: &R,
@@ -111,6 +128,7 @@ pub fn replace_text<R: Files<File = File> + AllocGlobal>(
     let path = path.as_str();
     check_unchanged(rt, path, old)?;
     check_writable(rt, path).map_err(InputError::Write)?;
+    let old = &after_opening(rt, path, old)?;
     let mut temporary = new_file_beside(rt, path).map_err(InputError::Write)?;
     let filled = fill(&mut temporary.file, text, old);
     let replaced = match filled {
