@@ -32,6 +32,9 @@ def diffs():
     diff = gqlfmt("--diff", "b.graphql")[1]
     changed = (len(re.findall(rb"^-[^-]", diff, re.M)), len(re.findall(rb"^\+[^+]", diff, re.M)))
     expect("only the first line changes", changed, (1, 302))
+    new("c.graphql", b"{" + b" field" * 1500 + b"}\n\n" + text)
+    expect("the same, with many lines", gqlfmt("--diff", "c.graphql")[1].count(b"\n-"), 1)
+    expect("a path with ./", gqlfmt("--diff", "./a.graphql"), (1, wanted, ""))
 
 
 @test

@@ -63,7 +63,13 @@ def vim():
     env = on_the_path()
     new("rc.vim", block("vim").encode())
     lines = b"{" + b"\n" * 9 + b"a b}"
-    files = {"a b.graphql": (SHORT, FORMATTED), "c.gql": (lines, FORMATTED), "d.graphqls": (BROKEN, BROKEN)}
+    files = {
+        "a b.graphql": (SHORT, FORMATTED),
+        "c.gql": (lines, FORMATTED),
+        "d.graphqls": (BROKEN, BROKEN),
+        "e.graphql": (FORMATTED.replace(b"\n", b"\r\n"), FORMATTED),
+        "f.graphql": (b"\xef\xbb\xbf" + FORMATTED, FORMATTED),
+    }
     for name, (text, wanted) in files.items():
         new(name, text)
         words = ["-u", "NONE", "-N", "-es", "-S", "rc.vim", name, "-c", "normal G", "-c", "write", "-c", "qa!"]

@@ -9,7 +9,8 @@ import subprocess
 import time
 
 from .running import (
-    BROKEN, FORMATTED, SHORT, expect, given, gqlfmt, here, mode_of, needs_library, needs_root, new, read, test,
+    BROKEN, FORMATTED, SHORT, expect, given, gqlfmt, here, mode_of, needs_library, needs_root, new, other, read,
+    results, test,
 )
 
 
@@ -44,6 +45,25 @@ def owners():
     found = path.stat()
     expect("owner and group", (found.st_uid, found.st_gid), (12345, 54321))
     expect("mode and text", (mode_of(path), read(path)), (0o4754, FORMATTED))
+
+
+@test
+@needs_root
+def overlay():
+    """Opening a file of a lower layer for writing copies it to the upper one, as in a layer of a container."""
+    new("lower/a.graphql")
+    for name in ("upper", "work", "merged"):
+        os.mkdir(name)
+    layers = "lowerdir=lower,upperdir=upper,workdir=work"
+    if other("mount", "-t", "overlay", "overlay", "-o", layers, "merged").returncode:
+        results.skip("overlay", "no overlay file system can be mounted")
+        return
+    try:
+        expect("--write", gqlfmt("--write", "merged"), (0, b"", ""))
+        expect("the text", read("merged/a.graphql"), FORMATTED)
+    finally:
+        other("umount", "merged")
+    expect("the lower layer", read("lower/a.graphql"), SHORT)
 
 
 @test
