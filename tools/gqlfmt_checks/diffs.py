@@ -35,6 +35,8 @@ def diffs():
     new("c.graphql", b"{" + b" field" * 1500 + b"}\n\n" + text)
     expect("the same, with many lines", gqlfmt("--diff", "c.graphql")[1].count(b"\n-"), 1)
     expect("a path with ./", gqlfmt("--diff", "./a.graphql"), (1, wanted, ""))
+    run = other("git", "apply", "-p0", input=gqlfmt("--diff", ".")[1])
+    expect("git apply -p0", (run.returncode, gqlfmt("--check", ".")[0]), (0, 0))
 
 
 @test
