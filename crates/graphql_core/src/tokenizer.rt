@@ -23,6 +23,5 @@ pub use class::is_name_start;
 pub use element::{Element, ElementKind, first_element};
 pub use laws::{one_list_of_items, worked_examples};
 pub use stream::TokenStream;
-pub(crate) use stream::one_more;
 pub use token::{Bad, Kind, Token};
 pub use tokens::Tokens;

@@ -35,7 +35,7 @@ IsDocumentOf = document.IsDocumentOf queries
 abbrev pub IsReadBack : List ℕ → DocumentTree → Type 0
 IsReadBack = document.IsReadBack queries
 
--- what the contract of `parse_query` says of a result, for an input of at most `MAX_LENGTH` bytes
+-- the result is sound and complete, for an input of at most `max_length` bytes; which error it is, is left open
 abbrev pub IsParsed : List ℕ → Result DocumentTree Refusal → Type 0
 IsParsed = document.IsParsed queries
 
@@ -49,6 +49,7 @@ AreAlike = document.AreAlike queries
 abbrev pub IsFirstErrorOf : List ℕ → FaultText → Type 0
 IsFirstErrorOf = fault.IsFirstErrorOf queries
 
--- the tokens before this error are a prefix of some document; with the offending token or end they are not
+-- the tokens before this error are a prefix of some document; with the offending token or end they are not (of a
+-- lexical error this is not stated)
 abbrev pub StopsAllDocumentsOf : List ℕ → FaultText → Type 0
 StopsAllDocumentsOf = fault.StopsAllDocumentsOf queries

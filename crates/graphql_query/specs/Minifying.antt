@@ -1,4 +1,4 @@
--- The errors and the output of minifying.
+-- The errors of minifying.
 use Rattle.std.specs.Prelude.{◌≡◌, ◌≤◌, ◌<◌, ℕ, List, length, Some}
 use Rattle.graphql_core.specs.{LastIsError, Place, CauseText, Item, HasItems, split, no_memory, max_length, too_long}
 use Rattle.graphql_core.specs.{Refusal}

@@ -9,7 +9,7 @@ ghost use Rattle.graphql_query.specs.{one_definition, Reads, factored_rows, Defi
 ghost use Rattle.graphql_query.specs.{NoneBeginsAnother};
 
 /// An input has at most one first error (the one at the lowest token index). The tokens before it are a prefix of some
-/// document. With the offending token, or the end of the input, they are not.
+/// document. With the offending token, or the end of the input, they are not. (Of a lexical error this is not stated.)
 pub fn first_errors_stop_all_documents()
     ensures one { (text : List ℕ) (f g : FaultText) → IsFirstErrorOf text f → IsFirstErrorOf text g → f ≡ g }
     ensures first { (text : List ℕ) (f : FaultText) → IsFirstErrorOf text f → StopsAllDocumentsOf text f }

@@ -29,7 +29,9 @@ pub fn text_has_no_positions()
     ensures { (style : StyleOptions) (d : DocumentTree) → layout style (erase d) ≡ layout style d }
 {}
 
-/// The layout of a printable document parses back to the document, ignoring positions.
+/// The layout of a printable document, in any style, parses back to the document, ignoring positions. So formatting is
+/// idempotent, the layouts in two styles parse to the same document, and documents with the same layout are the same.
+/// The values must satisfy the invariants of their types.
 pub fn printed_documents_are_read_back()
     ensures { AreReadBack queries layout (λ d. IsPrintable d × IsLawfulDocument d) }
 {}

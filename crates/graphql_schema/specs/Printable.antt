@@ -6,7 +6,8 @@ use Rattle.graphql_core.specs.{IsName, IsPrintableDirective, IsPrintableType, Is
 use Rattle.graphql_core.specs.{has_any}
 use Rattle.graphql_schema.specs.Tree.{InputValueTree, FieldTree, EnumValueTree, SchemaTree, PartsTree, scalar, object}
 use Rattle.graphql_schema.specs.Tree.{interface, union, enum, input, BodyTree, DefinitionTree, schema, type_definition}
-use Rattle.graphql_schema.specs.Tree.{extension, schema_extension, directive, DocumentTree, adds_something, adds_to_schema}
+use Rattle.graphql_schema.specs.Tree.{extension, schema_extension, directive, DocumentTree, adds_something}
+use Rattle.graphql_schema.specs.Tree.{adds_to_schema}
 use Rattle.graphql_schema.specs.TreeDepth.{definition_depth}
 
 -- ---- names, types and values

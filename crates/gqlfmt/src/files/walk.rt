@@ -125,8 +125,8 @@ fn walk<R: Files + AllocGlobal + Clone + Drop>(
 
 /// The file with this path, or the GraphQL files below the folder with this path.
 ///
-/// In a folder, names that begin with a dot, `node_modules` and symbolic links are left out. A name that is not UTF-8 is
-/// an error.
+/// In a folder, names that begin with a dot, `node_modules` and symbolic links are left out. A name that is not UTF-8
+/// is an error.
 pub fn find_files<R: Files + AllocGlobal + Clone + Drop>(
     rt: &R,
     path: &str,

@@ -38,7 +38,7 @@ module _ {D : Type 0} (l : Language D) where
 
   -- ---- results of a parser
 
-  -- the contract of a parser for its result on an input of at most `max_length` bytes
+  -- the result is sound and complete, for an input of at most `max_length` bytes; which error it is, is left open
   abbrev pub IsParsed : List ℕ → Result D Refusal → Type 0
   IsParsed text r =
       IfOk r (IsDocumentOf text) × ((d : D) → IsDocumentOf text d → AnswersUnlessMemory (λ (e : D). e) d r)

@@ -1,5 +1,6 @@
 -- A grammar as data, and what it derives: parse trees, with their tokens in order.
-use Rattle.std.specs.Prelude.{◌≡◌, ℕ, zero, suc, ◌+◌, Bool, true, ◌&&◌, List, [], ◌∷◌, ◌++◌, take, drop, Option, Some, None}
+use Rattle.std.specs.Prelude.{◌≡◌, ℕ, zero, suc, ◌+◌, Bool, true, ◌&&◌, List, [], ◌∷◌, ◌++◌, take, drop}
+use Rattle.std.specs.Prelude.{Option, Some, None}
 use Rattle.graphql_core.specs.grammar.Tokens.{Token, Class, matches}
 
 pub data Expr : Type 0 where

@@ -4,7 +4,7 @@ ghost use Rattle.graphql_core.specs.layouts.Style.{with_indent, with_multiline};
 
 use std::marker::Model;
 
-/// How documents are formatted.
+/// How documents are formatted. By default: two spaces for each level, and arguments in one line.
 #[derive(Clone, Debug, PartialEq, Drop)]
 pub struct Style {
     indent: u32,

@@ -17,7 +17,7 @@ use crate::helpers::punctuator::Punctuator;
 use crate::helpers::room::is_long;
 use crate::helpers::source::{Lexeme, TokenSource};
 use crate::position::Pos;
-use crate::tokenizer::{Bad, Kind, Token, TokenStream, Tokens, is_name_start, one_more};
+use crate::tokenizer::{Bad, Kind, Token, TokenStream, is_name_start};
 use std::alloc::{AllocError, Global};
 use std::marker::{Model, PhantomData};
 
@@ -35,11 +35,10 @@ pub enum Lookahead<'a> {
 /// A token stream with one token of lookahead.
 #[derive(Drop)]
 pub struct Cursor<'a, T: Text<'a>> {
-    // The tokens after the next one.
-    tokens: Tokens<'a>,
-    // The `cuts` of the stream: when the cursor was made, and now.
+    // The stream after the next token.
+    stream: TokenStream<'a>,
+    // The `cuts` of the stream when the cursor was made.
     first_cuts: usize,
-    cuts: usize,
     position: Pos,
     // The next token, or a token with an empty spelling if there is none.
     token: Token<'a>,
@@ -60,14 +59,11 @@ impl<'a, T: Text<'a>> Model for Cursor<'a, T> {
 
     ghost Value = { Items };
 
-    ghost view = { λ c. shown c.first_cuts c.position c.token c.lookahead
-        (record { items = c.tokens; cuts = c.cuts }) };
+    ghost view = { λ c. shown c.first_cuts c.position c.token c.lookahead c.stream };
 
-    ghost invariant = { λ c. All IsLexeme
-        (shown c.first_cuts c.position c.token c.lookahead (record { items = c.tokens; cuts = c.cuts })).tokens
-        × (c.front ≡ front_byte
-        (shown c.first_cuts c.position c.token c.lookahead (record { items = c.tokens; cuts = c.cuts })).tokens)
-        × (c.first_cuts ≤ c.cuts) × (c.cuts ≤ 2 ^ 64 - 1) };
+    ghost invariant = { λ c. All IsLexeme (shown c.first_cuts c.position c.token c.lookahead c.stream).tokens
+        × (c.front ≡ front_byte (shown c.first_cuts c.position c.token c.lookahead c.stream).tokens)
+        × (c.first_cuts ≤ c.stream.cuts) × (c.stream.cuts ≤ 2 ^ 64 - 1) };
 }
 
 /// The first byte, or 0 for an empty string.
@@ -110,18 +106,17 @@ impl<'a, T: Text<'a>> Cursor<'a, T> {
     }
 
     /// The tokens that `stream` has yet to return.
-    pub fn over(stream: TokenStream<'a>) -> Self
+    pub fn over(mut stream: TokenStream<'a>) -> Self
         ensures items { result ≡ items_of_stream stream.entry }
         ensures rest { (text : List ℕ) × AreItemsOfRest stream.entry.items text }
     {
-        let (mut tokens, cuts) = stream.into_parts();
-        let is_long = is_long(tokens.rest());
-        let position = tokens.position();
-        let (token, lookahead) = kept_of(tokens.next_token());
+        let first_cuts = stream.cuts();
+        let is_long = is_long(stream.rest());
+        let position = stream.position();
+        let (token, lookahead) = kept_of(stream.next_token());
         Cursor {
-            tokens,
-            first_cuts: cuts,
-            cuts: one_more(cuts),
+            stream,
+            first_cuts,
             position,
             token,
             lookahead,
@@ -137,7 +132,7 @@ impl<'a, T: Text<'a>> Cursor<'a, T> {
         ensures within { result.cuts ≤ self.entry.spent.stream.cuts }
         ensures all { self.entry.tokens ≡ [] → result ≡ self.entry.spent.stream }
     {
-        TokenStream::from_parts(self.tokens, self.cuts)
+        self.stream
     }
 
     /// Advances past a token: the slow path. The end of input and a lexical error are never passed.
@@ -146,9 +141,8 @@ impl<'a, T: Text<'a>> Cursor<'a, T> {
         ensures { self.new ≡ after self.old }
     {
         if let Lookahead::Token = self.lookahead {
-            let position = self.tokens.position();
-            let (token, lookahead) = kept_of(self.tokens.next_token());
-            self.cuts = one_more(self.cuts);
+            let position = self.stream.position();
+            let (token, lookahead) = kept_of(self.stream.next_token());
             self.position = position;
             self.token = token;
             self.lookahead = lookahead;
@@ -254,10 +248,9 @@ impl<'a, T: Text<'a>> TokenSource for Cursor<'a, T> {
     #[inline(never)]
     fn advance(&mut self) {
         if let Lookahead::Token = self.lookahead {
-            self.position = self.tokens.position();
-            match self.tokens.fast_token() {
+            self.position = self.stream.position();
+            match self.stream.fast_token() {
                 Some(token) => {
-                    self.cuts = one_more(self.cuts);
                     self.token = token;
                     self.front = first_byte(token.value);
                 }

@@ -1,8 +1,7 @@
 //! A stream of tokens that counts its calls.
-ghost use Rattle.std.specs.Prelude.{◌≡◌, List, ◌/◌, ◌≤◌, length, pos};
+ghost use Rattle.std.specs.Prelude.{◌≡◌, List, Some, None, Ok, IfSome, ◌/◌, ◌≤◌, length, pos};
 ghost use Rattle.graphql_core.specs.lexical.Items.{Item, HasItems, depth_of};
-ghost use Rattle.graphql_core.specs.lexical.StreamCalls.{NextItem, next_place};
-ghost use Rattle.graphql_core.specs.lexical.StreamCalls.{one_more};
+ghost use Rattle.graphql_core.specs.lexical.StreamCalls.{NextItem, next_place, one_more, AreItemsOfRest};
 
 use crate::position::Pos;
 use crate::tokenizer::token::{Bad, Token};
@@ -11,14 +10,14 @@ use std::marker::Model;
 
 /// The count plus one, or `usize::MAX` if the count has reached it.
 #[inline(always)]
-pub(crate) fn one_more(cuts: usize) -> usize
+fn one_more(cuts: usize) -> usize
     ensures { result ≡ one_more cuts }
 {
     cuts.saturating_add(1)
 }
 
-/// The tokens of an input, one after another, then its end or its first lexical error. The stream also counts the
-/// calls: see `cuts`.
+/// The tokens of an input, one after another, then its end or its first lexical error. The stream also counts the items
+/// that are requested: see `cuts`.
 #[derive(Drop)]
 pub struct TokenStream<'a> {
     tokens: Tokens<'a>,
@@ -61,6 +60,19 @@ impl<'a> TokenStream<'a> {
         self.tokens.next_token()
     }
 
+    /// Returns the next token, if the fast path of `Tokens` recognizes it. `None` says nothing about the next token,
+    /// and nothing changes: call `next_token`.
+    #[inline(always)]
+    pub(crate) fn fast_token(&mut self) -> Option<Token<'a>>
+        ensures item { IfSome result (λ t. NextItem self.old.items (Ok (Some t)) self.new.items) }
+        ensures cuts { IfSome result (λ t. self.new.cuts ≡ one_more self.old.cuts) }
+        ensures stays { result ≡ None → self.new ≡ self.old }
+    {
+        let token = self.tokens.fast_token()?;
+        self.cuts = one_more(self.cuts);
+        Some(token)
+    }
+
     /// The position of the next token, of the end of input, or of the lexical error. Ignored text before it is skipped.
     #[inline(always)]
     pub fn position(&self) -> Pos
@@ -76,6 +88,13 @@ impl<'a> TokenStream<'a> {
         self.tokens.offset()
     }
 
+    /// The rest of the input from the next token, end of input or lexical error on.
+    pub(crate) fn rest(&self) -> &'a str
+        ensures { AreItemsOfRest self.now.items result.now }
+    {
+        self.tokens.rest()
+    }
+
     /// The number of opening brackets less closing brackets before the next token, possibly negative.
     pub fn depth(&self) -> isize
         ensures { result ≡ depth_of (next_place self.now.items) }
@@ -83,25 +102,11 @@ impl<'a> TokenStream<'a> {
         self.tokens.depth()
     }
 
-    /// The number of calls of `next_token`, at most `usize::MAX`.
+    /// Returns how many items were requested, at most `usize::MAX`: by `next_token`, and by `parse_query_from` and
+    /// `parse_schema_from`. An item is a token, the end of the input or the lexical error.
     pub fn cuts(&self) -> usize
         ensures { result ≡ self.now.cuts }
     {
         self.cuts
-    }
-
-    /// The tokens that are left, and `cuts`.
-    pub(crate) fn into_parts(self) -> (Tokens<'a>, usize)
-        ensures items { result.0 ≡ self.entry.items }
-        ensures cuts { result.1 ≡ self.entry.cuts }
-    {
-        (self.tokens, self.cuts)
-    }
-
-    /// The stream with these tokens left, and with this `cuts`.
-    pub(crate) fn from_parts(tokens: Tokens<'a>, cuts: usize) -> Self
-        ensures { result ≡ record { items = tokens.entry; cuts = cuts } }
-    {
-        TokenStream { tokens, cuts }
     }
 }

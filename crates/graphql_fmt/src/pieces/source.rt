@@ -80,7 +80,8 @@ impl Between {
         }
     }
 
-    /// The number of spaces and tabs before a piece that comes next, in the line that it begins; 0 if it begins no line.
+    /// The number of spaces and tabs before a piece that comes next, in the line that it begins; 0 if it begins no
+    /// line.
     fn indent(self) -> usize {
         if self.line_ends > 0 { self.spaces } else { 0 }
     }

@@ -222,7 +222,8 @@ fn content_value(alloc: Global, content: &str) -> Result<String, AllocError>
 
 /// Returns the value of a block string (GraphQL, October 2021, section 2.9.4).
 ///
-/// `text` must be the spelling of the token, with both delimiters. An error means that an allocation failed.
+/// `text` must begin and end with three quotes, and have at least six bytes. It need not be a token: three quotes
+/// between these are part of the value. An error means that an allocation failed.
 pub fn unquote_block_string(alloc: Global, text: &str) -> Result<String, AllocError>
     requires { (content : List ℕ) × spec.IsInTripleQuotes text.now content }
     ensures { (content : List ℕ) → spec.IsInTripleQuotes text.now content

@@ -71,8 +71,9 @@ pub fn has_no_backslash(text: &str) -> bool
 
 /// Returns the value of a string in quotes (GraphQL, October 2021, section 2.9.4).
 ///
-/// `text` must be the spelling of the token, with both quotes. It returns `BadEscape` if an escape denotes no
-/// character, and `OutOfMemory` if an allocation fails.
+/// `text` must begin and end with a quote, and have at least two bytes. It need not be a token: a quote or a line end
+/// between these two is part of the value. The error is `BadEscape` if an escape denotes no character, and
+/// `OutOfMemory` if an allocation fails.
 pub fn unquote_string(alloc: Global, text: &str) -> Result<String, UnquoteError>
     requires { (body : List ℕ) × IsInQuotes text.now body }
     ensures value { (body : List ℕ) → IsInQuotes text.now body → IfOk result (λ s. HasValue body (string_bytes s)) }

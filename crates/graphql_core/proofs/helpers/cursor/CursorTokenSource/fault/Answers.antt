@@ -4,4 +4,4 @@ use Rattle.graphql_core.proofs.helpers.cursor.CursorTokenSource.fault.Goals as g
 pub returns-in-Token : goal.returns-in-Token
 returns-in-Token g c =
     let s = c.self.inside in
-    rw (← c.self.view_is, c.in-Token.is) (c.unexpected.ensures (items_since s.first_cuts (record { items = s.tokens; cuts = s.cuts })))
+    rw (← c.self.view_is, c.in-Token.is) (c.unexpected.ensures (items_since s.first_cuts s.stream))
