@@ -36,6 +36,16 @@ pub struct Placer {
     definition_indent: usize,
 }
 
+/// Whether a token is a separator of members that stays in the line of the token before it, as in the input, because a
+/// comment comes next. So the comment stays with the member before it, and the next member begins a line.
+fn ends_line(symbol: Symbol, piece: &Piece<'_>, rest: &[Piece<'_>]) -> bool {
+    matches!(symbol, Symbol::Ampersand | Symbol::Pipe)
+        && !piece.begins_line
+        && rest
+            .first()
+            .is_some_and(|next| symbol_of(next) == Symbol::Comment)
+}
+
 impl Placer {
     /// Before the first of `count` pieces.
     pub fn new(
@@ -209,6 +219,10 @@ impl Placer {
         }
         if role == Role::Directive && !self.frames.is_item_broken() {
             return self.place_directives(piece, rest);
+        }
+        if ends_line(symbol, piece, rest) {
+            self.push(Gap::Space, symbol, Role::Lead, piece)?;
+            return Ok(0);
         }
         let gap = self.gap(symbol, role, piece);
         self.push(gap, symbol, role, piece)?;
