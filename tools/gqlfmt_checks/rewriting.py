@@ -48,6 +48,14 @@ def owners():
 
 
 @test
+def below_a_folder_that_is_not_utf8():
+    folder = os.fsdecode(b"\xff")
+    new(f"{folder}/a.graphql")
+    expect("--write", gqlfmt("--write", "a.graphql", cwd=folder), (0, b"", ""))
+    expect("the files", (os.listdir(folder), read(f"{folder}/a.graphql")), (["a.graphql"], FORMATTED))
+
+
+@test
 @needs_root
 def overlay():
     """Opening a file of a lower layer for writing copies it to the upper one, as in a layer of a container."""

@@ -18,13 +18,18 @@ struct Temporary {
     file: File,
 }
 
-/// Whether nothing shows that a file has changed: it is the same file, with the same length and the same times.
-fn is_same(before: &Metadata, now: &Metadata) -> bool {
+/// Whether a file is still a regular file, with the same length and the same time of its last change of content.
+fn has_same_content(before: &Metadata, now: &Metadata) -> bool {
     now.is_file()
-        && before.dev() == now.dev()
-        && before.ino() == now.ino()
         && before.len() == now.len()
         && (before.mtime(), before.mtime_nsec()) == (now.mtime(), now.mtime_nsec())
+}
+
+/// Whether nothing shows that a file has changed: it is the same file, with the same length and the same times.
+fn is_same(before: &Metadata, now: &Metadata) -> bool {
+    has_same_content(before, now)
+        && before.dev() == now.dev()
+        && before.ino() == now.ino()
         && (before.ctime(), before.ctime_nsec()) == (now.ctime(), now.ctime_nsec())
 }
 
@@ -43,29 +48,25 @@ fn check_unchanged<R: Files>(rt: &R, path: &str, before: &Metadata) -> Result<()
     }
 }
 
-/// The metadata of a file after it was opened for writing. It fails if the file is no longer a regular file with the
-/// same length and the same time of its last change of content.
+/// The metadata of a file after it was opened for writing. It fails if the content of the file changed.
 ///
 /// On an overlay file system, opening a file for writing can copy it. Its other times, its device and its inode then
 /// change.
 fn after_opening<R: Files>(rt: &R, path: &str, before: &Metadata) -> Result<Metadata, InputError> {
     let now = fs::symlink_metadata(rt, path).map_err(InputError::Write)?;
-    let is_same = now.is_file()
-        && before.len() == now.len()
-        && (before.mtime(), before.mtime_nsec()) == (now.mtime(), now.mtime_nsec());
-    if is_same {
+    if has_same_content(before, &now) {
         Ok(now)
     } else {
         Err(InputError::Changed)
     }
 }
 
-/// Makes a new file beside the file with this absolute path.
+/// Makes a new file beside the file with this path.
 fn new_file_beside<R: Files<File = File> + AllocGlobal>(
     rt: &R,
     path: &str,
 ) -> io::Result<Temporary> {
-    let folder = path.rsplit_once('/').map_or("", |(folder, _)| folder);
+    let folder = path.rsplit_once('/').map_or(".", |(folder, _)| folder);
     let mut options = OpenOptions::new();
     options.write(true).create_new(true).mode(0o600);
     for number in 0..TRIES {
@@ -110,6 +111,28 @@ fn put_in_place<R: Files>(
     fs::rename(rt, temporary, path).map_err(InputError::Write)
 }
 
+/// Replaces the text of a regular file that was read with this metadata: see `replace_text`.
+fn replace_regular<R: Files<File = File> + AllocGlobal>(
+    rt: &R,
+    path: &str,
+    old: &Metadata,
+    text: &str,
+) -> Result<(), InputError> {
+    check_unchanged(rt, path, old)?;
+    check_writable(rt, path).map_err(InputError::Write)?;
+    let old = &after_opening(rt, path, old)?;
+    let mut temporary = new_file_beside(rt, path).map_err(InputError::Write)?;
+    let filled = fill(&mut temporary.file, text, old);
+    let replaced = match filled {
+        Ok(()) => put_in_place(rt, temporary.path.as_str(), path, old),
+        Err(error) => Err(error),
+    };
+    if replaced.is_err() {
+        let _ = fs::remove_file(rt, temporary.path.as_str());
+    }
+    replaced
+}
+
 /// Replaces the text of a file that was read with this metadata.
 ///
 /// A symbolic link stays, and the file that it leads to is replaced. If anything fails, that file is as it was. A file
@@ -124,19 +147,11 @@ pub fn replace_text<R: Files<File = File> + AllocGlobal>(
     if !old.is_file() {
         return Err(InputError::NotRegular);
     }
-    let path = fs::canonicalize(rt, path).map_err(InputError::Write)?;
-    let path = path.as_str();
-    check_unchanged(rt, path, old)?;
-    check_writable(rt, path).map_err(InputError::Write)?;
-    let old = &after_opening(rt, path, old)?;
-    let mut temporary = new_file_beside(rt, path).map_err(InputError::Write)?;
-    let filled = fill(&mut temporary.file, text, old);
-    let replaced = match filled {
-        Ok(()) => put_in_place(rt, temporary.path.as_str(), path, old),
-        Err(error) => Err(error),
-    };
-    if replaced.is_err() {
-        let _ = fs::remove_file(rt, temporary.path.as_str());
+    let entry = fs::symlink_metadata(rt, path).map_err(InputError::Write)?;
+    if entry.is_symlink() {
+        let target = fs::canonicalize(rt, path).map_err(InputError::Write)?;
+        replace_regular(rt, target.as_str(), old, text)
+    } else {
+        replace_regular(rt, path, old, text)
     }
-    replaced
 }
