@@ -23,7 +23,7 @@ use Rattle.graphql_fmt.specs.declared.pieces.piece.Piece.{Piece}
 use Rattle.graphql_fmt.specs.declared.pieces.gap.Gap.{Gap}
 use Rattle.graphql_fmt.specs.declared.pieces.gap.Gap.TheVariants.{Nothing, Space, Comma, Line}
 use Rattle.graphql_fmt.specs.steps.Pieces.{kept_by, kept_piece, IsSpelling, IsPiece, ArePieces}
-use Rattle.graphql_fmt.specs.steps.Joining.{gap_bytes, IsApartToken, IsApart, Follows, KeepsApart, IsWrittenFor}
+use Rattle.graphql_fmt.specs.steps.Joining.{gap_bytes, IsApartToken, IsApart, Follows, KeepsApart, HasSameBlock, IsWrittenFor}
 use Rattle.graphql_fmt.proofs.Trimmed.{trimmed_white}
 
 -- ---- one more element in front
@@ -143,15 +143,18 @@ apart_block (piece.Token k) [] s t h = h
 apart_block (piece.Token k) (b ∷ gap) s t h = h
 apart_block piece.Comment gap s t h = h
 
+pub same_block_written : (p : Piece) (s : List ℕ) → p.kind ≡ piece.Token BlockString → HasSameBlock p.text.now s → IsWrittenFor p s
+same_block_written p s kind (is, same) = (
+  subst (λ (k : PieceKind). IsSpelling k s) (sym kind) is,
+  ap (λ (k : PieceKind). kept_by k s) kind ∙ ap KeptBlock same ∙ sym (ap (λ (k : PieceKind). kept_by k p.text.now) kind),
+  subst (λ (k : PieceKind). KeepsApart k p.text.now s) (sym kind) (λ before gap h. apart_block before gap p.text.now s h),
+)
+
 pub block_written : (p : Piece) (margin : ℕ) (value : List ℕ) → p.kind ≡ piece.Token BlockString → value ≡ block_string_of p.text.now
     → has_block_lines value ≡ true → IsWrittenFor p (in_block_form margin margin value)
 block_written p margin value kind is lines =
-    let s = in_block_form margin margin value in
-    let same : block_string_of s ≡ block_string_of p.text.now = block_lines_mean margin margin value lines ∙ is in (
-      subst (λ (k : PieceKind). IsSpelling k s) (sym kind) (Unchanged, [], block_word margin margin value [] tt),
-      ap (λ (k : PieceKind). kept_by k s) kind ∙ ap KeptBlock same ∙ sym (ap (λ (k : PieceKind). kept_by k p.text.now) kind),
-      subst (λ (k : PieceKind). KeepsApart k p.text.now s) (sym kind) (λ before gap h. apart_block before gap p.text.now s h),
-    )
+    let same = block_lines_mean margin margin value lines ∙ is in
+    same_block_written p (in_block_form margin margin value) kind ((Unchanged, [], block_word margin margin value [] tt), same)
 
 -- ---- pieces one after another
 

@@ -3,6 +3,7 @@
 mod gap;
 mod join;
 mod piece;
+mod raw;
 mod source;
 
 pub use gap::Gap;

@@ -1,8 +1,9 @@
 -- Tokens and comments, joined with white space and commas.
 use Rattle.std.specs.Prelude.{◌≡◌, ℕ, false, if◌then◌else◌, List, [], ◌∷◌, ◌++◌, replicate}
-use Rattle.graphql_core.specs.{kind_number, nowhere, MayFollow}
+use Rattle.graphql_core.specs.{kind_number, nowhere, MayFollow, block_string_of}
 use Rattle.graphql_core.specs.sources.Minified.{is_spaced}
 use Rattle.graphql_core.specs.declared.tokenizer.token.Kind.{Kind}
+use Rattle.graphql_core.specs.declared.tokenizer.token.Kind.TheVariants.{BlockString}
 use Rattle.graphql_fmt.specs.declared.pieces.gap.Gap.{Gap}
 use Rattle.graphql_fmt.specs.declared.pieces.gap.Gap.TheVariants.{Nothing, Space, Comma, Line}
 use Rattle.graphql_fmt.specs.declared.pieces.piece.PieceKind.{PieceKind}
@@ -42,6 +43,10 @@ Follows piece.Comment rest ks = (more : List ℕ) × (rest ≡ 10 ∷ more) × H
 abbrev pub KeepsApart : PieceKind → (spelling other : List ℕ) → Type 0
 KeepsApart kind spelling other =
     (before : PieceKind) (gap : List ℕ) → IsApart before gap kind spelling → IsApart before gap kind other
+
+-- the other text is a block string of the same value
+abbrev pub HasSameBlock : (spelling other : List ℕ) → Type 0
+HasSameBlock spelling other = IsSpelling (piece.Token BlockString) other × (block_string_of other ≡ block_string_of spelling)
 
 -- The spelling can be written for the piece: the same is kept of it, and it is kept apart from the piece before it.
 abbrev pub IsWrittenFor : Piece → List ℕ → Type 0

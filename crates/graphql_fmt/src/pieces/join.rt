@@ -5,9 +5,11 @@ ghost use Rattle.graphql_fmt.specs.steps.Pieces.{kept_piece, IsPiece, ArePieces}
 ghost use Rattle.graphql_fmt.specs.steps.Joining.{IsWrittenFor, gap_bytes};
 
 use crate::pieces::gap::{Gap, apart};
-use crate::pieces::piece::Piece;
+use crate::pieces::piece::{Piece, PieceKind};
+use crate::pieces::raw::with_line_feeds;
 use graphql_core::common::unquote_block_string;
 use graphql_core::format::print::{write_block, write_spaces};
+use graphql_core::tokenizer::Kind;
 use std::alloc::{AllocError, Global};
 
 /// Appends a gap.
@@ -28,6 +30,23 @@ fn push_gap(out: &mut String, gap: Gap) -> Result<(), AllocError>
     }
 }
 
+/// Appends the spelling of a piece as it is, but with LF in place of each CR LF in a block string, if its value allows
+/// that.
+fn push_as_it_is(alloc: Global, out: &mut String, piece: &Piece<'_>) -> Result<(), AllocError>
+    requires { IsPiece piece.now }
+    ensures { OnOk result ((s : List ℕ) × (string_bytes out.new ≡ string_bytes out.old ++ s)
+        × IsWrittenFor piece.now s) }
+{
+    if let PieceKind::Token(Kind::BlockString) = piece.kind {
+        if piece.text.contains('\r') {
+            if let Some(text) = with_line_feeds(alloc, piece.text)? {
+                return out.push_str(&text);
+            }
+        }
+    }
+    out.push_str(piece.text)
+}
+
 /// Appends the spelling of a piece. Each line of a block string begins with `margin` spaces, if its value allows that.
 fn push_spelling(
     alloc: Global,
@@ -40,7 +59,7 @@ fn push_spelling(
         × IsWrittenFor piece.now s) }
 {
     if !piece.is_indented {
-        return out.push_str(piece.text);
+        return push_as_it_is(alloc, out, piece);
     }
     let value = unquote_block_string(alloc, piece.text)?;
     write_block(out, &value, margin, margin)

@@ -1,5 +1,5 @@
 //! An input as its pieces.
-ghost use Rattle.std.specs.Prelude.{◌≡◌, ◌≤◌, ◌/◌, ◌++◌, length, map, List, IfOk, OnOk, MatchOption};
+ghost use Rattle.std.specs.Prelude.{◌≡◌, ◌≤◌, ◌/◌, ◌++◌, true, length, map, List, IfOk, OnOk, MatchOption};
 ghost use Rattle.graphql_fmt.specs.{Kept, HasKept, kept_element, trimmed};
 ghost use Rattle.graphql_fmt.specs.steps.Pieces.{kept_piece, ArePieces, IsElement, IsSpelling};
 ghost use Rattle.graphql_fmt.specs.declared.pieces.piece.PieceKind.TheVariants as piece;
@@ -19,12 +19,16 @@ fn trimmed(comment: &str) -> &str
     comment.trim_ascii_end()
 }
 
-/// Whether a block string can be written with any indentation.
+/// Whether a block string can be written with any indentation. A value with a CR is not, since many programs read a CR
+/// as a line end.
 fn is_indentable(alloc: Global, spelling: &str) -> Result<bool, AllocError>
     requires { IsSpelling (piece.Token BlockString) spelling.now }
-    ensures { IfOk result (λ b. b ≡ has_block_lines (block_string_of spelling.now)) }
+    ensures { IfOk result (λ b. b ≡ true → has_block_lines (block_string_of spelling.now) ≡ true) }
 {
     let value = unquote_block_string(alloc, spelling)?;
+    if value.contains('\r') {
+        return Ok(false);
+    }
     Ok(has_block_lines(&value))
 }
 

@@ -25,7 +25,7 @@ returns-clause-pieces c all =
         | in-Token-BlockString+in_ok-is_indented-in-Token-BlockString w ↦
             let token = w.in-Token-BlockString in
             let block = rw token.is at token.field-0-is in
-            λ set. (token.is ∙ ap piece.Token block, sym w.in_ok-is_indented-in-Token-BlockString.ensures ∙ sym w.is_indented-is ∙ set)
+            λ set. (token.is ∙ ap piece.Token block, w.in_ok-is_indented-in-Token-BlockString.ensures (sym w.is_indented-is ∙ set))
         | in_default w ↦ λ set. absurd (false≢true (sym w.is_indented-is ∙ set))
         | in_default-2 w ↦ λ set. absurd (false≢true (sym w.is_indented-is ∙ set))
       ],

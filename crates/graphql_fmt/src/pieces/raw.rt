@@ -1,0 +1,51 @@
+//! Block strings that cannot be written with any indentation.
+ghost use Rattle.std.specs.Prelude.{◌≡◌, true, string_bytes, IfOk, MatchOption};
+ghost use Rattle.graphql_core.specs.{block_string_of};
+ghost use Rattle.graphql_core.specs.declared.tokenizer.token.Kind.TheVariants.{BlockString};
+ghost use Rattle.graphql_fmt.specs.declared.pieces.piece.PieceKind.TheVariants as piece;
+ghost use Rattle.graphql_fmt.specs.steps.Pieces.{IsSpelling};
+ghost use Rattle.graphql_fmt.specs.steps.Joining.{HasSameBlock};
+
+use graphql_core::common::{MAX_LENGTH, unquote_block_string};
+use graphql_core::tokenizer::{ElementKind, Kind, first_element};
+use std::alloc::{AllocError, Global};
+
+/// Whether the whole text is a block string.
+fn is_block_string(text: &str) -> bool
+    ensures { result ≡ true → IsSpelling (piece.Token BlockString) text.now }
+{
+    if text.len() > MAX_LENGTH {
+        return false;
+    }
+    match first_element(text) {
+        Some(element) => match element.kind {
+            ElementKind::Token(Kind::BlockString) => element.rest.is_empty(),
+            _ => false,
+        },
+        None => false,
+    }
+}
+
+/// Whether two block strings have the same value.
+fn have_same_value(alloc: Global, first: &str, second: &str) -> Result<bool, AllocError>
+    requires first { IsSpelling (piece.Token BlockString) first.now }
+    requires second { IsSpelling (piece.Token BlockString) second.now }
+    ensures { IfOk result (λ b. b ≡ true → block_string_of first.now ≡ block_string_of second.now) }
+{
+    let first = unquote_block_string(alloc, first)?;
+    let second = unquote_block_string(alloc, second)?;
+    Ok(first == second)
+}
+
+/// The block string with LF in place of each CR LF; `None` if its value would be another.
+pub fn with_line_feeds(alloc: Global, spelling: &str) -> Result<Option<String>, AllocError>
+    requires { IsSpelling (piece.Token BlockString) spelling.now }
+    ensures { IfOk result (λ found. MatchOption found (Unit {0}) (λ text. HasSameBlock spelling.now (string_bytes text))) }
+{
+    let text = spelling.replace(alloc, "\r\n", "\n")?;
+    if is_block_string(&text) && have_same_value(alloc, &text, spelling)? {
+        Ok(Some(text))
+    } else {
+        Ok(None)
+    }
+}
