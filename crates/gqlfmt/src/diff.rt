@@ -105,7 +105,7 @@ fn lines_ahead(old: &[&str], new: &[&str]) -> (usize, usize) {
     if old.is_empty() || new.is_empty() {
         return (old.len(), new.len());
     }
-    for ahead in 1..REACH {
+    for ahead in 1..=REACH {
         if let Some(removed) = meeting(old, new, ahead) {
             return (removed, ahead.saturating_sub(removed));
         }

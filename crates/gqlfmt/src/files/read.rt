@@ -30,15 +30,10 @@ pub fn read_text<R: Read>(alloc: Global, reader: &mut R) -> Result<String, Input
     ensures { IfSome (R.remaining reader.old) (λ input. IfOk result (λ text. string_bytes text ≡ input)) }
 {
     let mut bytes = Vec::new(alloc);
-    if let Err(error) = reader.read_to_end(&mut bytes) {
-        return Err(InputError::Read(error));
-    }
-    match String::from_utf8(bytes) {
-        Ok(text) => Ok(text),
-        Err(error) => Err(InputError::NotUtf8 {
-            line: line_of(&error),
-        }),
-    }
+    reader.read_to_end(&mut bytes).map_err(InputError::Read)?;
+    String::from_utf8(bytes).map_err(|error| InputError::NotUtf8 {
+        line: line_of(&error),
+    })
 }
 
 /// Reads a file.

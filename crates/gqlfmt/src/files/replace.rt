@@ -123,10 +123,7 @@ fn replace_regular<R: Files<File = File> + AllocGlobal>(
     let old = &after_opening(rt, path, old)?;
     let mut temporary = new_file_beside(rt, path).map_err(InputError::Write)?;
     let filled = fill(&mut temporary.file, text, old);
-    let replaced = match filled {
-        Ok(()) => put_in_place(rt, temporary.path.as_str(), path, old),
-        Err(error) => Err(error),
-    };
+    let replaced = filled.and_then(|()| put_in_place(rt, temporary.path.as_str(), path, old));
     if replaced.is_err() {
         let _ = fs::remove_file(rt, temporary.path.as_str());
     }

@@ -8,8 +8,7 @@ use crate::layout::symbol::{Symbol, symbol_of};
 use crate::pieces::Piece;
 
 /// The role of the first token of these pieces. The end of the document has the role of a closing bracket.
-pub fn next_role(context: Context, pieces: &[Piece<'_>]) -> Role {
-    let mut context = context;
+pub fn next_role(mut context: Context, pieces: &[Piece<'_>]) -> Role {
     'pieces: for piece in pieces {
         let symbol = symbol_of(piece);
         if symbol != Symbol::Comment {
@@ -29,37 +28,43 @@ fn can_begin_line(within: Enclosure, before: Symbol, role: Role) -> bool {
     }
 }
 
+/// The number of open brackets after a token.
+fn depth_after(depth: usize, symbol: Symbol) -> usize {
+    if symbol.is_opener() {
+        depth.saturating_add(1)
+    } else if symbol.is_closer() {
+        depth.saturating_sub(1)
+    } else {
+        depth
+    }
+}
+
 /// Whether the first token of these pieces continues locations.
 fn is_of_locations(context: Context, pieces: &[Piece<'_>]) -> bool {
     matches!(next_role(context, pieces), Role::Spaced | Role::Member)
 }
 
-/// Whether the pieces after a token fit in its line, up to where the line can end. The token ends at `column`.
+/// Whether the pieces after a token fit in its line, up to where the line can end. The token ends at column `start`.
 ///
 /// The line can end before the first location of a directive only if the locations cannot be in one line: if a leading
 /// `|` or a comment is among them, or if they do not fit behind a closing bracket either.
 pub fn fits(
-    context: Context,
-    before: Symbol,
-    column: usize,
+    mut context: Context,
+    mut before: Symbol,
+    start: usize,
     width: usize,
     pieces: &[Piece<'_>],
 ) -> bool {
-    let mut context = context;
     let outer = context.within;
     let mut depth = 0usize;
-    let mut before = before;
-    let start = column;
-    let mut column = column;
+    let mut column = start;
     let mut in_locations = false;
-    let mut count = 0usize;
-    'pieces: for piece in pieces {
+    'pieces: for (index, piece) in pieces.iter().enumerate() {
         let symbol = symbol_of(piece);
         if symbol == Symbol::Comment {
-            let rest = pieces.get(count..).unwrap_or(&[]);
+            let rest = pieces.get(index..).unwrap_or(&[]);
             return column <= width || is_of_locations(context, rest);
         }
-        count = count.saturating_add(1);
         in_locations |= context.begins_locations() && symbol == Symbol::Name;
         let within = context.within;
         let role = context.read(symbol, piece);
@@ -76,11 +81,7 @@ pub fn fits(
         if has_lines(symbol, piece) {
             return true;
         }
-        if symbol.is_opener() {
-            depth = depth.saturating_add(1);
-        } else if symbol.is_closer() {
-            depth = depth.saturating_sub(1);
-        }
+        depth = depth_after(depth, symbol);
         if depth == 0 {
             context.within = outer;
         }

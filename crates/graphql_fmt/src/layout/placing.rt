@@ -145,12 +145,10 @@ impl Placer {
 
     /// The role of the first token after comments.
     fn role_after_comments(&mut self, rest: &[Piece<'_>]) -> Role {
-        let role = match self.role_after_comments {
-            Some(role) => role,
-            None => next_role(self.reader.context(), rest),
-        };
-        self.role_after_comments = Some(role);
-        role
+        let context = self.reader.context();
+        *self
+            .role_after_comments
+            .get_or_insert_with(|| next_role(context, rest))
     }
 
     /// What comes before a comment on a separate line, if the next token has this role.

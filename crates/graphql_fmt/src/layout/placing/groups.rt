@@ -15,7 +15,7 @@ use std::alloc::AllocError;
 
 /// Directives or members.
 #[derive(Clone, Copy, Debug, PartialEq, Eq)]
-pub enum Chain {
+enum Chain {
     /// Directives, after the first `@`.
     Directives,
     /// Members, after the lead.
@@ -24,7 +24,7 @@ pub enum Chain {
 
 impl Chain {
     /// Whether a token of this role, outside the brackets in the chain, continues the chain.
-    pub fn is_continued(self, role: Role) -> bool {
+    fn is_continued(self, role: Role) -> bool {
         match self {
             Chain::Directives => matches!(role, Role::Tight | Role::Arguments | Role::Directive),
             Chain::Members => matches!(role, Role::Spaced | Role::Member),
