@@ -1,6 +1,6 @@
 -- The tokens and the comments of an input as the program has them.
-use Rattle.std.specs.Prelude.{◌≡◌, ℕ, true, List, [], ◌∷◌, ◌++◌, map}
-use Rattle.std.specs.List.{list_all}
+use Rattle.std.specs.Prelude.{◌≡◌, ◌==◌, ℕ, Bool, true, not, ◌&&◌, List, [], ◌∷◌, ◌++◌, map}
+use Rattle.std.specs.List.{list_all, list_any}
 use Rattle.graphql_core.specs.declared.tokenizer.token.Kind.TheVariants.{BlockString}
 use Rattle.graphql_core.specs.declared.tokenizer.element.ElementKind.{ElementKind}
 use Rattle.graphql_core.specs.{Meaning, TokenOf, Stands, IsCutInto, is_in_line, block_string_of, has_block_lines}
@@ -24,6 +24,13 @@ kept_piece p = kept_by p.kind p.text.now
 abbrev pub IsSpelling : PieceKind → List ℕ → Type 0
 IsSpelling (piece.Token k) s = (n : Nesting) × (rest : List ℕ) × Stands s (TokenOf k n) rest
 IsSpelling piece.Comment s = (line : List ℕ) × (s ≡ 35 ∷ line) × (list_all is_in_line line ≡ true) × (trimmed s ≡ s)
+
+abbrev pub is_return : ℕ → Bool
+is_return b = b == 13
+
+-- whether a block string of this value is written with any indentation
+abbrev pub is_indentable : List ℕ → Bool
+is_indentable value = has_block_lines value && not (list_any is_return value)
 
 -- a block string whose value can be written with any indentation
 abbrev pub IsIndentable : PieceKind → (spelling : List ℕ) → Type 0

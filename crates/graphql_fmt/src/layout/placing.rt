@@ -37,7 +37,7 @@ pub struct Placer {
 }
 
 /// Whether a token is a separator of members that stays in the line of the token before it, as in the input, because a
-/// comment comes next. So the comment stays with the member before it, and the next member begins a line.
+/// comment comes next. So a comment in this line stays with the member before it.
 fn ends_line(symbol: Symbol, piece: &Piece<'_>, rest: &[Piece<'_>]) -> bool {
     matches!(symbol, Symbol::Ampersand | Symbol::Pipe)
         && !piece.begins_line
@@ -219,6 +219,7 @@ impl Placer {
             return self.place_directives(piece, rest);
         }
         if ends_line(symbol, piece, rest) {
+            // It leads the next member, which begins a line.
             self.push(Gap::Space, symbol, Role::Lead, piece)?;
             return Ok(0);
         }

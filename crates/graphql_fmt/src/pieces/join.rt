@@ -37,14 +37,14 @@ fn push_as_it_is(alloc: Global, out: &mut String, piece: &Piece<'_>) -> Result<(
     ensures { OnOk result ((s : List ℕ) × (string_bytes out.new ≡ string_bytes out.old ++ s)
         × IsWrittenFor piece.now s) }
 {
-    if let PieceKind::Token(Kind::BlockString) = piece.kind {
-        if piece.text.contains('\r') {
-            if let Some(text) = with_line_feeds(alloc, piece.text)? {
-                return out.push_str(&text);
-            }
-        }
+    let changed = match piece.kind {
+        PieceKind::Token(Kind::BlockString) => with_line_feeds(alloc, piece.text)?,
+        _ => None,
+    };
+    match changed {
+        Some(text) => out.push_str(&text),
+        None => out.push_str(piece.text),
     }
-    out.push_str(piece.text)
 }
 
 /// Appends the spelling of a piece. Each line of a block string begins with `margin` spaces, if its value allows that.

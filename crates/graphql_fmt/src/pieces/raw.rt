@@ -37,11 +37,14 @@ fn have_same_value(alloc: Global, first: &str, second: &str) -> Result<bool, All
     Ok(first == second)
 }
 
-/// The block string with LF in place of each CR LF; `None` if its value would be another.
+/// The block string with LF in place of each CR LF; `None` if it has none, or if its value would be another.
 pub fn with_line_feeds(alloc: Global, spelling: &str) -> Result<Option<String>, AllocError>
     requires { IsSpelling (piece.Token BlockString) spelling.now }
     ensures { IfOk result (λ found. MatchOption found (Unit {0}) (λ text. HasSameBlock spelling.now (string_bytes text))) }
 {
+    if !spelling.contains("\r\n") {
+        return Ok(None);
+    }
     let text = spelling.replace(alloc, "\r\n", "\n")?;
     if is_block_string(&text) && have_same_value(alloc, &text, spelling)? {
         Ok(Some(text))

@@ -1,9 +1,11 @@
 //! An input as its pieces.
-ghost use Rattle.std.specs.Prelude.{◌≡◌, ◌≤◌, ◌/◌, ◌++◌, true, length, map, List, IfOk, OnOk, MatchOption};
+ghost use Rattle.std.specs.Prelude.{◌≡◌, ◌≤◌, ◌/◌, ◌++◌, length, map, List, IfOk, OnOk, MatchOption};
+ghost use Rattle.std.specs.List.{list_any};
 ghost use Rattle.graphql_fmt.specs.{Kept, HasKept, kept_element, trimmed};
-ghost use Rattle.graphql_fmt.specs.steps.Pieces.{kept_piece, ArePieces, IsElement, IsSpelling};
+ghost use Rattle.graphql_fmt.specs.steps.Pieces.{kept_piece, ArePieces, IsElement, IsSpelling, is_return};
+ghost use Rattle.graphql_fmt.specs.steps.Pieces.{is_indentable};
 ghost use Rattle.graphql_fmt.specs.declared.pieces.piece.PieceKind.TheVariants as piece;
-ghost use Rattle.graphql_core.specs.{block_string_of, has_block_lines};
+ghost use Rattle.graphql_core.specs.{block_string_of};
 ghost use Rattle.graphql_core.specs.declared.tokenizer.token.Kind.TheVariants.{BlockString};
 
 use crate::pieces::piece::{Piece, PieceKind};
@@ -19,17 +21,28 @@ fn trimmed(comment: &str) -> &str
     comment.trim_ascii_end()
 }
 
-/// Whether a block string can be written with any indentation. A value with a CR is not, since many programs read a CR
-/// as a line end.
+/// Whether a text has a CR.
+fn has_return(text: &str) -> bool
+    ensures { result ≡ list_any is_return text.now }
+{
+    text.as_bytes().iter().any(|byte| *byte == b'\r')
+}
+
+/// Whether a block string of this value is written with any indentation. One with a CR in its value is not, since many
+/// programs read a CR as a line end.
+fn is_indentable_value(value: &str) -> bool
+    ensures { result ≡ is_indentable value.now }
+{
+    has_block_lines(value) && !has_return(value)
+}
+
+/// Whether a block string is written with any indentation.
 fn is_indentable(alloc: Global, spelling: &str) -> Result<bool, AllocError>
     requires { IsSpelling (piece.Token BlockString) spelling.now }
-    ensures { IfOk result (λ b. b ≡ true → has_block_lines (block_string_of spelling.now) ≡ true) }
+    ensures { IfOk result (λ b. b ≡ is_indentable (block_string_of spelling.now)) }
 {
     let value = unquote_block_string(alloc, spelling)?;
-    if value.contains('\r') {
-        return Ok(false);
-    }
-    Ok(has_block_lines(&value))
+    Ok(is_indentable_value(&value))
 }
 
 /// What comes between the last piece and the next one.
