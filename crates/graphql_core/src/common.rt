@@ -1,4 +1,4 @@
-//! Text types, numbers, values of strings, and parse errors.
+//! Text types, numbers, values of strings, parse errors, and what both languages share: trees, readers and grammar.
 
 mod cause;
 mod fault;

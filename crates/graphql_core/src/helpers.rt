@@ -1,4 +1,4 @@
-//! Token sources with one token of lookahead, and readers of single tokens.
+//! Token sources with one token of lookahead, readers of single tokens, the room of lists, and the minifier.
 
 mod cursor;
 mod matching;
@@ -17,5 +17,5 @@ pub use punctuator::Punctuator;
 pub use read_error::{ReadError, fault_of};
 pub use room::{shrink_list, split_list};
 pub use source::{Lexeme, TokenSource};
-pub use span::{Span, WIDE_TEXT, Width};
+pub use span::{WIDE_TEXT, Width};
 pub use spans::SpanSource;

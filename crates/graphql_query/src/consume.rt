@@ -20,7 +20,7 @@ use std::alloc::Global;
 fn first_definition<S: TokenSource>(
     alloc: Global,
     source: &mut S,
-    scratch: &mut Vec<Selection<S::Names>>,
+    selections: &mut Vec<Selection<S::Names>>,
 ) -> Result<Definition<S::Names>, Fault>
     ensures takes { IfOk result
         (λ d. TakesDefinition (S.items source.old) (S.items source.new) (definition_view S.Names.bytes d)) }
@@ -28,7 +28,7 @@ fn first_definition<S: TokenSource>(
         → IfErr result (λ e. e ≡ no_memory) }
     ensures first_error { IfErr result (IsRefusalFor one_definition (S.items source.old)) }
 {
-    match definition(alloc, source, scratch) {
+    match definition(alloc, source, selections) {
         Ok(definition) => Ok(definition),
         Err(error) => Err(fault_of(alloc, source, error)),
     }
@@ -100,8 +100,8 @@ pub fn consume_definition<'a, S: Text<'a>>(
         return Err(ParseError::from(Fault::text_too_long()));
     }
     let mut cursor: Cursor<'a, S> = Cursor::new(source);
-    let mut scratch = Vec::new(alloc);
-    let definition = first_definition(alloc, &mut cursor, &mut scratch)?;
+    let mut selections = Vec::new(alloc);
+    let definition = first_definition(alloc, &mut cursor, &mut selections)?;
     let rest = text_from(source, cursor.position());
     Ok((definition, rest))
 }

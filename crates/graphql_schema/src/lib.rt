@@ -10,7 +10,13 @@ mod read;
 mod text_laws;
 pub mod tree;
 
+pub use document::{parse_schema, parse_schema_from};
+pub use error::ParseError;
 pub use graphql_core::common::{Names, Text};
+pub use laws::{
+    minified_texts_are_parsed_alike, none_goes_on_with_an_unexpected_item,
+    readers_return_what_is_derived, rejected_nodes_are_in_the_input,
+};
 pub use location::{DirectiveLocation, InvalidDirectiveLocation, are_same_location};
 pub use text_laws::{
     brackets_are_those_of_the_layout, locations_are_named, printed_documents_are_read_back,
@@ -83,10 +89,3 @@ pub type InputObjectTypeExtension<'a, T> = tree::InputObjectTypeExtension<T>;
 
 /// A directive definition (section 3.13).
 pub type DirectiveDefinition<'a, T> = tree::DirectiveDefinition<T>;
-
-pub use document::{parse_schema, parse_schema_from};
-pub use error::ParseError;
-pub use laws::{
-    minified_texts_are_parsed_alike, none_goes_on_with_an_unexpected_item,
-    readers_return_what_is_derived, rejected_nodes_are_in_the_input,
-};

@@ -4,6 +4,7 @@ mod block;
 mod error;
 mod quoted;
 
-pub use block::{ESCAPED_QUOTES, QUOTES, is_blank, is_white, unquote_block_string};
+pub use block::unquote_block_string;
+pub(crate) use block::{ESCAPED_QUOTES, QUOTES, is_blank, is_white};
 pub use error::UnquoteError;
 pub use quoted::unquote_string;

@@ -199,6 +199,7 @@ impl Buffer {
         let Buffer { output } = self;
         let Filled { mut bytes, len } = output;
         bytes.truncate(len);
+        // SAFETY: by the invariant of `Buffer` the first `len` bytes are UTF-8.
         unsafe { String::from_utf8_unchecked(bytes) }
     }
 }

@@ -152,7 +152,7 @@ impl<'a, T: Text<'a>> Cursor<'a, T> {
 }
 
 /// The `Fault` for a token that is not allowed at its position, or for `OutOfMemory`.
-pub fn unexpected(alloc: Global, token: Token<'_>, position: Pos) -> Fault
+pub fn fault_of_token(alloc: Global, token: Token<'_>, position: Pos) -> Fault
     ensures { (after : Items)
         → IsNextFault (then_items (token_of position token.entry.kind token.entry.value.now) after) result }
 {
@@ -185,7 +185,7 @@ fn cause_of(alloc: Global, bad: Bad<'_>) -> Result<Cause, AllocError>
 }
 
 /// The `Fault` for a lexical error, or for `OutOfMemory`.
-pub fn bad_place(alloc: Global, bad: Bad<'_>, position: Pos) -> Fault
+pub fn fault_of_bad(alloc: Global, bad: Bad<'_>, position: Pos) -> Fault
     ensures { IsNextFault (only_last (LastIsError (place_of position) (no_token (bad_text bad.entry)))) result }
 {
     match cause_of(alloc, bad) {
@@ -263,9 +263,9 @@ impl<'a, T: Text<'a>> TokenSource for Cursor<'a, T> {
     #[inline(never)]
     fn fault(&self, alloc: Global) -> Fault {
         match self.lookahead {
-            Lookahead::Token => unexpected(alloc, self.token, self.position),
+            Lookahead::Token => fault_of_token(alloc, self.token, self.position),
             Lookahead::End => Fault::at(Cause::UnexpectedEnd, self.position),
-            Lookahead::Error(bad) => bad_place(alloc, bad, self.position),
+            Lookahead::Error(bad) => fault_of_bad(alloc, bad, self.position),
         }
     }
 

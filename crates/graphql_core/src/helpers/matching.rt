@@ -12,23 +12,12 @@ use crate::position::Pos;
 use crate::tokenizer::Kind;
 use std::alloc::Global;
 
-/// Whether a token is of this kind and has this spelling.
+/// Whether a token is the name with this spelling.
 #[inline(always)]
-fn is_spelled<S: TokenSource>(token: &Lexeme<S::Text>, kind: Kind, spelling: &str) -> bool
-    ensures { result ≡ matches (Spelled (kind_number kind) spelling.now) (lexeme_token S.bytes token.now) }
+fn is_keyword<S: TokenSource>(token: &Lexeme<S::Text>, spelling: &str) -> bool
+    ensures { result ≡ matches (Spelled (kind_number Name) spelling.now) (lexeme_token S.bytes token.now) }
 {
-    token.kind == kind && S::as_str(&token.text) == spelling
-}
-
-/// Whether the next token has this kind and spelling.
-#[inline(always)]
-fn sees_spelled<S: TokenSource>(source: &S, kind: Kind, spelling: &str) -> bool
-    ensures { result ≡ sees_class (Spelled (kind_number kind) spelling.now) (S.items source.now) }
-{
-    match source.peek() {
-        Some(token) => is_spelled::<S>(&token, kind, spelling),
-        None => false,
-    }
+    token.kind == Kind::Name && S::as_str(&token.text) == spelling
 }
 
 /// Whether the next token is the name with this spelling.
@@ -36,21 +25,9 @@ fn sees_spelled<S: TokenSource>(source: &S, kind: Kind, spelling: &str) -> bool
 pub fn sees_keyword<S: TokenSource>(source: &S, spelling: &str) -> bool
     ensures { result ≡ sees_class (Spelled (kind_number Name) spelling.now) (S.items source.now) }
 {
-    sees_spelled(source, Kind::Name, spelling)
-}
-
-/// Consumes the token of this kind and spelling, and returns its position.
-#[inline(always)]
-fn spelled<S: TokenSource>(source: &mut S, kind: Kind, spelling: &str) -> Result<Pos, ReadError>
-    ensures { TakesOne (Spelled (kind_number kind) spelling.now) (S.items source.old) (S.items source.new)
-        (λ p t. t.place ≡ place_of p) result }
-{
     match source.peek() {
-        Some(token) if is_spelled::<S>(&token, kind, spelling) => {
-            source.advance();
-            Ok(token.position)
-        }
-        _ => Err(ReadError::Item),
+        Some(token) => is_keyword::<S>(&token, spelling),
+        None => false,
     }
 }
 
@@ -77,7 +54,13 @@ pub fn expect_keyword<S: TokenSource>(source: &mut S, spelling: &str) -> Result<
     ensures { TakesOne (Spelled (kind_number Name) spelling.now) (S.items source.old) (S.items source.new)
         (λ p t. t.place ≡ place_of p) result }
 {
-    spelled(source, Kind::Name, spelling)
+    match source.peek() {
+        Some(token) if is_keyword::<S>(&token, spelling) => {
+            source.advance();
+            Ok(token.position)
+        }
+        _ => Err(ReadError::Item),
+    }
 }
 
 /// Consumes a name, and returns it as the tree stores it.

@@ -6,7 +6,7 @@ ghost use Rattle.graphql_core.specs.declared.position.Pos.{Pos};
 
 use crate::common::Fault;
 use crate::format::{Buffer, Sink};
-use crate::helpers::cursor::bad_place;
+use crate::helpers::cursor::fault_of_bad;
 use crate::tokenizer::{Kind, Tokens};
 use std::alloc::Global;
 
@@ -74,7 +74,7 @@ fn fault_of_tokens(alloc: Global, mut tokens: Tokens<'_>) -> Fault
         match tokens.next_token() {
             Ok(Some(_)) => {}
             Ok(None) => unreachable!(),
-            Err(bad) => return bad_place(alloc, bad, tokens.position()),
+            Err(bad) => return fault_of_bad(alloc, bad, tokens.position()),
         }
     }
 }

@@ -12,7 +12,7 @@ const LONG_TEXT: usize = 262144;
 // The minimum number of elements of a long list. Copying a shorter list takes little time.
 const LONG_LIST: usize = 4096;
 
-/// Whether lists that are read from this input shrink to fit.
+/// Whether an input is long, so that `shrink_list` shrinks.
 #[inline(always)]
 pub fn is_long(text: &str) -> bool {
     text.len() >= LONG_TEXT

@@ -67,7 +67,7 @@ pub trait TokenSource {
     fn is_at_end(&self) -> bool
         ensures { IsTrue result ↔ IsAtEnd (items self.now) };
 
-    /// Whether the input is long, so that complete lists shrink to fit.
+    /// Whether the input is long, so that `shrink_list` shrinks.
     fn is_long(&self) -> bool;
 
     /// Advances past a token. The end of input and a lexical error are never passed.

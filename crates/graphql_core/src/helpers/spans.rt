@@ -8,7 +8,7 @@ ghost use Rattle.graphql_core.specs.steps.Punctuators.{first_byte, front_byte};
 ghost use Rattle.graphql_core.specs.steps.Spans.{Marks, span_token, IsLeft, IsLast, AreAppended, IsCut};
 
 use crate::common::{Cause, Fault, Names, Text};
-use crate::helpers::cursor::{bad_place, first_byte, unexpected};
+use crate::helpers::cursor::{fault_of_bad, fault_of_token, first_byte};
 use crate::helpers::punctuator::Punctuator;
 use crate::helpers::room::is_long;
 use crate::helpers::source::{Lexeme, TokenSource};
@@ -265,11 +265,11 @@ impl<'a, T: Text<'a>, W: Width> TokenSource for SpanSource<'a, T, W> {
                     kind: span.kind,
                     value: spelling(self.text, *span),
                 };
-                unexpected(alloc, token, position_of(*span))
+                fault_of_token(alloc, token, position_of(*span))
             }
             None => match self.spans.bad {
                 None => Fault::at(Cause::UnexpectedEnd, self.spans.end),
-                Some(bad) => bad_place(alloc, bad, self.spans.end),
+                Some(bad) => fault_of_bad(alloc, bad, self.spans.end),
             },
         }
     }

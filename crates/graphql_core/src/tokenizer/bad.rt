@@ -20,7 +20,7 @@ fn first_char(text: &str) -> char
 fn is_float_character(byte: u8) -> bool
     ensures { result ≡ spec.is_float_character byte }
 {
-    byte == b'.' || byte == b'e' || byte == b'E'
+    matches!(byte, b'.' | b'e' | b'E')
 }
 
 /// Whether a run has a `.`, `e` or `E`.

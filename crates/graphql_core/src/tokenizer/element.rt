@@ -53,9 +53,7 @@ pub fn first_element(source: &str) -> Option<Element<'_>>
         let kind = ignored_kind(text);
         return Some(Element { kind, text, rest });
     }
-    let Some((taken, _)) = token_at(source) else {
-        return None;
-    };
+    let (taken, _) = token_at(source)?;
     let (text, rest) = source.split_at(taken.len);
     let kind = ElementKind::Token(taken.kind);
     Some(Element { kind, text, rest })

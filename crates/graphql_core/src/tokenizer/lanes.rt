@@ -1,4 +1,4 @@
-//! How many of 16 bytes, from the first on, are in a class.
+//! Runs of bytes of a class at the start of 16 bytes, and how many of 16 bytes continue a character.
 ghost use Rattle.std.specs.Prelude.{◌≡◌, ◌<◌, ◌≤◌, ◌-◌, ◌/◌, ◌^◌, length, take, drop};
 ghost use Rattle.std.specs.List.{prefix_len, count_by};
 ghost use Rattle.std.specs.Char.{is_ascii_digit};
@@ -37,7 +37,7 @@ fn first_set_from(mask: u64, start: usize) -> usize
     }
 }
 
-/// How many of the first 16 bytes continue a name.
+/// The length of the run of bytes that continue a name, at the start of 16 bytes.
 #[inline(always)]
 pub fn name_lanes(bytes: &[u8]) -> usize
     requires { 16 ≤ length bytes.now }
@@ -52,7 +52,7 @@ pub fn name_lanes(bytes: &[u8]) -> usize
     first_set(stops.to_bitmask())
 }
 
-/// How many of the first 16 bytes are spaces.
+/// The length of the run of spaces at the start of 16 bytes.
 #[inline(always)]
 pub fn space_lanes(bytes: &[u8]) -> usize
     requires { 16 ≤ length bytes.now }
@@ -62,7 +62,7 @@ pub fn space_lanes(bytes: &[u8]) -> usize
     first_set(stops.to_bitmask())
 }
 
-/// How many of the first 16 bytes are neither a quote nor a backslash.
+/// How many of the first 16 bytes come before a quote or a backslash.
 #[inline(always)]
 pub fn block_lanes(bytes: &[u8]) -> usize
     requires { 16 ≤ length bytes.now }
@@ -73,7 +73,7 @@ pub fn block_lanes(bytes: &[u8]) -> usize
     first_set(stops.to_bitmask())
 }
 
-/// How many of the first 16 bytes are ASCII except line feed.
+/// The length of the run of ASCII except line feed at the start of 16 bytes.
 #[inline(always)]
 pub fn flat_lanes(bytes: &[u8]) -> usize
     requires { 16 ≤ length bytes.now }
@@ -104,7 +104,7 @@ pub fn no_backslash_lanes(bytes: &[u8]) -> usize
     first_set(stops.to_bitmask())
 }
 
-/// How many of the first 16 bytes continue a character.
+/// How many of the first 16 bytes continue a character, wherever they are.
 #[inline(always)]
 pub fn continuing_lanes(bytes: &[u8]) -> usize
     requires { 16 ≤ length bytes.now }
@@ -115,7 +115,7 @@ pub fn continuing_lanes(bytes: &[u8]) -> usize
     continuing.to_bitmask().count_ones() as usize
 }
 
-/// How many of the first 16 bytes are ASCII except quote, backslash and line feed.
+/// The length of the run of ASCII except quote, backslash and line feed at the start of 16 bytes.
 #[inline(always)]
 pub fn string_lanes(bytes: &[u8]) -> usize
     requires { 16 ≤ length bytes.now }
@@ -142,7 +142,7 @@ pub fn in_string_lanes(bytes: &[u8]) -> usize
     first_set(stops.to_bitmask())
 }
 
-/// How many of the first 16 bytes are digits.
+/// The length of the run of digits at the start of 16 bytes.
 #[inline(always)]
 pub fn digit_lanes(bytes: &[u8]) -> usize
     requires { 16 ≤ length bytes.now }
@@ -152,7 +152,7 @@ pub fn digit_lanes(bytes: &[u8]) -> usize
     first_set(stops.to_bitmask())
 }
 
-/// How many of the first 16 bytes are neither line feed nor carriage return.
+/// How many of the first 16 bytes come before a line feed or a carriage return.
 #[inline(always)]
 pub fn line_lanes(bytes: &[u8]) -> usize
     requires { 16 ≤ length bytes.now }
@@ -163,7 +163,7 @@ pub fn line_lanes(bytes: &[u8]) -> usize
     first_set(stops.to_bitmask())
 }
 
-/// How many of the first 16 bytes, from `start` on, are spaces, commas or line feeds.
+/// The length of the run of spaces, commas and line feeds from index `start` on, in 16 bytes.
 #[inline(always)]
 pub fn gap_lanes_from(bytes: &[u8], start: usize) -> usize
     requires some { 16 ≤ length bytes.now }

@@ -19,14 +19,8 @@ pub fn position_after_move(by: Move, at: Pos) -> Pos
 {
     match by {
         Move::Stay => at,
-        Move::Over(steps) => Pos {
-            line: at.line,
-            column: at.column + steps,
-        },
-        Move::Down => Pos {
-            line: at.line + 1,
-            column: 1,
-        },
+        Move::Over(steps) => position_after_spaces(steps, at),
+        Move::Down => position_after_line(at),
     }
 }
 

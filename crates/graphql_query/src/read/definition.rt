@@ -16,12 +16,12 @@ use graphql_core::helpers::{
 use std::alloc::Global;
 
 /// `FragmentDefinition = "fragment" Name TypeCondition Directives SelectionSet`.
-/// Selections are collected at the end of `scratch`.
+/// Selections are collected at the end of `selections`.
 #[tactic(auto, using(graphql_core::proofs::readers::Reading::reader_steps))]
 fn fragment_definition<S: TokenSource>(
     alloc: Global,
     source: &mut S,
-    scratch: &mut Vec<Selection<S::Names>>,
+    selections: &mut Vec<Selection<S::Names>>,
 ) -> Result<FragmentDefinition<S::Names>, ReadError>
     ensures { Reads (Sym fragment_definition_symbol) (S.items source.old) (S.items source.new)
         (λ v x. fragment_definition_view S.Names.bytes v ≡ fragment_definition_of x) result }
@@ -30,7 +30,7 @@ fn fragment_definition<S: TokenSource>(
     let name = expect_name(alloc, source)?;
     let type_condition = type_condition(alloc, source)?;
     let directives = directives::directives(alloc, source)?;
-    let selection_set = selection_set(alloc, source, scratch)?;
+    let selection_set = selection_set(alloc, source, selections)?;
     Ok(FragmentDefinition {
         position,
         name,
@@ -40,20 +40,20 @@ fn fragment_definition<S: TokenSource>(
     })
 }
 
-/// `Definition = OperationDefinition | FragmentDefinition`. Selections are collected at the end of `scratch`.
+/// `Definition = OperationDefinition | FragmentDefinition`. Selections are collected at the end of `selections`.
 #[tactic(auto, using(graphql_core::proofs::readers::Reading::reader_steps))]
 pub fn definition<S: TokenSource>(
     alloc: Global,
     source: &mut S,
-    scratch: &mut Vec<Selection<S::Names>>,
+    selections: &mut Vec<Selection<S::Names>>,
 ) -> Result<Definition<S::Names>, ReadError>
     ensures { Reads (Sym definition_symbol) (S.items source.old) (S.items source.new)
         (λ v x. definition_view S.Names.bytes v ≡ definition_of x) result }
 {
     if sees_keyword(source, "fragment") {
-        return Ok(Definition::Fragment(fragment_definition(alloc, source, scratch)?));
+        return Ok(Definition::Fragment(fragment_definition(alloc, source, selections)?));
     }
-    Ok(Definition::Operation(operation_definition(alloc, source, scratch)?))
+    Ok(Definition::Operation(operation_definition(alloc, source, selections)?))
 }
 
 /// Whether the next token can begin a definition.
@@ -78,12 +78,12 @@ pub fn definitions<S: TokenSource>(
 {
     let mut definitions = Vec::new(alloc);
     // The selections of the open selection sets. A set that closes removes its own from the end.
-    let mut scratch = Vec::new(alloc);
-    let first = definition(alloc, source, &mut scratch)?;
+    let mut selections = Vec::new(alloc);
+    let first = definition(alloc, source, &mut selections)?;
     definitions.reserve(1)?;
     definitions.push_reserved(first);
     'more: while sees_definition(source) {
-        let next = definition(alloc, source, &mut scratch)?;
+        let next = definition(alloc, source, &mut selections)?;
         definitions.reserve(1)?;
         definitions.push_reserved(next);
     }

@@ -136,12 +136,12 @@ fn optional_variable_definitions<S: TokenSource>(
 }
 
 /// `OperationBody = Name? VariableDefinitions? Directives SelectionSet`.
-/// Selections are collected at the end of `scratch`.
+/// Selections are collected at the end of `selections`.
 #[tactic(auto, using(graphql_core::proofs::readers::Reading::reader_steps))]
 fn operation_body<S: TokenSource>(
     alloc: Global,
     source: &mut S,
-    scratch: &mut Vec<Selection<S::Names>>,
+    selections: &mut Vec<Selection<S::Names>>,
 ) -> Result<OperationBody<S::Names>, ReadError>
     ensures { Reads (Sym operation_body_symbol) (S.items source.old) (S.items source.new)
         (λ v x. operation_body_view S.Names.bytes v ≡ operation_body_of x) result }
@@ -149,7 +149,7 @@ fn operation_body<S: TokenSource>(
     let name = optional_name(alloc, source)?;
     let variable_definitions = optional_variable_definitions(alloc, source)?;
     let directives = directives::directives(alloc, source)?;
-    let selection_set = selection_set(alloc, source, scratch)?;
+    let selection_set = selection_set(alloc, source, selections)?;
     Ok(OperationBody {
         name,
         variable_definitions,
@@ -163,7 +163,7 @@ fn operation_body<S: TokenSource>(
 fn keyword_operation<S: TokenSource>(
     alloc: Global,
     source: &mut S,
-    scratch: &mut Vec<Selection<S::Names>>,
+    selections: &mut Vec<Selection<S::Names>>,
     keyword: Keyword,
 ) -> Result<OperationDefinition<S::Names>, ReadError>
     ensures { Reads (keyword_rule (kind_of keyword)) (S.items source.old) (S.items source.new)
@@ -171,7 +171,7 @@ fn keyword_operation<S: TokenSource>(
         ≡ operation (keyword_operation_of (kind_of keyword) x)) result }
 {
     let position = expect_keyword(source, keyword.word())?;
-    let body = operation_body(alloc, source, scratch)?;
+    let body = operation_body(alloc, source, selections)?;
     Ok(body.into_operation(keyword, position))
 }
 
@@ -181,13 +181,13 @@ fn keyword_operation<S: TokenSource>(
 pub fn operation_definition<S: TokenSource>(
     alloc: Global,
     source: &mut S,
-    scratch: &mut Vec<Selection<S::Names>>,
+    selections: &mut Vec<Selection<S::Names>>,
 ) -> Result<OperationDefinition<S::Names>, ReadError>
     ensures { Reads (Sym operation_symbol) (S.items source.old) (S.items source.new)
         (λ v x. operation_definition_view S.Names.bytes v ≡ operation_of x) result }
 {
     match peek_keyword(source) {
-        None => Ok(OperationDefinition::SelectionSet(selection_set(alloc, source, scratch)?)),
-        Some(keyword) => keyword_operation(alloc, source, scratch, keyword),
+        None => Ok(OperationDefinition::SelectionSet(selection_set(alloc, source, selections)?)),
+        Some(keyword) => keyword_operation(alloc, source, selections, keyword),
     }
 }

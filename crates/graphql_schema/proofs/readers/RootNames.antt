@@ -86,34 +86,34 @@ IsAdded bytes w is new rs = (option_map cause_text is ≡ option_map root_cause 
 
 module _ {N T : Type 0} (bytes : T → List ℕ) where
   -- no operation is wrong
-  faultless : (v : Roots N T) (rs : List Root) → is_some v.fault ≡ false → HasRoots bytes v rs → root_fault [] rs ≡ None
-  faultless v rs h k = no_error v.fault (root_fault [] rs) h k.fault
+  faultless : (v : Roots N T) (rs : List Root) → is_some v.cause ≡ false → HasRoots bytes v rs → root_fault [] rs ≡ None
+  faultless v rs h k = no_error v.cause (root_fault [] rs) h k.cause
 
   -- then the first error with one more operation is that of this operation
-  one_more : (v : Roots N T) (rs : List Root) (r : Root) → is_some v.fault ≡ false → HasRoots bytes v rs → root_fault [] (rs ++ r ∷ []) ≡ fault_after rs r
+  one_more : (v : Roots N T) (rs : List Root) (r : Root) → is_some v.cause ≡ false → HasRoots bytes v rs → root_fault [] (rs ++ r ∷ []) ≡ fault_after rs r
   one_more v rs r h k = fault_last [] rs r ∙ ap (λ (o : Option RootFault). option_or o (fault_after rs r)) (faultless v rs h k)
 
   -- the first error stays
-  pub roots_kept : (v : Roots N T) (rs : List Root) (r : Root) → is_some v.fault ≡ true → HasRoots bytes v rs → HasRoots bytes v (rs ++ r ∷ [])
+  pub roots_kept : (v : Roots N T) (rs : List Root) (r : Root) → is_some v.cause ≡ true → HasRoots bytes v rs → HasRoots bytes v (rs ++ r ∷ [])
   roots_kept v rs r h k =
-      let (f, is) = some_fault v.fault (root_fault [] rs) h k.fault in
+      let (f, is) = some_fault v.cause (root_fault [] rs) h k.cause in
       let more : root_fault [] (rs ++ r ∷ []) ≡ Some f =
       fault_last [] rs r ∙ ap (λ (o : Option RootFault). option_or o (fault_after rs r)) is in
       record {
-        fault = k.fault ∙ ap (option_map root_cause) (is ∙ sym more);
+        cause = k.cause ∙ ap (option_map root_cause) (is ∙ sym more);
         query = λ n. none_some f (sym n ∙ more);
         mutation = λ n. none_some f (sym n ∙ more);
         subscription = λ n. none_some f (sym n ∙ more);
       }
 
   -- the name is none of the three
-  pub roots_unknown : (v w : Roots N T) (rs : List Root) (r : Root) → is_some v.fault ≡ false → is_listed r.name root_names ≡ false → HasRoots bytes v rs
-      → option_map cause_text w.fault ≡ Some (unknown_operation r.name) → HasRoots bytes w (rs ++ r ∷ [])
+  pub roots_unknown : (v w : Roots N T) (rs : List Root) (r : Root) → is_some v.cause ≡ false → is_listed r.name root_names ≡ false → HasRoots bytes v rs
+      → option_map cause_text w.cause ≡ Some (unknown_operation r.name) → HasRoots bytes w (rs ++ r ∷ [])
   roots_unknown v w rs r h other k is =
       let more : root_fault [] (rs ++ r ∷ []) ≡ Some (unknown r.name) =
       one_more v rs r h k ∙ ap (λ (b : Bool). told b (is_some (type_in rs r.name)) r.name) other in
       record {
-        fault = is ∙ ap (option_map root_cause) (sym more);
+        cause = is ∙ ap (option_map root_cause) (sym more);
         query = λ n. none_some (unknown r.name) (sym n ∙ more);
         mutation = λ n. none_some (unknown r.name) (sym n ∙ more);
         subscription = λ n. none_some (unknown r.name) (sym n ∙ more);
@@ -121,7 +121,7 @@ module _ {N T : Type 0} (bytes : T → List ℕ) where
 
   -- the name is this one, and its slot becomes filled, or was filled before
   filled : (w : List ℕ) (v : Roots N T) (is : Option Cause) (old new : Option T) (t : T) (rs : List Root) → same_spelling w w ≡ true
-      → is_listed w root_names ≡ true → is_some v.fault ≡ false → HasRoots bytes v rs → option_map bytes old ≡ type_in rs w → Fills w t old new v.fault is
+      → is_listed w root_names ≡ true → is_some v.cause ≡ false → HasRoots bytes v rs → option_map bytes old ≡ type_in rs w → Fills w t old new v.cause is
       → IsAdded bytes w is new (rs ++ record { name = w; type_name = bytes t } ∷ [])
   filled w v is old new t rs self known h k types fills = go old types fills
     where
@@ -132,10 +132,10 @@ module _ {N T : Type 0} (bytes : T → List ℕ) where
       last : type_in (rs ++ record { name = w; type_name = bytes t } ∷ []) w ≡ option_or (type_in rs w) (Some (bytes t))
       last = type_last rs (record { name = w; type_name = bytes t }) w ∙ ap (λ (b : Bool). option_or (type_in rs w) (cond b (Some (bytes t)) None)) self
 
-      go : (o : Option T) → option_map bytes o ≡ type_in rs w → Fills w t o new v.fault is
+      go : (o : Option T) → option_map bytes o ≡ type_in rs w → Fills w t o new v.cause is
           → IsAdded bytes w is new (rs ++ record { name = w; type_name = bytes t } ∷ [])
       go None types (filled, same) = (
-        ap (option_map cause_text) same ∙ k.fault
+        ap (option_map cause_text) same ∙ k.cause
             ∙ ap (option_map root_cause) (faultless v rs h k ∙ sym (more ∙ ap (λ (o : Option (List ℕ)). told true (is_some o) w) (sym types))),
         ap (option_map bytes) filled ∙ sym (last ∙ ap (λ (o : Option (List ℕ)). option_or o (Some (bytes t))) (sym types)),
       )
@@ -146,15 +146,15 @@ module _ {N T : Type 0} (bytes : T → List ℕ) where
 
   -- the same for an equal name; the other operations stay
   pub filled_same : (n w : List ℕ) (v : Roots N T) (is : Option Cause) (old new : Option T) (t : T) (rs : List Root)
-      → pointwise nat_eq n w ≡ true → same_spelling w w ≡ true → is_listed w root_names ≡ true → is_some v.fault ≡ false → HasRoots bytes v rs
-      → (root_fault [] rs ≡ None → option_map bytes old ≡ type_in rs w) → Fills n t old new v.fault is
+      → pointwise nat_eq n w ≡ true → same_spelling w w ≡ true → is_listed w root_names ≡ true → is_some v.cause ≡ false → HasRoots bytes v rs
+      → (root_fault [] rs ≡ None → option_map bytes old ≡ type_in rs w) → Fills n t old new v.cause is
       → IsAdded bytes w is new (rs ++ record { name = n; type_name = bytes t } ∷ [])
       × ((u : List ℕ) (s : Option T) → same_spelling u w ≡ false → (root_fault [] rs ≡ None → option_map bytes s ≡ type_in rs u)
       → option_map bytes s ≡ type_in (rs ++ record { name = n; type_name = bytes t } ∷ []) u)
   filled_same n w v is old new t rs same self known h k types fills =
       let good = faultless v rs h k in
       let equal = is_text n w same in (
-        subst (λ (m : List ℕ). Fills m t old new v.fault is → IsAdded bytes w is new (rs ++ record { name = m; type_name = bytes t } ∷ []))
+        subst (λ (m : List ℕ). Fills m t old new v.cause is → IsAdded bytes w is new (rs ++ record { name = m; type_name = bytes t } ∷ []))
             (sym equal) (filled w v is old new t rs self known h k (types good)) fills,
         λ u s other stay. stay good ∙ sym (stays rs (record { name = n; type_name = bytes t }) u (ap (same_spelling u) equal ∙ other)),
       )

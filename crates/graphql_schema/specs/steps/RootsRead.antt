@@ -7,7 +7,7 @@ use Rattle.graphql_schema.specs.declared.read.schema.Roots.{Roots}
 
 -- The cause is that of the first wrong operation. Without one, each operation has the type that it names.
 pub record HasRoots {N T : Type 0} (bytes : T → List ℕ) (v : Roots N T) (rs : List Root) : Type 0 where
-  pub fault : option_map cause_text v.fault ≡ option_map root_cause (root_fault [] rs)
+  pub cause : option_map cause_text v.cause ≡ option_map root_cause (root_fault [] rs)
   pub query : root_fault [] rs ≡ None → option_map bytes v.query ≡ type_in rs (codes "query")
   pub mutation : root_fault [] rs ≡ None → option_map bytes v.mutation ≡ type_in rs (codes "mutation")
   pub subscription : root_fault [] rs ≡ None → option_map bytes v.subscription ≡ type_in rs (codes "subscription")

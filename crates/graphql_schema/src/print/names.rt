@@ -12,9 +12,7 @@ use graphql_core::format::Sink;
 fn write_between<S: Sink>(out: &mut S, separator: &str) -> Result<(), S::Error>
     ensures { OnOk result (S.took out.old (text_of (between separator.now)) out.new) }
 {
-    out.push_str(" ")?;
-    out.push_str(separator)?;
-    out.push_str(" ")
+    out.push_three(" ", separator, " ")
 }
 
 fn write_joined_names<S: Sink, N: Names>(
@@ -70,8 +68,7 @@ pub fn write_locations<S: Sink>(
     let Some((first, others)) = locations.split_first() else {
         return Ok(());
     };
-    out.push_str(" on ")?;
-    out.push_str(first.as_str())?;
+    out.push_two(" on ", first.as_str())?;
     'others: for location in others {
         write_between(out, "|")?;
         out.push_str(location.as_str())?;

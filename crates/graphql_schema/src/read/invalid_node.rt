@@ -23,8 +23,8 @@ impl InvalidNode {
         ensures { result ≡ at (fault_said self) }
     {
         match self {
-            InvalidNode::Schema(cause, position) => Fault::at(cause, position),
-            InvalidNode::SchemaExtension(cause, position) => Fault::at(cause, position),
+            InvalidNode::Schema(cause, position) | InvalidNode::SchemaExtension(cause, position) =>
+                { Fault::at(cause, position) }
             InvalidNode::Extension(position) => Fault::at(Cause::EmptyExtension, position),
         }
     }

@@ -26,7 +26,7 @@ struct Roots<N: Names> {
     mutation: Option<N::Value>,
     subscription: Option<N::Value>,
     /// The error of the first operation that is unknown or a duplicate.
-    fault: Option<Cause>,
+    cause: Option<Cause>,
 }
 
 /// No operations yet.
@@ -37,29 +37,29 @@ fn no_roots<N: Names>() -> Roots<N>
         query: None,
         mutation: None,
         subscription: None,
-        fault: None,
+        cause: None,
     }
 }
 
-/// Gives an operation its type, or sets `fault` if the operation already has one.
+/// Gives an operation its type, or sets `cause` if the operation already has one.
 fn fill<V: Drop>(
     alloc: Global,
     slot: &mut Option<V>,
-    fault: &mut Option<Cause>,
+    cause: &mut Option<Cause>,
     operation: &str,
     type_name: V,
 ) -> Result<(), AllocError>
-    ensures { IfOk result (λ u. Fills operation.now type_name slot.old slot.new fault.old fault.new) }
+    ensures { IfOk result (λ u. Fills operation.now type_name slot.old slot.new cause.old cause.new) }
 {
     if slot.is_some() {
-        *fault = Some(Cause::DuplicateOperation(String::from_str(alloc, operation)?));
+        *cause = Some(Cause::DuplicateOperation(String::from_str(alloc, operation)?));
         return Ok(());
     }
     *slot = Some(type_name);
     Ok(())
 }
 
-/// Adds an operation and its type. `fault` keeps the first error.
+/// Adds an operation and its type. `cause` keeps the first error.
 fn add_root<N: Names>(
     alloc: Global,
     roots: &mut Roots<N>,
@@ -70,20 +70,20 @@ fn add_root<N: Names>(
         → IfOk result
         (λ u. HasRoots N.bytes roots.new (rs ++ record { name = operation.now; type_name = N.bytes type_name } ∷ [])) }
 {
-    let fault = &mut roots.fault;
-    if fault.is_some() {
+    let cause = &mut roots.cause;
+    if cause.is_some() {
         return Ok(());
     }
     if operation == "query" {
-        return fill(alloc, &mut roots.query, fault, operation, type_name);
+        return fill(alloc, &mut roots.query, cause, operation, type_name);
     }
     if operation == "mutation" {
-        return fill(alloc, &mut roots.mutation, fault, operation, type_name);
+        return fill(alloc, &mut roots.mutation, cause, operation, type_name);
     }
     if operation == "subscription" {
-        return fill(alloc, &mut roots.subscription, fault, operation, type_name);
+        return fill(alloc, &mut roots.subscription, cause, operation, type_name);
     }
-    *fault = Some(Cause::UnknownOperation(String::from_str(alloc, operation)?));
+    *cause = Some(Cause::UnknownOperation(String::from_str(alloc, operation)?));
     Ok(())
 }
 
@@ -142,9 +142,9 @@ pub fn schema_definition<S: TokenSource>(
         query,
         mutation,
         subscription,
-        fault,
+        cause,
     } = roots;
-    match fault {
+    match cause {
         Some(cause) => Err(NodeError::Refused(InvalidNode::Schema(cause, position))),
         None => Ok(SchemaDefinition {
             position,
@@ -192,9 +192,9 @@ pub fn schema_extension<S: TokenSource>(
         query,
         mutation,
         subscription,
-        fault,
+        cause,
     } = optional_roots(alloc, source)?;
-    match fault {
+    match cause {
         Some(cause) => Err(NodeError::Refused(InvalidNode::SchemaExtension(cause, position))),
         None => Ok(SchemaExtension {
             position,

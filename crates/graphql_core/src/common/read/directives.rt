@@ -70,8 +70,7 @@ pub fn optional_arguments<S: TokenSource>(
     if !source.sees_punctuator(open) {
         return Ok(Vec::new(alloc));
     }
-    let mut arguments = Vec::new(alloc);
-    arguments.reserve_exact(FEW_ARGUMENTS)?;
+    let mut arguments = Vec::with_capacity(alloc, FEW_ARGUMENTS)?;
     read_enclosed::<S, ArgumentList>(alloc, source, open, close, &mut arguments)?;
     Ok(arguments)
 }

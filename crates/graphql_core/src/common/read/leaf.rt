@@ -1,15 +1,13 @@
 //! Readers of values that are one token.
 ghost use Rattle.std.specs.Prelude.{◌≡◌, IfOk, string_bytes};
-ghost use Rattle.graphql_core.specs.{takes_spelling, One, Sym, shared, any, enum_class, plain_symbol};
-ghost use Rattle.graphql_core.specs.{enum_name_symbol, Gives, Shows, word_of, int_of, string_of};
-ghost use Rattle.graphql_core.specs.{block_string_of, spelling_at, plain_of, enum_name_of, value_view};
+ghost use Rattle.graphql_core.specs.{One, Sym, shared, any, plain_symbol};
+ghost use Rattle.graphql_core.specs.{Gives, Shows, word_of, int_of, string_of};
+ghost use Rattle.graphql_core.specs.{block_string_of, spelling_at, plain_of, value_view};
 ghost use Rattle.graphql_core.specs.declared.tokenizer.token.Kind.TheVariants.{IntValue, FloatValue, StringValue};
 ghost use Rattle.graphql_core.specs.declared.tokenizer.token.Kind.TheVariants.{BlockString};
 
 use crate::common::tree::Value;
-use crate::common::{
-    FloatLiteral, Names, Number, UnquoteError, unquote_block_string, unquote_string,
-};
+use crate::common::{FloatLiteral, Number, UnquoteError, unquote_block_string, unquote_string};
 use crate::helpers::{Lexeme, ReadError, TokenSource};
 use crate::tokenizer::Kind;
 use std::alloc::{AllocError, Global};
@@ -26,7 +24,7 @@ pub fn next_of<S: TokenSource>(source: &S, kind: Kind) -> Result<Lexeme<S::Text>
 
 /// `Int`
 #[tactic(auto, using(crate::proofs::readers::Reading::reader_steps))]
-pub fn int_value<S: TokenSource>(source: &mut S) -> Result<Number, ReadError>
+fn int_value<S: TokenSource>(source: &mut S) -> Result<Number, ReadError>
     ensures { Gives shared (One (any IntValue)) (S.items source.old) (S.items source.new)
         (λ v x. v ≡ int_of (spelling_at x)) result }
 {
@@ -40,7 +38,7 @@ pub fn int_value<S: TokenSource>(source: &mut S) -> Result<Number, ReadError>
 
 /// `Float`
 #[tactic(auto, using(crate::proofs::readers::Reading::reader_steps))]
-pub fn float_value<S: TokenSource>(alloc: Global, source: &mut S) -> Result<FloatLiteral, ReadError>
+fn float_value<S: TokenSource>(alloc: Global, source: &mut S) -> Result<FloatLiteral, ReadError>
     ensures { Gives shared (One (any FloatValue)) (S.items source.old) (S.items source.new)
         (λ v x. v ≡ spelling_at x) result }
 {
@@ -83,31 +81,6 @@ pub fn block_string_value<S: TokenSource>(
     let value = unquote_block_string(alloc, S::as_str(&token.text))?;
     source.advance();
     Ok(value)
-}
-
-/// Whether a name is none of `true`, `false` and `null`.
-fn is_enum_word(text: &str) -> bool
-    ensures { result ≡ takes_spelling enum_class text.now }
-{
-    !matches!(text, "true" | "false" | "null")
-}
-
-/// `EnumName = Name` other than `true`, `false` and `null`
-#[tactic(auto, using(crate::proofs::readers::Reading::reader_steps))]
-pub fn enum_value<S: TokenSource>(
-    alloc: Global,
-    source: &mut S,
-) -> Result<<S::Names as Names>::Value, ReadError>
-    ensures { Gives shared (Sym enum_name_symbol) (S.items source.old) (S.items source.new)
-        (λ v x. S.Names.bytes v ≡ enum_name_of x) result }
-{
-    let token = next_of(source, Kind::Name)?;
-    if !is_enum_word(S::as_str(&token.text)) {
-        return Err(ReadError::Item);
-    }
-    let name = S::make_name(alloc, token.text)?;
-    source.advance();
-    Ok(name)
 }
 
 /// The value of a name: a boolean, `null` or an enum value.

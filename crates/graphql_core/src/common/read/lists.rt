@@ -129,8 +129,7 @@ pub fn optional_list<S: TokenSource, E: Elements<S>>(
     if !source.sees_punctuator(opener) {
         return Ok(Vec::new(alloc));
     }
-    let mut items = Vec::new(alloc);
-    items.reserve_exact(capacity)?;
+    let mut items = Vec::with_capacity(alloc, capacity)?;
     read_enclosed::<S, E>(alloc, source, opener, closer, &mut items)?;
     shrink_list(source, &mut items);
     Ok(items)

@@ -1,5 +1,5 @@
 //! Arguments and directives.
-ghost use Rattle.std.specs.Prelude.{◌+◌, ◌*◌, ◌^◌, ◌<◌, OnOk};
+ghost use Rattle.std.specs.Prelude.{◌+◌, ◌*◌, ◌^◌, ◌<◌, OnOk, length};
 ghost use Rattle.graphql_core.specs.{text_of, AreLawfulArguments, AreLawfulDirectives, arguments_view};
 ghost use Rattle.graphql_core.specs.{directive_view, directives_view, arguments_layout, arguments_levels};
 ghost use Rattle.graphql_core.specs.{directive_layout, directives_layout, directives_levels};
@@ -10,7 +10,34 @@ use crate::format::print::enclosed::{inside, write_before_part, write_closer, wr
 use crate::format::print::values::write_value;
 use crate::format::{Sink, Style};
 
-/// Appends arguments in parentheses, or nothing if there are none.
+/// Appends one or more arguments in parentheses.
+#[inline(never)]
+fn write_some_arguments<S: Sink, N: Names>(
+    out: &mut S,
+    arguments: &[(N::Value, Value<N>)],
+    style: &Style,
+    margin: usize,
+) -> Result<(), S::Error>
+    requires some { 0 < length arguments.now }
+    requires width { margin + arguments_levels style.now (arguments_view N.bytes arguments.now) * style.now.indent
+        < 2 ^ 32 }
+    ensures text { OnOk result
+        (S.took out.old (text_of (arguments_layout style.now margin (arguments_view N.bytes arguments.now))) out.new) }
+    ensures lawful { OnOk result (AreLawfulArguments (arguments_view N.bytes arguments.now)) }
+{
+    out.push_str("(")?;
+    let indented = inside(style, margin);
+    let mut is_later = false;
+    'arguments: for argument in arguments {
+        write_before_part(out, style, indented, is_later)?;
+        write_label(out, N::view(&argument.0))?;
+        write_value(out, &argument.1, style, indented)?;
+        is_later = true;
+    }
+    write_closer(out, style, margin, ")")
+}
+
+/// Appends arguments in parentheses, or nothing if there are none. Most fields have none, so only this test is inlined.
 #[inline(always)]
 pub fn write_arguments<S: Sink, N: Names>(
     out: &mut S,
@@ -26,16 +53,7 @@ pub fn write_arguments<S: Sink, N: Names>(
     if arguments.is_empty() {
         return Ok(());
     }
-    out.push_str("(")?;
-    let indented = inside(style, margin);
-    let mut is_later = false;
-    'arguments: for argument in arguments {
-        write_before_part(out, style, indented, is_later)?;
-        write_label(out, N::view(&argument.0))?;
-        write_value(out, &argument.1, style, indented)?;
-        is_later = true;
-    }
-    write_closer(out, style, margin, ")")
+    write_some_arguments(out, arguments, style, margin)
 }
 
 /// Appends a directive.

@@ -57,6 +57,7 @@ fn write_digits<S: Sink>(out: &mut S, number: u64) -> Result<(), S::Error>
 {
     let mut digits = [0; MOST_DIGITS];
     let start = put_digits(&mut digits, number);
+    // SAFETY: from `start` on there are only ASCII digits.
     out.push_str(unsafe { str::from_utf8_unchecked(&digits[start..]) })
 }
 

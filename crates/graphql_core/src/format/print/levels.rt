@@ -11,7 +11,7 @@ use crate::format::print::block::has_block_form;
 use std::collections::BTreeMap;
 use std::fmt;
 
-/// The levels of some parts and the level that holds them, saturating at `usize::MAX`.
+/// The levels of some parts, and one more if the style gives each part a line, saturating at `usize::MAX`.
 fn levels_around(style: &Style, levels: usize) -> usize
     ensures { (n : ℕ) → levels ≡ min n (2 ^ 64 - 1) → result ≡ min (opened style.now n) (2 ^ 64 - 1) }
 {

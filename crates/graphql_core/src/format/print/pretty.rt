@@ -13,7 +13,7 @@ use std::fmt;
 
 /// A tree that has a layout.
 pub trait Pretty {
-    /// The layout in a style, at a margin of this many spaces.
+    /// The layout in a style, at a margin of this many spaces. Trees that are only written at margin 0 ignore it.
     ghost lines: { StyleOptions → ℕ → Self → List Part };
 
     /// How many levels the layout opens at once.

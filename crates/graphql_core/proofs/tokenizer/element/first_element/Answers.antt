@@ -7,10 +7,10 @@ pub returns-in-Some-clause-first : goal.returns-in-Some-clause-first
 returns-in-Some-clause-first c =
     ignored_element _ _ _ _ _ c.split_at.ensures.front c.split_at.ensures.back (sym c.ignored_of.ensures.is ∙ c.in-Some.is) c.ignored_kind-kind.ensures
 
-pub returns-in_default-token_at-clause-first : goal.returns-in_default-token_at-clause-first
-returns-in_default-token_at-clause-first c =
-    begins_none _ (sym c.ignored_of.ensures.is ∙ c.in_default.is) (sym c.token_at.ensures.is ∙ ap without_flat c.in_default-token_at.is)
+pub returns-in_err-taken-clause-first : goal.returns-in_err-taken-clause-first
+returns-in_err-taken-clause-first c =
+    rw c.from_residual.ensures (begins_none _ (sym c.ignored_of.ensures.is ∙ c.in_default.is) (sym c.token_at.ensures.is ∙ ap without_flat c.in_err-taken.was))
 
 pub returns-clause-first : goal.returns-clause-first
 returns-clause-first c =
-    token_element _ _ _ _ c.split_at-2.ensures.front c.split_at-2.ensures.back (sym c.token_at.ensures.is ∙ ap without_flat c.in-Some-token_at.is)
+    token_element _ _ _ _ c.split_at-2.ensures.front c.split_at-2.ensures.back (sym c.token_at.ensures.is ∙ ap without_flat c.in_ok-taken.was)

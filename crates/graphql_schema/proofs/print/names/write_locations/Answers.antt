@@ -6,8 +6,7 @@ use Rattle.graphql_schema.proofs.print.names.write_locations.Goals as goal
 
 pub others-init : goal.others-init
 others-init g c =
-    let first = g.met.S.Sink.took_more _ _ _ _ _ c.in_ok-push_str.ensures c.in_ok-push_str-2.ensures in
-    record { wrote = (_, first, rw (c.as_str.ensures, c.in-Some.ensures.cases.0) refl) }
+    record { wrote = (_, c.in_ok-push_two.ensures, rw (c.as_str.ensures, c.in-Some.ensures.cases.0) refl) }
 
 pub others-preserved : goal.others-preserved
 others-preserved g c =
@@ -16,6 +15,6 @@ others-preserved g c =
     let here = name_here word_of (codes "|") c.in-Some.others.now l.location-index _ _ (omega arith) refl in
     let (done, wrote, rest) = l.invariant.wrote in
     record {
-      wrote = and_part g.S.Sink.took more _ _ _ done _ _ _ wrote (more _ _ _ _ _ c.in_ok-write_between.ensures c.in_ok-push_str-3.ensures)
+      wrote = and_part g.S.Sink.took more _ _ _ done _ _ _ wrote (more _ _ _ _ _ c.in_ok-write_between.ensures c.in_ok-push_str.ensures)
           (rw c.as_str-in-others.ensures (ap (λ r. done ++ r) (sym here) ∙ rest));
     }

@@ -12,11 +12,11 @@ returns-then-eq g c = λ rs h.
     IfOk-weaker c.fill.result _ _
     (λ u fills.
     let ((fault, type), others) =
-    filled_same g.N.Names.bytes c.args.operation.now (codes "query") c.args.roots.now c.fill.new.fault c.args.roots.now.query c.fill.new.slot
+    filled_same g.N.Names.bytes c.args.operation.now (codes "query") c.args.roots.now c.fill.new.cause c.args.roots.now.query c.fill.new.slot
     c.args.type_name rs (sym c.eq.ensures ∙ c.if-eq.true) refl refl (sym c.is_some.ensures ∙ c.if-is_some.false) h
     h.query fills in
     record {
-      fault = fault;
+      cause = fault;
       query = λ n. type;
       mutation = λ n. others (codes "mutation") _ refl h.mutation;
       subscription = λ n. others (codes "subscription") _ refl h.subscription;
@@ -28,11 +28,11 @@ returns-then-eq-2 g c = λ rs h.
     IfOk-weaker c.fill-then-eq-2.result _ _
     (λ u fills.
     let ((fault, type), others) =
-    filled_same g.N.Names.bytes c.args.operation.now (codes "mutation") c.args.roots.now c.fill-then-eq-2.new.fault c.args.roots.now.mutation
+    filled_same g.N.Names.bytes c.args.operation.now (codes "mutation") c.args.roots.now c.fill-then-eq-2.new.cause c.args.roots.now.mutation
     c.fill-then-eq-2.new.slot c.args.type_name rs (sym c.eq-2.ensures ∙ c.if-eq-2.true) refl refl (sym c.is_some.ensures ∙ c.if-is_some.false) h
     h.mutation fills in
     record {
-      fault = fault;
+      cause = fault;
       query = λ n. others (codes "query") _ refl h.query;
       mutation = λ n. type;
       subscription = λ n. others (codes "subscription") _ refl h.subscription;
@@ -44,11 +44,11 @@ returns-then-eq-3 g c = λ rs h.
     IfOk-weaker c.fill-then-eq-3.result _ _
     (λ u fills.
     let ((fault, type), others) =
-    filled_same g.N.Names.bytes c.args.operation.now (codes "subscription") c.args.roots.now c.fill-then-eq-3.new.fault c.args.roots.now.subscription
+    filled_same g.N.Names.bytes c.args.operation.now (codes "subscription") c.args.roots.now c.fill-then-eq-3.new.cause c.args.roots.now.subscription
     c.fill-then-eq-3.new.slot c.args.type_name rs (sym c.eq-3.ensures ∙ c.if-eq-3.true) refl refl (sym c.is_some.ensures ∙ c.if-is_some.false) h
     h.subscription fills in
     record {
-      fault = fault;
+      cause = fault;
       query = λ n. others (codes "query") _ refl h.query;
       mutation = λ n. others (codes "mutation") _ refl h.mutation;
       subscription = λ n. type;

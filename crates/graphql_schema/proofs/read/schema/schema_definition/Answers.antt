@@ -38,7 +38,7 @@ returns-in-Some g c =
     let directed = after (past here (took taken refl)) (lifted refl refl c.in_ok-directives.ensures) in
     let lead = past (past directed (took c.in_ok-expect_punctuator.ensures.1 refl)) rooted in
     let are = has [] c.no_roots-roots.ensures in
-    let (bad, said) = fault_told _ _ _ _ _ c.in-Some.is at are.fault in
+    let (bad, said) = fault_told _ _ _ _ _ c.in-Some.is at are.cause in
     node_refused schemas refusals readable _ _ _ _ _ (consumed lead (took c.in_ok-expect_punctuator-2.ensures.1 refl)) bad said
 
 pub returns-in-None : goal.returns-in-None
@@ -48,7 +48,7 @@ returns-in-None g c =
     let (rs, rooted, has) = c.in_ok-root_types.ensures in
     let lead = past (past (past (past here (took taken refl)) directed) (took c.in_ok-expect_punctuator.ensures.1 refl)) rooted in
     let are = has [] c.no_roots-roots.ensures in
-    let (good, none) = none_told _ _ c.in-None.is are.fault in
+    let (good, none) = none_told _ _ c.in-None.is are.cause in
     node_passes schemas refusals _ _ _ _ _ _ (consumed lead (took c.in_ok-expect_punctuator-2.ensures.1 refl)) good
     (λ k. record {
       position = sym at k;

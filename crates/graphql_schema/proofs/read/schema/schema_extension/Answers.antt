@@ -24,7 +24,7 @@ returns-in-Some g c =
     let (t, taken, at) = c.in_ok-position.ensures in
     let (rs, rooted, has) = c.in_ok-query.ensures in
     let directed = after (past here (took taken refl)) (lifted refl refl c.in_ok-directives.ensures) in
-    let (bad, said) = fault_told _ _ _ _ _ c.in-Some.is at has.fault in
+    let (bad, said) = fault_told _ _ _ _ _ c.in-Some.is at has.cause in
     node_refused schemas refusals readable _ _ _ _ _ (consumed directed rooted) bad said
 
 pub returns-in-None : goal.returns-in-None
@@ -33,7 +33,7 @@ returns-in-None g c =
     let (ds, directed, added) = lifted refl refl c.in_ok-directives.ensures in
     let (rs, rooted, has) = c.in_ok-query.ensures in
     let lead = past (past here (took taken refl)) directed in
-    let (good, none) = none_told _ _ c.in-None.is has.fault in
+    let (good, none) = none_told _ _ c.in-None.is has.cause in
     node_passes schemas refusals _ _ _ _ _ _ (consumed lead rooted) good
     (λ k. record {
       position = sym at k;

@@ -17,6 +17,6 @@ returns-in_err-read_enclosed g c =
 pub returns : goal.returns
 returns g c =
     let (x, takes, adds) = c.in_ok-read_enclosed.ensures.reads arguments_symbol arguments_of arguments_list in
-    let none = c.in_ok-reserve_exact.ensures.items ∙ c.new-arguments.ensures.items in
+    let none = c.in_ok-arguments.ensures.items in
     whole (there (begun_by arguments_list) (sym c.sees_punctuator.ensures ∙ c.if-not-sees_punctuator.false)) takes
     (fills (argument_view g.S.Names.Names.bytes) _ _ _ none adds)

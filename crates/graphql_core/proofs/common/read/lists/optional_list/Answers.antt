@@ -15,6 +15,6 @@ returns-in_err-read_enclosed g c k m n s o =
 pub returns : goal.returns
 returns g c k m n s o =
     let (x, takes, adds) = c.in_ok-read_enclosed.ensures.reads k m s in
-    let none = c.in_ok-reserve_exact.ensures.items ∙ c.new-items.ensures.items in
+    let none = c.in_ok-items.ensures.items in
     whole (there (begun_by s) (sym c.sees_punctuator.ensures ∙ c.if-not-sees_punctuator.false)) takes
     (rw c.shrink_list.ensures (fills g.E.Elements.view _ _ _ none adds ∙ sym (o.some x)))

@@ -2,23 +2,21 @@ use Rattle.std.proofs.Common.{arith, ◌∙◌, ◌++◌, ◌^◌, ap, sym, refl
 use Rattle.std.proofs.lemmas.List.{at_drop_all}
 use Rattle.graphql_core.specs.{text_of, value_view, arguments_view, parts, value_layout, pair_layout, each_argument}
 use Rattle.graphql_core.proofs.{argument_here, alike, and_last, all_done, narrower, pair_text}
-use Rattle.graphql_core.proofs.{enclosed_text, and_next, some_items, arguments_fit, filled_layout}
-use Rattle.graphql_core.proofs.format.print.directives.write_arguments.Goals as goal
+use Rattle.graphql_core.proofs.{enclosed_text, and_next, arguments_fit, filled_layout}
+use Rattle.graphql_core.proofs.format.print.directives.write_some_arguments.Goals as goal
 
 pub inside-indented-requires : goal.inside-indented-requires
 inside-indented-requires g c =
     let bytes = g.N.Names.bytes in
     let xs = c.args.arguments.now in
-    let some = some_items _ xs refl (sym c.is_empty.ensures ∙ c.if-is_empty.false) in
-    let fits = arguments_fit (λ a. (bytes a.0, value_view bytes a.1)) c.args.style.now c.args.margin (2 ^ 32) xs some c.requires in
+    let fits = arguments_fit (λ a. (bytes a.0, value_view bytes a.1)) c.args.style.now c.args.margin (2 ^ 32) xs c.requires.some c.requires.width in
     omega arith
 
 pub arguments-init : goal.arguments-init
 arguments-init g c =
     let bytes = g.N.Names.bytes in
     let xs = c.args.arguments.now in
-    let some = some_items _ xs refl (sym c.is_empty.ensures ∙ c.if-is_empty.false) in
-    let fits = arguments_fit (λ a. (bytes a.0, value_view bytes a.1)) c.args.style.now c.args.margin (2 ^ 32) xs some c.requires in
+    let fits = arguments_fit (λ a. (bytes a.0, value_view bytes a.1)) c.args.style.now c.args.margin (2 ^ 32) xs c.requires.some c.requires.width in
     record {
       bound = rw c.inside-indented.ensures fits;
       wrote = (codes "(", c.in_ok-push_str.ensures, refl);
@@ -63,7 +61,6 @@ returns-clause-text g c =
     let style = c.args.style.now in
     let margin = c.inside-indented.result in
     let xs = c.args.arguments.now in
-    let some = some_items _ xs refl (sym c.is_empty.ensures ∙ c.if-is_empty.false) in
     let (done, wrote, rest) = c.arguments.invariant.wrote in
     let left = at_drop_all
     (λ ys. text_of (parts style margin c.arguments.is_later
@@ -71,4 +68,4 @@ returns-clause-text g c =
     let all = all_done g.S.Sink.took g.met.S.Sink.took_more _ _ done _ _ wrote rest left in
     and_last g.S.Sink.took g.met.S.Sink.took_more _ _ _ _ _ _ _ all c.write_closer.ensures
     (enclosed_text style c.args.margin margin (codes "(") (codes ")") (λ m. each_argument style m (arguments_view bytes xs)) c.inside-indented.ensures
-    ∙ ap text_of (filled_layout (λ a. (bytes a.0, value_view bytes a.1)) style c.args.margin xs some))
+    ∙ ap text_of (filled_layout (λ a. (bytes a.0, value_view bytes a.1)) style c.args.margin xs c.requires.some))
