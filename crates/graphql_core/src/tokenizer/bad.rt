@@ -44,7 +44,7 @@ fn bad_number(run: &str) -> Bad<'_>
 /// The lexical error of a nonempty input that begins with neither a token nor ignored text.
 #[cold]
 #[inline(never)]
-pub fn bad_at(text: &str) -> Bad<'_>
+fn bad_at_start(text: &str) -> Bad<'_>
     requires { 0 < length text.now }
     ensures { bad_text result ≡ spec.cause_at (slice_index text.now 0) (drop 1 text.now) }
 {
@@ -61,4 +61,14 @@ pub fn bad_at(text: &str) -> Bad<'_>
     } else {
         Bad::UnterminatedString
     }
+}
+
+/// The lexical error of a nonempty input that begins with neither a token nor ignored text. The call is apart, because a
+/// function clears the memory for the results of its calls when it begins.
+#[inline(always)]
+pub fn bad_at(text: &str) -> Bad<'_>
+    requires { 0 < length text.now }
+    ensures { bad_text result ≡ spec.cause_at (slice_index text.now 0) (drop 1 text.now) }
+{
+    bad_at_start(text)
 }

@@ -7,10 +7,10 @@ use crate::tokenizer::class::{can_begin_ignored, columns_of, is_line_feed, is_sp
 use crate::tokenizer::piece::{byte_at, ignored_of, spaces_in_one_load, spaces_of};
 use crate::tokenizer::place::{position_after_line, position_after_move, position_after_spaces};
 
-/// Skips any ignored text: the slow path of `skip_ignored`.
+/// Skips any ignored text, one element at a time.
 #[cold]
 #[inline(never)]
-fn skip_rare(text: &str, at: Pos) -> (&str, Pos)
+fn skip_elements(text: &str, at: Pos) -> (&str, Pos)
     requires { HasRoom text.now at }
     ensures skips { SkipsTo text.now at result.0.now result.1 }
     ensures first { IsItem (front result.0.now) }
@@ -24,6 +24,17 @@ fn skip_rare(text: &str, at: Pos) -> (&str, Pos)
         rest = after.split_at(spaces).1;
     }
     (rest, place)
+}
+
+/// Skips any ignored text: the slow path of `skip_ignored`. The call is apart, because a function clears the memory for
+/// the results of its calls when it begins.
+#[inline(always)]
+fn skip_rare(text: &str, at: Pos) -> (&str, Pos)
+    requires { HasRoom text.now at }
+    ensures skips { SkipsTo text.now at result.0.now result.1 }
+    ensures first { IsItem (front result.0.now) }
+{
+    skip_elements(text, at)
 }
 
 /// The first byte, or 0 for empty input.

@@ -219,6 +219,18 @@ fn is_quoted(kind: Kind) -> bool
     matches!(kind, Kind::StringValue | Kind::BlockString)
 }
 
+/// The token at the start of `bytes`, of any kind: the slow path of `token_bytes`. This code is apart, because a
+/// function clears the memory for the results of its calls when it begins.
+#[inline(always)]
+fn slow_token_bytes(bytes: &[u8]) -> Option<(Taken, bool)>
+    requires { length bytes.now < 2 ^ 62 }
+    ensures is { without_flat result ≡ taken (spec.front bytes.now) }
+    ensures flat { IfSome result (λ t. t.1 ≡ true → list_all spec.is_flat (take t.0.len bytes.now) ≡ true) }
+{
+    let taken = other_token_bytes(bytes)?;
+    Some((taken, !is_quoted(taken.kind)))
+}
+
 /// The token at the start of `bytes`. The flag is true only if the token is ASCII without a line feed.
 #[inline(always)]
 fn token_bytes(bytes: &[u8]) -> Option<(Taken, bool)>
@@ -226,11 +238,10 @@ fn token_bytes(bytes: &[u8]) -> Option<(Taken, bool)>
     ensures is { without_flat result ≡ taken (spec.front bytes.now) }
     ensures flat { IfSome result (λ t. t.1 ≡ true → list_all spec.is_flat (take t.0.len bytes.now) ≡ true) }
 {
-    if let Some(taken) = fast_token_bytes(bytes) {
-        return Some((taken, true));
+    match fast_token_bytes(bytes) {
+        Some(taken) => Some((taken, true)),
+        None => slow_token_bytes(bytes),
     }
-    let taken = other_token_bytes(bytes)?;
-    Some((taken, !is_quoted(taken.kind)))
 }
 
 /// The token at the start of the input, if the fast path recognizes it.

@@ -1,7 +1,7 @@
 use Rattle.std.proofs.Common.{◌≡◌, ◌+◌, ◌-◌, length, sym, ◌∙◌, arith, rules}
 use Rattle.graphql_core.specs.{front}
 use Rattle.graphql_core.proofs.{further_skip, further_spaces, skips_first}
-use Rattle.graphql_core.proofs.tokenizer.ignored.skip_rare.Goals as goal
+use Rattle.graphql_core.proofs.tokenizer.ignored.skip_elements.Goals as goal
 
 pub skips-preserved : goal.skips-preserved
 skips-preserved c = record {

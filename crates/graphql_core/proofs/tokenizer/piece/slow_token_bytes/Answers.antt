@@ -1,7 +1,7 @@
 use Rattle.std.proofs.Common.{sym}
 use Rattle.graphql_core.specs.{front}
 use Rattle.graphql_core.proofs.{other_flat, taken_front}
-use Rattle.graphql_core.proofs.tokenizer.piece.token_bytes.Goals as goal
+use Rattle.graphql_core.proofs.tokenizer.piece.slow_token_bytes.Goals as goal
 
 pub returns-clause-flat : goal.returns-clause-flat
 returns-clause-flat c =

@@ -2,7 +2,7 @@ use denote.Text.{Utf8}
 use denote.Shadow.{shadow}
 use Rattle.std.proofs.Common.{length}
 use Rattle.graphql_core.specs.{SkipsTo}
-use Rattle.graphql_core.proofs.tokenizer.ignored.skip_rare.Given as goal
+use Rattle.graphql_core.proofs.tokenizer.ignored.skip_elements.Given as goal
 
 abbrev pub invariant-skips : goal.invariant-skips
 invariant-skips l = record {
