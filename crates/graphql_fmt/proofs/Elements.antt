@@ -1,9 +1,9 @@
 -- The lexical elements of an input, and the tokens and comments among them.
 use Rattle.std.specs.List.{list_all}
 use Rattle.std.specs.Char.{is_ascii_whitespace}
-use Rattle.std.proofs.Common.{◌≡◌, ℕ, Bool, true, false, cond, ◌&&◌, ◌==◌, List, [], ◌∷◌, ◌++◌, map, length, drop, refl, sym, ap, ◌∙◌, subst}
+use Rattle.std.proofs.Common.{◌≡◌, ℕ, Bool, true, false, cond, ◌==◌, List, [], ◌∷◌, ◌++◌, map, length, drop, refl, sym, ap, ◌∙◌, subst}
 use Rattle.std.proofs.Common.{append_assoc, arith}
-use Rattle.std.proofs.lemmas.Bool.{and_parts}
+use Rattle.std.proofs.lemmas.Bool.{and_parts, and_from}
 use Rattle.std.proofs.lemmas.Bool.Decides.{nat_tests}
 use Rattle.std.proofs.lemmas.List.{append-nil, drop_at}
 use Rattle.graphql_core.specs.declared.tokenizer.piece.Move.{Move}
@@ -31,12 +31,9 @@ alone_in_line : (t : Bool) (b : ℕ) → is_in_line b ≡ true → list_all is_i
 alone_in_line true b h = refl
 alone_in_line false b h = rw h refl
 
-both : (s t : Bool) → s ≡ true → t ≡ true → (s && t) ≡ true
-both s t h k = rw (h, k) refl
-
 trimmed_in_line_after : (b : ℕ) (r : List ℕ) → is_in_line b ≡ true → list_all is_in_line r ≡ true → list_all is_in_line (trimmed_after b r) ≡ true
 trimmed_in_line_after b [] h all = alone_in_line (is_ascii_whitespace b) b h
-trimmed_in_line_after b (c ∷ cs) h all = both (is_in_line b) _ h all
+trimmed_in_line_after b (c ∷ cs) h all = and_from (is_in_line b) _ h all
 
 trimmed_in_line : (line : List ℕ) → list_all is_in_line line ≡ true → list_all is_in_line (trimmed line) ≡ true
 trimmed_in_line [] all = refl

@@ -7,15 +7,13 @@ use Rattle.std.proofs.lemmas.Bool.Decides.{nat_tests}
 use Rattle.std.proofs.lemmas.List.{drop_more}
 use Rattle.graphql_core.specs.declared.tokenizer.piece.Move.TheVariants.{Over, Down}
 use Rattle.graphql_core.specs.declared.tokenizer.piece.Nesting.TheVariants.{Unchanged}
-use Rattle.graphql_core.specs.steps.Front.{AtEnd}
 use Rattle.graphql_core.specs.declared.tokenizer.token.Kind.{Kind}
-use Rattle.graphql_core.specs.declared.tokenizer.token.Kind.TheVariants.{Punctuator, Name, IntValue, FloatValue, StringValue, BlockString}
-use Rattle.graphql_core.specs.{front, Meaning, Ignored, TokenOf, Stands, BeginsNone, block_string_of, in_block_form, has_block_lines, nowhere, MayFollow}
+use Rattle.graphql_core.specs.declared.tokenizer.token.Kind.TheVariants.{BlockString}
+use Rattle.graphql_core.specs.{Meaning, Ignored, TokenOf, Stands, block_string_of, in_block_form, has_block_lines, nowhere, MayFollow}
 use Rattle.graphql_core.specs.lexical.Elements.{element_kind}
 use Rattle.graphql_core.specs.sources.Minified.{space_if}
 use Rattle.graphql_core.specs.lexical.Lexical.{ignored_line_feed, ignored_space, ignored_comma, comment_feed}
-use Rattle.graphql_core.proofs.{stands_front, stands_before, token_follows, block_word, block_lines_mean}
-use Rattle.graphql_core.proofs.lexical.FrontIsPiece.{ahead_of}
+use Rattle.graphql_core.proofs.{stands_before, token_follows, block_word, block_lines_mean}
 use Rattle.graphql_fmt.specs.Keeping.{Kept, KeptBlock, KeptComment, trimmed, kept_token, kept_element, HasKept}
 use Rattle.graphql_fmt.specs.declared.pieces.piece.PieceKind.{PieceKind}
 use Rattle.graphql_fmt.specs.declared.pieces.piece.PieceKind.TheVariants as piece
@@ -25,13 +23,10 @@ use Rattle.graphql_fmt.specs.declared.pieces.gap.Gap.TheVariants.{Nothing, Space
 use Rattle.graphql_fmt.specs.steps.Pieces.{kept_by, kept_piece, IsSpelling, IsPiece, ArePieces}
 use Rattle.graphql_fmt.specs.steps.Joining.{gap_bytes, IsApartToken, IsApart, Follows, KeepsApart, HasSameBlock, IsWrittenFor}
 use Rattle.graphql_fmt.proofs.Trimmed.{trimmed_white}
+use Rattle.graphql_core.proofs.lexical.FrontIsPiece.{begins_none_at_end}
+use Rattle.graphql_core.proofs.sources.Minifying.{delimiter_follows}
 
 -- ---- one more element in front
-
-begins_none_at_end : BeginsNone []
-unfolding front
-begins_none_at_end bytes (Ignored m) rest st e = let h : AtEnd ≡ ahead_of (Ignored m) (length bytes) = ap front e ∙ stands_front st in absurd cc
-begins_none_at_end bytes (TokenOf k t) rest st e = let h : AtEnd ≡ ahead_of (TokenOf k t) (length bytes) = ap front e ∙ stands_front st in absurd cc
 
 has_none : HasKept [] []
 has_none = ([], (refl, begins_none_at_end), refl)
@@ -83,25 +78,12 @@ spelling_kept piece.Comment s rest ks is (more, e, has) =
 -- ---- what keeps pieces apart
 
 white_follows : (k : Kind) (b : ℕ) (more : List ℕ) → is_white b ≡ true → MayFollow k (b ∷ more)
-white_follows Punctuator b more h = tt
-white_follows Name b more h = grind (arith, nat_tests)
-white_follows IntValue b more h = grind (arith, nat_tests)
-white_follows FloatValue b more h = grind (arith, nat_tests)
-white_follows StringValue b more h = λ e. grind (arith, nat_tests)
-white_follows BlockString b more h = tt
-
-comment_follows : (k : Kind) (more : List ℕ) → MayFollow k (35 ∷ more)
-comment_follows Punctuator more = tt
-comment_follows Name more = refl
-comment_follows IntValue more = refl
-comment_follows FloatValue more = refl
-comment_follows StringValue more = λ e. omega arith
-comment_follows BlockString more = tt
+white_follows k b more h = delimiter_follows k b more (grind (arith, nat_tests))
 
 apart_follows : (k : Kind) (gap : List ℕ) (kind : PieceKind) (s more : List ℕ) → list_all is_white gap ≡ true → IsSpelling kind s
     → IsApartToken k gap kind s → MayFollow k (gap ++ (s ++ more))
 apart_follows k (b ∷ gap) kind s more white is h = white_follows k b _ (and_parts (is_white b) (list_all is_white gap) white).0
-apart_follows k [] piece.Comment s more white (line, e, all, same) h = rw e (comment_follows k _)
+apart_follows k [] piece.Comment s more white (line, e, all, same) h = rw e (delimiter_follows k 35 _ refl)
 apart_follows k [] (piece.Token j) s more white (n, rest, st) h =
     subst (λ (b : Bool). MayFollow k (space_if b ++ (s ++ more))) h (token_follows k st nowhere more)
 

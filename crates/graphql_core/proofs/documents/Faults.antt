@@ -19,6 +19,7 @@ use Rattle.graphql_core.proofs.documents.Readable.{whole_texts, least, whole_rea
 use Rattle.graphql_core.specs.grammar.Texts as texts
 use Rattle.graphql_core.specs.theory.WholeTexts as results
 use Rattle.graphql_core.specs.lexical.Items as items_of
+use Rattle.graphql_core.proofs.grammar.OneClass.{head_is}
 
 pub ends : (l : Last) → IsEnd l → ending_of l ≡ texts.InputEnds
 ends (LastIsEnd p) h = refl
@@ -68,9 +69,6 @@ valueless_not t k (out_of_range e r) = refl
 valueless_not t k (malformed e r) = refl
 valueless_not t k (escaped_badly e r) = refl
 
-head_is : (t u : Token) (ts us : List Token) → t ∷ ts ≡ u ∷ us → u ≡ t
-head_is t u ts us h = cc
-
 module _ {D : Type 0} (l : Language D) (r : IsReadable l) where
   -- ---- the error where a reader stops
 
@@ -106,7 +104,7 @@ module _ {D : Type 0} (l : Language D) (r : IsReadable l) where
       → Says l why i n f → Says l why i n g → f ≡ g
   one_said Unexpected i n f g x h k = h ∙ sym k
   one_said (Improper c) i n f g x (t, ts, p, lacks, at) (u, us, q, lacks', at') =
-      let same : u ≡ t = head_is t u ts us (sym p ∙ q) in
+      let same : u ≡ t = sym (head_is t u ts us (sym p ∙ q)) in
       let cause_is = r.one_cause c t f.cause g.cause lacks (subst (λ (v : Token). l.lacks c v g.cause) same lacks') in
       let place_is = at ∙ ap (λ (v : Token). v.place) (sym same) ∙ sym at' in
       λ k. record { cause = cause_is k; place = place_is k }
@@ -185,7 +183,7 @@ module _ {D : Type 0} (l : Language D) (r : IsReadable l) where
           subst (IsFaultAfter l (take place i.tokens) (drop place i.tokens) i.last) (sym said) (unexpected (w.unexpected refl))
       after_first (Improper c) w x (t, ts, is, lacks, at) =
           let v = w.value c refl in
-          let same : v.token ≡ t = head_is t v.token ts v.rest (sym is ∙ v.is) in
+          let same : v.token ≡ t = sym (head_is t v.token ts v.rest (sym is ∙ v.is)) in
           let begins = subst (λ (u : Token). Begins (lax l.grammar) (Sym l.document) (take place i.tokens ++ u ∷ [])) same v.begins in
           let found : IsFaultAfter l (take place i.tokens) (t ∷ ts) i.last (record { cause = f.cause; place = t.place }) = no_value lacks begins in
           let here = subst (λ (us : List Token). IsFaultAfter l (take place i.tokens) us i.last (record { cause = f.cause; place = t.place }))

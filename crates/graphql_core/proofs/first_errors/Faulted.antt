@@ -1,5 +1,5 @@
 -- The reader returns the first error.
-use Rattle.std.proofs.Common.{◌≡◌, ℕ, suc, ◌+◌, ◌-◌, ◌<◌, ◌≤◌, true, false, List, [], ◌∷◌, ◌++◌, length, Some, refl, sym, ap, subst, ◌∙◌, append_assoc}
+use Rattle.std.proofs.Common.{◌≡◌, ℕ, suc, ◌+◌, ◌-◌, ◌<◌, ◌≤◌, true, false, List, [], ◌∷◌, ◌++◌, length, refl, sym, ap, subst, ◌∙◌, append_assoc}
 use Rattle.std.proofs.Common.{append-nil, length-append, arith, inl, inr, ◌⊎◌}
 use Rattle.std.proofs.lemmas.Bool.{and_parts, or_left}
 use Rattle.graphql_core.specs.{Token, Class, matches, Expr, One, Then, Either, Many, Sym, ParseTree, Node, Grammar, row, leaves, peek, Fits, fits_node, Begins}
@@ -11,6 +11,10 @@ use Rattle.graphql_core.specs.{answer_of, StopsBefore, IsFault, bad_place, unexp
 use Rattle.graphql_core.specs.{IsRefused, RefusesTokens}
 use Rattle.graphql_core.proofs.grammar.{Fronts, fronts, cancel, takes-fits, takes-leaves, IsRow-each, fits-first, take-or_fail, same-fail, answer, samples-at}
 use Rattle.graphql_core.proofs.grammar.{tree-of, begins-around, fits-lax, takes-lax, taken-ends, first_fault, step, run-takes, run-fails, stops}
+use Rattle.graphql_core.proofs.grammar.WholeTexts.{some_peeked, rejected_is}
+
+ends_once : InputEnds ≡ InvalidToken → ⊥
+ends_once i = cc
 
 -- ---- where an error is
 
@@ -233,9 +237,6 @@ module _ (g : Grammar) (ok : is_ll1 g.rows ≡ true) (full : is_productive g ≡
 
   no_error : (t : Text) (z : ParseTree) → Takes g e t.tokens z [] → t.ending ≡ InputEnds → (other : Reason) (m : ℕ) → IsFault g e t other m → ⊥
   no_error t z h k _ _ (bad_place b) = ends_once (sym k ∙ b)
-    where
-      ends_once : InputEnds ≡ InvalidToken → ⊥
-      ends_once i = cc
   no_error t z h k _ _ (unexpected_item front vs p i b n) =
       elim (no_earlier t.tokens [] front vs (leaves z) (takes-leaves g h) p (z, [], (fits-lax g (takes-fits g h), append-nil (leaves z))) n) [
         | inl l ↦ omega (arith, l, ap length p, length-append front vs)
@@ -311,9 +312,6 @@ module _ (g : Grammar) (ok : is_ll1 g.rows ≡ true) (full : is_productive g ≡
       (node_refused s.front us k x
       (p, (λ i. tokens k x fits v.3 i), subst (λ (a : Expr). Leads (lax g) e s.front a) v.1 s.leads, fits, v.3, stopped g ok k x s.rest us v.2))
 
-  wrong_is : (a b : Reason) (m n : ℕ) → Rejected a m ≡ Rejected b n → (a ≡ b) × (m ≡ n)
-  wrong_is a b m n h = (cc, cc)
-
   -- the same for the place that the reader returns
   before-index : (why : Reason) (ts us front : List Token) → ts ≡ front ++ us → (other : Reason) (m : ℕ) → Before ts why us other m
       → (index_of why (length ts - length us) < m) ⊎ ((index_of why (length ts - length us) ≡ m) × (why ≡ other))
@@ -339,31 +337,24 @@ module _ (g : Grammar) (ok : is_ll1 g.rows ≡ true) (full : is_productive g ≡
       ends : (vs : List Token) → Takes g e t.tokens z vs → (vs ≡ [] → t.ending ≡ InvalidToken) → (vs ≡ [] → t.ending ≡ InputEnds)
           → Ends (lax g) e (leaves z) (peek vs)
       ends [] w i j y more b q = absurd (ends_once (sym (j refl) ∙ i refl))
-        where
-          ends_once : InputEnds ≡ InvalidToken → ⊥
-          ends_once i = cc
-      ends (u ∷ vs) w i j y more b q = absurd (not_empty more q (taken-ends (lax g) ok e d t.tokens (u ∷ vs) z (takes-lax g w) y more b q).1)
-        where
-          not_empty : (l : List Token) → peek l ≡ Some u → l ≡ [] → ⊥
-          not_empty [] h i = cc
-          not_empty (v ∷ l) h i = cc
+      ends (u ∷ vs) w i j y more b q = absurd (some_peeked more q (taken-ends (lax g) ok e d t.tokens (u ∷ vs) z (takes-lax g w) y more b q).1)
 
   decided : RefusesTokens g → (ts : List Token) (ending : Ending) (why : Reason) (place : ℕ) (o : Outcome) → ReadsTo g e ts o
       → Rejected why place ≡ answer_of (record { tokens = ts; ending = ending }) o
       → Decided (record { tokens = ts; ending = ending }) why (index_of why place)
   decided tokens ts ending why place (Fault other us) r h =
-      let w = wrong_is why other place (length ts - length us) h in
+      let w = rejected_is why other place (length ts - length us) h in
       let t : Text = record { tokens = ts; ending = ending } in
       subst (λ (a : Reason). Decided t a (index_of a place)) (sym w.0)
       (subst (λ (i : ℕ). Decided t other (index_of other i)) (sym w.1) (decided-fails tokens t other us r))
   decided tokens ts ending why place (Done z (u ∷ us)) r h =
-      let w = wrong_is why Unexpected place (length ts - length (u ∷ us)) h in
+      let w = rejected_is why Unexpected place (length ts - length (u ∷ us)) h in
       let t : Text = record { tokens = ts; ending = ending } in
       subst (λ (a : Reason). Decided t a (index_of a place)) (sym w.0)
       (subst (λ (i : ℕ). Decided t Unexpected (suc i)) (sym w.1) (decided-taken t (u ∷ us) z r (λ i. absurd cc)))
   decided tokens ts InputEnds why place (Done z []) r h = absurd cc
   decided tokens ts InvalidToken why place (Done z []) r h =
-      let w = wrong_is why Unexpected place (length ts) h in
+      let w = rejected_is why Unexpected place (length ts) h in
       let t : Text = record { tokens = ts; ending = InvalidToken } in
       let n : suc place ≡ suc (length ts - length {A = Token} []) = omega (arith, w.1) in
       subst (λ (a : Reason). Decided t a (index_of a place)) (sym w.0) (subst (λ (i : ℕ). Decided t Unexpected i) (sym n) (decided-taken t [] z r (λ i. refl)))

@@ -4,16 +4,14 @@ use Rattle.std.proofs.Common.{length-append, arith, inl, inr, ◌⊎◌}
 use Rattle.std.proofs.lemmas.Bool.{both_ways, and_from}
 use Rattle.graphql_core.specs.{Token, Class, matches, Expr, One, Then, Either, Many, Sym, ParseTree, Both, First, Second, Stop, More, Node, Grammar, row}
 use Rattle.graphql_core.specs.{leaves, peek, Fits, fits_leaf, fits_both, fits_first, fits_second, fits_stop, fits_more, fits_node, Begins, Ends, first, cont}
-use Rattle.graphql_core.specs.{decides, is_ll1, is_tight, has_samples, is_productive, sees, Left, Right, Takes, takes_leaf, Reason, Improper, Refused}
+use Rattle.graphql_core.specs.{decides, is_ll1, is_tight, has_samples, is_productive, sees, Takes, takes_leaf, Reason, Improper, Refused}
 use Rattle.graphql_core.specs.{fails_value, takes_both, takes_first, takes_second, takes_stop, takes_more, takes_node, lax, leads_here, leads_before}
 use Rattle.graphql_core.specs.{leads_after, leads_first, leads_second, leads_turn, leads_later, leads_node, Leads, Text, StopsBefore, IsFault, IsRefused}
 use Rattle.graphql_core.specs.{bad_place, unexpected_item, leaf_refused, node_refused, AnswersLeast, RefusesTokens}
 use Rattle.graphql_core.proofs.grammar.{begins-around, begins-after, fits-lax, takes-lax, sees-apart, takes-leaves, IsRow-each, complete, both, either, many}
 use Rattle.graphql_core.proofs.grammar.{same-take, take-or_fail, goes-left, goes-right, leads-first, same_rest, run-takes}
 use Rattle.graphql_core.proofs.first_errors.Faulted.{sees_leaf, sees_node, positive, node_takes, node_fails, no_earlier, answers_least}
-
-left_right : Left ≡ Right → ⊥
-left_right i = cc
+use Rattle.graphql_core.proofs.grammar.Deterministic.{left_right}
 
 module _ (g : Grammar) (ok : is_ll1 g.rows ≡ true) where
   no_more : {e : Expr} {ts us : List Token} {x : ParseTree} → Takes (lax g) e ts x us → length us ≤ length ts
@@ -39,9 +37,9 @@ module _ (g : Grammar) (ok : is_ll1 g.rows ≡ true) where
       visits l i.1 vs rest w s q
   visits (leads_first {a} {b} l) dc ts rest h s (takes_first c p) = visits l (either g a b dc).0 ts rest h s p
   visits (leads_first {a} {b} l) dc ts rest h s (takes_second c p) =
-      absurd (left_right (sym (goes-left g ok a b (peek ts) (ap (λ (m : List Token). sees (first g.rows a) (peek m)) h ∙ leads-first g ok l rest s)) ∙ c))
+      absurd (left_right (goes-left g ok a b (peek ts) (ap (λ (m : List Token). sees (first g.rows a) (peek m)) h ∙ leads-first g ok l rest s)) c)
   visits (leads_second {a} {b} l) dc ts rest h s (takes_first c p) =
-      absurd (left_right (sym c ∙ goes-right g ok a b (peek ts) (either g a b dc).2
+      absurd (left_right c (goes-right g ok a b (peek ts) (either g a b dc).2
       (ap (λ (m : List Token). sees (first g.rows b) (peek m)) h ∙ leads-first g ok l rest s)))
   visits (leads_second {a} {b} l) dc ts rest h s (takes_second c p) = visits l (either g a b dc).1 ts rest h s p
   visits (leads_turn {a} l) dc ts rest h s (takes_stop c) =
@@ -94,11 +92,11 @@ module _ (g : Grammar) (ok : is_ll1 g.rows ≡ true) where
       compare l m i.1 (us ++ rest) rest rest2 refl (same-take (lax g) t t2).1 s r
   compare (leads_first {a} {b} l) (leads_first m) dc ts rest rest2 h k s r = compare l m (either g a b dc).0 ts rest rest2 h k s r
   compare (leads_first {a} {b} l) (leads_second m) dc ts rest rest2 h k s r =
-      absurd (left_right (sym (goes-left g ok a b (peek ts) (ap (λ (m : List Token). sees (first g.rows a) (peek m)) h ∙ leads-first g ok l rest s))
-      ∙ goes-right g ok a b (peek ts) (either g a b dc).2 (ap (λ (m : List Token). sees (first g.rows b) (peek m)) k ∙ leads-first g ok m rest2 r)))
+      absurd (left_right (goes-left g ok a b (peek ts) (ap (λ (m : List Token). sees (first g.rows a) (peek m)) h ∙ leads-first g ok l rest s))
+      (goes-right g ok a b (peek ts) (either g a b dc).2 (ap (λ (m : List Token). sees (first g.rows b) (peek m)) k ∙ leads-first g ok m rest2 r)))
   compare (leads_second {a} {b} l) (leads_first m) dc ts rest rest2 h k s r =
-      absurd (left_right (sym (goes-left g ok a b (peek ts) (ap (λ (m : List Token). sees (first g.rows a) (peek m)) k ∙ leads-first g ok m rest2 r))
-      ∙ goes-right g ok a b (peek ts) (either g a b dc).2 (ap (λ (m : List Token). sees (first g.rows b) (peek m)) h ∙ leads-first g ok l rest s)))
+      absurd (left_right (goes-left g ok a b (peek ts) (ap (λ (m : List Token). sees (first g.rows a) (peek m)) k ∙ leads-first g ok m rest2 r))
+      (goes-right g ok a b (peek ts) (either g a b dc).2 (ap (λ (m : List Token). sees (first g.rows b) (peek m)) h ∙ leads-first g ok l rest s)))
   compare (leads_second {a} {b} l) (leads_second m) dc ts rest rest2 h k s r = compare l m (either g a b dc).1 ts rest rest2 h k s r
   compare (leads_turn {a} l) (leads_turn m) dc ts rest rest2 h k s r = compare l m (many g a dc).0 ts rest rest2 h k s r
   compare (leads_turn {a} {d} l) (leads_later {ts = us} {x = x} f2 m) dc ts rest rest2 h k s r =

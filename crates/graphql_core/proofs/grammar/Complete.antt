@@ -58,7 +58,7 @@ fits-nullable g ok fits_stop h = refl
 fits-nullable g ok (fits_more p q) h = refl
 fits-nullable g ok (fits_node {k = k} p c) h = (IsRow-each g.rows ok k).nullable (fits-nullable g ok p h)
 
-some_is : (t u : Token) → Some t ≡ Some u → t ≡ u
+pub some_is : (t u : Token) → Some t ≡ Some u → t ≡ u
 some_is t u h = cc
 
 in_only : (b : Bool) (cs : List Class) (t : Token) → b ≡ true → in_any cs t ≡ true → in_any (only_if b cs) t ≡ true

@@ -6,13 +6,13 @@ use Rattle.graphql_core.specs.{Takes, takes_nothing, takes_leaf, takes_both, tak
 use Rattle.graphql_core.specs.{fails_one, fails_value, fails_before, fails_after, fails_first, fails_second, fails_neither, fails_turn, fails_later, fails_node}
 use Rattle.graphql_core.specs.{fails_check}
 
-left_right : {c : Choice} → c ≡ Left → c ≡ Right → ⊥
+pub left_right : {c : Choice} → c ≡ Left → c ≡ Right → ⊥
 left_right h k = cc
 
-left_neither : {c : Choice} → c ≡ Left → c ≡ Neither → ⊥
+pub left_neither : {c : Choice} → c ≡ Left → c ≡ Neither → ⊥
 left_neither h k = cc
 
-right_neither : {c : Choice} → c ≡ Right → c ≡ Neither → ⊥
+pub right_neither : {c : Choice} → c ≡ Right → c ≡ Neither → ⊥
 right_neither h k = cc
 
 pub same-take : (g : Grammar) {e : Expr} {ts : List Token} {x : ParseTree} {us : List Token} {y : ParseTree} {vs : List Token} → Takes g e ts x us

@@ -10,7 +10,7 @@ use Rattle.graphql_core.specs.{takes_node, Reason, Unexpected, Improper, Refused
 use Rattle.graphql_core.specs.{fails_second, fails_neither, fails_turn, fails_later, fails_node, fails_check, with_tests, unchecked, lax, IsValue}
 use Rattle.graphql_core.specs.{IsRefusedBefore}
 use Rattle.graphql_core.proofs.grammar.Sound.{takes-fits, takes-leaves, takes-local, same_item}
-use Rattle.graphql_core.proofs.grammar.Complete.{complete}
+use Rattle.graphql_core.proofs.grammar.Complete.{complete, some_is}
 use Rattle.graphql_core.proofs.grammar.Deterministic.{same-take, take-or_fail}
 
 -- ---- each expression has a tree
@@ -132,9 +132,6 @@ begins-tree g e x = (x.0, leaves x.0, (fits-unchecked g x.1, refl))
 at-once : (g : Grammar) (e : Expr) (ts : List Token) → HasTree g e → ((vs : List Token) → peek vs ≡ peek ts → Fails g e vs Unexpected vs)
     → Stuck g e ts Unexpected ts
 at-once g e ts x again = record { front = []; parts = refl; begins = begins-tree g e x; value = λ c i. absurd cc; refused = λ k i. absurd cc; again = again }
-
-some_is : (t u : Token) → Some t ≡ Some u → t ≡ u
-some_is t u h = cc
 
 improper_is : (c d : Class) → Improper c ≡ Improper d → c ≡ d
 improper_is c d h = cc

@@ -3,7 +3,7 @@ use Rattle.std.proofs.Common.{◌≡◌, ℕ, ◌+◌, ◌≤◌, Bool, true, fa
 use Rattle.std.proofs.Common.{length-append, arith, inl, inr, ◌⊎◌}
 use Rattle.std.proofs.lemmas.Bool.{both_ways}
 use Rattle.graphql_core.specs.{Token, Class, all_apart, Expr, Then, Many, ParseTree, Grammar, row, leaves, peek, Fits, only_if, nullable, first, cont, decides}
-use Rattle.graphql_core.specs.{is_ll1, sees, choose, Left, Right, Neither, Takes, takes_nothing, takes_leaf, takes_both, takes_first, takes_second, takes_stop}
+use Rattle.graphql_core.specs.{is_ll1, sees, choose, Left, Right, Takes, takes_nothing, takes_leaf, takes_both, takes_first, takes_second, takes_stop}
 use Rattle.graphql_core.specs.{takes_more, takes_node, Reason, Refused, Fails, fails_one, fails_value, fails_before, fails_after, fails_first, fails_second}
 use Rattle.graphql_core.specs.{fails_neither, fails_turn, fails_later, fails_node, fails_check, lax, leads_here, leads_before, leads_after, leads_first}
 use Rattle.graphql_core.specs.{leads_second, leads_turn, leads_later, leads_node, Leads}
@@ -11,7 +11,7 @@ use Rattle.graphql_core.proofs.grammar.Classes.{all_within-sound, in_any-left, i
 use Rattle.graphql_core.proofs.grammar.Items.{sees-apart}
 use Rattle.graphql_core.proofs.grammar.Sound.{takes-leaves}
 use Rattle.graphql_core.proofs.grammar.Complete.{IsRow-each, fits-nullable, fits-first, both, either, many, complete}
-use Rattle.graphql_core.proofs.grammar.Deterministic.{same-take, take-or_fail}
+use Rattle.graphql_core.proofs.grammar.Deterministic.{same-take, take-or_fail, left_right, left_neither, right_neither}
 use Rattle.graphql_core.proofs.grammar.FirstFault.{takes-lax}
 
 sees-left : (cs ds : List Class) (item : Option Token) → sees cs item ≡ true → sees (cs ++ ds) item ≡ true
@@ -25,18 +25,6 @@ sees-right cs ds (Some t) h = in_any-right cs ds t h
 sees-if : (b : Bool) (cs : List Class) (item : Option Token) → b ≡ true → sees cs item ≡ true → sees (only_if b cs) item ≡ true
 sees-if true cs item k h = h
 sees-if false cs item k h = absurd cc
-
-left_right : (g : Grammar) (a b : Expr) (item : Option Token) → choose g.rows a b item ≡ Left → choose g.rows a b item ≡ Right → ⊥
-left_right g a b item h k = no (sym h ∙ k)
-  where
-    no : Left ≡ Right → ⊥
-    no i = cc
-
-left_neither : Left ≡ Neither → ⊥
-left_neither i = cc
-
-right_neither : Right ≡ Neither → ⊥
-right_neither i = cc
 
 -- errors for this reason are counted at the last token before, the others at the next item
 abbrev pub step : Reason → ℕ
@@ -96,9 +84,9 @@ module _ (g : Grammar) (ok : is_ll1 g.rows ≡ true) where
       run-takes l i.1 vs rest w s q
   run-takes (leads_first {a} {b} l) dc ts rest h s (takes_first c p) = run-takes l (either g a b dc).0 ts rest h s p
   run-takes (leads_first {a} {b} l) dc ts rest h s (takes_second c p) =
-      absurd (left_right g a b (peek ts) (goes-left a b (peek ts) (ap (λ (m : List Token). sees (first g.rows a) (peek m)) h ∙ leads-first l rest s)) c)
+      absurd (left_right (goes-left a b (peek ts) (ap (λ (m : List Token). sees (first g.rows a) (peek m)) h ∙ leads-first l rest s)) c)
   run-takes (leads_second {a} {b} l) dc ts rest h s (takes_first c p) =
-      absurd (left_right g a b (peek ts) c (goes-right a b (peek ts) (either g a b dc).2 (ap (λ (m : List Token). sees (first g.rows b) (peek m)) h
+      absurd (left_right c (goes-right a b (peek ts) (either g a b dc).2 (ap (λ (m : List Token). sees (first g.rows b) (peek m)) h
       ∙ leads-first l rest s)))
   run-takes (leads_second {a} {b} l) dc ts rest h s (takes_second c p) = run-takes l (either g a b dc).1 ts rest h s p
   run-takes (leads_turn {a} l) dc ts rest h s (takes_stop c) =
@@ -125,10 +113,10 @@ fails-within g (takes_both {us = us} {vs = vs} {y = y} p q) (fails_before r) =
 fails-within g (takes_both {b = b} {vs = ws} {y = y} p q) (fails_after {vs = vs} {why = why} r s) =
     fails-within g q (subst (λ (l : List Token). Fails g b l why vs) (same-take (lax g) (takes-lax g r) p).1 s)
 fails-within g (takes_first h p) (fails_first k q) = fails-within g p q
-fails-within g (takes_first {a = a} {b = b} {ts = ts} h p) (fails_second k q) = absurd (left_right g a b (peek ts) h k)
+fails-within g (takes_first {a = a} {b = b} {ts = ts} h p) (fails_second k q) = absurd (left_right h k)
 fails-within g (takes_first {a = a} {b = b} {ts = ts} h p) (fails_neither k) =
     absurd (take-or_fail (lax g) (takes_first {a = a} {b = b} h p) (fails_neither {a = a} {b = b} {ts = ts} k))
-fails-within g (takes_second {a = a} {b = b} {ts = ts} h p) (fails_first k q) = absurd (left_right g a b (peek ts) k h)
+fails-within g (takes_second {a = a} {b = b} {ts = ts} h p) (fails_first k q) = absurd (left_right k h)
 fails-within g (takes_second h p) (fails_second k q) = fails-within g p q
 fails-within g (takes_second {a = a} {b = b} {ts = ts} h p) (fails_neither k) =
     absurd (take-or_fail (lax g) (takes_second {a = a} {b = b} h p) (fails_neither {a = a} {b = b} {ts = ts} k))
@@ -165,17 +153,17 @@ module _ (g : Grammar) (ok : is_ll1 g.rows ≡ true) where
       run-fails l i.1 vs rest w s q
   run-fails (leads_first {a} {b} l) dc ts rest h s (fails_first c p) = run-fails l (either g a b dc).0 ts rest h s p
   run-fails (leads_first {a} {b} l) dc ts rest h s (fails_second c p) =
-      absurd (left_right g a b (peek ts) (goes-left g ok a b (peek ts) (ap (λ (m : List Token). sees (first g.rows a) (peek m)) h ∙ leads-first g ok l rest s))
+      absurd (left_right (goes-left g ok a b (peek ts) (ap (λ (m : List Token). sees (first g.rows a) (peek m)) h ∙ leads-first g ok l rest s))
       c)
   run-fails (leads_first {a} {b} l) dc ts rest h s (fails_neither c) =
-      absurd (left_neither (sym (goes-left g ok a b (peek ts) (ap (λ (m : List Token). sees (first g.rows a) (peek m)) h ∙ leads-first g ok l rest s)) ∙ c))
+      absurd (left_neither (goes-left g ok a b (peek ts) (ap (λ (m : List Token). sees (first g.rows a) (peek m)) h ∙ leads-first g ok l rest s)) c)
   run-fails (leads_second {a} {b} l) dc ts rest h s (fails_first c p) =
-      absurd (left_right g a b (peek ts) c (goes-right g ok a b (peek ts) (either g a b dc).2
+      absurd (left_right c (goes-right g ok a b (peek ts) (either g a b dc).2
       (ap (λ (m : List Token). sees (first g.rows b) (peek m)) h ∙ leads-first g ok l rest s)))
   run-fails (leads_second {a} {b} l) dc ts rest h s (fails_second c p) = run-fails l (either g a b dc).1 ts rest h s p
   run-fails (leads_second {a} {b} l) dc ts rest h s (fails_neither c) =
-      absurd (right_neither (sym (goes-right g ok a b (peek ts) (either g a b dc).2
-      (ap (λ (m : List Token). sees (first g.rows b) (peek m)) h ∙ leads-first g ok l rest s)) ∙ c))
+      absurd (right_neither (goes-right g ok a b (peek ts) (either g a b dc).2
+      (ap (λ (m : List Token). sees (first g.rows b) (peek m)) h ∙ leads-first g ok l rest s)) c)
   run-fails (leads_turn {a} l) dc ts rest h s (fails_turn c p) = run-fails l (many g a dc).0 ts rest h s p
   run-fails (leads_turn {a} l) dc ts rest h s (fails_later c p q) = inr (inr (run-takes g ok l (many g a dc).0 ts rest h s p))
   run-fails (leads_later {a} {ts = fr} {x = x} f l) dc ts rest h s {why} {us} (fails_turn c p) =

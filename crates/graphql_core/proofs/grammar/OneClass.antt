@@ -2,10 +2,10 @@
 use Rattle.std.proofs.Common.{◌≡◌, suc, true, List, [], ◌∷◌, ◌++◌, length, Some, refl, sym, ap, ap₂, subst, ◌∙◌, append_assoc, length-append, inl, inr, ◌⊎◌}
 use Rattle.std.proofs.Common.{arith}
 use Rattle.graphql_core.specs.{Token, Class, Expr, Many, ParseTree, Grammar, leaves, peek, Fits, fits_nothing, fits_leaf, fits_both, fits_first, fits_second}
-use Rattle.graphql_core.specs.{fits_stop, fits_more, fits_node, decides, is_ll1, choose, Choice, Left, Right, Takes, takes_nothing, takes_leaf, takes_both}
+use Rattle.graphql_core.specs.{fits_stop, fits_more, fits_node, decides, is_ll1, choose, Takes, takes_nothing, takes_leaf, takes_both}
 use Rattle.graphql_core.specs.{takes_first, takes_second, takes_stop, takes_more, takes_node, classes, ReadsAlike}
 use Rattle.graphql_core.proofs.grammar.Sound.{takes-fits, takes-leaves, takes-local}
-use Rattle.graphql_core.proofs.grammar.Deterministic.{same-take}
+use Rattle.graphql_core.proofs.grammar.Deterministic.{same-take, left_right}
 use Rattle.graphql_core.proofs.grammar.FirstFault.{reads_all}
 
 -- ---- lists
@@ -18,23 +18,21 @@ fronts-more : (x k : Token) (xs ys ks r : List Token) → x ≡ k → Fronts xs 
 fronts-more x k xs ys ks r e (inl p) = inl (p.0, ap₂ (λ (a : Token) (l : List Token). a ∷ l) e p.1)
 fronts-more x k xs ys ks r e (inr p) = inr (p.0, p.1, ap₂ (λ (a : Token) (l : List Token). a ∷ l) (sym e) p.2, p.3)
 
+-- equal lists have equal first elements and equal rests
+pub head_is : (a b : Token) (l m : List Token) → ◌≡◌ {A = List Token} (a ∷ l) (b ∷ m) → a ≡ b
+head_is a b l m e = cc
+
+pub tail_is : (a b : Token) (l m : List Token) → ◌≡◌ {A = List Token} (a ∷ l) (b ∷ m) → l ≡ m
+tail_is a b l m e = cc
+
 pub fronts : (xs ys ks r : List Token) → xs ++ ys ≡ ks ++ r → Fronts xs ys ks r
 fronts xs ys [] r h = inl (xs, refl)
 fronts [] ys (k ∷ ks) r h = inr (k, ks, refl, h)
 fronts (x ∷ xs) ys (k ∷ ks) r h = fronts-more x k xs ys ks r (head_is x k (xs ++ ys) (ks ++ r) h) (fronts xs ys ks r (tail_is x k (xs ++ ys) (ks ++ r) h))
-  where
-    head_is : (a b : Token) (l m : List Token) → ◌≡◌ {A = List Token} (a ∷ l) (b ∷ m) → a ≡ b
-    head_is a b l m e = cc
-
-    tail_is : (a b : Token) (l m : List Token) → ◌≡◌ {A = List Token} (a ∷ l) (b ∷ m) → l ≡ m
-    tail_is a b l m e = cc
 
 pub cancel : (xs ys zs : List Token) → xs ++ ys ≡ xs ++ zs → ys ≡ zs
 cancel [] ys zs h = h
-cancel (x ∷ xs) ys zs h = cancel xs ys zs (tail_is x (xs ++ ys) (xs ++ zs) h)
-  where
-    tail_is : (a : Token) (l m : List Token) → ◌≡◌ {A = List Token} (a ∷ l) (a ∷ m) → l ≡ m
-    tail_is a l m e = cc
+cancel (x ∷ xs) ys zs h = cancel xs ys zs (tail_is x x (xs ++ ys) (xs ++ zs) h)
 
 classes-length : (g : Grammar) {e : Expr} {x : ParseTree} → Fits g e x → length (classes g e x) ≡ length (leaves x)
 classes-length g fits_nothing = refl
@@ -123,9 +121,6 @@ alike-after cx dx dy ls ks all n e a = (
 
 none_alike : (cx cy : List Class) → Alike cx cy []
 none_alike cx cy = ([], cx, cy, refl, refl, refl)
-
-left_right : {c : Choice} → c ≡ Left → c ≡ Right → ⊥
-left_right h k = cc
 
 -- the next item, if something was taken
 next-of : (g : Grammar) {e : Expr} {ts us : List Token} {x : ParseTree} → Takes g e ts x us → (t : Token) (ks r : List Token) → leaves x ≡ (t ∷ ks) ++ r

@@ -7,6 +7,13 @@ use Rattle.graphql_core.specs.{Fault, ReadsTo, unchecked, lax, IsExact, IsValue,
 use Rattle.graphql_core.specs.{EndsAt, IsGrammarFaultAt, IsWhole}
 use Rattle.graphql_core.proofs.grammar.FirstFault.{fits-unchecked, fits-lax}
 
+pub some_peeked : {t : Token} (l : List Token) → peek l ≡ Some t → l ≡ [] → ⊥
+some_peeked [] h i = cc
+some_peeked (v ∷ l) h i = cc
+
+pub rejected_is : (a b : Reason) (m n : ℕ) → Rejected a m ≡ Rejected b n → (a ≡ b) × (m ≡ n)
+rejected_is a b m n h = (cc, cc)
+
 module _ (g : Grammar) (e : Expr) (x : IsExact g e) where
   gives-tree : (ts : List Token) (ending : Ending) (y : ParseTree) (o : Outcome) → ReadsTo g e ts o
       → Tree y ≡ answer_of (record { tokens = ts; ending = ending }) o → Derives g e ts y × (ending ≡ InputEnds)
@@ -45,17 +52,10 @@ module _ (g : Grammar) (e : Expr) (x : IsExact g e) where
   begun ts us z r = (z, [], (fits-unchecked g (x.sound ts us z r).0.0, append-nil (leaves z)))
 
   too-long : (ts us : List Token) (u : Token) (z : ParseTree) → Takes g e ts z (u ∷ us) → Ends (lax g) e (leaves z) (Some u)
-  too-long ts us u z r y more d k = not_empty more k (x.longest ts (u ∷ us) z r y more d k).1
-    where
-      not_empty : (l : List Token) → peek l ≡ Some u → l ≡ [] → ⊥
-      not_empty [] h i = cc
-      not_empty (v ∷ l) h i = cc
+  too-long ts us u z r y more d k = some_peeked more k (x.longest ts (u ∷ us) z r y more d k).1
 
   ends-strict : (front : List Token) (item : Option Token) → Ends (lax g) e front item → Ends g e front item
   ends-strict front item h y more d k = h y more (fits-lax g d.0, d.1) k
-
-  wrong_is : (a b : Reason) (m n : ℕ) → Rejected a m ≡ Rejected b n → (a ≡ b) × (m ≡ n)
-  wrong_is a b m n h = (cc, cc)
 
   unexpected-value : (front us : List Token) (why : Reason) → why ≡ Unexpected → (c : Class) → why ≡ Improper c → IsValue g e front c us
   unexpected-value front us why h c k = absurd (other (sym h ∙ k))
@@ -67,7 +67,7 @@ module _ (g : Grammar) (e : Expr) (x : IsExact g e) where
       → Rejected why place ≡ answer_of (record { tokens = ts; ending = ending }) o → IsPlace ts ending why place
   gives-place ts ending why place (Fault other us) r h =
       let f = (x.earliest ts us other r).fault in
-      let w = wrong_is why other place (length ts - length us) h in
+      let w = rejected_is why other place (length ts - length us) h in
       record {
         front = f.front;
         us = us;
@@ -80,7 +80,7 @@ module _ (g : Grammar) (e : Expr) (x : IsExact g e) where
       }
   gives-place ts ending why place (Done z (u ∷ us)) r h =
       let s = x.sound ts (u ∷ us) z r in
-      let w = wrong_is why Unexpected place (length ts - length (u ∷ us)) h in
+      let w = rejected_is why Unexpected place (length ts - length (u ∷ us)) h in
       let n = too-long ts us u z r in
       record {
         front = leaves z;
@@ -95,7 +95,7 @@ module _ (g : Grammar) (e : Expr) (x : IsExact g e) where
   gives-place ts InputEnds why place (Done z []) r h = absurd cc
   gives-place ts InvalidToken why place (Done z []) r h =
       let s = x.sound ts [] z r in
-      let w = wrong_is why Unexpected place (length ts) h in
+      let w = rejected_is why Unexpected place (length ts) h in
       record {
         front = leaves z;
         us = [];

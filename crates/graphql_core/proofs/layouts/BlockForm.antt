@@ -7,6 +7,7 @@ use Rattle.std.proofs.lemmas.Bool.Decides.{nat_tests}
 use Rattle.graphql_core.proofs.layouts.Joining.{IsWord}
 use Rattle.std.specs.List.{flat_map}
 use Rattle.graphql_core.specs.declared.tokenizer.token.Kind.TheVariants.{BlockString}
+use Rattle.graphql_core.proofs.lexical.Strings.{no_second_quote}
 
 -- ---- quotes and escapes
 
@@ -14,10 +15,6 @@ no_quotes_1 : (a : ℕ) (xs : List ℕ) → a ≢ 34 → begins_quotes (a ∷ xs
 no_quotes_1 a [] h = refl
 no_quotes_1 a (b ∷ []) h = refl
 no_quotes_1 a (b ∷ c ∷ xs) h = grind (arith, nat_tests)
-
-no_quotes_2 : (a b : ℕ) (xs : List ℕ) → b ≢ 34 → begins_quotes (a ∷ b ∷ xs) ≡ false
-no_quotes_2 a b [] h = refl
-no_quotes_2 a b (c ∷ xs) h = grind (arith, nat_tests)
 
 no_quotes_3 : (a b c : ℕ) (xs : List ℕ) → c ≢ 34 → begins_quotes (a ∷ b ∷ c ∷ xs) ≡ false
 no_quotes_3 a b c xs h = grind (arith, nat_tests)
@@ -39,7 +36,7 @@ other_front a b c s h = rw h refl
 -- if a line feed follows a string with escaped quotes, the two do not begin with three quotes
 pub no_quotes_escaped : (s more : List ℕ) → begins_quotes (escaped_quotes s ++ 10 ∷ more) ≡ false
 no_quotes_escaped [] more = no_quotes_1 10 more (λ e. omega arith)
-no_quotes_escaped (a ∷ []) more = no_quotes_2 a 10 more (λ e. omega arith)
+no_quotes_escaped (a ∷ []) more = no_second_quote a 10 more (λ e. omega arith)
 no_quotes_escaped (a ∷ b ∷ []) more = no_quotes_3 a b 10 more (λ e. omega arith)
 no_quotes_escaped (a ∷ b ∷ c ∷ s) more =
     elim (cases_Bool (is_triple a b c)) [
@@ -59,7 +56,7 @@ no_quotes_escaped (a ∷ b ∷ c ∷ s) more =
     second [] h = h
     second (d ∷ s) h =
         elim (cases_Bool (is_triple b c d)) [
-          | inl t ↦ rw (triple_front b c d s t) (no_quotes_2 a 92 (34 ∷ 34 ∷ 34 ∷ (escaped_quotes s ++ 10 ∷ more)) (λ z. omega arith))
+          | inl t ↦ rw (triple_front b c d s t) (no_second_quote a 92 (34 ∷ 34 ∷ 34 ∷ (escaped_quotes s ++ 10 ∷ more)) (λ z. omega arith))
           | inr t ↦ rw (other_front b c d s t) (third d s h)
         ]
 

@@ -3,8 +3,8 @@ use Rattle.std.specs.List.{filter, fold, reduce, slice_split, onto_first, join_w
 use Rattle.std.specs.Str.Lines.{lines_of_parts, strip_carriage_return, lines}
 use Rattle.std.proofs.Common.{◌≡◌, ◌≤◌, ℕ, zero, suc, ◌+◌, ◌-◌, min, Bool, true, false, not, ◌&&◌, ◌||◌, ◌==◌, List, [], ◌∷◌, ◌++◌, Some, length, get_or}
 use Rattle.std.proofs.Common.{take, drop, map, reverse, refl, sym, ap, ap₂, ◌∙◌, inl, inr, ◌⊎◌, arith, append_assoc, append-nil, eqb-true, length-append}
-use Rattle.std.proofs.lemmas.Bool.{or_cases, cases_Bool, and_parts, and_from}
-use Rattle.std.proofs.lemmas.List.{take_at, reverse-append}
+use Rattle.std.proofs.lemmas.Bool.{or_cases, or_right, cases_Bool, and_parts, and_from}
+use Rattle.std.proofs.lemmas.List.{take_at, length-map, map-append, reverse-append}
 use Rattle.std.proofs.lemmas.List.Splits.{join_with_byte-slice_split}
 use Rattle.graphql_core.specs.{is_white, indent, common_indent, unindented, without_blank_ends, unescaped, join_lines, value_of_lines, block_value}
 use Rattle.graphql_core.specs.{is_blank_line, begins_quotes, spaces, block_string_of, lines_of, first_line, last_line, is_empty, ends_in_return, begins_white}
@@ -207,9 +207,12 @@ indented_blank n b bs h = spaces_all is_white n (escaped_quotes (b ∷ bs)) refl
 abbrev indents : List (List ℕ) → List ℕ
 indents ls = map indent (filter (λ l. not (is_blank_line l)) ls)
 
+blank_spaces : (n : ℕ) → is_blank_line (spaces n) ≡ true
+blank_spaces n = ap is_blank_line (sym (append-nil (spaces n))) ∙ spaces_all is_white n [] refl
+
 blank_tail : (margin : ℕ) → filter (λ l. not (is_blank_line l)) (tail (spaces margin)) ≡ []
 blank_tail zero = refl
-blank_tail (suc n) = let e : is_blank_line (spaces n) ≡ true = ap is_blank_line (sym (append-nil (spaces n))) ∙ spaces_all is_white n [] refl in rw e refl
+blank_tail (suc n) = rw (blank_spaces n) refl
 
 abbrev AllFrom : ℕ → List ℕ → Type 0
 AllFrom n = AllByRecursion (λ k. n ≤ k)
@@ -236,12 +239,8 @@ some_equal n margin ((b ∷ bs) ∷ ls) h k =
           rw (indented_blank n b bs here, z, e) refl
       | inr t ↦
           let more = some_equal n margin ls others (rw t at k) in
-          rw (indented_blank n b bs here) (either_way _ _ more)
+          rw (indented_blank n b bs here) (or_right _ _ more)
     ]
-  where
-    either_way : (x y : Bool) → y ≡ true → (x || y) ≡ true
-    either_way true y h = refl
-    either_way false y h = h
 
 fold_least : (n x : ℕ) (xs : List ℕ) → n ≤ x → AllFrom n xs → (x ≡ n) ⊎ (list_any (λ k. k == n) xs ≡ true) → fold min x xs ≡ n
 fold_least n x [] low all (inl e) = e
@@ -279,18 +278,10 @@ dropped n [] = refl
 dropped n ([] ∷ ls) = ap₂ (λ (x : List ℕ) (xs : List (List ℕ)). x ∷ xs) (drop_none n) (dropped n ls)
 dropped n ((b ∷ bs) ∷ ls) = ap₂ (λ (x : List ℕ) (xs : List (List ℕ)). x ∷ xs) (drop_spaces n (escaped_quotes (b ∷ bs))) (dropped n ls)
 
-map_append : {A B : Type 0} (f : A → B) (xs ys : List A) → map f (xs ++ ys) ≡ map f xs ++ map f ys
-map_append f [] ys = refl
-map_append f (x ∷ xs) ys = ap (λ l. f x ∷ l) (map_append f xs ys)
-
-length_map : {A B : Type 0} (f : A → B) (xs : List A) → length (map f xs) ≡ length xs
-length_map f [] = refl
-length_map f (x ∷ xs) = let e = length_map f xs in omega (arith, e)
-
 -- the blank lines at the end are those of the tail
 all_tail : (margin : ℕ) → prefix_len is_blank_line (tail (spaces margin)) ≡ length (tail (spaces margin))
 all_tail zero = refl
-all_tail (suc n) = let e : is_blank_line (spaces n) ≡ true = ap is_blank_line (sym (append-nil (spaces n))) ∙ spaces_all is_white n [] refl in rw e refl
+all_tail (suc n) = rw (blank_spaces n) refl
 
 tail_reverse : (margin : ℕ) → reverse (tail (spaces margin)) ≡ tail (spaces margin)
 tail_reverse zero = refl
@@ -332,7 +323,7 @@ shown n (b ∷ bs) h = spaces_all is_white n (escaped_quotes (b ∷ bs)) refl �
 
 last_of_map : (n : ℕ) (l : List ℕ) (ls : List (List ℕ))
     → map (indented n) (l ∷ ls) ≡ map (indented n) (but_last (l ∷ ls)) ++ indented n (last_line (l ∷ ls)) ∷ []
-last_of_map n l ls = ap (map (indented n)) (with_last l ls) ∙ map_append (indented n) (but_last (l ∷ ls)) (last_line (l ∷ ls) ∷ [])
+last_of_map n l ls = ap (map (indented n)) (with_last l ls) ∙ map-append (indented n) (but_last (l ∷ ls)) (last_line (l ∷ ls) ∷ [])
 
 -- the lines that are left
 lines_left : (n margin : ℕ) (l : List ℕ) (ls : List (List ℕ)) → is_blank_line l ≡ false → is_blank_line (last_line (l ∷ ls)) ≡ false
@@ -347,7 +338,7 @@ lines_left n margin l ls first last =
     ∙ blank_suffix margin ([] ∷ map (indented n) (but_last (l ∷ ls))) (indented n (last_line (l ∷ ls))) (shown n (last_line (l ∷ ls)) last) in
     let count : length ([] ∷ (all ++ t)) - suffix_len is_blank_line ([] ∷ (all ++ t)) ≡ suc (length all) = omega (arith, suffix, length-append all t) in
     let front : take (length all) (map (drop n) (all ++ t)) ≡ map (drop n) all =
-    ap (take (length all)) (map_append (drop n) all t) ∙ take_at (map (drop n) all) (map (drop n) t) (length all) (length_map (drop n) all) in
+    ap (take (length all)) (map-append (drop n) all t) ∙ take_at (map (drop n) all) (map (drop n) t) (length all) (length-map all (drop n)) in
     rw (prefix, count) (front ∙ dropped n (l ∷ ls))
 
 -- ---- the lines, joined

@@ -1,13 +1,10 @@
 -- Parts that can follow each other: their output is tokenized into exactly their tokens.
-use Rattle.std.proofs.Common.{◌≡◌, ℕ, ◌+◌, ◌<◌, Bool, true, false, ◌||◌, ◌==◌, List, [], ◌∷◌, ◌++◌, length, refl, sym, ap, ◌∙◌, subst, inl, inr, arith}
-use Rattle.std.proofs.Common.{append_assoc}
+use Rattle.std.proofs.Common.{◌≡◌, ℕ, ◌+◌, ◌<◌, Bool, true, false, ◌||◌, ◌==◌, List, [], ◌∷◌, ◌++◌, length, refl, sym, ap, subst, inl, inr, arith, append_assoc}
 use Rattle.std.proofs.lemmas.Bool.{cases_eq, and_parts}
 use Rattle.std.proofs.lemmas.Bool.Decides.{nat_tests}
-use Rattle.graphql_core.specs.steps.Front.{AtEnd}
-use Rattle.graphql_core.specs.{is_delimiter, nesting_of, EndsRun, ignored_line_feed, ignored_comma, punctuator_token, BeginsNone, ignored_space}
-use Rattle.graphql_core.specs.{is_punctuator_byte, Ignored, TokenOf, Stands, spread_token, Piece, IsCutInto, Token, kind_number, front, Where, Item, HasItems}
+use Rattle.graphql_core.specs.{is_delimiter, nesting_of, EndsRun, ignored_line_feed, ignored_comma, punctuator_token, ignored_space}
+use Rattle.graphql_core.specs.{is_punctuator_byte, Ignored, TokenOf, Stands, spread_token, Piece, IsCutInto, Token, kind_number, Where, Item, HasItems}
 use Rattle.graphql_core.specs.{start, past_ignored, past_token, is_too_deep, items_of, split, IsEnd, Part, token, ignored, text_of}
-use Rattle.graphql_core.proofs.lexical.{ahead_of, stands_front}
 use Rattle.graphql_core.specs.declared.tokenizer.piece.Move.{Move}
 use Rattle.graphql_core.specs.declared.tokenizer.piece.Move.TheVariants.{Down, Over}
 use Rattle.std.specs.List.{list_all}
@@ -15,6 +12,7 @@ use Rattle.graphql_core.specs.declared.tokenizer.token.Kind.{Kind}
 use Rattle.graphql_core.specs.declared.tokenizer.token.Kind.TheVariants.{Punctuator}
 use Rattle.graphql_core.specs.declared.tokenizer.piece.Nesting.{Nesting}
 use Rattle.graphql_core.specs.declared.tokenizer.piece.Nesting.TheVariants.{Unchanged, Opens, Closes}
+use Rattle.graphql_core.proofs.lexical.FrontIsPiece.{begins_none_at_end}
 
 -- ---- parts that can follow each other
 
@@ -90,11 +88,6 @@ abbrev pub IsCut : Where → List Part → Type 0
 IsCut w ps =
     (pieces : List Piece) × IsCutInto (text_of ps) pieces [] × Spells ps (split (items_of w pieces [])).tokens × IsEnd (split (items_of w pieces [])).last
 
-no_piece : BeginsNone []
-unfolding front
-no_piece bytes (Ignored m) rest st e = let h : AtEnd ≡ ahead_of (Ignored m) (length bytes) = ap front e ∙ stands_front st in absurd cc
-no_piece bytes (TokenOf k t) rest st e = let h : AtEnd ≡ ahead_of (TokenOf k t) (length bytes) = ap front e ∙ stands_front st in absurd cc
-
 -- d brackets are open there
 abbrev pub IsDeep : ℕ → Where → Type 0
 IsDeep d w = w.openers ≡ w.closers + d
@@ -152,7 +145,7 @@ ends_run (punctuator_laid {b = b} m n l) = punctuator_delimits b m
 
 pub cut : {p q : Bool} {d e : ℕ} {ps : List Part} → Laid p d ps q e → (w : Where) → IsDeep d w → IsCut w ps
 unfolding items_of
-cut done w deep = ([], (refl, no_piece), refl, tt)
+cut done w deep = ([], (refl, begins_none_at_end), refl, tt)
 cut (as_word l) w deep = cut l w deep
 cut (margin {d = d} {text = text} {ps = ps} h l) w deep = cut_blank text h ps d (λ v i. cut l v i) w deep
 cut (gap {d = d} {b = b} {text = text} {ps = ps} h l) w deep = cut_blank (b ∷ text) h ps d (λ v i. cut l v i) w deep

@@ -14,18 +14,13 @@ use Rattle.graphql_core.specs.declared.helpers.punctuator.Punctuator.{Punctuator
 use Rattle.graphql_core.specs.declared.helpers.punctuator.Punctuator.TheVariants.{Bang, Dollar, Ampersand, OpenParen, CloseParen, Spread, Colon, Equals, At}
 use Rattle.graphql_core.specs.declared.helpers.punctuator.Punctuator.TheVariants.{OpenBracket, CloseBracket, OpenBrace, Pipe, CloseBrace}
 use Rattle.graphql_core.specs.declared.tokenizer.token.Kind.TheVariants as kinds
+use Rattle.graphql_core.proofs.lexical.FrontIsPiece.{punctuator_no_name, number_no_name}
 
-byte_back : (x y : ℕ) → (x == y) ≡ (y == x)
+pub byte_back : (x y : ℕ) → (x == y) ≡ (y == x)
 byte_back x y = grind (arith)
-
-punctuator_no_name : (b : ℕ) → is_punctuator_byte b ≡ true → is_name_start b ≡ false
-punctuator_no_name b h = grind (arith, nat_tests)
 
 punctuator_no_number : (b : ℕ) → is_punctuator_byte b ≡ true → starts_number b ≡ false
 punctuator_no_number b h = grind (arith, nat_tests)
-
-number_no_name : (b : ℕ) → starts_number b ≡ true → is_name_start b ≡ false
-number_no_name b h = grind (arith, nat_tests)
 
 -- a token of this kind and spelling is a punctuator with this spelling
 abbrev IsMarked : Kind → List ℕ → List ℕ → Bool

@@ -6,10 +6,10 @@ use Rattle.std.proofs.lemmas.List.{drop_at, drop_all, append-nil}
 use Rattle.graphql_core.specs.declared.tokenizer.token.Kind.TheVariants.{Punctuator, Name, StringValue, BlockString}
 use Rattle.graphql_core.specs.declared.tokenizer.piece.Move.{Move}
 use Rattle.graphql_core.specs.declared.tokenizer.piece.Move.TheVariants.{Stay, Down}
-use Rattle.graphql_core.specs.steps.Front.{FrontElement, Skips, Takes}
+use Rattle.graphql_core.specs.steps.Front.{FrontElement, AtEnd, Skips, Takes}
 use Rattle.graphql_core.specs.declared.tokenizer.piece.Nesting.TheVariants.{Unchanged}
 use Rattle.graphql_core.specs.{front, front_of, other_token, comment, line_end, starts_number, number, is_name_start, is_name_continue, is_in_line}
-use Rattle.graphql_core.specs.{is_punctuator_byte, nesting_of, Meaning, Ignored, TokenOf, Stands, ignored_tab, ignored_line_feed, ignored_carriage_return}
+use Rattle.graphql_core.specs.{is_punctuator_byte, nesting_of, Meaning, Ignored, TokenOf, Stands, BeginsNone, ignored_tab, ignored_line_feed, ignored_carriage_return}
 use Rattle.graphql_core.specs.{ignored_space, ignored_comma, ignored_byte_order_mark, comment_at_end, comment_feed, comment_return_feed, comment_return}
 use Rattle.graphql_core.specs.{name_token, punctuator_token, spread_token, integer_token, float_token, string_token, block_string_token}
 use Rattle.graphql_core.proofs.lexical.Runs.{run, run_all, not_equal, differs}
@@ -26,7 +26,7 @@ name_first b bs h =
     let d = λ (k : ℕ) (other : is_name_start k ≡ false). differs is_name_start b k h other in
     rw (d 9 refl, d 10 refl, d 13 refl, d 32 refl, d 44 refl, h) refl
 
-punctuator_no_name : (b : ℕ) → is_punctuator_byte b ≡ true → is_name_start b ≡ false
+pub punctuator_no_name : (b : ℕ) → is_punctuator_byte b ≡ true → is_name_start b ≡ false
 punctuator_no_name b h = grind (arith, nat_tests)
 
 punctuator_first : (b : ℕ) (bs : List ℕ) → is_punctuator_byte b ≡ true → front_of b bs ≡ Takes 1 Punctuator (nesting_of b)
@@ -35,7 +35,7 @@ punctuator_first b bs h =
     let d = λ (k : ℕ) (other : is_punctuator_byte k ≡ false). differs is_punctuator_byte b k h other in
     rw (d 9 refl, d 10 refl, d 13 refl, d 32 refl, d 44 refl, punctuator_no_name b h, d 35 refl, d 239 refl, h) refl
 
-number_no_name : (b : ℕ) → starts_number b ≡ true → is_name_start b ≡ false
+pub number_no_name : (b : ℕ) → starts_number b ≡ true → is_name_start b ≡ false
 number_no_name b h = grind (arith, nat_tests)
 
 number_no_punctuator : (b : ℕ) → starts_number b ≡ true → is_punctuator_byte b ≡ false
@@ -93,3 +93,9 @@ stands_front (string_token body {rest} valid some) =
     ap (λ l. front (34 ∷ l)) (append_assoc body (34 ∷ []) rest) ∙ string_front valid rest some
     ∙ ap (λ n. Takes n StringValue Unchanged) (omega (arith, length-append body (34 ∷ [])))
 stands_front (block_string_token {body} {rest} closes) = block_front closes rest ∙ ap (λ n. Takes n BlockString Unchanged) (omega arith)
+
+-- no lexical element begins at the end of the input
+pub begins_none_at_end : BeginsNone []
+unfolding front
+begins_none_at_end bytes (Ignored m) rest st e = let h : AtEnd ≡ ahead_of (Ignored m) (length bytes) = ap front e ∙ stands_front st in absurd cc
+begins_none_at_end bytes (TokenOf k t) rest st e = let h : AtEnd ≡ ahead_of (TokenOf k t) (length bytes) = ap front e ∙ stands_front st in absurd cc

@@ -170,7 +170,7 @@ unsigned_is xs h =
     let (i, more) = and_parts (is_natural (take (digits_len xs) xs)) (is_after_integer (drop (digits_len xs) xs)) h in
     (take (digits_len xs) xs, drop (digits_len xs) xs, sym (take-append-drop (digits_len xs) xs), i, more)
 
-natural_integer : (xs : List ℕ) → is_natural xs ≡ true → is_integer xs ≡ true
+pub natural_integer : (xs : List ℕ) → is_natural xs ≡ true → is_integer xs ≡ true
 natural_integer [] h = absurd cc
 natural_integer (b ∷ bs) h = natural_first b bs h
 

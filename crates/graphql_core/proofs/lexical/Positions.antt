@@ -2,7 +2,7 @@
 use Rattle.std.specs.List.{list_all, prefix_len}
 use Rattle.std.specs.Str.{chars, IsAscii, IsCharBoundary}
 use Rattle.std.specs.Char.{encode_utf8}
-use Rattle.std.proofs.Common.{◌≡◌, ℕ, ◌+◌, ◌<◌, ◌≤◌, true, false, ◌==◌, List, [], ◌∷◌, ◌++◌, zero, suc, length, take, drop, IsUtf8, refl, sym, ap, ◌∙◌}
+use Rattle.std.proofs.Common.{◌≡◌, ℕ, ◌+◌, ◌≤◌, true, false, ◌==◌, List, [], ◌∷◌, ◌++◌, zero, suc, length, take, drop, IsUtf8, refl, sym, ap, ◌∙◌}
 use Rattle.std.proofs.Common.{◌≢◌, subst, inl, inr, arith, eqb-true}
 use Rattle.std.proofs.lemmas.Bool.{and_parts, cases_Bool}
 use Rattle.std.proofs.lemmas.Bool.Decides.{nat_tests}
@@ -21,15 +21,13 @@ use Rattle.graphql_core.proofs.lexical.Characters.{characters_no_feed}
 use Rattle.graphql_core.proofs.lexical.Numbers.{integer_run, float_run}
 use Rattle.graphql_core.proofs.lexical.FrontIsPiece.{ahead_of, stands_front}
 use Rattle.graphql_core.proofs.lexical.OneCut.{Sees, front_sees}
+use Rattle.graphql_core.proofs.lexical.Spaces.{flat_below}
 
 -- ---- flat tokens
 
-below : (b : ℕ) → is_flat b ≡ true → b < 128
-below b h = grind (arith, nat_tests)
-
 flat_ascii : (bytes : List ℕ) → list_all is_flat bytes ≡ true → IsAscii bytes
 flat_ascii [] all i = omega arith
-flat_ascii (b ∷ bs) all zero = below b (and_parts (is_flat b) (list_all is_flat bs) all).0
+flat_ascii (b ∷ bs) all zero = flat_below b (and_parts (is_flat b) (list_all is_flat bs) all).0
 flat_ascii (b ∷ bs) all (suc i) = flat_ascii bs (and_parts (is_flat b) (list_all is_flat bs) all).1 i
 
 flat_step : (b : ℕ) (p : Pos) → is_flat b ≡ true → past_character b p ≡ record { line = p.line; column = p.column + 1 }

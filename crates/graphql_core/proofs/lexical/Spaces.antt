@@ -42,7 +42,7 @@ further_spaces w place passed (b ∷ bs) (suc n) h =
       | inr other ↦ absurd (omega (arith, rw other at h))
     ]
 
-flat_below : (b : ℕ) → is_flat b ≡ true → b < 128
+pub flat_below : (b : ℕ) → is_flat b ≡ true → b < 128
 flat_below b h = grind (arith, nat_tests)
 
 -- spaces end before a character

@@ -1,10 +1,10 @@
 -- Strings, block strings, and where they end.
 use Rattle.std.specs.List.{prefix_len, list_all}
-use Rattle.std.proofs.Common.{◌≡◌, ◌≢◌, ℕ, zero, suc, ◌+◌, ◌<◌, ◌≤◌, Bool, true, false, not, cond, ◌&&◌, ◌||◌, ◌==◌, List, [], ◌∷◌, ◌++◌, length, get_or}
+use Rattle.std.proofs.Common.{◌≡◌, ◌≢◌, ℕ, zero, suc, ◌+◌, ◌<◌, ◌≤◌, Bool, true, false, not, cond, ◌||◌, ◌==◌, List, [], ◌∷◌, ◌++◌, length, get_or}
 use Rattle.std.proofs.Common.{take, drop, Some, None, refl, sym, ap, ◌∙◌, subst, inl, inr, arith, le_refl, append_assoc, length-append}
 use Rattle.std.proofs.lemmas.Bool.{cases_eq, cases_Bool, and_parts}
 use Rattle.std.proofs.lemmas.Bool.Decides.{nat_tests}
-use Rattle.std.proofs.lemmas.List.{at_drop_more, at_drop_all, length-drop, take_at, get_or-append-add}
+use Rattle.std.proofs.lemmas.List.{at_drop_all, length-drop, take_at, get_or-append-add}
 use Rattle.graphql_core.specs.{begins_quotes, begins_escape, IsStringBody, body_ends, body_character, body_escape, ClosesBlock, closing, escape, unit, is_flat}
 use Rattle.graphql_core.specs.{is_plain_in_string, is_plain_in_block, is_in_string, begins_escaped, string_end, block_end, quoted_front}
 use Rattle.graphql_core.specs.declared.tokenizer.token.Kind.TheVariants.{StringValue, BlockString}
@@ -13,12 +13,6 @@ use Rattle.graphql_core.specs.steps.Front.{Takes}
 use Rattle.graphql_core.proofs.lexical.Runs.{not_equal, run_of, all_weaken, all_append}
 
 -- ---- one byte or unit on
-
-pub string_step : (i : ℕ) (bs : List ℕ) (e : Bool) → i < length bs
-    → string_end i e (drop i bs) ≡ cond (get_or bs i 0 == 10) None
-    (cond (not e && get_or bs i 0 == 34) (Some (i + 1)) (string_end (i + 1) (not e && get_or bs i 0 == 92) (drop (i + 1) bs)))
-unfolding string_end
-string_step i bs e h = at_drop_more (string_end i e) bs i 0 h
 
 pub string_none : (i : ℕ) (bs : List ℕ) (e : Bool) → length bs ≤ i → string_end i e (drop i bs) ≡ None
 unfolding string_end

@@ -1,19 +1,17 @@
 -- Which alternative of a plain value the next token decides.
-use Rattle.std.proofs.Common.{◌≡◌, ◌≢◌, ℕ, true, false, ◌==◌, List, [], ◌∷◌, drop, Option, Some, None, Result, Err, codes, refl, sym, ap, ◌∙◌, inl, inr, arith}
-use Rattle.std.proofs.lemmas.Bool.{and_cases, true≢false, eq-eqb, or_parts, cases_Bool, false_from_ne_true}
+use Rattle.std.proofs.Common.{◌≡◌, ◌≢◌, ℕ, true, false, List, [], ◌∷◌, drop, Some, codes, refl, sym, ap, ◌∙◌, inl, inr}
+use Rattle.std.proofs.lemmas.Bool.{eq-eqb, cases_Bool, false_from_ne_true}
 use Rattle.graphql_core.proofs.grammar.{same_spelling-true}
 use Rattle.graphql_core.proofs.readers.Matches.{takes_token}
-use Rattle.graphql_core.specs.declared.helpers.source.Lexeme.{Lexeme}
-use Rattle.std.specs.Result.{IsErrAnd}
-use Rattle.graphql_core.specs.{Token, Class, same_spelling, takes_spelling, matches, Expr, One, Sym, ParseTree, Leaf, First, Second, Node, peek, first, sees}
-use Rattle.graphql_core.specs.{Consumes, StopsFor, Unexpected, fails_one, fails_node, takes_node, TakesSome, kind_number, Items, after, lexeme_token, Gives}
-use Rattle.graphql_core.specs.{shared, tables, any, enum_class, keyword, plain_symbol, enum_name_symbol, IsNext, Shows, word_of, plain_of}
-use Rattle.graphql_core.specs.declared.helpers.read_error.ReadError.{ReadError}
+use Rattle.graphql_core.specs.{Token, Class, same_spelling, matches, Expr, One, Sym, ParseTree, Leaf, First, Second, Node, peek, first, sees}
+use Rattle.graphql_core.specs.{Consumes, StopsFor, Unexpected, fails_node, TakesSome, kind_number, Items, after}
+use Rattle.graphql_core.specs.{shared, tables, any, enum_class, keyword, plain_symbol, enum_name_symbol, word_of, plain_of}
 use Rattle.graphql_core.specs.declared.tokenizer.token.Kind.{Kind}
 use Rattle.graphql_core.specs.declared.tokenizer.token.Kind.TheVariants.{Punctuator, Name, IntValue, FloatValue, StringValue, BlockString}
-use Rattle.graphql_core.proofs.readers.Reading.{TakesNone, none_within, unseen_either, takes_one}
-use Rattle.graphql_core.proofs.readers.Steps.{Leads, leads_in, begun, lacks_last}
+use Rattle.graphql_core.proofs.readers.Reading.{unseen_either, takes_one}
+use Rattle.graphql_core.proofs.readers.Steps.{Leads, leads_in}
 use Rattle.graphql_core.proofs.readers.Alternatives.{IsSide, through, side_node, side_in, side_nth}
+use Rattle.graphql_core.proofs.lexical.FirstBytes.{byte_back}
 
 -- ---- alternatives
 
@@ -85,9 +83,6 @@ none_stopped i none = (fails_node (unseen_either shared _ _ i.tokens refl refl (
 -- ---- names
 
 -- a comparison of two spellings, with its sides exchanged
-byte_back : (x y : ℕ) → (x == y) ≡ (y == x)
-byte_back x y = grind (arith)
-
 spelling_back : (xs ys : List ℕ) → same_spelling xs ys ≡ same_spelling ys xs
 spelling_back [] [] = refl
 spelling_back [] (y ∷ ys) = refl
@@ -96,34 +91,6 @@ spelling_back (x ∷ xs) (y ∷ ys) = rw (byte_back x y, spelling_back xs ys) re
 
 pub spelling_differs : (xs ys : List ℕ) → xs ≢ ys → same_spelling xs ys ≡ false
 spelling_differs xs ys h = false_from_ne_true _ (λ e. h (same_spelling-true xs ys e))
-
--- a name that is an enum value, or is none
-module _ {T : Type 0} (bytes : T → List ℕ) (i : Items) where
-  pub enum_taken : (new : Items) (t : Lexeme T) → IsNext bytes Name i t → takes_spelling enum_class (bytes t.text) ≡ true → new ≡ after i
-      → Consumes shared (Sym enum_name_symbol) i (Node enum_name_symbol (Leaf (lexeme_token bytes t))) new
-  enum_taken new t n word e =
-      let (taken, same) = takes_one shared enum_class i new _ refl (takes_token enum_class i new _ n.first e (rw (ap kind_number n.kind, word) refl)) in
-      (takes_node taken refl, same)
-
-  pub enum_stopped : (t : Lexeme T) → IsNext bytes Name i t → takes_spelling enum_class (bytes t.text) ≡ false
-      → StopsFor shared (Sym enum_name_symbol) i i (Some Unexpected)
-  enum_stopped t n word = (fails_node (fails_one (rw (ap peek n.first, ap kind_number n.kind, word) refl)), refl)
-
--- what is no name is no enum value
-no_enum : (item : Option Token) → sees (any Name ∷ []) item ≡ false → sees (enum_class ∷ []) item ≡ false
-no_enum None h = refl
-no_enum (Some t) h =
-    let other = (or_parts (matches (any Name) t) false h).0 in
-    let kind : (kind_number Name == t.kind) ≡ false = elim (and_cases (kind_number Name == t.kind) true other) [ inl k ↦ k | inr k ↦ absurd (true≢false k) ] in
-    rw kind refl
-
-no_enum_taken : (i : Items) (s : ReadError) → TakesNone (any Name) i i s → TakesNone enum_class i i s
-no_enum_taken i s = none_within {A = Unit {0}} (any Name) enum_class i i (λ v t. Unit {0}) s (no_enum (peek i.tokens))
-
-pub enum_not_shown : {A T : Type 0} (bytes : T → List ℕ) (i : Items) (P : A → ParseTree → Type 0) (r : Result A ReadError) (e : ReadError)
-    → Shows bytes Name i (Err e) → IsErrAnd r (λ d. d ≡ e) → Gives shared (Sym enum_name_symbol) i i P r
-enum_not_shown bytes i P r e s h =
-    lacks_last i i P r e (begun enum_name_symbol (λ x. refl)) (no_enum_taken i e s) h
 
 -- a name is taken as the value that it denotes
 module _ (i new : Items) (t : Token) (front : i.tokens ≡ t ∷ drop 1 i.tokens) (kind : t.kind ≡ kind_number Name) (past_it : new ≡ after i) where

@@ -20,6 +20,7 @@ use Rattle.std.specs.Fmt.{decimal, signed_decimal}
 use Rattle.std.specs.List.{list_all, flat_map, AllByRecursion}
 use Rattle.graphql_core.specs.declared.tokenizer.token.Kind.TheVariants.{Name, IntValue, FloatValue, StringValue}
 use Rattle.graphql_core.specs.strings.Strings as units
+use Rattle.graphql_core.proofs.lexical.Numbers.{natural_integer}
 
 -- ---- names
 
@@ -82,10 +83,6 @@ unsigned (b ∷ []) h = let m : (b == 45) ≡ false = grind (arith, nat_tests) i
 unsigned (b ∷ c ∷ cs) h =
     let first = (and_parts (is_in 49 57 b) (list_all is_ascii_digit (c ∷ cs)) h).0 in
     let m : (b == 45) ≡ false = grind (arith, nat_tests) in let p : (b == 43) ≡ false = grind (arith, nat_tests) in (m, rw p refl)
-
-natural_integer : (ds : List ℕ) → is_natural ds ≡ true → is_integer ds ≡ true
-natural_integer [] h = h
-natural_integer (b ∷ bs) h = rw (unsigned (b ∷ bs) h).0 h
 
 natural_value : (ds : List ℕ) (n : ℕ) → is_natural ds ≡ true → digits_value 10 ds ≡ n → int_of ds ≡ pos n
 natural_value ds n h e = let (m, w) = unsigned ds h in rw (m, w) (ap pos e)

@@ -1,7 +1,7 @@
 -- The layouts of values parse back, as values and as constants.
 use Rattle.std.proofs.Common.{◌≡◌, ℕ, ◌+◌, ◌≤◌, Bool, true, false, if◌then◌else◌, zero, suc, List, [], ◌∷◌, ◌++◌, codes, refl, ap, ap₂, ◌∙◌, arith}
 use Rattle.graphql_core.specs.{name_part, punctuator_part, Part, token, gap, new_line, float, string, item, enum, object, no_items, int, ValueTree, ValueItems}
-use Rattle.graphql_core.specs.{ValueMembers, variable, boolean, null, list, no_members, member, Class, Expr, One, Many, Sym, ParseTree, Leaf, Both, First}
+use Rattle.graphql_core.specs.{ValueMembers, variable, boolean, null, list, no_members, member, Class, Expr, One, Many, Sym, ParseTree, Leaf, First}
 use Rattle.graphql_core.specs.{Second, Stop, More, Node, IsName, StyleOptions, spaces, symbol_of, pair_symbol_of, list_rule, object_rule, pair_rule, tree_of}
 use Rattle.graphql_core.specs.{trees_of, pair_of, pairs_by, as_list, as_object, value_layout, items_layout, members_layout, pair_layout, before_part, parts}
 use Rattle.graphql_core.specs.{after_parts, inside, boolean_name, has_block_form, in_block_form, quoted, shared, plain_symbol, spelling_at, plain_of, put_all}
@@ -17,6 +17,7 @@ use Rattle.graphql_core.specs.declared.common.read.values.Constness.TheVariants.
 use Rattle.graphql_core.proofs.round_trip.LeavesBack.{name_word, enum_takes, int_word, int_takes, int_decimal, float_word, float_takes, quoted_word}
 use Rattle.graphql_core.proofs.round_trip.LeavesBack.{quoted_takes, quoted_means}
 use Rattle.graphql_core.proofs.values.{pairs_in, put_all_in_order}
+use Rattle.graphql_core.proofs.readers.ValueAlternatives.{list_means, object_means, pair_means}
 
 -- ---- white space of parts
 
@@ -80,18 +81,6 @@ pair_in : (s : Constness) (a : List ℕ × ValueTree) {p q : Bool} {d f : ℕ} {
 pair_in Value a h = node_back (λ x. refl) h
 pair_in Constant a h = node_back (λ x. refl) h
 
-list_means : (s : Constness) (o x c : ParseTree) → tree_of s (as_list s (Both o (Both x c))) ≡ list (trees_of s x)
-list_means Value o x c = refl
-list_means Constant o x c = refl
-
-object_means : (s : Constness) (o x c : ParseTree) → tree_of s (as_object s (Both o (Both x c))) ≡ object (put_all (pairs_by s x) no_members)
-object_means Value o x c = refl
-object_means Constant o x c = refl
-
-pair_means : (s : Constness) (n c x : ParseTree) → pair_of s (Node (pair_symbol_of s) (Both n (Both c x))) ≡ (spelling_at n, tree_of s x)
-pair_means Value n c x = refl
-pair_means Constant n c x = refl
-
 no_items_means : (s : Constness) → trees_of s Stop ≡ no_items
 no_items_means Value = refl
 no_items_means Constant = refl
@@ -117,7 +106,7 @@ pair_back s style margin n v d is value =
     (word_back (name_word n is) (λ p. refl) (λ t e. e))
     (punctuator_back (codes ":") (refl, refl) (λ p. refl))
     (gap_back refl value)
-    (λ x c y hx hc hy. pair_means s x c y ∙ ap₂ (λ a b. (a, b)) hx hy))
+    (λ x c y hx hc hy. pair_means s (pair_symbol_of s) x c y ∙ ap₂ (λ a b. (a, b)) hx hy))
 
 -- ---- what is plain
 

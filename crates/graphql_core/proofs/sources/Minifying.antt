@@ -1,19 +1,19 @@
 -- Spaced tokens are tokenized into exactly these tokens.
 use Rattle.std.proofs.Common.{◌≡◌, ℕ, Bool, true, false, not, ◌&&◌, ◌||◌, List, [], ◌∷◌, ◌++◌, length, map, refl, sym, ap, ◌∙◌, subst, arith}
 use Rattle.std.proofs.lemmas.Bool.Decides.{nat_tests}
-use Rattle.graphql_core.specs.steps.Front.{AtEnd}
-use Rattle.graphql_core.specs.{name_token, punctuator_token, BeginsNone, ignored_space, is_punctuator_byte, Meaning, Ignored, TokenOf, Stands, spread_token}
+use Rattle.graphql_core.specs.{name_token, punctuator_token, ignored_space, is_punctuator_byte, is_delimiter, Meaning, Ignored, TokenOf, Stands, spread_token}
 use Rattle.graphql_core.specs.{integer_token, float_token, string_token, block_string_token, Piece, IsCutInto, LexicalError, openers_after, closers_after}
 use Rattle.graphql_core.specs.{Where, Item, item_at, TokenContent, HasItems, start, past_ignored, past_token, is_too_deep, token_then, piece_then, items_of}
-use Rattle.graphql_core.specs.{Token, Place, nowhere, kind_number, too_deep, front, split, token_of, IsEnd, is_past, AreLexemes, is_punctuator, is_number}
+use Rattle.graphql_core.specs.{Token, Place, nowhere, kind_number, too_deep, split, token_of, IsEnd, is_past, AreLexemes, is_punctuator, is_number}
 use Rattle.graphql_core.specs.{is_spaced, space_if, spaced_after, spaced, unplaced, IsMinified, HasTokens}
 use Rattle.graphql_core.specs.steps.Following.{MayFollow}
-use Rattle.graphql_core.proofs.lexical.{items_unique, ahead_of, stands_front}
+use Rattle.graphql_core.proofs.lexical.{items_unique}
 use Rattle.graphql_core.specs.declared.tokenizer.token.Kind.{Kind}
 use Rattle.graphql_core.specs.declared.tokenizer.token.Kind.TheVariants.{Punctuator, Name, IntValue, FloatValue, StringValue, BlockString}
 use Rattle.graphql_core.specs.declared.tokenizer.piece.Move.TheVariants.{Over}
 use Rattle.graphql_core.specs.declared.tokenizer.piece.Nesting.{Nesting}
 use Rattle.graphql_core.specs.declared.tokenizer.piece.Nesting.TheVariants.{Unchanged, Opens, Closes}
+use Rattle.graphql_core.proofs.lexical.FrontIsPiece.{begins_none_at_end}
 
 -- ---- what can follow a token
 
@@ -36,21 +36,20 @@ end_follows FloatValue = tt
 end_follows StringValue = λ e. omega arith
 end_follows BlockString = tt
 
+-- a byte that ends the run of a number follows any token
+pub delimiter_follows : (k : Kind) (b : ℕ) (more : List ℕ) → is_delimiter b ≡ true → MayFollow k (b ∷ more)
+delimiter_follows Punctuator b more h = tt
+delimiter_follows Name b more h = grind (arith, nat_tests)
+delimiter_follows IntValue b more h = h
+delimiter_follows FloatValue b more h = h
+delimiter_follows StringValue b more h = λ e. grind (arith, nat_tests)
+delimiter_follows BlockString b more h = tt
+
 space_follows : (k : Kind) (more : List ℕ) → MayFollow k (32 ∷ more)
-space_follows Punctuator more = tt
-space_follows Name more = refl
-space_follows IntValue more = refl
-space_follows FloatValue more = refl
-space_follows StringValue more = λ e. omega arith
-space_follows BlockString more = tt
+space_follows k more = delimiter_follows k 32 more refl
 
 punctuator_follows : (k : Kind) (b : ℕ) (more : List ℕ) → is_punctuator_byte b ≡ true → MayFollow k (b ∷ more)
-punctuator_follows Punctuator b more h = tt
-punctuator_follows Name b more h = grind (arith, nat_tests)
-punctuator_follows IntValue b more h = grind (arith, nat_tests)
-punctuator_follows FloatValue b more h = grind (arith, nat_tests)
-punctuator_follows StringValue b more h = λ e. grind (arith, nat_tests)
-punctuator_follows BlockString b more h = tt
+punctuator_follows k b more h = delimiter_follows k b more (grind (arith, nat_tests))
 
 -- if an input can follow a token, it can also follow the token and a space
 spaced_follows : (k : Kind) (b : Bool) (text : List ℕ) → MayFollow k text → MayFollow k (space_if b ++ text)
@@ -124,11 +123,6 @@ IsSpacedCut w text ts =
     (pieces : List Piece) × IsCutInto text pieces [] × (map unplaced (split (items_of w pieces [])).tokens ≡ map unplaced ts)
     × IsEnd (split (items_of w pieces [])).last
 
-no_piece : BeginsNone []
-unfolding front
-no_piece bytes (Ignored m) rest st e = let h : AtEnd ≡ ahead_of (Ignored m) (length bytes) = ap front e ∙ stands_front st in absurd cc
-no_piece bytes (TokenOf k t) rest st e = let h : AtEnd ≡ ahead_of (TokenOf k t) (length bytes) = ap front e ∙ stands_front st in absurd cc
-
 cut_spaced : (b : Bool) (o c : ℕ) (text : List ℕ) (ts : List Token) → ((v : Where) → v.openers ≡ o → v.closers ≡ c → IsSpacedCut v text ts)
     → (w : Where) → w.openers ≡ o → w.closers ≡ c → IsSpacedCut w (space_if b ++ text) ts
 unfolding items_of
@@ -156,7 +150,7 @@ spaced_may_follow k o c (t ∷ ts) (j, n, rest, kind, st, fits, l) =
 -- Any list of tokens of the lexical grammar, spaced, is tokenized into exactly these tokens.
 pub tokens_cut : (kind o c : ℕ) (ts : List Token) → AreLexemes o c ts → (w : Where) → w.openers ≡ o → w.closers ≡ c → IsSpacedCut w (spaced_after kind ts) ts
 unfolding items_of
-tokens_cut kind o c [] l w p q = ([], (refl, no_piece), refl, tt)
+tokens_cut kind o c [] l w p q = ([], (refl, begins_none_at_end), refl, tt)
 tokens_cut kind o c (t ∷ ts) (k, n, rest, is, st, fits, l) w p q =
     let follows = subst (λ (j : ℕ). MayFollow k (spaced_after j ts)) (sym is) (spaced_may_follow k _ _ ts l) in
     cut_spaced (is_spaced kind t) o c (t.spelling ++ spaced_after t.kind ts) (t ∷ ts) (λ v p q.

@@ -20,11 +20,6 @@ use Rattle.graphql_core.proofs.sources.TokenPlaces.{IsToken, StandsIn, part, tok
 some_bytes : (t : Token) → IsLexeme t → 0 < length t.spelling
 some_bytes t (k, s, rest, kind, stands) = (part (TokenOf k s) t.spelling rest stands).0
 
-first_taken : (n : ℕ) (bytes : List ℕ) → 0 < length (take n bytes) → get_or bytes 0 0 ≡ first_byte (take n bytes)
-first_taken zero bytes some = absurd (omega arith)
-first_taken (suc n) [] some = absurd (omega arith)
-first_taken (suc n) (b ∷ bs) some = refl
-
 -- the items that are left are tokens in the input, and a last item
 left_stand : {most : ℕ} (text : List ℕ) (items : List Item) → IsLeft most text items → All (StandsIn text) items
 left_stand text items left =

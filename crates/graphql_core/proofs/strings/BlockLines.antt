@@ -45,7 +45,7 @@ no_lines : (n : ℕ) → Fits n []
 unfolding Fits
 no_lines n = tt
 
-abbrev has_text : List ℕ → Bool
+abbrev pub has_text : List ℕ → Bool
 has_text l = not (is_blank_line l)
 
 fold_le : (a : ℕ) (xs : List ℕ) → fold min a xs ≤ a

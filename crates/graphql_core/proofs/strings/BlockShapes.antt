@@ -2,7 +2,7 @@
 use Rattle.std.specs.List.{filter, reduce, enumerate_from, onto_first, prefix_len, suffix_len}
 use Rattle.std.specs.Option.{MatchOption, unwrap_or}
 use Rattle.std.specs.Str.Lines.{lines, lines_of_parts, strip_carriage_return}
-use Rattle.std.proofs.Common.{◌≡◌, ◌≢◌, ℕ, zero, suc, ◌+◌, ◌-◌, ◌<◌, ◌≤◌, min, Bool, true, false, not, ◌==◌, if◌then◌else◌, List, [], ◌∷◌, ◌++◌, Bor}
+use Rattle.std.proofs.Common.{◌≡◌, ◌≢◌, ℕ, zero, suc, ◌+◌, ◌-◌, ◌<◌, ◌≤◌, min, Bool, true, false, ◌==◌, if◌then◌else◌, List, [], ◌∷◌, ◌++◌, Bor}
 use Rattle.std.proofs.Common.{length, map, get_or, take, drop, Option, Some, None, refl, sym, ap, ◌∙◌, inl, inr, arith, zero-add, add-zero, eqb-true}
 use Rattle.std.proofs.Common.{length-append, length-drop}
 use Rattle.std.proofs.Math.Seq.{take-append_seam, get_or-append_seam}
@@ -16,7 +16,7 @@ use Rattle.graphql_core.specs.declared.common.strings.block.BlockShape.{BlockSha
 use Rattle.graphql_core.specs.{is_white, is_blank_line, indent, common_indent, unescaped, lines_of}
 use Rattle.graphql_core.specs.steps.BlockShape.{IsShape, least_indent}
 use Rattle.graphql_core.proofs.lexical.Runs.{run_passes}
-use Rattle.graphql_core.proofs.strings.BlockLines.{blank_indent, kept, through_text, through_blank, unescaped_none}
+use Rattle.graphql_core.proofs.strings.BlockLines.{blank_indent, kept, through_text, through_blank, unescaped_none, has_text}
 
 -- ---- the first line of a string
 
@@ -99,9 +99,6 @@ module _ (ls : List (List ℕ)) (k : ℕ) (rest line after : List ℕ) (left : d
   left_after = sym (drop-drop 1 k ls) ∙ ap (drop 1) (left ∙ first)
 
 -- ---- shapes
-
-abbrev has_text : List ℕ → Bool
-has_text l = not (is_blank_line l)
 
 abbrev least : List (List ℕ) → Option ℕ
 least ls = reduce min (map indent (filter has_text ls))

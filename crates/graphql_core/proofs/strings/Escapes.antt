@@ -47,15 +47,15 @@ no_plus (c ∷ cs) h =
     let (here, others) = and_parts (is_ascii_hexdigit c) (list_all is_ascii_hexdigit cs) h in
     without_leading_plus_none (c ∷ cs) (digit_no_plus c here)
 
-four_fit : (ds : List ℕ) → length ds ≡ 4 → list_all is_ascii_hexdigit ds ≡ true → digits_value 16 ds < 2 ^ 32
-four_fit ds n h =
+pub four_digits : (ds : List ℕ) → length ds ≡ 4 → list_all is_ascii_hexdigit ds ≡ true → digits_value 16 ds < 65536
+four_digits ds n h =
     let small = digits_value-lt 16 ds (all_digits ds h) in
     let same : 16 ^ length ds ≡ 65536 = ap (λ k. 16 ^ k) n in
     omega (arith, small, same)
 
 numeral : (ds : List ℕ) → length ds ≡ 4 → list_all is_ascii_hexdigit ds ≡ true → IsNumeral 16 (without_leading_plus ds)
     × (digits_value 16 (without_leading_plus ds) < 2 ^ 32)
-numeral ds n h = rw (no_plus ds h) ((omega arith, all_digits ds h), four_fit ds n h)
+numeral ds n h = rw (no_plus ds h) ((omega arith, all_digits ds h), omega (arith, four_digits ds n h))
 
 -- what `from_str_radix` returns for four digits
 pub some_from_parsed : {E : Type 0} (ds : List ℕ) (o : Option ℕ) (r : Result ℕ E) → length ds ≡ 4 → list_all is_ascii_hexdigit ds ≡ true → o ≡ result_ok r

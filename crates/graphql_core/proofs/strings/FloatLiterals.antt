@@ -70,7 +70,7 @@ float_is_literal (with_both integer f e h p q) digit =
     let last = ap is_ascii_digit (sym (last_of_joined integer (f ++ e) (omega (arith, length-append f e, exponent_some e q)))) ∙ digit in
     (integer, f ++ e, refl, h, both f e p (exponent_whole f e q last))
 
-exponent_form : (e : List ℕ) → is_whole_exponent e ≡ true → is_exponent e ≡ true
+pub exponent_form : (e : List ℕ) → is_whole_exponent e ≡ true → is_exponent e ≡ true
 exponent_form e h = (and_parts (is_exponent e) (list_any is_ascii_digit e) h).0
 
 ending_float : (integer ending : List ℕ) → is_integer integer ≡ true → EndsFloat ending → IsFloat (integer ++ ending)

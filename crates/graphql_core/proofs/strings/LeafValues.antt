@@ -17,6 +17,7 @@ use Rattle.std.proofs.lemmas.Bool.Decides.{nat_tests}
 use Rattle.std.specs.List.{list_all, list_any}
 use Rattle.graphql_core.specs.declared.tokenizer.token.Kind.{Kind}
 use Rattle.graphql_core.specs.declared.tokenizer.token.Kind.TheVariants.{Punctuator, Name, IntValue, FloatValue, StringValue, BlockString}
+use Rattle.graphql_core.proofs.strings.FloatLiterals.{exponent_form}
 
 -- ---- integers
 
@@ -128,9 +129,6 @@ whole_literal : {run : List ℕ} → IsFloat run → has_whole_exponent run ≡ 
 whole_literal (with_fraction i f h k) e = (i, f, refl, h, fraction f k)
 whole_literal (with_exponent i x h p) e = (i, x, refl, h, exponent x (sym (past_integer i x h p) ∙ e))
 whole_literal (with_both i f x h k p) e = (i, f ++ x, refl, h, both f x k (sym (past_fraction i f x h k p) ∙ e))
-
-exponent_form : (e : List ℕ) → is_whole_exponent e ≡ true → is_exponent e ≡ true
-exponent_form e h = (and_parts (is_exponent e) (list_any is_ascii_digit e) h).0
 
 literal_whole : (i e : List ℕ) → is_integer i ≡ true → EndsFloat e → has_whole_exponent (i ++ e) ≡ true
 literal_whole i _ h (fraction f k) = past_front i f (no_mark_integer i h) ∙ no_exponent f (no_mark_fraction f k)

@@ -1,16 +1,15 @@
 -- The value of a string, computed from its front, is what its units denote.
 use Rattle.std.specs.Char.{IsScalar, encode_utf8, is_ascii_hexdigit}
-use Rattle.std.proofs.Common.{◌≡◌, ◌≢◌, ◌↔◌, ℕ, ◌^◌, ◌<◌, true, false, not, ◌&&◌, is_some, List, [], ◌∷◌, ◌++◌, length, Option, Some, None, refl, sym, ap}
+use Rattle.std.proofs.Common.{◌≡◌, ◌≢◌, ◌↔◌, ℕ, ◌<◌, true, false, not, ◌&&◌, is_some, List, [], ◌∷◌, ◌++◌, length, Option, Some, None, refl, sym, ap}
 use Rattle.std.proofs.Common.{◌∙◌, subst, inl, inr, arith}
 use Rattle.std.proofs.lemmas.Bool.{ne_eqb, cases_eq, and_parts, not-true, cases_Bool}
-use Rattle.std.proofs.lemmas.Int.Digits.{digits_value-lt}
 use Rattle.std.specs.Option.{unwrap_or}
 use Rattle.std.specs.Str.Parse.{digits_value}
 use Rattle.graphql_core.specs.{NamesCharacter, StandsFor, HasNoStringValue, itself, escaped_quote, escaped_backslash, escaped_slash, escaped_backspace}
 use Rattle.graphql_core.specs.{escaped_form_feed, escaped_line_feed, escaped_carriage_return, escaped_tab, escaped_unicode, no_units, unit_then, HasValue}
 use Rattle.graphql_core.specs.{string_of, without_ends, before, escape_of, is_surrogate, named_by, unquoted, escaped, unquoted_unicode}
 use Rattle.std.proofs.lemmas.Bool.Decides.{nat_tests}
-use Rattle.graphql_core.proofs.strings.Escapes.{all_digits}
+use Rattle.graphql_core.proofs.strings.Escapes.{four_digits}
 use Rattle.std.specs.List.{list_all}
 
 -- ---- from units to the value
@@ -121,12 +120,6 @@ letter c a e =
 -- four digits name the character with their number
 scalar_value : (c : ℕ) → c < 65536 → is_surrogate c ≡ false → IsScalar c
 scalar_value c h s = grind (arith, nat_tests)
-
-four_digits : (ds : List ℕ) → length ds ≡ 4 → list_all is_ascii_hexdigit ds ≡ true → digits_value 16 ds < 65536
-four_digits ds n h =
-    let small = digits_value-lt 16 ds (all_digits ds h) in
-    let same : 16 ^ length ds ≡ 65536 = ap (λ k. 16 ^ k) n in
-    omega (arith, small, same)
 
 name_of : (ds a : List ℕ) → length ds ≡ 4 → named_by ds ≡ Some a → StandsFor (92 ∷ 117 ∷ ds) a
 name_of ds a n e =

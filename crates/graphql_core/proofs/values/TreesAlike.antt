@@ -6,6 +6,7 @@ use Rattle.graphql_core.specs.{Grammar, Expr, Empty, One, Then, Either, Many, Sy
 use Rattle.graphql_core.specs.{Node, leaves, accepts, matches, Fits, fits_nothing, fits_leaf, fits_both, fits_first, fits_second, fits_stop, fits_more}
 use Rattle.graphql_core.specs.{fits_node, Token, Class, Spelled, AnyOf, Except, class_kind, kind_number, unplaced, block_string_of, has_value, is_good, valued}
 use Rattle.graphql_core.specs.declared.tokenizer.token.Kind.TheVariants.{BlockString}
+use Rattle.graphql_core.proofs.grammar.OneClass.{head_is, tail_is}
 
 -- ---- tokens with the same value
 
@@ -39,12 +40,6 @@ other_values t u none e = elim ((same_value t u e).1) [
 ]
 
 -- ---- lists of tokens
-
-head_is : (a b : Token) (l m : List Token) → ◌≡◌ {A = List Token} (a ∷ l) (b ∷ m) → a ≡ b
-head_is a b l m e = cc
-
-tail_is : (a b : Token) (l m : List Token) → ◌≡◌ {A = List Token} (a ∷ l) (b ∷ m) → l ≡ m
-tail_is a b l m e = cc
 
 -- The part of a token that is compared: its kind, and its spelling or only its value. The position is ignored.
 abbrev pub compared : (spelled : Bool) → Token → Token

@@ -37,10 +37,6 @@ plain_of (Node k (Second (Second (Second (Second (Second (Second (Second t))))))
     string (block_string_of (spelling_at t))
 plain_of _ = null
 
-abbrev pub enum_name_of : ParseTree → List ℕ
-enum_name_of (Node k t) = spelling_at t
-enum_name_of _ = []
-
 -- puts fields into an object; the last of equal names counts
 abbrev pub put_all : List (List ℕ × ValueTree) → ValueMembers → ValueMembers
 put_all [] ms = ms

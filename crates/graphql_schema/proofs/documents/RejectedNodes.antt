@@ -1,6 +1,6 @@
 -- The error of a rejected node refers to tokens of that node.
 use Rattle.std.specs.Option.{option_or}
-use Rattle.std.proofs.Common.{◌≡◌, ℕ, Bool, true, false, not, ◌==◌, cond, if◌then◌else◌, List, [], ◌∷◌, ◌++◌, length, Option, Some, None}
+use Rattle.std.proofs.Common.{◌≡◌, ℕ, Bool, true, false, not, ◌==◌, cond, List, [], ◌∷◌, ◌++◌, length, Option, Some, None}
 use Rattle.std.proofs.Common.{is_some, ◌⊎◌, option_map, codes, inl, inr, refl, sym, ap, subst, ◌∙◌, append_assoc, append-nil, arith}
 use Rattle.std.proofs.lemmas.Bool.{cases_Bool, both_ways, and_parts}
 use Rattle.std.proofs.lemmas.Bool.Decides.{nat_tests}
@@ -18,6 +18,7 @@ use Rattle.graphql_schema.specs.{schema_symbol, root_type_symbol, extension_symb
 use Rattle.graphql_schema.specs.{object_symbol, interface_symbol, union_symbol, enum_symbol, input_symbol, scalar_of, object_of, interface_of, union_of}
 use Rattle.graphql_schema.specs.{enum_of, input_of, schema_grammar, passes, schema_rule, schema_extension_rule, extension_rule, body_of, schema_extension_of}
 use Rattle.graphql_schema.specs.{said_of, Lacks, IsNameSpelled, HasName, IsWrongSchema, IsEmptyExtension, RefersBy, RefersTo}
+use Rattle.graphql_schema.proofs.readers.RootNames.{told}
 use Rattle.graphql_core.specs.lexical.Items as items_of
 
 -- ---- tokens
@@ -84,9 +85,6 @@ named_more rs r ts us before last w h = elim (cases_Bool (same_spelling w r.name
 abbrev Why : RootFault → List Token → Type 0
 Why (unknown n) ts = is_listed n root_names ≡ false
 Why (duplicate n) ts = HasName n ts
-
-abbrev told : Bool → Bool → List ℕ → Option RootFault
-told known twice n = if not known then Some (unknown n) else if twice then Some (duplicate n) else None
 
 told_is : (known twice : Bool) (n : List ℕ) (f : RootFault) (ts : List Token) → is_listed n root_names ≡ known → (twice ≡ true → HasName n ts)
     → told known twice n ≡ Some f → (name_of f ≡ n) × Why f ts

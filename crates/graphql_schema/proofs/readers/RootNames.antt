@@ -34,7 +34,7 @@ fault_last before (q ∷ qs) r =
     ∙ ap (λ (l : List Root). option_or (root_fault before (q ∷ qs)) (fault_after l r)) (append_assoc before (q ∷ []) qs)
 
 -- the error of an operation, by whether it is one of the three, and whether it appeared before
-abbrev told : Bool → Bool → List ℕ → Option RootFault
+abbrev pub told : Bool → Bool → List ℕ → Option RootFault
 told known twice n = if not known then Some (unknown n) else if twice then Some (duplicate n) else None
 
 -- ---- lists of operations, with another at the end
