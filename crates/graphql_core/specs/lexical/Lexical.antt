@@ -1,7 +1,7 @@
 -- The lexical grammar (GraphQL, October 2021, section 2.1): an input is a sequence of lexical elements.
 -- Each is as long as possible, except strings and block strings, which end at the first quotes that close them.
 use Rattle.std.specs.Prelude.{◌≡◌, ◌≢◌, ℕ, true, false, Bool, not, ◌&&◌, ◌||◌, ◌==◌, if◌then◌else◌, nat_le, List, []}
-use Rattle.std.specs.Prelude.{◌∷◌, ◌++◌, slice_index}
+use Rattle.std.specs.Prelude.{◌∷◌, ◌++◌, slice_index, codes}
 use Rattle.std.specs.List.{list_all}
 use Rattle.std.specs.Char.{is_ascii_alphabetic, is_ascii_alphanumeric, is_ascii_digit}
 use Rattle.graphql_core.specs.declared.tokenizer.token.Kind.{Kind}
@@ -126,6 +126,15 @@ abbrev pub steps_over : Move → ℕ
 steps_over Stay = 0
 steps_over (Over n) = n
 steps_over Down = 0
+
+-- the kinds of tokens, as they are named in messages
+abbrev pub kind_name : Kind → List ℕ
+kind_name Punctuator = codes "Punctuator"
+kind_name Name = codes "Name"
+kind_name IntValue = codes "IntValue"
+kind_name FloatValue = codes "FloatValue"
+kind_name StringValue = codes "StringValue"
+kind_name BlockString = codes "BlockString"
 
 pub data Meaning : Type 0 where
   Ignored : Move → Meaning

@@ -1,4 +1,7 @@
 //! Tokens and lexical errors.
+ghost use Rattle.std.specs.Prelude.{◌≡◌, ◌++◌, Some, codes};
+ghost use Rattle.graphql_core.specs.{kind_name};
+
 use std::fmt;
 
 /// The kind of a token (October 2021, section 2.1.6).
@@ -19,6 +22,22 @@ pub enum Kind {
     BlockString,
 }
 
+impl Kind {
+    /// The name of the variant.
+    fn name(self) -> &'static str
+        ensures { result.now ≡ kind_name self }
+    {
+        match self {
+            Kind::Punctuator => "Punctuator",
+            Kind::Name => "Name",
+            Kind::IntValue => "IntValue",
+            Kind::FloatValue => "FloatValue",
+            Kind::StringValue => "StringValue",
+            Kind::BlockString => "BlockString",
+        }
+    }
+}
+
 /// A token: its kind and its spelling.
 #[derive(Clone, Copy, Debug, PartialEq, Eq)]
 pub struct Token<'a> {
@@ -30,10 +49,15 @@ pub struct Token<'a> {
 
 /// Writes the spelling, then the kind in brackets, as in `where[Name]`.
 impl fmt::Display for Token<'_> {
+    ghost output = { λ t. Some (t.value.now ++ codes "[" ++ kind_name t.kind ++ codes "]") };
+
+    ghost styled_output = { λ t spec. Some (t.value.now ++ codes "[" ++ kind_name t.kind ++ codes "]") };
+
     fn fmt<W: fmt::Write>(&self, f: &mut fmt::Formatter<W>) -> fmt::Result {
-        let value = self.value;
-        let kind = self.kind;
-        write!(f, "{value}[{kind:?}]")
+        f.write_str(self.value)?;
+        f.write_str("[")?;
+        f.write_str(self.kind.name())?;
+        f.write_str("]")
     }
 }
 
