@@ -8,13 +8,15 @@ use std::hash::Hash;
 
 /// Positions are ordered by line, then by column.
 pub fn compare_positions(a: &Pos, b: &Pos) -> Ordering
-    ensures { result ≡ ordering_then (nat_cmp a.now.line b.now.line) (nat_cmp a.now.column b.now.column) }
+    ensures derived { result ≡ ⟦<Pos as Ord>⟧.cmp a.now b.now }
+    ensures order { result ≡ ordering_then (nat_cmp a.now.line b.now.line) (nat_cmp a.now.column b.now.column) }
 {
     a.cmp(b)
 }
 
 /// `==` returns true only for the same position. Equal positions feed a hasher the same input.
 pub fn are_same_position(a: &Pos, b: &Pos) -> bool
+    ensures derived { result ≡ ⟦<Pos as PartialEq>⟧.eq a.now b.now }
     ensures same { IsTrue result ↔ (a.now ≡ b.now) }
     ensures hash { IsTrue result → ⟦<Pos as Hash>⟧.hash_input a.now ≡ ⟦<Pos as Hash>⟧.hash_input b.now }
 {
@@ -23,7 +25,8 @@ pub fn are_same_position(a: &Pos, b: &Pos) -> bool
 
 /// The default is 0:0, which is the position of no character.
 pub fn default_position() -> Pos
-    ensures { (result.line ≡ 0) × (result.column ≡ 0) }
+    ensures derived { ⟦<Pos as Default>⟧.is_default result }
+    ensures zero { (p : Pos) → ⟦<Pos as Default>⟧.is_default p → (p.line ≡ 0) × (p.column ≡ 0) }
 {
     Pos::default()
 }
