@@ -223,6 +223,8 @@ fn name_locations(tally: &mut Tally) {
         Ok(location) => {
             tally.check(location == DirectiveLocation::Field && location.as_str() == "FIELD");
             tally.check(location.is_query() && !location.is_schema());
+            let variable = DirectiveLocation::VariableDefinition;
+            tally.check(variable.is_schema() && !variable.is_query());
             tally.check(is_debugged(&location, "Field") && is_cloned(&location));
             let hasher: BuildHasherDefault<FoldHasher> = BuildHasherDefault::default();
             tally.check(hasher.hash_one(&location) == hasher.hash_one(&DirectiveLocation::Field));

@@ -1,7 +1,9 @@
 -- The output of each command, and the errors.
-use Rattle.std.specs.Prelude.{◌≡◌, ◌++◌, ℕ, List, [], ◌∷◌, Option, IfSome}
+use Rattle.std.specs.Prelude.{◌≡◌, ◌≤◌, ◌++◌, ℕ, List, [], ◌∷◌, length, Option, IfSome}
 use Rattle.std.specs.Io.KnownBytes.{Appends, IsAtEnd}
+use Rattle.std.specs.Str.{IsUtf8}
 use Rattle.graphql_core.specs.{Refusal, StyleOptions, IsMinified, IsDocumentOf, IsWrittenOf, HasNone, IsWide}
+use Rattle.graphql_core.specs.{max_length}
 use Rattle.graphql_query.specs.{queries, DefinitionTree, one_definition, IsFirstDefinition, IsMinifyRefusalOf}
 use Rattle.graphql_query.specs.Layout as query
 use Rattle.graphql_schema.specs.{schemas}
@@ -28,12 +30,20 @@ IsTooWideAlone style (d, rest) = query.IsTooWide style (d ∷ [])
 
 -- ---- commands
 
--- the command has this output for this input
+-- `Has text t` holds of this `t`, which is not too wide
+abbrev pub HasNarrow : {T : Type 0} → (List ℕ → T → Type 0) → (T → Type 0) → List ℕ → T → Type 0
+HasNarrow Has IsTooWide text t = Has text t × (IsTooWide t → ⊥)
+
+-- the command writes this output, if the input is not too long
+abbrev pub Writes : Command → StyleOptions → List ℕ → List ℕ → Type 0
+Writes Query style = IsWrittenOf (HasNarrow (IsDocumentOf queries) (query.IsTooWide style)) (query.layout style)
+Writes Schema style = IsWrittenOf (HasNarrow (IsDocumentOf schemas) (schema.IsTooWide style)) (schema.layout style)
+Writes Minify style = IsMinified
+Writes First style = IsWrittenOf (HasNarrow IsFirstDefinition (IsTooWideAlone style)) (definition_and_rest style)
+
+-- The command has this output for this input, which has at most `max_length` bytes.
 abbrev pub IsOutputOf : Command → StyleOptions → List ℕ → List ℕ → Type 0
-IsOutputOf Query style text output = IsWrittenOf (IsDocumentOf queries) (query.layout style) text output
-IsOutputOf Schema style text output = IsWrittenOf (IsDocumentOf schemas) (schema.layout style) text output
-IsOutputOf Minify style text output = IsMinified text output
-IsOutputOf First style text output = IsWrittenOf IsFirstDefinition (definition_and_rest style) text output
+IsOutputOf command style text output = (length text ≤ max_length) × Writes command style text output
 
 -- why the input is no query document, or begins with no definition of one
 abbrev pub HasNoQuery : Command → List ℕ → Refusal → Type 0
@@ -86,6 +96,10 @@ HasNoLayout First style text = IsWide IsFirstDefinition (IsTooWideAlone style) t
 -- all that was left was read, and P holds of it
 abbrev pub ReadsAll : Option (List ℕ) → Option (List ℕ) → (List ℕ → Type 0) → Type 0
 ReadsAll old new P = IsAtEnd new × IfSome old P
+
+-- all that was left was read, it is UTF-8, and P holds of it
+abbrev pub ReadsText : Option (List ℕ) → Option (List ℕ) → (List ℕ → Type 0) → Type 0
+ReadsText old new P = ReadsAll old new (λ input. IsUtf8 input × P input)
 
 -- a prefix of these bytes was written
 abbrev pub WritesPart : Option (List ℕ) → Option (List ℕ) → List ℕ → Type 0

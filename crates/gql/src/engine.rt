@@ -7,7 +7,7 @@ ghost use Rattle.graphql_core.specs.{Refusal, ParsesDocument};
 ghost use Rattle.graphql_query.specs.{queries};
 ghost use Rattle.graphql_schema.specs.{schemas};
 ghost use Rattle.gql.specs.{HasFault, IsOutputOf, HasNoQuery, HasNoSchema, HasBadPlace, RefusesLayout, ReadsAll};
-ghost use Rattle.gql.specs.{EndsReading, EndsEngine, WritesPart};
+ghost use Rattle.gql.specs.{EndsReading, EndsEngine, WritesPart, ReadsText};
 ghost use Rattle.graphql_query.specs as query_specs;
 ghost use Rattle.graphql_schema.specs as schema_specs;
 
@@ -190,24 +190,25 @@ pub fn run<R: Read, W: Write>(
     reader: &mut Counted<R>,
     writer: &mut Counted<W>,
 ) -> Result<(), RunError>
-    // The reader was read to its end, and the output of the command for that input was written.
-    ensures ok { OnOk result (ReadsAll (R.remaining reader.old.device) (R.remaining reader.new.device)
+    // The reader was read to its end, and the output of the command for that input was written. The input is UTF-8, of
+    // at most `MAX_LENGTH` bytes, and what is formatted is not too wide.
+    ensures ok { OnOk result (ReadsText (R.remaining reader.old.device) (R.remaining reader.new.device)
         (λ input. (output : List ℕ) × IsOutputOf command style.now input output
         × Appends (W.contents writer.old.device) (W.contents writer.new.device) output)) }
     ensures read { result ≡ Err RunError.Read → HasFault reader.old.faults reader.new.faults }
     ensures not_utf8 { result ≡ Err RunError.NotUtf8
         → ReadsAll (R.remaining reader.old.device) (R.remaining reader.new.device) (λ input. ¬ IsUtf8 input) }
     ensures query { (e : Refusal) → result ≡ Err (RunError.Query e)
-        → ReadsAll (R.remaining reader.old.device) (R.remaining reader.new.device)
+        → ReadsText (R.remaining reader.old.device) (R.remaining reader.new.device)
         (λ input. HasNoQuery command input e) }
     ensures schema { (e : Refusal) → result ≡ Err (RunError.Schema e)
-        → ReadsAll (R.remaining reader.old.device) (R.remaining reader.new.device)
+        → ReadsText (R.remaining reader.old.device) (R.remaining reader.new.device)
         (λ input. HasNoSchema command input e) }
     ensures minify { (e : Refusal) → result ≡ Err (RunError.Minify e)
-        → ReadsAll (R.remaining reader.old.device) (R.remaining reader.new.device)
+        → ReadsText (R.remaining reader.old.device) (R.remaining reader.new.device)
         (λ input. HasBadPlace command input e) }
     ensures format { (e : FormatError) → result ≡ Err (RunError.Format e)
-        → ReadsAll (R.remaining reader.old.device) (R.remaining reader.new.device)
+        → ReadsText (R.remaining reader.old.device) (R.remaining reader.new.device)
         (λ input. RefusesLayout command style.now input e) }
     // The reader reports a failure only if the run returns `Read`, and the writer only if the run returns `Write`.
     ensures reader_faults { result ≢ Err RunError.Read → reader.new.faults ≡ reader.old.faults }
@@ -216,7 +217,7 @@ pub fn run<R: Read, W: Write>(
     ensures untouched { IfErr result
         (λ e. e ≢ RunError.Write → Keeps (W.contents writer.old.device) (W.contents writer.new.device)) }
     ensures write { result ≡ Err RunError.Write → HasFault writer.old.faults writer.new.faults
-        × ReadsAll (R.remaining reader.old.device) (R.remaining reader.new.device)
+        × ReadsText (R.remaining reader.old.device) (R.remaining reader.new.device)
         (λ input. (output : List ℕ) × IsOutputOf command style.now input output
         × WritesPart (W.contents writer.old.device) (W.contents writer.new.device) output) }
 {

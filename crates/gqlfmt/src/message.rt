@@ -1,4 +1,6 @@
 //! The message for an input that is rejected.
+ghost use Rattle.std.specs.Prelude.{IfOk, IfSome};
+ghost use Rattle.graphql_fmt.specs.{IsOutOfMemory};
 
 use crate::name::Shown;
 use graphql_fmt::FormatSourceError;
@@ -147,7 +149,9 @@ pub fn rejection(
     name: &str,
     source: &str,
     error: &FormatSourceError,
-) -> Result<Option<String>, AllocError> {
+) -> Result<Option<String>, AllocError>
+    ensures { IfOk result (λ found. IfSome found (λ message. IsOutOfMemory error.now → ⊥)) }
+{
     let (Some(position), Some(cause)) = (error.position(), error.cause()) else {
         return Ok(None);
     };

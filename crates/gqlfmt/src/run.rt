@@ -87,7 +87,8 @@ fn format_text<R: Files<File = File> + AllocGlobal + Eprint, W: Write>(
     text: &str,
     metadata: Option<&Metadata>,
 ) -> io::Result<Outcome>
-    ensures { IfOk result (IsOutcomeOf request.now.task text.now (W.contents output.old) (W.contents output.new)) }
+    ensures { IfOk result (IsOutcomeOf request.now.options.language request.now.task text.now
+        (W.contents output.old) (W.contents output.new)) }
 {
     match decide(rt.alloc(), request, name, text) {
         Ok(action) => perform(rt, output, name, metadata, action),
@@ -119,7 +120,8 @@ fn format_standard_input<R: Files<File = File> + AllocGlobal + Eprint, I: Read, 
     name: &str,
 ) -> io::Result<Outcome>
     ensures { IfSome (I.remaining input.old) (λ source.
-        IfOk result (IsOutcomeOf request.now.task source (W.contents output.old) (W.contents output.new))) }
+        IfOk result (IsOutcomeOf request.now.options.language request.now.task source
+        (W.contents output.old) (W.contents output.new))) }
 {
     match read_text(rt.alloc(), input) {
         Ok(text) => format_text(rt, output, request, name, &text, None),

@@ -1,8 +1,8 @@
 //! The calls of the library.
-ghost use Rattle.std.specs.Prelude.{◌≡◌, ◌≤◌, ◌/◌, ◌↔◌, List, length, IfOk, IsTrue, string_bytes, MatchOption};
+ghost use Rattle.std.specs.Prelude.{◌≡◌, ◌≤◌, ◌/◌, ◌↔◌, List, length, IfOk, IfSome, IsTrue, string_bytes, MatchOption};
 ghost use Rattle.graphql_core.specs.{max_length};
 ghost use Rattle.graphql_fmt.specs.{Kept, HasKept, HasNoToken, KeepsAll, FormatsIn, IsReadAs, IsLanguageOf};
-ghost use Rattle.graphql_fmt.specs.{begins_query};
+ghost use Rattle.graphql_fmt.specs.{IsTidy, begins_query};
 ghost use Rattle.graphql_fmt.specs.steps.Checking.{ChecksIn};
 
 use crate::error::FormatSourceError;
@@ -76,8 +76,9 @@ fn formatted(
     options: &FormatOptions,
 ) -> Result<Option<String>, AllocError>
     requires { length source.now ≤ usize.MAX / 16 }
-    ensures { IfOk result (λ found. MatchOption found ((ks : List Kept) → HasKept source.now ks → ⊥)
+    ensures kept { IfOk result (λ found. MatchOption found ((ks : List Kept) → HasKept source.now ks → ⊥)
         (λ text. KeepsAll source.now (string_bytes text))) }
+    ensures tidy { IfOk result (λ found. IfSome found (λ text. IsTidy (string_bytes text))) }
 {
     let Some(pieces) = pieces_of(alloc, source)? else {
         return Ok(None);
@@ -100,6 +101,10 @@ pub fn format_source(
     // The output has the tokens and the comments of the input, in the same order, and no others. Block strings are
     // compared by value.
     ensures kept { IfOk result (λ output. KeepsAll source.now (string_bytes output)) }
+
+    // The output begins with the first of them, and ends with one line feed. Between two of them it has nothing, a
+    // space, a comma and a space, or a line feed, at most one empty line, and spaces.
+    ensures tidy { IfOk result (λ output. IsTidy (string_bytes output)) }
 
     // The output has the document of the input, and every error is the error of the parser or out of memory. Each field
     // of `FormatsDocument` in `specs/Formatting.antt` is a promise.
@@ -134,9 +139,13 @@ pub fn format_comments(
     options: &FormatOptions,
 ) -> Result<Option<String>, AllocError>
     // The output has the comments of the input, in the same order, and no token.
-    ensures { IfOk result (λ found. MatchOption found
+    ensures kept { IfOk result (λ found. MatchOption found
         (length source.now ≤ max_length → HasNoToken source.now → ⊥)
         (λ output. HasNoToken source.now × KeepsAll source.now (string_bytes output))) }
+
+    // The output is empty, or it begins with a comment, and ends with one line feed. Only such gaps come between two
+    // comments as between those of a document.
+    ensures tidy { IfOk result (λ found. IfSome found (λ output. IsTidy (string_bytes output))) }
 {
     if source.len() > MAX_LENGTH || !has_no_token(source) {
         return Ok(None);

@@ -2,6 +2,7 @@
 
 mod building;
 mod callers;
+mod messages;
 mod page;
 mod schemas;
 mod sources;

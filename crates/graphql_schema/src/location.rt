@@ -108,6 +108,7 @@ impl DirectiveLocation {
 
 /// Returns whether two locations are equal. Equal locations are the same, and feed a hasher the same input.
 pub fn are_same_location(a: &DirectiveLocation, b: &DirectiveLocation) -> bool
+    ensures derived { result ≡ ⟦<DirectiveLocation as PartialEq>⟧.eq a.now b.now }
     ensures same { IsTrue result ↔ (a.now ≡ b.now) }
     ensures hash { IsTrue result
         → ⟦<DirectiveLocation as Hash>⟧.hash_input a.now ≡ ⟦<DirectiveLocation as Hash>⟧.hash_input b.now }

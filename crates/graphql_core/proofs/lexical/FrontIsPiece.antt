@@ -9,8 +9,9 @@ use Rattle.graphql_core.specs.declared.tokenizer.piece.Move.TheVariants.{Stay, D
 use Rattle.graphql_core.specs.steps.Front.{FrontElement, AtEnd, Skips, Takes}
 use Rattle.graphql_core.specs.declared.tokenizer.piece.Nesting.TheVariants.{Unchanged}
 use Rattle.graphql_core.specs.{front, front_of, other_token, comment, line_end, starts_number, number, is_name_start, is_name_continue, is_in_line}
-use Rattle.graphql_core.specs.{is_punctuator_byte, nesting_of, Meaning, Ignored, TokenOf, Stands, BeginsNone, ignored_tab, ignored_line_feed, ignored_carriage_return}
+use Rattle.graphql_core.specs.{is_punctuator_byte, nesting_of, Meaning, Ignored, TokenOf, Stands, BeginsNone, ignored_tab, ignored_line_feed}
 use Rattle.graphql_core.specs.{ignored_space, ignored_comma, ignored_byte_order_mark, comment_at_end, comment_feed, comment_return_feed, comment_return}
+use Rattle.graphql_core.specs.{ignored_carriage_return}
 use Rattle.graphql_core.specs.{name_token, punctuator_token, spread_token, integer_token, float_token, string_token, block_string_token}
 use Rattle.graphql_core.proofs.lexical.Runs.{run, run_all, not_equal, differs}
 use Rattle.graphql_core.proofs.lexical.Numbers.{NumberRun, integer_run, float_run, integer_front, float_front}

@@ -1,6 +1,6 @@
 //! Output made of pieces.
 ghost use Rattle.std.specs.Prelude.{◌≡◌, ◌++◌, List, ℕ, map, string_bytes, IfOk, OnOk};
-ghost use Rattle.graphql_fmt.specs.{HasKept};
+ghost use Rattle.graphql_fmt.specs.{HasKept, AreLaidOut};
 ghost use Rattle.graphql_fmt.specs.steps.Pieces.{kept_piece, IsPiece, ArePieces};
 ghost use Rattle.graphql_fmt.specs.steps.Joining.{IsWrittenFor, gap_bytes};
 
@@ -70,7 +70,9 @@ fn push_spelling(
 pub fn joined(alloc: Global, pieces: &[Piece<'_>], gaps: &[Gap]) -> Result<String, AllocError>
     requires { ArePieces pieces.now }
     // The output has these tokens and comments, and no others, whatever the gaps are.
-    ensures { IfOk result (λ text. HasKept (string_bytes text) (map kept_piece pieces.now)) }
+    ensures kept { IfOk result (λ text. HasKept (string_bytes text) (map kept_piece pieces.now)) }
+    // Nothing but gaps is between them.
+    ensures tidy { IfOk result (λ text. AreLaidOut (map kept_piece pieces.now) (string_bytes text)) }
 {
     let mut out = String::new(alloc);
     let Some((first, others)) = pieces.split_first() else {

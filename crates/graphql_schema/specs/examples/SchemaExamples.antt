@@ -9,6 +9,7 @@ use Rattle.graphql_schema.specs.Grammar.{schema_grammar, document_symbol, schema
 use Rattle.graphql_schema.specs.Grammar.{schema_extension_symbol}
 use Rattle.graphql_schema.specs.Language.{IsDocumentOf}
 use Rattle.graphql_schema.specs.Layout.{layout, IsTooWide}
+use Rattle.graphql_schema.specs.Printable.{IsPrintable}
 
 abbrev at : ℕ → ℕ → Place
 at line column = record { line = line; column = column }
@@ -110,6 +111,8 @@ pub record WorkedLayouts : Type 0 where
   pub directives_alone : Shows (codes "extend schema @a") (codes "extend schema @a\n")
   pub empty_schema_extension_layout : layout default_style (schema_extension empty_schema ∷ [])
       ≡ codes "extend schema\n"
+  -- an extension of the schema that adds nothing is not printable
+  pub empty_schema_extension_is_unprintable : IsPrintable (schema_extension empty_schema ∷ []) → ⊥
   -- only one level is open, so no indentation is too wide
   pub empty_schema_fits : IsTooWide (with_indent default_style 4294967295) (schema None empty_schema ∷ []) → ⊥
   pub input_layout : Shows (codes "input I { a: Int = 1 @d }") (codes "input I {\n  a: Int = 1 @d\n}\n")

@@ -6,7 +6,7 @@ use Rattle.graphql_parser.proofs.Mapped.{at_passed, mapped, returned}
 use Rattle.gql.specs.{EndsEngine}
 use Rattle.gql.specs.declared.command.Command.TheVariants.{First}
 use Rattle.gql.specs.declared.error.RunError.TheVariants as error
-use Rattle.gql.proofs.{not_laid_out}
+use Rattle.gql.proofs.{not_laid_out, not_long, not_wide}
 use Rattle.graphql_core.proofs.{has_none}
 use Rattle.gql.proofs.engine.first_laid_out.Goals as goal
 
@@ -42,6 +42,23 @@ returns c =
     let alone = IfOk-at_ok _ c.in_ok-document.was c.alone.ensures.ok in
     let text = at_passed _ _ _ c.map_err-2.ensures.cases c.map_err-2.ensures.variant c.in_ok-output.was c.format.ensures.text in
     let is = text ∙ ap (λ ds. layout c.args.style.now (definitions_view names.ghosts.bytes ds)) alone in
+    let consumed = c.consume_definition in
+    let short = at_passed _ _ _ c.map_err.ensures.cases c.map_err.ensures.variant c.in_ok-definition.was
+    (not_long _ consumed.result consumed.ensures.too_long) in
+    let narrow = at_passed _ _ _ c.map_err-2.ensures.cases c.map_err-2.ensures.variant c.in_ok-output.was
+    (not_wide c.format.result c.format.ensures.too_wide.1) in
     MatchResult-from_both c.with_rest.result _ ends
-    (IfOk-weaker c.with_rest.result _ _ (λ s bytes. (_, first, bytes ∙ ap (λ text. text ++ c.in_ok-definition.rest.now) is)) c.with_rest.ensures.ok)
+    (IfOk-weaker c.with_rest.result _ _
+    (λ s bytes. (
+      short,
+      (
+        _,
+        (
+          first,
+          λ wide.
+              narrow (subst (λ ds. IsTooWide c.args.style.now (definitions_view names.ghosts.bytes ds)) (sym alone) wide),
+        ),
+        bytes ∙ ap (λ text. text ++ c.in_ok-definition.rest.now) is,
+      ),
+    )) c.with_rest.ensures.ok)
     (IfErr-weaker c.with_rest.result _ ends (λ e is. subst ends (sym is) (_, first)) c.with_rest.ensures.err)

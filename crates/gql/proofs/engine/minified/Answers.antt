@@ -1,6 +1,7 @@
 use Rattle.std.proofs.Common.{string_bytes}
 use Rattle.std.proofs.lemmas.Result.{MatchResult-from_both}
 use Rattle.graphql_parser.proofs.Mapped.{mapped}
+use Rattle.gql.proofs.{not_long, with_bound}
 use Rattle.gql.specs.{EndsEngine}
 use Rattle.gql.specs.declared.command.Command.TheVariants.{Minify}
 use Rattle.gql.specs.declared.error.RunError.TheVariants as error
@@ -9,4 +10,6 @@ use Rattle.gql.proofs.engine.minified.Goals as goal
 pub returns : goal.returns
 returns c =
     mapped _ _ error.Minify _ (EndsEngine Minify c.args.style.now (string_bytes c.args.text)) c.map_err.ensures.cases
-    (MatchResult-from_both c.minify_query.result _ _ c.minify_query.ensures.minified c.minify_query.ensures.first_error)
+    (MatchResult-from_both c.minify_query.result _ _
+    (with_bound _ _ c.minify_query.result (not_long _ c.minify_query.result c.minify_query.ensures.too_long) c.minify_query.ensures.minified)
+    c.minify_query.ensures.first_error)

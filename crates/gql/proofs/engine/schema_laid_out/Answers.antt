@@ -6,7 +6,7 @@ use Rattle.gql.proofs.engine.schema_laid_out.Goals as goal
 pub returns-in-Ok : goal.returns-in-Ok
 returns-in-Ok c =
     laid_out Schema _ _ _ _ _ (λ some. some) (λ wide. wide) c.in-Ok.ensures.parses c.format.ensures.text
-    c.format.ensures.too_wide.0 c.map_err-output.ensures.cases
+    c.format.ensures.too_wide c.map_err-output.ensures.cases
 
 pub returns-in-Err : goal.returns-in-Err
 returns-in-Err c = none_parsed c.in-Err.ensures.parses

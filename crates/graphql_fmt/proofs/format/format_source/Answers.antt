@@ -28,11 +28,11 @@ formatted-requires c = (has_document c.args.source.now c.read_as-language.result
 pub unreachable-requires : goal.unreachable-requires
 unreachable-requires c =
     let (short, some) = has_document c.args.source.now c.read_as-language.result c.in_ok-check.ensures in
-    MatchOption-at_none _ _ c.in-None.is c.in_ok-text.ensures some.0 some.1
+    MatchOption-at_none _ _ c.in-None.is c.in_ok-text.ensures.kept some.0 some.1
 
 pub returns-clause-formats : goal.returns-clause-formats
 returns-clause-formats c =
     let source = c.args.source.now in
     let language = c.read_as-language.result in
     for_language source (λ l. FormatsIn l source (Ok c.in-Some.text)) c.args.options.now.language language c.read_as-language.ensures
-    (made_in source language c.in-Some.text c.in_ok-check.ensures (MatchOption-at_some _ _ c.in-Some.text c.in-Some.is c.in_ok-text.ensures))
+    (made_in source language c.in-Some.text c.in_ok-check.ensures (MatchOption-at_some _ _ c.in-Some.text c.in-Some.is c.in_ok-text.ensures.kept))

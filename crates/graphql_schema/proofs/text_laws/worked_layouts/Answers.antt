@@ -21,6 +21,7 @@ returns c = record {
   schema_extension_layout = (_, computed schemas _ refl refl tt, refl);
   directives_alone = (_, computed schemas _ refl refl tt, refl);
   empty_schema_extension_layout = refl;
+  empty_schema_extension_is_unprintable = λ p. cc p.definitions.0;
   empty_schema_fits = λ h. omega (arith, h);
   input_layout = (_, computed schemas _ refl refl tt, refl);
   extension_layout = (_, computed schemas _ refl refl tt, refl);

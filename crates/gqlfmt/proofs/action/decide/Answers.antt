@@ -1,0 +1,21 @@
+use Rattle.std.proofs.Common.{inl}
+use Rattle.std.proofs.lemmas.Option.{MatchOption-at_some, MatchOption-at_none}
+use Rattle.gqlfmt.proofs.Accepting.{accepted, rejected, fits, at_some}
+use Rattle.gqlfmt.proofs.action.decide.Goals as goal
+
+pub returns-in-Some : goal.returns-in-Some
+returns-in-Some c =
+    let (none, keeps) = MatchOption-at_some _ _ c.in-Some.formatted c.in-Some.is c.in_ok-formatted.ensures.kept in
+    fits _ _ _ _ _ c.in_ok-action_for.ensures (inl none) keeps
+
+pub returns-in-Ok : goal.returns-in-Ok
+returns-in-Ok c =
+    let source = c.args.source.now in
+    let chosen = c.args.request.now.options.language in
+    fits _ _ _ _ _ c.in_ok-action_for-in-Ok.ensures (accepted source chosen c.in-Ok.formatted c.in-Ok.ensures.formats) c.in-Ok.ensures.kept
+
+pub returns-in-Some-2 : goal.returns-in-Some-2
+returns-in-Some-2 c =
+    let other = at_some _ _ c.in-Some-2.message c.in-Some-2.is c.in_ok-message-in-Err.ensures in
+    let some = MatchOption-at_none _ _ c.in_default.is c.in_ok-formatted.ensures.kept in
+    rejected c.args.source.now c.args.request.now.options.language c.in-Err.error other some c.in-Err.ensures.formats
