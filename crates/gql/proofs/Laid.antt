@@ -1,43 +1,28 @@
 -- What the engine returns when it formats a parsed document.
-use Rattle.std.proofs.Common.{◌≡◌, ◌<◌, ◌≤◌, ◌↔◌, ℕ, List, length, Result, Ok, Err, MatchResult, IfOk, IfErr, IsErrOf, String, string_bytes, refl, inl, inr}
-use Rattle.std.proofs.lemmas.Bool.{cases_lt}
+use Rattle.std.proofs.Common.{◌≡◌, ◌≤◌, ◌↔◌, ℕ, List, length, Result, Ok, Err, MatchResult, IfOk, IfErr, String, string_bytes, refl}
 use Rattle.std.specs.Result.{IsErrAnd}
 use Rattle.std.specs.Global.{Global}
-use Rattle.graphql_core.specs.{StyleOptions, IsDocumentOf, ParsesDocument, Language, IsWrittenOf, IsWide, max_length}
+use Rattle.graphql_core.specs.{StyleOptions, IsDocumentOf, ParsesDocument, Language, IsWrittenOf, IsWide, HasNarrow, max_length}
+use Rattle.graphql_core.proofs.{not_long, not_wide}
 use Rattle.graphql_core.specs.declared.format.error.FormatError.{FormatError}
 use Rattle.graphql_core.specs.declared.format.error.FormatError.TheVariants.{TooWide, OutOfMemory}
 use Rattle.gql.specs.declared.command.Command.{Command}
 use Rattle.gql.specs.declared.error.RunError.{RunError}
 use Rattle.gql.specs.declared.error.RunError.TheVariants.{Format}
-use Rattle.gql.specs.{HasNoLayout, HasDocument, HasOne, HasNarrow, EndsEngine}
+use Rattle.gql.specs.{HasNoLayout, HasDocument, HasOne, EndsEngine}
 
--- a call that rejects texts that are too long returns a value only for one of at most `max_length` bytes
-pub not_long : {A E : Type 0} {e : E} (text : List ℕ) (r : Result A E) → (max_length < length text → IsErrOf r e) → IfOk r (λ x. length text ≤ max_length)
-not_long text (Err y) rejects = tt
-not_long {e = e} text (Ok x) rejects = elim (cases_lt max_length (length text)) [ inl long ↦ absurd (other (rejects long)) | inr within ↦ within ]
-  where
-    other : Ok x ≡ Err e → ⊥
-    other h = cc
-
+-- a value comes only for a text of at most `max_length` bytes
 pub with_bound : {A E : Type 0} (text : List ℕ) (P : A → Type 0) (r : Result A E) → IfOk r (λ x. length text ≤ max_length) → IfOk r P
     → IfOk r (λ x. (length text ≤ max_length) × P x)
 with_bound text P (Ok x) short h = (short, h)
 with_bound text P (Err y) short h = tt
 
--- a document that was formatted is not too wide
-pub not_wide : {A W : Type 0} (made : Result A FormatError) → (W → IsErrOf made TooWide) → IfOk made (λ x. W → ⊥)
-not_wide (Err y) rejects = tt
-not_wide (Ok x) rejects = λ wide. other (rejects wide)
-  where
-    other : Ok x ≡ Err TooWide → ⊥
-    other h = cc
-
 -- formatting fails only if the document is too wide or an allocation failed
-pub not_laid_out : {A : Type 0} (command : Command) (style : StyleOptions) (text : List ℕ) (made : Result A FormatError) → HasDocument command text
-    → (made ≡ Err TooWide → HasNoLayout command style text) → IfErr made (λ e. EndsEngine command style text (Format e))
-not_laid_out command style text (Ok x) some wide = tt
-not_laid_out command style text (Err TooWide) some wide = wide refl
-not_laid_out command style text (Err OutOfMemory) some wide = some
+pub not_laid_out : {A : Type 0} (command : Command) (style : StyleOptions) (text : List ℕ) (made : Result A FormatError) → length text ≤ max_length
+    → HasDocument command text → (made ≡ Err TooWide → HasNoLayout command style text) → IfErr made (λ e. EndsEngine command style text (Format e))
+not_laid_out command style text (Ok x) short some wide = tt
+not_laid_out command style text (Err TooWide) short some wide = (short, wide refl)
+not_laid_out command style text (Err OutOfMemory) short some wide = (short, some)
 
 -- the formatted document, or the error that it is too wide or that an allocation failed
 pub laid_out : {D V : Type 0} {l : Language D} {view : V → D} {text : List ℕ} {v : V} (command : Command) (style : StyleOptions) (lay : D → List ℕ)
@@ -50,5 +35,6 @@ pub laid_out : {D V : Type 0} {l : Language D} {view : V → D} {text : List ℕ
 laid_out {text = text} {v = v} command style lay IsTooWide (Ok s) r some wide parses is too_wide same =
     rw same (not_long text (Ok v) parses.too_long, (_, (parses.sound, not_wide (Ok s) too_wide.1), is))
 laid_out command style lay IsTooWide (Err e) (Ok s) some wide parses is too_wide failed = absurd failed
-laid_out {text = text} command style lay IsTooWide (Err e) (Err y) some wide parses is too_wide same =
-    rw same (not_laid_out command style text (Err e) (some (_, parses.sound)) (λ why. wide (_, parses.sound, too_wide.0 why)))
+laid_out {text = text} {v = v} command style lay IsTooWide (Err e) (Err y) some wide parses is too_wide same =
+    rw same (not_laid_out command style text (Err e) (not_long text (Ok v) parses.too_long) (some (_, parses.sound))
+    (λ why. wide (_, parses.sound, too_wide.0 why)))

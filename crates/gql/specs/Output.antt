@@ -2,7 +2,7 @@
 use Rattle.std.specs.Prelude.{◌≡◌, ◌≤◌, ◌++◌, ℕ, List, [], ◌∷◌, length, Option, IfSome}
 use Rattle.std.specs.Io.KnownBytes.{Appends, IsAtEnd}
 use Rattle.std.specs.Str.{IsUtf8}
-use Rattle.graphql_core.specs.{Refusal, StyleOptions, IsMinified, IsDocumentOf, IsWrittenOf, HasNone, IsWide}
+use Rattle.graphql_core.specs.{Refusal, StyleOptions, IsMinified, IsDocumentOf, IsWrittenOf, HasNone, IsWide, HasNarrow}
 use Rattle.graphql_core.specs.{max_length}
 use Rattle.graphql_query.specs.{queries, DefinitionTree, one_definition, IsFirstDefinition, IsMinifyRefusalOf}
 use Rattle.graphql_query.specs.Layout as query
@@ -29,10 +29,6 @@ abbrev pub IsTooWideAlone : StyleOptions → DefinitionTree × List ℕ → Type
 IsTooWideAlone style (d, rest) = query.IsTooWide style (d ∷ [])
 
 -- ---- commands
-
--- `Has text t` holds of this `t`, which is not too wide
-abbrev pub HasNarrow : {T : Type 0} → (List ℕ → T → Type 0) → (T → Type 0) → List ℕ → T → Type 0
-HasNarrow Has IsTooWide text t = Has text t × (IsTooWide t → ⊥)
 
 -- the command writes this output, if the input is not too long
 abbrev pub Writes : Command → StyleOptions → List ℕ → List ℕ → Type 0
@@ -118,10 +114,11 @@ EndsReading old new (error.Minify e) = ⊥
 EndsReading old new (Format e) = ⊥
 EndsReading old new Write = ⊥
 
--- what an error of formatting says of the input: `OutOfMemory` comes only if there was a document to format
+-- What an error of formatting says of the input, which has at most `max_length` bytes: `OutOfMemory` comes only if
+-- there was a document to format.
 abbrev pub RefusesLayout : Command → StyleOptions → List ℕ → FormatError → Type 0
-RefusesLayout command style text TooWide = HasNoLayout command style text
-RefusesLayout command style text layout_error.OutOfMemory = HasDocument command text
+RefusesLayout command style text TooWide = (length text ≤ max_length) × HasNoLayout command style text
+RefusesLayout command style text layout_error.OutOfMemory = (length text ≤ max_length) × HasDocument command text
 
 -- what an error of the engine says of the input
 abbrev pub EndsEngine : Command → StyleOptions → List ℕ → RunError → Type 0

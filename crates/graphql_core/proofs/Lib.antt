@@ -65,10 +65,10 @@ pub use round_trip.{gap_back, in_braces_back, in_parentheses_back, lift_back, ma
 pub use round_trip.{name_word, node_back, not_listed, nothing_back, open_back, optional_default_back}
 pub use round_trip.{punctuator_back, quoted_means, quoted_takes, quoted_word, same_parts, second_back, seven_back}
 pub use round_trip.{six_back, some_back, spaces_blank, stop_back, then_gap, three_back, type_back, word_back}
-pub use documents.{AreItems, IsGrown, RefusesAlike, as_error, begins_at, by_fault, computed, cut_first}
-pub use documents.{exact, exact_lax, exit, from_stream, gives_lifted, halts_before, halts_led, has_none}
-pub use documents.{later_document_of, later_parse_tree, least_is_first, least_stop, node_lacks, node_passes}
+pub use documents.{AreItems, IsGrown, RefusesAlike, as_error, begins_at, by_fault, computed, cut_first, exact}
+pub use documents.{exact_lax, exit, from_stream, gives_lifted, halts_before, halts_led, has_none, later_document_of}
+pub use documents.{later_parse_tree, least_is_first, least_stop, node_lacks, node_passes, not_long, not_wide}
 pub use documents.{node_refused, node_stops, none_goes_on, none_parsed, none_there, one_cause, one_cause_alike}
 pub use documents.{one_each, one_least, only_memory, parsed, read_left, read_refused, read_stopped, read_whole}
-pub use documents.{reads_led, refusal, refused, shared_rows, stops_led, stream_parsed, turn_done}
-pub use documents.{turn_halts, unread, unseen, valueless_alike, valueless_not}
+pub use documents.{reads_led, refusal, refused, shared_rows, stops_led, stream_parsed, turn_done, turn_halts}
+pub use documents.{unread, unseen, valueless_alike, valueless_not}

@@ -54,9 +54,10 @@ pub use layouts.{description_levels, directives_layout, gap, has_block_form, has
 pub use layouts.{in_levels, in_parentheses, name_part, punctuator_part, quoted, separated, spaces, string_layout}
 pub use layouts.{text_of, token, type_layout, with_indent, with_multiline}
 unfoldable pub use steps.{block_end, comment, front, items, items_in, number, other_token, quoted_front, string_end}
-pub use documents.{AnswersUnlessMemory, AreAlike, AreReadBack, HasNoValue, HasNone, HasOneFaultEach, IsDocument}
-pub use documents.{IsDocumentOf, IsFirstError, IsParsed, IsReadBack, IsRefusalFor, IsRefusalOf, IsWide, IsWrittenOf}
-pub use documents.{Language, NoneGoesOn, ParsesDocument, ParsesStream, ReadsDocument, numbered, past_bound, reading}
+pub use documents.{AnswersUnlessMemory, AreAlike, AreReadBack, HasNarrow, HasNoValue, HasNone, HasOneFaultEach}
+pub use documents.{IsDocument, IsDocumentOf, IsFirstError, IsParsed, IsReadBack, IsRefusalFor, IsRefusalOf, IsWide}
+pub use documents.{IsWrittenOf, Language, NoneGoesOn, ParsesDocument, ParsesStream, ReadsDocument, numbered}
+pub use documents.{past_bound, reading}
 pub use theory.{After, AsFirst, Before, Change, EachIsFactored, Extends, Fails, Growth, InParts, InSides, RefusesTokens}
 pub use theory.{Same, Takes, TestsAlike, change_at, cont, decides, either_way, fails_after, fails_before, fails_check}
 pub use theory.{fails_node, fails_one, fails_value, first, grown, growth_at, in_second, is_below, is_row, out_of_head}

@@ -17,3 +17,7 @@ module _ {T : Type 0} (Has : List ℕ → T → Type 0) where
   -- `Has text t` holds for some `t` that is too wide
   abbrev pub IsWide : (T → Type 0) → List ℕ → Type 0
   IsWide IsTooWide text = (t : T) × Has text t × IsTooWide t
+
+  -- `Has text t` holds, and this `t` is not too wide
+  abbrev pub HasNarrow : (T → Type 0) → List ℕ → T → Type 0
+  HasNarrow IsTooWide text t = Has text t × (IsTooWide t → ⊥)

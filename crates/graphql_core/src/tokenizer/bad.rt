@@ -5,7 +5,7 @@ ghost use Rattle.std.specs.Str.{chars};
 ghost use Rattle.graphql_core.specs.{bad_text};
 ghost use Rattle.graphql_core.specs.lexical.Items as spec;
 
-use crate::tokenizer::number::run_len;
+use crate::tokenizer::number::{run_len, starts_number};
 use crate::tokenizer::quoted::begins_quotes;
 use crate::tokenizer::token::Bad;
 
@@ -52,7 +52,7 @@ fn bad_at_start(text: &str) -> Bad<'_>
     let byte = bytes[0];
     if byte == b'.' {
         Bad::BareDot
-    } else if byte == b'-' || byte.is_ascii_digit() {
+    } else if starts_number(byte) {
         bad_number(text.split_at(run_len(bytes)).0)
     } else if byte != b'"' {
         Bad::Character(first_char(text))

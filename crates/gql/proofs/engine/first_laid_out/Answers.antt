@@ -6,8 +6,8 @@ use Rattle.graphql_parser.proofs.Mapped.{at_passed, mapped, returned}
 use Rattle.gql.specs.{EndsEngine}
 use Rattle.gql.specs.declared.command.Command.TheVariants.{First}
 use Rattle.gql.specs.declared.error.RunError.TheVariants as error
-use Rattle.gql.proofs.{not_laid_out, not_long, not_wide}
-use Rattle.graphql_core.proofs.{has_none}
+use Rattle.gql.proofs.{not_laid_out}
+use Rattle.graphql_core.proofs.{has_none, not_long, not_wide}
 use Rattle.gql.proofs.engine.first_laid_out.Goals as goal
 
 pub returns-in_err-definition : goal.returns-in_err-definition
@@ -29,7 +29,10 @@ returns-in_err-output c =
     let ends = EndsEngine First c.args.style.now c.args.text.now in
     let first = at_passed _ _ _ c.map_err.ensures.cases c.map_err.ensures.variant c.in_ok-definition.was c.consume_definition.ensures.first in
     let alone = IfOk-at_ok _ c.in_ok-document.was c.alone.ensures.ok in
-    let wide = not_laid_out First c.args.style.now c.args.text.now c.format.result (_, first)
+    let consumed = c.consume_definition in
+    let short = at_passed _ _ _ c.map_err.ensures.cases c.map_err.ensures.variant c.in_ok-definition.was
+    (not_long _ consumed.result consumed.ensures.too_long) in
+    let wide = not_laid_out First c.args.style.now c.args.text.now c.format.result short (_, first)
     (λ is.
     let too_wide = c.format.ensures.too_wide.0 is in
     (_, first, subst (λ ds. IsTooWide c.args.style.now (definitions_view names.ghosts.bytes ds)) alone too_wide)) in

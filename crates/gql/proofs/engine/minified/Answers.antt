@@ -1,7 +1,8 @@
 use Rattle.std.proofs.Common.{string_bytes}
 use Rattle.std.proofs.lemmas.Result.{MatchResult-from_both}
 use Rattle.graphql_parser.proofs.Mapped.{mapped}
-use Rattle.gql.proofs.{not_long, with_bound}
+use Rattle.gql.proofs.{with_bound}
+use Rattle.graphql_core.proofs.{not_long}
 use Rattle.gql.specs.{EndsEngine}
 use Rattle.gql.specs.declared.command.Command.TheVariants.{Minify}
 use Rattle.gql.specs.declared.error.RunError.TheVariants as error
