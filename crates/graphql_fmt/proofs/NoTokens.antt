@@ -33,10 +33,10 @@ module _ (source : List ℕ) where
   )
 
   -- the source is lexical elements, so the formatter has pieces
-  pub comments_kept : (r : Result (Option (String Global)) AllocError) → HasNoToken source
+  pub comments_kept : (r : Result (Option (String Global)) AllocError) → length source ≤ max_length → HasNoToken source
       → IfOk r (λ found. MatchOption found ((ks : List Kept) → HasKept source ks → ⊥) (λ text. KeepsAll source (string_bytes text)))
       → IfOk r (λ found. MatchOption found (length source ≤ max_length → HasNoToken source → ⊥)
-      (λ output. HasNoToken source × KeepsAll source (string_bytes output)))
-  comments_kept (Ok (Some s)) none keeps = (none, keeps)
-  comments_kept (Ok None) (w, has) fails = let (ks, some) = has_kept source _ has tt in absurd (fails ks some)
-  comments_kept (Err e) none keeps = tt
+      (λ output. (length source ≤ max_length) × HasNoToken source × KeepsAll source (string_bytes output)))
+  comments_kept (Ok (Some s)) short none keeps = (short, none, keeps)
+  comments_kept (Ok None) short (w, has) fails = let (ks, some) = has_kept source _ has tt in absurd (fails ks some)
+  comments_kept (Err e) short none keeps = tt

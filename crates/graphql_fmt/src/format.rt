@@ -141,7 +141,8 @@ pub fn format_comments(
     // The output has the comments of the input, in the same order, and no token.
     ensures kept { IfOk result (λ found. MatchOption found
         (length source.now ≤ max_length → HasNoToken source.now → ⊥)
-        (λ output. HasNoToken source.now × KeepsAll source.now (string_bytes output))) }
+        (λ output. (length source.now ≤ max_length) × HasNoToken source.now
+        × KeepsAll source.now (string_bytes output))) }
 
     // The output is empty, or it begins with a comment, and ends with one line feed. Only such gaps come between two
     // comments as between those of a document.

@@ -5,14 +5,16 @@ use Rattle.gqlfmt.proofs.action.decide.Goals as goal
 
 pub returns-in-Some : goal.returns-in-Some
 returns-in-Some c =
-    let (none, keeps) = MatchOption-at_some _ _ c.in-Some.formatted c.in-Some.is c.in_ok-formatted.ensures.kept in
-    fits _ _ _ _ _ c.in_ok-action_for.ensures (inl none) keeps
+    let (short, none, keeps) = MatchOption-at_some _ _ c.in-Some.formatted c.in-Some.is c.in_ok-formatted.ensures.kept in
+    let tidy = at_some _ _ c.in-Some.formatted c.in-Some.is c.in_ok-formatted.ensures.tidy in
+    fits _ _ _ _ _ c.in_ok-action_for.ensures (short, inl none) (keeps, tidy)
 
 pub returns-in-Ok : goal.returns-in-Ok
 returns-in-Ok c =
     let source = c.args.source.now in
     let chosen = c.args.request.now.options.language in
-    fits _ _ _ _ _ c.in_ok-action_for-in-Ok.ensures (accepted source chosen c.in-Ok.formatted c.in-Ok.ensures.formats) c.in-Ok.ensures.kept
+    fits _ _ _ _ _ c.in_ok-action_for-in-Ok.ensures (accepted source chosen c.in-Ok.formatted c.in-Ok.ensures.formats)
+    (c.in-Ok.ensures.kept, c.in-Ok.ensures.tidy)
 
 pub returns-in-Some-2 : goal.returns-in-Some-2
 returns-in-Some-2 c =

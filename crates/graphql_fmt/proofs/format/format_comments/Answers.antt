@@ -7,4 +7,4 @@ pub returns-clause-kept : goal.returns-clause-kept
 returns-clause-kept c =
     let source = c.args.source.now in
     let none : HasNoToken source = search rules in
-    comments_kept source c.formatted.result none c.formatted.ensures.kept
+    comments_kept source c.formatted.result (search rules) none c.formatted.ensures.kept
