@@ -1,13 +1,16 @@
 -- Where the first definition of a source ends.
-use Rattle.std.proofs.Common.{◌≡◌, ◌∙◌, ◌-◌, ◌<◌, ℕ, zero, suc, List, [], ◌∷◌, ◌++◌, length, take, drop, inl, inr, IsUtf8, refl, sym, ap, subst, arith}
-use Rattle.std.proofs.Common.{length-append}
+use Rattle.std.proofs.Common.{◌≡◌, ◌∙◌, ◌+◌, ◌-◌, ◌<◌, ◌≤◌, ℕ, zero, suc, List, [], ◌∷◌, ◌++◌, length, take, drop, inl, inr, IsUtf8, refl}
+use Rattle.std.proofs.Common.{Option, None, Some, length-append, sym, ap, subst, arith}
 use Rattle.std.proofs.lemmas.Bool.{cases_lt}
 use Rattle.std.proofs.lemmas.List.{length-drop, drop-append-le, take-append-drop}
 use Rattle.std.proofs.Math.ListN.{drop_of_length-le}
+use Rattle.std.proofs.Math.Seq.{take-append-add, take-append_seam}
+use Rattle.std.specs.Str.{IsValidUpTo}
 use Rattle.graphql_core.proofs.{Rise, items_rise}
 use Rattle.graphql_core.specs.{Token, ParseTree, leaves, Item, HasItems, items_of, start, next_place, split}
 use Rattle.graphql_query.specs.{DefinitionTree, IsFirstDefinition}
-use Rattle.graphql_c.specs.{EndsAt}
+use Rattle.graphql_query.proofs.documents.Consuming.{one_first}
+use Rattle.graphql_c.specs.{EndsAt, EndsWithin}
 use Rattle.graphql_c.proofs.Fronts.{Kept, kept}
 
 -- a suffix of n values begins n values before the end of the list
@@ -67,3 +70,43 @@ still_at text rest more d first some utf8 =
 -- a prefix of some bytes, and what follows it
 pub begins : (front whole : List ℕ) → front ≡ take (length front) whole → whole ≡ front ++ drop (length front) whole
 begins front whole is = sym (ap (λ f. f ++ drop (length front) whole) is ∙ take-append-drop (length front) whole)
+
+-- a source has one end of its first definition
+pub ends_once : (text : List ℕ) (m n : ℕ) → EndsAt text m → EndsAt text n → m ≡ n
+ends_once text m n (short, d, first) (within, e, other) =
+    let same = ap (λ (r : DefinitionTree × List ℕ). length r.1) (one_first text _ _ first other) in
+    omega (arith, same, length-drop m text, length-drop n text, short, within)
+
+-- an end before the end of a prefix is an end in the whole source
+ends_before : (front more : List ℕ) (n : ℕ) → EndsAt front n → n < length front → IsUtf8 front → EndsAt (front ++ more) n
+ends_before front more n (within, d, first) some utf8 =
+    let here : length front - length (drop n front) ≡ n = omega (arith, length-drop n front, within) in
+    let rest : 0 < length (drop n front) = omega (arith, length-drop n front, some) in
+    subst (EndsAt (front ++ more)) here (still_at front (drop n front) more d first rest utf8)
+
+pub shown_at : (text : List ℕ) (n : ℕ) → EndsWithin text n → EndsAt text n
+shown_at text n (front, more, is, utf8, at, some) = subst (λ t. EndsAt t n) (sym is) (ends_before front more n at some utf8)
+
+-- the longest prefix that is UTF-8 shows what any such prefix does
+pub shown_by : (text valid : List ℕ) (n : ℕ) → valid ≡ take (length valid) text
+    → ((front more : List ℕ) → text ≡ front ++ more → IsUtf8 front → length front ≤ length valid) → EndsWithin text n
+    → EndsAt valid n × (n < length valid)
+shown_by text valid n is longest (front, more, same, utf8, at, some) =
+    let long = longest front more same utf8 in
+    let all : length valid ≡ length front + (length valid - length front) = omega (arith, long) in
+    let parts : valid ≡ front ++ take (length valid - length front) more =
+    is ∙ ap (take (length valid)) same ∙ ap (λ k. take k (front ++ more)) all ∙ take-append-add front more _ in
+    (subst (λ t. EndsAt t n) (sym parts) (ends_before front _ n at some utf8), omega (arith, some, long))
+
+-- where a prefix that is UTF-8 ends, the longest such prefix does not end before
+pub longest_front : (text : List ℕ) (n : ℕ) → IsValidUpTo text n → (front more : List ℕ) → text ≡ front ++ more → IsUtf8 front → length front ≤ n
+longest_front text n valid front more same utf8 = elim (cases_lt n (length front)) [
+  | inl past ↦
+      let taken : take (length front) text ≡ front = ap (take (length front)) same ∙ take-append_seam front more in
+      absurd (valid.longest (length front) past (subst IsUtf8 (sym taken) utf8))
+  | inr within ↦ within
+]
+
+-- no option is both without a value and with one
+pub not_both : {A : Type 0} {o : Option A} {x : A} → o ≡ None → o ≡ Some x → ⊥
+not_both none some = cc

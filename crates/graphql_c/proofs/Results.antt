@@ -1,30 +1,38 @@
 -- What a result says of outputs and failures.
-use Rattle.std.proofs.Common.{◌≡◌, ◌∙◌, ℕ, List, Option, None, Result, Ok, Err, MatchResult, IfOk, IsErrAnd, String, string_bytes, refl, sym, ap, subst}
+use Rattle.std.proofs.Common.{◌≡◌, ◌≤◌, ◌⊎◌, ◌↔◌, ◌∙◌, ℕ, List, length, Option, None, Result, Ok, Err, MatchResult, IfOk, IsErrAnd, String, string_bytes}
+use Rattle.std.proofs.Common.{IsUtf8, inl, inr, refl, sym, ap, subst}
 use Rattle.std.specs.Global.{Global}
-use Rattle.graphql_core.specs.{Place, CauseText, IsDocumentOf, ParsesDocument, Refusal, Language, IsWrittenOf, HasNone, IsWide, out_of_memory}
+use Rattle.graphql_core.specs.{Place, CauseText, IsDocumentOf, ParsesDocument, Refusal, Language, IsWrittenOf, HasNarrow, HasNone, IsWide, max_length}
+use Rattle.graphql_core.specs.{cause_text, no_memory, out_of_memory}
+use Rattle.graphql_core.specs.declared.common.cause.Cause.{Cause}
+use Rattle.graphql_core.specs.declared.common.cause.Cause.TheVariants as cause
 use Rattle.graphql_core.specs.declared.format.error.FormatError.{FormatError}
 use Rattle.graphql_core.specs.declared.format.error.FormatError.TheVariants.{TooWide, OutOfMemory}
 use Rattle.graphql_c.specs.declared.call_result.CallResult.{CallResult}
 use Rattle.graphql_c.specs.declared.failure.Failure.{Failure}
 use Rattle.graphql_c.specs.{status_of, layout_status, line_of, column_of, HasNumbers, Explains, refused, too_wide, not_utf8, ran_out, Fails, IsResultOf, Writes}
-use Rattle.graphql_c.specs.{written, too_short, Finds, done, failed, Returns}
-use Rattle.graphql_core.proofs.{none_parsed}
+use Rattle.graphql_c.specs.{written, too_short, Finds, done, failed, Returns, IsAllowed, for_offset}
+use Rattle.graphql_core.proofs.{none_parsed, not_long, not_wide}
 
 -- ---- failures
 
 module _ {R S : Refusal → Type 0} {V W : Type 0} {text : List ℕ} (refusal : (e : Refusal) → R e → S e) (width : V → W) where
   -- a failure that is explained is also explained by weaker reasons
   explained : {s l c : ℕ} → Explains R V text s l c → Explains S W text s l c
-  explained (refused e h) = refused e (refusal e h)
+  explained (refused e utf8 h) = refused e utf8 (refusal e h)
   explained (too_wide h) = too_wide (width h)
   explained (not_utf8 h) = not_utf8 h
   explained ran_out = ran_out
 
--- the same for the failure that `?` returns
+-- the failure that `?` returns
+pub same_failure : {T : Type 0} (r : Result T Failure) (P : T → Type 0) (Q : Failure → Type 0) (f : Failure) → Q f → IsErrAnd r (λ y. y ≡ f)
+    → MatchResult r P Q
+same_failure (Ok v) P Q f h up = absurd up
+same_failure (Err y) P Q f h up = subst Q (sym up) h
+
 pub halts : {T : Type 0} {R : Refusal → Type 0} {text : List ℕ} (r : Result T Failure) (P : T → Type 0) (S : Refusal → Type 0) (W : Type 0) (f : Failure)
     → ((e : Refusal) → R e → S e) → Explains R ⊥ text f.status f.line f.column → IsErrAnd r (λ y. y ≡ f) → MatchResult r P (Fails S W text)
-halts (Ok v) P S W f refusal h up = absurd up
-halts {text = text} (Err y) P S W f refusal h up = subst (Fails S W text) (sym up) (explained refusal (λ never. absurd never) h)
+halts {text = text} r P S W f refusal h up = same_failure r P (Fails S W text) f (explained refusal (λ never. absurd never) h) up
 
 module _ {R : Refusal → Type 0} {W : Type 0} {text : List ℕ} where
   -- equal numbers are explained alike
@@ -33,34 +41,67 @@ module _ {R : Refusal → Type 0} {W : Type 0} {text : List ℕ} where
       subst (λ x. Explains R W text x l c) (sym p) (subst (λ x. Explains R W text t x c) (sym q) (subst (λ x. Explains R W text t m x) (sym r) h))
 
   -- an error with its cause and its position
-  pub refused_at : {s l n : ℕ} {c : CauseText} {p : Option Place} (e : Refusal) → R e → c ≡ e.cause → p ≡ e.place
+  pub refused_at : {s l n : ℕ} {c : CauseText} {p : Option Place} (e : Refusal) → IsUtf8 text → R e → c ≡ e.cause → p ≡ e.place
       → (s ≡ status_of c) × (l ≡ line_of p) × (n ≡ column_of p) → Explains R W text s l n
-  refused_at e h cause place (p, q, r) = explains_as (p ∙ ap status_of cause, q ∙ ap line_of place, r ∙ ap column_of place) (refused e h)
+  refused_at e utf8 h cause place (p, q, r) =
+      explains_as (p ∙ ap status_of cause, q ∙ ap line_of place, r ∙ ap column_of place) (refused e utf8 h)
+
+-- an error that is out of memory has its status, and no position
+pub memory_numbers : {s l n : ℕ} {c : CauseText} {p : Option Place} (e : Refusal) → e ≡ no_memory → c ≡ e.cause → p ≡ e.place
+    → (s ≡ status_of c) × (l ≡ line_of p) × (n ≡ column_of p) → (s ≡ status_of out_of_memory) × (l ≡ 0) × (n ≡ 0)
+memory_numbers e none cause place (p, q, r) =
+    let no_place = place ∙ ap (λ (x : Refusal). x.place) none in
+    (p ∙ ap status_of (cause ∙ ap (λ (x : Refusal). x.cause) none), q ∙ ap line_of no_place, r ∙ ap column_of no_place)
+
+-- only `OutOfMemory` is out of memory
+pub is_memory : (c : Cause) → cause_text c ≡ out_of_memory → c ≡ cause.OutOfMemory
+is_memory (cause.BadToken b) e = absurd cc
+is_memory (cause.UnexpectedToken kind text) e = absurd cc
+is_memory cause.UnexpectedEnd e = absurd cc
+is_memory cause.TooDeep e = absurd cc
+is_memory cause.IntOutOfRange e = absurd cc
+is_memory cause.MalformedFloat e = absurd cc
+is_memory cause.BadEscape e = absurd cc
+is_memory cause.UnknownLocation e = absurd cc
+is_memory (cause.DuplicateOperation name) e = absurd cc
+is_memory (cause.UnknownOperation name) e = absurd cc
+is_memory cause.EmptyExtension e = absurd cc
+is_memory cause.TextTooLong e = absurd cc
+is_memory cause.OutOfMemory e = refl
 
 -- an input that parses to no document
 pub no_document : {D V W : Type 0} {l : Language D} {view : V → D} {text bytes : List ℕ} {e : Refusal} {s m n : ℕ} {c : CauseText} {p : Option Place}
-    → ParsesDocument l view text (Err e) → text ≡ bytes → c ≡ e.cause → p ≡ e.place → (s ≡ status_of c) × (m ≡ line_of p) × (n ≡ column_of p)
+    → ParsesDocument l view text (Err e) → (text ≡ bytes) × IsUtf8 bytes → c ≡ e.cause → p ≡ e.place → (s ≡ status_of c) × (m ≡ line_of p) × (n ≡ column_of p)
     → Explains (HasNone (IsDocumentOf l) l bytes) W bytes s m n
-no_document {l = l} {e = e} parses same cause place numbers =
-    refused_at e (subst (λ t. HasNone (IsDocumentOf l) l t e) same (none_parsed parses)) cause place numbers
+no_document {l = l} {e = e} parses (same, utf8) cause place numbers =
+    refused_at e utf8 (subst (λ t. HasNone (IsDocumentOf l) l t e) same (none_parsed parses)) cause place numbers
+
+-- an input that parses to a document
+pub some_document : {D V : Type 0} {l : Language D} {view : V → D} {text bytes : List ℕ} {v : V} → ParsesDocument l view text (Ok v)
+    → (text ≡ bytes) × IsUtf8 bytes → IsAllowed bytes × IsDocumentOf l bytes (view v)
+some_document {l = l} {view = view} {text = text} {v = v} parses (same, utf8) = (
+  (utf8, subst (λ t. length t ≤ max_length) same (not_long text (Ok v) parses.too_long)),
+  subst (λ t. IsDocumentOf l t (view v)) same parses.sound,
+)
 
 -- the formatted document, or the failure to format it
 pub laid_out : {D : Type 0} (l : Language D) (text : List ℕ) (d : D) (lay : D → List ℕ) (IsTooWide : D → Type 0)
-    (made : Result (String Global) FormatError) (r : Result (String Global) Failure) → IsDocumentOf l text d → IfOk made (λ s. string_bytes s ≡ lay d)
-    → (made ≡ Err TooWide → IsTooWide d) → MatchResult made (λ s. r ≡ Ok s) (λ e. IsErrAnd r (HasNumbers (layout_status e) None))
-    → MatchResult r (λ s. IsWrittenOf (IsDocumentOf l) lay text (string_bytes s))
-    (Fails (HasNone (IsDocumentOf l) l text) (IsWide (IsDocumentOf l) IsTooWide text) text)
-laid_out l text d lay IsTooWide (Ok s) r has is wide same = rw same (d, has, is)
+    (made : Result (String Global) FormatError) (r : Result (String Global) Failure) → IsAllowed text × IsDocumentOf l text d
+    → IfOk made (λ s. string_bytes s ≡ lay d) → (made ≡ Err TooWide) ↔ IsTooWide d
+    → MatchResult made (λ s. r ≡ Ok s) (λ e. IsErrAnd r (HasNumbers (layout_status e) None))
+    → MatchResult r (λ s. IsAllowed text × IsWrittenOf (HasNarrow (IsDocumentOf l) IsTooWide) lay text (string_bytes s))
+    (Fails (HasNone (IsDocumentOf l) l text) (IsAllowed text × IsWide (IsDocumentOf l) IsTooWide text) text)
+laid_out l text d lay IsTooWide (Ok s) r (allowed, has) is wide same = rw same (allowed, (d, (has, not_wide (Ok s) wide.1), is))
 laid_out l text d lay IsTooWide (Err e) (Ok s) has is wide numbers = absurd numbers
-laid_out l text d lay IsTooWide (Err TooWide) (Err f) has is wide numbers = explains_as numbers (too_wide (d, has, wide refl))
+laid_out l text d lay IsTooWide (Err TooWide) (Err f) (allowed, has) is wide numbers = explains_as numbers (too_wide (allowed, (d, has, wide.0 refl)))
 laid_out l text d lay IsTooWide (Err OutOfMemory) (Err f) has is wide numbers = explains_as numbers ran_out
 
 -- the JSON of the document, or the failure to write it
 pub written_as_json : {D A : Type 0} (l : Language D) (text : List ℕ) (d : D) (write : D → List ℕ) (made : Result (String Global) A)
-    (r : Result (String Global) Failure) → IsDocumentOf l text d → IfOk made (λ s. string_bytes s ≡ write d)
+    (r : Result (String Global) Failure) → IsAllowed text × IsDocumentOf l text d → IfOk made (λ s. string_bytes s ≡ write d)
     → MatchResult made (λ s. r ≡ Ok s) (λ e. IsErrAnd r (HasNumbers (status_of out_of_memory) None))
-    → MatchResult r (λ s. IsWrittenOf (IsDocumentOf l) write text (string_bytes s)) (Fails (HasNone (IsDocumentOf l) l text) ⊥ text)
-written_as_json l text d write (Ok s) r has is same = rw same (d, has, is)
+    → MatchResult r (λ s. IsAllowed text × IsWrittenOf (IsDocumentOf l) write text (string_bytes s)) (Fails (HasNone (IsDocumentOf l) l text) ⊥ text)
+written_as_json l text d write (Ok s) r (allowed, has) is same = rw same (allowed, (d, has, is))
 written_as_json l text d write (Err e) (Ok s) has is numbers = absurd numbers
 written_as_json l text d write (Err e) (Err f) has is numbers = explains_as numbers ran_out
 
@@ -93,3 +134,10 @@ module _ {R : Refusal → Type 0} {W : Type 0} {text old new : List ℕ} where
         → MatchResult at (λ n. Finds (λ k. k ≡ n) old new r) (λ f. IsResultOf f old new r) → Returns (Finds IsAt) R W text old new r
     located (Ok n) is result = done (finds is result)
     located (Err f) why result = failed_so f r why result
+
+-- an offset, or out of memory
+pub found_or_out : (old new : List ℕ) {r : CallResult} {n : ℕ} (at : Result ℕ Failure)
+    → MatchResult at (λ k. k ≡ n) (HasNumbers (status_of out_of_memory) None)
+    → MatchResult at (λ k. Finds (λ m. m ≡ k) old new r) (λ f. IsResultOf f old new r) → (r ≡ for_offset n) ⊎ (r.status ≡ status_of out_of_memory)
+found_or_out old new (Ok k) is (m, same, kept, says) = inl (says ∙ ap for_offset (same ∙ is))
+found_or_out old new (Err f) (status, line, column) (is, message) = inr (ap (λ (c : CallResult). c.status) is ∙ status)

@@ -10,6 +10,7 @@ use Rattle.graphql_core.specs.declared.tokenizer.piece.Nesting.{Nesting}
 use Rattle.graphql_core.proofs.sources.TokenPlaces.{part}
 use Rattle.graphql_c.specs.declared.call_result.CallResult.{CallResult}
 use Rattle.graphql_c.specs.{status_of, status_too_short, Explains, refused, too_wide, not_utf8, ran_out, Writes, written, too_short, Returns, done, failed}
+use Rattle.graphql_c.specs.{IsMinifiedInput}
 
 -- ---- the length of a minified output
 
@@ -84,13 +85,13 @@ cause_status text_too_long e = omega (arith, e)
 cause_status out_of_memory e = omega (arith, e)
 
 error_status : {R : Refusal → Type 0} {W : Type 0} {text : List ℕ} {s l c : ℕ} → Explains R W text s l c → s ≢ status_too_short
-error_status (refused e h) same = cause_status e.cause same
+error_status (refused e utf8 h) same = cause_status e.cause same
 error_status (too_wide h) same = omega (arith, same)
 error_status (not_utf8 h) same = omega (arith, same)
 error_status ran_out same = omega (arith, same)
 
-pub never_short : {R : Refusal → Type 0} {W : Type 0} {text old new : List ℕ} {r : CallResult} → Returns (Writes (IsMinified text)) R W text old new r
+pub never_short : {R : Refusal → Type 0} {W : Type 0} {text old new : List ℕ} {r : CallResult} → Returns (Writes (IsMinifiedInput text)) R W text old new r
     → 2 * length text ≤ length old → r.status ≢ status_too_short
 never_short (done (written output is fits put says)) enough same = omega (arith, same, ap (λ (r : CallResult). r.status) says)
-never_short (done (too_short output is short unchanged says)) enough same = omega (arith, short, enough, minified_length _ output is)
+never_short (done (too_short output is short unchanged says)) enough same = omega (arith, short, enough, minified_length _ output is.1)
 never_short (failed message why is put) enough same = error_status why same

@@ -63,10 +63,10 @@ put text buffer = if nat_le (length text) (length buffer) then text ++ drop (len
 
 -- ---- results of calls
 
--- Why a call failed: an error with its status and its position, or a status alone.
+-- Why a call failed: an error of an input that is UTF-8, with its status and its position, or a status alone.
 pub data Explains (Refuses : Refusal → Type 0) (IsTooWide : Type 0) (text : List ℕ) : (status line column : ℕ)
     → Type 0 where
-  refused : (e : Refusal) → Refuses e
+  refused : (e : Refusal) → IsUtf8 text → Refuses e
       → Explains Refuses IsTooWide text (status_of e.cause) (line_of e.place) (column_of e.place)
   too_wide : IsTooWide → Explains Refuses IsTooWide text status_too_wide 0 0
   not_utf8 : (IsUtf8 text → ⊥) → Explains Refuses IsTooWide text status_not_utf8 0 0

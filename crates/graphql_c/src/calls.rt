@@ -1,14 +1,16 @@
 //! What each call does with its bytes.
-ghost use Rattle.std.specs.Prelude.{◌≡◌, ◌++◌, ℕ, List, length, take, string_bytes, Ok, None, IfSome, MatchResult};
-ghost use Rattle.std.specs.Prelude.{IsErrAnd};
-ghost use Rattle.graphql_core.specs.{IsMinified, IsDocumentOf, out_of_memory};
+ghost use Rattle.std.specs.Prelude.{◌≡◌, ◌<◌, ◌≤◌, ◌++◌, ℕ, List, length, take, string_bytes, Ok, Some, None};
+ghost use Rattle.std.specs.Prelude.{IfOk, IfSome, MatchResult, IsErrAnd};
+ghost use Rattle.std.specs.Str.{IsUtf8};
+ghost use Rattle.graphql_core.specs.{IsDocumentOf, max_length, out_of_memory};
 ghost use Rattle.graphql_query.specs.{queries, IsMinifyRefusalOf};
 ghost use Rattle.graphql_query.specs.Tree as query;
 ghost use Rattle.graphql_schema.specs.{schemas};
 ghost use Rattle.graphql_schema.specs.Views as schema;
-ghost use Rattle.graphql_c.specs.{Fails, HasNumbers, layout_status, layout_in, status_of, IsQueryLaidOut};
+ghost use Rattle.graphql_c.specs.{Fails, HasNumbers, layout_status, layout_in, status_of, IsAllowed, IsQueryLaidOut};
 ghost use Rattle.graphql_c.specs.{IsSchemaLaidOut, IsQueryChecked, IsSchemaChecked, IsQueryJson, IsSchemaJson};
-ghost use Rattle.graphql_c.specs.{HasNoQuery, HasNoSchema, HasNoFirst, IsQueryTooWide, IsSchemaTooWide, EndsAt};
+ghost use Rattle.graphql_c.specs.{IsMinifiedInput, HasNoQuery, HasNoSchema, HasNoFirst, IsQueryTooWide};
+ghost use Rattle.graphql_c.specs.{IsSchemaTooWide, EndsAt, EndsWithin};
 
 use crate::failure::Failure;
 use graphql_core::common::Cause;
@@ -34,7 +36,7 @@ pub fn style_in(indent: u32, multiline: bool) -> Style
 
 /// The bytes as a string, if they are UTF-8.
 fn text_of(alloc: Global, bytes: &[u8]) -> Result<&str, Failure>
-    ensures { MatchResult result (λ text. text.now ≡ bytes.now) (Fails (λ e. ⊥) ⊥ bytes.now) }
+    ensures { MatchResult result (λ text. (text.now ≡ bytes.now) × IsUtf8 bytes.now) (Fails (λ e. ⊥) ⊥ bytes.now) }
 {
     match str::from_utf8(bytes) {
         Ok(text) => Ok(text),
@@ -64,7 +66,8 @@ fn json_of(alloc: Global, made: Result<String, AllocError>) -> Result<String, Fa
 
 /// Parses these bytes as a query document.
 fn query_of(alloc: Global, bytes: &[u8]) -> Result<QueryDocument<'_, &str>, Failure>
-    ensures { MatchResult result (λ d. IsDocumentOf queries bytes.now (query.document_view (λ name. name.now) d))
+    ensures { MatchResult result
+        (λ d. IsAllowed bytes.now × IsDocumentOf queries bytes.now (query.document_view (λ name. name.now) d))
         (Fails (HasNoQuery bytes.now) ⊥ bytes.now) }
 {
     match parse_query(alloc, text_of(alloc, bytes)?) {
@@ -75,7 +78,8 @@ fn query_of(alloc: Global, bytes: &[u8]) -> Result<QueryDocument<'_, &str>, Fail
 
 /// Parses these bytes as a schema document.
 fn schema_of(alloc: Global, bytes: &[u8]) -> Result<SchemaDocument<'_, &str>, Failure>
-    ensures { MatchResult result (λ d. IsDocumentOf schemas bytes.now (schema.document_view (λ name. name.now) d))
+    ensures { MatchResult result
+        (λ d. IsAllowed bytes.now × IsDocumentOf schemas bytes.now (schema.document_view (λ name. name.now) d))
         (Fails (HasNoSchema bytes.now) ⊥ bytes.now) }
 {
     match parse_schema(alloc, text_of(alloc, bytes)?) {
@@ -140,7 +144,7 @@ pub fn schema_as_json(alloc: Global, bytes: &[u8]) -> Result<String, Failure>
 
 /// The tokens of these bytes, with a space only between two that are not punctuators, and between a number and `...`.
 pub fn minified(alloc: Global, bytes: &[u8]) -> Result<String, Failure>
-    ensures { MatchResult result (λ s. IsMinified bytes.now (string_bytes s))
+    ensures { MatchResult result (λ s. IsMinifiedInput bytes.now (string_bytes s))
         (Fails (IsMinifyRefusalOf bytes.now) ⊥ bytes.now) }
 {
     let Ok(source) = String::from_str(alloc, text_of(alloc, bytes)?) else {
@@ -154,7 +158,9 @@ pub fn minified(alloc: Global, bytes: &[u8]) -> Result<String, Failure>
 
 /// The longest prefix of these bytes that is UTF-8.
 fn valid_front(bytes: &[u8]) -> &str
-    ensures { result.now ≡ take (length result.now) bytes.now }
+    ensures front { result.now ≡ take (length result.now) bytes.now }
+    ensures longest { (front more : List ℕ) → bytes.now ≡ front ++ more → IsUtf8 front
+        → length front ≤ length result.now }
 {
     match str::from_utf8(bytes) {
         Ok(text) => text,
@@ -166,8 +172,10 @@ fn valid_front(bytes: &[u8]) -> &str
 /// tokens behind it. `None` if the offset may depend on what follows the prefix. An error means that an allocation
 /// failed.
 fn end_within(alloc: Global, front: &str) -> Result<Option<usize>, Failure>
-    ensures { MatchResult result (λ end. IfSome end (λ n. (more : List ℕ) → EndsAt (front.now ++ more) n))
+    ensures sound { MatchResult result (λ end. IfSome end (λ n. (more : List ℕ) → EndsAt (front.now ++ more) n))
         (HasNumbers (status_of out_of_memory) None) }
+    ensures complete { (n : ℕ) → length front.now ≤ max_length → EndsAt front.now n → n < length front.now
+        → IfOk result (λ end. end ≡ Some n) }
 {
     match consume_definition::<&str>(alloc, front) {
         Ok((_, rest)) if rest.is_empty() => Ok(None),
@@ -181,7 +189,9 @@ fn end_within(alloc: Global, front: &str) -> Result<Option<usize>, Failure>
 
 /// The offset of the rest of a source, after its first definition and the ignored tokens behind it.
 fn end_of(alloc: Global, text: &str) -> Result<usize, Failure>
-    ensures { MatchResult result (EndsAt text.now) (Fails (HasNoFirst text.now) ⊥ text.now) }
+    ensures sound { MatchResult result (EndsAt text.now) (Fails (HasNoFirst text.now) ⊥ text.now) }
+    ensures complete { (n : ℕ) → length text.now ≤ max_length → EndsAt text.now n
+        → MatchResult result (λ end. end ≡ n) (HasNumbers (status_of out_of_memory) None) }
 {
     match consume_definition::<&str>(alloc, text) {
         Ok(first) => Ok(text.len() - first.1.len()),
@@ -192,7 +202,9 @@ fn end_of(alloc: Global, text: &str) -> Result<usize, Failure>
 /// The offset of the rest of these bytes, after their first definition and the ignored tokens behind it. Prefixes of
 /// 4,096 bytes, 8,192 and so on are tried. So the time grows with the offset, and with the length only after an error.
 pub fn first_end(alloc: Global, bytes: &[u8]) -> Result<usize, Failure>
-    ensures { MatchResult result (EndsAt bytes.now) (Fails (HasNoFirst bytes.now) ⊥ bytes.now) }
+    ensures sound { MatchResult result (EndsAt bytes.now) (Fails (HasNoFirst bytes.now) ⊥ bytes.now) }
+    ensures shown { (n : ℕ) → length bytes.now ≤ max_length → EndsWithin bytes.now n
+        → MatchResult result (λ end. end ≡ n) (HasNumbers (status_of out_of_memory) None) }
 {
     let mut length = FIRST_LENGTH;
     'fronts: while length < bytes.len() {

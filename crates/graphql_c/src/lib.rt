@@ -5,12 +5,13 @@
 //! has a function for each whose name here ends in `_nonnull`. It also takes null pointers with a length of 0.
 #![tactic(auto)]
 
-ghost use Rattle.std.specs.Prelude.{◌≡◌, ◌≢◌, ◌*◌, ◌≤◌, length};
-ghost use Rattle.graphql_core.specs.{IsMinified};
+ghost use Rattle.std.specs.Prelude.{◌≡◌, ◌≢◌, ◌⊎◌, ◌*◌, ◌≤◌, ℕ, length};
+ghost use Rattle.graphql_core.specs.{max_length, out_of_memory};
 ghost use Rattle.graphql_query.specs.{IsMinifyRefusalOf};
 ghost use Rattle.graphql_c.specs.{Returns, Writes, Finds, layout_in, IsQueryLaidOut, IsSchemaLaidOut, IsQueryChecked};
-ghost use Rattle.graphql_c.specs.{IsSchemaChecked, IsQueryJson, IsSchemaJson, HasNoQuery, HasNoSchema, HasNoFirst};
-ghost use Rattle.graphql_c.specs.{IsQueryTooWide, IsSchemaTooWide, EndsAt, status_name, status_too_short, with_zeros};
+ghost use Rattle.graphql_c.specs.{IsSchemaChecked, IsQueryJson, IsSchemaJson, IsMinifiedInput, HasNoQuery, HasNoSchema};
+ghost use Rattle.graphql_c.specs.{HasNoFirst, IsQueryTooWide, IsSchemaTooWide, EndsAt, EndsWithin, for_offset};
+ghost use Rattle.graphql_c.specs.{status_of, status_name, status_too_short, with_zeros};
 
 mod call_result;
 mod calls;
@@ -65,7 +66,7 @@ pub extern "C" fn graphql_proved_minify_nonnull(
     text: &[u8],
     out: &mut [u8],
 ) -> CallResult
-    ensures returned { Returns (Writes (IsMinified text.now)) (IsMinifyRefusalOf text.now) ⊥ text.now
+    ensures returned { Returns (Writes (IsMinifiedInput text.now)) (IsMinifyRefusalOf text.now) ⊥ text.now
         out.old out.new result }
 
     // A buffer of twice the length of the input is never too short.
@@ -81,7 +82,12 @@ pub extern "C" fn graphql_proved_first_definition_nonnull(
     text: &[u8],
     out: &mut [u8],
 ) -> CallResult
-    ensures { Returns (Finds (EndsAt text.now)) (HasNoFirst text.now) ⊥ text.now out.old out.new result }
+    ensures returned { Returns (Finds (EndsAt text.now)) (HasNoFirst text.now) ⊥ text.now out.old out.new result }
+
+    // If some prefix of the input is UTF-8 and has a rest, the result is where this rest begins, whatever follows the
+    // prefix, or the call returns out of memory.
+    ensures shown { (n : ℕ) → length text.now ≤ max_length → EndsWithin text.now n
+        → (result ≡ for_offset n) ⊎ (result.status ≡ status_of out_of_memory) }
 {
     of_offset(out, calls::first_end(alloc, text))
 }

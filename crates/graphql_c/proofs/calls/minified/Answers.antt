@@ -12,6 +12,6 @@ returns-in_default c = explains_as c.out_of_memory.ensures ran_out
 
 pub returns-in-Err : goal.returns-in-Err
 returns-in-Err c =
-    let same = c.in-Ok.ensures.ok ∙ c.in_ok-text_of.ensures in
+    let same = c.in-Ok.ensures.ok ∙ c.in_ok-text_of.ensures.0 in
     let bad = subst (λ t. IsMinifyRefusalOf t c.in-Err.error) same c.in-Err.ensures.first_error in
-    refused_at _ bad c.cause.ensures c.position.ensures c.refused.ensures
+    refused_at _ c.in_ok-text_of.ensures.1 bad c.cause.ensures c.position.ensures c.refused.ensures

@@ -7,4 +7,4 @@ returns-in_err-document c = halts _ _ _ _ _ (λ e no. no) c.in_err-document.ensu
 
 pub returns : goal.returns
 returns c =
-    laid_out queries _ _ (layout _) (IsTooWide _) _ _ c.in_ok-document.ensures c.format.ensures.text c.format.ensures.too_wide.0 c.output_of.ensures
+    laid_out queries _ _ (layout _) (IsTooWide _) _ _ c.in_ok-document.ensures c.format.ensures.text c.format.ensures.too_wide c.output_of.ensures
