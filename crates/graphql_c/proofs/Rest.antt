@@ -1,6 +1,6 @@
 -- Where the first definition of a source ends.
 use Rattle.std.proofs.Common.{◌≡◌, ◌∙◌, ◌+◌, ◌-◌, ◌<◌, ◌≤◌, ℕ, zero, suc, List, [], ◌∷◌, ◌++◌, length, take, drop, inl, inr, IsUtf8, refl}
-use Rattle.std.proofs.Common.{Option, None, Some, length-append, sym, ap, subst, arith}
+use Rattle.std.proofs.Common.{length-append, sym, ap, subst, arith}
 use Rattle.std.proofs.lemmas.Bool.{cases_lt}
 use Rattle.std.proofs.lemmas.List.{length-drop, drop-append-le, take-append-drop}
 use Rattle.std.proofs.Math.ListN.{drop_of_length-le}
@@ -106,7 +106,3 @@ longest_front text n valid front more same utf8 = elim (cases_lt n (length front
       absurd (valid.longest (length front) past (subst IsUtf8 (sym taken) utf8))
   | inr within ↦ within
 ]
-
--- no option is both without a value and with one
-pub not_both : {A : Type 0} {o : Option A} {x : A} → o ≡ None → o ≡ Some x → ⊥
-not_both none some = cc

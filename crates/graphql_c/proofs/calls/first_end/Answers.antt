@@ -1,8 +1,8 @@
 use Rattle.std.proofs.Common.{◌≡◌, ◌∙◌, ◌≤◌, ◌++◌, length, drop, append_assoc, length-append, sym, ap, subst, arith}
-use Rattle.std.proofs.lemmas.Option.{MatchOption-at_some}
+use Rattle.std.proofs.lemmas.Option.{MatchOption-at_some, none-some}
 use Rattle.graphql_c.specs.{EndsAt, not_utf8, ran_out}
 use Rattle.graphql_core.specs.{max_length}
-use Rattle.graphql_c.proofs.{begins, ends_once, explains_as, halts, not_both, same_failure, shown_at, shown_by}
+use Rattle.graphql_c.proofs.{begins, ends_once, explains_as, halts, same_failure, shown_at, shown_by}
 use Rattle.graphql_c.proofs.calls.first_end.Goals as goal
 
 pub returns-in-Some-clause-sound : goal.returns-in-Some-clause-sound
@@ -55,4 +55,4 @@ returns-in-None-clause-shown c n short shown =
     let behind = drop (length front.result.now) c.args.bytes.now in
     let whole : c.args.bytes.now ≡ front.result.now ++ behind = begins _ c.args.bytes.now front.ensures.front in
     let bound : length front.result.now ≤ max_length = omega (arith, short, ap length whole, length-append front.result.now behind) in
-    absurd (not_both c.in-None.is (c.in_ok-end-in-Err.ensures.complete n bound at some))
+    absurd (none-some n (sym c.in-None.is ∙ c.in_ok-end-in-Err.ensures.complete n bound at some))
