@@ -3,10 +3,12 @@ use lib.Lanes.{mask_l, top}
 use native.Mathlib.Numerals.{unary_clauses}
 use Rattle.std.specs.List.{prefix_len, count_by}
 use Rattle.std.proofs.Common.{◌≡◌, ℕ, zero, suc, ◌+◌, ◌-◌, ◌*◌, ◌/◌, ◌%◌, ◌^◌, ◌<◌, ◌≤◌, ◌≢◌, Bool, true, false, not, List, [], ◌∷◌, map, ◌++◌, take, drop}
-use Rattle.std.proofs.Common.{cond, count_ones, length, min, get_or, Fits, w8, refl, sym, ap, ◌∙◌, arith, inl, inr, length-drop}
+use Rattle.std.proofs.Common.{cond, count_ones, length, min, get_or, Fits, w8, refl, sym, ap, ◌∙◌, arith, inl, inr, length-drop, length-take-le, length-append}
 use Rattle.std.proofs.lemmas.Bool.{cases_Bool, agree_below, agree_below_at, cases_eq, eq-eqb, ne_eqb, cond-true, cond-false}
 use Rattle.std.proofs.lemmas.Simd.{map-map, mask_l-mod, length-chunk, leading_from_mask_l, trailing_mask_l, ones-mask_l}
-use Rattle.std.proofs.lemmas.List.{length-map, length-take, drop-map, drop-take, get_or-drop}
+use Rattle.std.proofs.lemmas.List.{length-map, length-take, drop-map, drop-take, get_or-drop, drop_at, take_at, take_all, take-append-drop}
+use Rattle.std.proofs.lemmas.Slice.{take-put_mid}
+use borrow.Rule.Slice.PartMut.{put_mid}
 use Rattle.std.proofs.lemmas.List.Sums.{prefix_len-le-length, sum_by-cons}
 use Rattle.std.proofs.Math.Nat.{div-div-eq-div-mul, zero-div}
 use Rattle.graphql_core.specs.{first_set}
@@ -137,3 +139,41 @@ padded_run p (x ∷ xs) ys =
       | inl pass ↦ rw pass (omega (arith, padded_run p xs ys))
       | inr stop ↦ rw stop (omega arith)
     ]
+
+-- the run of 8 to 15 bytes, by that of a load of the first 8 and the last 8 of them
+module _ (p : ℕ → Bool) (d low high zeros : List ℕ) (run : ℕ) (few : 8 ≤ length d) (many : length d < 16) (first : low ≡ take 8 d)
+    (last : high ≡ take (length d - (length d - 8)) (drop (length d - 8) d)) (is : run ≡ prefix_len p (take 16 (put_mid 8 8 (low ++ zeros) high))) where
+  abbrev end : ℕ
+  end = length d - 8
+
+  long : length low ≡ 8
+  long = ap length first ∙ length-take-le 8 d few
+
+  ending : high ≡ drop end d
+  ending = last ∙ take_all (length d - end) (drop end d) (omega (arith, length-drop end d))
+
+  whole : take 16 (put_mid 8 8 (low ++ zeros) high) ≡ low ++ high
+  whole = take-put_mid 8 8 (low ++ zeros) high 16 (omega (arith, ap length ending, length-drop end d)) (omega (arith, length-append low zeros, long))
+      ∙ ap (λ l. l ++ high) (take_at low zeros 8 long)
+
+  both : run ≡ prefix_len p (low ++ high)
+  both = is ∙ ap (prefix_len p) whole
+
+  front : min run 8 ≡ min (prefix_len p d) 8
+  front =
+      let all = padded_run p low (drop 8 d) in
+      let same : low ++ drop 8 d ≡ d = ap (λ l. l ++ drop 8 d) first ∙ take-append-drop 8 d in
+      rw (both, ← long) (padded_run p low high ∙ sym all ∙ ap (λ l. min (prefix_len p l) (length low)) same)
+
+  pub run_most : run ≤ 16
+  run_most = omega (arith, both, prefix_len-le-length p (low ++ high), length-append low high, long, ap length ending, length-drop end d)
+
+  pub run_in_first : run < 8 → prefix_len p d ≡ run
+  run_in_first short = omega (arith, front)
+
+  pub run_in_last : 8 ≤ run → prefix_len p d + 8 ≡ end + run
+  run_in_last all =
+      let rest : drop 8 (low ++ high) ≡ drop end d = drop_at low high 8 long ∙ ending in
+      let inside : prefix_len p (low ++ high) ≡ 8 + prefix_len p (drop end d) =
+      goes_past p 8 (low ++ high) (omega (arith, both)) ∙ ap (λ l. 8 + prefix_len p l) rest in
+      omega (arith, both, inside, goes_past p end d (omega (arith, front)))

@@ -11,6 +11,7 @@ use Rattle.std.specs.Str.{IsUtf8, IsCharBoundary}
 use Rattle.std.proofs.lemmas.Bool.Decides.{nat_tests}
 use Rattle.graphql_core.proofs.strings.BlockLines.{no_quotes}
 use Rattle.graphql_core.specs.{is_unescaped, begins_quotes, hexadecimal_digit, unicode_escape, quoted_byte, escaped_quotes, ends_in_return}
+use Rattle.graphql_core.specs.{has_block_form}
 
 -- ---- in quotes
 
@@ -73,6 +74,19 @@ pub unescaped_parts : (text run more : List ℕ) (n : ℕ) → n ≡ prefix_len 
     → flat_map quoted_byte text ≡ run ++ flat_map quoted_byte more
 unescaped_parts text run more n e front back =
     quoted_run text n e ∙ ap (λ r. r ++ flat_map quoted_byte (drop n text)) (sym front) ∙ ap (λ r. run ++ flat_map quoted_byte r) (sym back)
+
+-- a string without escapes has no line feed, so no block form
+one_line : (text : List ℕ) → prefix_len is_unescaped text ≡ length text → list_any (λ b. b == 10) text ≡ false
+one_line [] e = refl
+one_line (b ∷ bs) e = elim (cases_Bool (is_unescaped b)) [
+  | inl stands ↦
+      let other : b ≢ 10 = λ f. grind (arith, nat_tests) in
+      rw (ne_eqb b 10 other) (one_line bs (omega (arith, rw stands at e)))
+  | inr escaped ↦ absurd (omega (arith, rw escaped at e))
+]
+
+pub plain_in_quotes : (text : List ℕ) → prefix_len is_unescaped text ≡ length text → has_block_form text ≡ false
+plain_in_quotes text e = rw (one_line text e) refl
 
 -- the byte after them is escaped
 pub escaped_next : (text : List ℕ) (n b : ℕ) (bs : List ℕ) → n ≡ prefix_len is_unescaped text → drop n text ≡ b ∷ bs → is_unescaped b ≡ false

@@ -36,6 +36,19 @@ fn copy_ends<const N: usize>(buffer: &mut [u8], at: usize, text: &[u8]) -> usize
     copy_front::<N>(buffer, at + last, &text[last..])
 }
 
+/// Copies 4 to 16 bytes, without a branch on how many: the ends of the first half, and those of the last.
+#[inline(always)]
+fn copy_halves(buffer: &mut [u8], at: usize, text: &[u8]) -> usize
+    requires fits { at + length text.now ≤ length buffer.old }
+    requires covers { (4 ≤ length text.now) × (length text.now ≤ 16) }
+    ensures { Placed buffer.old buffer.new at text.now result }
+{
+    let half = if text.len() > 8 { 8 } else { 4 };
+    let last = text.len() - half;
+    copy_ends::<4>(buffer, at, &text[..half]);
+    copy_ends::<4>(buffer, at + last, &text[last..])
+}
+
 /// Copies at most three bytes.
 #[inline(always)]
 fn copy_short(buffer: &mut [u8], at: usize, text: &[u8]) -> usize
@@ -62,10 +75,8 @@ pub fn copy_text(buffer: &mut [u8], at: usize, text: &[u8]) -> usize
     let len = text.len();
     if len < 4 {
         copy_short(buffer, at, text)
-    } else if len <= 8 {
-        copy_ends::<4>(buffer, at, text)
     } else if len <= 16 {
-        copy_ends::<8>(buffer, at, text)
+        copy_halves(buffer, at, text)
     } else if len <= 32 {
         copy_ends::<16>(buffer, at, text)
     } else {

@@ -171,6 +171,25 @@ fn len_in_short_slice<C: Class>(bytes: &[u8]) -> usize
     C::lanes(&block).min(bytes.len())
 }
 
+/// Half of the bytes in one load.
+const HALF: usize = LANES / 2;
+
+/// The length of the run at the start of `bytes`, which are fewer than one load, but at least half of one. The load has
+/// the first bytes in its first half and the last ones in its second, so a byte can be in both.
+#[inline(always)]
+fn len_in_halves<C: Class>(bytes: &[u8]) -> usize
+    requires { (8 ≤ length bytes.now) × (length bytes.now < 16) }
+    ensures len { result ≡ prefix_len C.has bytes.now }
+    ensures within { result ≤ length bytes.now }
+{
+    let last = bytes.len() - HALF;
+    let mut block = [0; LANES];
+    block[..HALF].copy_from_slice(&bytes[..HALF]);
+    block[HALF..].copy_from_slice(&bytes[last..]);
+    let run = C::lanes(&block);
+    if run < HALF { run } else { last + run - HALF }
+}
+
 /// The length of the run at the start of `bytes`: the slow path. The last load takes the last 16 bytes, which can
 /// include bytes of the load before it.
 #[inline(never)]
@@ -178,8 +197,11 @@ fn len_by_loads<C: Class>(bytes: &[u8]) -> usize
     ensures len { result ≡ prefix_len C.has bytes.now }
     ensures within { result ≤ length bytes.now }
 {
-    if bytes.len() < LANES {
+    if bytes.len() < HALF {
         return len_in_short_slice::<C>(bytes);
+    }
+    if bytes.len() < LANES {
+        return len_in_halves::<C>(bytes);
     }
     let last = bytes.len() - LANES;
     let mut start = 0;

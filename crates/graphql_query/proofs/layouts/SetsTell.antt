@@ -9,7 +9,7 @@ use Rattle.graphql_query.specs.{selection_set_depth, selections_depth, definitio
 
 -- ---- levels of selection sets alone
 
-no_arguments : (arguments : List (List ℕ × ValueTree)) → arguments_depth in_sets arguments ≡ 0
+pub no_arguments : (arguments : List (List ℕ × ValueTree)) → arguments_depth in_sets arguments ≡ 0
 no_arguments [] = refl
 no_arguments (a ∷ arguments) = refl
 

@@ -75,6 +75,7 @@ fn write_fragment_spread<S: Sink, N: Names>(
 
 /// Appends `before` and a selection set in braces. The closing brace is at the margin.
 #[cycle(print)]
+#[inline(always)]
 pub fn write_selection_set<S: Sink, N: Names>(
     out: &mut S,
     before: &str,
@@ -97,6 +98,7 @@ pub fn write_selection_set<S: Sink, N: Names>(
 
 /// Appends selections, each on separate lines.
 #[cycle(print)]
+#[inline(never)]
 fn write_selections<S: Sink, N: Names>(
     out: &mut S,
     items: &[Selection<N>],

@@ -20,6 +20,9 @@ use std::alloc::Global;
 /// The capacity that a list of arguments starts with.
 const FEW_ARGUMENTS: usize = 2;
 
+/// The capacity that a list of directives starts with.
+const FEW_DIRECTIVES: usize = 1;
+
 struct ArgumentList;
 
 #[tactic(auto, using(crate::proofs::readers::Reading::reader_steps))]
@@ -126,10 +129,10 @@ pub fn directives<S: TokenSource>(
     ensures { Gives shared (Sym directives_symbol) (S.items source.old) (S.items source.new)
         (λ v x. directives_view S.Names.bytes v.items ≡ directives_of x) result }
 {
-    let mut directives = Vec::new(alloc);
-    if source.sees_punctuator(Punctuator::At) {
-        directives.reserve_exact(1)?;
+    if !<DirectiveList as Elements<S>>::comes_next(source) {
+        return Ok(Vec::new(alloc));
     }
+    let mut directives = Vec::with_capacity(alloc, FEW_DIRECTIVES)?;
     read_many::<S, DirectiveList>(alloc, source, &mut directives)?;
     Ok(directives)
 }

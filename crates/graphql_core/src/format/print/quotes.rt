@@ -1,5 +1,5 @@
 //! Strings in quotes.
-ghost use Rattle.std.specs.Prelude.{◌≡◌, ◌<◌, ◌≤◌, false, length, OnOk};
+ghost use Rattle.std.specs.Prelude.{◌≡◌, ◌<◌, ◌≤◌, true, false, length, OnOk};
 ghost use Rattle.std.specs.Char.{encode_utf8};
 ghost use Rattle.std.specs.List.{prefix_len};
 ghost use Rattle.std.specs.Str.{IsCharBoundary};
@@ -82,19 +82,35 @@ fn write_escape<S: Sink>(out: &mut S, byte: u8) -> Result<(), S::Error>
     }
 }
 
+/// Whether a string needs no escape in quotes. Such a string has no line feed, so no block form.
+pub fn is_plain(text: &str) -> bool
+    ensures plain { result ≡ true → prefix_len is_unescaped text.now ≡ length text.now }
+    ensures in_quotes { result ≡ true → spec.has_block_form text.now ≡ false }
+{
+    unescaped_len(text) == text.len()
+}
+
+/// Appends a string that needs no escape, in quotes.
+pub fn write_plain<S: Sink>(out: &mut S, text: &str) -> Result<(), S::Error>
+    requires { prefix_len is_unescaped text.now ≡ length text.now }
+    ensures { OnOk result (S.took out.old (spec.quoted text.now) out.new) }
+{
+    out.push_three("\"", text, "\"")
+}
+
 /// Appends a string in quotes.
 pub fn write_quoted<S: Sink>(out: &mut S, text: &str) -> Result<(), S::Error>
     ensures { OnOk result (S.took out.old (spec.quoted text.now) out.new) }
 {
-    if unescaped_len(text) == text.len() {
-        return out.push_three("\"", text, "\"");
+    if is_plain(text) {
+        return write_plain(out, text);
     }
     write_escaped(out, text)
 }
 
 /// Appends a string in quotes, run by run between the bytes that need an escape.
 #[inline(never)]
-fn write_escaped<S: Sink>(out: &mut S, text: &str) -> Result<(), S::Error>
+pub fn write_escaped<S: Sink>(out: &mut S, text: &str) -> Result<(), S::Error>
     ensures { OnOk result (S.took out.old (spec.quoted text.now) out.new) }
 {
     out.push_str("\"")?;

@@ -3,10 +3,11 @@ ghost use Rattle.std.specs.Prelude.{◌+◌, ◌*◌, ◌^◌, ◌<◌, OnOk};
 ghost use Rattle.graphql_core.specs.{text_of, string_layout, string_levels};
 
 use crate::format::print::block::{has_block_form, write_block};
-use crate::format::print::quotes::write_quoted;
+use crate::format::print::quotes::{is_plain, write_escaped, write_plain};
 use crate::format::{Sink, Style};
 
-/// Appends a string: in block form if `has_block_form` returns true, else in quotes.
+/// Appends a string: in block form if `has_block_form` returns true, else in quotes. Most strings need no escape, which
+/// one scan shows.
 pub fn write_string<S: Sink>(
     out: &mut S,
     text: &str,
@@ -16,10 +17,13 @@ pub fn write_string<S: Sink>(
     requires { margin + string_levels text.now * style.now.indent < 2 ^ 32 }
     ensures { OnOk result (S.took out.old (text_of (string_layout style.now margin text.now)) out.new) }
 {
+    if is_plain(text) {
+        return write_plain(out, text);
+    }
     if has_block_form(text) {
         let inside = margin + style.indentation() as usize;
         write_block(out, text, inside, margin)
     } else {
-        write_quoted(out, text)
+        write_escaped(out, text)
     }
 }

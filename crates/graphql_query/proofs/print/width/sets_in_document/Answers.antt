@@ -10,5 +10,5 @@ definitions-preserved g c =
     let here = item_here c.deref-definition-items.result.now l.definition-index c.definition-item.result (omega arith) c.definition-item.is in
     let left = rw here at l.invariant in
     let alone = sets_alone (definition_view g.N.Names.bytes c.definition-item.result) in
-    let first = rw (c.selection_set_of-set.ensures, ← alone) at c.levels_in_selection_set.ensures in
+    let first = rw (c.selection_set_of-set.ensures, ← alone) at c.sets_in.ensures in
     omega (arith, left, first, c.max-most.ensures)
