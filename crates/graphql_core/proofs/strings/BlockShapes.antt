@@ -2,7 +2,7 @@
 use Rattle.std.specs.List.{filter, reduce, enumerate_from, onto_first, prefix_len, suffix_len}
 use Rattle.std.specs.Option.{MatchOption, unwrap_or}
 use Rattle.std.specs.Str.Lines.{lines, lines_of_parts, strip_carriage_return}
-use Rattle.std.proofs.Common.{◌≡◌, ◌≢◌, ℕ, zero, suc, ◌+◌, ◌-◌, ◌<◌, ◌≤◌, min, Bool, true, false, ◌==◌, if◌then◌else◌, List, [], ◌∷◌, ◌++◌, Bor}
+use Rattle.std.proofs.Common.{◌≡◌, ◌≢◌, ℕ, zero, suc, ◌+◌, ◌-◌, ◌<◌, ◌≤◌, min, true, false, ◌==◌, if◌then◌else◌, List, [], ◌∷◌, ◌++◌, Bor}
 use Rattle.std.proofs.Common.{length, map, get_or, take, drop, Option, Some, None, refl, sym, ap, ◌∙◌, inl, inr, arith, zero-add, add-zero, eqb-true}
 use Rattle.std.proofs.Common.{length-append, length-drop}
 use Rattle.std.proofs.Math.Seq.{take-append_seam, get_or-append_seam}

@@ -1,6 +1,6 @@
 -- Selection sets in a list, each with the number of sets around it.
 use Rattle.std.proofs.Common.{◌≡◌, ℕ, ◌+◌, ◌<◌, ◌≤◌, List, [], ◌∷◌, ◌++◌, length, take, drop, get_or, max, sym, ap, ◌∙◌, rules, arith, length-take-le}
-use Rattle.std.proofs.lemmas.List.{take_more_set, take-set, drop-append-le, get_or-take}
+use Rattle.std.proofs.lemmas.List.{take_more_set, take-set, drop-append-le, get_or-take, get_or_default}
 use lib.ListN.{set}
 use Rattle.graphql_core.specs.{most, arguments_view, directives_view}
 use Rattle.graphql_core.proofs.{item_here}
@@ -56,8 +56,10 @@ module _ {A : Type 0} (f : A → ℕ) where
   pub most_kept : (xs : List A) (i k : ℕ) (x : A) → most f (drop k (take i (set xs i x))) ≡ most f (drop k (take i xs))
   most_kept xs i k x = ap (λ l. most f (drop k l)) (take-set xs i x)
 
-  -- the element at i, and those after it up to n
-  pub most_next : (xs : List A) (i n : ℕ) (x : A) → i < n → n ≤ length xs → x ≡ get_or xs i x
-      → most f (drop i (take n xs)) ≡ max (f x) (most f (drop (i + 1) (take n xs)))
-  most_next xs i n x h b is =
-      ap (most f) (item_here (take n xs) i x (omega (arith, length-take-le n xs b)) (is ∙ sym (get_or-take n xs i x h)))
+  -- the element at i, whatever the default is, and those after it up to n
+  pub most_next : (xs : List A) (i n : ℕ) (x d : A) → i < n → n ≤ length xs → x ≡ get_or xs i x
+      → (get_or xs i d ≡ x) × (most f (drop i (take n xs)) ≡ max (f x) (most f (drop (i + 1) (take n xs))))
+  most_next xs i n x d h b is = (
+    get_or_default xs i d x (omega arith) ∙ sym is,
+    ap (most f) (item_here (take n xs) i x (omega (arith, length-take-le n xs b)) (is ∙ sym (get_or-take n xs i x h))),
+  )

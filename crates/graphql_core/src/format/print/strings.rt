@@ -6,8 +6,8 @@ use crate::format::print::block::{has_block_form, write_block};
 use crate::format::print::quotes::{is_plain, write_escaped, write_plain};
 use crate::format::{Sink, Style};
 
-/// Appends a string: in block form if `has_block_form` returns true, else in quotes. Most strings need no escape, which
-/// one scan shows.
+/// Appends a string: in block form if `has_block_form` returns true, else in quotes. One scan shows that most strings
+/// need no escape.
 pub fn write_string<S: Sink>(
     out: &mut S,
     text: &str,
@@ -20,6 +20,19 @@ pub fn write_string<S: Sink>(
     if is_plain(text) {
         return write_plain(out, text);
     }
+    write_special(out, text, style, margin)
+}
+
+/// Appends a string as `write_string` does, with no scan for strings that need no escape.
+fn write_special<S: Sink>(
+    out: &mut S,
+    text: &str,
+    style: &Style,
+    margin: usize,
+) -> Result<(), S::Error>
+    requires { margin + string_levels text.now * style.now.indent < 2 ^ 32 }
+    ensures { OnOk result (S.took out.old (text_of (string_layout style.now margin text.now)) out.new) }
+{
     if has_block_form(text) {
         let inside = margin + style.indentation() as usize;
         write_block(out, text, inside, margin)
