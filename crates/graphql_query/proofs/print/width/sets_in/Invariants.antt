@@ -1,4 +1,4 @@
-use Rattle.std.proofs.Common.{◌≡◌, ◌+◌, ◌-◌, ◌^◌, ◌≤◌, length, min, max, take, drop}
+use Rattle.std.proofs.Common.{◌≡◌, ◌-◌, ◌^◌, ◌≤◌, length, min, max, take, drop}
 use Rattle.graphql_core.specs.{most}
 use Rattle.graphql_query.specs.{selection_set_view, in_sets, reach_of, selection_set_depth}
 use Rattle.graphql_query.proofs.print.width.sets_in.Given as goal
