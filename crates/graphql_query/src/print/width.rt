@@ -49,8 +49,8 @@ fn nested_in<'a, N: Names>(
     }
 }
 
-/// Appends the selection sets of selections to the first `end` of `sets`, each with the number of sets around it. Returns
-/// how many there are then. The code has no branch on which fields have selections.
+/// Appends the selection sets of selections to the first `end` of `sets`, each with the number of sets around it.
+/// Returns how many there are then. The code has no branch on which fields have selections.
 #[inline(always)]
 fn push_nested<'a, N: Names>(
     sets: &mut [(&'a SelectionSet<N>, usize); 32],
