@@ -2,45 +2,17 @@
 use Rattle.std.specs.Str.{IsCharBoundary}
 use Rattle.std.specs.Char.{is_ascii_digit}
 use Rattle.std.specs.List.{prefix_len}
-use Rattle.std.proofs.Common.{◌≡◌, ℕ, zero, suc, ◌+◌, ◌<◌, ◌≤◌, Bool, true, false, cond, ◌&&◌, ◌||◌, ◌==◌, List, [], ◌∷◌, Option, Some, None, get_or, drop}
-use Rattle.std.proofs.Common.{IsUtf8, refl, ap, ◌∙◌, subst, inl, inr, arith, add-zero, eqb-true, IfSome}
-use Rattle.std.proofs.lemmas.Bool.{cases_Bool}
+use Rattle.std.proofs.Common.{◌≡◌, ℕ, zero, suc, ◌+◌, ◌<◌, Bool, true, false, cond, ◌&&◌, ◌||◌, ◌==◌, List, ◌∷◌, Option, Some, None, get_or}
+use Rattle.std.proofs.Common.{IsUtf8, refl, ap, subst, arith, eqb-true, IfSome}
 use Rattle.std.proofs.lemmas.Bool.Decides.{nat_tests}
 use Rattle.std.proofs.lemmas.List.Sums.{prefix_len-le-length, prefix_len_passes}
 use Rattle.std.proofs.lemmas.Str.{IsCharBoundary-start, IsCharBoundary-after_ascii}
-use Rattle.graphql_core.specs.declared.position.Pos.{Pos}
 use Rattle.graphql_core.specs.declared.tokenizer.token.Kind.{Kind}
-use Rattle.graphql_core.specs.declared.tokenizer.piece.Move.TheVariants.{Over}
 use Rattle.graphql_core.specs.declared.tokenizer.piece.Skipped.{Skipped}
 use Rattle.graphql_core.specs.steps.Front.{FrontElement, AtEnd, Skips, Takes, Stops}
 use Rattle.graphql_core.specs.{is_name_start, is_punctuator_byte, is_integer, begins_quotes, is_float, number, closed, quoted_front, front, other_token, FitsIn}
-use Rattle.graphql_core.specs.{IsItem, is_flat, Where, run_at, further, items, is_space, ignored_front, FitsIgnored}
-use Rattle.graphql_core.proofs.lexical.FrontFits.{further_skip, front_fits}
-
-abbrev over : ℕ → Pos → Pos
-over n p = record { line = p.line; column = p.column + n }
-
-front_space : (bs : List ℕ) → front (32 ∷ bs) ≡ Skips 1 (Over 1)
-unfolding front
-front_space bs = refl
-
--- the items after some spaces
-pub further_spaces : (w : Where) (place : Pos) (passed : ℕ) (bytes : List ℕ) (n : ℕ) → n ≤ prefix_len is_space bytes
-    → items (further (record { line = place.line; column = place.column + n }) (passed + n) w) (drop n bytes) ≡ items (further place passed w) bytes
-further_spaces w place passed bytes zero h = rw (add-zero place.column, add-zero passed) refl
-further_spaces w place passed [] (suc n) h = absurd (omega arith)
-further_spaces w place passed (b ∷ bs) (suc n) h =
-    elim (cases_Bool (b == 32)) [
-      | inl space ↦
-          let e : b ≡ 32 = eqb-true b 32 space in
-          let more : n ≤ prefix_len is_space bs = omega (arith, rw space at h) in
-          let one : Pos = record { line = place.line; column = place.column + 1 } in
-          let column : place.column + 1 + n ≡ place.column + suc n = omega arith in
-          let count : passed + 1 + n ≡ passed + suc n = omega arith in
-          let front_is : front (b ∷ bs) ≡ Skips 1 (Over 1) = ap (λ x. front (x ∷ bs)) e ∙ front_space bs in
-          rw (← column, ← count) (further_spaces w one (passed + 1) bs n more ∙ further_skip w place passed (b ∷ bs) 1 (Over 1) front_is)
-      | inr other ↦ absurd (omega (arith, rw other at h))
-    ]
+use Rattle.graphql_core.specs.{IsItem, is_flat, run_at, is_space, ignored_front, FitsIgnored}
+use Rattle.graphql_core.proofs.lexical.FrontFits.{front_fits}
 
 pub flat_below : (b : ℕ) → is_flat b ≡ true → b < 128
 flat_below b h = grind (arith, nat_tests)

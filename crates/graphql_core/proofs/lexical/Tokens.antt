@@ -1,7 +1,7 @@
 -- Tokens and plain ignored text at the front of an input.
 use Rattle.std.specs.Str.{IsCharBoundary}
 use Rattle.std.specs.List.{prefix_len}
-use Rattle.std.proofs.Common.{◌≡◌, ℕ, ◌+◌, ◌-◌, ◌<◌, ◌≤◌, Bool, true, false, ◌==◌, List, [], ◌∷◌, Option, Some, None, length, take, drop, get_or, IsUtf8}
+use Rattle.std.proofs.Common.{◌≡◌, ℕ, zero, suc, ◌+◌, ◌-◌, ◌<◌, ◌≤◌, Bool, true, false, ◌==◌, List, [], ◌∷◌, Option, Some, None, length, take, drop, get_or, IsUtf8}
 use Rattle.std.proofs.Common.{refl, sym, ap, ◌∙◌, arith, eqb-true, IfSome, cond, slice_index, add-zero, inl, inr, ◌&&◌, ◌||◌}
 use Rattle.std.proofs.lemmas.Bool.{false≢true, eqb-false, and_parts, or_cases, both_ways, cases_Bool}
 use Rattle.std.proofs.lemmas.List.{length-take, take_min}
@@ -18,8 +18,8 @@ use Rattle.graphql_core.specs.steps.Front.{FrontElement, AtEnd, Skips, Takes, St
 use Rattle.graphql_core.specs.{is_name_start, is_name_continue, is_punctuator_byte, nesting_of, is_in_line, too_deep, Where, Item, Content, item_at}
 use Rattle.graphql_core.specs.{TokenContent, EndOfInput, LexicalError, is_token, is_too_deep, openers_after, closers_after, past_token, token_then, items}
 use Rattle.graphql_core.specs.{items_by, BeginsWithNext, AreItemsOfRest, further, front, other_token, comment, line_end, FitsIn, IsItem, taken, FitsTaken}
-use Rattle.graphql_core.specs.{is_space_or_comma, is_line_feed, is_spacing, can_begin_ignored, columns_of, moved}
-use Rattle.graphql_core.proofs.lexical.Runs.{differs}
+use Rattle.graphql_core.specs.{is_space, is_space_or_comma, is_line_feed, is_spacing, can_begin_ignored, columns_of, moved}
+use Rattle.graphql_core.proofs.lexical.Runs.{differs, run_widens}
 use Rattle.graphql_core.proofs.lexical.FrontFits.{further_skip, front_fits, front_within, items_at, next_place_items, PieceFits}
 use Rattle.graphql_core.proofs.lexical.OneCut.{has_items_from}
 use Rattle.graphql_core.proofs.lexical.Spaces.{no_front, item_first}
@@ -205,6 +205,27 @@ blank b bs h = rw (differs is_space_or_comma b 9 h refl, differs is_space_or_com
 pub blank_front : (bytes : List ℕ) → is_space_or_comma (get_or bytes 0 0) ≡ true → front bytes ≡ Skips 1 (Over 1)
 blank_front [] h = absurd cc
 blank_front (b ∷ bs) h = blank b bs h
+
+-- the items after some spaces and commas
+pub further_blanks : (w : Where) (place : Pos) (passed : ℕ) (bytes : List ℕ) (n : ℕ) → n ≤ prefix_len is_space_or_comma bytes
+    → items (further (moved (Over n) place) (passed + n) w) (drop n bytes) ≡ items (further place passed w) bytes
+further_blanks w place passed bytes zero h = rw (add-zero place.column, add-zero passed) refl
+further_blanks w place passed [] (suc n) h = absurd (omega arith)
+further_blanks w place passed (b ∷ bs) (suc n) h =
+    elim (cases_Bool (is_space_or_comma b)) [
+      | inl is_blank ↦
+          let one : Pos = moved (Over 1) place in
+          let column : place.column + 1 + n ≡ place.column + suc n = omega arith in
+          let count : passed + 1 + n ≡ passed + suc n = omega arith in
+          rw (← column, ← count) (further_blanks w one (passed + 1) bs n (omega (arith, rw is_blank at h))
+          ∙ further_skip w place passed (b ∷ bs) 1 (Over 1) (blank b bs is_blank))
+      | inr other ↦ absurd (omega (arith, rw other at h))
+    ]
+
+-- the items after some spaces
+pub further_spaces : (w : Where) (place : Pos) (passed : ℕ) (bytes : List ℕ) (n : ℕ) → n ≤ prefix_len is_space bytes
+    → items (further (moved (Over n) place) (passed + n) w) (drop n bytes) ≡ items (further place passed w) bytes
+further_spaces w place passed bytes n h = further_blanks w place passed bytes n (omega (arith, h, run_widens is_space is_space_or_comma (λ b is. rw is refl) bytes))
 
 feed : (bs : List ℕ) → front (10 ∷ bs) ≡ Skips 1 Down
 unfolding front

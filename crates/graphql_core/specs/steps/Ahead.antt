@@ -1,14 +1,15 @@
 -- What the fast paths of the tokenizer test for.
 use Rattle.std.specs.Prelude.{◌≡◌, ℕ, ◌+◌, ◌-◌, ◌*◌, ◌^◌, ◌<◌, ◌≤◌, Bool, not, nat_le, nat_lt, ◌==◌, ◌&&◌, ◌||◌}
-use Rattle.std.specs.Prelude.{if◌then◌else◌, List, ◌∷◌, length, map, slice_index, Option, Some, None}
+use Rattle.std.specs.Prelude.{if◌then◌else◌, List, ◌∷◌, length, map, slice_index, Option, Some, None, Result, Ok, Err}
 use Rattle.std.specs.Int.{w64, trailing_zeros}
 use Rattle.graphql_core.specs.steps.Front.{FrontElement, AtEnd, Skips, Takes, Stops, Cuts, is_flat}
-use Rattle.graphql_core.specs.lexical.{steps_over, Where, Item, Content, item_at, TokenContent}
+use Rattle.graphql_core.specs.lexical.{steps_over, Where, Item, Content, item_at, TokenContent, NextItem}
 use Rattle.graphql_core.specs.steps.Cut.{items}
 use Rattle.graphql_core.specs.declared.position.Pos.{Pos}
 use Rattle.graphql_core.specs.declared.tokenizer.piece.Skipped.{Skipped}
 use Rattle.graphql_core.specs.declared.tokenizer.piece.Taken.{Taken}
 use Rattle.graphql_core.specs.declared.tokenizer.token.Token.{Token}
+use Rattle.graphql_core.specs.declared.tokenizer.token.Bad.{Bad}
 
 abbrev pub is_space : ℕ → Bool
 is_space b = b == 32
@@ -118,6 +119,12 @@ contents is = map (λ i. i.content) is
 abbrev pub NextLexeme : List Item → Token → List Item → Type 0
 NextLexeme old t new = (w : Where) × (more : List Item) × (old ≡ item_at (TokenContent t.kind t.value.now) w ∷ more)
     × (contents new ≡ contents more)
+
+-- `r` is the next item, and `new` has the contents of the items after it
+abbrev pub NextItemOrLexeme : List Item → Result (Option Token) Bad → List Item → Type 0
+NextItemOrLexeme old (Ok (Some t)) new = NextLexeme old t new
+NextItemOrLexeme old (Ok None) new = NextItem old (Ok None) new
+NextItemOrLexeme old (Err bad) new = NextItem old (Err bad) new
 
 -- both inputs have the same items, ignoring places, whatever brackets are open before them
 abbrev pub HasContentsOf : List ℕ → List ℕ → Type 0

@@ -45,7 +45,7 @@ fn spaced(alloc: Global, source: &str) -> Result<String, Fault>
         let token = match tokens.fast_lexeme() {
             Some(token) => token,
             None => {
-                let (item, after) = tokens.slow_token();
+                let (item, after) = tokens.slow_lexeme();
                 tokens = after;
                 match item {
                     Ok(Some(token)) => token,

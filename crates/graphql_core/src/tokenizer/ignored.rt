@@ -1,6 +1,7 @@
 //! Skips ignored text (October 2021, section 2.1.7) at the start of the input.
 ghost use Rattle.std.specs.Prelude.{◌≡◌, ◌≤◌, IfSome, length, slice_index, true};
-ghost use Rattle.graphql_core.specs.{front, IsItem, HasRoom, SkipsTo, HasContentsOf};
+ghost use Rattle.std.specs.List.{prefix_len};
+ghost use Rattle.graphql_core.specs.{front, IsItem, HasRoom, SkipsTo, HasContentsOf, is_space_or_comma};
 
 use crate::position::Pos;
 use crate::tokenizer::class::{can_begin_ignored, columns_of, is_line_feed, is_spacing};
@@ -125,4 +126,16 @@ pub fn skip_ignored(text: &str, at: Pos) -> (&str, Pos)
     } else {
         skip_rare(rest, place)
     }
+}
+
+/// Skips all ignored text, which begins with this number of spaces and commas.
+#[inline(always)]
+pub fn skip_from_blanks(text: &str, blanks: usize, at: Pos) -> (&str, Pos)
+    requires room { HasRoom text.now at }
+    requires blanks { blanks ≤ prefix_len is_space_or_comma text.now }
+    ensures skips { SkipsTo text.now at result.0.now result.1 }
+    ensures first { IsItem (front result.0.now) }
+{
+    let after = text.split_at(blanks).1;
+    skip_ignored(after, position_after_spaces(blanks, at))
 }

@@ -3,6 +3,7 @@ ghost use Rattle.std.specs.Prelude.{◌≡◌, ◌<◌, ◌≤◌, ◌-◌, ◌/
 ghost use Rattle.std.specs.List.{prefix_len, count_by};
 ghost use Rattle.std.specs.Char.{is_ascii_digit};
 ghost use Rattle.graphql_core.specs.{is_in_line, is_name_continue, is_gap, is_space, is_plain_in_string};
+ghost use Rattle.graphql_core.specs.{is_space_or_comma};
 ghost use Rattle.graphql_core.specs.{is_in_string, is_plain_in_block, first_set, is_flat};
 ghost use Rattle.graphql_core.specs.{is_no_line_feed, is_no_backslash, continues_character};
 
@@ -161,6 +162,18 @@ pub fn line_lanes(bytes: &[u8]) -> usize
     let v = u8x16::from_slice(bytes);
     let stops = v.simd_eq(u8x16::splat(b'\n')) | v.simd_eq(u8x16::splat(b'\r'));
     first_set(stops.to_bitmask())
+}
+
+/// The length of the run of spaces and commas from index `start` on, in 16 bytes.
+#[inline(always)]
+pub fn blank_lanes_from(bytes: &[u8], start: usize) -> usize
+    requires some { 16 ≤ length bytes.now }
+    requires within { start < 16 }
+    ensures { result ≡ prefix_len is_space_or_comma (take (16 - start) (drop start bytes.now)) }
+{
+    let v = u8x16::from_slice(bytes);
+    let stops = v.simd_ne(u8x16::splat(b' ')) & v.simd_ne(u8x16::splat(b','));
+    first_set_from(stops.to_bitmask(), start)
 }
 
 /// The length of the run of spaces, commas and line feeds from index `start` on, in 16 bytes.

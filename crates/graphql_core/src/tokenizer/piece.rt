@@ -5,18 +5,18 @@ ghost use Rattle.std.specs.Str.{IsCharBoundary};
 ghost use Rattle.graphql_core.specs.declared.tokenizer.piece.Nesting.TheVariants.{Unchanged};
 ghost use Rattle.graphql_core.specs.steps.Front.{Takes};
 ghost use Rattle.graphql_core.specs.declared.tokenizer.token.Kind.TheVariants.{Name};
-ghost use Rattle.graphql_core.specs.steps.Ahead.{is_gap, is_space, is_byte_order_mark, ignored_front, FitsIgnored};
+ghost use Rattle.graphql_core.specs.steps.Ahead.{is_space, is_byte_order_mark, ignored_front, FitsIgnored};
 ghost use Rattle.graphql_core.specs.steps.Ahead.{taken, without_flat, FitsTaken};
 ghost use Rattle.graphql_core.specs.lexical.Lexical.{is_name_start};
 ghost use Rattle.graphql_core.specs.steps.Front as spec;
 ghost use Rattle.graphql_core.specs.lexical.Lexical as lexical;
 
 use crate::tokenizer::class::{is_name_start, is_punctuator_byte, is_space_or_comma, nesting_of};
-use crate::tokenizer::lanes::{LANES, gap_lanes_from, name_lanes};
+use crate::tokenizer::lanes::{LANES, name_lanes};
 use crate::tokenizer::number::{number, plain_number, starts_number};
 use crate::tokenizer::quoted::{plain_string_len, quoted};
 use crate::tokenizer::run::{
-    Flat, InComment, NameContinue, Space, class_prefix_len, len_in_one_load,
+    Flat, Gap, InComment, NameContinue, Space, class_prefix_len, len_in_one_load,
 };
 use crate::tokenizer::token::Kind;
 
@@ -268,6 +268,17 @@ pub fn token_at(text: &str) -> Option<(Taken, bool)>
     token_bytes(text.as_bytes())
 }
 
+/// The token at the start of the input: the slow path of `fast_token_at`.
+#[inline(always)]
+#[tactic(auto, using(crate::proofs::lexical::Tokens::taken_fits))]
+pub fn slow_token_at(text: &str) -> Option<Taken>
+    requires { length text.now < 2 ^ 62 }
+    ensures is { result ≡ taken (spec.front text.now) }
+    ensures fits { FitsTaken text.now result }
+{
+    other_token_bytes(text.as_bytes())
+}
+
 #[inline(always)]
 fn is_byte_order_mark(byte: u8, rest: &[u8]) -> bool
     ensures { result ≡ is_byte_order_mark byte rest.now }
@@ -356,15 +367,15 @@ pub fn begins_with_name(text: &str) -> bool
     is_name_start(byte_at(text.as_bytes(), 0))
 }
 
-/// The length of the name at the start of the input, and of the spaces, commas and line feeds after it, as far as one
-/// load shows them. `None` if the load does not show the end of the name.
+/// The length of the name at the start of the input, and of the gap after it, as far as one load shows them. `None` if
+/// the load does not show the end of the name.
 #[inline(always)]
-pub fn name_in_one_load(text: &str) -> Option<(usize, usize)>
+pub fn name_in_one_load<G: Gap>(text: &str) -> Option<(usize, usize)>
     requires begins { is_name_start (slice_index text.now 0) ≡ true }
     requires long { 17 ≤ length text.now }
     requires small { length text.now < 2 ^ 62 }
     ensures is { IfSome result (λ n. taken (Takes n.0 Name Unchanged) ≡ taken (spec.front text.now)) }
-    ensures gap { IfSome result (λ n. n.1 ≤ prefix_len is_gap (drop n.0 text.now)) }
+    ensures gap { IfSome result (λ n. n.1 ≤ prefix_len G.has (drop n.0 text.now)) }
     ensures cuts { IfSome result (λ n. IsCharBoundary text.now n.0) }
 {
     let (_, rest) = text.as_bytes().split_first()?;
@@ -372,5 +383,5 @@ pub fn name_in_one_load(text: &str) -> Option<(usize, usize)>
     if len == LANES {
         return None;
     }
-    Some((len + 1, gap_lanes_from(rest, len)))
+    Some((len + 1, G::lanes_from(rest, len)))
 }

@@ -3,8 +3,8 @@ ghost use Rattle.std.specs.Prelude.{◌≡◌, ◌<◌, ◌≤◌, length, IfSom
 ghost use Rattle.std.specs.List.{prefix_len};
 
 use crate::tokenizer::lanes::{
-    LANES, block_lanes, digit_lanes, flat_lanes, in_string_lanes, line_lanes, name_lanes,
-    no_backslash_lanes, no_feed_lanes, space_lanes, string_lanes,
+    LANES, blank_lanes_from, block_lanes, digit_lanes, flat_lanes, gap_lanes_from, in_string_lanes,
+    line_lanes, name_lanes, no_backslash_lanes, no_feed_lanes, space_lanes, string_lanes,
 };
 
 /// A class of bytes.
@@ -157,6 +157,48 @@ impl Class for InComment {
     #[inline(always)]
     fn lanes(bytes: &[u8]) -> usize {
         line_lanes(bytes)
+    }
+}
+
+/// Bytes of ignored text that one load can show after a name.
+pub trait Gap {
+    ghost use Rattle.std.specs.Prelude.{◌≡◌, ◌≤◌, ◌<◌, ◌-◌, ℕ, Bool, length, take, drop};
+    ghost use Rattle.std.specs.List.{prefix_len};
+
+    ghost has: { ℕ → Bool };
+
+    /// The length of the run of these bytes from index `start` on, in 16 bytes.
+    fn lanes_from(bytes: &[u8], start: usize) -> usize
+        requires some { 16 ≤ length bytes.now }
+        requires within { start < 16 }
+        ensures { result ≡ prefix_len has (take (16 - start) (drop start bytes.now)) };
+}
+
+/// Spaces and commas.
+pub struct Blanks;
+
+impl Gap for Blanks {
+    ghost use Rattle.graphql_core.specs.steps.Ahead.{is_space_or_comma};
+
+    ghost has = { is_space_or_comma };
+
+    #[inline(always)]
+    fn lanes_from(bytes: &[u8], start: usize) -> usize {
+        blank_lanes_from(bytes, start)
+    }
+}
+
+/// Spaces, commas and line feeds.
+pub struct BlanksAndFeeds;
+
+impl Gap for BlanksAndFeeds {
+    ghost use Rattle.graphql_core.specs.steps.Ahead.{is_gap};
+
+    ghost has = { is_gap };
+
+    #[inline(always)]
+    fn lanes_from(bytes: &[u8], start: usize) -> usize {
+        gap_lanes_from(bytes, start)
     }
 }
 

@@ -3,15 +3,18 @@ ghost use Rattle.std.specs.Prelude.{◌≡◌, List, ◌+◌, ◌-◌, ◌*◌, 
 ghost use Rattle.std.specs.Prelude.{None};
 ghost use Rattle.graphql_core.specs.lexical.Items.{Item, HasItems, depth_of};
 ghost use Rattle.graphql_core.specs.lexical.StreamCalls.{NextItem, BeginsWithNext, AreItemsOfRest, next_place};
-ghost use Rattle.graphql_core.specs.steps.Ahead.{NextLexeme};
+ghost use Rattle.graphql_core.specs.steps.Ahead.{NextLexeme, NextItemOrLexeme};
 
 use crate::position::Pos;
 use crate::tokenizer::bad::bad_at;
 use crate::tokenizer::brackets::Brackets;
-use crate::tokenizer::ignored::{after_common, shows_item, skip_ignored};
+use crate::tokenizer::ignored::{after_common, shows_item, skip_from_blanks, skip_ignored};
 use crate::tokenizer::lanes::LANES;
-use crate::tokenizer::piece::{begins_with_name, fast_token_at, name_in_one_load, token_at};
+use crate::tokenizer::piece::{
+    begins_with_name, fast_token_at, name_in_one_load, slow_token_at, token_at,
+};
 use crate::tokenizer::place::{position_after_flat, position_after_token};
+use crate::tokenizer::run::{Blanks, BlanksAndFeeds};
 use crate::tokenizer::token::{Bad, Kind, Token};
 use std::marker::Model;
 
@@ -120,6 +123,16 @@ impl<'a> Tokens<'a> {
         if self.rest.len() <= LANES {
             return None;
         }
+        if begins_with_name(self.rest) {
+            let (len, blanks) = name_in_one_load::<Blanks>(self.rest)?;
+            let (value, after) = self.rest.split_at(len);
+            let end = position_after_flat(value, self.position);
+            let (rest, position) = skip_from_blanks(after, blanks, end);
+            self.rest = rest;
+            self.position = position;
+            let kind = Kind::Name;
+            return Some(Token { kind, value });
+        }
         let taken = fast_token_at(self.rest)?;
         if self.brackets.is_too_deep(taken.nesting) {
             return None;
@@ -149,7 +162,7 @@ impl<'a> Tokens<'a> {
             return None;
         }
         if begins_with_name(self.rest) {
-            let (len, gap) = name_in_one_load(self.rest)?;
+            let (len, gap) = name_in_one_load::<BlanksAndFeeds>(self.rest)?;
             let (value, after) = self.rest.split_at(len);
             let rest = after.split_at(gap).1;
             let name = Token {
@@ -174,6 +187,25 @@ impl<'a> Tokens<'a> {
             kind: taken.kind,
             value,
         })
+    }
+
+    /// The result of `next_token`, and the tokens after it: the slow path of `fast_lexeme`. Like `fast_lexeme`, this
+    /// call does not maintain `position`.
+    #[inline(never)]
+    pub fn slow_lexeme(mut self) -> (Result<Option<Token<'a>>, Bad<'a>>, Self)
+        ensures { NextItemOrLexeme self.entry result.0 result.1 }
+    {
+        let Some(taken) = slow_token_at(self.rest) else {
+            return self.slow_token();
+        };
+        if self.brackets.is_too_deep(taken.nesting) {
+            return self.slow_token();
+        }
+        let (value, after) = self.rest.split_at(taken.len);
+        self.rest = skip_ignored(after, self.position).0;
+        self.brackets = self.brackets.after(taken.nesting);
+        let kind = taken.kind;
+        (Ok(Some(Token { kind, value })), self)
     }
 
     /// The position of the next token, of the end of input, or of the lexical error. Ignored text before it is skipped.
