@@ -103,11 +103,6 @@ gap_boundary bytes (suc n) utf8 h =
     let more : n + 1 ≡ suc n = omega arith in
     subst (IsCharBoundary bytes) more (IsCharBoundary-after_ascii bytes n utf8 (omega (arith, prefix_len-le-length is_gap bytes)) last)
 
--- past a token of this length, and then past this many spaces, commas and line feeds
-pub past_gap : (text : List ℕ) (len : ℕ) {after rest : List ℕ} {gap : ℕ} → after ≡ drop len text → gap ≤ prefix_len is_gap (drop len text)
-    → rest ≡ drop gap after → HasContentsOf rest after
-past_gap text len after_is within rest_is w = rw (rest_is, after_is) (gap_contents _ (drop len text) within w)
-
 -- the next item is a token; the others are those of the rest, ignoring positions
 pub lexeme_then_rest : (w v : Where) (text value after rest : List ℕ) (t : Taken) → Some t ≡ taken (front text)
     → is_too_deep t.nesting w ≡ false → value ≡ take t.len text → after ≡ drop t.len text → HasContentsOf rest after

@@ -1,7 +1,7 @@
 //! Skips ignored text (October 2021, section 2.1.7) at the start of the input.
 ghost use Rattle.std.specs.Prelude.{◌≡◌, ◌≤◌, IfSome, length, slice_index, true};
 ghost use Rattle.std.specs.List.{prefix_len};
-ghost use Rattle.graphql_core.specs.{front, IsItem, HasRoom, SkipsTo, HasContentsOf, is_space_or_comma};
+ghost use Rattle.graphql_core.specs.{front, IsItem, HasRoom, SkipsTo, HasContentsOf, is_space_or_comma, is_gap};
 
 use crate::position::Pos;
 use crate::tokenizer::class::{can_begin_ignored, columns_of, is_line_feed, is_spacing};
@@ -83,7 +83,7 @@ fn skip_common(text: &str, at: Pos) -> (&str, Pos, bool)
 /// is false.
 #[inline(always)]
 #[tactic(auto, using(crate::proofs::lexical::Tokens::first_bytes))]
-pub fn after_common(text: &str) -> Option<&str>
+fn after_common(text: &str) -> Option<&str>
     ensures skips { IfSome result (λ rest. HasContentsOf rest.now text.now × (length rest.now ≤ length text.now)) }
     ensures first { IfSome result (λ rest. IsItem (front rest.now)) }
 {
@@ -107,10 +107,24 @@ pub fn after_common(text: &str) -> Option<&str>
 
 /// Whether the input is nonempty and its first byte cannot begin ignored text.
 #[inline(always)]
-pub fn shows_item(text: &str) -> bool
+fn shows_item(text: &str) -> bool
     ensures { result ≡ true → IsItem (front text.now) }
 {
     !text.is_empty() && !can_begin_ignored(first_byte(text))
+}
+
+/// The result of `after_common`, for input that begins with this number of spaces, commas and line feeds.
+#[inline(always)]
+pub fn after_gap(text: &str, gap: usize) -> Option<&str>
+    requires { gap ≤ prefix_len is_gap text.now }
+    ensures skips { IfSome result (λ rest. HasContentsOf rest.now text.now × (length rest.now ≤ length text.now)) }
+    ensures first { IfSome result (λ rest. IsItem (front rest.now)) }
+{
+    let rest = text.split_at(gap).1;
+    if shows_item(rest) {
+        return Some(rest);
+    }
+    after_common(rest)
 }
 
 /// Skips all ignored text.

@@ -1,18 +1,18 @@
 //! The lexical element (a token or ignored text) at the start of the input.
-ghost use Rattle.std.specs.Prelude.{◌≡◌, ◌+◌, ◌<◌, ◌≤◌, ◌^◌, ◌∷◌, true, length, take, drop, slice_index, IfSome, Some};
+ghost use Rattle.std.specs.Prelude.{◌≡◌, ◌+◌, ◌<◌, ◌≤◌, ◌^◌, ◌∷◌, true, false, length, take, drop, slice_index, IfSome, Some};
 ghost use Rattle.std.specs.List.{prefix_len, list_all};
 ghost use Rattle.std.specs.Str.{IsCharBoundary};
 ghost use Rattle.graphql_core.specs.declared.tokenizer.piece.Nesting.TheVariants.{Unchanged};
 ghost use Rattle.graphql_core.specs.steps.Front.{Takes};
-ghost use Rattle.graphql_core.specs.declared.tokenizer.token.Kind.TheVariants.{Name};
-ghost use Rattle.graphql_core.specs.steps.Ahead.{is_space, is_byte_order_mark, ignored_front, FitsIgnored};
+ghost use Rattle.graphql_core.specs.declared.tokenizer.token.Kind.TheVariants.{Name, Punctuator};
+ghost use Rattle.graphql_core.specs.steps.Ahead.{is_gap, is_space, is_byte_order_mark, ignored_front, FitsIgnored};
 ghost use Rattle.graphql_core.specs.steps.Ahead.{taken, without_flat, FitsTaken};
 ghost use Rattle.graphql_core.specs.lexical.Lexical.{is_name_start};
 ghost use Rattle.graphql_core.specs.steps.Front as spec;
 ghost use Rattle.graphql_core.specs.lexical.Lexical as lexical;
 
 use crate::tokenizer::class::{is_name_start, is_punctuator_byte, is_space_or_comma, nesting_of};
-use crate::tokenizer::lanes::{LANES, name_lanes};
+use crate::tokenizer::lanes::{LANES, gap_lanes_from, name_lanes};
 use crate::tokenizer::number::{number, plain_number, starts_number};
 use crate::tokenizer::quoted::{plain_string_len, quoted};
 use crate::tokenizer::run::{
@@ -384,4 +384,21 @@ pub fn name_in_one_load<G: Gap>(text: &str) -> Option<(usize, usize)>
         return None;
     }
     Some((len + 1, G::lanes_from(rest, len)))
+}
+
+/// How the punctuator of one character at the start of the input changes the number of open brackets, and the length of
+/// the gap after it, as far as one load shows it. `None` if no such punctuator is there.
+#[inline(always)]
+pub fn punctuator_in_one_load(text: &str) -> Option<(Nesting, usize)>
+    requires other { is_name_start (slice_index text.now 0) ≡ false }
+    requires long { 17 ≤ length text.now }
+    ensures is { IfSome result (λ n. taken (Takes 1 Punctuator n.0) ≡ taken (spec.front text.now)) }
+    ensures gap { IfSome result (λ n. n.1 ≤ prefix_len is_gap (drop 1 text.now)) }
+    ensures cuts { IfSome result (λ n. IsCharBoundary text.now 1) }
+{
+    let (byte, rest) = text.as_bytes().split_first()?;
+    if !is_punctuator_byte(*byte) {
+        return None;
+    }
+    Some((nesting_of(*byte), gap_lanes_from(rest, 0)))
 }

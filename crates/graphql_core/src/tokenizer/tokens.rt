@@ -8,10 +8,11 @@ ghost use Rattle.graphql_core.specs.steps.Ahead.{NextLexeme, NextItemOrLexeme};
 use crate::position::Pos;
 use crate::tokenizer::bad::bad_at;
 use crate::tokenizer::brackets::Brackets;
-use crate::tokenizer::ignored::{after_common, shows_item, skip_from_blanks, skip_ignored};
+use crate::tokenizer::ignored::{after_gap, skip_from_blanks, skip_ignored};
 use crate::tokenizer::lanes::LANES;
 use crate::tokenizer::piece::{
-    begins_with_name, fast_token_at, name_in_one_load, slow_token_at, token_at,
+    begins_with_name, fast_token_at, name_in_one_load, punctuator_in_one_load, slow_token_at,
+    token_at,
 };
 use crate::tokenizer::place::{position_after_flat, position_after_token};
 use crate::tokenizer::run::{Blanks, BlanksAndFeeds};
@@ -164,24 +165,26 @@ impl<'a> Tokens<'a> {
         if begins_with_name(self.rest) {
             let (len, gap) = name_in_one_load::<BlanksAndFeeds>(self.rest)?;
             let (value, after) = self.rest.split_at(len);
-            let rest = after.split_at(gap).1;
-            let name = Token {
-                kind: Kind::Name,
-                value,
-            };
-            if shows_item(rest) {
-                self.rest = rest;
-                return Some(name);
+            self.rest = after_gap(after, gap)?;
+            let kind = Kind::Name;
+            return Some(Token { kind, value });
+        }
+        if let Some((nesting, gap)) = punctuator_in_one_load(self.rest) {
+            if self.brackets.is_too_deep(nesting) {
+                return None;
             }
-            self.rest = after_common(rest)?;
-            return Some(name);
+            let (value, after) = self.rest.split_at(1);
+            self.rest = after_gap(after, gap)?;
+            self.brackets = self.brackets.after(nesting);
+            let kind = Kind::Punctuator;
+            return Some(Token { kind, value });
         }
         let taken = fast_token_at(self.rest)?;
         if self.brackets.is_too_deep(taken.nesting) {
             return None;
         }
         let (value, after) = self.rest.split_at(taken.len);
-        self.rest = after_common(after)?;
+        self.rest = after_gap(after, 0)?;
         self.brackets = self.brackets.after(taken.nesting);
         Some(Token {
             kind: taken.kind,

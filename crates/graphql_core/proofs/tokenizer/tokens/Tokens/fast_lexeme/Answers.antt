@@ -1,43 +1,58 @@
-use Rattle.std.proofs.Common.{◌≡◌, ◌-◌, false, length, IsUtf8, refl, sym, ◌∙◌, arith, rules}
+use Rattle.std.proofs.Common.{◌≡◌, ◌-◌, false, length, refl, sym, ◌∙◌, arith}
 use Rattle.graphql_core.specs.{Where, is_too_deep}
-use Rattle.graphql_core.proofs.{one_bracket, few_open, gap_boundary, past_gap, lexeme_then_rest}
+use Rattle.graphql_core.specs.declared.tokenizer.piece.Taken.{Taken}
+use Rattle.graphql_core.specs.declared.tokenizer.token.Kind.TheVariants.{Punctuator}
+use Rattle.graphql_core.proofs.{one_bracket, few_open, lexeme_then_rest}
 use Rattle.graphql_core.proofs.tokenizer.tokens.Tokens.fast_lexeme.Goals as goal
-
-pub split_at-requires-then-begins_with_name : goal.split_at-requires-then-begins_with_name
-split_at-requires-then-begins_with_name c =
-    let after = c.split_at.result.1.now in
-    let utf8 : IsUtf8 after = search rules in
-    gap_boundary after c.in_ok-len.gap utf8 (rw c.split_at.ensures.back c.in_ok-len.ensures.gap)
-
-pub returns-then-shows_item-clause-item : goal.returns-then-shows_item-clause-item
-returns-then-shows_item-clause-item c =
-    let name = c.in_ok-len in
-    let cut = c.split_at.ensures in
-    let past = past_gap c.self.inside.rest.now name.len cut.back name.ensures.gap c.split_at-then-begins_with_name.ensures.back in
-    rw (← c.self.view_is) (lexeme_then_rest _ _ _ _ _ _ _ name.ensures.is refl cut.front cut.back past refl refl)
 
 pub returns-then-begins_with_name-clause-item : goal.returns-then-begins_with_name-clause-item
 returns-then-begins_with_name-clause-item c =
-    let name = c.in_ok-len in
     let cut = c.split_at.ensures in
-    let past = past_gap c.self.inside.rest.now name.len cut.back name.ensures.gap c.split_at-then-begins_with_name.ensures.back in
-    let left = λ (w : Where). c.in_ok-self-inside.ensures.skips.0 w ∙ past w in
-    rw (← c.self.view_is) (lexeme_then_rest _ _ _ _ _ _ _ name.ensures.is refl cut.front cut.back left refl refl)
+    rw (← c.self.view_is)
+    (lexeme_then_rest _ _ _ _ _ _ _ c.in_ok-len.ensures.is refl cut.front cut.back c.in_ok-self-inside.ensures.skips.0 refl refl)
+
+pub invariant_of-self-in-Some : goal.invariant_of-self-in-Some
+invariant_of-self-in-Some c =
+    let s = c.self.inside in
+    let w : Where = record { position = s.position; offset = s.size - length s.rest.now; openers = s.brackets.openers; closers = s.brackets.closers } in
+    let n = c.in-Some.nesting in
+    let few = few_open n w (sym (c.is_too_deep.ensures w refl refl) ∙ c.if-is_too_deep.false) c.self.invariant.6 in
+    let after = c.after-self-inside.ensures in
+    let within = c.in_ok-self-inside-2.ensures.skips.1 in (
+      omega arith,
+      omega (arith, within, c.split_at-in-Some.ensures.back_len),
+      omega (arith, within, c.split_at-in-Some.ensures.back_len),
+      omega (arith, after.openers, (one_bracket n s.brackets.openers).0, c.split_at-in-Some.ensures.back_len, within),
+      omega (arith, after.closers, (one_bracket n s.brackets.closers).1, c.split_at-in-Some.ensures.back_len, within),
+      c.in_ok-self-inside-2.ensures.first,
+      omega (arith, few, after.openers, after.closers),
+    )
+
+pub returns-in-Some-clause-item : goal.returns-in-Some-clause-item
+returns-in-Some-clause-item c =
+    let s = c.self.inside in
+    let w : Where = record { position = s.position; offset = s.size - length s.rest.now; openers = s.brackets.openers; closers = s.brackets.closers } in
+    let t : Taken = record { len = 1; kind = Punctuator; nesting = c.in-Some.nesting } in
+    let deep : is_too_deep t.nesting w ≡ false = sym (c.is_too_deep.ensures w refl refl) ∙ c.if-is_too_deep.false in
+    let cut = c.split_at-in-Some.ensures in
+    let after = c.after-self-inside.ensures in
+    rw (← c.self.view_is) (lexeme_then_rest w _ _ _ _ _ t c.in-Some.ensures.is deep cut.front cut.back
+    c.in_ok-self-inside-2.ensures.skips.0 after.openers after.closers)
 
 pub invariant_of-self-2 : goal.invariant_of-self-2
 invariant_of-self-2 c =
     let s = c.self.inside in
     let w : Where = record { position = s.position; offset = s.size - length s.rest.now; openers = s.brackets.openers; closers = s.brackets.closers } in
     let n = c.in_ok-taken.taken.nesting in
-    let few = few_open n w (sym (c.is_too_deep.ensures w refl refl) ∙ c.if-is_too_deep.false) c.self.invariant.6 in
-    let after = c.after-self-inside.ensures in
-    let within = c.in_ok-self-inside-2.ensures.skips.1 in (
+    let few = few_open n w (sym (c.is_too_deep-2.ensures w refl refl) ∙ c.if-is_too_deep-2.false) c.self.invariant.6 in
+    let after = c.after-self-inside-2.ensures in
+    let within = c.in_ok-self-inside-3.ensures.skips.1 in (
       omega arith,
       omega (arith, within, c.split_at-2.ensures.back_len),
       omega (arith, within, c.split_at-2.ensures.back_len),
       omega (arith, after.openers, (one_bracket n s.brackets.openers).0, c.in_ok-taken.ensures.fits.0, c.split_at-2.ensures.back_len, within),
       omega (arith, after.closers, (one_bracket n s.brackets.closers).1, c.in_ok-taken.ensures.fits.0, c.split_at-2.ensures.back_len, within),
-      c.in_ok-self-inside-2.ensures.first,
+      c.in_ok-self-inside-3.ensures.first,
       omega (arith, few, after.openers, after.closers),
     )
 
@@ -46,8 +61,8 @@ returns-clause-item c =
     let s = c.self.inside in
     let w : Where = record { position = s.position; offset = s.size - length s.rest.now; openers = s.brackets.openers; closers = s.brackets.closers } in
     let t = c.in_ok-taken.taken in
-    let deep : is_too_deep t.nesting w ≡ false = sym (c.is_too_deep.ensures w refl refl) ∙ c.if-is_too_deep.false in
+    let deep : is_too_deep t.nesting w ≡ false = sym (c.is_too_deep-2.ensures w refl refl) ∙ c.if-is_too_deep-2.false in
     let cut = c.split_at-2.ensures in
-    let after = c.after-self-inside.ensures in
+    let after = c.after-self-inside-2.ensures in
     rw (← c.self.view_is) (lexeme_then_rest w _ _ _ _ _ t c.in_ok-taken.ensures.is deep cut.front cut.back
-    c.in_ok-self-inside-2.ensures.skips.0 after.openers after.closers)
+    c.in_ok-self-inside-3.ensures.skips.0 after.openers after.closers)
