@@ -1,5 +1,6 @@
 //! The lexical element (a token or ignored text) at the start of the input.
-ghost use Rattle.std.specs.Prelude.{◌≡◌, ◌+◌, ◌<◌, ◌≤◌, ◌^◌, ◌∷◌, true, false, length, take, drop, slice_index, IfSome, Some};
+ghost use Rattle.std.specs.Prelude.{◌≡◌, ◌+◌, ◌<◌, ◌≤◌, ◌^◌, ◌∷◌, true, length, take, drop, slice_index, IfSome, Some};
+ghost use Rattle.std.specs.Prelude.{false};
 ghost use Rattle.std.specs.List.{prefix_len, list_all};
 ghost use Rattle.std.specs.Str.{IsCharBoundary};
 ghost use Rattle.graphql_core.specs.declared.tokenizer.piece.Nesting.TheVariants.{Unchanged};
