@@ -1,6 +1,7 @@
 -- The bytes at the front of an input that pass a test.
 use Rattle.std.specs.List.{prefix_len, list_all}
-use Rattle.std.proofs.Common.{◌≡◌, ◌≢◌, ℕ, ◌<◌, ◌≤◌, Bool, true, false, ◌==◌, List, [], ◌∷◌, ◌++◌, length, get_or, take, refl, sym, ap, ◌∙◌, inl, inr, arith}
+use Rattle.std.proofs.Common.{◌≡◌, ◌≢◌, ℕ, ◌<◌, ◌≤◌, Bool, true, false, ◌==◌, List, [], ◌∷◌, ◌++◌, length, get_or, take}
+use Rattle.std.proofs.Common.{refl, sym, ap, ◌∙◌, inl, inr, arith}
 use Rattle.std.proofs.lemmas.Bool.{cases_Bool, cases_eq, and_parts}
 use Rattle.std.proofs.lemmas.Bool.Decides.{nat_tests}
 use Rattle.std.proofs.lemmas.List.{take_at}
@@ -32,7 +33,8 @@ run_of p (x ∷ xs) =
     ]
 
 -- The run of bytes that pass a test is within that of another, if each byte that passes the one passes the other.
-pub run_widens : (p q : ℕ → Bool) → ((b : ℕ) → p b ≡ true → q b ≡ true) → (xs : List ℕ) → prefix_len p xs ≤ prefix_len q xs
+pub run_widens : (p q : ℕ → Bool) → ((b : ℕ) → p b ≡ true → q b ≡ true) → (xs : List ℕ)
+    → prefix_len p xs ≤ prefix_len q xs
 run_widens p q wider [] = omega arith
 run_widens p q wider (c ∷ xs) =
     elim (cases_Bool (p c)) [

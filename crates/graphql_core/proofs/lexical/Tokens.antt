@@ -1,7 +1,8 @@
 -- Tokens and plain ignored text at the front of an input.
 use Rattle.std.specs.Str.{IsCharBoundary}
 use Rattle.std.specs.List.{prefix_len}
-use Rattle.std.proofs.Common.{◌≡◌, ℕ, zero, suc, ◌+◌, ◌-◌, ◌<◌, ◌≤◌, Bool, true, false, ◌==◌, List, [], ◌∷◌, Option, Some, None, length, take, drop, get_or, IsUtf8}
+use Rattle.std.proofs.Common.{◌≡◌, ℕ, zero, suc, ◌+◌, ◌-◌, ◌<◌, ◌≤◌, Bool, true, false, ◌==◌, List, [], ◌∷◌}
+use Rattle.std.proofs.Common.{Option, Some, None, length, take, drop, get_or, IsUtf8}
 use Rattle.std.proofs.Common.{refl, sym, ap, ◌∙◌, arith, eqb-true, IfSome, cond, slice_index, add-zero, inl, inr, ◌&&◌, ◌||◌}
 use Rattle.std.proofs.lemmas.Bool.{false≢true, eqb-false, and_parts, or_cases, both_ways, cases_Bool}
 use Rattle.std.proofs.lemmas.List.{length-take, take_min}
@@ -225,7 +226,8 @@ further_blanks w place passed (b ∷ bs) (suc n) h =
 -- the items after some spaces
 pub further_spaces : (w : Where) (place : Pos) (passed : ℕ) (bytes : List ℕ) (n : ℕ) → n ≤ prefix_len is_space bytes
     → items (further (moved (Over n) place) (passed + n) w) (drop n bytes) ≡ items (further place passed w) bytes
-further_spaces w place passed bytes n h = further_blanks w place passed bytes n (omega (arith, h, run_widens is_space is_space_or_comma (λ b is. rw is refl) bytes))
+further_spaces w place passed bytes n h =
+    further_blanks w place passed bytes n (omega (arith, h, run_widens is_space is_space_or_comma (λ b is. rw is refl) bytes))
 
 feed : (bs : List ℕ) → front (10 ∷ bs) ≡ Skips 1 Down
 unfolding front

@@ -1,8 +1,8 @@
 -- Items without their positions. They depend on the brackets that are open before the input, and not on its position.
 use Rattle.std.specs.Str.{IsCharBoundary}
 use Rattle.std.specs.List.{prefix_len}
-use Rattle.std.proofs.Common.{◌≡◌, ℕ, zero, suc, ◌+◌, ◌-◌, ◌<◌, ◌≤◌, Bool, true, false, List, [], ◌∷◌, Some, length, take, drop, get_or, IsUtf8, refl, sym}
-use Rattle.std.proofs.Common.{ap, subst, ◌∙◌, arith, inl, inr}
+use Rattle.std.proofs.Common.{◌≡◌, ℕ, zero, suc, ◌+◌, ◌-◌, ◌<◌, ◌≤◌, Bool, true, false, List, [], ◌∷◌, Some}
+use Rattle.std.proofs.Common.{length, take, drop, get_or, IsUtf8, refl, sym, ap, subst, ◌∙◌, arith, inl, inr}
 use Rattle.std.proofs.lemmas.Bool.Decides.{nat_tests}
 use Rattle.std.proofs.lemmas.List.Sums.{prefix_len-le-length, prefix_len_passes}
 use Rattle.std.proofs.lemmas.Str.{IsCharBoundary-start, IsCharBoundary-after_ascii}
@@ -16,8 +16,8 @@ use Rattle.graphql_core.specs.declared.tokenizer.piece.Nesting.TheVariants.{Unch
 use Rattle.graphql_core.specs.declared.tokenizer.piece.Taken.{Taken}
 use Rattle.graphql_core.specs.steps.Front.{FrontElement, AtEnd, Skips, Takes, Stops}
 use Rattle.graphql_core.specs.{Where, Item, Content, item_at, TokenContent, LexicalError, is_too_deep, openers_after, closers_after, past_token, past_ignored}
-use Rattle.graphql_core.specs.{last_item, token_then, contents, taken, is_space, is_space_or_comma, is_gap, HasContentsOf, SkipsTo, further, too_deep, items, items_in, items_by}
-use Rattle.graphql_core.specs.{front}
+use Rattle.graphql_core.specs.{last_item, token_then, contents, taken, is_space, is_space_or_comma, is_gap, HasContentsOf}
+use Rattle.graphql_core.specs.{SkipsTo, further, too_deep, items, items_in, items_by, front}
 use Rattle.graphql_core.proofs.lexical.{items_at, items_skip, taken_front, blank_front, feed_front, run_widens}
 
 -- equally many brackets were opened and closed before both
@@ -63,10 +63,12 @@ skip_contents bytes n m e w =
     same_contents w (past_ignored m n w) (drop n bytes) (refl, refl) ∙ ap contents (items_skip w bytes n m e)
 
 -- past ignored text
-pub skips_contents : (text : List ℕ) (at : Pos) (rest : List ℕ) (place : Pos) → SkipsTo text at rest place → HasContentsOf rest text
+pub skips_contents : (text : List ℕ) (at : Pos) (rest : List ℕ) (place : Pos) → SkipsTo text at rest place
+    → HasContentsOf rest text
 skips_contents text at rest place skips w =
     let here : Where = record { position = at; offset = w.offset; openers = w.openers; closers = w.closers } in
-    same_contents w (further place (length text - length rest) here) rest (refl, refl) ∙ ap contents (skips.0 here refl) ∙ same_contents here w text (refl, refl)
+    let there = further place (length text - length rest) here in
+    same_contents w there rest (refl, refl) ∙ ap contents (skips.0 here refl) ∙ same_contents here w text (refl, refl)
 
 -- past one space, comma or line feed
 one_gap : (b : ℕ) (bs : List ℕ) → is_gap b ≡ true → HasContentsOf bs (b ∷ bs)

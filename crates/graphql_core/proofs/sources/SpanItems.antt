@@ -43,10 +43,10 @@ next_left {most} text old new t (w, e) left =
     rw here (e, All-head (StandsIn text) i new all, on)
 
 -- a token that a call returned from the items that were there is the next one
-pub next_of : (old was new : List Item) (r : Result (Option Cut) Bad) (t : Cut) → was ≡ old → NextItem was r new → r ≡ Ok (Some t)
-    → NextItem old (Ok (Some t)) new
-next_of old was new r t same next is =
-    subst (λ (l : List Item). NextItem l (Ok (Some t)) new) same (subst (λ (x : Result (Option Cut) Bad). NextItem was x new) is next)
+pub next_of : (Next : List Item → Result (Option Cut) Bad → List Item → Type 0) (old was new : List Item)
+    (r : Result (Option Cut) Bad) (t : Cut) → was ≡ old → Next was r new → r ≡ Ok (Some t) → Next old (Ok (Some t)) new
+next_of Next old was new r t same next is =
+    subst (λ (l : List Item). Next l (Ok (Some t)) new) same (subst (λ (x : Result (Option Cut) Bad). Next was x new) is next)
 
 -- if no token is left, going past one changes nothing
 unchanged : (i : Items) → i.tokens ≡ [] → i ≡ after i

@@ -120,7 +120,7 @@ abbrev pub NextLexeme : List Item → Token → List Item → Type 0
 NextLexeme old t new = (w : Where) × (more : List Item) × (old ≡ item_at (TokenContent t.kind t.value.now) w ∷ more)
     × (contents new ≡ contents more)
 
--- `r` is the next item, and `new` has the contents of the items after it
+-- the next item is returned; past a token, `new` has the contents of the items after it, and else it is `old`
 abbrev pub NextItemOrLexeme : List Item → Result (Option Token) Bad → List Item → Type 0
 NextItemOrLexeme old (Ok (Some t)) new = NextLexeme old t new
 NextItemOrLexeme old (Ok None) new = NextItem old (Ok None) new

@@ -1,10 +1,9 @@
-use Rattle.std.proofs.Common.{◌≡◌, ℕ, Bool, List, ◌∷◌, ◌++◌, Option, Result, Some, Ok, refl, sym, ap, ◌∙◌, subst, append_assoc}
+use Rattle.std.proofs.Common.{◌≡◌, ℕ, Bool, List, ◌∷◌, ◌++◌, Ok, refl, sym, ap, ◌∙◌, subst, append_assoc}
 use Rattle.graphql_core.specs.declared.tokenizer.token.Token.{Token as Cut}
-use Rattle.graphql_core.specs.declared.tokenizer.token.Bad.{Bad}
 use Rattle.graphql_core.specs.{NextLexeme, NextItemOrLexeme, Item, Token, IsEnd, split, token_of, IsBadPlaceOf}
 use Rattle.graphql_core.specs.{is_spaced, space_if, spaced, spaced_after, kind_number}
 use Rattle.graphql_core.specs.declared.position.Pos.{Pos}
-use Rattle.graphql_core.proofs.{spaced_alike, ends_alike, spaced_first}
+use Rattle.graphql_core.proofs.{next_of, spaced_alike, ends_alike, spaced_first}
 use Rattle.graphql_core.proofs.helpers.minify.spaced.Goals.{in-Some, in-None+in-Ok-Some}
 use Rattle.graphql_core.proofs.helpers.minify.spaced.Goals as goal
 
@@ -33,11 +32,6 @@ module _ (old new : List Item) (t : Cut) (next : NextLexeme old t new) where
   ends_after : IsEnd (split old).last → IsEnd (split new).last
   ends_after end = let (w, more, first, same) = next in ends_alike more new (sym same) (subst (λ (l : List Item). IsEnd (split l).last) first end)
 
--- a token that a call returned from the items that were there is the next one
-lexeme_of : (old was new : List Item) (r : Result (Option Cut) Bad) (t : Cut) → was ≡ old → NextItemOrLexeme was r new → r ≡ Ok (Some t) → NextLexeme old t new
-lexeme_of old was new r t same next is =
-    subst (λ (l : List Item). NextLexeme l t new) same (subst (λ (x : Result (Option Cut) Bad). NextItemOrLexeme was x new) is next)
-
 pub tokens-init : goal.tokens-init
 tokens-init c =
     let all = c.new-tokens.result in
@@ -55,8 +49,10 @@ tokens-preserved c =
     let cut = c.match-fast_lexeme.token in
     let following : NextLexeme c.tokens.tokens cut new = elim c.match-fast_lexeme.branch [
       | in-Some w ↦ rw (w.token-is, w.tokens-is) w.in-Some.ensures.item
-      | in-None+in-Ok-Some w ↦ rw (w.token-is, w.tokens-is) (lexeme_of _ _ _ _ w.in-Ok-Some.token
-          (w.in-None.ensures.stays refl) w.slow_lexeme-after.ensures (w.in-Ok-Some.is ∙ ap Ok (rw w.in-Ok-Some.is at w.in-Ok-Some.field-0-is)))
+      | in-None+in-Ok-Some w ↦
+          let is = w.in-Ok-Some.is ∙ ap Ok (rw w.in-Ok-Some.is at w.in-Ok-Some.field-0-is) in
+          rw (w.token-is, w.tokens-is) (next_of NextItemOrLexeme _ _ _ _ w.in-Ok-Some.token
+          (w.in-None.ensures.stays refl) w.slow_lexeme-after.ensures is)
     ] in
     record {
       text = λ items has.

@@ -13,7 +13,7 @@ next : (g : Over) (c : Joined-fast_token g) → NextItem c.tokens.tokens (Ok (So
 next g c = elim c.match-fast_token.branch [
   | in-Some w ↦ rw (w.token-is, w.tokens-is) w.in-Some.ensures.item
   | in-None+in-Ok-Some w ↦
-      rw (w.token-is, w.tokens-is) (next_of _ _ _ _ w.in-Ok-Some.token (w.in-None.ensures.stays refl) w.slow_token-after.ensures
+      rw (w.token-is, w.tokens-is) (next_of NextItem _ _ _ _ w.in-Ok-Some.token (w.in-None.ensures.stays refl) w.slow_token-after.ensures
       (w.in-Ok-Some.is ∙ ap Ok (rw w.in-Ok-Some.is at w.in-Ok-Some.field-0-is)))
 ]
 
@@ -38,7 +38,7 @@ tokens-preserved g c =
     let following : NextItem old (Ok (Some token)) new = elim c.match-fast_token.branch [
       | in-Some w ↦ rw (w.token-is, w.tokens-is) w.in-Some.ensures.item
       | in-None+in-Ok-Some w ↦
-          rw (w.token-is, w.tokens-is) (next_of _ _ _ _ w.in-Ok-Some.token (w.in-None.ensures.stays refl) w.slow_token-after.ensures
+          rw (w.token-is, w.tokens-is) (next_of NextItem _ _ _ _ w.in-Ok-Some.token (w.in-None.ensures.stays refl) w.slow_token-after.ensures
           (w.in-Ok-Some.is ∙ ap Ok (rw w.in-Ok-Some.is at w.in-Ok-Some.field-0-is)))
     ] in
     let pushed = c.push_reserved.ensures.items in

@@ -8,10 +8,12 @@ use Rattle.graphql_core.proofs.{name_front, found_fits, ends_short, ends_within,
 use Rattle.graphql_core.proofs.tokenizer.piece.name_in_one_load.Goals as goal
 
 pub overflow_add-result : goal.overflow_add-result
-overflow_add-result g c = let few = ends_short is_name_continue 16 _ c.in_ok-rest.rest.now c.name_lanes-len.ensures c.if-len-eq-LANES.false in omega (arith, few)
+overflow_add-result g c =
+    omega (arith, ends_short is_name_continue 16 _ c.in_ok-rest.rest.now c.name_lanes-len.ensures c.if-len-eq-LANES.false)
 
 pub lanes_from-requires-clause-within : goal.lanes_from-requires-clause-within
-lanes_from-requires-clause-within g c = ends_short is_name_continue 16 _ c.in_ok-rest.rest.now c.name_lanes-len.ensures c.if-len-eq-LANES.false
+lanes_from-requires-clause-within g c =
+    ends_short is_name_continue 16 _ c.in_ok-rest.rest.now c.name_lanes-len.ensures c.if-len-eq-LANES.false
 
 -- the name at the front
 stands : (text rest : List ℕ) (b n : ℕ) → text ≡ b ∷ rest → is_name_start (get_or text 0 0) ≡ true → n ≡ prefix_len is_name_continue (take 16 rest) → n < 16

@@ -9,7 +9,8 @@ pub returns-clause-is : goal.returns-clause-is
 returns-clause-is c =
     let whole = sym c.as_bytes.ensures.value ∙ c.in_ok-byte.ensures.cases.0 in
     let punctuator = sym c.is_punctuator_byte.ensures ∙ c.if-not-is_punctuator_byte.false in
-    rw (whole, c.nesting_of.ensures) (sym (ap taken (punctuator_front c.in_ok-byte.byte.now c.in_ok-byte.rest.now punctuator (rw whole at c.requires.other))))
+    let first = punctuator_front c.in_ok-byte.byte.now c.in_ok-byte.rest.now punctuator (rw whole at c.requires.other) in
+    rw (whole, c.nesting_of.ensures) (sym (ap taken first))
 
 pub returns-clause-gap : goal.returns-clause-gap
 returns-clause-gap c =
