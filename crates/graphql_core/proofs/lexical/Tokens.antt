@@ -173,17 +173,23 @@ pub items_of_rest : (w : Where) (bytes : List ℕ) → IsItem (front bytes) → 
 items_of_rest w bytes h few = rw (next_place_items w bytes h) (has_items_from w bytes, few)
 
 -- a token opens and closes at most one bracket
-pub one_bracket : (n : Nesting) (k : ℕ) → (openers_after n k ≤ k + 1) × (closers_after n k ≤ k + 1)
+one_bracket : (n : Nesting) (k : ℕ) → (openers_after n k ≤ k + 1) × (closers_after n k ≤ k + 1)
 one_bracket Unchanged k = (omega arith, omega arith)
 one_bracket Opens k = (omega arith, omega arith)
 one_bracket Closes k = (omega arith, omega arith)
 
 -- a token that is not too deep leaves at most 50 brackets open
-pub few_open : (n : Nesting) (w : Where) → is_too_deep n w ≡ false → w.openers ≤ w.closers + 50
+few_open : (n : Nesting) (w : Where) → is_too_deep n w ≡ false → w.openers ≤ w.closers + 50
     → openers_after n w.openers ≤ closers_after n w.closers + 50
 few_open Unchanged w deep few = few
 few_open Opens w deep few = omega (arith, eqb-false w.openers (w.closers + 50) deep)
 few_open Closes w deep few = omega (arith, few)
+
+-- past a token that is not too deep: at most one bracket more is open or closed, and at most 50 are open
+pub still_open : (n : Nesting) (w : Where) {o c : ℕ} → is_too_deep n w ≡ false → w.openers ≤ w.closers + 50
+    → o ≡ openers_after n w.openers → c ≡ closers_after n w.closers → (o ≤ w.openers + 1) × (c ≤ w.closers + 1) × (o ≤ c + 50)
+still_open n w deep few openers closers =
+    rw (openers, closers) ((one_bracket n w.openers).0, (one_bracket n w.closers).1, few_open n w deep few)
 
 -- The next item is a token. The other items are those of the rest, which begins after ignored text, at this place.
 pub token_then_rest : (w : Where) (text value after rest : List ℕ) (size : ℕ) (t : Taken) (place : Pos) → Some t ≡ taken (front text)

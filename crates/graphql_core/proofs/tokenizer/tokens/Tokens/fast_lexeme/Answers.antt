@@ -2,7 +2,7 @@ use Rattle.std.proofs.Common.{◌≡◌, ◌-◌, false, length, refl, sym, ◌�
 use Rattle.graphql_core.specs.{Where, is_too_deep}
 use Rattle.graphql_core.specs.declared.tokenizer.piece.Taken.{Taken}
 use Rattle.graphql_core.specs.declared.tokenizer.token.Kind.TheVariants.{Punctuator}
-use Rattle.graphql_core.proofs.{one_bracket, few_open, lexeme_then_rest}
+use Rattle.graphql_core.proofs.{still_open, lexeme_then_rest}
 use Rattle.graphql_core.proofs.tokenizer.tokens.Tokens.fast_lexeme.Goals as goal
 
 pub returns-then-begins_with_name-clause-item : goal.returns-then-begins_with_name-clause-item
@@ -16,16 +16,17 @@ invariant_of-self-in-Some c =
     let s = c.self.inside in
     let w : Where = record { position = s.position; offset = s.size - length s.rest.now; openers = s.brackets.openers; closers = s.brackets.closers } in
     let n = c.in-Some.nesting in
-    let few = few_open n w (sym (c.is_too_deep.ensures w refl refl) ∙ c.if-is_too_deep.false) c.self.invariant.6 in
     let after = c.after-self-inside.ensures in
+    let deep = sym (c.is_too_deep.ensures w refl refl) ∙ c.if-is_too_deep.false in
+    let brackets = still_open n w deep c.self.invariant.6 after.openers after.closers in
     let within = c.in_ok-self-inside-2.ensures.skips.1 in (
       omega arith,
       omega (arith, within, c.split_at-in-Some.ensures.back_len),
       omega (arith, within, c.split_at-in-Some.ensures.back_len),
-      omega (arith, after.openers, (one_bracket n s.brackets.openers).0, c.split_at-in-Some.ensures.back_len, within),
-      omega (arith, after.closers, (one_bracket n s.brackets.closers).1, c.split_at-in-Some.ensures.back_len, within),
+      omega (arith, brackets.0, c.split_at-in-Some.ensures.back_len, within),
+      omega (arith, brackets.1, c.split_at-in-Some.ensures.back_len, within),
       c.in_ok-self-inside-2.ensures.first,
-      omega (arith, few, after.openers, after.closers),
+      brackets.2,
     )
 
 pub returns-in-Some-clause-item : goal.returns-in-Some-clause-item
@@ -44,16 +45,17 @@ invariant_of-self-2 c =
     let s = c.self.inside in
     let w : Where = record { position = s.position; offset = s.size - length s.rest.now; openers = s.brackets.openers; closers = s.brackets.closers } in
     let n = c.in_ok-taken.taken.nesting in
-    let few = few_open n w (sym (c.is_too_deep-2.ensures w refl refl) ∙ c.if-is_too_deep-2.false) c.self.invariant.6 in
     let after = c.after-self-inside-2.ensures in
+    let deep = sym (c.is_too_deep-2.ensures w refl refl) ∙ c.if-is_too_deep-2.false in
+    let brackets = still_open n w deep c.self.invariant.6 after.openers after.closers in
     let within = c.in_ok-self-inside-3.ensures.skips.1 in (
       omega arith,
       omega (arith, within, c.split_at-2.ensures.back_len),
       omega (arith, within, c.split_at-2.ensures.back_len),
-      omega (arith, after.openers, (one_bracket n s.brackets.openers).0, c.in_ok-taken.ensures.fits.0, c.split_at-2.ensures.back_len, within),
-      omega (arith, after.closers, (one_bracket n s.brackets.closers).1, c.in_ok-taken.ensures.fits.0, c.split_at-2.ensures.back_len, within),
+      omega (arith, brackets.0, c.in_ok-taken.ensures.fits.0, c.split_at-2.ensures.back_len, within),
+      omega (arith, brackets.1, c.in_ok-taken.ensures.fits.0, c.split_at-2.ensures.back_len, within),
       c.in_ok-self-inside-3.ensures.first,
-      omega (arith, few, after.openers, after.closers),
+      brackets.2,
     )
 
 pub returns-clause-item : goal.returns-clause-item

@@ -3,7 +3,7 @@ use Rattle.graphql_core.specs.{front, Where, is_too_deep, past, past_token}
 use Rattle.graphql_core.specs.declared.tokenizer.piece.Taken.{Taken}
 use Rattle.graphql_core.specs.declared.tokenizer.token.Kind.TheVariants.{Name}
 use Rattle.graphql_core.specs.declared.tokenizer.piece.Nesting.TheVariants.{Unchanged}
-use Rattle.graphql_core.proofs.{one_bracket, few_open, token_then_rest, token_flat, taken_front}
+use Rattle.graphql_core.proofs.{still_open, token_then_rest, token_flat, taken_front}
 use Rattle.graphql_core.proofs.tokenizer.tokens.Tokens.fast_token.Goals as goal
 
 pub invariant_of-self-2 : goal.invariant_of-self-2
@@ -12,16 +12,16 @@ invariant_of-self-2 c =
     let w : Where = record { position = s.position; offset = s.size - length s.rest.now; openers = s.brackets.openers; closers = s.brackets.closers } in
     let t = c.in_ok-taken.taken in
     let deep : is_too_deep t.nesting w ≡ false = sym (c.is_too_deep.ensures w refl refl) ∙ c.if-is_too_deep.false in
-    let few = few_open t.nesting w deep c.self.invariant.6 in
     let within = c.skip_ignored.ensures.skips.1 in
-    let after = c.after-self-inside.ensures in (
+    let after = c.after-self-inside.ensures in
+    let brackets = still_open t.nesting w deep c.self.invariant.6 after.openers after.closers in (
       omega arith,
       omega arith,
       omega arith,
-      omega (arith, after.openers, (one_bracket t.nesting s.brackets.openers).0, c.in_ok-taken.ensures.fits.0, c.split_at-2.ensures.back_len, within),
-      omega (arith, after.closers, (one_bracket t.nesting s.brackets.closers).1, c.in_ok-taken.ensures.fits.0, c.split_at-2.ensures.back_len, within),
+      omega (arith, brackets.0, c.in_ok-taken.ensures.fits.0, c.split_at-2.ensures.back_len, within),
+      omega (arith, brackets.1, c.in_ok-taken.ensures.fits.0, c.split_at-2.ensures.back_len, within),
       c.skip_ignored.ensures.first,
-      omega (arith, few, after.openers, after.closers),
+      brackets.2,
     )
 
 pub returns-clause-item : goal.returns-clause-item

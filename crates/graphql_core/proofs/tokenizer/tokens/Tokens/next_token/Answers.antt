@@ -2,7 +2,7 @@ use Rattle.std.proofs.Common.{◌≡◌, ◌-◌, ◌<◌, ◌∷◌, [], true, 
 use Rattle.std.proofs.lemmas.Bool.{eqb-false}
 use Rattle.graphql_core.specs.{front, Where, Item, is_too_deep, past, past_token}
 use Rattle.graphql_core.specs.steps.Front.{AtEnd, Takes, Stops}
-use Rattle.graphql_core.proofs.{items_at, last_some, taken_front, one_bracket, few_open, end_front, stops_front, token_then_rest}
+use Rattle.graphql_core.proofs.{items_at, last_some, taken_front, still_open, end_front, stops_front, token_then_rest}
 use Rattle.graphql_core.proofs.tokenizer.tokens.Tokens.next_token.Goals as goal
 
 pub invariant_of-self : goal.invariant_of-self
@@ -10,15 +10,16 @@ invariant_of-self c =
     let s = c.self.inside in
     let w : Where = record { position = s.position; offset = s.size - length s.rest.now; openers = s.brackets.openers; closers = s.brackets.closers } in
     let n = c.in-Some.taken.nesting in
-    let few = few_open n w (sym (c.is_too_deep.ensures w refl refl) ∙ c.if-is_too_deep.false) c.self.invariant.6 in
-    let after = c.after-self-inside.ensures in (
+    let after = c.after-self-inside.ensures in
+    let deep = sym (c.is_too_deep.ensures w refl refl) ∙ c.if-is_too_deep.false in
+    let brackets = still_open n w deep c.self.invariant.6 after.openers after.closers in (
       omega arith,
       omega arith,
       omega arith,
-      omega (arith, after.openers, (one_bracket n s.brackets.openers).0, c.in-Some.ensures.fits.0, c.split_at.ensures.back_len, c.skip_ignored.ensures.skips.1),
-      omega (arith, after.closers, (one_bracket n s.brackets.closers).1, c.in-Some.ensures.fits.0, c.split_at.ensures.back_len, c.skip_ignored.ensures.skips.1),
+      omega (arith, brackets.0, c.in-Some.ensures.fits.0, c.split_at.ensures.back_len, c.skip_ignored.ensures.skips.1),
+      omega (arith, brackets.1, c.in-Some.ensures.fits.0, c.split_at.ensures.back_len, c.skip_ignored.ensures.skips.1),
       c.skip_ignored.ensures.first,
-      omega (arith, few, after.openers, after.closers),
+      brackets.2,
     )
 
 pub returns-then-is_empty : goal.returns-then-is_empty

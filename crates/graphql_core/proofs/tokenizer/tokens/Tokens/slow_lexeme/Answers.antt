@@ -1,6 +1,6 @@
 use Rattle.std.proofs.Common.{◌≡◌, ◌-◌, false, length, refl, sym, ◌∙◌, arith}
 use Rattle.graphql_core.specs.{Where, is_too_deep}
-use Rattle.graphql_core.proofs.{one_bracket, few_open, skips_contents, lexeme_then_rest}
+use Rattle.graphql_core.proofs.{still_open, skips_contents, lexeme_then_rest}
 use Rattle.graphql_core.proofs.tokenizer.tokens.Tokens.slow_lexeme.Goals as goal
 
 pub invariant_of-self : goal.invariant_of-self
@@ -8,16 +8,17 @@ invariant_of-self c =
     let s = c.self.inside in
     let w : Where = record { position = s.position; offset = s.size - length s.rest.now; openers = s.brackets.openers; closers = s.brackets.closers } in
     let n = c.in-Some.taken.nesting in
-    let few = few_open n w (sym (c.is_too_deep.ensures w refl refl) ∙ c.if-is_too_deep.false) c.self.invariant.6 in
     let after = c.after-self-inside.ensures in
+    let deep = sym (c.is_too_deep.ensures w refl refl) ∙ c.if-is_too_deep.false in
+    let brackets = still_open n w deep c.self.invariant.6 after.openers after.closers in
     let within = c.skip_ignored.ensures.skips.1 in (
       omega arith,
       omega (arith, within, c.split_at.ensures.back_len),
       omega (arith, within, c.split_at.ensures.back_len),
-      omega (arith, after.openers, (one_bracket n s.brackets.openers).0, c.in-Some.ensures.fits.0, c.split_at.ensures.back_len, within),
-      omega (arith, after.closers, (one_bracket n s.brackets.closers).1, c.in-Some.ensures.fits.0, c.split_at.ensures.back_len, within),
+      omega (arith, brackets.0, c.in-Some.ensures.fits.0, c.split_at.ensures.back_len, within),
+      omega (arith, brackets.1, c.in-Some.ensures.fits.0, c.split_at.ensures.back_len, within),
       c.skip_ignored.ensures.first,
-      omega (arith, few, after.openers, after.closers),
+      brackets.2,
     )
 
 pub returns : goal.returns
