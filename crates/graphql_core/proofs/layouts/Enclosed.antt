@@ -4,8 +4,9 @@ use Rattle.std.proofs.Common.{codes, append_assoc, append-nil, arith}
 use Rattle.std.proofs.lemmas.Bool.{eqb-false}
 use Rattle.std.proofs.Math.Nat.{mul-le-mul_left}
 use Rattle.graphql_core.specs.{punctuator_part, text_of, Part, gap, new_line, StyleOptions, spaces, inside, opened, before_part, parts, after_parts, enclosed}
-use Rattle.graphql_core.specs.{pair_layout, each_argument, arguments_layout, arguments_levels, most_levels, directive_layout, directives_layout, in_braces}
+use Rattle.graphql_core.specs.{pair_layout, value_layout, each_argument, arguments_layout, arguments_levels, most_levels, directive_layout, directives_layout, in_braces}
 use Rattle.graphql_core.specs.{ValueTree, DirectiveTree}
+use Rattle.graphql_core.specs.steps.Joined.{led}
 use Rattle.graphql_core.proofs.layouts.Appending.{text_append, and_part}
 
 -- ---- levels
@@ -98,6 +99,35 @@ module _ {S : Type 0} (took : S → List ℕ → S → Type 0)
       (append_assoc (text_of (before_part style margin later)) (text_of p) (text_of (parts style margin true ps))
       ∙ sym (parts_more style margin later p ps)) ∙ e)
 
+-- ---- parts in one line
+
+-- such parts are at the margin of the closer
+pub inside_line : (style : StyleOptions) (margin : ℕ) → style.multiline ≡ false → inside style margin ≡ margin
+inside_line style margin m = rw m refl
+
+before_in_line : (style : StyleOptions) (margin : ℕ) → style.multiline ≡ false
+    → (text_of (before_part style margin false) ≡ []) × (text_of (before_part style margin true) ≡ codes ", ")
+before_in_line style margin m = (rw m refl, rw m refl)
+
+led_parts : (style : StyleOptions) (margin : ℕ) (ps : List (List Part)) → style.multiline ≡ false
+    → text_of (parts style margin true ps) ≡ led (codes ", ") (codes ", ") (map text_of ps)
+led_parts style margin [] m = refl
+led_parts style margin (p ∷ ps) m = parts_more style margin true p ps
+    ∙ (λ j. (before_in_line style margin m).1 j ++ (text_of p ++ led_parts style margin ps m j))
+
+-- with the opener before the first part
+led_line : (style : StyleOptions) (margin : ℕ) (opener : List ℕ) (p : List Part) (ps : List (List Part)) → style.multiline ≡ false
+    → opener ++ text_of (parts style margin false (p ∷ ps)) ≡ led opener (codes ", ") (map text_of (p ∷ ps))
+led_line style margin opener p ps m = ap (λ r. opener ++ r) (parts_more style margin false p ps
+    ∙ (λ j. (before_in_line style margin m).0 j ++ (text_of p ++ led_parts style margin ps m j)))
+
+-- a name with what comes before and after it, its value, and what comes after
+pub led_next : (before n : List ℕ) (value : List Part) (left : List ℕ) → ((before ++ (n ++ codes ": ")) ++ text_of value)
+    ++ left ≡ before ++ (text_of (pair_layout n value) ++ left)
+led_next before n value left = append_assoc (before ++ (n ++ codes ": ")) (text_of value) left
+    ∙ append_assoc before (n ++ codes ": ") (text_of value ++ left)
+    ∙ ap (λ r. before ++ r) (sym (append_assoc (n ++ codes ": ") (text_of value) left) ∙ ap (λ r. r ++ left) (pair_text n value))
+
 -- ---- arguments
 
 -- a list that the test for emptiness rejects is not empty
@@ -119,6 +149,17 @@ module _ {X : Type 0} (f : X → List ℕ × ValueTree) where
       → enclosed style margin (codes "(") (codes ")") (each_argument style (inside style margin) (map f xs)) ≡ arguments_layout style margin (map f xs)
   filled_layout style margin [] h = absurd (omega arith)
   filled_layout style margin (x ∷ xs) h = refl
+
+  -- in one line
+  pub led_arguments : (style : StyleOptions) (margin : ℕ) (xs : List X) → 0 < length xs → style.multiline ≡ false
+      → led (codes "(") (codes ", ") (map text_of (each_argument style margin (map f xs))) ++ codes ")" ≡ text_of (arguments_layout style margin (map f xs))
+  led_arguments style margin [] h m = absurd (omega arith)
+  led_arguments style margin (x ∷ xs) h m =
+      let layouts : ℕ → List (List Part) = λ n. each_argument style n (map f (x ∷ xs)) in
+      let first = pair_layout (f x).0 (value_layout style margin (f x).1) in
+      let one_line = led_line style margin (codes "(") first (each_argument style margin (map f xs)) m in
+      let closed : text_of (after_parts style margin ++ punctuator_part (codes ")")) ≡ codes ")" = rw m refl in
+      (λ j. sym one_line j ++ sym closed j) ∙ enclosed_text style margin margin (codes "(") (codes ")") layouts (sym (inside_line style margin m))
 
 -- a directive, and a list of directives
 pub directive_text : (style : StyleOptions) (margin : ℕ) (d : DirectiveTree) → (codes "@" ++ d.name)

@@ -36,17 +36,21 @@ fn copy_ends<const N: usize>(buffer: &mut [u8], at: usize, text: &[u8]) -> usize
     copy_front::<N>(buffer, at + last, &text[last..])
 }
 
-/// Copies 4 to 16 bytes, without a branch on how many: the ends of the first half, and those of the last.
+/// Copies 4 to 16 bytes, without a branch on how many: four at each end, and from nine bytes on the four next to them.
 #[inline(always)]
 fn copy_halves(buffer: &mut [u8], at: usize, text: &[u8]) -> usize
     requires fits { at + length text.now ≤ length buffer.old }
     requires covers { (4 ≤ length text.now) × (length text.now ≤ 16) }
     ensures { Placed buffer.old buffer.new at text.now result }
 {
-    let half = if text.len() > 8 { 8 } else { 4 };
-    let last = text.len() - half;
-    copy_ends::<4>(buffer, at, &text[..half]);
-    copy_ends::<4>(buffer, at + last, &text[last..])
+    let last = text.len() - 4;
+    let step = (text.len() - 1) / 8 * 4;
+    let to = &mut buffer[at..];
+    copy_front::<4>(to, 0, text);
+    copy_front::<4>(to, step, &text[step..]);
+    copy_front::<4>(to, last - step, &text[last - step..]);
+    copy_front::<4>(to, last, &text[last..]);
+    at + text.len()
 }
 
 /// Copies at most three bytes.

@@ -1,5 +1,5 @@
 //! Arguments and directives.
-ghost use Rattle.std.specs.Prelude.{◌+◌, ◌*◌, ◌^◌, ◌<◌, OnOk, length};
+ghost use Rattle.std.specs.Prelude.{◌≡◌, ◌+◌, ◌*◌, ◌^◌, ◌<◌, false, OnOk, length};
 ghost use Rattle.graphql_core.specs.{text_of, AreLawfulArguments, AreLawfulDirectives, arguments_view};
 ghost use Rattle.graphql_core.specs.{directive_view, directives_view, arguments_layout, arguments_levels};
 ghost use Rattle.graphql_core.specs.{directive_layout, directives_layout, directives_levels};
@@ -10,9 +10,9 @@ use crate::format::print::enclosed::{inside, write_before_part, write_closer, wr
 use crate::format::print::values::write_value;
 use crate::format::{Sink, Style};
 
-/// Appends one or more arguments in parentheses.
+/// Appends one or more arguments in parentheses, each in a line of its own if the style says so.
 #[inline(never)]
-fn write_some_arguments<S: Sink, N: Names>(
+fn write_argument_lines<S: Sink, N: Names>(
     out: &mut S,
     arguments: &[(N::Value, Value<N>)],
     style: &Style,
@@ -35,6 +35,52 @@ fn write_some_arguments<S: Sink, N: Names>(
         is_later = true;
     }
     write_closer(out, style, margin, ")")
+}
+
+/// Appends one or more arguments in parentheses, in one line. A name is appended with what comes before and after it.
+#[inline(always)]
+fn write_argument_line<S: Sink, N: Names>(
+    out: &mut S,
+    arguments: &[(N::Value, Value<N>)],
+    style: &Style,
+    margin: usize,
+) -> Result<(), S::Error>
+    requires some { 0 < length arguments.now }
+    requires in_line { style.now.multiline ≡ false }
+    requires width { margin + arguments_levels style.now (arguments_view N.bytes arguments.now) * style.now.indent
+        < 2 ^ 32 }
+    ensures text { OnOk result
+        (S.took out.old (text_of (arguments_layout style.now margin (arguments_view N.bytes arguments.now))) out.new) }
+    ensures lawful { OnOk result (AreLawfulArguments (arguments_view N.bytes arguments.now)) }
+{
+    let mut before = "(";
+    'arguments: for argument in arguments {
+        out.push_three(before, N::view(&argument.0), ": ")?;
+        write_value(out, &argument.1, style, margin)?;
+        before = ", ";
+    }
+    out.push_str(")")
+}
+
+/// Appends one or more arguments in parentheses.
+#[inline(never)]
+fn write_some_arguments<S: Sink, N: Names>(
+    out: &mut S,
+    arguments: &[(N::Value, Value<N>)],
+    style: &Style,
+    margin: usize,
+) -> Result<(), S::Error>
+    requires some { 0 < length arguments.now }
+    requires width { margin + arguments_levels style.now (arguments_view N.bytes arguments.now) * style.now.indent
+        < 2 ^ 32 }
+    ensures text { OnOk result
+        (S.took out.old (text_of (arguments_layout style.now margin (arguments_view N.bytes arguments.now))) out.new) }
+    ensures lawful { OnOk result (AreLawfulArguments (arguments_view N.bytes arguments.now)) }
+{
+    if style.has_multiline_arguments() {
+        return write_argument_lines(out, arguments, style, margin);
+    }
+    write_argument_line(out, arguments, style, margin)
 }
 
 /// Appends arguments in parentheses, or nothing if there are none. Most fields have none, so only this test is inlined.

@@ -3,7 +3,7 @@ use Rattle.std.proofs.lemmas.List.{at_drop_all}
 use Rattle.graphql_core.specs.{text_of, value_view, arguments_view, parts, value_layout, pair_layout, each_argument}
 use Rattle.graphql_core.proofs.{argument_here, alike, and_last, all_done, narrower, pair_text}
 use Rattle.graphql_core.proofs.{enclosed_text, and_next, arguments_fit, filled_layout}
-use Rattle.graphql_core.proofs.format.print.directives.write_some_arguments.Goals as goal
+use Rattle.graphql_core.proofs.format.print.directives.write_argument_lines.Goals as goal
 
 pub inside-indented-requires : goal.inside-indented-requires
 inside-indented-requires g c =

@@ -1,6 +1,6 @@
 use Rattle.std.proofs.Common.{◌≡◌, ◌++◌, ◌+◌, ◌*◌, ◌<◌, ◌^◌, List, ℕ, drop, false, codes}
 use Rattle.graphql_core.specs.{text_of, AreLawfulArguments, arguments_view, parts, each_argument, most_levels}
-use Rattle.graphql_core.proofs.format.print.directives.write_some_arguments.Given as goal
+use Rattle.graphql_core.proofs.format.print.directives.write_argument_lines.Given as goal
 
 abbrev pub invariant-arguments : goal.invariant-arguments
 invariant-arguments g l =
