@@ -16,6 +16,3 @@ pub use error::FormatSourceError;
 pub use format::{format_comments, format_source, language_of};
 pub use laws::kept_tokens_have_one_document;
 pub use options::{FormatOptions, Language};
-
-#[cfg(test)]
-mod tests;

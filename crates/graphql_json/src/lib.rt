@@ -9,6 +9,3 @@ mod values;
 
 pub use query::query_to_json;
 pub use schema::schema_to_json;
-
-#[cfg(test)]
-mod tests;

@@ -2,6 +2,7 @@
 
 mod built;
 mod built_schemas;
+mod callers;
 mod messages;
 mod page;
 mod values;
