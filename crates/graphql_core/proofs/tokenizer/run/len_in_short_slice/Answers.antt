@@ -13,3 +13,9 @@ returns-clause-len g c =
     let all = take_all 16 (bytes ++ zeros) (omega (arith, length-append bytes zeros, length-drop (length bytes) block)) in
     let run : c.lanes.result ≡ prefix_len p (bytes ++ zeros) = rw (c.copy_from_slice.ensures.after, all) at c.lanes.ensures in
     c.min.ensures ∙ ap (λ n. min n (length bytes)) run ∙ padded_run p bytes zeros
+
+pub slice_bounds-block-end : goal.slice_bounds-block-end
+slice_bounds-block-end g c = omega arith
+
+pub returns-clause-within : goal.returns-clause-within
+returns-clause-within g c = omega arith
