@@ -52,17 +52,9 @@ def faults(crate, edits):
 def ran(crate, edits, texts):
     """What the tests of these edits' inputs say, in a copy of the crate with these texts of files; at `end` the last
     line that `rt try` prints."""
-    top = crate.folder.parent.parent
     with tempfile.TemporaryDirectory(prefix="wrong-bodies-inputs-") as made:
         room = pathlib.Path(made)
-        for name in ("crates.txt", "HANDLES"):
-            if (top / name).exists():
-                shutil.copy(top / name, room)
-        for name in sorted(crate.with_below):
-            if (top / "crates" / name).is_dir():
-                for part in PARTS:
-                    if (top / "crates" / name / part).is_dir():
-                        shutil.copytree(top / "crates" / name / part, room / "crates" / name / part)
+        copied_with_below(crate, room)
         folder = room / "crates" / crate.name
         for file, text in texts.items():
             (folder / file).write_text(text, encoding="utf-8")
@@ -77,3 +69,17 @@ def ran(crate, edits, texts):
     lines = [it for it in printed.strip().splitlines() if it.strip()]
     errors = [it for it in lines if "error" in it]
     return {**states, "end": (errors or lines or ["it printed nothing"])[-1]}
+
+
+def copied_with_below(crate, room):
+    """Copies a crate and those below it to a folder that is laid out as the repository."""
+    top = crate.folder.parent.parent
+    own = [it for it in crate.with_below if (top / "crates" / it).is_dir()]
+    listed = re.findall(r"(?m)^(\w+)([^:#\n]*:.*)$", (top / "crates.txt").read_text(encoding="utf-8"))
+    (room / "crates.txt").write_text("".join(f"{name}{uses}\n" for name, uses in listed if name in own), encoding="utf-8")
+    if (top / "HANDLES").exists():
+        shutil.copy(top / "HANDLES", room)
+    for name in own:
+        for part in PARTS:
+            if (top / "crates" / name / part).is_dir():
+                shutil.copytree(top / "crates" / name / part, room / "crates" / name / part)
