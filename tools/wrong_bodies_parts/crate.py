@@ -29,7 +29,9 @@ class How:
     # Whether the libraries are those that `rt ci` left in out/.
     after_ci: bool
     anew: bool
-    # Which edits are controlled: a function from a crate's name and its edits to some of these edits.
+    # Which edits are tried without their stored proofs, if these refuse them, although it is known what refuses them; and
+    # of which edits the functions are checked without an edit. Both are functions from edits to some of these.
+    searched: Callable
     controlled: Callable
     # What refused an edit at the last whole control: a function from a crate's name and an edit to a kind, or to None.
     known: Callable
@@ -176,18 +178,20 @@ class Crate:
             if self.edits and not is_kept:
                 # This builds the libraries below that are not up to date, and checks nothing else.
                 subprocess.run(["rt", "check", "--only", ""], cwd=self.folder, stdout=subprocess.DEVNULL, check=True)
-            controlled = how.controlled(self.name, self.edits)
-            self.control(controlled, memory, kept)
-            known = {it: how.known(self.name, it) for it in self.edits if it not in controlled}
-            verdicts = self.verdicts([it for it in self.edits if it.name not in self.results], known, memory, kept)
-            stored = {it: found for it, found in verdicts.items() if found.kind == STORED}
-            verdicts |= {it: dataclasses.replace(found, kind=known[it]) for it, found in stored.items() if known.get(it)}
-            open_ones = {it: found for it, found in stored.items() if not known.get(it)}
-            verdicts |= self.without_stored_proofs(open_ones, memory, kept)
+            self.control(how.controlled(self.name, self.edits), memory, kept)
+            verdicts = self.verdicts([it for it in self.edits if it.name not in self.results], memory, kept)
+            stored = [it for it, found in verdicts.items() if found.kind == STORED]
+            known = {it: how.known(self.name, it) for it in stored}
+            drawn = how.searched(stored)
+            searched = {it: verdicts[it] for it in stored if it in drawn or not known[it]}
+            verdicts |= self.without_stored_proofs(searched, memory, kept)
+            for edit in (it for it in stored if known[it] and verdicts[it].kind == STORED):
+                verdicts[edit] = dataclasses.replace(verdicts[edit], kind=known[edit])
+            self.compare_with_unchanged([it for it in searched if not known[it]], verdicts, memory, kept)
         for edit, found in verdicts.items():
             self.kinds[edit.name] = found.kind
             self.results[edit.name] = f"{found.kind}: {edit.function}: {one_line(found.line)}"
-        self.judge_stored([it for it in verdicts if self.kinds[it.name] == STORED], controlled, memory)
+        self.judge_stored([it for it in stored if self.kinds[it.name] == STORED], searched, memory)
         return self
 
     def control(self, controlled, memory, kept):
@@ -202,13 +206,10 @@ class Crate:
         if not failed:
             memory.keep("control", functions, Verdict(REFUSED, " ".join(functions)))
 
-    def verdicts(self, edits, known, memory, kept):
-        """The verdict on each of these edits. `known` has those of which an earlier run says what refuses them.
-
-        A verdict from memory does not say which goals failed, so it does not suffice for a second check."""
+    def verdicts(self, edits, memory, kept):
+        """The verdict on each of these edits. A verdict from memory does not say which goals failed."""
         verdicts = {it: found for it in edits if (found := memory.found("edit", it))}
-        is_open = lambda it: verdicts[it].kind == STORED and not known.get(it) and not memory.found("search", it)
-        left = [it for it in edits if it not in verdicts or is_open(it)]
+        left = [it for it in edits if it not in verdicts]
         while left:
             left = [it for group in self.rounds(left) for it in self.tries(group, verdicts, kept)]
         for edit, found in verdicts.items():
@@ -244,35 +245,34 @@ class Crate:
     def without_stored_proofs(self, verdicts, memory, kept):
         """Verdicts on edits that their stored proofs refuse, by checks in which the prover searches for these proofs.
 
-        An edit is REFUSED if a goal is false, or if the search proves it for the unchanged body and not with the edit.
-        It is FOUND if the search proves all its goals, and else still STORED."""
+        An edit is REFUSED if a goal is false.
+        It is FOUND if the search proves the goals whose stored proofs failed, and else still STORED."""
         new = {it: found for it in verdicts if (found := memory.found("search", it))}
-        left = [it for it in verdicts if it not in new]
-        for group in self.rounds([it for it in left if not it.is_alone]):
+        left = {it: found for it, found in verdicts.items() if it not in new and not it.is_alone}
+        left |= self.verdicts([it for it, found in left.items() if not found.failures], store.Memory("", True), kept)
+        for group in self.rounds(left):
             for edit, found in self.outcomes(group, group, kept, has_answers=False):
-                new[edit] = searched(verdicts[edit], found)
-        self.compare_with_unchanged([it for it in left if it in new and new[it].kind == STORED], new, kept)
-        for edit in left:
-            if edit in new and new[edit].kind in (REFUSED, STORED):
-                memory.keep("search", edit, new[edit])
+                new[edit] = after_search(left[edit], found)
+                if new[edit].kind in (REFUSED, STORED):
+                    memory.keep("search", edit, new[edit])
         return new
 
-    def compare_with_unchanged(self, edits, verdicts, kept):
-        """Makes an edit REFUSED if the search proves one of its goals for the unchanged body."""
-        if not edits:
-            return
-        for edit, found in self.outcomes([], edits, kept, has_answers=False):
+    def compare_with_unchanged(self, edits, verdicts, memory, kept):
+        """Makes an edit REFUSED that is STORED, if the search proves one of its goals for the unchanged body."""
+        left = [it for it in edits if verdicts[it].failures and verdicts[it].kind == STORED]
+        for edit, found in self.outcomes([], left, kept, has_answers=False) if left else []:
             unproved = {it.goal for it in found.failures}
             goals = [it for it in verdicts[edit].failures if it.goal not in unproved and it.shows == REFUSED]
             if found.kind != UNREAD and goals:
                 verdicts[edit] = Verdict(REFUSED, goals[0].line)
+                memory.keep("search", edit, verdicts[edit])
 
-    def judge_stored(self, edits, controlled, memory):
+    def judge_stored(self, edits, searched, memory):
         """Makes those edits bad that only their stored proofs refuse, and that name no input which shows the mistake."""
         for edit in edits:
             if not edit.input:
                 self.results[edit.name] = f"{BAD}: only its stored proof refuses it, and it names no input"
-        run = [it for it in edits if it.input and it in controlled and not memory.found("input", it)]
+        run = [it for it in edits if it.input and it in searched and not memory.found("input", it)]
         for edit, fault in inputs.faults(self, run).items():
             if fault:
                 self.results[edit.name] = f"{BAD}: {fault}"
@@ -280,7 +280,7 @@ class Crate:
                 memory.keep("input", edit, Verdict(REFUSED, edit.input))
 
 
-def searched(before, found):
+def after_search(before, found):
     """The verdict on an edit that its stored proofs refuse, after a check in which the prover searches for them."""
     if found.kind == UNREAD:
         return found

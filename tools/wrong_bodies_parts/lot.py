@@ -1,4 +1,4 @@
-"""Which edits are controlled: those that are drawn, and those that are not on the list of the last whole control.
+"""Which edits are drawn, and the list of what the last whole control found.
 
 The list is a file with the kit's logic, a checksum of this tool, and for each edit its checksum and what refused it.
 """
@@ -9,8 +9,6 @@ import subprocess
 
 from .verdicts import REFUSED, STORED
 
-# How many functions of each crate are drawn.
-DRAWN = 10
 WORDS = {REFUSED: "clause", STORED: "stored"}
 TOOLS = pathlib.Path(__file__).resolve().parent
 
@@ -32,10 +30,10 @@ def commit(top):
     return subprocess.run(["git", "rev-parse", "HEAD"], **how).stdout.strip()
 
 
-def drawn(commit, functions):
-    """Some of these functions, drawn by the commit. Without a commit, all."""
-    by_lot = sorted(functions, key=lambda it: hashlib.sha256(f"{commit} {it}".encode()).hexdigest())
-    return set(by_lot[:DRAWN] if commit else by_lot)
+def drawn(commit, what, count):
+    """So many of these functions or edits, drawn by the commit. Without a commit, all."""
+    by_lot = sorted(what, key=lambda it: hashlib.sha256(f"{commit} {it}".encode()).hexdigest())
+    return by_lot[:count] if commit else by_lot
 
 
 class Listed:
