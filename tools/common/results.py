@@ -1,4 +1,4 @@
-"""Counts the checks of a tool, and prints those that fail."""
+"""Counts the checks of a tool, and prints those that fail and what is skipped."""
 import shutil
 
 # How much of a value is shown.
@@ -8,6 +8,11 @@ SHOWN = 500
 def shown(value):
     text = repr(value)
     return text if len(text) <= SHOWN else f"{text[:SHOWN]}..."
+
+
+def skip(what, why):
+    """Prints that something is skipped, and why. The gate counts these lines."""
+    print(f"skipped: {what} ({why})", flush=True)
 
 
 class Results:
@@ -31,9 +36,9 @@ class Results:
         print(f"FAILED: {why}", flush=True)
 
     def skip(self, what, why):
-        """Prints that a check is skipped, and why."""
+        """Counts a check that is skipped, and prints why."""
         self.skipped += 1
-        print(f"skipped: {what}: {why}", flush=True)
+        skip(what, why)
 
     def can(self, what, *programs):
         """Whether these programs are installed. If not, the check that needs them is skipped."""
