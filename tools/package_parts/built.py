@@ -1,6 +1,7 @@
 """What the gate built, and the record that it did.
 
-The record is the file out/gate: the commit, the toolchain, and the SHA-256 sum of each file that is packaged.
+The record is the file out/gate: the commit, the toolchain, the yardstick, and the SHA-256 sum of each file that is
+packaged.
 """
 import dataclasses
 import hashlib
@@ -65,21 +66,21 @@ def lines_of_files():
     return [f"{sum_of(file.read_bytes())}  {file.relative_to(names.TOP)}" for file in files()]
 
 
-def record():
+def record(yardstick):
     """Writes the record. Only the gate does this, after all else has passed."""
     found, is_clean = commit()
     changed = "" if is_clean else " with changes"
     toolchain = said("rt", "version") or stop("`rt version` fails, so the toolchain is unknown")
-    lines = [f"commit {found or 'unknown'}{changed}", f"toolchain {toolchain}", *lines_of_files()]
+    head = [f"commit {found or 'unknown'}{changed}", f"toolchain {toolchain}", f"yardstick {yardstick}"]
     RECORD.parent.mkdir(exist_ok=True)
-    RECORD.write_text("".join(f"{line}\n" for line in lines), encoding="utf-8")
+    RECORD.write_text("".join(f"{line}\n" for line in [*head, *lines_of_files()]), encoding="utf-8")
 
 
 def recorded(sums):
     """The toolchain in the record. Stops unless the record has this commit and these sums."""
     if not RECORD.exists():
         stop(f"no {RECORD.relative_to(names.TOP)}: the gate (.ci/run) has to pass first")
-    of_commit, of_toolchain, *of_files = RECORD.read_text(encoding="utf-8").splitlines()
+    of_commit, of_toolchain, _, *of_files = RECORD.read_text(encoding="utf-8").splitlines()
     if of_commit != f"commit {commit()[0]}":
         stop(f"the gate passed for another state: {of_commit}")
     if of_files != sums:
