@@ -3,10 +3,12 @@ import pathlib
 import shutil
 import subprocess
 
+from .kit import KIT
+
 
 def compiler_and_linker():
     """The commands that compile and link: the kit's, or else `cc` for both. `None` if there is neither."""
-    kit = pathlib.Path(shutil.which("rt") or "/").resolve().parent.parent / "toolchain/bin"
+    kit = KIT / "toolchain/bin"
     if (kit / "clang").exists():
         return kit / "clang", kit / "ld.lld"
     return (shutil.which("cc"),) * 2 if shutil.which("cc") else None
