@@ -1,10 +1,11 @@
-use Rattle.std.proofs.Common.{◌≡◌, ℕ, Bool, List, ◌∷◌, ◌++◌, Ok, refl, sym, ap, ◌∙◌, subst, append_assoc}
+use Rattle.std.proofs.Common.{◌≡◌, ℕ, Bool, List, ◌∷◌, ◌++◌, Ok, refl, sym, ap, ◌∙◌, subst, append_assoc, arith}
 use Rattle.graphql_core.specs.declared.tokenizer.token.Token.{Token as Cut}
 use Rattle.graphql_core.specs.{NextLexeme, NextItemOrLexeme, Item, Token, IsEnd, split, token_of, IsBadPlaceOf}
 use Rattle.graphql_core.specs.{is_spaced, space_if, spaced, spaced_after, kind_number}
 use Rattle.graphql_core.specs.declared.position.Pos.{Pos}
 use Rattle.graphql_core.proofs.{next_of, spaced_alike, ends_alike, spaced_first}
 use Rattle.graphql_core.proofs.helpers.minify.spaced.Goals.{in-Some, in-None+in-Ok-Some}
+use Rattle.std.proofs.lemmas.Grind.{common_steps}
 use Rattle.graphql_core.proofs.helpers.minify.spaced.Goals as goal
 
 -- a token is written after a space or without one
@@ -66,3 +67,12 @@ tokens-preserved c =
 pub returns-in-Err-clause-first_error : goal.returns-in-Err-clause-first_error
 returns-in-Err-clause-first_error c items has =
     subst (λ (l : List Item). IsBadPlaceOf (split l) c.fault_of_tokens.result) (sym (c.new.ensures.only items has)) c.fault_of_tokens.ensures
+
+pub new-tokens-requires : goal.new-tokens-requires
+new-tokens-requires c = omega arith
+
+pub new-requires : goal.new-requires
+new-requires c = omega arith
+
+pub tokens-smaller : goal.tokens-smaller
+tokens-smaller c = grind (arith, common_steps)

@@ -6,6 +6,7 @@ use Rattle.graphql_core.specs.declared.helpers.span.Span.{Span}
 use Rattle.graphql_core.proofs.{next_of, next_left, marks, is_token, one_cut, taken}
 use Rattle.graphql_core.proofs.helpers.spans.append.Given.{Over}
 use Rattle.graphql_core.proofs.helpers.spans.append.Goals.{in-Some, in-None+in-Ok-Some, Joined-fast_token}
+use Rattle.std.proofs.lemmas.Grind.{common_steps}
 use Rattle.graphql_core.proofs.helpers.spans.append.Goals as goal
 
 -- the token that either call returned is the next one
@@ -85,3 +86,27 @@ pub returns-in-Err-clause-last : goal.returns-in-Err-clause-last
 returns-in-Err-clause-last g c less =
     let (w, is, same) = rw c.in-Err.is at c.slow_token-after.ensures in
     (w, same ∙ is)
+
+pub push_reserved-requires : goal.push_reserved-requires
+push_reserved-requires g c = omega arith
+
+pub returns-in-Ok-None-clause-count : goal.returns-in-Ok-None-clause-count
+returns-in-Ok-None-clause-count g c = grind (arith, common_steps)
+
+pub returns-in-Err-clause-count : goal.returns-in-Err-clause-count
+returns-in-Err-clause-count g c = grind (arith, common_steps)
+
+pub returns-in-Ok-None-clause-capacity : goal.returns-in-Ok-None-clause-capacity
+returns-in-Ok-None-clause-capacity g c = omega arith
+
+pub returns-in-Err-clause-capacity : goal.returns-in-Err-clause-capacity
+returns-in-Err-clause-capacity g c = omega arith
+
+pub returns-clause-count : goal.returns-clause-count
+returns-clause-count g c = omega arith
+
+pub returns-clause-capacity : goal.returns-clause-capacity
+returns-clause-capacity g c = omega arith
+
+pub tokens-smaller : goal.tokens-smaller
+tokens-smaller g c = grind (arith, common_steps)

@@ -2,6 +2,7 @@ use Rattle.std.proofs.Common.{◌≡◌, ◌∙◌, arith, rules}
 use Rattle.graphql_core.specs.declared.tokenizer.piece.Move.TheVariants.{Down}
 use Rattle.graphql_core.specs.{is_spacing, is_line_feed, contents, items}
 use Rattle.graphql_core.proofs.{skip_contents, gap_contents, spaces_gap, spacing_front, feed_front, first_told}
+use Rattle.graphql_core.proofs.lexical.Tokens.{first_bytes}
 use Rattle.graphql_core.proofs.tokenizer.ignored.after_common.Goals as goal
 
 pub common-preserved : goal.common-preserved
@@ -30,3 +31,18 @@ common-preserved-then-is_line_feed c =
           past ∙ down ∙ c.common.invariant.left w;
       within = omega arith;
     }
+
+pub common-smaller-then-is_line_feed : goal.common-smaller-then-is_line_feed
+common-smaller-then-is_line_feed c = omega arith
+
+pub common-smaller : goal.common-smaller
+common-smaller c = omega arith
+
+pub split_at-requires : goal.split_at-requires
+split_at-requires c = grind (arith, first_bytes)
+
+pub split_at-requires-then-is_spacing : goal.split_at-requires-then-is_spacing
+split_at-requires-then-is_spacing c = grind (arith, first_bytes)
+
+pub returns-then-not-can_begin_ignored-clause-first : goal.returns-then-not-can_begin_ignored-clause-first
+returns-then-not-can_begin_ignored-clause-first c = grind (arith, first_bytes)

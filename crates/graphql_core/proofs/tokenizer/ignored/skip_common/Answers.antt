@@ -2,6 +2,8 @@ use Rattle.std.proofs.Common.{◌≡◌, ◌+◌, ◌-◌, length, ap, ◌∙◌
 use Rattle.graphql_core.specs.declared.tokenizer.piece.Move.TheVariants.{Down}
 use Rattle.graphql_core.specs.{is_spacing, columns_of, is_line_feed}
 use Rattle.graphql_core.proofs.{further_skip, further_spaces, further_spacing, feed_front, first_told}
+use Rattle.graphql_core.proofs.lexical.Tokens.{first_bytes}
+use Rattle.std.proofs.lemmas.Grind.{common_steps}
 use Rattle.graphql_core.proofs.tokenizer.ignored.skip_common.Goals as goal
 
 pub common-preserved : goal.common-preserved
@@ -57,3 +59,27 @@ common-preserved-then-is_line_feed c =
         search rules,
       );
     }
+
+pub common-smaller-then-is_line_feed : goal.common-smaller-then-is_line_feed
+common-smaller-then-is_line_feed c = omega arith
+
+pub common-smaller : goal.common-smaller
+common-smaller c = omega arith
+
+pub split_at-requires : goal.split_at-requires
+split_at-requires c = grind (arith, first_bytes)
+
+pub split_at-requires-then-is_spacing : goal.split_at-requires-then-is_spacing
+split_at-requires-then-is_spacing c = grind (arith, first_bytes)
+
+pub returns-then-not-can_begin_ignored-clause-first : goal.returns-then-not-can_begin_ignored-clause-first
+returns-then-not-can_begin_ignored-clause-first c = grind (arith, first_bytes)
+
+pub position_after_line-place-requires : goal.position_after_line-place-requires
+position_after_line-place-requires c = omega arith
+
+pub position_after_spaces-place-requires : goal.position_after_spaces-place-requires
+position_after_spaces-place-requires c = grind (arith, common_steps)
+
+pub position_after_spaces-place-requires-then-is_spacing : goal.position_after_spaces-place-requires-then-is_spacing
+position_after_spaces-place-requires-then-is_spacing c = omega arith

@@ -51,3 +51,35 @@ lines-preserved c =
       column = omega (arith, long);
       utf8 = search rules;
     })
+
+pub position_after_flat-place-requires-clause-line : goal.position_after_flat-place-requires-clause-line
+position_after_flat-place-requires-clause-line c = omega arith
+
+pub position_after_flat-place-requires-clause-column : goal.position_after_flat-place-requires-clause-column
+position_after_flat-place-requires-clause-column c = omega arith
+
+pub position_after_line-place-requires : goal.position_after_line-place-requires
+position_after_line-place-requires c = omega arith
+
+pub lines-smaller-in-Some : goal.lines-smaller-in-Some
+lines-smaller-in-Some c =
+    let feed = strip_prefix_char 10 c.split_at.result.1.now (Some c.in-Some.lines) c.in-Some.ensures.cases (omega arith) in
+    omega (arith, ap length feed)
+
+pub returns-then-is_empty-clause-line : goal.returns-then-is_empty-clause-line
+returns-then-is_empty-clause-line c = omega arith
+
+pub returns-then-is_empty-clause-column : goal.returns-then-is_empty-clause-column
+returns-then-is_empty-clause-column c = omega arith
+
+pub position_in_line-place-requires-clause-column : goal.position_in_line-place-requires-clause-column
+position_in_line-place-requires-clause-column c = omega arith
+
+pub returns-in_default-strip_prefix-clause-line : goal.returns-in_default-strip_prefix-clause-line
+returns-in_default-strip_prefix-clause-line c = omega arith
+
+pub returns-in_default-strip_prefix-clause-column : goal.returns-in_default-strip_prefix-clause-column
+returns-in_default-strip_prefix-clause-column c = omega arith
+
+pub position_after_line-place-requires-else-is_empty : goal.position_after_line-place-requires-else-is_empty
+position_after_line-place-requires-else-is_empty c = omega arith

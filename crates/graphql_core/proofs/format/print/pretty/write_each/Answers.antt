@@ -2,6 +2,7 @@ use Rattle.std.proofs.Common.{arith, ◌∙◌, ◌++◌, ◌^◌, ap, sym}
 use Rattle.graphql_core.specs.{text_of}
 use Rattle.std.specs.List.{flat_map}
 use Rattle.graphql_core.proofs.{text_append, and_part, item_here, narrower}
+use Rattle.std.proofs.lemmas.Grind.{common_steps}
 use Rattle.graphql_core.proofs.format.print.pretty.write_each.Goals as goal
 
 pub parts-preserved : goal.parts-preserved
@@ -16,3 +17,18 @@ parts-preserved g c =
           (ap (λ r. done ++ r) (sym (ap (λ ps. text_of (flat_map lines ps)) here ∙ text_append (lines c.part-item.result) _)) ∙ rest);
       lawful = λ h. l.invariant.lawful (rw here (c.in_ok-write.ensures.lawful, h));
     }
+
+pub offset_bounds-parts-part-index : goal.offset_bounds-parts-part-index
+offset_bounds-parts-part-index g c = omega arith
+
+pub write-requires : goal.write-requires
+write-requires g c =
+    let l = c.parts in
+    let here = item_here c.args.parts.now l.part-index c.part-item.result (omega arith) c.part-item.is in
+    (narrower _ _ _ c.args.style.now.indent (2 ^ 32) (rw here at l.invariant.bound)).0
+
+pub returns-clause-text : goal.returns-clause-text
+returns-clause-text g c = grind (arith, common_steps)
+
+pub returns-clause-lawful : goal.returns-clause-lawful
+returns-clause-lawful g c = grind (arith, common_steps)

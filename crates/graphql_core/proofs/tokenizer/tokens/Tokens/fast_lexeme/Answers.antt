@@ -68,3 +68,30 @@ returns-clause-item c =
     let after = c.after-self-inside-2.ensures in
     rw (← c.self.view_is) (lexeme_then_rest w _ _ _ _ _ t c.in_ok-taken.ensures.is deep cut.front cut.back
     c.in_ok-self-inside-3.ensures.skips.0 after.openers after.closers)
+
+pub name_in_one_load-requires-clause-long : goal.name_in_one_load-requires-clause-long
+name_in_one_load-requires-clause-long c = omega arith
+
+pub name_in_one_load-requires-clause-small : goal.name_in_one_load-requires-clause-small
+name_in_one_load-requires-clause-small c = omega arith
+
+pub punctuator_in_one_load-requires-clause-long : goal.punctuator_in_one_load-requires-clause-long
+punctuator_in_one_load-requires-clause-long c = omega arith
+
+pub after-self-inside-requires-clause-openers : goal.after-self-inside-requires-clause-openers
+after-self-inside-requires-clause-openers c = omega arith
+
+pub after-self-inside-requires-clause-closers : goal.after-self-inside-requires-clause-closers
+after-self-inside-requires-clause-closers c = omega arith
+
+pub after-self-inside-requires-2-clause-openers : goal.after-self-inside-requires-2-clause-openers
+after-self-inside-requires-2-clause-openers c = omega arith
+
+pub after-self-inside-requires-2-clause-closers : goal.after-self-inside-requires-2-clause-closers
+after-self-inside-requires-2-clause-closers c = omega arith
+
+pub is_too_deep-requires : goal.is_too_deep-requires
+is_too_deep-requires c = omega arith
+
+pub is_too_deep-requires-2 : goal.is_too_deep-requires-2
+is_too_deep-requires-2 c = omega arith

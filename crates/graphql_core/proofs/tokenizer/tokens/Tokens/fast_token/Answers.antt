@@ -60,3 +60,30 @@ returns-then-begins_with_name-clause-item c =
       token_then_rest w s.rest.now _ _ c.skip_from_blanks.result.0.now s.size t c.skip_from_blanks.result.1 name.ensures.is refl refl
           c.split_at.ensures.back more (omega (arith, c.skip_from_blanks.ensures.skips.1)),
     )
+
+pub name_in_one_load-requires-clause-long : goal.name_in_one_load-requires-clause-long
+name_in_one_load-requires-clause-long c = omega arith
+
+pub name_in_one_load-requires-clause-small : goal.name_in_one_load-requires-clause-small
+name_in_one_load-requires-clause-small c = omega arith
+
+pub position_after_flat-end-requires-clause-line : goal.position_after_flat-end-requires-clause-line
+position_after_flat-end-requires-clause-line c = omega arith
+
+pub position_after_flat-end-requires-clause-column : goal.position_after_flat-end-requires-clause-column
+position_after_flat-end-requires-clause-column c = omega arith
+
+pub position_after_flat-end-requires-2-clause-line : goal.position_after_flat-end-requires-2-clause-line
+position_after_flat-end-requires-2-clause-line c = omega arith
+
+pub position_after_flat-end-requires-2-clause-column : goal.position_after_flat-end-requires-2-clause-column
+position_after_flat-end-requires-2-clause-column c = omega arith
+
+pub after-self-inside-requires-clause-openers : goal.after-self-inside-requires-clause-openers
+after-self-inside-requires-clause-openers c = omega arith
+
+pub after-self-inside-requires-clause-closers : goal.after-self-inside-requires-clause-closers
+after-self-inside-requires-clause-closers c = omega arith
+
+pub is_too_deep-requires : goal.is_too_deep-requires
+is_too_deep-requires c = omega arith

@@ -61,3 +61,18 @@ returns c =
       token_then_rest w s.rest.now _ _ c.skip_ignored.result.0.now s.size t c.skip_ignored.result.1 c.in-Some.ensures.is deep refl
           c.split_at.ensures.back more (omega arith),
     )
+
+pub is_too_deep-requires : goal.is_too_deep-requires
+is_too_deep-requires c = omega arith
+
+pub position_after_token-end-requires-clause-line : goal.position_after_token-end-requires-clause-line
+position_after_token-end-requires-clause-line c = omega arith
+
+pub position_after_token-end-requires-clause-column : goal.position_after_token-end-requires-clause-column
+position_after_token-end-requires-clause-column c = omega arith
+
+pub after-self-inside-requires-clause-openers : goal.after-self-inside-requires-clause-openers
+after-self-inside-requires-clause-openers c = omega arith
+
+pub after-self-inside-requires-clause-closers : goal.after-self-inside-requires-clause-closers
+after-self-inside-requires-clause-closers c = omega arith
