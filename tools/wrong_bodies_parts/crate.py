@@ -5,20 +5,19 @@ import hashlib
 import os
 import pathlib
 import re
-import shutil
 import subprocess
 import tempfile
 import time
 from collections.abc import Callable
 
 from common.edits import BadEdit
+from common.kit import KIT, PROVES
 
 from . import inputs, store
 from .edit import PARTS, Edit, copied
 from .verdicts import BAD, HOLDS, LIMIT, REFUSED, STORED, UNKNOWN, UNREAD, Verdict, one_line, verdict
 
 TOP = pathlib.Path.cwd()
-KIT = pathlib.Path(shutil.which("rt") or "rt").resolve().parent.parent
 FOUND = f"{BAD}: a proof is found without the stored one"
 
 
@@ -96,8 +95,7 @@ class Crate:
         """The command that checks a copy of the crate in the current folder, with the libraries in out/."""
         root = "src/main.rt" if (self.folder / "src/main.rt").exists() else "src/lib.rt"
         words = [KIT / "bin/rattle", "check", "--crate-name", self.name, root, "--links", f"{self.name}="]
-        words += ["--jobs", "1", "--antt-project", KIT / "rattle/logic/antt-project.json"]
-        words += ["--logic-built", KIT / "logic_built"]
+        words += PROVES
         for it in ["std", *self.uses]:
             own = TOP / f"crates/{it}/out/rlib/{it}.rlib"
             words += ["--extern", f"{it}={own if own.exists() else KIT / f'rlibs/{it}.rlib'}"]

@@ -9,6 +9,8 @@ import shutil
 import subprocess
 import tempfile
 
+from common.kit import KIT, NO_PROVER, linked
+
 from .edit import PARTS
 
 MODULE = """
@@ -25,6 +27,10 @@ TEST = """
         assert!(rt; {input});
     }}
 """
+
+
+# A kit that only builds, and does not optimise.
+PROGRAMS = {**NO_PROVER, "toolchain/bin/clang": f'#!/bin/sh\nexec {KIT}/toolchain/bin/clang "$@" -O0\n'}
 
 
 def test_of(edit):
@@ -53,8 +59,9 @@ def ran(crate, edits, texts):
     """What the tests of these edits' inputs say, in a copy of the crate with these texts of files; at `end` the last
     line that `rt try` prints."""
     with tempfile.TemporaryDirectory(prefix="wrong-bodies-inputs-") as made:
-        room = pathlib.Path(made)
+        room = pathlib.Path(made, "repository")
         copied_with_below(crate, room)
+        rt = linked(pathlib.Path(made, "kit"), PROGRAMS)
         folder = room / "crates" / crate.name
         for file, text in texts.items():
             (folder / file).write_text(text, encoding="utf-8")
@@ -63,7 +70,7 @@ def ran(crate, edits, texts):
             tests = "".join(TEST.format(name=test_of(it), input=it.input) for it in own)
             with open(folder / file, "a", encoding="utf-8") as output:
                 output.write(MODULE.format(tests=tests))
-        done = subprocess.run(["rt", "try", "--test"], cwd=folder, capture_output=True, text=True, check=False)
+        done = subprocess.run([rt, "try", "--test"], cwd=folder, capture_output=True, text=True, check=False)
     printed = done.stdout + done.stderr
     states = dict(re.findall(r"(?m)^test (?:\S+::)?inputs_of_edits::(\w+) \.\.\. (\w+)", printed))
     lines = [it for it in printed.strip().splitlines() if it.strip()]
@@ -74,6 +81,7 @@ def ran(crate, edits, texts):
 def copied_with_below(crate, room):
     """Copies a crate and those below it to a folder that is laid out as the repository."""
     top = crate.folder.parent.parent
+    room.mkdir()
     own = [it for it in crate.with_below if (top / "crates" / it).is_dir()]
     listed = re.findall(r"(?m)^(\w+)([^:#\n]*:.*)$", (top / "crates.txt").read_text(encoding="utf-8"))
     (room / "crates.txt").write_text("".join(f"{name}{uses}\n" for name, uses in listed if name in own), encoding="utf-8")
