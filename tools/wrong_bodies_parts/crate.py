@@ -28,11 +28,11 @@ class How:
     # Whether the libraries are those that `rt ci` left in out/.
     after_ci: bool
     anew: bool
-    # Which edits are tried without their stored proofs, if these refuse them, although it is known what refuses them; and
-    # of which edits the functions are checked without an edit. Both are functions from edits to some of these.
-    searched: Callable
+    # From a crate's name and its edits to those of which the functions are checked without an edit.
     controlled: Callable
-    # What refused an edit at the last whole control: a function from a crate's name and an edit to a kind, or to None.
+    # From edits that their stored proofs refuse to those that are searched although it is known what refuses them.
+    searched: Callable
+    # From a crate's name and an edit to the kind of what refused it at the last whole control, or to None.
     known: Callable
 
 
@@ -48,7 +48,7 @@ class Crate:
         while more := {it for below in self.with_below for it in uses.get(below, [])} - self.with_below:
             self.with_below |= more
         self.checks, self.seconds, self.seconds_of = 0, 0, collections.Counter()
-        # The results, lines, and for each edit that was refused its kind: REFUSED or STORED.
+        # For each edit a line that says the result; and the kind of its verdict, if it was tried.
         self.edits, self.results, self.kinds = [], {}, {}
         for path in sorted(self.folder.rglob("*.edit")):
             if path.parent not in (self.folder / "wrong-bodies", self.folder / "must-fail"):
@@ -179,18 +179,25 @@ class Crate:
             self.control(how.controlled(self.name, self.edits), memory, kept)
             verdicts = self.verdicts([it for it in self.edits if it.name not in self.results], memory, kept)
             stored = [it for it, found in verdicts.items() if found.kind == STORED]
-            known = {it: how.known(self.name, it) for it in stored}
-            drawn = how.searched(stored)
-            searched = {it: verdicts[it] for it in stored if it in drawn or not known[it]}
-            verdicts |= self.without_stored_proofs(searched, memory, kept)
-            for edit in (it for it in stored if known[it] and verdicts[it].kind == STORED):
-                verdicts[edit] = dataclasses.replace(verdicts[edit], kind=known[edit])
-            self.compare_with_unchanged([it for it in searched if not known[it]], verdicts, memory, kept)
+            searched = self.search(stored, verdicts, how, memory, kept)
         for edit, found in verdicts.items():
             self.kinds[edit.name] = found.kind
             self.results[edit.name] = f"{found.kind}: {edit.function}: {one_line(found.line)}"
         self.judge_stored([it for it in stored if self.kinds[it.name] == STORED], searched, memory)
         return self
+
+    def search(self, stored, verdicts, how, memory, kept):
+        """Decides what refuses these edits, which their stored proofs refuse: by what is known, or else by a search.
+
+        It changes the verdicts, and returns the edits that were searched."""
+        known = {it: how.known(self.name, it) for it in stored}
+        drawn = how.searched(stored)
+        searched = {it: verdicts[it] for it in stored if it in drawn or not known[it]}
+        verdicts |= self.without_stored_proofs(searched, memory, kept)
+        for edit in (it for it in stored if known[it] and verdicts[it].kind == STORED):
+            verdicts[edit] = dataclasses.replace(verdicts[edit], kind=known[edit])
+        self.compare_with_unchanged([it for it in searched if not known[it]], verdicts, memory, kept)
+        return searched
 
     def control(self, controlled, memory, kept):
         """Checks that the proofs of these edits' functions hold without an edit. Other edits are not tried."""
@@ -266,7 +273,7 @@ class Crate:
                 memory.keep("search", edit, verdicts[edit])
 
     def judge_stored(self, edits, searched, memory):
-        """Makes those edits bad that only their stored proofs refuse, and that name no input which shows the mistake."""
+        """Makes edits bad that only their stored proofs refuse, and that name no input which shows the mistake."""
         for edit in edits:
             if not edit.input:
                 self.results[edit.name] = f"{BAD}: only its stored proof refuses it, and it names no input"

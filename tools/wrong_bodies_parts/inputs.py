@@ -1,7 +1,7 @@
 """Runs the inputs of edits that only their stored proofs refuse.
 
-Such an edit has a line `input: EXPRESSION`. The contract makes the expression true, and with the edit it is false. It is
-evaluated in the module of the edit's function, where `alloc` is an allocator. Nothing is proved.
+Such an edit has a line `input: EXPRESSION`. The contract makes the expression true, and with the edit it is false. It
+is evaluated in the module of the edit's function, where `alloc` is an allocator. Nothing is proved.
 """
 import pathlib
 import re
@@ -84,7 +84,8 @@ def copied_with_below(crate, room):
     room.mkdir()
     own = [it for it in crate.with_below if (top / "crates" / it).is_dir()]
     listed = re.findall(r"(?m)^(\w+)([^:#\n]*:.*)$", (top / "crates.txt").read_text(encoding="utf-8"))
-    (room / "crates.txt").write_text("".join(f"{name}{uses}\n" for name, uses in listed if name in own), encoding="utf-8")
+    lines = [f"{name}{uses}\n" for name, uses in listed if name in own]
+    (room / "crates.txt").write_text("".join(lines), encoding="utf-8")
     if (top / "HANDLES").exists():
         shutil.copy(top / "HANDLES", room)
     for name in own:
