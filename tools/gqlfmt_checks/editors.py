@@ -1,8 +1,15 @@
 """What docs/EDITORS.md shows."""
+import fcntl
 import json
 import os
+import pathlib
+import pty
 import re
+import select
+import struct
 import subprocess
+import termios
+import time
 
 from common.pages import blocks, text_of
 
@@ -47,7 +54,6 @@ def commands_of_editors():
     commands = [
         json.loads(block("json"))["customLocalFormatters.formatters"][0]["command"].split(),
         ["gqlfmt", *re.findall(r'"([^"]*)"', arguments)],
-        re.search(r"systemlist\('(.*?)'", block("vim"))[1].split(),
         re.findall(r'"([^"]*)"', re.search(r"formatter = (.*)", block("toml"))[1]),
         [*re.search(r":program \"(.*?)\" :args '\(\"(.*?)\"\)", block("elisp")).groups()],
     ]
@@ -75,6 +81,50 @@ def vim():
         words = ["-u", "NONE", "-N", "-es", "-S", "rc.vim", name, "-c", "normal G", "-c", "write", "-c", "qa!"]
         other("vim", *words, env=env, stdin=subprocess.DEVNULL)
         expect(f"vim writes {name}", read(name), wanted)
+
+
+# A key of Vim that stores the last line of the screen, and leaves the screen as it is.
+STORE = "nnoremap # <Cmd>call writefile([join(map(range(1, &columns), 'screenstring(&lines, v:val)'), '')], 'line')<CR>"
+# The most seconds until a message is on the screen.
+PATIENCE = 60
+
+
+def last_line(name, beginning, env):
+    """The last line of Vim's screen of 80 columns after `:w`. It is awaited until it begins in this way."""
+    stored = pathlib.Path("line")
+    stored.write_text("", encoding="utf-8")
+    terminal, screen = pty.openpty()
+    fcntl.ioctl(screen, termios.TIOCSWINSZ, struct.pack("HHHH", 24, 80, 0, 0))
+    words = ["vim", "-u", "NONE", "-i", "NONE", "-N", "-n", "-S", "rc.vim", "-c", STORE, name]
+    how = {"stdin": screen, "stdout": screen, "stderr": screen, "start_new_session": True}
+    vim = subprocess.Popen(words, env={**env, "TERM": "ansi"}, **how)
+    try:
+        os.write(terminal, b":w\r")
+        end = time.monotonic() + PATIENCE
+        while not stored.read_text(encoding="utf-8").startswith(beginning) and time.monotonic() < end:
+            os.write(terminal, b"#")
+            while select.select([terminal], [], [], 0.2)[0]:
+                os.read(terminal, 65536)
+    finally:
+        vim.kill()
+        vim.wait()
+        os.close(terminal)
+        os.close(screen)
+    return stored.read_text(encoding="utf-8").rstrip()
+
+
+@test
+@needs_vim
+def screen_of_vim():
+    env = on_the_path()
+    new("rc.vim", block("vim").encode())
+    new("a b.graphql", BROKEN)
+    message = "a b.graphql:1:3: Unexpected end of input"
+    expect("the last line for a text that is rejected", last_line("a b.graphql", message, env), message)
+    new("folder/c.gql", b'{ "%s" }\n' % (b"x" * 100))
+    begun = 'c.gql:1:3: Unexpected `"xxx'
+    line = last_line("folder/c.gql", begun, env)
+    expect("a long message", (line[:len(begun)], 60 < len(line) < 80), (begun, True))
 
 
 @test
