@@ -4,6 +4,7 @@ import functools
 import os
 import resource
 import shutil
+import signal
 import tempfile
 
 from .running import (
@@ -75,6 +76,9 @@ def full_disks():
     run = gqlfmt("--write", "f", restore_signals=False, preexec_fn=limit)
     expect_failure("a file that becomes too large", run, "f/a.graphql: cannot be rewritten: File too large")
     expect("nothing is lost", (read("f/a.graphql") == big, os.listdir("f")), (True, ["a.graphql"]))
+    ended = gqlfmt("--write", "f", preexec_fn=limit)[0]
+    expect("the signal of a file that becomes too large", ended, -signal.SIGXFSZ)
+    expect("what it leaves", (read("f/a.graphql") == big, sorted(os.listdir("f"))), (True, [".gqlfmt-0", "a.graphql"]))
     os.mkdir("disk")
     if other("mount", "-t", "tmpfs", "-o", "size=256k", "none", "disk").returncode:
         results.skip("full_disks", "no file system can be mounted")
