@@ -1,8 +1,9 @@
 //! Formats GraphQL source text, and keeps its comments.
 //!
 //! The output of [`format_source`] has the tokens and the comments of the input, in the same order. Block strings keep
-//! their value, and comments all but the ASCII white space at their end. Only ignored text between tokens changes, and
-//! the indentation, the line ends and the blank lines of block strings.
+//! their value, and comments all but the ASCII white space at their end. Outside block strings only ignored text
+//! between tokens changes. In block strings only line ends, blank lines, indentation and, in four or more quotes in a
+//! row, the backslashes change.
 #![tactic(auto)]
 
 mod error;
