@@ -13,6 +13,21 @@ use crate::options::{FormatOptions, Language};
 use crate::pieces::{Gap, Piece};
 use std::alloc::{AllocError, Global};
 
+/// The comments after the last token.
+#[derive(Clone, Copy, Debug, PartialEq, Eq)]
+enum Comments {
+    /// There are none.
+    Nothing,
+    /// The only one is in the line of the token.
+    InLine,
+    /// All on separate lines belong to the definition before them.
+    OfDefinition,
+    /// The last one comes before an item.
+    BeforeItem,
+    /// The last one is inside an item, or before a closing bracket.
+    Inside,
+}
+
 /// Where the pieces so far are written.
 #[derive(Drop)]
 pub struct Placer {
@@ -22,16 +37,12 @@ pub struct Placer {
     line: Line,
     /// What comes before each of them.
     gaps: Vec<Gap>,
-    /// The last piece.
+    /// The last token; a comment before the first one.
     before: Symbol,
-    /// The role of the token after the last comments, if a comment needed it.
+    /// The comments after it.
+    comments: Comments,
+    /// The role of the token after these comments, if one of them needed it.
     role_after_comments: Option<Role>,
-    /// Whether the last piece is a comment on a separate line before an item.
-    follows_item_comment: bool,
-    /// Whether the last piece is a comment after an opening bracket, in its line.
-    follows_opener_comment: bool,
-    /// Whether a comment that comes next can belong to the definition before it.
-    can_end_definition: bool,
     /// The indentation in the input of the last definition.
     definition_indent: usize,
 }
@@ -61,11 +72,9 @@ impl Placer {
             line: Line::FIRST,
             gaps: Vec::with_capacity(alloc, count)?,
             before: Symbol::Comment,
+            comments: Comments::Nothing,
             role_after_comments: None,
-            follows_item_comment: false,
-            follows_opener_comment: false,
-            can_end_definition: false,
-            definition_indent: 0,
+            definition_indent: usize::MAX,
         })
     }
 
@@ -85,12 +94,13 @@ impl Placer {
 
     /// Whether an empty line comes before a line that begins with a piece at the place of an item or at the end.
     fn is_blank_before(&self, piece: &Piece<'_>) -> bool {
-        piece.after_blank && !self.before.is_opener() && !self.follows_opener_comment
+        let is_first_line = matches!(self.comments, Comments::Nothing | Comments::InLine);
+        piece.after_blank && !(is_first_line && self.before.is_opener())
     }
 
     /// Whether an empty line comes before a line that begins with an item, or with a comment before an item.
     fn is_blank_before_item(&self, piece: &Piece<'_>) -> bool {
-        let begins_definition = self.frames.is_document() && !self.follows_item_comment;
+        let begins_definition = self.frames.is_document() && self.comments != Comments::BeforeItem;
         begins_definition || self.is_blank_before(piece)
     }
 
@@ -101,7 +111,7 @@ impl Placer {
             Role::Directive => self.frames.is_item_broken(),
             _ => false,
         };
-        is_broken || self.before == Symbol::Comment
+        is_broken || self.comments != Comments::Nothing
     }
 
     /// What comes before a token of this role.
@@ -137,9 +147,8 @@ impl Placer {
         self.line.go_past_token(symbol, piece);
         self.frames.update(role);
         self.before = symbol;
+        self.comments = Comments::Nothing;
         self.role_after_comments = None;
-        self.follows_item_comment = false;
-        self.follows_opener_comment = false;
         Ok(())
     }
 
@@ -168,40 +177,48 @@ impl Placer {
     /// Whether a comment on a separate line belongs to the definition before it, if the next token has this role.
     /// Without indentation, the output would not show that.
     fn ends_definition(&self, role: Role, piece: &Piece<'_>) -> bool {
-        self.can_end_definition
+        self.before != Symbol::CloseBrace
             && self.frames.is_document()
             && matches!(role, Role::Item | Role::End)
             && piece.indent > self.definition_indent
             && self.options.indent > 0
     }
 
-    /// What comes before a comment on a separate line that comes before `rest`.
-    fn gap_before_separate(&mut self, piece: &Piece<'_>, rest: &[Piece<'_>]) -> Gap {
-        let role = self.role_after_comments(rest);
-        if self.ends_definition(role, piece) {
-            let level = self.frames.level_of(Role::Member);
-            return self.new_line(level, piece.after_blank);
+    /// The comments with one more, on a separate line, if the next token has this role.
+    fn comments_with(&self, role: Role, piece: &Piece<'_>) -> Comments {
+        match self.comments {
+            Comments::Nothing | Comments::InLine | Comments::OfDefinition
+                if self.ends_definition(role, piece) =>
+            {
+                Comments::OfDefinition
+            }
+            _ if role == Role::Item => Comments::BeforeItem,
+            _ => Comments::Inside,
         }
-        let gap = self.gap_before_comment(role, piece);
-        self.follows_item_comment = role == Role::Item;
-        self.can_end_definition = false;
-        gap
+    }
+
+    /// Places a comment on a separate line that comes before `rest`.
+    fn place_separate(&mut self, piece: &Piece<'_>, rest: &[Piece<'_>]) -> Result<(), AllocError> {
+        let role = self.role_after_comments(rest);
+        let comments = self.comments_with(role, piece);
+        let gap = match comments {
+            Comments::OfDefinition => {
+                let level = self.frames.level_of(Role::Member);
+                self.new_line(level, piece.after_blank)
+            }
+            _ => self.gap_before_comment(role, piece),
+        };
+        self.comments = comments;
+        self.place_gap(gap)
     }
 
     /// Places a comment that comes before `rest`.
     fn place_comment(&mut self, piece: &Piece<'_>, rest: &[Piece<'_>]) -> Result<(), AllocError> {
-        if self.before != Symbol::Comment {
-            self.can_end_definition = self.before != Symbol::CloseBrace;
+        if piece.begins_line {
+            return self.place_separate(piece, rest);
         }
-        let gap = if piece.begins_line {
-            self.gap_before_separate(piece, rest)
-        } else {
-            Gap::Space
-        };
-        self.place_gap(gap)?;
-        self.follows_opener_comment = self.before.is_opener() && !piece.begins_line;
-        self.before = Symbol::Comment;
-        Ok(())
+        self.comments = Comments::InLine;
+        self.place_gap(Gap::Space)
     }
 
     /// Places a piece that comes before `rest`, and some of the next pieces: the number of these.
