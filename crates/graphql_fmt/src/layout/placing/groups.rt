@@ -181,15 +181,15 @@ impl Placer {
     }
 
     /// Places the members after the last token if they stay in the line: if they fit, and none comes after a leading
-    /// `|`. Otherwise each begins a line, and so does each directive after them.
+    /// separator. Otherwise each begins a line, and so does each directive after them.
     pub fn place_members(&mut self, rest: &[Piece<'_>]) -> Result<usize, AllocError> {
         if self.frames.is_item_broken() {
             return Ok(0);
         }
-        let has_bar = rest
+        let has_separator = rest
             .first()
-            .is_some_and(|next| symbol_of(next) == Symbol::Pipe);
-        if !has_bar {
+            .is_some_and(|next| matches!(symbol_of(next), Symbol::Ampersand | Symbol::Pipe));
+        if !has_separator {
             if let Some(count) = self.place_chain(Chain::Members, rest)? {
                 return Ok(count);
             }
