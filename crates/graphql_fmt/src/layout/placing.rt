@@ -22,6 +22,8 @@ enum Comments {
     InLine,
     /// All on separate lines belong to the definition before them.
     OfDefinition,
+    /// The last one stays in the line below the definition before it, at its level.
+    Below,
     /// The last one comes before an item.
     BeforeItem,
     /// The last one is inside an item, or before a closing bracket.
@@ -55,6 +57,16 @@ fn ends_line(symbol: Symbol, piece: &Piece<'_>, rest: &[Piece<'_>]) -> bool {
         && rest
             .first()
             .is_some_and(|next| symbol_of(next) == Symbol::Comment)
+}
+
+/// Whether an empty line or the end comes after the comments that these pieces begin with, before any token.
+fn ends_block(pieces: &[Piece<'_>]) -> bool {
+    'pieces: for piece in pieces {
+        if piece.after_blank || symbol_of(piece) != Symbol::Comment {
+            return piece.after_blank;
+        }
+    }
+    true
 }
 
 impl Placer {
@@ -184,28 +196,45 @@ impl Placer {
             && self.options.indent > 0
     }
 
-    /// The comments with one more, on a separate line, if the next token has this role.
-    fn comments_with(&self, role: Role, piece: &Piece<'_>) -> Comments {
-        match self.comments {
+    /// Whether a comment on a separate line, before `rest`, stays in the line below the definition before it, if the next
+    /// token has this role. The comments in the next lines then stay with it.
+    fn stays_below(&self, role: Role, piece: &Piece<'_>, rest: &[Piece<'_>]) -> bool {
+        self.before != Symbol::Comment
+            && self.frames.is_document()
+            && matches!(role, Role::Item | Role::End)
+            && !piece.after_blank
+            && ends_block(rest)
+    }
+
+    /// The comments with one more, on a separate line, before `rest`, if the next token has this role.
+    fn comments_with(&self, role: Role, piece: &Piece<'_>, rest: &[Piece<'_>]) -> Comments {
+        let follows_definition = matches!(
+            self.comments,
             Comments::Nothing | Comments::InLine | Comments::OfDefinition
-                if self.ends_definition(role, piece) =>
-            {
-                Comments::OfDefinition
-            }
-            _ if role == Role::Item => Comments::BeforeItem,
-            _ => Comments::Inside,
+        );
+        if follows_definition && self.ends_definition(role, piece) {
+            Comments::OfDefinition
+        } else if follows_definition && self.stays_below(role, piece, rest) {
+            Comments::Below
+        } else if self.comments == Comments::Below && !piece.after_blank {
+            Comments::Below
+        } else if role == Role::Item {
+            Comments::BeforeItem
+        } else {
+            Comments::Inside
         }
     }
 
     /// Places a comment on a separate line that comes before `rest`.
     fn place_separate(&mut self, piece: &Piece<'_>, rest: &[Piece<'_>]) -> Result<(), AllocError> {
         let role = self.role_after_comments(rest);
-        let comments = self.comments_with(role, piece);
+        let comments = self.comments_with(role, piece, rest);
         let gap = match comments {
             Comments::OfDefinition => {
                 let level = self.frames.level_of(Role::Member);
                 self.new_line(level, piece.after_blank)
             }
+            Comments::Below => self.new_line(0, false),
             _ => self.gap_before_comment(role, piece),
         };
         self.comments = comments;
