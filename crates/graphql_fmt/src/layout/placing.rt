@@ -10,7 +10,7 @@ use crate::layout::reader::Reader;
 use crate::layout::role::Role;
 use crate::layout::symbol::{Symbol, symbol_of};
 use crate::options::{FormatOptions, Language};
-use crate::pieces::{Gap, Piece};
+use crate::pieces::{Gap, Piece, PieceKind};
 use std::alloc::{AllocError, Global};
 
 /// The comments after the last token.
@@ -20,8 +20,8 @@ enum Comments {
     Nothing,
     /// The only one is in the line of the token.
     InLine,
-    /// All on separate lines belong to the definition before them.
-    OfDefinition,
+    /// All on separate lines belong to the item before them, and are a level in.
+    OfItem,
     /// The last one stays in the line below the definition before it, at its level.
     Below,
     /// The last one comes before an item.
@@ -45,8 +45,6 @@ pub struct Placer {
     comments: Comments,
     /// The role of the token after these comments, if one of them needed it.
     role_after_comments: Option<Role>,
-    /// The indentation in the input of the last definition.
-    definition_indent: usize,
 }
 
 /// Whether a token is a separator of members that stays in the line of the token before it, as in the input, because a
@@ -86,7 +84,6 @@ impl Placer {
             before: Symbol::Comment,
             comments: Comments::Nothing,
             role_after_comments: None,
-            definition_indent: usize::MAX,
         })
     }
 
@@ -157,7 +154,7 @@ impl Placer {
     ) -> Result<(), AllocError> {
         self.place_gap(gap)?;
         self.line.go_past_token(symbol, piece);
-        self.frames.update(role);
+        self.frames.update(role, piece);
         self.before = symbol;
         self.comments = Comments::Nothing;
         self.role_after_comments = None;
@@ -186,14 +183,42 @@ impl Placer {
         self.new_line(level, is_blank)
     }
 
+    /// Whether a comment on a separate line is indented further than the item that it is in or comes after. Without
+    /// indentation, the output would not show that.
+    fn is_indented(&self, piece: &Piece<'_>) -> bool {
+        piece.indent > self.frames.item_indent() && self.options.indent > 0
+    }
+
     /// Whether a comment on a separate line belongs to the definition before it, if the next token has this role.
-    /// Without indentation, the output would not show that.
     fn ends_definition(&self, role: Role, piece: &Piece<'_>) -> bool {
-        self.before != Symbol::CloseBrace
-            && self.frames.is_document()
+        self.frames.is_document()
             && matches!(role, Role::Item | Role::End)
-            && piece.indent > self.definition_indent
-            && self.options.indent > 0
+            && self.before != Symbol::CloseBrace
+            && self.is_indented(piece)
+    }
+
+    /// Whether a comment on a separate line counts as a directive or a member of the item before it, if the next token
+    /// has this role.
+    fn ends_chain(&self, role: Role, piece: &Piece<'_>) -> bool {
+        let is_after_chain = match role {
+            Role::Body => true,
+            Role::Item | Role::End => {
+                !self.frames.is_document() && self.frames.has_chain() && !piece.after_blank
+            }
+            _ => false,
+        };
+        is_after_chain && self.is_indented(piece)
+    }
+
+    /// Whether the first comment on a separate line, of those that these pieces begin with, counts as a directive or a
+    /// member of the item before it.
+    fn has_comment_of_chain(&self, rest: &[Piece<'_>]) -> bool {
+        let comment = match rest.first() {
+            Some(piece) if piece.kind == PieceKind::Comment && !piece.begins_line => rest.get(1),
+            first => first,
+        };
+        let role = next_role(self.reader.context(), rest);
+        comment.is_some_and(|piece| piece.kind == PieceKind::Comment && self.ends_chain(role, piece))
     }
 
     /// Whether a comment on a separate line, before `rest`, stays in the line below the definition before it, if the next
@@ -208,13 +233,13 @@ impl Placer {
 
     /// The comments with one more, on a separate line, before `rest`, if the next token has this role.
     fn comments_with(&self, role: Role, piece: &Piece<'_>, rest: &[Piece<'_>]) -> Comments {
-        let follows_definition = matches!(
+        let follows_item = matches!(
             self.comments,
-            Comments::Nothing | Comments::InLine | Comments::OfDefinition
+            Comments::Nothing | Comments::InLine | Comments::OfItem
         );
-        if follows_definition && self.ends_definition(role, piece) {
-            Comments::OfDefinition
-        } else if follows_definition && self.stays_below(role, piece, rest) {
+        if follows_item && (self.ends_definition(role, piece) || self.ends_chain(role, piece)) {
+            Comments::OfItem
+        } else if follows_item && self.stays_below(role, piece, rest) {
             Comments::Below
         } else if self.comments == Comments::Below && !piece.after_blank {
             Comments::Below
@@ -230,9 +255,10 @@ impl Placer {
         let role = self.role_after_comments(rest);
         let comments = self.comments_with(role, piece, rest);
         let gap = match comments {
-            Comments::OfDefinition => {
+            Comments::OfItem => {
                 let level = self.frames.level_of(Role::Member);
-                self.new_line(level, piece.after_blank)
+                let is_blank = piece.after_blank && matches!(role, Role::Item | Role::End);
+                self.new_line(level, is_blank)
             }
             Comments::Below => self.new_line(0, false),
             _ => self.gap_before_comment(role, piece),
@@ -258,9 +284,6 @@ impl Placer {
             return Ok(0);
         }
         let role = self.reader.read(symbol, piece)?;
-        if role == Role::Item && self.frames.is_document() {
-            self.definition_indent = piece.indent;
-        }
         if role == Role::Directive && !self.frames.is_item_broken() {
             return self.place_directives(piece, rest);
         }

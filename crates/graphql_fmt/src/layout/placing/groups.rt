@@ -128,7 +128,7 @@ impl Placer {
             let ahead = rest.get(count..).unwrap_or(&[]);
             let is_over = self.reader.depth() == start.depth
                 && !chain.is_continued(next_role(self.reader.context(), ahead));
-            if is_over && self.fits(width, ahead) {
+            if is_over && !self.has_comment_of_chain(ahead) && self.fits(width, ahead) {
                 return Ok(Some(count));
             }
             if is_over || !self.place_in_line(width, piece)? {
