@@ -3,6 +3,8 @@
 mod groups;
 
 use crate::layout::ahead::next_role;
+use crate::layout::columns::has_lines;
+use crate::layout::definitions::Definitions;
 use crate::layout::frames::Frames;
 use crate::layout::inline::inline_gap;
 use crate::layout::line::Line;
@@ -36,6 +38,7 @@ pub struct Placer {
     options: FormatOptions,
     reader: Reader,
     frames: Frames,
+    definitions: Definitions,
     line: Line,
     /// What comes before each of them.
     gaps: Vec<Gap>,
@@ -79,6 +82,7 @@ impl Placer {
             options: *options,
             reader: Reader::new(alloc, language),
             frames: Frames::new(alloc),
+            definitions: Definitions::NONE,
             line: Line::FIRST,
             gaps: Vec::with_capacity(alloc, count)?,
             before: Symbol::Comment,
@@ -88,8 +92,19 @@ impl Placer {
     }
 
     /// What comes before each piece.
-    pub fn into_gaps(self) -> Vec<Gap> {
+    pub fn into_gaps(mut self) -> Vec<Gap> {
+        self.take_back_empty_line();
         self.gaps
+    }
+
+    /// Takes back the empty line before the last definition, if it does not stay.
+    fn take_back_empty_line(&mut self) {
+        let Some(index) = self.definitions.taken_back() else {
+            return;
+        };
+        if let Some(Gap::Line { is_blank, .. }) = self.gaps.get_mut(index) {
+            *is_blank = false;
+        }
     }
 
     /// A line end, and the beginning of a line at this level.
@@ -108,9 +123,16 @@ impl Placer {
     }
 
     /// Whether an empty line comes before a line that begins with an item, or with a comment before an item.
-    fn is_blank_before_item(&self, piece: &Piece<'_>) -> bool {
-        let begins_definition = self.frames.is_document() && self.comments != Comments::BeforeItem;
-        begins_definition || self.is_blank_before(piece)
+    fn is_blank_before_item(&mut self, piece: &Piece<'_>) -> bool {
+        if self.is_blank_before(piece) {
+            return true;
+        }
+        let begins_definition =
+            self.frames.is_document() && self.comments != Comments::BeforeItem;
+        if begins_definition {
+            self.definitions.add_empty_line(self.gaps.len());
+        }
+        begins_definition
     }
 
     /// Whether a token of this role begins a line.
@@ -152,6 +174,12 @@ impl Placer {
         role: Role,
         piece: &Piece<'_>,
     ) -> Result<(), AllocError> {
+        if role == Role::Item && self.frames.is_document() {
+            self.take_back_empty_line();
+            self.definitions.begin();
+        } else if matches!(gap, Gap::Line { .. }) || has_lines(symbol, piece) {
+            self.definitions.break_line();
+        }
         self.place_gap(gap)?;
         self.line.go_past_token(symbol, piece);
         self.frames.update(role, piece);
@@ -263,6 +291,9 @@ impl Placer {
             Comments::Below => self.new_line(0, false),
             _ => self.gap_before_comment(role, piece),
         };
+        if comments == Comments::OfItem {
+            self.definitions.break_line();
+        }
         self.comments = comments;
         self.place_gap(gap)
     }
