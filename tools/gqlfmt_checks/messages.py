@@ -15,6 +15,9 @@ WAYS = {
     "PATH: cannot be read: REASON": ["gqlfmt none", "gqlfmt < ."],
     "PATH: has no files that end in .graphql, .graphqls or .gql": ["mkdir empty; gqlfmt --check empty"],
     "PATH: cannot be rewritten: not a regular file": ["cat a.graphql | gqlfmt --write /dev/stdin"],
+    "PATH: cannot be rewritten: its folder has all of .gqlfmt-0 to .gqlfmt-999": [
+        "touch .gqlfmt-{0..999}; gqlfmt --write a.graphql; status=$?; rm .gqlfmt-*; exit $status",
+    ],
     "PATH: cannot be rewritten: REASON": ["trap '' XFSZ; ulimit -f 0; gqlfmt --write a.graphql"],
     "gqlfmt: standard output cannot be written: REASON": ["gqlfmt a.graphql > /dev/full", "gqlfmt --help > /dev/full"],
     "gqlfmt: the arguments cannot be read: REASON": ["gqlfmt $'\\xff'"],

@@ -31,6 +31,9 @@ pub enum InputError {
     /// The new text cannot be written, or cannot take the place of the old one.
     #[error("cannot be rewritten: {0}")]
     Write(io::Error),
+    /// All names for the new file are taken in the folder.
+    #[error("cannot be rewritten: its folder has all of .gqlfmt-0 to .gqlfmt-999")]
+    NoName,
     /// The new file cannot get the owner and the group of the old one.
     #[error("cannot be rewritten: its owner and group cannot be kept: {0}")]
     Owner(io::Error),
