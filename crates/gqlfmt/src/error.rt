@@ -10,6 +10,9 @@ pub enum InputError {
     /// The file, the folder or standard input cannot be read.
     #[error("cannot be read: {0}")]
     Read(io::Error),
+    /// The path is not UTF-8.
+    #[error("has a name that is not UTF-8")]
+    Name,
     /// A name in a folder is not UTF-8.
     #[error("contains a name that is not UTF-8")]
     EntryName,

@@ -10,25 +10,27 @@ mod message;
 mod name;
 mod outcome;
 mod run;
+mod words;
 
 use crate::arguments::read_arguments;
+use crate::name::Shown;
 use crate::run::run_request;
+use crate::words::{unreadable_option, words};
 use std::process::ExitCode;
-use std::{env, io};
-
-/// The arguments, of which the first is the program's name.
-fn words(rt: &HostRuntime) -> io::Result<Vec<String>> {
-    Ok(env::args(rt)?.collect(rt.alloc())?)
-}
 
 fn main(rt: HostRuntime) -> ExitCode {
-    let words = match words(&rt) {
+    let words = match words(&rt, rt.alloc()) {
         Ok(words) => words,
-        Err(error) => {
-            let _ = eprintln!(rt; "gqlfmt: the arguments cannot be read: {error}");
+        Err(_) => {
+            let _ = eprintln!(rt; "gqlfmt: out of memory");
             return ExitCode::from(2u8);
         }
     };
+    if let Some(name) = unreadable_option(&words) {
+        let name = Shown(name);
+        let _ = eprintln!(rt; "gqlfmt: an option is not UTF-8: {name}");
+        return ExitCode::from(2u8);
+    }
     match read_arguments(rt.alloc(), &words) {
         Ok(request) => ExitCode::from(run_request(&rt, &request)),
         Err(error) => {

@@ -9,6 +9,7 @@ use crate::error::InputError;
 use crate::files::{Source, find_files, read_file, read_text, replace_text};
 use crate::name::Shown;
 use crate::outcome::{Outcome, Tally};
+use crate::words::unreadable;
 use std::fs::{File, Metadata};
 use std::io;
 use std::io::{Read, Write};
@@ -144,6 +145,10 @@ fn format_path<R: Files<File = File> + AllocGlobal + Eprint + Clone + Drop, W: W
     path: &str,
     tally: &mut Tally,
 ) -> io::Result<()> {
+    if let Some(name) = unreadable(path) {
+        tally.count(fail(rt, name, &InputError::Name));
+        return Ok(());
+    }
     let found = match find_files(rt, path) {
         Ok(found) => found,
         Err(error) => {
