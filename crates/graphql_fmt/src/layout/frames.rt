@@ -15,8 +15,8 @@ struct Frame {
     is_item_broken: bool,
     /// Whether the last item ends with directives or members so far.
     has_chain: bool,
-    /// The indentation in the input of the last item, if it begins a line there; else `usize::MAX`.
-    item_indent: usize,
+    /// The indentation in the input of the last item, if it begins a line there.
+    item_indent: Option<usize>,
 }
 
 impl Frame {
@@ -27,7 +27,7 @@ impl Frame {
             item_level: level,
             is_item_broken: false,
             has_chain: false,
-            item_indent: usize::MAX,
+            item_indent: None,
         }
     }
 }
@@ -82,9 +82,11 @@ impl Frames {
         self.frame.has_chain
     }
 
-    /// The indentation in the input of the last item, if it begins a line there; else `usize::MAX`.
-    pub fn item_indent(&self) -> usize {
-        self.frame.item_indent
+    /// Whether a piece is indented further in the input than the last item. That must begin a line there.
+    pub fn is_indented(&self, piece: &Piece<'_>) -> bool {
+        self.frame
+            .item_indent
+            .is_some_and(|indent| piece.indent > indent)
     }
 
     /// Lets the directives and the members of the last item begin lines.
@@ -98,10 +100,10 @@ impl Frames {
         let level = self.frame.level;
         match role {
             Role::Item => {
-                self.frame = Frame::at_level(level);
-                if piece.begins_line {
-                    self.frame.item_indent = piece.indent;
-                }
+                self.frame = Frame {
+                    item_indent: piece.begins_line.then_some(piece.indent),
+                    ..Frame::at_level(level)
+                };
             }
             Role::Described => self.frame.item_level = level,
             Role::Lead => {

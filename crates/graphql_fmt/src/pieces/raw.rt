@@ -39,11 +39,7 @@ fn have_same_value(alloc: Global, first: &str, second: &str) -> Result<bool, All
 }
 
 /// This text, if it is a block string of the same value as `spelling`.
-fn if_same_value(
-    alloc: Global,
-    text: String,
-    spelling: &str,
-) -> Result<Option<String>, AllocError>
+fn if_same_value(alloc: Global, text: String, spelling: &str) -> Result<Option<String>, AllocError>
     requires { IsSpelling (piece.Token BlockString) spelling.now }
     ensures { IfOk result (λ found. MatchOption found (Unit {0})
         (λ text. HasSameBlock spelling.now (string_bytes text))) }

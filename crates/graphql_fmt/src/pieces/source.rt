@@ -33,7 +33,7 @@ fn is_indentable_value(value: &str) -> bool {
     value.split('\n').any(begins_with_text) && !has_return(value)
 }
 
-/// Whether a block string is written with any indentation. One with an empty value is if it has several lines.
+/// Whether a block string is written with any indentation. If its value is empty, that is so if it has several lines.
 fn is_indentable(alloc: Global, spelling: &str) -> Result<bool, AllocError>
     requires { IsSpelling (piece.Token BlockString) spelling.now }
 {

@@ -67,7 +67,7 @@ impl Placer {
     /// Places a piece of a group in the line. Whether it fits in `width` columns, and is a token of one line.
     fn place_in_line(&mut self, width: usize, piece: &Piece<'_>) -> Result<bool, AllocError> {
         let symbol = symbol_of(piece);
-        if symbol == Symbol::Comment || has_lines(symbol, piece) {
+        if symbol.is_comment() || has_lines(symbol, piece) {
             return Ok(false);
         }
         let role = self.reader.read(symbol, piece)?;
@@ -97,13 +97,12 @@ impl Placer {
         rest: &[Piece<'_>],
     ) -> Result<Option<usize>, AllocError> {
         let start = self.start();
-        let mut count = 0usize;
-        'pieces: for piece in rest {
-            count = count.saturating_add(1);
+        'pieces: for (index, piece) in rest.iter().enumerate() {
             if !self.place_in_line(width, piece)? {
                 break;
             }
             if self.reader.depth() < start.depth {
+                let count = index + 1;
                 if self.fits(width, rest.get(count..).unwrap_or(&[])) {
                     return Ok(Some(count));
                 }
@@ -123,8 +122,7 @@ impl Placer {
     ) -> Result<Option<usize>, AllocError> {
         let width = self.options.width;
         let start = self.start();
-        let mut count = 0usize;
-        'pieces: for piece in rest {
+        'pieces: for (count, piece) in rest.iter().enumerate() {
             let ahead = rest.get(count..).unwrap_or(&[]);
             let is_over = self.reader.depth() == start.depth
                 && !chain.is_continued(next_role(self.reader.context(), ahead));
@@ -135,19 +133,19 @@ impl Placer {
                 self.take_back(start)?;
                 return Ok(None);
             }
-            count = count.saturating_add(1);
         }
-        Ok(Some(count))
+        Ok(Some(rest.len()))
     }
 
-    /// Places the first directive of an item, and the directives in its line.
+    /// Places the `@` of the first directive of an item, and the directives in its line.
     pub fn place_directives(
         &mut self,
+        symbol: Symbol,
         piece: &Piece<'_>,
         rest: &[Piece<'_>],
     ) -> Result<usize, AllocError> {
-        let gap = self.gap(Symbol::At, Role::Directive, piece);
-        self.push(gap, Symbol::At, Role::Directive, piece)?;
+        let gap = self.gap(symbol, Role::Directive, piece);
+        self.push(gap, symbol, Role::Directive, piece)?;
         if let Some(count) = self.place_chain(Chain::Directives, rest)? {
             return Ok(count);
         }
@@ -155,7 +153,7 @@ impl Placer {
         self.frames.break_item();
         let level = self.frames.level_of(Role::Directive);
         let gap = self.new_line(level, false);
-        self.push(gap, Symbol::At, Role::Directive, piece)?;
+        self.push(gap, symbol, Role::Directive, piece)?;
         Ok(0)
     }
 
@@ -188,7 +186,7 @@ impl Placer {
         }
         let has_separator = rest
             .first()
-            .is_some_and(|next| matches!(symbol_of(next), Symbol::Ampersand | Symbol::Pipe));
+            .is_some_and(|next| symbol_of(next).is_separator());
         if !has_separator {
             if let Some(count) = self.place_chain(Chain::Members, rest)? {
                 return Ok(count);
