@@ -3,7 +3,8 @@
 use std::alloc::{AllocError, Global};
 use std::env::{Env, FillError};
 
-/// What comes after the readable part of a word that is not UTF-8. No other word has it, and no name of a file.
+/// What comes after the readable part of a word that is not UTF-8. No other word of a command line has it, and no name
+/// of a file. So such a word can be given to `clap`, which takes only UTF-8, and names no file.
 const MARK: char = '\0';
 
 /// A word of these bytes. In one that is not UTF-8, U+FFFD takes the place of what is not, and a mark comes at the end.
@@ -25,26 +26,27 @@ pub fn unreadable(word: &str) -> Option<&str> {
 
 /// The word with this index; `None` if there are fewer.
 fn word<R: Env>(rt: &R, alloc: Global, index: usize) -> Result<Option<String>, AllocError> {
-    let mut capacity = 256usize;
-    for _ in 0..usize::BITS {
+    // A word that does not fit is read again, into twice as many bytes.
+    for bits in 8..usize::BITS {
         let mut bytes = Vec::new(alloc);
-        bytes.resize(capacity, 0u8)?;
+        bytes.resize(1usize << bits, 0u8)?;
         match rt.arg(index, bytes.as_mut_slice()) {
             Ok(len) => {
                 bytes.truncate(len);
                 return Ok(Some(word_of(alloc, &bytes)?));
             }
             Err(FillError::NotPresent) => return Ok(None),
-            Err(FillError::TooLong) => capacity = capacity.saturating_add(capacity),
+            Err(FillError::TooLong) => {}
         }
     }
     Err(AllocError)
 }
 
-/// The words of the command line, of which the first is the program's name.
+/// The words of the command line after the program's path, and before them the program's name. The path is not read.
 pub fn words<R: Env>(rt: &R, alloc: Global) -> Result<Vec<String>, AllocError> {
     let mut words = Vec::new(alloc);
-    for index in 0..usize::MAX {
+    words.push(String::from_str(alloc, "gqlfmt")?)?;
+    for index in 1..usize::MAX {
         match word(rt, alloc, index)? {
             Some(word) => words.push(word)?,
             None => break,
@@ -56,11 +58,12 @@ pub fn words<R: Env>(rt: &R, alloc: Global) -> Result<Vec<String>, AllocError> {
 /// The first option that is not UTF-8: a word that begins with a dash, before a word `--`.
 pub fn unreadable_option(words: &[String]) -> Option<&str> {
     for word in words {
-        if word.as_str() == "--" {
+        let word = word.as_str();
+        if word == "--" {
             return None;
         }
-        if word.as_str().starts_with('-') && unreadable(word.as_str()).is_some() {
-            return unreadable(word.as_str());
+        if word.starts_with('-') && unreadable(word).is_some() {
+            return unreadable(word);
         }
     }
     None
