@@ -3,7 +3,7 @@ import re
 
 from common.pages import text_of
 
-from .running import BROKEN, FORMATTED, SHORT, expect, gqlfmt, new, read, test
+from .running import BROKEN, FORMATTED, SHORT, expect, gqlfmt, new, on_the_path, other, read, test
 
 
 @test
@@ -73,6 +73,26 @@ def invalid_arguments():
     options = ["--check", "--write", "--diff", "--indent <N>", "--width <N>", "--language <LANGUAGE>"]
     for option in [*options, "--stdin-path <NAME>", "[PATH]...", "--help", "--version", "Status:"]:
         expect(f"help has {option}", option in shown, True)
+
+
+@test
+def arguments_that_are_not_utf8():
+    """Only the words after the program's path count. One that is not UTF-8 does not stop the others."""
+    env = on_the_path()
+    new("a.graphql")
+    new("\ufffd", FORMATTED)
+    missing = "\ufffd.graphql: has a name that is not UTF-8\n"
+    cases = [
+        ("(exec -a $'\\xff' gqlfmt a.graphql)", (0, FORMATTED, "")),
+        ("(exec -a $'-\\xff' gqlfmt a.graphql)", (0, FORMATTED, "")),
+        ("gqlfmt $'\\xff.graphql' a.graphql", (2, FORMATTED, missing)),
+        ("gqlfmt -- a.graphql $'-\\xff.graphql'", (2, FORMATTED, "-" + missing)),
+        ("gqlfmt $'\\xff' < a.graphql", (2, b"", "\ufffd: has a name that is not UTF-8\n")),
+        ("echo '{' | gqlfmt --stdin-path $'\\xff' 2>&1 >&- | head -c 7", (0, "\ufffd:2:1".encode(), "")),
+    ]
+    for command, wanted in cases:
+        run = other("bash", "-c", command, env=env)
+        expect(command, (run.returncode, run.stdout, run.stderr.decode()), wanted)
 
 
 @test

@@ -8,8 +8,8 @@ import signal
 import tempfile
 
 from .running import (
-    FORMATTED, SHORT, expect, expect_failure, given, gqlfmt, here, mode_of, needs_library, needs_root, new, other,
-    read, results, test,
+    FORMATTED, SHORT, expect, expect_failure, given, gqlfmt, here, mode_of, needs_library, needs_root, new, on_the_path,
+    other, read, results, test,
 )
 
 NOBODY = 65534
@@ -66,6 +66,20 @@ def files_of_others():
     with nobody() as run:
         expect_failure("a file of root", run("--write", "a.graphql"), message)
     expect("the file of root", (read(path), here()), (SHORT, ["a.graphql"]))
+
+
+@test
+def readers_that_go_away():
+    """That is no error, and the inputs that are left are not read."""
+    env = on_the_path()
+    new("a.graphql", b"{" + b" field" * 50000 + b"}\n")
+    new("b.graphql", b"{")
+    for task, status in (("", 0), ("--check", 1), ("--diff", 1)):
+        command = f"{{ sleep 0.2; gqlfmt {task} a.graphql b.graphql; echo $? >&2; }} | true"
+        run = other("bash", "-c", command, env=env)
+        expect(command, (run.stdout, run.stderr), (b"", b"%d\n" % status))
+    run = other("bash", "-c", "{ sleep 0.2; gqlfmt --help; echo $? >&2; } | true", env=env)
+    expect("--help", (run.stdout, run.stderr), (b"", b"0\n"))
 
 
 @test

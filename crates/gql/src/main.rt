@@ -13,14 +13,35 @@ use crate::counted::Counted;
 use crate::engine::run;
 use crate::error::{RunError, status};
 use graphql_parser::Style;
+use std::env::{Env, FillError};
 use std::process::ExitCode;
 use std::{env, io};
+
+/// The environment without the program's path, which can be any bytes: the first argument is the one after it.
+#[derive(Clone, Copy)]
+struct AfterPath<'a>(&'a HostRuntime);
+
+impl Env for AfterPath<'_> {
+    fn arg(&self, i: usize, buf: &mut [u8]) -> Result<usize, FillError> {
+        match i.checked_add(1) {
+            Some(next) => self.0.arg(next, buf),
+            None => Err(FillError::NotPresent),
+        }
+    }
+
+    fn var(&self, name: &str, buf: &mut [u8]) -> Result<usize, FillError> {
+        self.0.var(name, buf)
+    }
+
+    fn var_at(&self, i: usize, buf: &mut [u8]) -> Result<usize, FillError> {
+        self.0.var_at(i, buf)
+    }
+}
 
 /// The command and the style from the arguments; `None` if the arguments are invalid or cannot be read.
 fn words(rt: &HostRuntime) -> Option<(Command, Style)> {
     let mut words = Vec::new(rt.alloc());
-    let args = env::args(rt).ok()?;
-    for word in args.skip(1) {
+    for word in env::args(&(AfterPath(rt), rt.alloc())).ok()? {
         words.push(word).ok()?;
     }
     read_words(words)

@@ -1,5 +1,6 @@
 //! The arguments of the program.
 
+use crate::words::unreadable;
 use clap::error::ErrorKind;
 use clap::{Arg, ArgAction, ArgGroup, ArgMatches, Command, Error, value_parser};
 use graphql_fmt::{FormatOptions, Language};
@@ -184,6 +185,7 @@ fn inputs_of(
 ) -> Result<Inputs, AllocError> {
     if is_standard_input(paths) {
         let name = stdin_path.unwrap_or(STANDARD_INPUT);
+        let name = unreadable(name).unwrap_or(name);
         return Ok(Inputs::Standard(String::from_str(alloc, name)?));
     }
     let paths = paths.iter().map(|path| -> Result<String, AllocError> {

@@ -10,6 +10,9 @@ pub enum InputError {
     /// The file, the folder or standard input cannot be read.
     #[error("cannot be read: {0}")]
     Read(io::Error),
+    /// The path is not UTF-8.
+    #[error("has a name that is not UTF-8")]
+    Name,
     /// A name in a folder is not UTF-8.
     #[error("contains a name that is not UTF-8")]
     EntryName,
@@ -31,6 +34,9 @@ pub enum InputError {
     /// The new text cannot be written, or cannot take the place of the old one.
     #[error("cannot be rewritten: {0}")]
     Write(io::Error),
+    /// All names for the new file are taken in the folder.
+    #[error("cannot be rewritten: its folder has all of .gqlfmt-0 to .gqlfmt-999")]
+    NoName,
     /// The new file cannot get the owner and the group of the old one.
     #[error("cannot be rewritten: its owner and group cannot be kept: {0}")]
     Owner(io::Error),

@@ -10,39 +10,52 @@ mod message;
 mod name;
 mod outcome;
 mod run;
+mod words;
 
 use crate::arguments::read_arguments;
+use crate::name::Shown;
 use crate::run::run_request;
+use crate::words::{unreadable_option, words};
+use clap::Error;
+use std::io::ErrorKind;
 use std::process::ExitCode;
-use std::{env, io};
 
-/// The arguments, of which the first is the program's name.
-fn words(rt: &HostRuntime) -> io::Result<Vec<String>> {
-    Ok(env::args(rt)?.collect(rt.alloc())?)
+/// Prints what `clap` says in place of a request: the help, the version or what is wrong with the arguments. The exit
+/// status. If the reader of standard output has gone away, that is no error.
+fn print_help(rt: &HostRuntime, help: &Error) -> u8 {
+    let printed = help.print(rt);
+    if help.use_stderr() {
+        return 2;
+    }
+    match printed {
+        Ok(()) => 0,
+        Err(error) if error.kind() == ErrorKind::BrokenPipe => 0,
+        Err(error) => {
+            let _ = eprintln!(rt; "gqlfmt: standard output cannot be written: {error}");
+            2
+        }
+    }
+}
+
+/// Does what the words of the command line ask for; the exit status.
+fn run_words(rt: &HostRuntime, words: &[String]) -> u8 {
+    if let Some(name) = unreadable_option(words) {
+        let name = Shown(name);
+        let _ = eprintln!(rt; "gqlfmt: an option is not UTF-8: {name}");
+        return 2;
+    }
+    match read_arguments(rt.alloc(), words) {
+        Ok(request) => run_request(rt, &request),
+        Err(error) => print_help(rt, &error),
+    }
 }
 
 fn main(rt: HostRuntime) -> ExitCode {
-    let words = match words(&rt) {
-        Ok(words) => words,
-        Err(error) => {
-            let _ = eprintln!(rt; "gqlfmt: the arguments cannot be read: {error}");
-            return ExitCode::from(2u8);
-        }
-    };
-    match read_arguments(rt.alloc(), &words) {
-        Ok(request) => ExitCode::from(run_request(&rt, &request)),
-        Err(error) => {
-            let printed = error.print(&rt);
-            if error.use_stderr() {
-                return ExitCode::from(2u8);
-            }
-            match printed {
-                Ok(()) => ExitCode::from(0u8),
-                Err(reason) => {
-                    let _ = eprintln!(rt; "gqlfmt: standard output cannot be written: {reason}");
-                    ExitCode::from(2u8)
-                }
-            }
+    match words(&rt, rt.alloc()) {
+        Ok(words) => ExitCode::from(run_words(&rt, &words)),
+        Err(_) => {
+            let _ = eprintln!(rt; "gqlfmt: out of memory");
+            ExitCode::from(2u8)
         }
     }
 }

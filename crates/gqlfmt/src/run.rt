@@ -4,14 +4,15 @@ ghost use Rattle.std.specs.Io.KnownBytes.{Appends};
 ghost use Rattle.gqlfmt.specs.{IsDone, IsOutcomeOf};
 
 use crate::action::{Action, decide};
-use crate::arguments::{Inputs, Request};
+use crate::arguments::{Inputs, Request, Task};
 use crate::error::InputError;
 use crate::files::{Source, find_files, read_file, read_text, replace_text};
 use crate::name::Shown;
 use crate::outcome::{Outcome, Tally};
+use crate::words::unreadable;
 use std::fs::{File, Metadata};
 use std::io;
-use std::io::{Read, Write};
+use std::io::{ErrorKind, Read, Write};
 use std::rt::Files;
 
 /// Writes a text to standard output.
@@ -144,6 +145,10 @@ fn format_path<R: Files<File = File> + AllocGlobal + Eprint + Clone + Drop, W: W
     path: &str,
     tally: &mut Tally,
 ) -> io::Result<()> {
+    if let Some(name) = unreadable(path) {
+        tally.count(fail(rt, name, &InputError::Name));
+        return Ok(());
+    }
     let found = match find_files(rt, path) {
         Ok(found) => found,
         Err(error) => {
@@ -184,23 +189,45 @@ fn format_inputs<R: Files<File = File> + AllocGlobal + Eprint + Input + Clone + 
     Ok(())
 }
 
-/// Runs a request; the exit status. If standard output cannot be written, the inputs that are left are not read.
-pub fn run_request<R: Files<File = File> + AllocGlobal + Print + Eprint + Input + Clone + Drop>(
-    rt: &R,
-    request: &Request,
-) -> u8 {
-    let mut output = io::writer(rt);
-    let mut tally = Tally::new();
-    if let Err(error) = format_inputs(rt, &mut output, request, &mut tally) {
-        let _ = eprintln!(rt; "gqlfmt: standard output cannot be written: {error}");
-        tally.count(Outcome::Failed);
-    }
-    match tally.summary(rt.alloc(), request.task) {
+/// Writes the line of counts to standard error, if there is one.
+fn summarize<R: AllocGlobal + Eprint>(rt: &R, task: Task, tally: &mut Tally) {
+    match tally.summary(rt.alloc(), task) {
         Ok(Some(summary)) => {
             let _ = eprintln!(rt; "{summary}");
         }
         Ok(None) => {}
         Err(_) => tally.count(Outcome::Failed),
     }
+}
+
+/// What becomes of an input if the reader of standard output goes away while it is written. For `Task::Check` and
+/// `Task::Diff` something is written only if the input would change.
+fn outcome_unread(task: Task) -> Outcome {
+    match task {
+        Task::Check | Task::Diff => Outcome::Differs,
+        Task::Print | Task::Write => Outcome::Printed,
+    }
+}
+
+/// Runs a request; the exit status. If standard output cannot be written, the inputs that are left are not read. If its
+/// reader has gone away, that is no error.
+pub fn run_request<R: Files<File = File> + AllocGlobal + Print + Eprint + Input + Clone + Drop>(
+    rt: &R,
+    request: &Request,
+) -> u8 {
+    let mut output = io::writer(rt);
+    let mut tally = Tally::new();
+    match format_inputs(rt, &mut output, request, &mut tally) {
+        Ok(()) => {}
+        Err(error) if error.kind() == ErrorKind::BrokenPipe => {
+            tally.count(outcome_unread(request.task));
+            return tally.status();
+        }
+        Err(error) => {
+            let _ = eprintln!(rt; "gqlfmt: standard output cannot be written: {error}");
+            tally.count(Outcome::Failed);
+        }
+    }
+    summarize(rt, request.task, &mut tally);
     tally.status()
 }

@@ -3,6 +3,7 @@
 mod ahead;
 mod columns;
 mod context;
+mod definitions;
 mod frames;
 mod inline;
 mod line;

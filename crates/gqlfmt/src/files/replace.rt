@@ -8,7 +8,7 @@ use std::os::unix::fs::{MetadataExt, OpenOptionsExt, fchown};
 use std::rt::Files;
 use std::{fs, io};
 
-/// How many names are tried for the temporary file.
+/// How many names are tried for the temporary file. `InputError::NoName` names them.
 const TRIES: usize = 1000;
 
 /// A new file in the folder of another file, which only its owner can read and write.
@@ -65,7 +65,7 @@ fn after_opening<R: Files>(rt: &R, path: &str, before: &Metadata) -> Result<Meta
 fn new_file_beside<R: Files<File = File> + AllocGlobal>(
     rt: &R,
     path: &str,
-) -> io::Result<Temporary> {
+) -> Result<Temporary, InputError> {
     let folder = path.rsplit_once('/').map_or(".", |(folder, _)| folder);
     let mut options = OpenOptions::new();
     options.write(true).create_new(true).mode(0o600);
@@ -74,10 +74,10 @@ fn new_file_beside<R: Files<File = File> + AllocGlobal>(
         match options.open(rt, path.as_str()) {
             Ok(file) => return Ok(Temporary { path, file }),
             Err(error) if error.kind() == ErrorKind::AlreadyExists => {}
-            Err(error) => return Err(error),
+            Err(error) => return Err(InputError::Write(error)),
         }
     }
-    Err(io::Error::from(ErrorKind::AlreadyExists))
+    Err(InputError::NoName)
 }
 
 /// Gives a new file the owner and the group of an old one.
@@ -121,7 +121,7 @@ fn replace_regular<R: Files<File = File> + AllocGlobal>(
     check_unchanged(rt, path, old)?;
     check_writable(rt, path).map_err(InputError::Write)?;
     let old = &after_opening(rt, path, old)?;
-    let mut temporary = new_file_beside(rt, path).map_err(InputError::Write)?;
+    let mut temporary = new_file_beside(rt, path)?;
     let filled = fill(&mut temporary.file, text, old);
     let replaced = filled.and_then(|()| put_in_place(rt, temporary.path.as_str(), path, old));
     if replaced.is_err() {

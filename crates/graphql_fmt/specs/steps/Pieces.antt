@@ -1,9 +1,9 @@
 -- The tokens and the comments of an input as the program has them.
-use Rattle.std.specs.Prelude.{◌≡◌, ◌==◌, ℕ, Bool, true, not, ◌&&◌, List, [], ◌∷◌, ◌++◌, map}
-use Rattle.std.specs.List.{list_all, list_any}
+use Rattle.std.specs.Prelude.{◌≡◌, ℕ, true, List, [], ◌∷◌, ◌++◌, map}
+use Rattle.std.specs.List.{list_all}
 use Rattle.graphql_core.specs.declared.tokenizer.token.Kind.TheVariants.{BlockString}
 use Rattle.graphql_core.specs.declared.tokenizer.element.ElementKind.{ElementKind}
-use Rattle.graphql_core.specs.{Meaning, TokenOf, Stands, IsCutInto, is_in_line, block_string_of, has_block_lines}
+use Rattle.graphql_core.specs.{Meaning, TokenOf, Stands, IsCutInto, is_in_line}
 use Rattle.graphql_core.specs.lexical.Elements.{element_kind}
 use Rattle.graphql_core.specs.lexical.Lexical.{Piece as Element}
 use Rattle.graphql_core.specs.declared.tokenizer.piece.Nesting.{Nesting}
@@ -25,19 +25,8 @@ abbrev pub IsSpelling : PieceKind → List ℕ → Type 0
 IsSpelling (piece.Token k) s = (n : Nesting) × (rest : List ℕ) × Stands s (TokenOf k n) rest
 IsSpelling piece.Comment s = (line : List ℕ) × (s ≡ 35 ∷ line) × (list_all is_in_line line ≡ true) × (trimmed s ≡ s)
 
-abbrev pub is_return : ℕ → Bool
-is_return b = b == 13
-
--- whether a block string of this value is written with any indentation
-abbrev pub is_indentable : List ℕ → Bool
-is_indentable value = has_block_lines value && not (list_any is_return value)
-
--- a block string whose value can be written with any indentation
-abbrev pub IsIndentable : PieceKind → (spelling : List ℕ) → Type 0
-IsIndentable kind spelling = (kind ≡ piece.Token BlockString) × (has_block_lines (block_string_of spelling) ≡ true)
-
 abbrev pub IsPiece : Piece → Type 0
-IsPiece p = IsSpelling p.kind p.text.now × (p.is_indented ≡ true → IsIndentable p.kind p.text.now)
+IsPiece p = IsSpelling p.kind p.text.now × (p.is_indented ≡ true → p.kind ≡ piece.Token BlockString)
 
 abbrev pub ArePieces : List Piece → Type 0
 ArePieces [] = Unit {0}

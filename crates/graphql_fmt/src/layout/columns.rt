@@ -16,7 +16,7 @@ fn columns_of(line: &str) -> usize {
 /// Whether a token is written on several lines.
 #[inline(always)]
 pub fn has_lines(symbol: Symbol, piece: &Piece<'_>) -> bool {
-    symbol == Symbol::BlockString && piece.has_lines()
+    matches!(symbol, Symbol::BlockString) && piece.has_lines()
 }
 
 /// The columns of a token up to its first line end.

@@ -4,6 +4,7 @@ use crate::layout::role::{Enclosure, Role};
 use crate::layout::symbol::Symbol;
 use crate::options::Language;
 use crate::pieces::Piece;
+use graphql_core::helpers::Punctuator;
 
 /// What the last token was.
 #[derive(Clone, Copy, Debug, PartialEq, Eq)]
@@ -215,6 +216,7 @@ impl Context {
         } else {
             Enclosure::Definitions
         };
+        self.last = Last::Other;
         role
     }
 
@@ -225,13 +227,12 @@ impl Context {
             Enclosure::Block | Enclosure::Definitions => self.last == Last::Colon,
             _ => false,
         };
-        let role = self.value_role();
         self.within = if is_type {
             Enclosure::Type
         } else {
             Enclosure::List
         };
-        role
+        self.read_value(Last::Other)
     }
 
     /// Reads `{`.
@@ -239,9 +240,8 @@ impl Context {
         let is_block = matches!(self.within, Enclosure::Document | Enclosure::Block)
             && self.last != Last::Equals;
         if !is_block {
-            let role = self.value_role();
             self.within = Enclosure::Object;
-            return role;
+            return self.read_value(Last::Other);
         }
         let role = if self.begins_operation() {
             Role::Item
@@ -249,16 +249,6 @@ impl Context {
             Role::Body
         };
         self.within = Enclosure::Block;
-        role
-    }
-
-    /// Reads an opening bracket.
-    fn read_opener(&mut self, symbol: Symbol) -> Role {
-        let role = match symbol {
-            Symbol::OpenParen => self.read_open_paren(),
-            Symbol::OpenBracket => self.read_open_bracket(),
-            _ => self.read_open_brace(),
-        };
         self.last = Last::Other;
         role
     }
@@ -269,6 +259,28 @@ impl Context {
         role
     }
 
+    /// Reads a punctuator.
+    fn read_punctuator(&mut self, punctuator: Punctuator) -> Role {
+        match punctuator {
+            Punctuator::Dollar => self.read_value(Last::Dollar),
+            Punctuator::Bang => self.read_other(Role::Tight, Last::Other),
+            Punctuator::Colon => self.read_other(Role::Tight, Last::Colon),
+            Punctuator::Spread => self.read_other(Role::Item, Last::Spread),
+            Punctuator::Ampersand | Punctuator::Pipe => {
+                self.read_other(Role::Member, Last::Separator)
+            }
+            Punctuator::Equals => self.read_equals(),
+            Punctuator::At => self.read_at(),
+            Punctuator::OpenParen => self.read_open_paren(),
+            Punctuator::OpenBracket => self.read_open_bracket(),
+            Punctuator::OpenBrace => self.read_open_brace(),
+            Punctuator::CloseParen | Punctuator::CloseBracket => {
+                self.read_other(Role::End, Last::Other)
+            }
+            Punctuator::CloseBrace => self.read_other(Role::End, Last::CloseBrace),
+        }
+    }
+
     /// Reads the next token: its role. A closing bracket leaves `within` as it is.
     pub fn read(&mut self, symbol: Symbol, piece: &Piece<'_>) -> Role {
         match symbol {
@@ -276,18 +288,7 @@ impl Context {
             Symbol::Name => self.read_name(piece),
             Symbol::StringValue | Symbol::BlockString => self.read_string(),
             Symbol::Number => self.read_value(Last::Other),
-            Symbol::Dollar => self.read_value(Last::Dollar),
-            Symbol::Bang => self.read_other(Role::Tight, Last::Other),
-            Symbol::Colon => self.read_other(Role::Tight, Last::Colon),
-            Symbol::Spread => self.read_other(Role::Item, Last::Spread),
-            Symbol::Ampersand | Symbol::Pipe => self.read_other(Role::Member, Last::Separator),
-            Symbol::Equals => self.read_equals(),
-            Symbol::At => self.read_at(),
-            Symbol::OpenParen | Symbol::OpenBracket | Symbol::OpenBrace => {
-                self.read_opener(symbol)
-            }
-            Symbol::CloseParen | Symbol::CloseBracket => { self.read_other(Role::End, Last::Other) }
-            Symbol::CloseBrace => self.read_other(Role::End, Last::CloseBrace),
+            Symbol::Punctuator(punctuator) => self.read_punctuator(punctuator),
         }
     }
 }

@@ -1,6 +1,7 @@
 //! The levels of lines.
 
 use crate::layout::role::Role;
+use crate::pieces::Piece;
 use std::alloc::{AllocError, Global};
 
 /// A document, or brackets whose items each begin a line.
@@ -12,6 +13,23 @@ struct Frame {
     item_level: usize,
     /// Whether the directives and the members of the last item begin lines.
     is_item_broken: bool,
+    /// Whether the last item ends with directives or members so far.
+    has_chain: bool,
+    /// The indentation in the input of the last item, if it begins a line there.
+    item_indent: Option<usize>,
+}
+
+impl Frame {
+    /// Before the first item, which is at this level.
+    fn at_level(level: usize) -> Self {
+        Frame {
+            level,
+            item_level: level,
+            is_item_broken: false,
+            has_chain: false,
+            item_indent: None,
+        }
+    }
 }
 
 /// The brackets around a token whose items begin lines.
@@ -27,11 +45,7 @@ impl Frames {
     /// The document.
     pub fn new(alloc: Global) -> Self {
         Frames {
-            frame: Frame {
-                level: 0,
-                item_level: 0,
-                is_item_broken: false,
-            },
+            frame: Frame::at_level(0),
             outer: Vec::new(alloc),
         }
     }
@@ -63,6 +77,18 @@ impl Frames {
         self.frame.is_item_broken
     }
 
+    /// Whether the last item ends with directives or members so far.
+    pub fn has_chain(&self) -> bool {
+        self.frame.has_chain
+    }
+
+    /// Whether a piece is indented further in the input than the last item. That must begin a line there.
+    pub fn is_indented(&self, piece: &Piece<'_>) -> bool {
+        self.frame
+            .item_indent
+            .is_some_and(|indent| piece.indent > indent)
+    }
+
     /// Lets the directives and the members of the last item begin lines.
     pub fn break_item(&mut self) {
         self.frame.is_item_broken = true;
@@ -70,23 +96,31 @@ impl Frames {
 
     /// Goes past a token of this role. A closing bracket leaves the innermost brackets.
     #[inline]
-    pub fn update(&mut self, role: Role) {
+    pub fn update(&mut self, role: Role, piece: &Piece<'_>) {
         let level = self.frame.level;
         match role {
             Role::Item => {
-                self.frame.item_level = level;
-                self.frame.is_item_broken = false;
+                self.frame = Frame {
+                    item_indent: piece.begins_line.then_some(piece.indent),
+                    ..Frame::at_level(level)
+                };
             }
-            Role::Described | Role::Lead => self.frame.item_level = level,
+            Role::Described => self.frame.item_level = level,
+            Role::Lead => {
+                self.frame.item_level = level;
+                self.frame.has_chain = true;
+            }
             Role::Directive | Role::Member => {
                 self.frame.item_level = level.saturating_add(1);
+                self.frame.has_chain = true;
             }
+            Role::Body => self.frame.has_chain = false,
             Role::End => {
                 if let Some(frame) = self.outer.pop() {
                     self.frame = frame;
                 }
             }
-            Role::Tight | Role::Spaced | Role::Variables | Role::Arguments | Role::Body => {}
+            Role::Tight | Role::Spaced | Role::Variables | Role::Arguments => {}
         }
     }
 
@@ -94,11 +128,7 @@ impl Frames {
     pub fn enter(&mut self, level: usize) -> Result<(), AllocError> {
         let level = level.saturating_add(1);
         self.outer.push(self.frame)?;
-        self.frame = Frame {
-            level,
-            item_level: level,
-            is_item_broken: false,
-        };
+        self.frame = Frame::at_level(level);
         Ok(())
     }
 }

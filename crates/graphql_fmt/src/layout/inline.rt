@@ -3,19 +3,20 @@
 use crate::layout::role::Role;
 use crate::layout::symbol::Symbol;
 use crate::pieces::Gap;
+use graphql_core::helpers::Punctuator;
 
 /// What comes before an item in its line.
 fn before_item(before: Symbol) -> Gap {
     match before {
-        Symbol::OpenParen | Symbol::OpenBracket => Gap::Nothing,
-        Symbol::OpenBrace => Gap::Space,
+        Symbol::Punctuator(Punctuator::OpenParen | Punctuator::OpenBracket) => Gap::Nothing,
+        Symbol::Punctuator(Punctuator::OpenBrace) => Gap::Space,
         _ => Gap::Comma,
     }
 }
 
 /// What comes before a closing bracket in its line.
 fn before_end(before: Symbol, symbol: Symbol) -> Gap {
-    if symbol == Symbol::CloseBrace && before != Symbol::OpenBrace {
+    if symbol.is_close_brace() && !before.is_opener() {
         Gap::Space
     } else {
         Gap::Nothing

@@ -1,11 +1,14 @@
 //! Where pieces are written, one after another.
 
+mod comments;
 mod groups;
 
-use crate::layout::ahead::next_role;
+use crate::layout::columns::has_lines;
+use crate::layout::definitions::Definitions;
 use crate::layout::frames::Frames;
 use crate::layout::inline::inline_gap;
 use crate::layout::line::Line;
+use crate::layout::placing::comments::Comments;
 use crate::layout::reader::Reader;
 use crate::layout::role::Role;
 use crate::layout::symbol::{Symbol, symbol_of};
@@ -19,31 +22,26 @@ pub struct Placer {
     options: FormatOptions,
     reader: Reader,
     frames: Frames,
+    definitions: Definitions,
     line: Line,
     /// What comes before each of them.
     gaps: Vec<Gap>,
-    /// The last piece.
+    /// The last token; a comment before the first one.
     before: Symbol,
-    /// The role of the token after the last comments, if a comment needed it.
+    /// The comments after it.
+    comments: Comments,
+    /// The role of the token after these comments, if one of them needed it.
     role_after_comments: Option<Role>,
-    /// Whether the last piece is a comment on a separate line before an item.
-    follows_item_comment: bool,
-    /// Whether the last piece is a comment after an opening bracket, in its line.
-    follows_opener_comment: bool,
-    /// Whether a comment that comes next can belong to the definition before it.
-    can_end_definition: bool,
-    /// The indentation in the input of the last definition.
-    definition_indent: usize,
 }
 
 /// Whether a token is a separator of members that stays in the line of the token before it, as in the input, because a
 /// comment comes next. So a comment in this line stays with the member before it.
 fn ends_line(symbol: Symbol, piece: &Piece<'_>, rest: &[Piece<'_>]) -> bool {
-    matches!(symbol, Symbol::Ampersand | Symbol::Pipe)
+    symbol.is_separator()
         && !piece.begins_line
         && rest
             .first()
-            .is_some_and(|next| symbol_of(next) == Symbol::Comment)
+            .is_some_and(|next| symbol_of(next).is_comment())
 }
 
 impl Placer {
@@ -58,20 +56,29 @@ impl Placer {
             options: *options,
             reader: Reader::new(alloc, language),
             frames: Frames::new(alloc),
+            definitions: Definitions::NONE,
             line: Line::FIRST,
             gaps: Vec::with_capacity(alloc, count)?,
             before: Symbol::Comment,
+            comments: Comments::Nothing,
             role_after_comments: None,
-            follows_item_comment: false,
-            follows_opener_comment: false,
-            can_end_definition: false,
-            definition_indent: 0,
         })
     }
 
     /// What comes before each piece.
-    pub fn into_gaps(self) -> Vec<Gap> {
+    pub fn into_gaps(mut self) -> Vec<Gap> {
+        self.take_back_empty_line();
         self.gaps
+    }
+
+    /// Takes back the empty line that was added before the last definition, unless it stays.
+    fn take_back_empty_line(&mut self) {
+        let Some(index) = self.definitions.taken_back() else {
+            return;
+        };
+        if let Some(Gap::Line { is_blank, .. }) = self.gaps.get_mut(index) {
+            *is_blank = false;
+        }
     }
 
     /// A line end, and the beginning of a line at this level.
@@ -83,15 +90,22 @@ impl Placer {
         }
     }
 
-    /// Whether an empty line comes before a line that begins with a piece at the place of an item or at the end.
+    /// Whether an empty line of the input before a piece stays, at the place of an item or at the end.
     fn is_blank_before(&self, piece: &Piece<'_>) -> bool {
-        piece.after_blank && !self.before.is_opener() && !self.follows_opener_comment
+        let is_first_line = matches!(self.comments, Comments::Nothing | Comments::InLine);
+        piece.after_blank && !(is_first_line && self.before.is_opener())
     }
 
-    /// Whether an empty line comes before a line that begins with an item, or with a comment before an item.
-    fn is_blank_before_item(&self, piece: &Piece<'_>) -> bool {
-        let begins_definition = self.frames.is_document() && !self.follows_item_comment;
-        begins_definition || self.is_blank_before(piece)
+    /// A line end before an item, or before a comment that comes before an item. An empty line is added before a
+    /// definition and the comments before it.
+    fn new_line_before_item(&mut self, piece: &Piece<'_>) -> Gap {
+        let is_kept = self.is_blank_before(piece);
+        let begins_definition = self.frames.is_document() && self.comments != Comments::BeforeItem;
+        if begins_definition && !is_kept {
+            self.definitions.add_empty_line(self.gaps.len());
+        }
+        let level = self.frames.level();
+        self.new_line(level, is_kept || begins_definition)
     }
 
     /// Whether a token of this role begins a line.
@@ -101,20 +115,21 @@ impl Placer {
             Role::Directive => self.frames.is_item_broken(),
             _ => false,
         };
-        is_broken || self.before == Symbol::Comment
+        is_broken || self.comments != Comments::Nothing
     }
 
     /// What comes before a token of this role.
     fn gap(&mut self, symbol: Symbol, role: Role, piece: &Piece<'_>) -> Gap {
         if self.gaps.is_empty() {
-            return Gap::Nothing;
+            Gap::Nothing
+        } else if !self.begins_line(role) {
+            inline_gap(self.before, role, symbol)
+        } else if role == Role::Item {
+            self.new_line_before_item(piece)
+        } else {
+            let level = self.frames.level_of(role);
+            self.new_line(level, false)
         }
-        if !self.begins_line(role) {
-            return inline_gap(self.before, role, symbol);
-        }
-        let is_blank = role == Role::Item && self.is_blank_before_item(piece);
-        let level = self.frames.level_of(role);
-        self.new_line(level, is_blank)
     }
 
     /// Places a gap after the last piece.
@@ -125,6 +140,18 @@ impl Placer {
         Ok(())
     }
 
+    /// Begins a definition if a token of this role begins one. Otherwise lets the last definition take several lines if
+    /// the token, after this gap, is in another line or has several.
+    #[inline]
+    fn update_definitions(&mut self, gap: Gap, symbol: Symbol, role: Role, piece: &Piece<'_>) {
+        if role == Role::Item && self.frames.is_document() {
+            self.take_back_empty_line();
+            self.definitions.begin();
+        } else if matches!(gap, Gap::Line { .. }) || has_lines(symbol, piece) {
+            self.definitions.break_line();
+        }
+    }
+
     /// Places a token after a gap.
     fn push(
         &mut self,
@@ -133,90 +160,26 @@ impl Placer {
         role: Role,
         piece: &Piece<'_>,
     ) -> Result<(), AllocError> {
+        self.update_definitions(gap, symbol, role, piece);
         self.place_gap(gap)?;
         self.line.go_past_token(symbol, piece);
-        self.frames.update(role);
+        self.frames.update(role, piece);
         self.before = symbol;
+        self.comments = Comments::Nothing;
         self.role_after_comments = None;
-        self.follows_item_comment = false;
-        self.follows_opener_comment = false;
-        Ok(())
-    }
-
-    /// The role of the first token after comments.
-    fn role_after_comments(&mut self, rest: &[Piece<'_>]) -> Role {
-        let context = self.reader.context();
-        *self
-            .role_after_comments
-            .get_or_insert_with(|| next_role(context, rest))
-    }
-
-    /// What comes before a comment on a separate line, if the next token has this role.
-    fn gap_before_comment(&mut self, role: Role, piece: &Piece<'_>) -> Gap {
-        let is_blank = match role {
-            Role::Item => self.is_blank_before_item(piece),
-            Role::End => self.is_blank_before(piece),
-            _ => false,
-        };
-        let level = match role {
-            Role::End => self.frames.level(),
-            _ => self.frames.level_of(role),
-        };
-        self.new_line(level, is_blank)
-    }
-
-    /// Whether a comment on a separate line belongs to the definition before it, if the next token has this role.
-    /// Without indentation, the output would not show that.
-    fn ends_definition(&self, role: Role, piece: &Piece<'_>) -> bool {
-        self.can_end_definition
-            && self.frames.is_document()
-            && matches!(role, Role::Item | Role::End)
-            && piece.indent > self.definition_indent
-            && self.options.indent > 0
-    }
-
-    /// What comes before a comment on a separate line that comes before `rest`.
-    fn gap_before_separate(&mut self, piece: &Piece<'_>, rest: &[Piece<'_>]) -> Gap {
-        let role = self.role_after_comments(rest);
-        if self.ends_definition(role, piece) {
-            let level = self.frames.level_of(Role::Member);
-            return self.new_line(level, piece.after_blank);
-        }
-        let gap = self.gap_before_comment(role, piece);
-        self.follows_item_comment = role == Role::Item;
-        self.can_end_definition = false;
-        gap
-    }
-
-    /// Places a comment that comes before `rest`.
-    fn place_comment(&mut self, piece: &Piece<'_>, rest: &[Piece<'_>]) -> Result<(), AllocError> {
-        if self.before != Symbol::Comment {
-            self.can_end_definition = self.before != Symbol::CloseBrace;
-        }
-        let gap = if piece.begins_line {
-            self.gap_before_separate(piece, rest)
-        } else {
-            Gap::Space
-        };
-        self.place_gap(gap)?;
-        self.follows_opener_comment = self.before.is_opener() && !piece.begins_line;
-        self.before = Symbol::Comment;
         Ok(())
     }
 
     /// Places a piece that comes before `rest`, and some of the next pieces: the number of these.
     pub fn place(&mut self, piece: &Piece<'_>, rest: &[Piece<'_>]) -> Result<usize, AllocError> {
         let symbol = symbol_of(piece);
-        if symbol == Symbol::Comment {
+        if symbol.is_comment() {
             self.place_comment(piece, rest)?;
             return Ok(0);
         }
         let role = self.reader.read(symbol, piece)?;
-        if role == Role::Item && self.frames.is_document() {
-            self.definition_indent = piece.indent;
-        }
         if role == Role::Directive && !self.frames.is_item_broken() {
-            return self.place_directives(piece, rest);
+            return self.place_directives(symbol, piece, rest);
         }
         if ends_line(symbol, piece, rest) {
             // It leads the next member, which begins a line.

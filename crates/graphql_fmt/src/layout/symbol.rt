@@ -1,10 +1,11 @@
 //! What a piece is, without its spelling.
 
 use crate::pieces::{Piece, PieceKind};
+use graphql_core::helpers::Punctuator;
 use graphql_core::tokenizer::Kind;
 
 /// A token without its spelling, or a comment.
-#[derive(Clone, Copy, Debug, PartialEq, Eq)]
+#[derive(Clone, Copy, Debug)]
 pub enum Symbol {
     /// A comment.
     Comment,
@@ -16,43 +17,25 @@ pub enum Symbol {
     StringValue,
     /// A string in triple quotes.
     BlockString,
-    /// `!`
-    Bang,
-    /// `$`
-    Dollar,
-    /// `&`
-    Ampersand,
-    /// `(`
-    OpenParen,
-    /// `)`
-    CloseParen,
-    /// `...`
-    Spread,
-    /// `:`
-    Colon,
-    /// `=`
-    Equals,
-    /// `@`
-    At,
-    /// `[`
-    OpenBracket,
-    /// `]`
-    CloseBracket,
-    /// `{`
-    OpenBrace,
-    /// `|`
-    Pipe,
-    /// `}`
-    CloseBrace,
+    /// A punctuator.
+    Punctuator(Punctuator),
 }
 
 impl Symbol {
+    /// Whether it is a comment.
+    #[inline(always)]
+    pub fn is_comment(self) -> bool {
+        matches!(self, Symbol::Comment)
+    }
+
     /// Whether it is an opening bracket.
     #[inline(always)]
     pub fn is_opener(self) -> bool {
         matches!(
             self,
-            Symbol::OpenParen | Symbol::OpenBracket | Symbol::OpenBrace
+            Symbol::Punctuator(
+                Punctuator::OpenParen | Punctuator::OpenBracket | Punctuator::OpenBrace,
+            )
         )
     }
 
@@ -61,29 +44,46 @@ impl Symbol {
     pub fn is_closer(self) -> bool {
         matches!(
             self,
-            Symbol::CloseParen | Symbol::CloseBracket | Symbol::CloseBrace
+            Symbol::Punctuator(
+                Punctuator::CloseParen | Punctuator::CloseBracket | Punctuator::CloseBrace,
+            )
+        )
+    }
+
+    /// Whether it is `}`.
+    #[inline(always)]
+    pub fn is_close_brace(self) -> bool {
+        matches!(self, Symbol::Punctuator(Punctuator::CloseBrace))
+    }
+
+    /// Whether it separates members: `&` or `|`.
+    #[inline(always)]
+    pub fn is_separator(self) -> bool {
+        matches!(
+            self,
+            Symbol::Punctuator(Punctuator::Ampersand | Punctuator::Pipe)
         )
     }
 }
 
 /// The punctuator of this spelling.
 #[inline(always)]
-fn punctuator(spelling: &str) -> Symbol {
+fn punctuator(spelling: &str) -> Punctuator {
     match spelling.as_bytes().first().copied() {
-        Some(b'!') => Symbol::Bang,
-        Some(b'$') => Symbol::Dollar,
-        Some(b'&') => Symbol::Ampersand,
-        Some(b'(') => Symbol::OpenParen,
-        Some(b')') => Symbol::CloseParen,
-        Some(b':') => Symbol::Colon,
-        Some(b'=') => Symbol::Equals,
-        Some(b'@') => Symbol::At,
-        Some(b'[') => Symbol::OpenBracket,
-        Some(b']') => Symbol::CloseBracket,
-        Some(b'{') => Symbol::OpenBrace,
-        Some(b'|') => Symbol::Pipe,
-        Some(b'}') => Symbol::CloseBrace,
-        _ => Symbol::Spread,
+        Some(b'!') => Punctuator::Bang,
+        Some(b'$') => Punctuator::Dollar,
+        Some(b'&') => Punctuator::Ampersand,
+        Some(b'(') => Punctuator::OpenParen,
+        Some(b')') => Punctuator::CloseParen,
+        Some(b':') => Punctuator::Colon,
+        Some(b'=') => Punctuator::Equals,
+        Some(b'@') => Punctuator::At,
+        Some(b'[') => Punctuator::OpenBracket,
+        Some(b']') => Punctuator::CloseBracket,
+        Some(b'{') => Punctuator::OpenBrace,
+        Some(b'|') => Punctuator::Pipe,
+        Some(b'}') => Punctuator::CloseBrace,
+        _ => Punctuator::Spread,
     }
 }
 
@@ -92,7 +92,7 @@ fn punctuator(spelling: &str) -> Symbol {
 pub fn symbol_of(piece: &Piece<'_>) -> Symbol {
     match piece.kind {
         PieceKind::Comment => Symbol::Comment,
-        PieceKind::Token(Kind::Punctuator) => punctuator(piece.text),
+        PieceKind::Token(Kind::Punctuator) => Symbol::Punctuator(punctuator(piece.text)),
         PieceKind::Token(Kind::Name) => Symbol::Name,
         PieceKind::Token(Kind::IntValue | Kind::FloatValue) => Symbol::Number,
         PieceKind::Token(Kind::StringValue) => Symbol::StringValue,

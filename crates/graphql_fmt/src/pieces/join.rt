@@ -6,9 +6,9 @@ ghost use Rattle.graphql_fmt.specs.steps.Joining.{IsWrittenFor, gap_bytes};
 
 use crate::pieces::gap::{Gap, apart};
 use crate::pieces::piece::{Piece, PieceKind};
-use crate::pieces::raw::with_line_feeds;
+use crate::pieces::raw::{with_line_feeds, with_margin};
 use graphql_core::common::unquote_block_string;
-use graphql_core::format::print::{write_block, write_spaces};
+use graphql_core::format::print::{has_block_lines, write_block, write_spaces};
 use graphql_core::tokenizer::Kind;
 use std::alloc::{AllocError, Global};
 
@@ -62,7 +62,13 @@ fn push_spelling(
         return push_as_it_is(alloc, out, piece);
     }
     let value = unquote_block_string(alloc, piece.text)?;
-    write_block(out, &value, margin, margin)
+    if has_block_lines(&value) {
+        return write_block(out, &value, margin, margin);
+    }
+    match with_margin(alloc, piece.text, &value, margin)? {
+        Some(text) => out.push_str(&text),
+        None => push_as_it_is(alloc, out, piece),
+    }
 }
 
 /// The pieces, each after the gap with its index, and a line end after the last. Without a gap nothing comes between

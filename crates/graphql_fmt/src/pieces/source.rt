@@ -1,16 +1,12 @@
 //! An input as its pieces.
 ghost use Rattle.std.specs.Prelude.{◌≡◌, ◌≤◌, ◌/◌, ◌++◌, length, map, List, IfOk, OnOk, MatchOption};
-ghost use Rattle.std.specs.List.{list_any};
 ghost use Rattle.graphql_fmt.specs.{Kept, HasKept, kept_element, trimmed};
-ghost use Rattle.graphql_fmt.specs.steps.Pieces.{kept_piece, ArePieces, IsElement, IsSpelling, is_return};
-ghost use Rattle.graphql_fmt.specs.steps.Pieces.{is_indentable};
+ghost use Rattle.graphql_fmt.specs.steps.Pieces.{kept_piece, ArePieces, IsElement, IsSpelling};
 ghost use Rattle.graphql_fmt.specs.declared.pieces.piece.PieceKind.TheVariants as piece;
-ghost use Rattle.graphql_core.specs.{block_string_of};
 ghost use Rattle.graphql_core.specs.declared.tokenizer.token.Kind.TheVariants.{BlockString};
 
 use crate::pieces::piece::{Piece, PieceKind};
 use graphql_core::common::unquote_block_string;
-use graphql_core::format::print::has_block_lines;
 use graphql_core::tokenizer::{Element, ElementKind, Kind, first_element};
 use std::alloc::{AllocError, Global};
 
@@ -22,27 +18,31 @@ fn trimmed(comment: &str) -> &str
 }
 
 /// Whether a text has a CR.
-fn has_return(text: &str) -> bool
-    ensures { result ≡ list_any is_return text.now }
-{
+fn has_return(text: &str) -> bool {
     text.as_bytes().iter().any(|byte| *byte == b'\r')
 }
 
-/// Whether a block string of this value is written with any indentation. One with a CR in its value is not, since many
-/// programs read a CR as a line end.
-fn is_indentable_value(value: &str) -> bool
-    ensures { result ≡ is_indentable value.now }
-{
-    has_block_lines(value) && !has_return(value)
+/// Whether a line begins with anything except a space or a tab.
+fn begins_with_text(line: &str) -> bool {
+    !matches!(line.as_bytes().first().copied(), None | Some(b' ' | b'\t'))
 }
 
-/// Whether a block string is written with any indentation.
+/// Whether a block string of this value is written with any indentation: if some line of it begins with text. One with a
+/// CR in its value is not, since many programs read a CR as a line end.
+fn is_indentable_value(value: &str) -> bool {
+    value.split('\n').any(begins_with_text) && !has_return(value)
+}
+
+/// Whether a block string is written with any indentation. If its value is empty, that is so if it has several lines.
 fn is_indentable(alloc: Global, spelling: &str) -> Result<bool, AllocError>
     requires { IsSpelling (piece.Token BlockString) spelling.now }
-    ensures { IfOk result (λ b. b ≡ is_indentable (block_string_of spelling.now)) }
 {
     let value = unquote_block_string(alloc, spelling)?;
-    Ok(is_indentable_value(&value))
+    if value.is_empty() {
+        Ok(spelling.contains('\n'))
+    } else {
+        Ok(is_indentable_value(&value))
+    }
 }
 
 /// What comes between the last piece and the next one.

@@ -67,7 +67,7 @@ impl Placer {
     /// Places a piece of a group in the line. Whether it fits in `width` columns, and is a token of one line.
     fn place_in_line(&mut self, width: usize, piece: &Piece<'_>) -> Result<bool, AllocError> {
         let symbol = symbol_of(piece);
-        if symbol == Symbol::Comment || has_lines(symbol, piece) {
+        if symbol.is_comment() || has_lines(symbol, piece) {
             return Ok(false);
         }
         let role = self.reader.read(symbol, piece)?;
@@ -97,13 +97,12 @@ impl Placer {
         rest: &[Piece<'_>],
     ) -> Result<Option<usize>, AllocError> {
         let start = self.start();
-        let mut count = 0usize;
-        'pieces: for piece in rest {
-            count = count.saturating_add(1);
+        'pieces: for (index, piece) in rest.iter().enumerate() {
             if !self.place_in_line(width, piece)? {
                 break;
             }
             if self.reader.depth() < start.depth {
+                let count = index + 1;
                 if self.fits(width, rest.get(count..).unwrap_or(&[])) {
                     return Ok(Some(count));
                 }
@@ -123,31 +122,30 @@ impl Placer {
     ) -> Result<Option<usize>, AllocError> {
         let width = self.options.width;
         let start = self.start();
-        let mut count = 0usize;
-        'pieces: for piece in rest {
+        'pieces: for (count, piece) in rest.iter().enumerate() {
             let ahead = rest.get(count..).unwrap_or(&[]);
             let is_over = self.reader.depth() == start.depth
                 && !chain.is_continued(next_role(self.reader.context(), ahead));
-            if is_over && self.fits(width, ahead) {
+            if is_over && !self.has_comment_of_chain(ahead) && self.fits(width, ahead) {
                 return Ok(Some(count));
             }
             if is_over || !self.place_in_line(width, piece)? {
                 self.take_back(start)?;
                 return Ok(None);
             }
-            count = count.saturating_add(1);
         }
-        Ok(Some(count))
+        Ok(Some(rest.len()))
     }
 
-    /// Places the first directive of an item, and the directives in its line.
+    /// Places the `@` of the first directive of an item, and the directives in its line.
     pub fn place_directives(
         &mut self,
+        symbol: Symbol,
         piece: &Piece<'_>,
         rest: &[Piece<'_>],
     ) -> Result<usize, AllocError> {
-        let gap = self.gap(Symbol::At, Role::Directive, piece);
-        self.push(gap, Symbol::At, Role::Directive, piece)?;
+        let gap = self.gap(symbol, Role::Directive, piece);
+        self.push(gap, symbol, Role::Directive, piece)?;
         if let Some(count) = self.place_chain(Chain::Directives, rest)? {
             return Ok(count);
         }
@@ -155,7 +153,7 @@ impl Placer {
         self.frames.break_item();
         let level = self.frames.level_of(Role::Directive);
         let gap = self.new_line(level, false);
-        self.push(gap, Symbol::At, Role::Directive, piece)?;
+        self.push(gap, symbol, Role::Directive, piece)?;
         Ok(0)
     }
 
@@ -181,15 +179,15 @@ impl Placer {
     }
 
     /// Places the members after the last token if they stay in the line: if they fit, and none comes after a leading
-    /// `|`. Otherwise each begins a line, and so does each directive after them.
+    /// separator. Otherwise each begins a line, and so does each directive after them.
     pub fn place_members(&mut self, rest: &[Piece<'_>]) -> Result<usize, AllocError> {
         if self.frames.is_item_broken() {
             return Ok(0);
         }
-        let has_bar = rest
+        let has_separator = rest
             .first()
-            .is_some_and(|next| symbol_of(next) == Symbol::Pipe);
-        if !has_bar {
+            .is_some_and(|next| symbol_of(next).is_separator());
+        if !has_separator {
             if let Some(count) = self.place_chain(Chain::Members, rest)? {
                 return Ok(count);
             }

@@ -1,5 +1,4 @@
 use Rattle.std.proofs.Common.{ap, sym, subst, ◌∙◌}
-use Rattle.std.proofs.lemmas.Bool.{and_parts}
 use Rattle.graphql_core.proofs.{false≢true}
 use Rattle.graphql_core.specs.declared.tokenizer.element.ElementKind.{ElementKind}
 use Rattle.graphql_fmt.specs.declared.pieces.piece.PieceKind.TheVariants as piece
@@ -26,8 +25,7 @@ returns-clause-pieces c all =
         | in-Token-BlockString+in_ok-is_indented-in-Token-BlockString w ↦
             let token = w.in-Token-BlockString in
             let block = rw token.is at token.field-0-is in
-            let is = w.in_ok-is_indented-in-Token-BlockString.ensures in
-            λ set. (token.is ∙ ap piece.Token block, (and_parts _ _ (sym is ∙ sym w.is_indented-is ∙ set)).0)
+            λ set. token.is ∙ ap piece.Token block
         | in_default w ↦ λ set. absurd (false≢true (sym w.is_indented-is ∙ set))
         | in_default-2 w ↦ λ set. absurd (false≢true (sym w.is_indented-is ∙ set))
       ],
