@@ -1,8 +1,8 @@
 //! A tree that a caller builds, as docs/CALLING.md shows.
 use crate::Pos;
 use crate::query::{Definition, Document, Field, OperationDefinition, Selection, SelectionSet};
+use crate::tests::page::Page;
 use std::alloc::{AllocError, Global};
-use std::test::Fail;
 
 /// A selection set with these selections.
 fn set_of<'a>(items: Vec<Selection<'a, &'a str>>) -> SelectionSet<'a, &'a str> {
@@ -43,10 +43,15 @@ fn nested<'a>(
     })
 }
 
+/// That document, formatted.
+fn shown_nested(alloc: Global, outer: &str, inner: &str) -> Option<String> {
+    let document = nested(alloc, outer, inner).ok()?;
+    document.to_string(alloc).ok()
+}
+
 #[test]
-fn built_documents_are_formatted(rt: HostRuntime) -> Result<(), Fail> {
-    let document = nested(rt.alloc(), "hero", "name")?;
-    let output = document.to_string(rt.alloc())?;
-    assert_eq!(rt; output.as_str(), "{\n  hero {\n    name\n  }\n}\n");
-    Ok(())
+fn built_documents_are_formatted(rt: HostRuntime) {
+    let mut page = Page::new(rt.alloc());
+    page.add(shown_nested(rt.alloc(), "hero", "name"));
+    assert_eq!(rt; page.text(), "{\n  hero {\n    name\n  }\n}\n\n");
 }

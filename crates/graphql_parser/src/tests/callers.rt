@@ -19,7 +19,6 @@ use crate::{Cause, FormatError, Pos, Style};
 use std::alloc::{AllocError, Global};
 use std::borrow::CowStr;
 use std::hash::{DefaultHasher, Hasher};
-use std::test::Fail;
 
 /// A name that owns its spelling.
 #[derive(Clone, Debug, Drop, Eq, Ord, PartialEq, PartialOrd)]
@@ -55,7 +54,7 @@ impl<'a> Text<'a> for Owned {
 }
 
 /// A document with borrowed names, with the lifetime of the source.
-fn with_borrowed_names<'a>(
+pub fn with_borrowed_names<'a>(
     alloc: Global,
     source: &'a str,
 ) -> Result<Document<'a, &'a str>, ParseError> {
@@ -354,70 +353,200 @@ fn rounded<'a, T: Text<'a>>(value: &Value<'a, T>) -> Option<f64> {
     }
 }
 
+/// A document that was formatted and parsed, as it is shown.
+fn shown_after_formatting(alloc: Global, source: &str) -> Option<String> {
+    let document: Document<'_, &str> = parse_query(alloc, source).ok()?;
+    let again = formatted_and_parsed(alloc, &document, &wide()).ok()?;
+    again.to_string(alloc).ok()
+}
+
+/// A document that was minified and parsed, as it is shown.
+fn shown_after_minifying(alloc: Global, source: &str) -> Option<String> {
+    let source = String::from_str(alloc, source).ok()?;
+    let again = minified_and_parsed(alloc, source).ok()?;
+    again.to_string(alloc).ok()
+}
+
 #[test]
-fn texts_are_laid_out(rt: HostRuntime) {
+fn outputs_are_parsed_again(rt: HostRuntime) {
     let alloc = rt.alloc();
     let mut page = Page::new(alloc);
-    page.add(laid_out(alloc, "{ a(b: 1) }", &wide()).ok_or("refused"));
-    page.add(laid_out(alloc, "{ a( }", &wide()).ok_or("refused"));
-    assert_eq!(rt; page.text(), "{\n    a(\n        b: 1\n    )\n}\n\n");
+    page.add(laid_out(alloc, "{ a(b: 1) }", &wide()));
+    page.add(laid_out(alloc, "{ a( }", &wide()));
+    page.add(minified(alloc, "{ a ( b : 1 ) }"));
+    page.add(minified(alloc, "{ a; }"));
+    page.add(shown_after_formatting(alloc, "query Q($a: Int = 1) { b(c: $a) }"));
+    page.add(shown_after_minifying(alloc, "query Q ( $a : Int = 1 ) { b ( c : $a ) } # d"));
+    assert_eq!(rt;
+        page.text(),
+        "{
+    a(
+        b: 1
+    )
+}
+
+none
+{a(b:1)}
+none
+query Q($a: Int = 1) {
+  b(c: $a)
+}
+
+query Q($a: Int = 1) {
+  b(c: $a)
+}
+
+"
+    );
+}
+
+/// The first name of a document whose names are borrowed.
+fn borrowed_name(alloc: Global, source: &str) -> Option<String> {
+    let document = with_borrowed_names(alloc, source).ok()?;
+    String::from_str(alloc, first_name::<&str>(&document)?).ok()
+}
+
+/// The first name of a document that outlives its source.
+fn copied_name(alloc: Global, source: &str) -> Option<String> {
+    let text = String::from_str(alloc, source).ok()?;
+    let document = with_copied_names(alloc, &text).ok()?;
+    drop(text);
+    String::from_str(alloc, first_name::<String>(&document)?).ok()
+}
+
+/// The same with names of the custom text type, and the whole document.
+fn owned_name(alloc: Global, source: &str) -> Option<String> {
+    let text = String::from_str(alloc, source).ok()?;
+    let document = with_owned_names(alloc, &text).ok()?;
+    drop(text);
+    let name = first_name::<Owned>(&document)?;
+    format!(in alloc; "{name} in\n{document}").ok()
 }
 
 #[test]
-fn documents_come_back(rt: HostRuntime) -> Result<(), Fail> {
+fn names_are_borrowed_or_copied(rt: HostRuntime) {
     let alloc = rt.alloc();
-    let document: Document<'_, &str> = parse_query(alloc, "query Q($a: Int = 1) { b(c: $a) }")?;
-    let again = formatted_and_parsed(alloc, &document, &wide()).or(Err("lost"))?;
+    let source = "{ hero } { b }";
     let mut page = Page::new(alloc);
-    page.show(&again);
-    assert_eq!(rt; page.text(), "query Q($a: Int = 1) {\n  b(c: $a)\n}\n\n");
-    Ok(())
+    page.add(borrowed_name(alloc, source));
+    page.add(copied_name(alloc, source));
+    page.add(owned_name(alloc, source));
+    page.debug(&count(alloc, source).ok());
+    assert_eq!(rt;
+        page.text(),
+        "hero
+hero
+hero in
+{
+  hero
+}
+
+{
+  b
+}
+
+Some(2)
+"
+    );
+}
+
+/// A name that is made at a text type, as the type views it.
+fn viewed<'a, T: Text<'a>>(alloc: Global, text: &'a str) -> Option<String> {
+    let name = T::make(alloc, text).ok()?;
+    String::from_str(alloc, T::view(&name)).ok()
 }
 
 #[test]
-fn minified_documents_come_back(rt: HostRuntime) -> Result<(), Fail> {
+fn names_are_made_and_viewed(rt: HostRuntime) {
     let alloc = rt.alloc();
-    let source = String::from_str(alloc, "query Q ( $a : Int = 1 ) { b ( c : $a ) } # d")?;
-    let again = minified_and_parsed(alloc, source).or(Err("lost"))?;
     let mut page = Page::new(alloc);
-    page.show(&again);
-    assert_eq!(rt; page.text(), "query Q($a: Int = 1) {\n  b(c: $a)\n}\n\n");
-    Ok(())
+    page.add(viewed::<&str>(alloc, "a"));
+    page.add(viewed::<String>(alloc, "b"));
+    page.add(viewed::<Owned>(alloc, "c"));
+    page.add(viewed::<CowStr>(alloc, "d"));
+    assert_eq!(rt; page.text(), "a\nb\nc\nd\n");
+    let borrowed = <CowStr as Text>::make(alloc, "d");
+    assert!(rt; matches!(borrowed, Ok(CowStr::Borrowed("d"))));
+}
+
+/// The names of a document's operations.
+fn shown_operations(alloc: Global, source: &str) -> Option<String> {
+    let document = with_copied_names(alloc, source).ok()?;
+    let names = operation_names(alloc, &document).ok()?;
+    format!(in alloc; "{names:?}").ok()
+}
+
+/// The names of all fields in a document.
+fn shown_fields(alloc: Global, source: &str) -> Option<String> {
+    let document = with_owned_names(alloc, source).ok()?;
+    let names = fields(alloc, &document).ok()?;
+    format!(in alloc; "{names:?}").ok()
+}
+
+/// The first argument of a document's first field, and the whole document.
+fn shown_number(alloc: Global, source: &str) -> Option<String> {
+    let document = with_borrowed_names(alloc, source).ok()?;
+    let (name, number) = first_number(first_field(&document)?)?;
+    let text = shown(alloc, &document).ok()?;
+    format!(in alloc; "{name} {number} in\n{text}").ok()
+}
+
+/// A document with a value that was made static, if it is still equal to a copy.
+fn shown_unchanged(alloc: Global, source: &str) -> Option<String> {
+    let document = with_borrowed_names(alloc, source).ok()?;
+    let copy = copied(&document).ok()?;
+    first_value(alloc, first_field(&document)?)?;
+    if document == copy {
+        shown(alloc, &document).ok()
+    } else {
+        None
+    }
 }
 
 #[test]
-fn borrowed_names(rt: HostRuntime) -> Result<(), Fail> {
-    let document = with_borrowed_names(rt.alloc(), "{ hero } { b }")?;
-    assert_eq!(rt; first_name::<&str>(&document), Some("hero"));
-    assert_eq!(rt; count(rt.alloc(), "{ hero } { b }")?, 2);
-    Ok(())
-}
-
-#[test]
-fn copied_names_outlive_the_source(rt: HostRuntime) -> Result<(), Fail> {
+fn trees_are_walked(rt: HostRuntime) {
     let alloc = rt.alloc();
-    let source = String::from_str(alloc, "{ hero } { b }")?;
-    let document = with_copied_names(alloc, &source)?;
-    drop(source);
-    assert_eq!(rt; first_name::<String>(&document), Some("hero"));
-    Ok(())
-}
-
-#[test]
-fn operations_are_named(rt: HostRuntime) -> Result<(), Fail> {
-    let alloc = rt.alloc();
-    let source =
+    let operations =
         "query A { a } query { b } { c } mutation B { d } fragment F on T { e } subscription C { f }";
-    let document = with_copied_names(alloc, source)?;
-    let names = operation_names(alloc, &document)?;
-    assert_eq!(rt; names.as_slice(), ["A", "B", "C"].as_slice());
-    Ok(())
+    let nested =
+        "query { a { b ... { c } ...F } } mutation { d } subscription { e } { f } fragment F on T { g }";
+    let mut page = Page::new(alloc);
+    page.add(shown_operations(alloc, operations));
+    page.add(shown_fields(alloc, nested));
+    page.add(shown_number(
+        alloc,
+        "{ hero(id: 7) } fragment F on T { a } fragment G on T { a }",
+    ));
+    page.add(shown_unchanged(alloc, "{ a(o: {b: 1, a: 2, b: 3}) }"));
+    assert_eq!(rt;
+        page.text(),
+        "[\"A\", \"B\", \"C\"]
+[\"a\", \"b\", \"c\", \"d\", \"e\", \"f\", \"g\"]
+id 7 in
+{
+  hero(id: 7)
+}
+
+fragment F on T {
+  a
+}
+
+fragment G on T {
+  a
+}
+
+{
+  a(o: {a: 2, b: 3})
+}
+
+"
+    );
 }
 
 /// Whether two sources have equal documents, ignoring positions.
 fn have_equal_documents(alloc: Global, one: &str, other: &str) -> Option<bool> {
-    let one: Document<'_, &str> = parse_query(alloc, one).ok()?;
-    let other: Document<'_, &str> = parse_query(alloc, other).ok()?;
+    let one = with_borrowed_names(alloc, one).ok()?;
+    let other = with_borrowed_names(alloc, other).ok()?;
     are_equal(alloc, &one, &other)
 }
 
@@ -447,85 +576,33 @@ fn definitions_are_taken_one_at_a_time(rt: HostRuntime) {
     }
 }
 
-#[test]
-fn owned_names_outlive_the_text(rt: HostRuntime) -> Result<(), Fail> {
-    let alloc = rt.alloc();
-    let text = String::from_str(alloc, "{ hero } { b }")?;
-    let document = with_owned_names(alloc, &text)?;
-    drop(text);
-    assert_eq!(rt; first_name::<Owned>(&document), Some("hero"));
-    assert_eq!(rt;
-        document.to_string(alloc)?.as_str(),
-        "{\n  hero\n}\n\n{\n  b\n}\n"
-    );
-    Ok(())
-}
-
-/// The same of the first field of a document.
-fn number_of<'a, 'd>(document: &'d Document<'a, &'a str>) -> Option<(&'d str, i64)> {
-    first_number(first_field(document)?)
-}
-
-#[test]
-fn trees_are_looked_into(rt: HostRuntime) -> Result<(), Fail> {
-    let alloc = rt.alloc();
-    let source = "{ hero(id: 7) } fragment F on T { a } fragment G on T { a }";
-    let document: Document<'_, &str> = parse_query(alloc, source)?;
-    assert_eq!(rt; number_of(&document), Some(("id", 7)));
-    let mut page = Page::new(alloc);
-    page.add(shown(alloc, &document));
-    let text = "{\n  hero(id: 7)\n}\n\nfragment F on T {\n  a\n}\n\nfragment G on T {\n  a\n}\n\n";
-    assert_eq!(rt; page.text(), text);
-    Ok(())
-}
-
-#[test]
-fn trees_are_walked(rt: HostRuntime) -> Result<(), Fail> {
-    let alloc = rt.alloc();
-    let source =
-        "query { a { b ... { c } ...F } } mutation { d } subscription { e } { f } fragment F on T { g }";
-    let document = with_owned_names(alloc, source)?;
-    let names = fields(alloc, &document)?;
-    assert_eq!(rt;
-        names.as_slice(),
-        ["a", "b", "c", "d", "e", "f", "g"].as_slice()
-    );
-    Ok(())
-}
-
 /// Why an input is rejected.
-fn error_of(alloc: Global, source: &str) -> Result<ParseError, Fail> {
-    let error = parse_query::<&str>(alloc, source).err().ok_or("accepted")?;
-    Ok(error)
+fn error_of(alloc: Global, source: &str) -> Option<ParseError> {
+    with_borrowed_names(alloc, source).err()
+}
+
+/// The position of the error, and whether a number is its cause.
+fn refused_at(alloc: Global, source: &str) -> Option<(Option<Pos>, bool)> {
+    Some(refusal(&error_of(alloc, source)?))
+}
+
+/// The position and the message of the error.
+fn marked(alloc: Global, source: &str) -> Option<String> {
+    let (position, message) = mark(alloc, &error_of(alloc, source)?).ok()??;
+    format!(in alloc; "{position} {message}").ok()
 }
 
 #[test]
-fn refusals_have_a_position_and_a_cause(rt: HostRuntime) -> Result<(), Fail> {
-    let error = error_of(rt.alloc(), "{ a(x: 1e+) }")?;
-    assert_eq!(rt; refusal(&error), (Some(Pos { line: 1, column: 8 }), true));
-    Ok(())
-}
-
-#[test]
-fn refusals_are_marked(rt: HostRuntime) -> Result<(), Fail> {
-    let error = error_of(rt.alloc(), "{ a")?;
-    let (position, message) = mark(rt.alloc(), &error)?.ok_or("no position")?;
-    let place = Pos { line: 1, column: 4 };
-    assert_eq!(rt;
-        (position, message.as_str()),
-        (place, "Unexpected end of input")
-    );
-    Ok(())
-}
-
-#[test]
-fn tokens_and_minified_texts(rt: HostRuntime) {
+fn refusals_have_a_position_and_a_cause(rt: HostRuntime) {
     let alloc = rt.alloc();
     let mut page = Page::new(alloc);
-    page.add(minified(alloc, "{ a ( b : 1 ) }").ok_or("refused"));
-    page.add(minified(alloc, "{ a; }").ok_or("refused"));
-    assert_eq!(rt; page.text(), "{a(b:1)}\n");
-    assert_eq!(rt; count_names("{ a(b: 1) } ; c"), Some(2));
+    page.debug(&refused_at(alloc, "{ a(x: 1e+) }"));
+    page.add(marked(alloc, "{ a"));
+    page.debug(&count_names("{ a(b: 1) } ; c"));
+    assert_eq!(rt;
+        page.text(),
+        "Some((Some(Pos(1:8)), true))\n1:4 Unexpected end of input\nSome(2)\n"
+    );
 }
 
 #[test]
@@ -540,52 +617,30 @@ fn hashes_are_those_of_tokens(rt: HostRuntime) {
     }
 }
 
-#[test]
-fn floats(rt: HostRuntime) -> Result<(), Fail> {
-    let float: Value<'_, &str> = float_or(String::from_str(rt.alloc(), "1.5")?, 0);
-    assert!(rt; rounded(&float) == Some(1.5));
-    let number: Value<'_, &str> = float_or(String::from_str(rt.alloc(), "1e9")?, 3);
-    assert!(rt; number == Value::Int(Number::from(3)) && rounded(&number).is_none());
-    Ok(())
+/// The value that `float_or` makes of a text and 3.
+fn float_or_three(alloc: Global, text: &str) -> Option<Value<'static, &'static str>> {
+    Some(float_or(String::from_str(alloc, text).ok()?, 3))
+}
+
+/// That value, as it is shown, and the `f64` that is closest to it.
+fn shown_float(alloc: Global, text: &str) -> Option<String> {
+    let value = float_or_three(alloc, text)?;
+    let closest = rounded(&value);
+    format!(in alloc; "{value} {closest:?}").ok()
 }
 
 #[test]
-fn names_are_made_and_viewed(rt: HostRuntime) -> Result<(), Fail> {
-    let alloc = rt.alloc();
-    let slice = <&str as Text>::make(alloc, "a")?;
-    let string = <String as Text>::make(alloc, "b")?;
-    let label = <Owned as Text>::make(alloc, "c")?;
-    let borrowed = <CowStr as Text>::make(alloc, "d")?;
-    let views = [
-        <&str as Names>::view(&slice),
-        <String as Names>::view(&string),
-        <Owned as Names>::view(&label),
-        <CowStr as Names>::view(&borrowed),
-    ];
-    assert_eq!(rt; views, ["a", "b", "c", "d"]);
-    assert!(rt; matches!(borrowed, CowStr::Borrowed("d")));
-    Ok(())
-}
-
-#[test]
-fn strings(rt: HostRuntime) -> Result<(), Fail> {
+fn literals_have_values(rt: HostRuntime) {
     let alloc = rt.alloc();
     let mut page = Page::new(alloc);
-    page.show(&unquoted(alloc, r"\u00e9\n")?);
-    page.show(&unindented(alloc, "\n  x\n y")?);
-    assert_eq!(rt; page.text(), "é\n\n x\ny\n");
-    assert_eq!(rt; unquoted(alloc, r"\q").err(), Some(UnquoteError::BadEscape));
-    Ok(())
-}
-
-#[test]
-fn values_made_static_stay_as_they_were(rt: HostRuntime) -> Result<(), Fail> {
-    let document: Document<'_, &str> = parse_query(rt.alloc(), "{ a(o: {b: 1, a: 2, b: 3}) }")?;
-    let copy = copied(&document)?;
-    let field = first_field(&document).ok_or("no field")?;
-    assert!(rt; first_value(rt.alloc(), field).is_some() && document == copy);
-    let mut page = Page::new(rt.alloc());
-    page.show(&document);
-    assert_eq!(rt; page.text(), "{\n  a(o: {a: 2, b: 3})\n}\n\n");
-    Ok(())
+    page.add(shown_float(alloc, "1.5"));
+    page.add(shown_float(alloc, "1e9"));
+    page.add(unquoted(alloc, r"\u00e9\n").ok());
+    page.add(unindented(alloc, "\n  x\n y").ok());
+    page.debug(&unquoted(alloc, r"\q").err());
+    assert_eq!(rt;
+        page.text(),
+        "1.5 Some(1.5)\n3 None\né\n\n x\ny\nSome(BadEscape)\n"
+    );
+    assert!(rt; float_or_three(alloc, "1e9") == Some(Value::Int(Number::from(3))));
 }

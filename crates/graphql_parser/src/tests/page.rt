@@ -2,7 +2,7 @@
 use std::alloc::Global;
 use std::fmt::{Debug, Display};
 
-/// What is shown of several values, each with LF after it. A value is left out if an allocation fails.
+/// What is shown of several values, each with LF after it. In place of a value that there is not, it has `none`.
 #[derive(Drop)]
 pub struct Page {
     alloc: Global,
@@ -23,20 +23,22 @@ impl Page {
     }
 
     /// Appends a string that was made, if it was.
-    pub fn add<E: Drop>(&mut self, made: Result<String, E>) {
-        if let Ok(text) = made {
-            let _ = self.text.push_str(text.as_str());
-            let _ = self.text.push_str("\n");
-        }
+    pub fn add(&mut self, made: Option<String>) {
+        let text = match &made {
+            Some(text) => text.as_str(),
+            None => "none",
+        };
+        let _ = self.text.push_str(text);
+        let _ = self.text.push_str("\n");
     }
 
     /// Appends what `Display` shows of a value.
     pub fn show<D: Display>(&mut self, value: &D) {
-        self.add(value.to_string(self.alloc));
+        self.add(value.to_string(self.alloc).ok());
     }
 
     /// Appends what `Debug` shows of a value.
     pub fn debug<D: Debug>(&mut self, value: &D) {
-        self.add(format!(in self.alloc; "{value:?}"));
+        self.add(format!(in self.alloc; "{value:?}").ok());
     }
 }

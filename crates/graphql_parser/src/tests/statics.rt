@@ -1,15 +1,14 @@
 //! Values that are made static, and names that are borrowed.
 use crate::common::Text;
 use crate::query::{
-    Definition, Directive, Document, Field, OperationDefinition, Selection, SelectionSet, Type,
-    TypeCondition, Value, parse_query,
+    Definition, Directive, Document, Field, OperationDefinition, Query, Selection, SelectionSet,
+    Type, TypeCondition, Value, parse_query,
 };
-use crate::tests::callers::first_value;
+use crate::tests::callers::{first_value, with_borrowed_names};
 use crate::tests::page::Page;
 use crate::tests::sources::QUERY;
 use std::alloc::Global;
 use std::borrow::CowStr;
-use std::test::Fail;
 
 /// The first field of a document that begins with a set of selections.
 pub fn first_field<'a, 'd, T: Text<'a>>(document: &'d Document<'a, T>) -> Option<&'d Field<'a, T>> {
@@ -31,23 +30,31 @@ pub fn first_argument<'a, 'd, T: Text<'a>>(
 }
 
 /// The value of the first argument of an input's first field. It outlives the input, whose copy is dropped here.
-fn value_of(alloc: Global, source: &str) -> Result<Value<'static, String>, Fail> {
-    let text = String::from_str(alloc, source)?;
-    let document: Document<'_, &str> = parse_query(alloc, &text)?;
-    let field = first_field(&document).ok_or("no field")?;
-    let value = first_value(alloc, field).ok_or("no value")?;
-    Ok(value)
+fn value_of(alloc: Global, source: &str) -> Option<Value<'static, String>> {
+    let text = String::from_str(alloc, source).ok()?;
+    let document = with_borrowed_names(alloc, &text).ok()?;
+    first_value(alloc, first_field(&document)?)
+}
+
+/// That value, as it is shown.
+fn shown_value(alloc: Global, source: &str) -> Option<String> {
+    value_of(alloc, source)?.to_string(alloc).ok()
+}
+
+/// Whether that value is the one in another input, whose names are copied.
+fn have_equal_values(alloc: Global, source: &str, other: &str) -> Option<bool> {
+    let value = value_of(alloc, source)?;
+    let document = parse_query::<String>(alloc, other).ok()?;
+    Some(first_argument(&document)? == &value)
 }
 
 #[test]
-fn values_outlive_the_text(rt: HostRuntime) -> Result<(), Fail> {
-    let value = value_of(rt.alloc(), "{ a(o: {b: 1, a: 2, b: 3}) }")?;
+fn values_outlive_the_text(rt: HostRuntime) {
+    let source = "{ a(o: {b: 1, a: 2, b: 3}) }";
     let mut page = Page::new(rt.alloc());
-    page.show(&value);
-    assert_eq!(rt; page.text(), "{a: 2, b: 3}\n");
-    let owned = parse_query::<String>(rt.alloc(), "{ f(o: {b: 3, a: 2}) }")?;
-    assert!(rt; first_argument(&owned) == Some(&value));
-    Ok(())
+    page.add(shown_value(rt.alloc(), source));
+    page.debug(&have_equal_values(rt.alloc(), source, "{ f(o: {b: 3, a: 2}) }"));
+    assert_eq!(rt; page.text(), "{a: 2, b: 3}\nSome(true)\n");
 }
 
 /// Whether a name is borrowed, and is this one.
@@ -109,39 +116,36 @@ fn is_borrowed_in_selection(selection: &Selection<'_, CowStr<'_>>) -> bool {
     }
 }
 
-#[test]
-fn names_that_may_be_owned_are_borrowed(rt: HostRuntime) -> Result<(), Fail> {
-    let document: Document<'_, CowStr<'_>> = parse_query(rt.alloc(), QUERY)?;
-    match document.definitions.first() {
-        Some(Definition::Operation(OperationDefinition::Query(query))) => {
-            let name = query.name.as_ref().ok_or("no name")?;
-            assert!(rt; is_borrowed(name, "Q"));
-            let variable = query.variable_definitions.first().ok_or("no variable")?;
-            assert!(rt; is_borrowed(&variable.name, "a"));
-            assert!(rt; is_borrowed_in_type(&variable.var_type, "Int"));
-            let directive = query.directives.first().ok_or("no directive")?;
-            assert!(rt; is_borrowed_in_directive(directive));
-            let mut selections = query.selection_set.items.iter();
-            let field = selections.next().ok_or("no field")?;
-            assert!(rt; is_borrowed_in_selection(field));
-            let inline = selections.next().ok_or("no inline fragment")?;
-            assert!(rt; is_borrowed_in_selection(inline));
-            let spread = selections.next().ok_or("no spread")?;
-            assert!(rt; is_borrowed_in_selection(spread));
-            Ok(())
-        }
-        _ => Err(Fail::new("no query")),
+/// Whether the names in `QUERY` are borrowed.
+fn is_borrowed_in_query(query: &Query<'_, CowStr<'_>>) -> Option<bool> {
+    let variable = query.variable_definitions.first()?;
+    let mut are_borrowed = is_borrowed(query.name.as_ref()?, "Q")
+        && is_borrowed(&variable.name, "a")
+        && is_borrowed_in_type(&variable.var_type, "Int")
+        && is_borrowed_in_directive(query.directives.first()?);
+    for selection in query.selection_set.items.iter() {
+        are_borrowed &= is_borrowed_in_selection(selection);
+    }
+    Some(are_borrowed && query.selection_set.items.len() == 3)
+}
+
+/// Whether the names of the first definition are borrowed.
+fn are_names_borrowed(alloc: Global, source: &str) -> Option<bool> {
+    let document: Document<'_, CowStr<'_>> = parse_query(alloc, source).ok()?;
+    match document.definitions.first()? {
+        Definition::Operation(OperationDefinition::Query(query)) => is_borrowed_in_query(query),
+        Definition::Fragment(fragment) => Some(is_borrowed(&fragment.name, "F")),
+        _ => None,
     }
 }
 
 #[test]
-fn names_of_fragments_are_borrowed(rt: HostRuntime) -> Result<(), Fail> {
-    let document: Document<'_, CowStr<'_>> = parse_query(rt.alloc(), "fragment F on T { a }")?;
-    match document.definitions.first() {
-        Some(Definition::Fragment(fragment)) => {
-            assert!(rt; matches!(fragment.name, CowStr::Borrowed("F")));
-            Ok(())
-        }
-        _ => Err(Fail::new("no fragment")),
+fn names_that_may_be_owned_are_borrowed(rt: HostRuntime) {
+    for source in [QUERY, "fragment F on T { a }"] {
+        assert_eq!(rt;
+            are_names_borrowed(rt.alloc(), source),
+            Some(true),
+            "{source}"
+        );
     }
 }

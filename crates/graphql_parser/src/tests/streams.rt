@@ -6,7 +6,6 @@ ghost use Rattle.graphql_query.specs.{document_view, IsDocument};
 use crate::query::{self, parse_query_from};
 use crate::tokenizer::TokenStream;
 use std::alloc::Global;
-use std::test::Fail;
 
 /// The rest of a stream as a document; `None` if it closed more brackets than it opened, if the rest is no document,
 /// or if an allocation fails.
@@ -43,17 +42,27 @@ fn past<'a>(source: &'a str, tokens: usize) -> Option<TokenStream<'a>> {
     Some(stream)
 }
 
-#[test]
-fn a_document_after_three_tokens(rt: HostRuntime) -> Result<(), Fail> {
-    let mut stream = past("{ a } { b }", 3).ok_or("no three tokens")?;
+/// The count of definitions in the rest of a text past its first tokens, how many items were cut, and whether both
+/// functions above return the same document.
+fn read_past(alloc: Global, source: &str, tokens: usize) -> Option<(usize, usize, bool)> {
+    let mut stream = past(source, tokens)?;
     if stream.depth() < 0 {
-        return Err(Fail::from("below the first bracket"));
+        return None;
     }
-    let document = rest_read_once(rt.alloc(), &mut stream).map_err(|_| Fail::from("refused"))?;
-    assert_eq!(rt; (document.definitions.len(), stream.cuts()), (1, 7));
-    let mut other = past("{ a } { b }", 3).ok_or("no three tokens")?;
-    assert!(rt; rest_of(rt.alloc(), &mut other) == Some(document));
-    let mut below = past("} { a }", 1).ok_or("no token")?;
-    assert!(rt; rest_of(rt.alloc(), &mut below).is_none());
-    Ok(())
+    let document = rest_read_once(alloc, &mut stream).ok()?;
+    let other = rest_of(alloc, &mut past(source, tokens)?)?;
+    Some((document.definitions.len(), stream.cuts(), other == document))
+}
+
+/// Whether the rest of a text past its first tokens is no document, if there are so many tokens.
+fn is_refused_past(alloc: Global, source: &str, tokens: usize) -> Option<bool> {
+    let mut stream = past(source, tokens)?;
+    Some(rest_of(alloc, &mut stream).is_none())
+}
+
+#[test]
+fn a_document_after_three_tokens(rt: HostRuntime) {
+    let read = read_past(rt.alloc(), "{ a } { b }", 3);
+    assert_eq!(rt; read, Some((1, 7, true)));
+    assert_eq!(rt; is_refused_past(rt.alloc(), "} { a }", 1), Some(true));
 }
