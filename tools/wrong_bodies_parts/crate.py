@@ -44,8 +44,9 @@ class Crate:
 
     def __init__(self, name, uses, only=(), logs=None):
         self.name, self.uses, self.folder, self.logs = name, uses[name], TOP / "crates" / name, logs
+        # The crates of the repository. Those of the kit need no proof.
         self.with_below = {name}
-        while more := {it for below in self.with_below for it in uses.get(below, [])} - self.with_below:
+        while more := {it for below in self.with_below for it in uses[below] if it in uses} - self.with_below:
             self.with_below |= more
         self.checks, self.seconds, self.seconds_of = 0, 0, collections.Counter()
         # For each edit a line that says the result; and the kind of its verdict, if it was tried.

@@ -1,7 +1,7 @@
 """Runs the inputs of edits that only their stored proofs refuse.
 
 Such an edit has a line `input: EXPRESSION`. The contract makes the expression true, and with the edit it is false. It
-is evaluated in the module of the edit's function, where `alloc` is an allocator. Nothing is proved.
+is evaluated in the module of the edit's function, where `rt` is the host, and `alloc` its allocator. Nothing is proved.
 """
 import pathlib
 import re
@@ -82,13 +82,12 @@ def copied_with_below(crate, room):
     """Copies a crate and those below it to a folder that is laid out as the repository."""
     top = crate.folder.parent.parent
     room.mkdir()
-    own = [it for it in crate.with_below if (top / "crates" / it).is_dir()]
     listed = re.findall(r"(?m)^(\w+)([^:#\n]*:.*)$", (top / "crates.txt").read_text(encoding="utf-8"))
-    lines = [f"{name}{uses}\n" for name, uses in listed if name in own]
+    lines = [f"{name}{uses}\n" for name, uses in listed if name in crate.with_below]
     (room / "crates.txt").write_text("".join(lines), encoding="utf-8")
     if (top / "HANDLES").exists():
         shutil.copy(top / "HANDLES", room)
-    for name in own:
+    for name in crate.with_below:
         for part in PARTS:
             if (top / "crates" / name / part).is_dir():
                 shutil.copytree(top / "crates" / name / part, room / "crates" / name / part)
