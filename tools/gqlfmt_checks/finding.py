@@ -14,6 +14,7 @@ def odd_names():
     status, out, err = gqlfmt("--check", "--", *names)
     expect("--check", (status, out.count(b"\n")), (1, len(names)))
     expect("a control character is escaped", b'"new\\nline.graphql"\n' in out, True)
+    expect("a character that changes the direction is", b'"\\342\\200\\256name.graphql"\n' in out, True)
     expect("a blank is not", b"\na b.graphql\n" in b"\n" + out, True)
     expect("--write", gqlfmt("--write", "--", *names)[0], 0)
     expect("all are formatted", list(map(read, names)), [FORMATTED] * len(names))

@@ -21,7 +21,7 @@ WAYS = {
     "PATH: cannot be rewritten: REASON": ["trap '' XFSZ; ulimit -f 0; gqlfmt --write a.graphql"],
     "gqlfmt: standard output cannot be written: REASON": ["gqlfmt a.graphql > /dev/full", "gqlfmt --help > /dev/full"],
     "PATH: has a name that is not UTF-8": ["gqlfmt $'\\xff'", "gqlfmt --check $'\\xff' b.graphql"],
-    "gqlfmt: an option is not UTF-8: PATH": ["gqlfmt --check $'--width=\\xff' b.graphql"],
+    "gqlfmt: an option is not UTF-8: PATH": ["gqlfmt --check $'--width=\\xff' b.graphql", "gqlfmt --width $'\\xff'"],
     "error: standard input cannot be rewritten: '--write' needs a PATH": ["gqlfmt --write", "gqlfmt --write -"],
     "error: standard input cannot be combined with other inputs: '-' must be the only PATH": ["gqlfmt - a.graphql"],
     "error: '--stdin-path' can only be used with standard input": ["gqlfmt --stdin-path x a.graphql"],

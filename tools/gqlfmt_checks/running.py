@@ -15,7 +15,7 @@ FORMATTED = b"{\n  a\n  b\n}\n"
 BROKEN = b"{a\n"
 # Names that a careless shell command loses, takes for an option or for a pattern, or executes.
 ODD_NAMES = ["a b", "it's", 'q"uote', "new\nline", "tab\there", "-dash", "--check", "--", "back\\slash", "$(x)", "é中"]
-ODD_NAMES += ["*", " ", "\x01\x7f\x85"]
+ODD_NAMES += ["*", " ", "\x01\x7f\x85", "\u202ename"]
 
 # FAIL names the call that fails, with the number ERROR. AT_FSYNC is a command that runs when a file is flushed.
 BEFORE_THE_C_LIBRARY = """

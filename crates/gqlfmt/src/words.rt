@@ -55,16 +55,24 @@ pub fn words<R: Env>(rt: &R, alloc: Global) -> Result<Vec<String>, AllocError> {
     Ok(words)
 }
 
-/// The first option that is not UTF-8: a word that begins with a dash, before a word `--`.
+/// Whether the next word is the value of this option, a number or the name of a language.
+fn takes_value(option: &str) -> bool {
+    matches!(option, "--indent" | "--width" | "--language")
+}
+
+/// The first option that is not UTF-8, or the first such value of an option that is no name: before a word `--`, a word
+/// that begins with a dash, or that comes after an option which takes a number or a language.
 pub fn unreadable_option(words: &[String]) -> Option<&str> {
+    let mut is_value = false;
     for word in words {
         let word = word.as_str();
         if word == "--" {
             return None;
         }
-        if word.starts_with('-') && unreadable(word).is_some() {
+        if (is_value || word.starts_with('-')) && unreadable(word).is_some() {
             return unreadable(word);
         }
+        is_value = takes_value(word);
     }
     None
 }
