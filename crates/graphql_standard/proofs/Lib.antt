@@ -1,0 +1,20 @@
+mod Stack
+mod Effects
+mod SameExpressions
+mod Alike
+mod TerminalLists
+mod Uniform
+mod Following
+mod Rows
+mod Stacks
+mod Documents
+mod Spellings
+mod ExpectedSets
+mod Running
+mod Included
+mod Written
+mod SameLanguage
+mod AsWritten
+mod ApartTerminals
+pub mod lexical
+unfoldable pub use lexical.*

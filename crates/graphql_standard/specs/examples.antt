@@ -1,0 +1,3 @@
+pub mod StandardExamples
+pub mod LexicalExamples
+unfoldable pub use LexicalExamples.*

@@ -1,0 +1,11 @@
+pub mod Groups
+pub mod Meanings
+pub mod Fitting
+pub mod Following
+pub mod Stacks
+pub mod Numbers
+pub mod Escapes
+pub mod Spellings
+unfoldable pub use Numbers.*
+unfoldable pub use Escapes.*
+unfoldable pub use Spellings.*

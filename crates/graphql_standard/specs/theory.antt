@@ -1,0 +1,4 @@
+pub mod Stack
+pub mod Effects
+unfoldable pub use Stack.*
+unfoldable pub use Effects.*

@@ -1,0 +1,14 @@
+//! Documents of the GraphQL specification of September 2025.
+#![tactic(auto)]
+
+mod expected;
+mod laws;
+mod recognizer;
+mod symbol;
+mod terminal;
+pub mod tokenizer;
+
+pub use expected::ExpectedSet;
+pub use laws::{documents_are_as_written, each_token_has_one_terminal, worked_examples};
+pub use recognizer::Recognizer;
+pub use terminal::Terminal;
