@@ -16,5 +16,7 @@ mod Written
 mod SameLanguage
 mod AsWritten
 mod ApartTerminals
+mod Checking
+mod FirstErrors
 pub mod lexical
 unfoldable pub use lexical.*

@@ -5,6 +5,7 @@ pub mod Grammar
 pub mod Terminals
 pub mod Document
 pub mod Recognizing
+pub mod Checking
 pub mod theory
 pub mod steps
 pub mod examples

@@ -6,6 +6,8 @@ pub mod Stacks
 pub mod Numbers
 pub mod Escapes
 pub mod Spellings
+pub mod Brackets
+pub mod Checking
 unfoldable pub use Numbers.*
 unfoldable pub use Escapes.*
 unfoldable pub use Spellings.*

@@ -1,6 +1,9 @@
 //! Documents of the GraphQL specification of September 2025.
 #![tactic(auto)]
 
+mod brackets;
+mod checker;
+mod error;
 mod expected;
 mod laws;
 mod recognizer;
@@ -8,6 +11,8 @@ mod symbol;
 mod terminal;
 pub mod tokenizer;
 
+pub use checker::{Checker, check};
+pub use error::{CheckError, Found, SyntaxError};
 pub use expected::ExpectedSet;
 pub use laws::{documents_are_as_written, each_token_has_one_terminal, worked_examples};
 pub use recognizer::Recognizer;

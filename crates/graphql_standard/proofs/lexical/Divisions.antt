@@ -25,7 +25,7 @@ fits_some : (text : List ℕ) (m : Meaning) (n : ℕ) → PieceFits text (ahead_
 fits_some text (Ignored m) n (part, _) = part.0
 fits_some text (TokenOf k t) n part = part.0
 
-some_bytes : {bytes : List ℕ} {m : Meaning} {rest : List ℕ} → Stands bytes m rest → 0 < length bytes
+pub some_bytes : {bytes : List ℕ} {m : Meaning} {rest : List ℕ} → Stands bytes m rest → 0 < length bytes
 some_bytes {bytes} {m} {rest} st = fits_some (bytes ++ rest) m (length bytes) (subst (PieceFits (bytes ++ rest)) (stands_front st) (front_within (bytes ++ rest)))
 
 by_number : (text : List ℕ) (o : Option (ℕ × Kind)) → number_front text ≡ o → BeginsNone text → First text

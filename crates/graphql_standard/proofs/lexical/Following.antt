@@ -66,7 +66,7 @@ none_at_end = none_begins [] begins_none_at_end (no_number_begins [] refl)
 piece : List ℕ → Meaning → Piece
 piece b m = record { bytes = b; meaning = m }
 
-piece_same : (p q : Piece) → p.bytes ≡ q.bytes → p.meaning ≡ q.meaning → p ≡ q
+pub piece_same : (p q : Piece) → p.bytes ≡ q.bytes → p.meaning ≡ q.meaning → p ≡ q
 unfolding piece
 piece_same p q e f = ap (λ b. piece b p.meaning) e ∙ ap (λ m. piece q.bytes m) f
 
