@@ -343,7 +343,7 @@ class Output:
         if not self.is_outside(i) or name is None:
             return False
         if self.spellings[i] == "implements":
-            is_named = self.kinds[name] == "name" and self.spellings[name] not in self.KEYWORDS
+            is_named = self.kinds[name] == "name" and self.spellings[name] not in (*self.KEYWORDS, "implements")
             return is_named and self.before(i, 2) in ("type", "interface")
         return self.spellings[i] == "=" or self.spellings[i] == "on" and self.is_after_defined(i)
 
