@@ -231,7 +231,6 @@ pub(crate) struct Row {
 }
 
 /// The rules of a symbol.
-#[tactic(none)]
 pub(crate) fn row_of(symbol: Symbol) -> Row
     ensures { FitsRow symbol result }
 {
