@@ -1,23 +1,24 @@
 -- What a checker has read, and the first error of a source.
 use Rattle.std.specs.List.{count_by}
-use Rattle.std.proofs.Common.{◌≡◌, ◌≤◌, ◌<◌, ◌+◌, ◌⊎◌, ℕ, Bool, true, false, cond, List, [], ◌∷◌, ◌++◌, length, drop, Result, Ok}
-use Rattle.std.proofs.Common.{refl, sym, ap, ◌∙◌, subst, inl, inr, arith, append-nil, length-append}
+use Rattle.std.proofs.Common.{◌≡◌, ◌≤◌, ◌<◌, ◌+◌, ◌⊎◌, ℕ, zero, suc, replicate, Bool, true, false, cond, List, [], ◌∷◌, ◌++◌, length, drop, Result, Ok}
+use Rattle.std.proofs.Common.{refl, sym, ap, ◌∙◌, subst, inl, inr, arith, append_assoc, append-nil, length-append}
 use Rattle.std.proofs.lemmas.Bool.Decides.{nat_tests}
 use Rattle.std.proofs.lemmas.List.Sums.{sum_by-append, sum_by-cons, count_by-le-length}
 use Rattle.graphql_core.specs.{Token, Piece, Meaning, Ignored, TokenOf, Stands, sample, is_listed, max_length}
-use Rattle.graphql_core.specs.lexical.Lexical.{is_punctuator_byte, punctuator_token, spread_token}
+use Rattle.graphql_core.specs.lexical.Lexical.{ignored_space, is_punctuator_byte, punctuator_token, spread_token}
 use Rattle.graphql_core.specs.declared.tokenizer.token.Kind.{Kind}
 use Rattle.graphql_core.specs.declared.tokenizer.token.Kind.TheVariants.{Punctuator, Name, IntValue, FloatValue, StringValue, BlockString}
 use Rattle.graphql_core.specs.declared.tokenizer.piece.Nesting.{Nesting}
 use Rattle.graphql_core.specs.declared.tokenizer.piece.Nesting.TheVariants.{Unchanged}
 use Rattle.graphql_standard.specs.lexical.Numbers.{IsNumber, int_value, float_value}
-use Rattle.graphql_standard.specs.lexical.Elements.{IsElement}
+use Rattle.graphql_standard.specs.lexical.Elements.{IsElement, shared_element}
 use Rattle.graphql_standard.specs.Terminals.{punctuators, IsSpellingOf}
 use Rattle.graphql_standard.specs.Checking.{token_and, tokens_of, is_opening, is_closing, openers, closers, IsWithin, BeginsWithAll}
-use Rattle.graphql_standard.specs.Checking.{HasCheckedTokens, HasChecked, IsChecking}
+use Rattle.graphql_standard.specs.Checking.{HasCheckedTokens, HasChecked, IsChecking, space}
 use Rattle.graphql_standard.specs.declared.brackets.Brackets.{Brackets}
 use Rattle.graphql_standard.specs.Recognizing.{BeginsDocument, Advances, HasRead}
 use Rattle.graphql_standard.specs.steps.Brackets.{one_if, Counts}
+use Rattle.graphql_standard.specs.steps.Checking.{HasFront}
 use Rattle.graphql_standard.specs.steps.Stacks.{stack_of}
 use Rattle.std.specs.declared.alloc.AllocError.{AllocError}
 use Rattle.graphql_standard.specs.declared.recognizer.Recognizer.{Recognizer}
@@ -171,8 +172,17 @@ is_full limit ts c h full = omega (arith, full, within_now limit ts h.within, h.
 
 -- ---- the elements that a checker has read
 
-pub rest_within : (c : Checker) → IsChecking c → length c.rest.now ≤ length c.source.now
-rest_within c (limit, source, ps, h) = omega (arith, tokens_bound source ps c.rest.now h.parts, ap length h.source_is)
+front_of : (source : List ℕ) (ps : List Piece) (rest : List ℕ) → BeginsWithAll source ps rest → (front : List ℕ) × (source ≡ front ++ rest)
+front_of source [] rest e = ([], e)
+front_of source (p ∷ ps) rest (after, e, el, more) =
+    let (front, is) = front_of after ps rest more in
+    (p.bytes ++ front, e ∙ ap (λ (l : List ℕ). p.bytes ++ l) is ∙ sym (append_assoc p.bytes front rest))
+
+pub has_front : (c : Checker) → IsChecking c → HasFront c
+has_front c (limit, source, ps, h) = let (front, is) = front_of source ps c.rest.now h.parts in (front, h.source_is ∙ is)
+
+pub rest_shorter : (c : Checker) → HasFront c → length c.rest.now ≤ length c.source.now
+rest_shorter c (front, is) = omega (arith, ap length is, length-append front c.rest.now)
 
 pub rest_short : (c : Checker) → IsChecking c → length c.rest.now ≤ max_length
 rest_short c (limit, source, ps, h) = omega (arith, tokens_bound source ps c.rest.now h.parts, h.short)
@@ -207,3 +217,31 @@ element_read limit source ps old new bytes m h e el same tokens = record {
   parts = parts_more source ps old.rest.now bytes new.rest.now m h.parts e el;
   tokens = subst (λ (ts : List Token). HasCheckedTokens limit ts new) (sym (tokens_more ps (record { bytes = bytes; meaning = m } ∷ []))) tokens;
 }
+
+-- ---- spaces
+
+spaces_begin : (n : ℕ) (rest after : List ℕ) → rest ≡ replicate n 32 ++ after → BeginsWithAll rest (replicate n space) after
+spaces_begin zero rest after e = e
+spaces_begin (suc n) rest after e = (replicate n 32 ++ after, e, shared_element refl ignored_space, spaces_begin n _ after refl)
+
+parts_both : (source : List ℕ) (ps qs : List Piece) (rest after : List ℕ) → BeginsWithAll source ps rest → BeginsWithAll rest qs after
+    → BeginsWithAll source (ps ++ qs) after
+parts_both source [] qs rest after e more = subst (λ (l : List ℕ). BeginsWithAll l qs after) (sym e) more
+parts_both source (p ∷ ps) qs rest after (next, e, el, some) more = (next, e, el, parts_both next ps qs rest after some more)
+
+no_tokens : (n : ℕ) → tokens_of (replicate n space) ≡ []
+no_tokens zero = refl
+no_tokens (suc n) = no_tokens n
+
+-- some spaces are read
+pub spaces_read : (limit : ℕ) (source : List ℕ) (ps : List Piece) (n : ℕ) (old new : Checker) → HasChecked limit source ps old
+    → old.rest.now ≡ replicate n 32 ++ new.rest.now → new.source.now ≡ old.source.now → new.recognizer ≡ old.recognizer
+    → new.brackets ≡ old.brackets → new.limit ≡ old.limit → HasChecked limit source (ps ++ replicate n space) new
+spaces_read limit source ps n old new h e same r b l =
+    let tokens = tokens_more ps (replicate n space) ∙ (ap (λ (ts : List Token). tokens_of ps ++ ts) (no_tokens n) ∙ append-nil (tokens_of ps)) in
+    record {
+      source_is = same ∙ h.source_is;
+      short = h.short;
+      parts = parts_both source ps (replicate n space) old.rest.now new.rest.now h.parts (spaces_begin n old.rest.now new.rest.now e);
+      tokens = same_tokens limit (tokens_of ps) (tokens_of (ps ++ replicate n space)) old new r b l (sym tokens) h.tokens;
+    }

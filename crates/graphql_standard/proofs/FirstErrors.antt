@@ -21,7 +21,9 @@ use Rattle.graphql_standard.specs.Checking.{openers, closers, IsWithin, BeginsWi
 use Rattle.graphql_standard.specs.Checking.{IsCheckError, ChecksStandard, ChecksNext, HasChecked, HasCheckedTokens}
 use Rattle.graphql_standard.specs.declared.tokenizer.element.Element.{Element}
 use Rattle.graphql_standard.specs.Terminals.{IsSpellingOf}
-use Rattle.graphql_standard.specs.steps.Checking.{IsOffset, HasSameRest, ReadsToken}
+use Rattle.graphql_standard.specs.Places.{IsPlaceBefore}
+use Rattle.graphql_standard.specs.declared.place.Place.{Place}
+use Rattle.graphql_standard.specs.steps.Checking.{HasSameRest, ReadsToken}
 use Rattle.graphql_standard.specs.declared.error.Found.{Found}
 use Rattle.graphql_standard.specs.declared.error.Found.TheVariants as found
 use Rattle.graphql_standard.specs.declared.error.CheckError.{CheckError}
@@ -119,7 +121,7 @@ only_memory limit source (error.Syntax x) ts (ps, rest, right, wrong, expected) 
     let (more, all, left) = same_start source ps qs rest right.parts d in
     let whole = is ∙ (ap tokens_of all ∙ tokens_more ps more) in
     absurd (not_wrong (tokens_of ps) rest more x.found x.len wrong left (subst IsDocument whole doc))
-only_memory limit source (error.TooDeep n) ts (ps, rest, right, kind, bytes, after, begins, first, opens, full) short (qs, d, is) doc w =
+only_memory limit source (error.TooDeep p) ts (ps, rest, right, kind, bytes, after, begins, first, opens, full) short (qs, d, is) doc w =
     let (more, all, left) = same_start source ps qs rest right.parts d in
     let (us, next) = next_token rest more kind bytes after begins left in
     let whole = is ∙ (ap tokens_of all ∙ (tokens_more ps more ∙ ap (λ (l : List Token). tokens_of ps ++ l) next)) in
@@ -153,11 +155,11 @@ token_read limit ts k bytes after m old new r kind el h is reads =
     let done = subst (λ (x : Result (Unit {0}) CheckError). ReadsToken limit ts (sample k bytes) x new) is (reads limit ts h (element_spelled m k kind el)) in
     subst (λ (x : Meaning). HasCheckedTokens limit (ts ++ token_and x bytes []) new) (sym token) done
 
-right_to : (limit : ℕ) (source : List ℕ) (ps : List Piece) (old new : Checker) (n : ℕ) → HasChecked limit source ps old → HasSameRest old new
-    → IsOffset new n → IsRightTo limit source n ps old.rest.now
-right_to limit source ps old new n h (whole, rest) offset = record {
+right_to : (limit : ℕ) (source : List ℕ) (ps : List Piece) (old new : Checker) (p : Place) → HasChecked limit source ps old → HasSameRest old new
+    → IsPlaceBefore new.source.now new.rest.now p → IsRightTo limit source p ps old.rest.now
+right_to limit source ps old new p h (whole, rest) (front, is, place) = record {
   parts = h.parts;
-  offset_is = ap (λ (l : List ℕ). n + length l) (sym rest) ∙ (offset ∙ ap length (whole ∙ h.source_is));
+  place_is = (front, sym (whole ∙ h.source_is) ∙ is ∙ ap (λ (l : List ℕ). front ++ l) rest, place);
   begins = h.tokens.begins;
   within = h.tokens.within;
 }
@@ -172,16 +174,16 @@ token_error limit source ps k bytes after old new r e h begins same is reads =
     (reads limit (tokens_of ps) h.tokens (element_spelled m k kind el)))
   where
     by : (x : CheckError) → ReadsToken limit (tokens_of ps) (sample k bytes) (Err x) new → IsCheckError limit source x
-    by (error.Syntax x) (offset, expected, len, (j, same_found, token), ends) =
+    by (error.Syntax x) (place, expected, len, (j, same_found, token), ends) =
         let wrong : IsWrongAfter (tokens_of ps) old.rest.now (found.Token j) x.len = (k, bytes, after, begins, token, ends, len) in (
           ps,
           old.rest.now,
-          right_to limit source ps old new x.offset h same offset,
+          right_to limit source ps old new x.place h same place,
           subst (λ (f : Found). IsWrongAfter (tokens_of ps) old.rest.now f x.len) (sym same_found) wrong,
           expected,
         )
-    by (error.TooDeep n) (offset, first, opens, full) =
-        (ps, old.rest.now, right_to limit source ps old new n h same offset, k, bytes, after, begins, first, opens, full)
+    by (error.TooDeep p) (place, first, opens, full) =
+        (ps, old.rest.now, right_to limit source ps old new p h same place, k, bytes, after, begins, first, opens, full)
     by error.TooLong none = absurd none
     by error.OutOfMemory none = tt
 

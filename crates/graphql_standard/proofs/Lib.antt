@@ -1,3 +1,4 @@
+mod Places
 mod Stack
 mod Effects
 mod SameExpressions
@@ -17,6 +18,6 @@ mod SameLanguage
 mod AsWritten
 mod ApartTerminals
 mod Checking
-mod FirstErrors
+pub mod FirstErrors
 pub mod lexical
 unfoldable pub use lexical.*

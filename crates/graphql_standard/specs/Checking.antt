@@ -6,11 +6,14 @@ use Rattle.std.specs.Str.{chars}
 use Rattle.std.specs.Char.{len_utf8}
 use Rattle.graphql_core.specs.{Token, Piece, Meaning, Ignored, TokenOf, sample, is_listed, kind_number, max_length}
 use Rattle.graphql_core.specs.lexical.Elements.{element_kind}
+use Rattle.graphql_core.specs.declared.tokenizer.piece.Move.TheVariants.{Over}
 use Rattle.graphql_core.specs.declared.tokenizer.token.Kind.{Kind}
 use Rattle.graphql_core.specs.declared.tokenizer.token.Kind.TheVariants.{Punctuator}
 use Rattle.graphql_core.specs.declared.tokenizer.element.ElementKind.TheVariants as element
 use Rattle.graphql_standard.specs.lexical.Elements.{IsElement, IsDividedInto, BeginsNoneOf, BeginsWithOneOf}
 use Rattle.graphql_standard.specs.Terminals.{IsTokenOf}
+use Rattle.graphql_standard.specs.Places.{IsPlaceBefore}
+use Rattle.graphql_standard.specs.declared.place.Place.{Place}
 use Rattle.graphql_standard.specs.Recognizing.{IsDocument, BeginsDocument, HasRead, contains, contains_end}
 use Rattle.graphql_standard.specs.declared.terminal.Terminal.{Terminal}
 use Rattle.graphql_standard.specs.declared.expected.ExpectedSet.{ExpectedSet}
@@ -91,33 +94,40 @@ pub record IsExpectedAfter (ts : List Token) (s : ExpectedSet) : Type 0 where
   pub terminals : (k : Terminal) (t : Token) → IsTokenOf k t → IsTrue (contains s k) ↔ BeginsDocument (ts ++ t ∷ [])
   pub end : IsTrue (contains_end s) ↔ IsDocument ts
 
--- Lexical elements before an offset of a source. Some document begins with their tokens, and at most `limit` brackets
+-- Lexical elements before a place in a source. Some document begins with their tokens, and at most `limit` brackets
 -- are open.
-pub record IsRightTo (limit : ℕ) (source : List ℕ) (offset : ℕ) (ps : List Piece) (rest : List ℕ) : Type 0 where
+pub record IsRightTo (limit : ℕ) (source : List ℕ) (p : Place) (ps : List Piece) (rest : List ℕ) : Type 0 where
   pub parts : BeginsWithAll source ps rest
-  pub offset_is : offset + length rest ≡ length source
+  pub place_is : IsPlaceBefore source rest p
   pub begins : BeginsDocument (tokens_of ps)
   pub within : IsWithin limit (tokens_of ps)
 
 abbrev pub IsFirstError : (limit : ℕ) (source : List ℕ) → SyntaxError → Type 0
 IsFirstError limit source e =
-    (ps : List Piece) × (rest : List ℕ) × IsRightTo limit source e.offset ps rest
+    (ps : List Piece) × (rest : List ℕ) × IsRightTo limit source e.place ps rest
     × IsWrongAfter (tokens_of ps) rest e.found e.len × IsExpectedAfter (tokens_of ps) e.expected
 
--- At this offset is an opening bracket. Some document begins with it and the tokens before, but `limit` brackets are
+-- At this place is an opening bracket. Some document begins with it and the tokens before, but `limit` brackets are
 -- open.
-abbrev pub IsTooDeepAt : (limit : ℕ) (source : List ℕ) → (offset : ℕ) → Type 0
-IsTooDeepAt limit source n =
-    (ps : List Piece) × (rest : List ℕ) × IsRightTo limit source n ps rest
+abbrev pub IsTooDeepAt : (limit : ℕ) (source : List ℕ) → Place → Type 0
+IsTooDeepAt limit source p =
+    (ps : List Piece) × (rest : List ℕ) × IsRightTo limit source p ps rest
     × (kind : Kind) × (bytes : List ℕ) × (after : List ℕ) × BeginsWithOneOf IsElement rest (element.Token kind) bytes after
     × BeginsDocument (tokens_of ps ++ sample kind bytes ∷ []) × (is_opening (sample kind bytes) ≡ true)
     × (openers (tokens_of ps) ≡ closers (tokens_of ps) + limit)
+
+-- the place of an error
+abbrev pub place_of : CheckError → Option Place
+place_of (error.Syntax e) = Some e.place
+place_of (error.TooDeep p) = Some p
+place_of error.TooLong = None
+place_of error.OutOfMemory = None
 
 -- ---- the result of checking a source
 
 abbrev pub IsCheckError : (limit : ℕ) (source : List ℕ) → CheckError → Type 0
 IsCheckError limit source (error.Syntax e) = IsFirstError limit source e
-IsCheckError limit source (error.TooDeep n) = IsTooDeepAt limit source n
+IsCheckError limit source (error.TooDeep p) = IsTooDeepAt limit source p
 IsCheckError limit source error.TooLong = max_length < length source
 IsCheckError limit source error.OutOfMemory = Unit {0}
 
@@ -150,6 +160,14 @@ pub record HasChecked (limit : ℕ) (source : List ℕ) (ps : List Piece) (c : C
   pub short : length source ≤ max_length
   pub parts : BeginsWithAll source ps c.rest.now
   pub tokens : HasCheckedTokens limit (tokens_of ps) c
+
+-- how many bytes of the source are not read
+abbrev pub left : Checker → ℕ
+left c = length c.rest.now
+
+-- a space as a lexical element
+abbrev pub space : Piece
+space = record { bytes = 32 ∷ []; meaning = Ignored (Over 1) }
 
 -- The checker has read some elements.
 abbrev pub IsChecking : Checker → Type 0

@@ -2,6 +2,7 @@ pub mod Symbols
 pub mod ParseTrees
 pub mod Tables
 pub mod Grammar
+pub mod Places
 pub mod Terminals
 pub mod Document
 pub mod Recognizing

@@ -11,7 +11,7 @@ fn is_opening(kind: Kind, spelling: &str) -> bool
     ensures { result ≡ is_opening (sample kind spelling.now) }
 {
     match kind {
-        Kind::Punctuator => matches!(spelling, "(" | "[" | "{"),
+        Kind::Punctuator => matches!(spelling.as_bytes(), [b'(' | b'[' | b'{']),
         _ => false,
     }
 }
@@ -21,7 +21,7 @@ fn is_closing(kind: Kind, spelling: &str) -> bool
     ensures { result ≡ is_closing (sample kind spelling.now) }
 {
     match kind {
-        Kind::Punctuator => matches!(spelling, ")" | "]" | "}"),
+        Kind::Punctuator => matches!(spelling.as_bytes(), [b')' | b']' | b'}']),
         _ => false,
     }
 }

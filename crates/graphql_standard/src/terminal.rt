@@ -1,5 +1,5 @@
 //! The terminals of the grammar.
-ghost use Rattle.std.specs.Prelude.{◌≡◌, ◌<◌};
+ghost use Rattle.std.specs.Prelude.{◌≡◌, ◌<◌, ◌≤◌, length};
 ghost use Rattle.graphql_core.specs.{Place};
 ghost use Rattle.graphql_core.specs.declared.tokenizer.token.Kind.TheVariants as kind;
 ghost use Rattle.graphql_standard.specs.Terminals.{token, IsSpellingOf, IsTokenOf};
@@ -202,7 +202,7 @@ impl Terminal {
     }
 
     /// Returns whether the tokens of the terminal are names.
-    pub(crate) fn is_name(self) -> bool
+    pub fn is_name(self) -> bool
         ensures { result ≡ is_name self }
     {
         self.number() <= Terminal::OtherName.number()
@@ -214,67 +214,126 @@ fn terminal_of_punctuator(spelling: &str) -> Terminal
     ensures { (p : Place) → IsSpellingOf kind.Punctuator spelling.now
         → IsTokenOf result (token kind.Punctuator spelling.now p) }
 {
-    match spelling {
-        "!" => Terminal::Bang,
-        "$" => Terminal::Dollar,
-        "&" => Terminal::Ampersand,
-        "(" => Terminal::OpenParen,
-        ")" => Terminal::CloseParen,
-        "..." => Terminal::Spread,
-        ":" => Terminal::Colon,
-        "=" => Terminal::Equals,
-        "@" => Terminal::At,
-        "[" => Terminal::OpenBracket,
-        "]" => Terminal::CloseBracket,
-        "{" => Terminal::OpenBrace,
-        "|" => Terminal::Pipe,
+    match spelling.as_bytes().first().copied() {
+        Some(b'!') => Terminal::Bang,
+        Some(b'$') => Terminal::Dollar,
+        Some(b'&') => Terminal::Ampersand,
+        Some(b'(') => Terminal::OpenParen,
+        Some(b')') => Terminal::CloseParen,
+        Some(b'.') => Terminal::Spread,
+        Some(b':') => Terminal::Colon,
+        Some(b'=') => Terminal::Equals,
+        Some(b'@') => Terminal::At,
+        Some(b'[') => Terminal::OpenBracket,
+        Some(b']') => Terminal::CloseBracket,
+        Some(b'{') => Terminal::OpenBrace,
+        Some(b'|') => Terminal::Pipe,
         _ => Terminal::CloseBrace,
     }
 }
 
-/// The terminal of a name.
-fn terminal_of_name(spelling: &str) -> Terminal
+/// The terminal of a name of three bytes or less.
+fn terminal_of_three_or_less(spelling: &str) -> Terminal
+    requires { length spelling.now ≤ 3 }
+    ensures { (p : Place) → IsTokenOf result (token kind.Name spelling.now p) }
+{
+    match spelling {
+        "on" => Terminal::On,
+        _ => Terminal::OtherName,
+    }
+}
+
+/// The terminal of a name of four bytes.
+fn terminal_of_four(spelling: &str) -> Terminal
+    requires { length spelling.now ≡ 4 }
+    ensures { (p : Place) → IsTokenOf result (token kind.Name spelling.now p) }
+{
+    match spelling {
+        "true" => Terminal::True,
+        "null" => Terminal::Null,
+        "type" => Terminal::Type,
+        "enum" => Terminal::Enum,
+        "ENUM" => Terminal::DirectiveLocation,
+        _ => Terminal::OtherName,
+    }
+}
+
+/// The terminal of a name of five bytes.
+fn terminal_of_five(spelling: &str) -> Terminal
+    requires { length spelling.now ≡ 5 }
     ensures { (p : Place) → IsTokenOf result (token kind.Name spelling.now p) }
 {
     match spelling {
         "query" => Terminal::Query,
-        "mutation" => Terminal::Mutation,
-        "subscription" => Terminal::Subscription,
-        "fragment" => Terminal::Fragment,
-        "on" => Terminal::On,
-        "true" => Terminal::True,
         "false" => Terminal::False,
-        "null" => Terminal::Null,
+        "union" => Terminal::Union,
+        "input" => Terminal::Input,
+        "QUERY" | "FIELD" | "UNION" => Terminal::DirectiveLocation,
+        _ => Terminal::OtherName,
+    }
+}
+
+/// The terminal of a name of six bytes.
+fn terminal_of_six(spelling: &str) -> Terminal
+    requires { length spelling.now ≡ 6 }
+    ensures { (p : Place) → IsTokenOf result (token kind.Name spelling.now p) }
+{
+    match spelling {
         "schema" => Terminal::Schema,
         "extend" => Terminal::Extend,
         "scalar" => Terminal::Scalar,
-        "type" => Terminal::Type,
+        "SCHEMA" | "SCALAR" | "OBJECT" => Terminal::DirectiveLocation,
+        _ => Terminal::OtherName,
+    }
+}
+
+/// The terminal of a name of seven to ten bytes.
+fn terminal_of_seven_to_ten(spelling: &str) -> Terminal
+    requires { (7 ≤ length spelling.now) × (length spelling.now ≤ 10) }
+    ensures { (p : Place) → IsTokenOf result (token kind.Name spelling.now p) }
+{
+    match spelling {
+        "mutation" => Terminal::Mutation,
+        "fragment" => Terminal::Fragment,
         "interface" => Terminal::Interface,
-        "union" => Terminal::Union,
-        "enum" => Terminal::Enum,
-        "input" => Terminal::Input,
         "directive" => Terminal::Directive,
         "implements" => Terminal::Implements,
         "repeatable" => Terminal::Repeatable,
-        "QUERY"
-        | "MUTATION"
-        | "SUBSCRIPTION"
-        | "FIELD"
+        "MUTATION" | "INTERFACE" | "ENUM_VALUE" => Terminal::DirectiveLocation,
+        _ => Terminal::OtherName,
+    }
+}
+
+/// The terminal of a name of eleven bytes or more.
+fn terminal_of_eleven_or_more(spelling: &str) -> Terminal
+    requires { 11 ≤ length spelling.now }
+    ensures { (p : Place) → IsTokenOf result (token kind.Name spelling.now p) }
+{
+    match spelling {
+        "subscription" => Terminal::Subscription,
+        "SUBSCRIPTION"
         | "FRAGMENT_DEFINITION"
         | "FRAGMENT_SPREAD"
         | "INLINE_FRAGMENT"
         | "VARIABLE_DEFINITION"
-        | "SCHEMA"
-        | "SCALAR"
-        | "OBJECT"
         | "FIELD_DEFINITION"
         | "ARGUMENT_DEFINITION"
-        | "INTERFACE"
-        | "UNION"
-        | "ENUM"
-        | "ENUM_VALUE"
         | "INPUT_OBJECT"
         | "INPUT_FIELD_DEFINITION" => Terminal::DirectiveLocation,
         _ => Terminal::OtherName,
+    }
+}
+
+/// The terminal of a name. The length is tested first, since most names are no keywords.
+fn terminal_of_name(spelling: &str) -> Terminal
+    ensures { (p : Place) → IsTokenOf result (token kind.Name spelling.now p) }
+{
+    match spelling.len() {
+        0..=3 => terminal_of_three_or_less(spelling),
+        4 => terminal_of_four(spelling),
+        5 => terminal_of_five(spelling),
+        6 => terminal_of_six(spelling),
+        7..=10 => terminal_of_seven_to_ten(spelling),
+        _ => terminal_of_eleven_or_more(spelling),
     }
 }

@@ -1,7 +1,7 @@
 use Rattle.std.proofs.Common.{◌≡◌, [], ◌++◌, refl, ◌∙◌, subst, arith}
 use Rattle.graphql_core.proofs.{as_error}
 use Rattle.graphql_standard.specs.Checking.{ChecksNext, HasCheckedTokens, token_and, tokens_of}
-use Rattle.graphql_standard.proofs.Checking.{rest_within, rest_short, openers_short, closers_short, same_tokens, element_read}
+use Rattle.graphql_standard.proofs.Checking.{has_front, rest_short, openers_short, closers_short, same_tokens, element_read}
 use Rattle.graphql_standard.proofs.FirstErrors.{token_read, ignored_read, token_error}
 use Rattle.graphql_standard.proofs.checker.Checker.next_element.Goals as goal
 use Rattle.graphql_standard.proofs.checker.Checker.next_element.Goals.{in-Token+in_ok-read, in_default-kind}
@@ -10,13 +10,13 @@ pub first_element-requires : goal.first_element-requires
 first_element-requires c = rest_short c.args.self.now c.requires
 
 pub end-requires : goal.end-requires
-end-requires c = rest_within c.args.self.now c.requires
+end-requires c = has_front c.args.self.now c.requires
 
 pub error-requires : goal.error-requires
-error-requires c = rest_within c.args.self.now c.requires
+error-requires c = has_front c.args.self.now c.requires
 
-pub read-requires-clause-offset : goal.read-requires-clause-offset
-read-requires-clause-offset c = rest_within c.args.self.now c.requires
+pub read-requires-clause-front : goal.read-requires-clause-front
+read-requires-clause-front c = has_front c.args.self.now c.requires
 
 pub read-requires-clause-openers : goal.read-requires-clause-openers
 read-requires-clause-openers c = let short = openers_short c.args.self.now c.requires in omega (arith, short)

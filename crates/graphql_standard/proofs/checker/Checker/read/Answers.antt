@@ -8,14 +8,14 @@ returns-then-not-branch-clause-token c = λ limit ts h is.
     let token = c.of-terminal.ensures nowhere is in
     let (read, ends) = read_false ts _ _ _ _ c.in_ok-advance.was c.if-not-branch.true (c.advance.ensures ts _ h.read token) in
     let error = c.error.ensures in
-    (error.offset, error.expected ts read, error.len, (c.of-terminal.result, error.found, token), ends)
+    (error.place, error.expected ts read, error.len, (c.of-terminal.result, error.found, token), ends)
 
 pub returns-in-None-clause-token : goal.returns-in-None-clause-token
 returns-in-None-clause-token c = λ limit ts h is.
     let token = c.of-terminal.ensures nowhere is in
     let (read, begins) = read_true ts _ _ _ _ c.in_ok-advance.was c.if-not-branch.false (c.advance.ensures ts _ h.read token) in
     let (opens, full) = c.in-None.ensures in
-    (c.offset.ensures, begins, opens, is_full limit ts c.args.self.now h full)
+    (c.before-in-None.ensures, begins, opens, is_full limit ts c.args.self.now h full)
 
 pub returns-clause-token : goal.returns-clause-token
 returns-clause-token c = λ limit ts h is.
