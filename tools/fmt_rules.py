@@ -6,7 +6,7 @@ import unicodedata
 TOKEN = re.compile(
     r'(?P<comment>#[^\n\r]*)|(?P<block>"""(?:\\"""|(?!""").)*?""")|(?P<string>"(?:\\.|[^"\\\n])*")'
     r"|(?P<name>[_A-Za-z]\w*)|(?P<punctuator>\.\.\.|[!$&()\[\]{}:=@|])"
-    r"|(?P<number>[-0-9](?:(?!\.\.\.)[^\s,#!$&()\[\]{}:=@|\"])*)|(?P<skip>[ \t\n\r,\ufeff])",
+    r"|(?P<number>-?[0-9]+(?:\.[0-9]+)?(?:[eE][+-]?[0-9]*)?)|(?P<skip>[ \t\n\r,\ufeff])",
     re.S | re.A,
 )
 
@@ -417,8 +417,10 @@ def below(text):
     return found
 
 
-def wrong_output(text, output, again, width, indent):
-    """What is wrong with the output of a text, if anything; but for the document."""
+def wrong_output(text, output, again, width, indent, in_one_language=True):
+    """What is wrong with the output of a text, if anything; but for the document.
+
+    The rules of lines are checked only of documents in one language: of operations, or of types."""
     if kept(tokens_of(text)) != kept(tokens_of(output)):
         return "other tokens or comments"
     if again != output:
@@ -432,6 +434,8 @@ def wrong_output(text, output, again, width, indent):
     ends_well = output[-1:] in ("", "\n") and not re.search(r"[ \t,]$", plain, re.M)
     if not ends_well or output.startswith("\n") or "\n\n\n" in plain:
         return "white space"
+    if not in_one_language:
+        return None
     found, was = Output(output, width, indent), empty_lines_before(tokens_of(text), text)
     wrong = found.wrong() or found.wrong_spaces() or found.wrong_comments() or found.wrong_empty_lines(was)
     return wrong or indent and found.wrong_definitions(was)

@@ -15,7 +15,7 @@ def standard_input():
     expect("--check, formatted", gqlfmt("--check", text=FORMATTED), (0, b"", ""))
     expect("--check with a name", gqlfmt("--check", "--stdin-path", "a b", text=SHORT), (1, b"a b\n", ""))
     status, out, err = gqlfmt(text=BROKEN)
-    expect("an error", (status, out, err), (1, b"", "<stdin>:2:1: Unexpected end of input\n\n^\n"))
+    expect("an error", (status, out, err), (1, b"", "<stdin>:2:1: unexpected end of the input\n\n^\n"))
     err = gqlfmt("--stdin-path", "n.graphql", text=BROKEN)[2]
     expect("an error with a name", err.split(":")[0], "n.graphql")
     expect("not UTF-8", gqlfmt(text=b"{a \xff}"), (2, b"", "<stdin>: is not UTF-8 (line 1)\n"))
@@ -28,10 +28,11 @@ def format_options():
     long = b"{a(" + b", ".join(b"argument%d: 1" % n for n in range(9)) + b")}\n"
     lines = [len(gqlfmt("--width", width, text=long)[1].splitlines()) for width in ("40", "200")]
     expect("--width", lines[0] > lines[1], True)
-    expect("--language query", gqlfmt("--language", "query", text=SHORT)[0], 0)
-    expect("--language schema", gqlfmt("--language", "schema", text=SHORT)[0], 1)
-    expect("--language query for a schema", gqlfmt("--language", "query", text=b"type T {a: Int}\n")[0], 1)
-    expect("a schema by its first token", gqlfmt(text=b"type T {a: Int}\n")[0], 0)
+    for language in ("query", "schema"):
+        expect(f"--language {language}", gqlfmt("--language", language, text=SHORT), (0, FORMATTED, ""))
+    mixed = b"scalar T {a b} extend type U @c {d}"
+    wanted = b"scalar T\n\n{\n  a\n  b\n}\n\n" + gqlfmt(text=b"extend type U @c {d: Int}")[1]
+    expect("operations and types", gqlfmt(text=mixed.replace(b"{d}", b"{d: Int}")), (0, wanted, ""))
 
 
 @test

@@ -121,5 +121,5 @@ def files_without_tokens():
         expect(f"{name}, --write", (*gqlfmt("--write", name), read(name)), (0, b"", "", wanted))
     new("error.graphql", b"# c\n?")
     status, out, err = gqlfmt("error.graphql")
-    message = "error.graphql:2:1: Unexpected unexpected character '?'"
+    message = "error.graphql:2:1: expected a definition, found the character `?` (U+003F)"
     expect("a lexical error", (status, out, err.splitlines()[0]), (1, b"", message))

@@ -7,10 +7,10 @@ from .running import BROKEN, FORMATTED, SHORT, expect, gqlfmt, new, on_the_path,
 
 SOURCES = "crates/gqlfmt/src"
 # What the page writes for what is different in each run.
-PARTS = {"PATH": ".+", "LINE": "[1-9][0-9]*", "COLUMN": "[1-9][0-9]*", "CAUSE": ".+", "REASON": ".+"}
+PARTS = {"PATH": ".+", "LINE": "[1-9][0-9]*", "COLUMN": "[1-9][0-9]*", "MESSAGE": ".+", "REASON": ".+"}
 # Ways to the messages, except those of other tests, of folders that are too deep, and of allocations that fail.
 WAYS = {
-    "PATH:LINE:COLUMN: CAUSE": ["echo '{' | gqlfmt", "gqlfmt --language schema a.graphql"],
+    "PATH:LINE:COLUMN: MESSAGE": ["echo '{' | gqlfmt", "gqlfmt c.graphql"],
     "PATH: is not UTF-8 (line LINE)": ["printf '\\xff' | gqlfmt"],
     "PATH: cannot be read: REASON": ["gqlfmt none", "gqlfmt < ."],
     "PATH: has no files that end in .graphql, .graphqls or .gql": ["mkdir empty; gqlfmt --check empty"],
@@ -30,7 +30,7 @@ WAYS = {
 
 def section():
     """What the page says of gqlfmt."""
-    return text_of("docs/ERRORS.md").partition("## When `gqlfmt` fails\n")[2]
+    return text_of("docs/ERRORS.md").partition("## When `gqlfmt` fails\n")[2].partition("\n### ")[0]
 
 
 def messages_of_the_page():
@@ -46,7 +46,7 @@ def messages_of_the_sources():
     found += re.findall(r'format!\(in alloc; "(\{name\}:.*)\\n', text_of(f"{SOURCES}/message.rt"))
     [contradictions] = re.findall(r"(?ms)^fn contradiction\(.*?^\}", text_of(f"{SOURCES}/arguments.rt"))
     found += [f"error: {text}" for text in re.findall(r'[Ss]ome\(\s*"([^"]*)"', contradictions)]
-    names = {"name": "PATH", "path": "PATH", "line": "LINE", "column": "COLUMN", "cause": "CAUSE", "error": "REASON"}
+    names = {"name": "PATH", "path": "PATH", "line": "LINE", "column": "COLUMN", "place": "LINE:COLUMN", "message": "MESSAGE", "error": "REASON"}
     texts = {re.sub(r"\{(\w+)\}", lambda part: names.get(part[1], "REASON"), text) for text in found}
     # Any error of an input, and the line of counts.
     return texts - {"PATH: REASON", "REASON"}
@@ -86,7 +86,7 @@ def messages():
         (b"{a\r ;}\r", "2:2", " ;}", " ^"),
         (b"# c\r{;}\n", "2:2", "{;}", " ^"),
         (b"{a \x01}\n", "1:4", "{a \ufffd}", "   ^"),
-        (b"{a(b: 99999999999999999999)}", "1:7", "{a(b: 99999999999999999999)}", "      ^"),
+        (b"{a(b: 09)}", "1:7", "{a(b: 09)}", "      ^"),
         (b'{a(b: """x\n\ty""" ;)}', "2:7", '\ty""" ;)}', "\t     ^"),
     ]
     cut = "..." + "a" * 59 + " ;" + "b" * 59 + "..."
@@ -99,7 +99,20 @@ def messages():
     for text, line in ((b"{\xff}", 1), (b"{\r\n\r\n\xff}", 3), (b"# \xc3\xa9\r{\xc3}", 2), (b"{a}\n\xf0\x9f", 2)):
         status, _, err = gqlfmt(text=text)
         expect(f"{text}", (status, err), (2, f"<stdin>: is not UTF-8 (line {line})\n"))
-    err = gqlfmt(text=b'{a """' + b"long\n" * 1000 + b'"""}')[2]
-    expect("a long token is one short line", (err.count("\n"), len(err) < 500), (3, True))
+    for token in (b'"""' + b"long\n" * 1000 + b'"""', b"a" * 1000 + b" 1"):
+        err = gqlfmt(text=b"{a " + token + b"}")[2]
+        expect("a long token is one short line", (err.count("\n"), len(err) < 500), (3, True))
     status, _, err = gqlfmt("--stdin-path", "a\nb", text=BROKEN)
     expect("a name with a line end", err.split(":")[0], '"a\\nb"')
+
+
+@test
+def messages_of_rejected_inputs():
+    """The inputs and messages of a table of docs/ERRORS.md."""
+    table = text_of("docs/ERRORS.md").partition("### Messages of rejected inputs\n")[2]
+    found = rows(table)[1:]
+    expect("messages of the page", len(found) >= 20, True)
+    for text, place, message, _ in found:
+        text, message = (re.fullmatch("(`+) ?(.*?) ?\\1", it)[2] for it in (text, message))
+        err = gqlfmt(text=text.replace("\\|", "|").encode())[2]
+        expect(text, err.splitlines()[0], f"<stdin>:{place}: {message}".replace("\\|", "|"))

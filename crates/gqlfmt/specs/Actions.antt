@@ -2,7 +2,6 @@
 use Rattle.std.specs.Prelude.{◌≡◌, ◌≢◌, ◌⊎◌, ℕ, List, Option, string_bytes}
 use Rattle.std.specs.Io.KnownBytes.{Keeps, Appends}
 use Rattle.graphql_fmt.specs.{IsAccepted, IsTidy, KeepsAll}
-use Rattle.graphql_fmt.specs.declared.options.Language.{Language}
 use Rattle.gqlfmt.specs.declared.arguments.Task.{Task}
 use Rattle.gqlfmt.specs.declared.arguments.Task.TheVariants as task
 use Rattle.gqlfmt.specs.declared.action.Action.{Action}
@@ -29,16 +28,16 @@ IsActionFor t source formatted (action.Reject message) = ⊥
 abbrev pub IsFormattedOf : (source text : List ℕ) → Type 0
 IsFormattedOf source text = KeepsAll source text × IsTidy text
 
--- An action fits the chosen language, a task and an input: only an accepted input is kept, printed, reported or
--- replaced, and only an input that is not accepted is rejected. Nothing is said of the text of a report or of a message.
-abbrev pub IsActionOn : Option Language → Task → (source : List ℕ) → Action → Type 0
-IsActionOn chosen t source action.Keep = (t ≢ task.Print) × IsAccepted chosen source × IsTidy source
-IsActionOn chosen t source (action.Print text) =
-    (t ≡ task.Print) × IsAccepted chosen source × IsFormattedOf source (string_bytes text)
-IsActionOn chosen t source (action.Report text) = IsReport t × IsAccepted chosen source
-IsActionOn chosen t source (action.Replace text) =
-    (t ≡ task.Write) × IsAccepted chosen source × IsFormattedOf source (string_bytes text) × (string_bytes text ≢ source)
-IsActionOn chosen t source (action.Reject message) = IsAccepted chosen source → ⊥
+-- An action fits a task and an input: only an accepted input is kept, printed, reported or replaced, and only an input
+-- that is not accepted is rejected. Nothing is said of the text of a report or of a message.
+abbrev pub IsActionOn : Task → (source : List ℕ) → Action → Type 0
+IsActionOn t source action.Keep = (t ≢ task.Print) × IsAccepted source × IsTidy source
+IsActionOn t source (action.Print text) =
+    (t ≡ task.Print) × IsAccepted source × IsFormattedOf source (string_bytes text)
+IsActionOn t source (action.Report text) = IsReport t × IsAccepted source
+IsActionOn t source (action.Replace text) =
+    (t ≡ task.Write) × IsAccepted source × IsFormattedOf source (string_bytes text) × (string_bytes text ≢ source)
+IsActionOn t source (action.Reject message) = IsAccepted source → ⊥
 
 -- an action was carried out, with this outcome: what standard output had and has
 abbrev pub IsDone : Action → (old new : Option (List ℕ)) → Outcome → Type 0
@@ -48,15 +47,15 @@ IsDone (action.Report text) old new o = (o ≡ outcome.Differs) × Appends old n
 IsDone (action.Replace text) old new o = ((o ≡ outcome.Rewritten) ⊎ (o ≡ outcome.Failed)) × Keeps old new
 IsDone (action.Reject message) old new o = (o ≡ outcome.Rejected) × Keeps old new
 
--- What an outcome says of the chosen language, a task, an input, and what standard output had and has. A report can be
+-- What an outcome says of a task, an input, and what standard output had and has. A report can be
 -- any text.
-abbrev pub IsOutcomeOf : Option Language → Task → (source : List ℕ) → (old new : Option (List ℕ)) → Outcome → Type 0
-IsOutcomeOf chosen t source old new outcome.Printed =
-    (t ≡ task.Print) × IsAccepted chosen source × (text : List ℕ) × IsFormattedOf source text × Appends old new text
-IsOutcomeOf chosen t source old new outcome.Unchanged =
-    (t ≢ task.Print) × IsAccepted chosen source × IsTidy source × Keeps old new
-IsOutcomeOf chosen t source old new outcome.Differs =
-    IsReport t × IsAccepted chosen source × (text : List ℕ) × Appends old new text
-IsOutcomeOf chosen t source old new outcome.Rewritten = (t ≡ task.Write) × IsAccepted chosen source × Keeps old new
-IsOutcomeOf chosen t source old new outcome.Rejected = (IsAccepted chosen source → ⊥) × Keeps old new
-IsOutcomeOf chosen t source old new outcome.Failed = Keeps old new
+abbrev pub IsOutcomeOf : Task → (source : List ℕ) → (old new : Option (List ℕ)) → Outcome → Type 0
+IsOutcomeOf t source old new outcome.Printed =
+    (t ≡ task.Print) × IsAccepted source × (text : List ℕ) × IsFormattedOf source text × Appends old new text
+IsOutcomeOf t source old new outcome.Unchanged =
+    (t ≢ task.Print) × IsAccepted source × IsTidy source × Keeps old new
+IsOutcomeOf t source old new outcome.Differs =
+    IsReport t × IsAccepted source × (text : List ℕ) × Appends old new text
+IsOutcomeOf t source old new outcome.Rewritten = (t ≡ task.Write) × IsAccepted source × Keeps old new
+IsOutcomeOf t source old new outcome.Rejected = (IsAccepted source → ⊥) × Keeps old new
+IsOutcomeOf t source old new outcome.Failed = Keeps old new

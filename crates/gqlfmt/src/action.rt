@@ -54,7 +54,7 @@ pub fn decide(
     name: &str,
     source: &str,
 ) -> Result<Action, InputError>
-    ensures { IfOk result (IsActionOn request.now.options.language request.now.task source.now) }
+    ensures { IfOk result (IsActionOn request.now.task source.now) }
 {
     if let Some(formatted) = format_comments(alloc, source, &request.options)? {
         return Ok(action_for(alloc, request.task, name, source, formatted)?);

@@ -3,13 +3,13 @@
 use crate::words::unreadable;
 use clap::error::ErrorKind;
 use clap::{Arg, ArgAction, ArgGroup, ArgMatches, Command, Error, value_parser};
-use graphql_fmt::{FormatOptions, Language};
+use graphql_fmt::FormatOptions;
 use std::alloc::{AllocError, Global};
 
 /// The name of standard input in messages, unless the arguments give another name.
 const STANDARD_INPUT: &str = "<stdin>";
 
-/// The names of the languages.
+/// The names of the languages. The option `--language` is read, and changes nothing.
 static LANGUAGES: [&str; 2] = ["query", "schema"];
 
 /// The last lines of the help.
@@ -89,7 +89,7 @@ fn with_format_options(alloc: Global, command: Command<'_>) -> Result<Command<'_
         alloc,
         "language",
         "LANGUAGE",
-        "Language of the inputs; without it, the first token of each input decides",
+        "Changes nothing: an input can have operations and types",
     );
     command
         .arg(indent.value_parser(value_parser!(u16)))?
@@ -132,15 +132,6 @@ fn task_of(matches: &ArgMatches<'_>) -> Task {
     }
 }
 
-/// The language of this name.
-fn language_named(name: &str) -> Option<Language> {
-    match name {
-        "query" => Some(Language::Query),
-        "schema" => Some(Language::Schema),
-        _ => None,
-    }
-}
-
 /// How the inputs are formatted.
 fn format_options(matches: &ArgMatches<'_>) -> FormatOptions {
     let standard = FormatOptions::DEFAULT;
@@ -149,7 +140,6 @@ fn format_options(matches: &ArgMatches<'_>) -> FormatOptions {
     FormatOptions {
         indent: indent.map_or(standard.indent, |indent| indent as usize),
         width: width.map_or(standard.width, |width| width as usize),
-        language: matches.get_str("language").and_then(language_named),
     }
 }
 

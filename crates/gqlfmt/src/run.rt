@@ -88,7 +88,7 @@ fn format_text<R: Files<File = File> + AllocGlobal + Eprint, W: Write>(
     text: &str,
     metadata: Option<&Metadata>,
 ) -> io::Result<Outcome>
-    ensures { IfOk result (IsOutcomeOf request.now.options.language request.now.task text.now
+    ensures { IfOk result (IsOutcomeOf request.now.task text.now
         (W.contents output.old) (W.contents output.new)) }
 {
     match decide(rt.alloc(), request, name, text) {
@@ -121,7 +121,7 @@ fn format_standard_input<R: Files<File = File> + AllocGlobal + Eprint, I: Read, 
     name: &str,
 ) -> io::Result<Outcome>
     ensures { IfSome (I.remaining input.old) (λ source.
-        IfOk result (IsOutcomeOf request.now.options.language request.now.task source
+        IfOk result (IsOutcomeOf request.now.task source
         (W.contents output.old) (W.contents output.new))) }
 {
     match read_text(rt.alloc(), input) {

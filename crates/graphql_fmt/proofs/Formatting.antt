@@ -1,130 +1,89 @@
 -- What `format_source` returns, from the results of its parts.
-use Rattle.std.proofs.Common.{◌≡◌, ◌≤◌, ℕ, List, length, Option, Some, None, Ok, Err, String, string_bytes, inl, inr, refl, sym, ap, ◌∙◌, subst, arith}
-use Rattle.std.specs.Global.{Global}
+use Rattle.std.proofs.Common.{◌≡◌, ◌≤◌, ◌<◌, ◌⊎◌, ℕ, List, length, Result, Ok, Err, IfOk, IfErr, IsErrOf, inl, inr, refl, sym, ap, ◌∙◌, subst, arith}
 use Rattle.std.proofs.lemmas.Bool.{cases_lt}
-use Rattle.graphql_core.specs.{Refusal, max_length, no_memory, too_long, IsDocumentOf, IsReadBack, ParsesDocument}
+use Rattle.graphql_core.specs.{Refusal, max_length, no_memory, IsDocumentOf, IsReadBack, ParsesDocument, Stands}
 use Rattle.graphql_core.specs.documents.Languages as languages
 use Rattle.graphql_core.proofs.{DependsOnValues, has_items, same_values_document}
 use Rattle.graphql_query.specs.{queries}
 use Rattle.graphql_query.proofs.documents.MeaningsAlike as query
 use Rattle.graphql_schema.specs.{schemas}
 use Rattle.graphql_schema.proofs.documents.MeaningsAlike as schema
-use Rattle.graphql_fmt.specs.{Kept, HasKept, KeepsAll, FormatsDocument, FormatsIn, IsOutOfMemory, IsReadAs}
-use Rattle.graphql_fmt.specs.steps.Checking.{ChecksDocument, ChecksIn}
-use Rattle.graphql_fmt.specs.declared.options.Language.{Language}
-use Rattle.graphql_fmt.specs.declared.options.Language.TheVariants.{Query, Schema}
-use Rattle.graphql_fmt.specs.declared.error.FormatSourceError.{FormatSourceError}
-use Rattle.graphql_fmt.specs.declared.error.FormatSourceError.TheVariants as error
-use Rattle.graphql_fmt.proofs.KeptValues.{same_values, has_kept}
+use Rattle.graphql_standard.specs.lexical.Elements.{IsEither}
+use Rattle.graphql_standard.specs.Checking.{ChecksStandard, IsCheckError}
+use Rattle.graphql_standard.specs.declared.error.CheckError.{CheckError}
+use Rattle.graphql_standard.specs.declared.error.CheckError.TheVariants as error
+use Rattle.graphql_fmt.specs.{Kept, HasKept, KeepsAll, KeepsIn, AcceptsDocuments, HasSameDocuments, IsParsedDocument, IsSourceDocument, ParsesTo, max_open}
+use Rattle.graphql_fmt.proofs.KeptValues.{same_values, has_kept, has_kept_of_either}
+use Rattle.graphql_fmt.proofs.SameTrees.{trees_kept}
 
--- ---- one language
+-- ---- the same document
 
 -- the document depends only on the tokens
-pub same_document : {D : Type 0} (l : languages.Language D) → DependsOnValues l → (source text : List ℕ) (d : D) → KeepsAll source text
-    → IsDocumentOf l source d → IsReadBack l text d
-same_document l p source text d keeps (items, has, doc) =
+pub same_document : {D : Type 0} (l : languages.Language D) → DependsOnValues l → (source text : List ℕ) (ks : List Kept) (d : D) → HasKept Stands source ks
+    → HasKept Stands text ks → IsDocumentOf l source d → IsReadBack l text d
+same_document l p source text ks d mine theirs (items, has, doc) =
     let others = has_items text in
-    let (values, end) = same_values source text items _ keeps has others in
+    let (values, end) = same_values source text items _ ks mine theirs has others in
     same_values_document l p source text items _ has others (end doc.2) values d (items, has, doc)
 
-module _ {D : Type 0} (l : languages.Language D) (wrapped : Refusal → FormatSourceError) (source : List ℕ) where
-  -- the parser returned a document
-  pub checked : {V : Type 0} {view : V → D} {v : V} → ParsesDocument l view source (Ok v) → ChecksDocument l wrapped source (Ok tt)
-  checked {view = view} {v = v} parses = record {
-    document = (view v, parses.sound);
-    short = elim (cases_lt max_length (length source)) [ inl long ↦ let past = parses.too_long long in absurd cc | inr short ↦ short ];
-    error = tt;
+kept_document : {D : Type 0} (l : languages.Language D) → DependsOnValues l → (source text : List ℕ) → KeepsIn Stands source text
+    → (d : D) → IsDocumentOf l source d → IsReadBack l text d
+kept_document l p source text keeps d (items, has, doc) =
+    let (ks, mine) = has_kept source items has doc.2 in same_document l p source text ks d mine (keeps ks mine) (items, has, doc)
+
+pub same_documents : (source text : List ℕ) → KeepsAll source text → HasSameDocuments source text
+same_documents source text keeps = record {
+  standard = trees_kept source text keeps.standard;
+  queries = kept_document queries query.by_values source text keeps.core;
+  schemas = kept_document schemas schema.by_values source text keeps.core;
+}
+
+-- ---- the results of a parser
+
+module _ {D V : Type 0} (l : languages.Language D) {view : V → D} (source : List ℕ) where
+  pub parsed : {v : V} → ParsesDocument l view source (Ok v) → (length source ≤ max_length) × ParsesTo l source
+  parsed {v} parses = (
+    elim (cases_lt max_length (length source)) [ inl long ↦ let past = parses.too_long long in absurd cc | inr short ↦ short ],
+    (view v, parses.sound),
+  )
+
+  pub not_parsed : {e : Refusal} → ParsesDocument l view source (Err e) → (e ≡ no_memory → ⊥) → (length source ≤ max_length) × ParsesTo l source → ⊥
+  not_parsed parses other (short, (d, derived)) = other (parses.complete d short derived)
+
+pub parsed_kept : (source : List ℕ) → IsParsedDocument source → (ks : List Kept) × HasKept IsEither source ks
+parsed_kept source (inl (d, (items, has, doc))) = has_kept_of_either source items has doc.2
+parsed_kept source (inr (d, (items, has, doc))) = has_kept_of_either source items has doc.2
+
+-- ---- which sources are accepted
+
+module _ {A B : Type 0} (source : List ℕ) (e : CheckError) (checks : ChecksStandard {A = A} max_open source (Err e)) where
+  -- the parsers accept no source with this error, or an allocation failed
+  rejected : (f : CheckError) → (e ≡ error.TooLong → ⊥) → (f ≡ error.OutOfMemory) ⊎ ((f ≡ e) × (length source ≤ max_length → IsParsedDocument source → ⊥))
+      → AcceptsDocuments {A = B} source (Err f)
+  rejected f other (inl memory) = record {
+    sound = tt;
+    complete = λ short doc. memory;
+    first_error = subst (IsCheckError max_open source) (sym memory) tt;
+    too_long = λ long. let past = checks.too_long long in let same : e ≡ error.TooLong = cc in absurd (other same);
+  }
+  rejected f other (inr (is, none)) = record {
+    sound = tt;
+    complete = λ short doc. elim doc [
+      | inl standard ↦
+          let (ts, has, derived, within) = standard in
+          is ∙ checks.complete ts short has derived within
+      | inr others ↦ absurd (none short others)
+    ];
+    first_error = subst (IsCheckError max_open source) (sym is) checks.first_error;
+    too_long = λ long. let past = checks.too_long long in let same : e ≡ error.TooLong = cc in absurd (other same);
   }
 
-  -- the parser returned an error
-  pub refused : {V : Type 0} {view : V → D} {e : Refusal} → ParsesDocument l view source (Err e) → ChecksDocument l wrapped source (Err (wrapped e))
-  refused {e = e} parses = record {
-    document = tt;
-    short = tt;
-    error = (
-      e,
-      refl,
-      record {
-        sound = tt;
-        complete = parses.complete;
-        unambiguous = parses.unambiguous;
-        first_error = parses.first_error;
-        too_long = λ long. let past = parses.too_long long in let same : e ≡ too_long = cc in ap Err same;
-        one_error = parses.one_error;
-        no_error = parses.no_error;
-      },
-    );
+  pub by_parsers : (r : Result B CheckError) → (e ≡ error.TooLong → ⊥) → IfOk r (λ v. (length source ≤ max_length) × IsParsedDocument source)
+      → IfErr r (λ f. (f ≡ error.OutOfMemory) ⊎ ((f ≡ e) × (length source ≤ max_length → IsParsedDocument source → ⊥))) → AcceptsDocuments source r
+  by_parsers (Ok w) other (short, doc) fails = record {
+    sound = inr doc;
+    complete = λ within some. tt;
+    first_error = tt;
+    too_long = λ long. absurd (omega (arith, long, short));
   }
-
-  -- the source is a document, and an output was made
-  pub made : DependsOnValues l → (s : String Global) → ChecksDocument l wrapped source (Ok tt) → KeepsAll source (string_bytes s)
-      → FormatsDocument l wrapped source (Ok s)
-  made p s checks keeps =
-      let (d, derived) = checks.document in
-      record {
-        same_document = (d, derived, same_document l p source (string_bytes s) d keeps derived);
-        complete = λ e short other. tt;
-        first_error = tt;
-        out_of_memory = λ none. absurd cc;
-        too_long = λ long. absurd (omega (arith, checks.short));
-      }
-
-  -- the source is a document, and an allocation of the formatter failed
-  pub ran_out : ChecksDocument l wrapped source (Ok tt) → FormatsDocument l wrapped source (Err error.OutOfMemory)
-  ran_out checks = record {
-    same_document = tt;
-    complete = λ d short derived. tt;
-    first_error = inl refl;
-    out_of_memory = λ none. checks.document;
-    too_long = λ long. absurd (omega (arith, checks.short));
-  }
-
-  -- the parser returned an error, which is never the one of the formatter
-  module _ (is_memory : IsOutOfMemory (wrapped no_memory)) (apart : (f : Refusal) → wrapped f ≡ error.OutOfMemory → ⊥) where
-    pub passed : (e : FormatSourceError) → ChecksDocument l wrapped source (Err e) → FormatsDocument l wrapped source (Err e)
-    passed e checks =
-        let (f, is, parses) = checks.error in
-        record {
-          same_document = tt;
-          complete = λ d short derived. subst IsOutOfMemory (sym (is ∙ ap wrapped (parses.complete d short derived))) is_memory;
-          first_error = inr (f, is, parses.first_error);
-          out_of_memory = λ none. let same : e ≡ error.OutOfMemory = cc in absurd (apart f (sym is ∙ same));
-          too_long = λ long. let past = parses.too_long long in let same : f ≡ too_long = cc in ap Err (is ∙ ap wrapped same);
-        }
-
--- ---- the language that the source is read as
-
-module _ (source : List ℕ) where
-  pub has_document : (language : Language) → ChecksIn language source (Ok tt) → (length source ≤ max_length) × ((ks : List Kept) × HasKept source ks)
-  has_document Query checks =
-      let (d, (items, has, doc)) = checks.document in
-      (checks.short, has_kept source items has doc.2)
-  has_document Schema checks =
-      let (d, (items, has, doc)) = checks.document in
-      (checks.short, has_kept source items has doc.2)
-
-  pub made_in : (language : Language) (s : String Global) → ChecksIn language source (Ok tt) → KeepsAll source (string_bytes s)
-      → FormatsIn language source (Ok s)
-  made_in Query s checks keeps = made queries error.Query source query.by_values s checks keeps
-  made_in Schema s checks keeps = made schemas error.Schema source schema.by_values s checks keeps
-
-  pub ran_out_in : (language : Language) → ChecksIn language source (Ok tt) → FormatsIn language source (Err error.OutOfMemory)
-  ran_out_in Query checks = ran_out queries error.Query source checks
-  ran_out_in Schema checks = ran_out schemas error.Schema source checks
-
-  pub passed_in : (language : Language) (e : FormatSourceError) → ChecksIn language source (Err e) → FormatsIn language source (Err e)
-  passed_in Query e checks = passed queries error.Query source refl (λ f same. cc) e checks
-  passed_in Schema e checks = passed schemas error.Schema source refl (λ f same. cc) e checks
-
-  -- a source is read as one language
-  pub one_language : (option : Option Language) (l m : Language) → IsReadAs option source l → IsReadAs option source m → l ≡ m
-  one_language (Some chosen) l m one other = one ∙ sym other
-  one_language None Query Query one other = refl
-  one_language None Query Schema one other = absurd (other one)
-  one_language None Schema Query one other = absurd (one other)
-  one_language None Schema Schema one other = refl
-
-  -- what holds of the language that the source is read as
-  pub for_language : (P : Language → Type 0) (option : Option Language) (l : Language) → IsReadAs option source l → P l → (m : Language)
-      → IsReadAs option source m → P m
-  for_language P option l one h m other = subst P (one_language option l m one other) h
+  by_parsers (Err f) other is which = rejected f other which

@@ -5,7 +5,7 @@ use Rattle.graphql_core.specs.declared.tokenizer.piece.Nesting.TheVariants.{Unch
 use Rattle.graphql_core.specs.declared.tokenizer.token.Kind.{Kind}
 use Rattle.graphql_core.specs.declared.tokenizer.token.Kind.TheVariants.{Punctuator, Name, IntValue, FloatValue, StringValue, BlockString}
 use Rattle.graphql_core.specs.declared.tokenizer.element.ElementKind.TheVariants as element
-use Rattle.graphql_core.specs.{Meaning, Ignored, TokenOf, Stands, IsCutInto, Piece, start, Item, HasItems, Where, item_at, TokenContent, LexicalError, too_deep}
+use Rattle.graphql_core.specs.{Meaning, Ignored, TokenOf, Stands, Piece, start, Item, HasItems, Where, item_at, TokenContent, LexicalError, too_deep}
 use Rattle.graphql_core.specs.{is_too_deep, token_then, piece_then, items_of, past_ignored, past_token, split, Last, LastIsError, IsEnd, Token, nowhere}
 use Rattle.graphql_core.specs.{kind_number, token_of, valued, block_string_of}
 use Rattle.graphql_core.specs.lexical.Items.{openers_after, closers_after}
@@ -15,7 +15,9 @@ use Rattle.graphql_core.specs.lexical.Elements.{element_kind}
 use Rattle.graphql_core.specs.lexical.Lexical.{nesting_of, name_token, punctuator_token, spread_token, integer_token}
 use Rattle.graphql_core.specs.lexical.Lexical.{float_token, string_token, block_string_token}
 use Rattle.graphql_core.proofs.{items_unique}
-use Rattle.graphql_fmt.specs.{Kept, KeptToken, KeptBlock, KeptComment, kept_token, kept_element, kept, HasKept, KeepsAll}
+use Rattle.graphql_standard.specs.lexical.Elements.{IsDividedInto, IsEither}
+use Rattle.graphql_standard.proofs.lexical.Laws.{core_laws, core_division, division_in_core, division_of_either}
+use Rattle.graphql_fmt.specs.{Kept, KeptToken, KeptBlock, KeptComment, kept_token, kept_element, kept, HasKept}
 
 -- ---- how a token changes the number of open brackets, by its spelling
 
@@ -43,7 +45,7 @@ nesting_is (block_string_token closes) = refl
 
 -- ---- the tokens for a parser, and their end, by what is kept
 
-abbrev token_by : Kind → List ℕ → Token
+abbrev pub token_by : Kind → List ℕ → Token
 token_by k s = record { kind = kind_number k; spelling = s; place = nowhere }
 
 -- the tokens up to an opening bracket that would be the 51st that is open; `o` and `c` count the brackets before them
@@ -113,16 +115,16 @@ says_piece (TokenOf k n) bytes rest w more ks st h =
 
 -- ---- whole inputs
 
-says_items : (ps : List Piece) (text : List ℕ) (w : Where) → IsCutInto text ps [] → SaysItems w (items_of w ps []) (kept ps)
+says_items : (ps : List Piece) (text : List ℕ) (w : Where) → IsDividedInto Stands text ps [] → SaysItems w (items_of w ps []) (kept ps)
 unfolding items_of
-says_items [] text w cut = (refl, refl)
-says_items (p ∷ ps) text w (rest, e, st, cut) =
-    says_piece p.meaning p.bytes rest w (λ v. items_of v ps []) (kept ps) st (λ v. says_items ps rest v cut)
+says_items [] text w division = (refl, refl)
+says_items (p ∷ ps) text w (rest, e, st, division) =
+    says_piece p.meaning p.bytes rest w (λ v. items_of v ps []) (kept ps) st (λ v. says_items ps rest v division)
 
-says_kept : (text : List ℕ) (items : List Item) (ks : List Kept) → HasItems text items → HasKept text ks → SaysItems start items ks
-says_kept text items ks has (ps, cut, is) =
-    subst (SaysItems start items) is
-    (subst (λ (found : List Item). SaysItems start found (kept ps)) (items_unique text _ items (ps, [], cut, refl) has) (says_items ps text start cut))
+says_kept : (text : List ℕ) (items : List Item) (ks : List Kept) → HasItems text items → HasKept Stands text ks → SaysItems start items ks
+says_kept text items ks has (ps, division, is) =
+    let same = items_unique text _ items (ps, [], division_in_core text ps [] division, refl) has in
+    subst (SaysItems start items) is (subst (λ (found : List Item). SaysItems start found (kept ps)) same (says_items ps text start division))
 
 at_end : (l : Last) → IsEnd l → is_end l ≡ true
 at_end (LastIsEnd p) end = refl
@@ -134,9 +136,10 @@ end_at (LastIsError p c) is = absurd cc
 
 -- Inputs with the same tokens and comments have tokens of the same kinds and values. If one is a list of tokens and
 -- then the end of the input, so is the other.
-pub same_values : (source text : List ℕ) (items others : List Item) → KeepsAll source text → HasItems source items → HasItems text others
+pub same_values : (source text : List ℕ) (items others : List Item) (ks : List Kept) → HasKept Stands source ks → HasKept Stands text ks
+    → HasItems source items → HasItems text others
     → (map valued (split others).tokens ≡ map valued (split items).tokens) × (IsEnd (split items).last → IsEnd (split others).last)
-same_values source text items others (ks, mine, theirs) has more =
+same_values source text items others ks mine theirs has more =
     let (tokens, end) = says_kept source items ks has mine in
     let (tokens', end') = says_kept text others ks more theirs in
     (tokens' ∙ sym tokens, λ last. end_at (split others).last (end' ∙ sym end ∙ at_end (split items).last last))
@@ -163,7 +166,11 @@ all_cut [] (b ∷ bs) w end = absurd end
 all_cut (p ∷ ps) stop w end = all_piece p.meaning w p.bytes stop (λ v. items_of v ps stop) (λ v. all_cut ps stop v) end
 
 -- An input of tokens and then its end is lexical elements, so it has a list of tokens and comments.
-pub has_kept : (text : List ℕ) (items : List Item) → HasItems text items → IsEnd (split items).last → (ks : List Kept) × HasKept text ks
+pub has_kept : (text : List ℕ) (items : List Item) → HasItems text items → IsEnd (split items).last → (ks : List Kept) × HasKept Stands text ks
 has_kept text items (ps, stop, cut, is) end =
     let none : stop ≡ [] = all_cut ps stop start (subst (λ (found : List Item). IsEnd (split found).last) is end) in
-    (kept ps, (ps, subst (λ (rest : List ℕ). IsCutInto text ps rest) none cut, refl))
+    (kept ps, (ps, subst (λ (rest : List ℕ). IsDividedInto Stands text ps rest) none (core_division text ps stop cut), refl))
+
+pub has_kept_of_either : (text : List ℕ) (items : List Item) → HasItems text items → IsEnd (split items).last → (ks : List Kept) × HasKept IsEither text ks
+has_kept_of_either text items has end =
+    let (ks, (ps, division, is)) = has_kept text items has end in (ks, (ps, division_of_either core_laws text ps [] division refl, is))

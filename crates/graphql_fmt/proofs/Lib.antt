@@ -1,8 +1,10 @@
 pub mod Trimmed
 pub mod Elements
+pub mod Checked
 pub mod Joining
 pub mod Tidying
+pub mod Keeping
 pub mod KeptValues
-pub mod Beginning
+pub mod SameTrees
 pub mod Formatting
 pub mod NoTokens

@@ -6,8 +6,9 @@ use Rattle.graphql_core.specs.declared.tokenizer.token.Kind.TheVariants.{Punctua
 use Rattle.graphql_core.specs.declared.tokenizer.token.Kind.TheVariants.{StringValue, BlockString}
 use Rattle.graphql_core.specs.declared.tokenizer.element.ElementKind.{ElementKind}
 use Rattle.graphql_core.specs.declared.tokenizer.element.ElementKind.TheVariants as element
-use Rattle.graphql_core.specs.{IsCutInto, Piece, block_string_of}
+use Rattle.graphql_core.specs.{Piece, Stands, block_string_of}
 use Rattle.graphql_core.specs.lexical.Elements.{element_kind}
+use Rattle.graphql_standard.specs.lexical.Elements.{LexicalGrammar, IsDividedInto, IsElement, IsEither}
 
 -- a byte before some bytes that have no white space at their end
 abbrev pub trimmed_after : ℕ → List ℕ → List ℕ
@@ -45,10 +46,20 @@ abbrev pub kept : List Piece → List Kept
 kept [] = []
 kept (p ∷ ps) = kept_element (element_kind p.bytes p.meaning) p.bytes ++ kept ps
 
--- the whole input is lexical elements, and these are its tokens and its comments
-abbrev pub HasKept : List ℕ → List Kept → Type 0
-HasKept text ks = (ps : List Piece) × IsCutInto text ps [] × (kept ps ≡ ks)
+-- the whole input is elements of the lexical grammar `E`, and these are its tokens and its comments
+abbrev pub HasKept : LexicalGrammar → List ℕ → List Kept → Type 0
+HasKept E text ks = (ps : List Piece) × IsDividedInto E text ps [] × (kept ps ≡ ks)
 
--- both have the same tokens and the same comments, in the same order
-abbrev pub KeepsAll : (source text : List ℕ) → Type 0
-KeepsAll source text = (ks : List Kept) × HasKept source ks × HasKept text ks
+-- If the whole source is elements of the lexical grammar `E`, so is the text, with the same tokens and the same
+-- comments, in the same order.
+abbrev pub KeepsIn : LexicalGrammar → (source text : List ℕ) → Type 0
+KeepsIn E source text = (ks : List Kept) → HasKept E source ks → HasKept E text ks
+
+-- The text has the tokens and the comments of the source, in the same order, and no others, in each lexical grammar.
+pub record KeepsAll (source text : List ℕ) : Type 0 where
+  -- The source is elements of September 2025 and of `graphql_core`, and so is the text.
+  pub either : (ks : List Kept) × HasKept IsEither source ks × HasKept IsEither text ks
+  -- If the source is elements of September 2025 alone, so is the text.
+  pub standard : KeepsIn IsElement source text
+  -- If the source is elements of `graphql_core` alone, so is the text.
+  pub core : KeepsIn Stands source text

@@ -2,12 +2,13 @@ pub mod Accepting
 pub mod Comments
 pub mod Formatting
 pub mod Keeping
-pub mod Languages
 pub mod Tidy
+pub mod Trees
 pub mod steps
-pub use Accepting.{IsAccepted, IsDocumentIn}
+pub use Accepting.{IsAccepted, IsParsedDocument, IsSourceDocument, IsStandardDocument, ParsesTo, max_open}
 pub use Comments.{HasNoToken}
-pub use Formatting.{FormatsDocument, FormatsIn, IsOutOfMemory, parse_error}
-pub use Keeping.{HasKept, KeepsAll, Kept, KeptBlock, KeptComment, KeptToken, kept, kept_element, kept_token, trimmed}
-pub use Languages.{BeginsQuery, IsLanguageOf, IsReadAs, begins_query}
-pub use Tidy.{AreAfterGaps, AreLaidOut, IsGap, IsTidy, IsWrittenAs}
+pub use Formatting.{AcceptsDocuments, HasSameDocuments}
+pub use Keeping.{HasKept, KeepsAll, KeepsIn, Kept, KeptBlock, KeptComment, KeptToken}
+pub use Keeping.{kept, kept_element, kept_token, trimmed}
+pub use Tidy.{AreAfterGaps, AreLaidOut, IsBlockString, IsGap, IsTidy, IsWrittenAs}
+pub use Trees.{HasSameTrees, HasTree, IsSameTree, form_of}

@@ -3,6 +3,7 @@ use Rattle.std.specs.Prelude.{◌≡◌, ℕ, List, [], ◌∷◌, ◌++◌, rep
 use Rattle.graphql_core.specs.declared.tokenizer.piece.Nesting.{Nesting}
 use Rattle.graphql_core.specs.declared.tokenizer.token.Kind.TheVariants.{BlockString}
 use Rattle.graphql_core.specs.{TokenOf, Stands, block_string_of}
+use Rattle.graphql_standard.specs.lexical.Elements.{IsEither}
 use Rattle.graphql_fmt.specs.Keeping.{Kept, KeptToken, KeptBlock, KeptComment, HasKept}
 
 -- What can come between two of them: nothing, a space, a comma and a space, or a line end, at most one empty line, and
@@ -14,11 +15,14 @@ pub data IsGap : List ℕ → Type 0 where
   gap_line : (indent : ℕ) → IsGap (10 ∷ replicate indent 32)
   gap_blank : (indent : ℕ) → IsGap (10 ∷ 10 ∷ replicate indent 32)
 
+-- a block string, which is the same in each lexical grammar
+abbrev pub IsBlockString : List ℕ → Type 0
+IsBlockString s = (n : Nesting) × (rest : List ℕ) × Stands s (TokenOf BlockString n) rest
+
 -- The bytes of a token, or of a comment without its line end. A block string can be any of this value.
 abbrev pub IsWrittenAs : Kept → List ℕ → Type 0
 IsWrittenAs (KeptToken k bytes) s = s ≡ bytes
-IsWrittenAs (KeptBlock value) s =
-    (n : Nesting) × (rest : List ℕ) × Stands s (TokenOf BlockString n) rest × (block_string_of s ≡ value)
+IsWrittenAs (KeptBlock value) s = IsBlockString s × (block_string_of s ≡ value)
 IsWrittenAs (KeptComment bytes) s = s ≡ bytes
 
 -- these, each after a gap, and then one line feed
@@ -34,4 +38,4 @@ AreLaidOut (k ∷ ks) text = (s rest : List ℕ) × (text ≡ s ++ rest) × IsWr
 
 -- The text is its tokens and its comments with gaps between them, and one line feed. Without any it is empty.
 abbrev pub IsTidy : List ℕ → Type 0
-IsTidy text = (ks : List Kept) × HasKept text ks × AreLaidOut ks text
+IsTidy text = (ks : List Kept) × HasKept IsEither text ks × AreLaidOut ks text

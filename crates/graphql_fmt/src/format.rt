@@ -1,123 +1,143 @@
 //! The calls of the library.
-ghost use Rattle.std.specs.Prelude.{◌≡◌, ◌≤◌, ◌/◌, ◌↔◌, List, length, IfOk, IfSome, IsTrue, string_bytes, MatchOption};
-ghost use Rattle.graphql_core.specs.{max_length};
-ghost use Rattle.graphql_fmt.specs.{Kept, HasKept, HasNoToken, KeepsAll, FormatsIn, IsReadAs, IsLanguageOf};
-ghost use Rattle.graphql_fmt.specs.{IsTidy, begins_query};
-ghost use Rattle.graphql_fmt.specs.steps.Checking.{ChecksIn};
+ghost use Rattle.std.specs.Prelude.{◌≡◌, ◌≢◌, false, ◌≤◌, ◌/◌, ◌↔◌, ◌⊎◌, List, ℕ, length, IfOk, IfErr, IfSome};
+ghost use Rattle.std.specs.Prelude.{IsTrue, MatchOption, string_bytes};
+ghost use Rattle.graphql_core.specs.{cause_text, max_length, no_memory};
+ghost use Rattle.graphql_query.specs.{queries};
+ghost use Rattle.graphql_schema.specs.{schemas};
+ghost use Rattle.graphql_standard.specs.declared.error.CheckError.TheVariants.{OutOfMemory};
+ghost use Rattle.graphql_fmt.specs.{HasNoToken, KeepsAll, AcceptsDocuments, HasSameDocuments, IsTidy, ParsesTo};
+ghost use Rattle.graphql_fmt.specs.{IsParsedDocument};
+ghost use Rattle.graphql_fmt.specs.steps.Pieces.{ArePieces, ArePiecesOf};
 
-use crate::error::FormatSourceError;
 use crate::layout::gaps;
-use crate::options::{FormatOptions, Language};
-use crate::pieces::{joined, pieces_of};
-use graphql_core::common::MAX_LENGTH;
-use graphql_core::tokenizer::{Kind, Tokens};
+use crate::options::FormatOptions;
+use crate::pieces::{Piece, checked_pieces, joined, pieces_of};
+use graphql_core::common::{Cause, MAX_LENGTH};
+use graphql_core::tokenizer::Tokens;
 use graphql_parser::{parse_query, parse_schema};
+use graphql_standard::CheckError;
 use std::alloc::{AllocError, Global};
 
-/// Whether a token begins a query document and no schema document.
-fn begins_query(kind: Kind, spelling: &str) -> bool
-    ensures { result ≡ begins_query kind spelling.now }
+/// How many brackets can be open in a document of September 2025 that [`format_source`] accepts.
+pub const MAX_OPEN_BRACKETS: usize = 1000;
+
+/// Whether an allocation failed.
+fn is_out_of_memory(cause: &Cause) -> bool
+    ensures { result ≡ false → cause_text cause.now ≢ no_memory.cause }
 {
-    match kind {
-        Kind::Punctuator => spelling == "{",
-        Kind::Name => matches!(spelling, "query" | "mutation" | "subscription" | "fragment"),
-        _ => false,
+    matches!(cause, Cause::OutOfMemory)
+}
+
+/// Whether `parse_query` accepts the source.
+fn is_query(alloc: Global, source: &str) -> Result<bool, AllocError>
+    ensures { IfOk result (λ is. IsTrue is ↔ (length source.now ≤ max_length) × ParsesTo queries source.now) }
+{
+    match parse_query::<&str>(alloc, source) {
+        Ok(_document) => Ok(true),
+        Err(error) if is_out_of_memory(error.cause()) => Err(AllocError),
+        Err(_) => Ok(false),
     }
 }
 
-/// The language that an input is read as, if no option names one: `Query` if the first token is `{`, `query`,
-/// `mutation`, `subscription` or `fragment`, else `Schema`.
-///
-/// An input without a first token is read as `Schema`: it has none, or it begins with a lexical error. So is an input
-/// of more than `MAX_LENGTH` bytes.
-pub fn language_of(source: &str) -> Language
-    ensures { IsLanguageOf source.now result }
+/// Whether `parse_schema` accepts the source.
+fn is_schema(alloc: Global, source: &str) -> Result<bool, AllocError>
+    ensures { IfOk result (λ is. IsTrue is ↔ (length source.now ≤ max_length) × ParsesTo schemas source.now) }
 {
-    if source.len() > MAX_LENGTH {
-        return Language::Schema;
-    }
-    match Tokens::new(source).next_token() {
-        Ok(Some(token)) if begins_query(token.kind, token.value) => Language::Query,
-        _ => Language::Schema,
+    match parse_schema::<&str>(alloc, source) {
+        Ok(_document) => Ok(true),
+        Err(error) if is_out_of_memory(error.cause()) => Err(AllocError),
+        Err(_) => Ok(false),
     }
 }
 
-/// The language that an input is read as with these options.
-fn read_as(options: &FormatOptions, source: &str) -> Language
-    ensures { IsReadAs options.now.language source.now result }
+/// Whether a parser of `graphql_parser` accepts the source.
+fn is_parsed(alloc: Global, source: &str) -> Result<bool, AllocError>
+    ensures { IfOk result (λ is. IsTrue is ↔ (length source.now ≤ max_length) × IsParsedDocument source.now) }
 {
-    match options.language {
-        Some(language) => language,
-        None => language_of(source),
+    if is_query(alloc, source)? {
+        return Ok(true);
     }
+    is_schema(alloc, source)
 }
 
-/// Parses the input as a document of the language. The error is that of the parser.
-fn check(alloc: Global, language: Language, source: &str) -> Result<(), FormatSourceError>
-    ensures { ChecksIn language source.now result }
-{
-    match language {
-        Language::Query => match parse_query::<&str>(alloc, source) {
-            Ok(_document) => Ok(()),
-            Err(error) => Err(FormatSourceError::Query(error)),
-        },
-        Language::Schema => match parse_schema::<&str>(alloc, source) {
-            Ok(_document) => Ok(()),
-            Err(error) => Err(FormatSourceError::Schema(error)),
-        },
-    }
-}
-
-/// The input, formatted. `None` if it has a lexical error.
-fn formatted(
+/// The pieces of a document of `graphql_parser`. The error is this one if the source is no such document, or out of
+/// memory.
+fn parsed_pieces<'a>(
     alloc: Global,
-    source: &str,
-    language: Language,
-    options: &FormatOptions,
-) -> Result<Option<String>, AllocError>
-    requires { length source.now ≤ usize.MAX / 16 }
-    ensures kept { IfOk result (λ found. MatchOption found ((ks : List Kept) → HasKept source.now ks → ⊥)
-        (λ text. KeepsAll source.now (string_bytes text))) }
-    ensures tidy { IfOk result (λ found. IfSome found (λ text. IsTidy (string_bytes text))) }
+    source: &'a str,
+    error: CheckError,
+) -> Result<Vec<Piece<'a>>, CheckError>
+    ensures pieces { IfOk result (λ v. ArePiecesOf source.now v.items × ArePieces v.items) }
+    ensures parsed { IfOk result (λ v. (length source.now ≤ max_length) × IsParsedDocument source.now) }
+    ensures error { IfErr result (λ e. (e ≡ OutOfMemory)
+        ⊎ ((e ≡ error) × (length source.now ≤ max_length → IsParsedDocument source.now → ⊥))) }
 {
-    let Some(pieces) = pieces_of(alloc, source)? else {
-        return Ok(None);
-    };
-    let gaps = gaps(alloc, options, language, &pieces)?;
-    let text = joined(alloc, &pieces, &gaps)?;
-    Ok(Some(text))
+    if !is_parsed(alloc, source)? {
+        return Err(error);
+    }
+    match pieces_of(alloc, source)? {
+        Some(pieces) => Ok(pieces),
+        // The input has been parsed, so it has no lexical error.
+        None => unreachable!(),
+    }
+}
+
+/// The pieces of a document.
+fn document_pieces<'a>(alloc: Global, source: &'a str) -> Result<Vec<Piece<'a>>, CheckError>
+    ensures pieces { IfOk result (λ v. ArePiecesOf source.now v.items × ArePieces v.items) }
+    ensures accepts { AcceptsDocuments source.now result }
+{
+    match checked_pieces(alloc, source, MAX_OPEN_BRACKETS) {
+        Err(CheckError::Syntax(error)) => parsed_pieces(alloc, source, CheckError::Syntax(error)),
+        Err(CheckError::TooDeep(at)) => parsed_pieces(alloc, source, CheckError::TooDeep(at)),
+        result => result,
+    }
+}
+
+/// The pieces, written with gaps between them.
+fn written(
+    alloc: Global,
+    options: &FormatOptions,
+    pieces: &[Piece<'_>],
+) -> Result<String, AllocError>
+    requires { ArePieces pieces.now }
+    ensures { IfOk result (λ text. (source : List ℕ) → ArePiecesOf source pieces.now
+        → KeepsAll source (string_bytes text) × IsTidy (string_bytes text)) }
+{
+    let gaps = gaps(alloc, options, pieces)?;
+    joined(alloc, pieces, &gaps)
 }
 
 /// Formats source text, and keeps its comments.
 ///
-/// The input is parsed as a document of its language: that of the options, or of [`language_of`]. `Query` and `Schema`
-/// are the errors of `parse_query` and `parse_schema` for the input. `OutOfMemory` means that the input is a document,
-/// and that an allocation failed later.
+/// The input is a document of the GraphQL specification of September 2025 in which at most [`MAX_OPEN_BRACKETS`] brackets
+/// are open. Documents that `parse_query` or `parse_schema` accepts are formatted too. `Syntax` is the first error of
+/// any other input by this specification, and `TooDeep` a bracket that is one too many. `TooLong` means that the input
+/// has more than `MAX_LENGTH` bytes, and `OutOfMemory` that an allocation failed.
 pub fn format_source(
     alloc: Global,
     source: &str,
     options: &FormatOptions,
-) -> Result<String, FormatSourceError>
-    // The output has the tokens and the comments of the input, in the same order, and no others. Block strings are
-    // compared by value.
+) -> Result<String, CheckError>
+    // The output has the tokens and the comments of the input, in the same order, and no others: by the lexical grammar
+    // of `graphql_core`, by that of September 2025, and by both together. Block strings are compared by value.
     ensures kept { IfOk result (λ output. KeepsAll source.now (string_bytes output)) }
 
     // The output begins with the first of them, and ends with one line feed. Between two of them it has nothing, a
     // space, a comma and a space, or a line feed, at most one empty line, and spaces.
     ensures tidy { IfOk result (λ output. IsTidy (string_bytes output)) }
 
-    // The output has the document of the input, and every error is the error of the parser or out of memory. Each field
-    // of `FormatsDocument` in `specs/Formatting.antt` is a promise.
-    ensures formats { (language : Language) → IsReadAs options.now.language source.now language
-        → FormatsIn language source.now result }
+    // Documents are formatted, and nothing else. Each field of `AcceptsDocuments` in `specs/Formatting.antt` is a
+    // promise.
+    ensures accepts { AcceptsDocuments source.now result }
+
+    // The output has the parse trees of the input in the grammar of September 2025, and the documents that `parse_query`
+    // and `parse_schema` return for the input.
+    ensures same_document { IfOk result (λ output. HasSameDocuments source.now (string_bytes output)) }
 {
-    let language = read_as(options, source);
-    check(alloc, language, source)?;
-    match formatted(alloc, source, language, options)? {
-        Some(text) => Ok(text),
-        // The input has been parsed, so it has no lexical error.
-        None => unreachable!(),
-    }
+    let pieces = document_pieces(alloc, source)?;
+    let text = written(alloc, options, &pieces)?;
+    Ok(text)
 }
 
 /// Whether an input has no token and no lexical error.
@@ -151,5 +171,9 @@ pub fn format_comments(
     if source.len() > MAX_LENGTH || !has_no_token(source) {
         return Ok(None);
     }
-    formatted(alloc, source, Language::Schema, options)
+    match pieces_of(alloc, source)? {
+        Some(pieces) => Ok(Some(written(alloc, options, &pieces)?)),
+        // The input has no lexical error.
+        None => unreachable!(),
+    }
 }

@@ -13,7 +13,7 @@ mod role;
 mod symbol;
 
 use crate::layout::placing::Placer;
-use crate::options::{FormatOptions, Language};
+use crate::options::FormatOptions;
 use crate::pieces::{Gap, Piece};
 use std::alloc::{AllocError, Global};
 
@@ -21,10 +21,9 @@ use std::alloc::{AllocError, Global};
 pub fn gaps(
     alloc: Global,
     options: &FormatOptions,
-    language: Language,
     pieces: &[Piece<'_>],
 ) -> Result<Vec<Gap>, AllocError> {
-    let mut placer = Placer::new(alloc, options, language, pieces.len())?;
+    let mut placer = Placer::new(alloc, options, pieces.len())?;
     let mut next = 0usize;
     'pieces: for (index, piece) in pieces.iter().enumerate() {
         if index >= next {

@@ -6,14 +6,17 @@
 //! row, the backslashes change.
 #![tactic(auto)]
 
-mod error;
 mod format;
 mod laws;
 mod layout;
+mod messages;
 mod options;
 mod pieces;
 
-pub use error::FormatSourceError;
-pub use format::{format_comments, format_source, language_of};
+pub use format::{MAX_OPEN_BRACKETS, format_comments, format_source};
+pub use graphql_standard::{
+    CheckError, ExpectedSet, Found, Place, SyntaxError, Terminal, last_line,
+};
 pub use laws::kept_tokens_have_one_document;
-pub use options::{FormatOptions, Language};
+pub use messages::message;
+pub use options::FormatOptions;

@@ -9,4 +9,4 @@ mod source;
 pub use gap::Gap;
 pub use join::joined;
 pub use piece::{Piece, PieceKind};
-pub use source::pieces_of;
+pub use source::{checked_pieces, pieces_of};

@@ -2,7 +2,7 @@
 ghost use Rattle.std.specs.Prelude.{◌≡◌, IfOk, IfSome, string_bytes};
 
 use crate::error::InputError;
-use crate::message::line_after;
+use graphql_fmt::Place;
 use std::alloc::Global;
 use std::fs::{File, Metadata, OpenFile};
 use std::io::Read;
@@ -22,7 +22,7 @@ pub struct Source {
 fn line_of(error: &FromUtf8Error) -> usize {
     let len = error.utf8_error().valid_up_to();
     let before = error.as_bytes().get(..len).unwrap_or(&[]);
-    line_after(str::from_utf8(before).unwrap_or(""))
+    Place::after(str::from_utf8(before).unwrap_or("")).line
 }
 
 /// Reads a text to its end.

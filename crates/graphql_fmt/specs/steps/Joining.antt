@@ -1,6 +1,6 @@
 -- Tokens and comments, joined with white space and commas.
-use Rattle.std.specs.Prelude.{◌≡◌, ℕ, false, if◌then◌else◌, List, [], ◌∷◌, ◌++◌, replicate}
-use Rattle.graphql_core.specs.{kind_number, nowhere, MayFollow, block_string_of}
+use Rattle.std.specs.Prelude.{◌≡◌, ◌⊎◌, ℕ, false, if◌then◌else◌, List, [], ◌∷◌, ◌++◌, replicate}
+use Rattle.graphql_core.specs.{kind_number, nowhere, block_string_of}
 use Rattle.graphql_core.specs.sources.Minified.{is_spaced}
 use Rattle.graphql_core.specs.declared.tokenizer.token.Kind.{Kind}
 use Rattle.graphql_core.specs.declared.tokenizer.token.Kind.TheVariants.{BlockString}
@@ -9,8 +9,7 @@ use Rattle.graphql_fmt.specs.declared.pieces.gap.Gap.TheVariants.{Nothing, Space
 use Rattle.graphql_fmt.specs.declared.pieces.piece.PieceKind.{PieceKind}
 use Rattle.graphql_fmt.specs.declared.pieces.piece.PieceKind.TheVariants as piece
 use Rattle.graphql_fmt.specs.declared.pieces.piece.Piece.{Piece}
-use Rattle.graphql_fmt.specs.Keeping.{Kept, HasKept}
-use Rattle.graphql_fmt.specs.steps.Pieces.{kept_by, kept_piece, IsSpelling}
+use Rattle.graphql_fmt.specs.Tidy.{IsBlockString}
 
 abbrev pub gap_bytes : Gap → List ℕ
 gap_bytes Nothing = []
@@ -34,20 +33,22 @@ abbrev pub IsApart : (before : PieceKind) → (gap : List ℕ) → (kind : Piece
 IsApart (piece.Token k) gap kind spelling = IsApartToken k gap kind spelling
 IsApart piece.Comment gap kind spelling = EndsLine gap
 
--- `rest` can follow a piece of this kind, and has these tokens and comments; after a comment it begins with a line end
-abbrev pub Follows : PieceKind → (rest : List ℕ) → List Kept → Type 0
-Follows (piece.Token k) rest ks = MayFollow k rest × HasKept rest ks
-Follows piece.Comment rest ks = (more : List ℕ) × (rest ≡ 10 ∷ more) × HasKept more ks
-
--- what keeps a piece of this spelling apart from the piece before it does so for the other spelling
-abbrev pub KeepsApart : PieceKind → (spelling other : List ℕ) → Type 0
-KeepsApart kind spelling other =
-    (before : PieceKind) (gap : List ℕ) → IsApart before gap kind spelling → IsApart before gap kind other
-
 -- the other text is a block string of the same value
 abbrev pub HasSameBlock : (spelling other : List ℕ) → Type 0
-HasSameBlock spelling other = IsSpelling (piece.Token BlockString) other × (block_string_of other ≡ block_string_of spelling)
+HasSameBlock spelling other = IsBlockString other × (block_string_of other ≡ block_string_of spelling)
 
--- The spelling can be written for the piece: the same is kept of it, and it is kept apart from the piece before it.
+-- the piece as it is, or another block string of the same value
 abbrev pub IsWrittenFor : Piece → List ℕ → Type 0
-IsWrittenFor p s = IsSpelling p.kind s × (kept_by p.kind s ≡ kept_piece p) × KeepsApart p.kind p.text.now s
+IsWrittenFor p s = (s ≡ p.text.now) ⊎ (p.kind ≡ piece.Token BlockString × HasSameBlock p.text.now s)
+
+-- these pieces, each after a gap that keeps it apart from the piece before it, and then one line feed
+abbrev pub AreJoinedAfter : (before : PieceKind) → List Piece → (text : List ℕ) → Type 0
+AreJoinedAfter before [] text = text ≡ 10 ∷ []
+AreJoinedAfter before (p ∷ ps) text =
+    (gap : Gap) × (s rest : List ℕ) × (text ≡ gap_bytes gap ++ (s ++ rest))
+    × IsApart before (gap_bytes gap) p.kind p.text.now × IsWrittenFor p s × AreJoinedAfter p.kind ps rest
+
+-- the text is empty, or the first of these pieces, the others, each after a gap, and one line feed
+abbrev pub AreJoined : List Piece → (text : List ℕ) → Type 0
+AreJoined [] text = text ≡ []
+AreJoined (p ∷ ps) text = (s rest : List ℕ) × (text ≡ s ++ rest) × IsWrittenFor p s × AreJoinedAfter p.kind ps rest

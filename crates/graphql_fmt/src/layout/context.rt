@@ -2,16 +2,13 @@
 
 use crate::layout::role::{Enclosure, Role};
 use crate::layout::symbol::Symbol;
-use crate::options::Language;
 use crate::pieces::Piece;
 use graphql_core::helpers::Punctuator;
 
 /// What the last token was.
 #[derive(Clone, Copy, Debug, PartialEq, Eq)]
 enum Last {
-    /// There was none.
-    Nothing,
-    /// None of those below.
+    /// None of those below, or there was none.
     Other,
     /// The first name of an operation or a fragment.
     Operation,
@@ -35,15 +32,15 @@ enum Last {
     Spread,
     /// The `on` after `...`.
     Condition,
-    /// `}`
-    CloseBrace,
 }
 
-/// What the next name is, outside brackets in a schema document.
+/// What the next name is, outside brackets.
 #[derive(Clone, Copy, Debug, PartialEq, Eq)]
 enum NextName {
     /// The first name of a definition.
     Definition,
+    /// A name in an operation or a fragment, before its braces.
+    Executable,
     /// The name after `extend`.
     Extended,
     /// The name of a type.
@@ -63,6 +60,7 @@ enum NextName {
 /// What the name after the first name of a definition is.
 fn name_after(first: &Piece<'_>) -> NextName {
     match first.text {
+        "query" | "mutation" | "subscription" | "fragment" => NextName::Executable,
         "extend" => NextName::Extended,
         "schema" => NextName::Definition,
         "directive" => NextName::Directive,
@@ -73,43 +71,52 @@ fn name_after(first: &Piece<'_>) -> NextName {
 /// The context of a token: the innermost brackets around it, and what the tokens before it are to it.
 #[derive(Clone, Copy)]
 pub struct Context {
-    language: Language,
     /// What the next token is in.
     pub within: Enclosure,
     last: Last,
     next_name: NextName,
+    /// Whether the last definition is an operation or a fragment.
+    is_executable: bool,
+    /// Whether the braces of the last definition can still come.
+    expects_body: bool,
 }
 
 impl Context {
     /// The context of the first token.
-    pub fn new(language: Language) -> Self {
-        Context {
-            language,
-            within: Enclosure::Document,
-            last: Last::Nothing,
-            next_name: NextName::Definition,
-        }
-    }
+    pub const FIRST: Context = Context {
+        within: Enclosure::Document,
+        last: Last::Other,
+        next_name: NextName::Definition,
+        is_executable: false,
+        expects_body: false,
+    };
 
     /// Whether the next token can be the first location of a directive that is defined.
     pub fn begins_locations(&self) -> bool {
         self.next_name == NextName::Location
     }
 
-    /// Whether a definition of a query document begins with the next token.
-    fn begins_operation(&self) -> bool {
-        self.language == Language::Query
-            && self.within == Enclosure::Document
-            && matches!(self.last, Last::Nothing | Last::CloseBrace)
+    /// Begins a definition with its first name, or with the name after `extend`, which has this role.
+    fn begin(&mut self, first: &Piece<'_>, role: Role) -> (Role, Last) {
+        self.next_name = name_after(first);
+        self.is_executable = self.next_name == NextName::Executable;
+        self.expects_body = !matches!(first.text, "scalar" | "union" | "directive");
+        let last = if self.is_executable {
+            Last::Operation
+        } else {
+            Last::Other
+        };
+        (role, last)
     }
 
-    /// Reads a name outside brackets in a schema document.
-    fn read_name_of_schema(&mut self, piece: &Piece<'_>) -> Role {
+    /// Reads a name outside brackets: its role, and what it is to the next token.
+    fn read_outer_name(&mut self, piece: &Piece<'_>) -> (Role, Last) {
         let (next_name, role) = match (self.last, self.next_name) {
             (Last::Separator, _) => (NextName::Definition, Role::Spaced),
             (Last::Equals, _) => (NextName::Definition, Role::Member),
-            (Last::Description, _) => (name_after(piece), Role::Described),
-            (_, NextName::Extended) => (name_after(piece), Role::Spaced),
+            (Last::Description, _) => return self.begin(piece, Role::Described),
+            (_, NextName::Extended) => return self.begin(piece, Role::Spaced),
+            (_, NextName::Executable) => (NextName::Executable, Role::Spaced),
             (_, NextName::Type) => (NextName::Implements, Role::Spaced),
             (_, NextName::Implements) if piece.text == "implements" => {
                 (NextName::Interface, Role::Lead)
@@ -119,21 +126,10 @@ impl Context {
             (_, NextName::Interface | NextName::Location) => {
                 (NextName::Definition, Role::Member)
             }
-            _ => (name_after(piece), Role::Item),
+            _ => return self.begin(piece, Role::Item),
         };
         self.next_name = next_name;
-        role
-    }
-
-    /// Reads a name outside brackets: its role, and what it is to the next token.
-    fn read_outer_name(&mut self, piece: &Piece<'_>) -> (Role, Last) {
-        if self.begins_operation() {
-            (Role::Item, Last::Operation)
-        } else if self.language == Language::Query {
-            (Role::Spaced, Last::Other)
-        } else {
-            (self.read_name_of_schema(piece), Last::Other)
-        }
+        (role, Last::Other)
     }
 
     /// Reads a name.
@@ -160,6 +156,7 @@ impl Context {
     fn value_role(&self) -> Role {
         match self.last {
             Last::Colon | Last::Equals => Role::Spaced,
+            Last::Description => Role::Described,
             _ => Role::Item,
         }
     }
@@ -210,7 +207,7 @@ impl Context {
         } else {
             Role::Arguments
         };
-        let is_of_field = self.language == Language::Query && self.within == Enclosure::Block;
+        let is_of_field = self.is_executable && self.within == Enclosure::Block;
         self.within = if is_of_field || self.last == Last::Directive {
             Enclosure::Arguments
         } else {
@@ -235,6 +232,18 @@ impl Context {
         self.read_value(Last::Other)
     }
 
+    /// Reads the `{` of a block. Outside brackets it opens the body of the last definition, or begins an operation.
+    fn read_block(&mut self) -> Role {
+        if self.within == Enclosure::Block {
+            return Role::Body;
+        }
+        let expects_body = self.expects_body;
+        self.is_executable = self.is_executable || !expects_body;
+        self.expects_body = false;
+        self.next_name = NextName::Definition;
+        if expects_body { Role::Body } else { Role::Item }
+    }
+
     /// Reads `{`.
     fn read_open_brace(&mut self) -> Role {
         let is_block = matches!(self.within, Enclosure::Document | Enclosure::Block)
@@ -243,11 +252,7 @@ impl Context {
             self.within = Enclosure::Object;
             return self.read_value(Last::Other);
         }
-        let role = if self.begins_operation() {
-            Role::Item
-        } else {
-            Role::Body
-        };
+        let role = self.read_block();
         self.within = Enclosure::Block;
         self.last = Last::Other;
         role
@@ -274,10 +279,9 @@ impl Context {
             Punctuator::OpenParen => self.read_open_paren(),
             Punctuator::OpenBracket => self.read_open_bracket(),
             Punctuator::OpenBrace => self.read_open_brace(),
-            Punctuator::CloseParen | Punctuator::CloseBracket => {
+            Punctuator::CloseParen | Punctuator::CloseBracket | Punctuator::CloseBrace => {
                 self.read_other(Role::End, Last::Other)
             }
-            Punctuator::CloseBrace => self.read_other(Role::End, Last::CloseBrace),
         }
     }
 

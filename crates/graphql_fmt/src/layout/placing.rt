@@ -12,7 +12,7 @@ use crate::layout::placing::comments::Comments;
 use crate::layout::reader::Reader;
 use crate::layout::role::Role;
 use crate::layout::symbol::{Symbol, symbol_of};
-use crate::options::{FormatOptions, Language};
+use crate::options::FormatOptions;
 use crate::pieces::{Gap, Piece};
 use std::alloc::{AllocError, Global};
 
@@ -46,15 +46,10 @@ fn ends_line(symbol: Symbol, piece: &Piece<'_>, rest: &[Piece<'_>]) -> bool {
 
 impl Placer {
     /// Before the first of `count` pieces.
-    pub fn new(
-        alloc: Global,
-        options: &FormatOptions,
-        language: Language,
-        count: usize,
-    ) -> Result<Self, AllocError> {
+    pub fn new(alloc: Global, options: &FormatOptions, count: usize) -> Result<Self, AllocError> {
         Ok(Placer {
             options: *options,
-            reader: Reader::new(alloc, language),
+            reader: Reader::new(alloc),
             frames: Frames::new(alloc),
             definitions: Definitions::NONE,
             line: Line::FIRST,

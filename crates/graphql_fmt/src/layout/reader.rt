@@ -3,7 +3,6 @@
 use crate::layout::context::Context;
 use crate::layout::role::{Enclosure, Role};
 use crate::layout::symbol::Symbol;
-use crate::options::Language;
 use crate::pieces::Piece;
 use std::alloc::{AllocError, Global};
 
@@ -17,9 +16,9 @@ pub struct Reader {
 
 impl Reader {
     /// Before the first token.
-    pub fn new(alloc: Global, language: Language) -> Self {
+    pub fn new(alloc: Global) -> Self {
         Reader {
-            context: Context::new(language),
+            context: Context::FIRST,
             outer: Vec::new(alloc),
         }
     }

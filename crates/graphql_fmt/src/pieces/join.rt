@@ -1,8 +1,7 @@
 //! Output made of pieces.
-ghost use Rattle.std.specs.Prelude.{◌≡◌, ◌++◌, List, ℕ, map, string_bytes, IfOk, OnOk};
-ghost use Rattle.graphql_fmt.specs.{HasKept, AreLaidOut};
-ghost use Rattle.graphql_fmt.specs.steps.Pieces.{kept_piece, IsPiece, ArePieces};
-ghost use Rattle.graphql_fmt.specs.steps.Joining.{IsWrittenFor, gap_bytes};
+ghost use Rattle.std.specs.Prelude.{◌≡◌, ◌++◌, List, ℕ, string_bytes, IfOk, OnOk};
+ghost use Rattle.graphql_fmt.specs.steps.Pieces.{IsPiece, ArePieces};
+ghost use Rattle.graphql_fmt.specs.steps.Joining.{AreJoined, IsWrittenFor, gap_bytes};
 
 use crate::pieces::gap::{Gap, apart};
 use crate::pieces::piece::{Piece, PieceKind};
@@ -75,10 +74,9 @@ fn push_spelling(
 /// them. Where a gap does not keep two pieces apart, another takes its place.
 pub fn joined(alloc: Global, pieces: &[Piece<'_>], gaps: &[Gap]) -> Result<String, AllocError>
     requires { ArePieces pieces.now }
-    // The output has these tokens and comments, and no others, whatever the gaps are.
-    ensures kept { IfOk result (λ text. HasKept (string_bytes text) (map kept_piece pieces.now)) }
-    // Nothing but gaps is between them.
-    ensures tidy { IfOk result (λ text. AreLaidOut (map kept_piece pieces.now) (string_bytes text)) }
+    // The output is these pieces, and nothing but gaps is between them. Each gap keeps two pieces apart, whatever the
+    // chosen gaps are.
+    ensures { IfOk result (λ text. AreJoined pieces.now (string_bytes text)) }
 {
     let mut out = String::new(alloc);
     let Some((first, others)) = pieces.split_first() else {

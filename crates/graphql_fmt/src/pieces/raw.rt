@@ -1,19 +1,18 @@
 //! Block strings that `write_block` of graphql_core is not proved for.
 ghost use Rattle.std.specs.Prelude.{◌≡◌, true, string_bytes, IfOk, MatchOption};
 ghost use Rattle.graphql_core.specs.{block_string_of};
-ghost use Rattle.graphql_core.specs.declared.tokenizer.token.Kind.TheVariants.{BlockString};
-ghost use Rattle.graphql_fmt.specs.declared.pieces.piece.PieceKind.TheVariants as piece;
-ghost use Rattle.graphql_fmt.specs.steps.Pieces.{IsSpelling};
+ghost use Rattle.graphql_fmt.specs.{IsBlockString};
 ghost use Rattle.graphql_fmt.specs.steps.Joining.{HasSameBlock};
 
 use graphql_core::common::{MAX_LENGTH, unquote_block_string};
 use graphql_core::format::print::{write_block, write_spaces};
-use graphql_core::tokenizer::{ElementKind, Kind, first_element};
+use graphql_core::tokenizer::{ElementKind, Kind};
+use graphql_standard::tokenizer::first_element;
 use std::alloc::{AllocError, Global};
 
 /// Whether the whole text is a block string.
 fn is_block_string(text: &str) -> bool
-    ensures { result ≡ true → IsSpelling (piece.Token BlockString) text.now }
+    ensures { result ≡ true → IsBlockString text.now }
 {
     if text.len() > MAX_LENGTH {
         return false;
@@ -29,8 +28,8 @@ fn is_block_string(text: &str) -> bool
 
 /// Whether two block strings have the same value.
 fn have_same_value(alloc: Global, first: &str, second: &str) -> Result<bool, AllocError>
-    requires first { IsSpelling (piece.Token BlockString) first.now }
-    requires second { IsSpelling (piece.Token BlockString) second.now }
+    requires first { IsBlockString first.now }
+    requires second { IsBlockString second.now }
     ensures { IfOk result (λ b. b ≡ true → block_string_of first.now ≡ block_string_of second.now) }
 {
     let first = unquote_block_string(alloc, first)?;
@@ -40,7 +39,7 @@ fn have_same_value(alloc: Global, first: &str, second: &str) -> Result<bool, All
 
 /// This text, if it is a block string of the same value as `spelling`.
 fn if_same_value(alloc: Global, text: String, spelling: &str) -> Result<Option<String>, AllocError>
-    requires { IsSpelling (piece.Token BlockString) spelling.now }
+    requires { IsBlockString spelling.now }
     ensures { IfOk result (λ found. MatchOption found (Unit {0})
         (λ text. HasSameBlock spelling.now (string_bytes text))) }
 {
@@ -53,7 +52,7 @@ fn if_same_value(alloc: Global, text: String, spelling: &str) -> Result<Option<S
 
 /// The block string with LF in place of each CR LF; `None` if it has none, or if its value would be another.
 pub fn with_line_feeds(alloc: Global, spelling: &str) -> Result<Option<String>, AllocError>
-    requires { IsSpelling (piece.Token BlockString) spelling.now }
+    requires { IsBlockString spelling.now }
     ensures { IfOk result (λ found. MatchOption found (Unit {0})
         (λ text. HasSameBlock spelling.now (string_bytes text))) }
 {
@@ -84,7 +83,7 @@ pub fn with_margin(
     value: &str,
     margin: usize,
 ) -> Result<Option<String>, AllocError>
-    requires { IsSpelling (piece.Token BlockString) spelling.now }
+    requires { IsBlockString spelling.now }
     ensures { IfOk result (λ found. MatchOption found (Unit {0})
         (λ text. HasSameBlock spelling.now (string_bytes text))) }
 {

@@ -1,13 +1,15 @@
 //! An input as its pieces.
 ghost use Rattle.std.specs.Prelude.{◌≡◌, ◌≤◌, ◌/◌, ◌++◌, length, map, List, IfOk, OnOk, MatchOption};
-ghost use Rattle.graphql_fmt.specs.{Kept, HasKept, kept_element, trimmed};
-ghost use Rattle.graphql_fmt.specs.steps.Pieces.{kept_piece, ArePieces, IsElement, IsSpelling};
-ghost use Rattle.graphql_fmt.specs.declared.pieces.piece.PieceKind.TheVariants as piece;
-ghost use Rattle.graphql_core.specs.declared.tokenizer.token.Kind.TheVariants.{BlockString};
+ghost use Rattle.graphql_standard.specs.Checking.{ChecksStandard};
+ghost use Rattle.graphql_standard.specs.lexical.Elements.{IsEither};
+ghost use Rattle.graphql_fmt.specs.{Kept, HasKept, IsBlockString, trimmed};
+ghost use Rattle.graphql_fmt.specs.steps.Pieces.{spelled_piece, spelled_element, ArePieces, ArePiecesOf, IsSomeElement};
 
 use crate::pieces::piece::{Piece, PieceKind};
 use graphql_core::common::unquote_block_string;
-use graphql_core::tokenizer::{Element, ElementKind, Kind, first_element};
+use graphql_core::tokenizer::{ElementKind, Kind};
+use graphql_standard::tokenizer::{Element, first_element};
+use graphql_standard::{CheckError, Checker};
 use std::alloc::{AllocError, Global};
 
 /// A comment without the ASCII white space at its end.
@@ -35,7 +37,7 @@ fn is_indentable_value(value: &str) -> bool {
 
 /// Whether a block string is written with any indentation. If its value is empty, that is so if it has several lines.
 fn is_indentable(alloc: Global, spelling: &str) -> Result<bool, AllocError>
-    requires { IsSpelling (piece.Token BlockString) spelling.now }
+    requires { IsBlockString spelling.now }
 {
     let value = unquote_block_string(alloc, spelling)?;
     if value.is_empty() {
@@ -97,6 +99,14 @@ impl Between {
         }
     }
 
+    /// With this many more spaces.
+    fn indented(self, count: usize) -> Self {
+        Between {
+            spaces: self.spaces.saturating_add(count),
+            ..self
+        }
+    }
+
     /// The number of spaces and tabs before a piece that comes next, in the line that it begins; 0 if it begins no
     /// line.
     fn indent(self) -> usize {
@@ -125,9 +135,9 @@ fn push_element<'a>(
     element: &Element<'a>,
     between: Between,
 ) -> Result<(), AllocError>
-    requires element { IsElement element.now.kind element.now.text.now }
-    ensures kept { OnOk result (map kept_piece pieces.new.items
-        ≡ map kept_piece pieces.old.items ++ kept_element element.now.kind element.now.text.now) }
+    requires element { IsSomeElement element.now.kind element.now.text.now }
+    ensures spelled { OnOk result (map spelled_piece pieces.new.items
+        ≡ map spelled_piece pieces.old.items ++ spelled_element element.now.kind element.now.text.now) }
     ensures pieces { OnOk result (ArePieces pieces.old.items → ArePieces pieces.new.items) }
 {
     let (kind, text) = match element.kind {
@@ -152,11 +162,12 @@ fn push_element<'a>(
 
 /// The tokens and the comments of an input of at most `usize::MAX / 16` bytes, in order.
 ///
-/// `None` if the input has a lexical error. Open brackets are not counted.
+/// `None` if the input has a lexical error: part of it is an element neither of September 2025 nor of `graphql_core`.
+/// Open brackets are not counted.
 pub fn pieces_of<'a>(alloc: Global, source: &'a str) -> Result<Option<Vec<Piece<'a>>>, AllocError>
     requires { length source.now ≤ usize.MAX / 16 }
-    ensures kept { IfOk result (λ found. MatchOption found ((ks : List Kept) → HasKept source.now ks → ⊥)
-        (λ v. HasKept source.now (map kept_piece v.items) × ArePieces v.items)) }
+    ensures kept { IfOk result (λ found. MatchOption found ((ks : List Kept) → HasKept IsEither source.now ks → ⊥)
+        (λ v. ArePiecesOf source.now v.items × ArePieces v.items)) }
 {
     let mut pieces = Vec::new(alloc);
     let mut rest = source;
@@ -171,4 +182,24 @@ pub fn pieces_of<'a>(alloc: Global, source: &'a str) -> Result<Option<Vec<Piece<
     } else {
         Ok(None)
     }
+}
+
+/// The tokens and the comments of a document of September 2025 in which at most `limit` brackets are open, in order.
+/// An error of the source is its first one.
+pub fn checked_pieces<'a>(
+    alloc: Global,
+    source: &'a str,
+    limit: usize,
+) -> Result<Vec<Piece<'a>>, CheckError>
+    ensures pieces { IfOk result (λ v. ArePiecesOf source.now v.items × ArePieces v.items) }
+    ensures checks { ChecksStandard limit source.now result }
+{
+    let mut checker = Checker::new(alloc, source, limit)?;
+    let mut pieces = Vec::new(alloc);
+    let mut between = Between::START;
+    'elements: while let Some(element) = checker.next_element()? {
+        push_element(alloc, &mut pieces, &element, between)?;
+        between = between.after(&element).indented(checker.skip_spaces());
+    }
+    Ok(pieces)
 }

@@ -1,30 +1,39 @@
 //! The callers of `graphql_fmt` and `graphql_json` that docs/CALLING.md shows. Here, since a crate with tests is proved
 //! twice.
-use graphql_fmt::{FormatOptions, FormatSourceError, Language, format_comments, format_source};
+use graphql_fmt::{CheckError, FormatOptions, format_comments, format_source, message};
 use graphql_json::query_to_json;
 use graphql_parser::query::{Document, parse_query};
-use std::alloc::Global;
+use std::alloc::{AllocError, Global};
 use std::test::Fail;
 
-/// A query document, formatted with four spaces for each level. Its comments are kept.
-fn with_four_spaces(alloc: Global, source: &str) -> Result<String, FormatSourceError> {
+/// A document, formatted with four spaces for each level. Its comments are kept.
+fn with_four_spaces(alloc: Global, source: &str) -> Result<String, CheckError> {
     let options = FormatOptions {
         indent: 4,
-        language: Some(Language::Query),
         ..FormatOptions::DEFAULT
     };
     format_source(alloc, source, &options)
 }
 
 /// Source text, formatted. It can be a document, or have comments only.
-fn formatted(
-    alloc: Global,
-    source: &str,
-    options: &FormatOptions,
-) -> Result<String, FormatSourceError> {
+fn formatted(alloc: Global, source: &str, options: &FormatOptions) -> Result<String, CheckError> {
     match format_comments(alloc, source, options)? {
         Some(output) => Ok(output),
         None => format_source(alloc, source, options),
+    }
+}
+
+/// What is wrong with source text that is rejected. Empty if it is formatted.
+fn described(alloc: Global, source: &str) -> Result<String, AllocError> {
+    match format_source(alloc, source, &FormatOptions::DEFAULT) {
+        Ok(_) => Ok(String::new(alloc)),
+        Err(error) => {
+            let message = message(alloc, source, &error)?;
+            match error.place() {
+                Some(place) => format!(in alloc; "{place}: {message}"),
+                None => Ok(message),
+            }
+        }
     }
 }
 
@@ -42,9 +51,10 @@ fn comments_are_kept(rt: HostRuntime) -> Result<(), Fail> {
 }
 
 #[test]
-fn schemas_are_rejected(rt: HostRuntime) {
-    let refused = with_four_spaces(rt.alloc(), "scalar Date").is_err();
-    assert!(rt; refused);
+fn a_syntax_error_is_described(rt: HostRuntime) -> Result<(), Fail> {
+    let rejected = described(rt.alloc(), "type Query { hero: }")?;
+    assert_eq!(rt; rejected.as_str(), "1:20: expected a type, found `}`");
+    Ok(())
 }
 
 #[test]

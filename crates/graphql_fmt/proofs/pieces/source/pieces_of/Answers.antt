@@ -5,7 +5,7 @@ use Rattle.graphql_fmt.proofs.pieces.source.pieces_of.Goals as goal
 pub elements-preserved : goal.elements-preserved
 elements-preserved c = record {
   text = search rules;
-  come = come_on _ _ _ _ _ _ _ c.elements.invariant.come c.in-Some.ensures.first c.in_ok-push_element.ensures.kept;
+  come = come_on _ _ _ _ _ _ _ c.elements.invariant.come c.in-Some.ensures.first c.in_ok-push_element.ensures.spelled;
   pieces = c.in_ok-push_element.ensures.pieces c.elements.invariant.pieces;
   within = omega (arith, c.in-Some.ensures.shorter, c.elements.invariant.within);
 }
