@@ -1,5 +1,6 @@
 -- The pieces of a source that a checker has read.
-use Rattle.std.proofs.Common.{◌≡◌, ℕ, zero, suc, List, [], ◌∷◌, ◌++◌, map, replicate, Option, Some, None, Ok, refl, sym, ap, ◌∙◌, subst, append_assoc, append-nil, inl}
+use Rattle.std.proofs.Common.{◌≡◌, ℕ, zero, suc, List, [], ◌∷◌, ◌++◌, map, replicate, Option, Some, None}
+use Rattle.std.proofs.Common.{Ok, refl, sym, ap, ◌∙◌, subst, append_assoc, append-nil, inl}
 use Rattle.graphql_core.specs.{Meaning}
 use Rattle.graphql_core.specs.lexical.Elements.{element_kind}
 use Rattle.graphql_core.specs.lexical.Lexical.{Piece as Element}

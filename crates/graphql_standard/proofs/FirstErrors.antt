@@ -30,6 +30,7 @@ use Rattle.graphql_standard.specs.declared.error.CheckError.{CheckError}
 use Rattle.graphql_standard.specs.declared.error.CheckError.TheVariants as error
 use Rattle.graphql_standard.specs.declared.checker.Checker.{Checker}
 use Rattle.graphql_standard.specs.steps.Brackets.{one_if}
+use Rattle.graphql_standard.proofs.Documents.{exact}
 use Rattle.graphql_standard.proofs.lexical.Elements.{same_element}
 use Rattle.graphql_standard.proofs.lexical.Following.{none_at_end, piece_same}
 use Rattle.graphql_standard.proofs.Checking.{tokens_more, count_more, spelled}
@@ -194,6 +195,7 @@ pub accepts : {A : Type 0} (limit : ℕ) (source : List ℕ) (ps : List Piece) (
 accepts limit source ps c x parts doc h = record {
   sound = (tokens_of ps, (ps, divided source ps parts, refl), doc, h.tokens.within);
   complete = λ ts short has d w. tt;
+  unambiguous = λ ts x y has d e. exact.unambiguous ts x y d e;
   first_error = tt;
   too_long = λ long. absurd (omega (arith, long, h.short));
 }
@@ -203,6 +205,7 @@ pub rejects : {A : Type 0} (limit : ℕ) (source : List ℕ) (e : CheckError) �
 rejects {A} limit source e h long = record {
   sound = tt;
   complete = λ ts short has d w. only_memory limit source e ts h short has d w;
+  unambiguous = λ ts x y has d f. exact.unambiguous ts x y d f;
   first_error = h;
   too_long = λ past. ap Err (long past);
 }

@@ -1,9 +1,14 @@
 -- Spellings that are none of a list.
-use Rattle.std.proofs.Common.{◌≡◌, ℕ, Bool, true, false, ◌||◌, if◌then◌else◌, length, ap, ◌∙◌, List, [], ◌∷◌, ◌++◌, refl, sym, subst, ◌⊎◌, inl, inr}
+use Rattle.std.proofs.Common.{◌≡◌, ℕ, Bool, true, false, ◌||◌, not, if◌then◌else◌, length, ap, ◌∙◌}
+use Rattle.std.proofs.Common.{List, [], ◌∷◌, ◌++◌, refl, sym, subst, ◌⊎◌, inl, inr}
 use Rattle.std.proofs.lemmas.Bool.{eq-eqb, and_from, or_cases, false_from_ne_true}
-use Rattle.graphql_core.specs.{same_spelling, is_listed}
+use Rattle.graphql_core.specs.{Place, same_spelling, is_listed}
+use Rattle.graphql_core.specs.declared.tokenizer.token.Kind.TheVariants.{Name}
 use Rattle.graphql_core.proofs.{false≢true}
 use Rattle.graphql_core.proofs.grammar.Classes.{same_spelling-true}
+use Rattle.graphql_standard.specs.Grammar.{locations}
+use Rattle.graphql_standard.specs.Terminals.{IsTokenOf, keywords, token}
+use Rattle.graphql_standard.specs.declared.terminal.Terminal.TheVariants.{OtherName}
 
 abbrev pub IsNoneOf : List ℕ → List (List ℕ) → Type 0
 IsNoneOf u [] = Unit {0}
@@ -65,3 +70,10 @@ is_listed-length test u (x ∷ xs) t h = of (is_listed-length test u xs t) (test
         false_from_ne_true (same_spelling u x)
         (λ same. false≢true (sym e ∙ ap (λ (l : List ℕ). test (length l)) (sym (same_spelling-true u x same)) ∙ t)) in
         none_left (same_spelling u x) (is_listed u xs) (is_listed u (of_length test xs)) later apart k
+
+-- a name is no keyword if it is none of those of its length
+pub other_name : (test : ℕ → Bool) (u : List ℕ) (p : Place) → test (length u) ≡ true
+    → IsNoneOf u (of_length test (keywords ++ locations)) → IsTokenOf OtherName (token Name u p)
+other_name test u p t none =
+    let others = of_length test (keywords ++ locations) in
+    ap (λ (b : Bool). not b || false) (is_listed-length test u (keywords ++ locations) t (is_listed-none u others none))

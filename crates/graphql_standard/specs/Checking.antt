@@ -4,13 +4,16 @@ use Rattle.std.specs.Prelude.{slice_index, Option, Some, None, Result, Ok, Err, 
 use Rattle.std.specs.List.{count_by}
 use Rattle.std.specs.Str.{chars}
 use Rattle.std.specs.Char.{len_utf8}
-use Rattle.graphql_core.specs.{Token, Piece, Meaning, Ignored, TokenOf, sample, is_listed, kind_number, max_length}
+use Rattle.graphql_core.specs.grammar.Trees.{Derives}
+use Rattle.graphql_core.specs.{ParseTree, Sym, Token, Piece, Meaning, Ignored, TokenOf, sample, is_listed, kind_number, max_length}
 use Rattle.graphql_core.specs.lexical.Elements.{element_kind}
 use Rattle.graphql_core.specs.declared.tokenizer.piece.Move.TheVariants.{Over}
 use Rattle.graphql_core.specs.declared.tokenizer.token.Kind.{Kind}
 use Rattle.graphql_core.specs.declared.tokenizer.token.Kind.TheVariants.{Punctuator}
 use Rattle.graphql_core.specs.declared.tokenizer.element.ElementKind.TheVariants as element
 use Rattle.graphql_standard.specs.lexical.Elements.{IsElement, IsDividedInto, BeginsNoneOf, BeginsWithOneOf}
+use Rattle.graphql_standard.specs.Grammar.{standard}
+use Rattle.graphql_standard.specs.Symbols as symbol
 use Rattle.graphql_standard.specs.Terminals.{IsTokenOf}
 use Rattle.graphql_standard.specs.Places.{IsPlaceBefore}
 use Rattle.graphql_standard.specs.declared.place.Place.{Place}
@@ -137,6 +140,9 @@ pub record ChecksStandard {A : Type 0} (limit : ℕ) (source : List ℕ) (r : Re
   -- Complete: such a source of at most `max_length` bytes is accepted, or an allocation failed.
   pub complete : (ts : List Token) → length source ≤ max_length → HasTokens source ts → IsDocument ts
       → IsWithin limit ts → IfErr r (λ e. e ≡ error.OutOfMemory)
+  -- Unambiguous: the tokens of the source have at most one parse tree.
+  pub unambiguous : (ts : List Token) (x y : ParseTree) → HasTokens source ts → Derives standard (Sym symbol.document) ts x
+      → Derives standard (Sym symbol.document) ts y → x ≡ y
   -- An error is out of memory, too long (only if the source is), the first error of the source, or an opening bracket
   -- that is one too many.
   pub first_error : IfErr r (IsCheckError limit source)

@@ -7,6 +7,7 @@ pub mod Numbers
 pub mod Escapes
 pub mod Spellings
 pub mod Brackets
+pub mod Lines
 pub mod Checking
 unfoldable pub use Numbers.*
 unfoldable pub use Escapes.*

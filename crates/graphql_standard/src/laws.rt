@@ -25,6 +25,10 @@ pub fn worked_examples()
     ensures empty_fields { example.EmptyFields }
     ensures enum_value_true { example.EnumValueTrue }
     ensures interface_extension { example.InterfaceExtension }
+    ensures two_types_for_one_operation { example.TwoTypesForOneOperation }
+    ensures empty_schema { example.EmptySchema }
+    ensures variable_in_type_directive { example.VariableInTypeDirective }
+    ensures variable_in_variable_directive { example.VariableInVariableDirective }
     ensures empty_extension { example.EmptyExtension }
     ensures known_location { example.KnownLocation }
     ensures unknown_location { example.UnknownLocation }

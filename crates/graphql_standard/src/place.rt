@@ -1,7 +1,8 @@
 //! Places in a source.
-ghost use Rattle.std.specs.Prelude.{◌≡◌, ◌≤◌, length};
+ghost use Rattle.std.specs.Prelude.{◌≡◌, ◌<◌, ◌≤◌, length};
 ghost use Rattle.graphql_standard.specs.Places.{begins_character, character_count, ends_line, line_ends};
 ghost use Rattle.graphql_standard.specs.Places.{EndsWith, IsLastLine, IsPlaceAfter, IsPlaceBefore};
+ghost use Rattle.graphql_standard.specs.steps.Lines.{IsAfterLast};
 
 use std::fmt;
 
@@ -37,18 +38,22 @@ fn line_ends(text: &str) -> usize
     count
 }
 
+/// The part of a text after the last one of an ASCII character.
+fn after_last(text: &str, character: char) -> &str
+    requires { character < 128 }
+    ensures { IsAfterLast character text.now result.now }
+{
+    match text.rsplit_once(character) {
+        Some((_, rest)) => rest,
+        None => text,
+    }
+}
+
 /// Returns the part of a text after its last line end: LF, CR LF, or a CR alone (section Line Terminators).
 pub fn last_line(text: &str) -> &str
     ensures { IsLastLine text.now result.now }
 {
-    let after_feed = match text.rsplit_once('\n') {
-        Some((_, line)) => line,
-        None => text,
-    };
-    match after_feed.rsplit_once('\r') {
-        Some((_, line)) => line,
-        None => after_feed,
-    }
+    after_last(after_last(text, '\n'), '\r')
 }
 
 /// Whether a byte is the first one of a character.

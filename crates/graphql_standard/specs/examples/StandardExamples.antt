@@ -94,6 +94,19 @@ EnumValueTrue = RejectedAt 3 (codes "enum A { true }")
 abbrev pub InterfaceExtension : Type 0
 InterfaceExtension = Accepted (codes "extend interface A implements B & C")
 
+abbrev pub TwoTypesForOneOperation : Type 0
+TwoTypesForOneOperation = Accepted (codes "schema { query : A query : B }")
+
+abbrev pub EmptySchema : Type 0
+EmptySchema = RejectedAt 2 (codes "schema { }")
+
+-- a directive of a type, or of a variable, has no variable
+abbrev pub VariableInTypeDirective : Type 0
+VariableInTypeDirective = RejectedAt 7 (codes "scalar A @ b ( c : $ d )")
+
+abbrev pub VariableInVariableDirective : Type 0
+VariableInVariableDirective = RejectedAt 11 (codes "query ( $ a : B @ c ( d : $ e ) ) { f }")
+
 abbrev pub EmptyExtension : Type 0
 EmptyExtension = RejectedAt 3 (codes "extend type A type B")
 

@@ -1,17 +1,14 @@
-use Rattle.std.proofs.Common.{refl, ap, ◌∙◌}
+use Rattle.std.proofs.Common.{ap, ◌∙◌}
 use Rattle.graphql_core.specs.{Refusal}
-use Rattle.graphql_core.proofs.{false≢true}
 use Rattle.graphql_schema.specs.{schemas}
 use Rattle.graphql_fmt.proofs.Formatting.{parsed, not_parsed}
 use Rattle.graphql_fmt.proofs.format.is_schema.Goals as goal
 
 pub returns-in-Ok : goal.returns-in-Ok
-returns-in-Ok c = (λ yes. parsed schemas c.args.source.now c.in-Ok.ensures.parses, λ h. refl)
+returns-in-Ok c = parsed schemas c.args.source.now c.in-Ok.ensures.parses
 
 pub returns-in-Err-2 : goal.returns-in-Err-2
 returns-in-Err-2 c =
-    let other = c.is_out_of_memory.ensures c.if-is_out_of_memory.false in (
-      λ yes. absurd (false≢true yes),
-      λ h. absurd (not_parsed schemas c.args.source.now c.in-Err.ensures.parses
-          (λ memory. other (c.cause.ensures ∙ ap (λ (r : Refusal). r.cause) memory)) h),
-    )
+    let other = c.is_out_of_memory.ensures c.if-is_out_of_memory.false in
+    not_parsed schemas c.args.source.now c.in-Err.ensures.parses
+    (λ memory. other (c.cause.ensures ∙ ap (λ (r : Refusal). r.cause) memory))

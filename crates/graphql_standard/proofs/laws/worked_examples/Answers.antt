@@ -64,6 +64,21 @@ returns-clause-enum_value_true c =
 pub returns-clause-interface_extension : goal.returns-clause-interface_extension
 returns-clause-interface_extension c = accepted (tokens (codes "extend interface A implements B & C")) refl
 
+pub returns-clause-two_types_for_one_operation : goal.returns-clause-two_types_for_one_operation
+returns-clause-two_types_for_one_operation c = accepted (tokens (codes "schema { query : A query : B }")) refl
+
+pub returns-clause-empty_schema : goal.returns-clause-empty_schema
+returns-clause-empty_schema c =
+    let text = codes "schema { }" in let r = rejected (take 2 (tokens text)) (at 2 text) refl in (refl, r.0, r.1)
+
+pub returns-clause-variable_in_type_directive : goal.returns-clause-variable_in_type_directive
+returns-clause-variable_in_type_directive c =
+    let text = codes "scalar A @ b ( c : $ d )" in let r = rejected (take 7 (tokens text)) (at 7 text) refl in (refl, r.0, r.1)
+
+pub returns-clause-variable_in_variable_directive : goal.returns-clause-variable_in_variable_directive
+returns-clause-variable_in_variable_directive c =
+    let text = codes "query ( $ a : B @ c ( d : $ e ) ) { f }" in let r = rejected (take 11 (tokens text)) (at 11 text) refl in (refl, r.0, r.1)
+
 pub returns-clause-empty_extension : goal.returns-clause-empty_extension
 returns-clause-empty_extension c =
     let text = codes "extend type A type B" in let r = rejected (take 3 (tokens text)) (at 3 text) refl in (refl, r.0, r.1)

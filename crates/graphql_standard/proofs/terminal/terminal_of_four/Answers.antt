@@ -1,12 +1,10 @@
-use Rattle.std.proofs.Common.{Bool, ◌==◌, ◌||◌, false, length, not, ◌++◌, ap, arith}
+use Rattle.std.proofs.Common.{◌==◌, arith}
 use Rattle.std.proofs.lemmas.Bool.Decides.{nat_tests}
-use Rattle.graphql_standard.specs.Grammar.{locations}
-use Rattle.graphql_standard.specs.Terminals.{keywords}
-use Rattle.graphql_standard.proofs.Spellings.{is_listed-none, is_listed-length, of_length}
+use Rattle.graphql_standard.proofs.Spellings.{other_name}
 use Rattle.graphql_standard.proofs.terminal.terminal_of_four.Goals as goal
 
 pub returns-in_default : goal.returns-in_default
 returns-in_default c = λ p.
-    let spelling = c.args.spelling.now in
-    let none = is_listed-none spelling (of_length (λ n. n == 4) (keywords ++ locations)) (c.in_default.not-true, (c.in_default.not-null, (c.in_default.not-type, (c.in_default.not-enum, (c.in_default.not-ENUM, tt))))) in
-    ap (λ (b : Bool). not b || false) (is_listed-length (λ n. n == 4) spelling (keywords ++ locations) (grind (arith, nat_tests, c.requires)) none)
+    let d = c.in_default in
+    other_name (λ n. n == 4) c.args.spelling.now p (grind (arith, nat_tests, c.requires))
+    (d.not-true, (d.not-null, (d.not-type, (d.not-enum, (d.not-ENUM, tt)))))

@@ -1,12 +1,10 @@
-use Rattle.std.proofs.Common.{Bool, nat_lt, ◌||◌, false, length, not, ◌++◌, ap, arith}
+use Rattle.std.proofs.Common.{nat_lt, arith}
 use Rattle.std.proofs.lemmas.Bool.Decides.{nat_tests}
-use Rattle.graphql_standard.specs.Grammar.{locations}
-use Rattle.graphql_standard.specs.Terminals.{keywords}
-use Rattle.graphql_standard.proofs.Spellings.{is_listed-none, is_listed-length, of_length}
+use Rattle.graphql_standard.proofs.Spellings.{other_name}
 use Rattle.graphql_standard.proofs.terminal.terminal_of_three_or_less.Goals as goal
 
 pub returns-in_default : goal.returns-in_default
 returns-in_default c = λ p.
-    let spelling = c.args.spelling.now in
-    let none = is_listed-none spelling (of_length (λ n. nat_lt n 4) (keywords ++ locations)) (c.in_default.not-on, tt) in
-    ap (λ (b : Bool). not b || false) (is_listed-length (λ n. nat_lt n 4) spelling (keywords ++ locations) (grind (arith, nat_tests, c.requires)) none)
+    let d = c.in_default in
+    other_name (λ n. nat_lt n 4) c.args.spelling.now p (grind (arith, nat_tests, c.requires))
+    (d.not-on, tt)

@@ -1,6 +1,7 @@
 use Rattle.std.proofs.Common.{Option, Some, Ok, sym, subst, ◌∙◌, arith}
 use Rattle.graphql_core.proofs.{as_error}
 use Rattle.graphql_standard.specs.Checking.{ChecksNext, ChecksStandard}
+use Rattle.graphql_standard.specs.declared.error.CheckError.TheVariants.{OutOfMemory}
 use Rattle.graphql_standard.specs.declared.tokenizer.element.Element.{Element}
 use Rattle.graphql_standard.proofs.FirstErrors.{rejects}
 use Rattle.graphql_fmt.proofs.Checked.{some_element, one_more, more_spaces, all_read, all_accepted, none_is}
@@ -59,3 +60,10 @@ returns-clause-checks c =
     let none = none_is _ c.in_default.not-Some in
     all_accepted c.args.limit c.args.source.now ps _ _
     (subst (λ (o : Option Element). ChecksNext c.args.limit c.args.source.now ps (Ok o) c.next_element.new.self) none next)
+
+pub returns-in_err-push_element-clause-checks : goal.returns-in_err-push_element-clause-checks
+returns-in_err-push_element-clause-checks c =
+    let (ps, h, is) = c.elements.invariant.checked in
+    subst (ChecksStandard c.args.limit c.args.source.now)
+    (as_error c.from_residual-in_err-push_element.result OutOfMemory c.from_residual-in_err-push_element.ensures.1)
+    (rejects c.args.limit c.args.source.now OutOfMemory tt (λ long. absurd (omega (arith, long, h.short))))
