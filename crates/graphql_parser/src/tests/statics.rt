@@ -1,33 +1,14 @@
 //! Values that are made static, and names that are borrowed.
-use crate::common::Text;
 use crate::query::{
-    Definition, Directive, Document, Field, OperationDefinition, Query, Selection, SelectionSet,
-    Type, TypeCondition, Value, parse_query,
+    Definition, Directive, Document, OperationDefinition, Query, Selection, SelectionSet, Type,
+    TypeCondition, Value, parse_query,
 };
-use crate::tests::callers::{first_value, with_borrowed_names};
+use crate::tests::names::with_borrowed_names;
 use crate::tests::page::Page;
 use crate::tests::sources::QUERY;
+use crate::tests::walks::{first_argument, first_field, first_value};
 use std::alloc::Global;
 use std::borrow::CowStr;
-
-/// The first field of a document that begins with a set of selections.
-pub fn first_field<'a, 'd, T: Text<'a>>(document: &'d Document<'a, T>) -> Option<&'d Field<'a, T>> {
-    match document.definitions.first()? {
-        Definition::Operation(OperationDefinition::SelectionSet(set)) => match set.items.first()? {
-            Selection::Field(field) => Some(field),
-            _ => None,
-        },
-        _ => None,
-    }
-}
-
-/// The value of the first argument of that field.
-pub fn first_argument<'a, 'd, T: Text<'a>>(
-    document: &'d Document<'a, T>,
-) -> Option<&'d Value<'a, T>> {
-    let (_, value) = first_field(document)?.arguments.first()?;
-    Some(value)
-}
 
 /// The value of the first argument of an input's first field. It outlives the input, whose copy is dropped here.
 fn value_of(alloc: Global, source: &str) -> Option<Value<'static, String>> {

@@ -1,9 +1,9 @@
-//! What is left of a stream, parsed.
+//! What is left of a stream, parsed, and definitions that are parsed one at a time.
 ghost use Rattle.std.specs.Prelude.{IfOk, ◌≡◌, ◌≤ℤ◌, ◌+◌, ◌-◌, ◌^◌, pos, min, length, string_bytes};
 ghost use Rattle.graphql_core.specs.{depth_of, next_place, IsAtEnd, split};
 ghost use Rattle.graphql_query.specs.{document_view, IsDocument};
 
-use crate::query::{self, parse_query_from};
+use crate::query::{self, consume_definition, parse_query_from};
 use crate::tokenizer::TokenStream;
 use std::alloc::Global;
 
@@ -65,4 +65,22 @@ fn a_document_after_three_tokens(rt: HostRuntime) {
     let read = read_past(rt.alloc(), "{ a } { b }", 3);
     assert_eq!(rt; read, Some((1, 7, true)));
     assert_eq!(rt; is_refused_past(rt.alloc(), "} { a }", 1), Some(true));
+}
+
+/// How many definitions a source begins with, one after another.
+fn count_leading_definitions(alloc: Global, source: &str) -> usize {
+    let mut count = 0usize;
+    let mut rest = source;
+    'definitions: while let Ok((_, after)) = consume_definition::<&str>(alloc, rest) {
+        count = count.saturating_add(1);
+        rest = after;
+    }
+    count
+}
+
+#[test]
+fn definitions_are_taken_one_at_a_time(rt: HostRuntime) {
+    for (source, count) in [("", 0), ("{ a } # b", 1), ("{ a } query { b } ; { c }", 2)] {
+        assert_eq!(rt; count_leading_definitions(rt.alloc(), source), count);
+    }
 }

@@ -1,9 +1,9 @@
 //! Values that no input has, at each text type, and a writer that fails.
 use crate::common::Text;
 use crate::query::Value;
-use crate::tests::callers::{Owned, with_borrowed_names};
+use crate::tests::names::{Owned, with_borrowed_names};
 use crate::tests::page::Page;
-use crate::tests::statics::first_argument;
+use crate::tests::walks::first_argument;
 use std::alloc::Global;
 use std::borrow::CowStr;
 use std::fmt;

@@ -1,9 +1,9 @@
 use Rattle.std.proofs.Common.{string_bytes, inl, inr}
 use Rattle.std.proofs.lemmas.Result.{IfOk-weaker}
 use Rattle.graphql_query.specs.{IsReadBack, document_view}
-use Rattle.graphql_parser.specs.declared.tests.callers.Lost.TheVariants as lost
+use Rattle.graphql_parser.specs.declared.tests.outputs.Lost.TheVariants as lost
 use Rattle.graphql_parser.proofs.{at_passed, mapped, same_again, lost_again}
-use Rattle.graphql_parser.proofs.tests.callers.minified_and_parsed.Goals as goal
+use Rattle.graphql_parser.proofs.tests.outputs.minified_and_parsed.Goals as goal
 
 pub returns-clause-same : goal.returns-clause-same
 returns-clause-same c d has =

@@ -1,5 +1,5 @@
 use Rattle.std.proofs.Common.{length}
-use Rattle.graphql_parser.proofs.tests.callers.count_leading_definitions.Given as goal
+use Rattle.graphql_parser.proofs.tests.streams.count_leading_definitions.Given as goal
 
 -- the rest of a text is shorter
 abbrev pub decreases-definitions : goal.decreases-definitions

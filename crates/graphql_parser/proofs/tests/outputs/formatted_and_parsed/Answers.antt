@@ -1,7 +1,7 @@
 use Rattle.std.proofs.Common.{inl, inr}
-use Rattle.graphql_parser.specs.declared.tests.callers.Lost.TheVariants as lost
+use Rattle.graphql_parser.specs.declared.tests.outputs.Lost.TheVariants as lost
 use Rattle.graphql_parser.proofs.{at_passed, same_again, lost_again}
-use Rattle.graphql_parser.proofs.tests.callers.formatted_and_parsed.Goals as goal
+use Rattle.graphql_parser.proofs.tests.outputs.formatted_and_parsed.Goals as goal
 
 pub returns-clause-same : goal.returns-clause-same
 returns-clause-same g c =

@@ -1,7 +1,7 @@
 use Rattle.std.proofs.Common.{◌≡◌, Option, Result, Ok, Err, IfOk, IfSome, sym, subst}
 use Rattle.std.specs.Result.{result_ok}
 use Rattle.graphql_query.specs.{document_view, IsDocumentOf}
-use Rattle.graphql_parser.proofs.tests.callers.laid_out.Goals as goal
+use Rattle.graphql_parser.proofs.tests.outputs.laid_out.Goals as goal
 
 -- what follows where all is well holds of what `ok` keeps
 kept : {A E : Type 0} (r : Result A E) (o : Option A) (P Q : A → Type 0) → o ≡ result_ok r → ((v : A) → P v → Q v) → IfOk r P → IfSome o Q
