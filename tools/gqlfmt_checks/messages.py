@@ -102,6 +102,11 @@ def messages():
     for token in (b'"""' + b"long\n" * 1000 + b'"""', b"a" * 1000 + b" 1"):
         err = gqlfmt(text=b"{a " + token + b"}")[2]
         expect("a long token is one short line", (err.count("\n"), len(err) < 500), (3, True))
+    # 1,001 brackets are open, the last one at column 1004.
+    err = gqlfmt(text=b"{a(b:" + b"[" * 999)[2]
+    expect("open brackets", err.splitlines()[0], "<stdin>:1:1004: more than 1000 brackets are open")
+    for text, wanted in ((b"{a \x07}", "U+0007"), (b"{a `}", "U+0060"), ("{a \u200b}".encode(), "U+200B")):
+        expect(f"{text}", gqlfmt(text=text)[2].splitlines()[0], f"<stdin>:1:4: unexpected character {wanted}")
     status, _, err = gqlfmt("--stdin-path", "a\nb", text=BROKEN)
     expect("a name with a line end", err.split(":")[0], '"a\\nb"')
 
@@ -111,7 +116,7 @@ def messages_of_rejected_inputs():
     """The inputs and messages of a table of docs/ERRORS.md."""
     table = text_of("docs/ERRORS.md").partition("### Messages of rejected inputs\n")[2]
     found = rows(table)[1:]
-    expect("messages of the page", len(found) >= 20, True)
+    expect("messages of the page", len(found) >= 42, True)
     for text, place, message, _ in found:
         text, message = (re.fullmatch("(`+) ?(.*?) ?\\1", it)[2] for it in (text, message))
         err = gqlfmt(text=text.replace("\\|", "|").encode())[2]

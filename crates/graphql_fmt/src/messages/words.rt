@@ -138,6 +138,15 @@ fn word_of(terminal: Terminal) -> &'static str {
     }
 }
 
+/// The keyword of a terminal. `None` if the terminal is no keyword.
+pub fn keyword_of(terminal: Terminal) -> Option<&'static str> {
+    if terminal.is_name() {
+        word_of(terminal).strip_prefix('`')?.strip_suffix('`')
+    } else {
+        None
+    }
+}
+
 /// The word of a keyword.
 fn word_of_keyword(terminal: Terminal) -> &'static str {
     match terminal {
