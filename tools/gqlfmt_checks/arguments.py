@@ -15,7 +15,8 @@ def standard_input():
     expect("--check, formatted", gqlfmt("--check", text=FORMATTED), (0, b"", ""))
     expect("--check with a name", gqlfmt("--check", "--stdin-path", "a b", text=SHORT), (1, b"a b\n", ""))
     status, out, err = gqlfmt(text=BROKEN)
-    expect("an error", (status, out, err), (1, b"", "<stdin>:2:1: unexpected end of the input\n\n^\n"))
+    first = "<stdin>:2:1: unexpected end of the input: the `{` of line 1 is not closed"
+    expect("an error", (status, out, err), (1, b"", f"{first}\n\n^\n"))
     err = gqlfmt("--stdin-path", "n.graphql", text=BROKEN)[2]
     expect("an error with a name", err.split(":")[0], "n.graphql")
     expect("not UTF-8", gqlfmt(text=b"{a \xff}"), (2, b"", "<stdin>: is not UTF-8 (line 1)\n"))

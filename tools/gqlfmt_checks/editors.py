@@ -119,7 +119,7 @@ def screen_of_vim():
     env = on_the_path()
     new("rc.vim", block("vim").encode())
     new("a b.graphql", BROKEN)
-    message = "a b.graphql:1:3: unexpected end of the input"
+    message = "a b.graphql:1:3: unexpected end of the input: the `{` of line 1 is not closed"
     expect("the last line for a text that is rejected", last_line("a b.graphql", message, env), message)
     new("folder/c.gql", b"type T { a: %s }\n" % (b"1" * 100))
     begun = "c.gql:1:13: expected a type, found the number `111"
@@ -149,7 +149,7 @@ def hook():
     expect("a file in place of a link", repository.commit(), (1, f"link.graphql\n{last}\n"))
     repository.stage({"link.graphql": BROKEN})
     status, said = repository.commit()
-    wanted = (1, "link.graphql:2:1: unexpected end of the input", last)
+    wanted = (1, "link.graphql:2:1: unexpected end of the input: the `{` of line 1 is not closed", last)
     expect("a file that is rejected", (status, *said.splitlines()[::len(said.splitlines()) - 1]), wanted)
     alone = other(".git/hooks/pre-commit", env={**repository.env, "GIT_DIR": "/nowhere"})
     expect("git fails", alone.returncode != 0)

@@ -112,6 +112,24 @@ def messages():
 
 
 @test
+def brackets_that_are_not_closed():
+    """Brackets in strings and comments do not count. A line that begins like a definition is not in an open bracket."""
+    cases = [
+        ("{a\n  (b: \"[\") {b # [\n", "3:1: unexpected end of the input: the `{` of line 2 is not closed"),
+        ("{a\r(b:\r\n[\n", "4:1: expected a value or `]`, found the end of the input: "
+            "the `[` of line 3 is not closed"),
+        ("{a(b: \"\"\"\n(\"\"\"\n}", "3:1: expected a name or `)`, found `}`: the `(` of line 1 is not closed"),
+        ("type Q {\n  a: Int\n\ntype T {", "4:6: expected `(` or `:`, found the name `T`: "
+            "the `{` of line 1 is not closed"),
+        ("{\n  a {b\n}\nquery B($c: Int) {d}", "4:9: expected a name, found `$`: the `{` of line 1 is not closed"),
+        ("{a}\nquery B($c: ) {d}", "2:13: expected a type, found `)`"),
+        ("{a}\nquery B($c: [Int) {d}", "2:17: expected `!` or `]`, found `)`: the `[` of line 2 is not closed"),
+    ]
+    for text, wanted in cases:
+        expect(text, gqlfmt(text=text.encode())[2].splitlines()[0], f"<stdin>:{wanted}")
+
+
+@test
 def messages_of_rejected_inputs():
     """The inputs and messages of a table of docs/ERRORS.md."""
     table = text_of("docs/ERRORS.md").partition("### Messages of rejected inputs\n")[2]

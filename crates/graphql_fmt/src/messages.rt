@@ -1,12 +1,14 @@
 //! Messages of errors.
 
+mod brackets;
 mod found;
 mod hints;
 mod words;
 
 use crate::format::MAX_OPEN_BRACKETS;
-use crate::messages::found::{found, without_article};
-use crate::messages::hints::hint;
+use crate::messages::brackets::unclosed_bracket;
+use crate::messages::found::{found_words, without_article};
+use crate::messages::hints::hint_of;
 use crate::messages::words::expected_words;
 use graphql_standard::{CheckError, SyntaxError};
 use std::alloc::{AllocError, Global};
@@ -31,7 +33,7 @@ fn one_of(alloc: Global, words: &[&'static str]) -> Result<String, AllocError> {
 
 /// The message of the first error of an input, without a hint.
 fn plain_message(alloc: Global, rest: &str, error: &SyntaxError) -> Result<String, AllocError> {
-    let found = found(alloc, rest, error)?;
+    let found = found_words(alloc, rest, error)?;
     let words = expected_words(alloc, &error.expected)?;
     if words.len() > MOST_WORDS {
         let found = without_article(&found);
@@ -47,14 +49,19 @@ fn syntax_message(alloc: Global, source: &str, error: &SyntaxError) -> Result<St
         .split_at_checked(error.place.offset)
         .unwrap_or((source, ""));
     let message = plain_message(alloc, rest, error)?;
-    match hint(front, rest, error) {
-        Some(hint) => format!(in alloc; "{message}: {hint}"),
+    if let Some(hint) = hint_of(front, rest, error) {
+        return format!(in alloc; "{message}: {hint}");
+    }
+    match unclosed_bracket(alloc, front, error)? {
+        Some(bracket) => format!(in alloc; "{message}: {bracket}"),
         None => Ok(message),
     }
 }
 
-/// Returns the message of the error of an input, without its place: what was expected, if that is little, what the input
-/// has there, and a hint where the mistake is a habit. The only error is out of memory.
+/// Returns the message of the error of an input, without its place.
+///
+/// It says what was expected, if that is little, and what the input has there. Then comes a hint for a common mistake,
+/// or the bracket that is not closed. The only error is out of memory.
 pub fn message(alloc: Global, source: &str, error: &CheckError) -> Result<String, AllocError> {
     match error {
         CheckError::Syntax(error) => syntax_message(alloc, source, error),

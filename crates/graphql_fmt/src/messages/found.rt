@@ -57,7 +57,7 @@ fn token(alloc: Global, terminal: Terminal, spelling: &str) -> Result<String, Al
 }
 
 /// What an input has at its first error, from which on the rest of the input is given.
-pub fn found(alloc: Global, rest: &str, error: &SyntaxError) -> Result<String, AllocError> {
+pub fn found_words(alloc: Global, rest: &str, error: &SyntaxError) -> Result<String, AllocError> {
     match error.found {
         Found::Token(terminal) => token(alloc, terminal, rest.get(..error.len).unwrap_or(rest)),
         Found::EndOfInput => String::from_str(alloc, "the end of the input"),

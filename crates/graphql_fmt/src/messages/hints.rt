@@ -44,6 +44,11 @@ fn of_quotes(rule: &'static str, expected: &ExpectedSet) -> Option<Hint> {
     }
 }
 
+/// Whether a type can end before what is expected, or the name of a field.
+fn follows_type_or_name(expected: &ExpectedSet) -> bool {
+    expected.contains(Terminal::Bang) || expected.contains(Terminal::Colon)
+}
+
 /// The hint for characters that begin no token.
 fn of_characters(rest: &str, expected: &ExpectedSet) -> Option<Hint> {
     let rule = match rest.chars().next()? {
@@ -54,7 +59,7 @@ fn of_characters(rest: &str, expected: &ExpectedSet) -> Option<Hint> {
             return of_quotes("strings are in straight double quotes", expected);
         }
         ';' => "GraphQL has no semicolons",
-        '?' => "a type without `!` can be null",
+        '?' if follows_type_or_name(expected) => "a type without `!` can be null",
         '\u{2026}' => "a spread is three dots",
         '.' if rest.starts_with("..") => "a spread is three dots",
         '/' if rest.starts_with("//") || rest.starts_with("/*") => "comments begin with `#`",
@@ -200,7 +205,7 @@ fn before_common_back<'a>(text: &'a [u8], other: &'a [u8]) -> (&'a [u8], &'a [u8
 }
 
 /// The hint for an error, from the input before it and from there on.
-pub fn hint(front: &str, rest: &str, error: &SyntaxError) -> Option<Hint> {
+pub fn hint_of(front: &str, rest: &str, error: &SyntaxError) -> Option<Hint> {
     let expected = &error.expected;
     let (token, after) = rest.split_at_checked(error.len).unwrap_or((rest, ""));
     match error.found {
