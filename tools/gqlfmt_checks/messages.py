@@ -88,9 +88,20 @@ def messages():
         (b"{a \x01}\n", "1:4", "{a \ufffd}", "   ^"),
         (b"{a(b: 09)}", "1:7", "{a(b: 09)}", "      ^"),
         (b'{a(b: """x\n\ty""" ;)}', "2:7", '\ty""" ;)}', "\t     ^"),
+        # The carets are under the whole token, or under its first line.
+        (b"type Q {a Int}", "1:11", "type Q {a Int}", " " * 10 + "^^^"),
+        (b"{a ...on ...}", "1:10", "{a ...on ...}", " " * 9 + "^^^"),
+        (b'{a "b c"}', "1:4", '{a "b c"}', "   ^^^^^"),
+        ('{a "中\t\u0301b"}'.encode(), "1:4", '{a "中\t\u0301b"}', "   ^^^\t^^"),
+        (b'{a """b\nc"""}', "1:4", '{a """b', "   ^^^^"),
+        (b'{a """\r\nc"""}', "1:4", '{a """', "   ^^^"),
+        (b'{a(b: "x\\q")}', "1:7", '{a(b: "x\\q")}', "      ^"),
+        (b"{a", "1:3", "{a", "  ^"),
     ]
     cut = "..." + "a" * 59 + " ;" + "b" * 59 + "..."
     cases.append((b"{" + b"a" * 200 + b" ;" + b"b" * 200 + b"}", "1:203", cut, " " * 63 + "^"))
+    cases.append((b"scalar S " + b"b" * 70, "1:10", "scalar S " + "b" * 60 + "...", " " * 9 + "^" * 60))
+    cases.append((b"{a(b:" + b"[" * 999, "1:1004", "..." + "[" * 61, " " * 63 + "^"))
     for text, place, line, caret in cases:
         new("m.graphql", text)
         status, _, err = gqlfmt("--check", "m.graphql")
@@ -134,7 +145,7 @@ def messages_of_rejected_inputs():
     """The inputs and messages of a table of docs/ERRORS.md."""
     table = text_of("docs/ERRORS.md").partition("### Messages of rejected inputs\n")[2]
     found = rows(table)[1:]
-    expect("messages of the page", len(found) >= 42, True)
+    expect("messages of the page", len(found) >= 53, True)
     for text, place, message, _ in found:
         text, message = (re.fullmatch("(`+) ?(.*?) ?\\1", it)[2] for it in (text, message))
         err = gqlfmt(text=text.replace("\\|", "|").encode())[2]

@@ -24,46 +24,84 @@ fn visible(character: char) -> char {
     }
 }
 
-/// Puts blanks as wide as a character at the end of a text.
-fn push_blank(blanks: &mut String, character: char) -> Result<(), AllocError> {
-    if character == '\t' {
-        return blanks.push('\t');
-    }
-    for _ in 0..visible(character).width().unwrap_or(0) {
-        blanks.push(' ')?;
-    }
-    Ok(())
+/// A line of a source as it is shown, and the marks below it.
+#[derive(Drop)]
+struct Excerpt {
+    /// The line.
+    line: String,
+    /// Spaces and carets, as wide as the line up to the last caret.
+    marks: String,
 }
 
-/// The line of a source at a place, from the source before the place and the rest, and below it a caret under the place.
-/// Of a long line only the part around the place is shown.
-fn excerpt(alloc: Global, front: &str, rest: &str) -> Result<String, AllocError> {
-    let before = last_line(front);
-    let mut text = String::new(alloc);
-    let mut blanks = String::new(alloc);
-    let skipped = before.chars().count().saturating_sub(REACH);
-    if skipped > 0 {
-        text.push_str("...")?;
-        blanks.push_str("   ")?;
-    }
-    for character in before.chars().skip(skipped) {
-        text.push(visible(character))?;
-        push_blank(&mut blanks, character)?;
-    }
-    let mut shown = 0usize;
-    for character in rest.chars() {
-        if is_line_end(character) {
-            break;
+impl Excerpt {
+    /// Appends a character, and below it marks as wide as it. A tab is below a tab.
+    fn push(&mut self, character: char, mark: char) -> Result<(), AllocError> {
+        self.line.push(visible(character))?;
+        if character == '\t' {
+            return self.marks.push('\t');
         }
-        if shown == REACH {
-            text.push_str("...")?;
-            break;
+        for _ in 0..visible(character).width().unwrap_or(0) {
+            self.marks.push(mark)?;
         }
-        text.push(visible(character))?;
-        shown = shown.saturating_add(1);
+        Ok(())
     }
-    write!(&mut text, "\n{blanks}^\n")?;
-    Ok(text)
+
+    /// Appends what the line has before the error.
+    fn push_before(&mut self, before: &str) -> Result<(), AllocError> {
+        let skipped = before.chars().count().saturating_sub(REACH);
+        if skipped > 0 {
+            self.line.push_str("...")?;
+            self.marks.push_str("   ")?;
+        }
+        for character in before.chars().skip(skipped) {
+            self.push(character, ' ')?;
+        }
+        Ok(())
+    }
+
+    /// Appends the line from the error on, with carets below the error, which has this many bytes.
+    fn push_from(&mut self, rest: &str, len: usize) -> Result<(), AllocError> {
+        for (shown, (index, character)) in rest.char_indices().enumerate() {
+            if is_line_end(character) {
+                break;
+            }
+            if shown == REACH {
+                self.line.push_str("...")?;
+                break;
+            }
+            if index < len {
+                self.push(character, '^')?;
+            } else {
+                self.line.push(visible(character))?;
+            }
+        }
+        Ok(())
+    }
+}
+
+/// The line of a source with an error, and below it carets under the error. The error has this many bytes. The source is
+/// given before the error and from there on. Of a long line only the part around the place is shown.
+fn excerpt_of(alloc: Global, front: &str, rest: &str, len: usize) -> Result<String, AllocError> {
+    let mut excerpt = Excerpt {
+        line: String::new(alloc),
+        marks: String::new(alloc),
+    };
+    excerpt.push_before(last_line(front))?;
+    excerpt.push_from(rest, len)?;
+    if !excerpt.marks.contains('^') {
+        excerpt.marks.push('^')?;
+    }
+    let Excerpt { line, marks } = &excerpt;
+    format!(in alloc; "{line}\n{marks}\n")
+}
+
+/// How many bytes of the source the error has.
+fn len_of(error: &CheckError) -> usize {
+    match error {
+        CheckError::Syntax(error) => error.len,
+        CheckError::TooDeep(_) => 1,
+        CheckError::TooLong | CheckError::OutOfMemory => 0,
+    }
 }
 
 /// The place of the error. `None` if formatting ran out of memory.
@@ -76,7 +114,7 @@ fn place_of(error: &CheckError) -> Option<Place>
     }
 }
 
-/// The message for a source that is rejected: a line `NAME:LINE:COLUMN: MESSAGE`, the line of the source, and a caret
+/// The message for a source that is rejected: a line `NAME:LINE:COLUMN: MESSAGE`, the line of the source, and carets
 /// under the error. `None` if formatting ran out of memory.
 pub fn rejection(
     alloc: Global,
@@ -94,6 +132,6 @@ pub fn rejection(
     let (front, rest) = source
         .split_at_checked(place.offset)
         .unwrap_or((source, ""));
-    let excerpt = excerpt(alloc, front, rest)?;
+    let excerpt = excerpt_of(alloc, front, rest, len_of(error))?;
     Ok(Some(format!(in alloc; "{name}:{place}: {message}\n{excerpt}")?))
 }

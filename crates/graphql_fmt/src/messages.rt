@@ -3,6 +3,7 @@
 mod brackets;
 mod found;
 mod hints;
+mod lexical;
 mod words;
 
 use crate::format::MAX_OPEN_BRACKETS;

@@ -7,3 +7,4 @@ mod string;
 
 pub use element::{Element, first_element};
 pub use laws::{one_division, worked_examples};
+pub use string::escape;

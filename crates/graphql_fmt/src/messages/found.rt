@@ -1,37 +1,23 @@
 //! What an input has at its first error, in words.
 
-use graphql_standard::{Found, SyntaxError, Terminal};
+use crate::messages::lexical::{LexicalError, flaw_words};
+use graphql_standard::{Found, Place, SyntaxError, Terminal};
 use std::alloc::{AllocError, Global};
-use unicode_width::UnicodeWidthChar;
 
 /// How many characters of a token are shown.
 const SHOWN_LENGTH: usize = 40;
 
-/// What an input has where no token begins.
-fn lexical_error(alloc: Global, rest: &str) -> Result<String, AllocError> {
-    if rest.starts_with("\"\"\"") {
-        return String::from_str(alloc, "a block string that does not end");
+/// What an input has where no token begins, from there on. The column of a place inside a string or a number is shown.
+fn lexical_error(alloc: Global, rest: &str, place: &Place) -> Result<String, AllocError> {
+    let error = LexicalError::of(rest);
+    let words = flaw_words(alloc, error.flaw)?;
+    let len = rest.len().saturating_sub(error.rest.len());
+    if len == 0 {
+        return Ok(words);
     }
-    match rest.chars().next() {
-        Some('"') => String::from_str(
-            alloc,
-            "a string that does not end, or has an invalid escape",
-        ),
-        Some('-' | '0'..='9') => String::from_str(alloc, "an invalid number"),
-        Some(character) => character_words(alloc, character),
-        None => String::from_str(alloc, "the end of the input"),
-    }
-}
-
-/// A character with its number, or only the number if the character cannot be shown between backticks.
-fn character_words(alloc: Global, character: char) -> Result<String, AllocError> {
-    let code = u32::from(character);
-    match character.width() {
-        Some(width) if width > 0 && character != '`' => {
-            format!(in alloc; "the character `{character}` (U+{code:04X})")
-        }
-        _ => format!(in alloc; "the character U+{code:04X}"),
-    }
+    let front = rest.get(..len).unwrap_or("");
+    let column = place.column.saturating_add(front.chars().count());
+    format!(in alloc; "{words} (column {column})")
 }
 
 /// A token, with its spelling if it is no string.
@@ -61,12 +47,12 @@ pub fn found_words(alloc: Global, rest: &str, error: &SyntaxError) -> Result<Str
     match error.found {
         Found::Token(terminal) => token(alloc, terminal, rest.get(..error.len).unwrap_or(rest)),
         Found::EndOfInput => String::from_str(alloc, "the end of the input"),
-        Found::LexicalError => lexical_error(alloc, rest),
+        Found::LexicalError => lexical_error(alloc, rest, &error.place),
     }
 }
 
 /// What is found, without its article.
 pub fn without_article(found: &str) -> &str {
-    let rest = found.strip_prefix("the ").or(found.strip_prefix("an "));
-    rest.or(found.strip_prefix("a ")).unwrap_or(found)
+    let rest = found.strip_prefix("the ").or(found.strip_prefix("a "));
+    rest.unwrap_or(found)
 }

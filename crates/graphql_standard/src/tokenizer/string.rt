@@ -91,8 +91,9 @@ fn unicode_escape(text: &str) -> Option<(char, &str)>
     }
 }
 
-/// The character that an escape denotes, and the rest. `text` begins after the backslash.
-fn escape(text: &str) -> Option<(char, &str)>
+/// Returns the character that the escape at the start of a text denotes, and the rest. The text begins after the
+/// backslash. `None` if no escape begins it.
+pub fn escape(text: &str) -> Option<(char, &str)>
     ensures escapes { IfSome result (λ r. BeginsEscape text.now r.0 r.1.now) }
     ensures none { IfNone result (BeginsNoEscape text.now) }
 {
