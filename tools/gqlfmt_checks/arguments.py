@@ -19,7 +19,7 @@ def standard_input():
     expect("an error", (status, out, err), (1, b"", f"{first}\n\n^\n"))
     err = gqlfmt("--stdin-path", "n.graphql", text=BROKEN)[2]
     expect("an error with a name", err.split(":")[0], "n.graphql")
-    expect("not UTF-8", gqlfmt(text=b"{a \xff}"), (2, b"", "<stdin>: is not UTF-8 (line 1)\n"))
+    expect("not UTF-8", gqlfmt(text=b"{a \xff}"), (2, b"", "<stdin>:1:4: this byte is not UTF-8\n"))
 
 
 @test

@@ -104,7 +104,7 @@ def other_kinds_of_files():
         writer.join(timeout=60)
     new("a.graphql", b"{a \xff}\n")
     for task in ("--check", "--write", "--diff"):
-        expect(f"{task}, not UTF-8", gqlfmt(task, "a.graphql"), (2, b"", "a.graphql: is not UTF-8 (line 1)\n"))
+        expect(f"{task}, not UTF-8", gqlfmt(task, "a.graphql"), (2, b"", "a.graphql:1:4: this byte is not UTF-8\n"))
 
 
 @test

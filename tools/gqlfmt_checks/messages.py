@@ -11,7 +11,7 @@ PARTS = {"PATH": ".+", "LINE": "[1-9][0-9]*", "COLUMN": "[1-9][0-9]*", "MESSAGE"
 # Ways to the messages, except those of other tests, of folders that are too deep, and of allocations that fail.
 WAYS = {
     "PATH:LINE:COLUMN: MESSAGE": ["echo '{' | gqlfmt", "gqlfmt c.graphql"],
-    "PATH: is not UTF-8 (line LINE)": ["printf '\\xff' | gqlfmt"],
+    "PATH:LINE:COLUMN: this byte is not UTF-8": ["printf '\\xff' | gqlfmt"],
     "PATH: cannot be read: REASON": ["gqlfmt none", "gqlfmt < ."],
     "PATH: has no files that end in .graphql, .graphqls or .gql": ["mkdir empty; gqlfmt --check empty"],
     "PATH: cannot be rewritten: not a regular file": ["cat a.graphql | gqlfmt --write /dev/stdin"],
@@ -40,7 +40,8 @@ def messages_of_the_page():
 
 def messages_of_the_sources():
     """The messages in the sources, with the words of the page for what is different in each run."""
-    found = [f"PATH: {text}" for text in re.findall(r'#\[error\("(.*)"\)\]', text_of(f"{SOURCES}/error.rt"))]
+    errors = re.findall(r'#\[error\("(.*)"\)\]\s+\w+(\(Place\))?', text_of(f"{SOURCES}/error.rt"))
+    found = [f"PATH:LINE:COLUMN: {text}" if place else f"PATH: {text}" for text, place in errors]
     for file in sorted((TOP / SOURCES).rglob("*.rt")):
         found += re.findall(r'eprintln!\(rt; "(.*)"\)', file.read_text(encoding="utf-8"))
     found += re.findall(r'format!\(in alloc; "(\{name\}:.*)\\n', text_of(f"{SOURCES}/message.rt"))
@@ -48,8 +49,8 @@ def messages_of_the_sources():
     found += [f"error: {text}" for text in re.findall(r'[Ss]ome\(\s*"([^"]*)"', contradictions)]
     names = {"name": "PATH", "path": "PATH", "line": "LINE", "column": "COLUMN", "place": "LINE:COLUMN", "message": "MESSAGE", "error": "REASON"}
     texts = {re.sub(r"\{(\w+)\}", lambda part: names.get(part[1], "REASON"), text) for text in found}
-    # Any error of an input, and the line of counts.
-    return texts - {"PATH: REASON", "REASON"}
+    # Any error of an input with a place or without one, and the line of counts.
+    return texts - {"PATH:LINE:COLUMN: REASON", "PATH: REASON", "REASON"}
 
 
 @test
@@ -107,9 +108,11 @@ def messages():
         status, _, err = gqlfmt("--check", "m.graphql")
         first, *rest = err.split("\n")
         expect(f"{text[:60]}", (status, first.split(" ")[0], rest), (1, f"m.graphql:{place}:", [line, caret, ""]))
-    for text, line in ((b"{\xff}", 1), (b"{\r\n\r\n\xff}", 3), (b"# \xc3\xa9\r{\xc3}", 2), (b"{a}\n\xf0\x9f", 2)):
+    places = {b"{\xff}": "1:2", b"{\r\n\r\n\xff}": "3:1", b"# \xc3\xa9\r{\xc3}": "2:2"}
+    places[b"{\xc3\xa9\xf0\x9f"] = "1:3"
+    for text, place in places.items():
         status, _, err = gqlfmt(text=text)
-        expect(f"{text}", (status, err), (2, f"<stdin>: is not UTF-8 (line {line})\n"))
+        expect(f"{text}", (status, err), (2, f"<stdin>:{place}: this byte is not UTF-8\n"))
     for token in (b'"""' + b"long\n" * 1000 + b'"""', b"a" * 1000 + b" 1"):
         err = gqlfmt(text=b"{a " + token + b"}")[2]
         expect("a long token is one short line", (err.count("\n"), len(err) < 500), (3, True))

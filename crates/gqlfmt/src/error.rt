@@ -1,5 +1,6 @@
 //! Why an input cannot be read or written.
 
+use graphql_fmt::Place;
 use std::alloc::AllocError;
 use std::io;
 use thiserror::Error;
@@ -16,12 +17,9 @@ pub enum InputError {
     /// A name in a folder is not UTF-8.
     #[error("contains a name that is not UTF-8")]
     EntryName,
-    /// The input is not UTF-8.
-    #[error("is not UTF-8 (line {line})")]
-    NotUtf8 {
-        /// The line of the first byte that is not.
-        line: usize,
-    },
+    /// The first byte of the input that is not UTF-8 is at this place.
+    #[error("this byte is not UTF-8")]
+    NotUtf8(Place),
     /// Folders are nested too deeply.
     #[error("has too many folders in one another")]
     TooDeep,
@@ -43,6 +41,16 @@ pub enum InputError {
     /// An allocation failed.
     #[error("out of memory")]
     OutOfMemory,
+}
+
+impl InputError {
+    /// The place in the input that the message is about. `None` if it is about the whole input.
+    pub fn place(&self) -> Option<Place> {
+        match self {
+            InputError::NotUtf8(place) => Some(*place),
+            _ => None,
+        }
+    }
 }
 
 impl From<AllocError> for InputError {

@@ -28,7 +28,10 @@ fn fail(rt: &impl Eprint, name: &str, error: &InputError) -> Outcome
     ensures { result ≡ Outcome.Failed }
 {
     let name = Shown(name);
-    let _ = eprintln!(rt; "{name}: {error}");
+    let _ = match error.place() {
+        Some(place) => eprintln!(rt; "{name}:{place}: {error}"),
+        None => eprintln!(rt; "{name}: {error}"),
+    };
     Outcome::Failed
 }
 

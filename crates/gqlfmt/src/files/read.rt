@@ -18,11 +18,11 @@ pub struct Source {
     pub metadata: Metadata,
 }
 
-/// The line of the first byte that is not UTF-8.
-fn line_of(error: &FromUtf8Error) -> usize {
+/// The place of the first byte that is not UTF-8.
+fn place_of(error: &FromUtf8Error) -> Place {
     let len = error.utf8_error().valid_up_to();
     let before = error.as_bytes().get(..len).unwrap_or(&[]);
-    Place::after(str::from_utf8(before).unwrap_or("")).line
+    Place::after(str::from_utf8(before).unwrap_or(""))
 }
 
 /// Reads a text to its end.
@@ -31,9 +31,7 @@ pub fn read_text<R: Read>(alloc: Global, reader: &mut R) -> Result<String, Input
 {
     let mut bytes = Vec::new(alloc);
     reader.read_to_end(&mut bytes).map_err(InputError::Read)?;
-    String::from_utf8(bytes).map_err(|error| InputError::NotUtf8 {
-        line: line_of(&error),
-    })
+    String::from_utf8(bytes).map_err(|error| InputError::NotUtf8(place_of(&error)))
 }
 
 /// Reads a file.
