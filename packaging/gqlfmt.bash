@@ -4,10 +4,11 @@ _gqlfmt() {
     COMPREPLY=()
     case $before in
     --language) COMPREPLY=($(compgen -W 'query schema' -- "$word")) ;;
+    --message-format) COMPREPLY=($(compgen -W 'long short' -- "$word")) ;;
     --indent | --width) ;;
     *)
         if [[ $word == -* ]]; then
-            local options='--check --diff --write --indent --width --language --stdin-path --help --version'
+            local options='--check --diff --write --indent --width --language --stdin-path --message-format --help --version'
             COMPREPLY=($(compgen -W "$options" -- "$word"))
         else
             compopt -o filenames 2> /dev/null

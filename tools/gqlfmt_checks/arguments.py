@@ -23,6 +23,19 @@ def standard_input():
 
 
 @test
+def message_formats():
+    new("a.graphql", BROKEN)
+    first = "a.graphql:2:1: unexpected end of the input: the `{` of line 1 is not closed\n"
+    for words in ((), ("--message-format", "long"), ("--message-format=long",)):
+        expect(f"{words}", gqlfmt(*words, "a.graphql"), (1, b"", first + "\n^\n"))
+    for words in (("--message-format", "short"), ("--message-format=short", "--check")):
+        expect(f"{words}", gqlfmt(*words, "a.graphql"), (1, b"", first))
+    new("b.graphql", SHORT)
+    status, out, err = gqlfmt("--check", "--message-format", "short", "a.graphql", "b.graphql")
+    expect("two inputs", (status, out, err.splitlines()[0] + "\n", err.count("\n")), (1, b"b.graphql\n", first, 2))
+
+
+@test
 def format_options():
     expect("--indent", gqlfmt("--indent", "4", text=SHORT)[1], b"{\n    a\n    b\n}\n")
     expect("--indent=", gqlfmt("--indent=0", text=SHORT)[1], b"{\na\nb\n}\n")
@@ -60,6 +73,7 @@ def invalid_arguments():
         ["--check", "--write"], ["--diff", "--check"], ["--check", "--check"], ["--check=1"], ["--chek"], ["-x"],
         ["--indent"], ["--indent", "x"], ["--indent", "-1"], ["--indent", "70000"], ["--indent", "2", "--indent", "2"],
         ["--width", ""], ["--width", "4294967296"], ["--language", "sdl"], ["--stdin-path"], [b"\xff"],
+        ["--message-format"], ["--message-format", "json"], ["--message-format", "long", "--message-format", "long"],
         ["--stdin-path", "x", "a.graphql"], ["--write"], ["--write", "-"], ["-", "a.graphql"], ["a.graphql", "-"],
         ["-", "-"],
     ]
@@ -73,7 +87,8 @@ def invalid_arguments():
     expect("the version", gqlfmt("--version")[1], b"gqlfmt 0.1.0\n")
     shown = gqlfmt("--help")[1].decode()
     options = ["--check", "--write", "--diff", "--indent <N>", "--width <N>", "--language <LANGUAGE>"]
-    for option in [*options, "--stdin-path <NAME>", "[PATH]...", "--help", "--version", "Status:"]:
+    options += ["--stdin-path <NAME>", "--message-format <FORMAT>"]
+    for option in [*options, "[PATH]...", "--help", "--version", "Status:"]:
         expect(f"help has {option}", option in shown, True)
 
 
@@ -102,7 +117,7 @@ def manual_page_and_completions():
     """Each has the options of the help, and no others. So has docs/GQLFMT.md."""
     shown = gqlfmt("--help")[1].decode()
     options = set(re.findall(r"(?m)^ +(?:-\w, )?--([\w-]+)", shown))
-    expect("the number of options", len(options) >= 9)
+    expect("the number of options", len(options) >= 10)
     found = {
         "gqlfmt.1": re.findall(r"(?m)^\.TP\n\.B\w* .*\\-\\-(\w\S*)", text_of("packaging/gqlfmt.1")),
         "gqlfmt.bash": re.search(r"options='(.*)'", text_of("packaging/gqlfmt.bash"))[1].replace("--", "").split(),

@@ -12,6 +12,9 @@ const STANDARD_INPUT: &str = "<stdin>";
 /// The names of the languages. The option `--language` is read, and changes nothing.
 static LANGUAGES: [&str; 2] = ["query", "schema"];
 
+/// The names of the formats of messages.
+static MESSAGE_FORMATS: [&str; 2] = ["long", "short"];
+
 /// The last lines of the help.
 const AFTER_HELP: &str = "\
 Without --check, --write or --diff, the formatted texts go to standard output.
@@ -35,6 +38,15 @@ pub enum Task {
     Diff,
 }
 
+/// What the message about an input that is rejected has.
+#[derive(Clone, Copy, Debug, PartialEq, Eq)]
+pub enum MessageFormat {
+    /// The place and what is wrong, and below them the line of the source with carets under the error.
+    Long,
+    /// The place and what is wrong, in one line.
+    Short,
+}
+
 /// Where the inputs are.
 #[derive(Debug, Drop)]
 pub enum Inputs {
@@ -51,6 +63,8 @@ pub struct Request {
     pub task: Task,
     /// How the inputs are formatted.
     pub options: FormatOptions,
+    /// The format of messages about inputs that are rejected.
+    pub messages: MessageFormat,
     /// Where the inputs are.
     pub inputs: Inputs,
 }
@@ -97,12 +111,31 @@ fn with_format_options(alloc: Global, command: Command<'_>) -> Result<Command<'_
         .arg(language.value_parser(LANGUAGES.as_slice()))
 }
 
+/// The options for messages.
+fn with_message_options(alloc: Global, command: Command<'_>) -> Result<Command<'_>, AllocError> {
+    let stdin_path = option(
+        alloc,
+        "stdin-path",
+        "NAME",
+        "Name of standard input in messages",
+    );
+    let format = option(
+        alloc,
+        "message-format",
+        "FORMAT",
+        "How much a message about an input that is rejected has",
+    )
+    .default_value("long");
+    command
+        .arg(stdin_path)?
+        .arg(format.value_parser(MESSAGE_FORMATS.as_slice()))
+}
+
 /// The program's command line.
 fn command_line<'a>(alloc: Global) -> Result<Command<'a>, AllocError> {
     let check = "Names the inputs that would change, and changes none";
     let write = "Rewrites the files that change";
     let diff = "Shows what would change as a unified diff, and changes no file";
-    let stdin_path = "Name of standard input in messages";
     let tasks = ArgGroup::new(alloc, "task")
         .arg("check")?
         .arg("write")?
@@ -116,7 +149,7 @@ fn command_line<'a>(alloc: Global) -> Result<Command<'a>, AllocError> {
         .arg(flag(alloc, "diff", diff))?
         .group(tasks)?
         .arg(paths(alloc))?;
-    with_format_options(alloc, command)?.arg(option(alloc, "stdin-path", "NAME", stdin_path))
+    with_message_options(alloc, with_format_options(alloc, command)?)
 }
 
 /// The task that the options name.
@@ -140,6 +173,14 @@ fn format_options(matches: &ArgMatches<'_>) -> FormatOptions {
     FormatOptions {
         indent: indent.map_or(standard.indent, |indent| indent as usize),
         width: width.map_or(standard.width, |width| width as usize),
+    }
+}
+
+/// The format of messages that the options name.
+fn message_format(matches: &ArgMatches<'_>) -> MessageFormat {
+    match matches.get_str("message-format") {
+        Some("short") => MessageFormat::Short,
+        _ => MessageFormat::Long,
     }
 }
 
@@ -198,6 +239,7 @@ pub fn read_arguments(alloc: Global, words: &[String]) -> Result<Request, Error>
     Ok(Request {
         task,
         options: format_options(&matches),
+        messages: message_format(&matches),
         inputs: inputs_of(alloc, paths, stdin_path)?,
     })
 }

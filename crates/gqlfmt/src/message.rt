@@ -2,6 +2,7 @@
 ghost use Rattle.std.specs.Prelude.{◌≢◌, IfOk, IfSome};
 ghost use Rattle.graphql_standard.specs.declared.error.CheckError.TheVariants.{OutOfMemory};
 
+use crate::arguments::MessageFormat;
 use crate::name::Shown;
 use graphql_fmt::{CheckError, Place, last_line, message};
 use std::alloc::{AllocError, Global};
@@ -114,13 +115,14 @@ fn place_of(error: &CheckError) -> Option<Place>
     }
 }
 
-/// The message for a source that is rejected: a line `NAME:LINE:COLUMN: MESSAGE`, the line of the source, and carets
-/// under the error. `None` if formatting ran out of memory.
+/// The message for a source that is rejected: a line `NAME:LINE:COLUMN: MESSAGE`, and in the long format also the line of
+/// the source and carets under the error. `None` if formatting ran out of memory.
 pub fn rejection(
     alloc: Global,
     name: &str,
     source: &str,
     error: &CheckError,
+    format: MessageFormat,
 ) -> Result<Option<String>, AllocError>
     ensures { IfOk result (λ found. IfSome found (λ message. error.now ≢ OutOfMemory)) }
 {
@@ -129,9 +131,13 @@ pub fn rejection(
     };
     let name = Shown(name);
     let message = message(alloc, source, error)?;
-    let (front, rest) = source
-        .split_at_checked(place.offset)
-        .unwrap_or((source, ""));
-    let excerpt = excerpt_of(alloc, front, rest, len_of(error))?;
+    let excerpt = match format {
+        MessageFormat::Short => String::new(alloc),
+        MessageFormat::Long => {
+            let parts = source.split_at_checked(place.offset);
+            let (front, rest) = parts.unwrap_or((source, ""));
+            excerpt_of(alloc, front, rest, len_of(error))?
+        }
+    };
     Ok(Some(format!(in alloc; "{name}:{place}: {message}\n{excerpt}")?))
 }

@@ -55,13 +55,16 @@ pub fn words<R: Env>(rt: &R, alloc: Global) -> Result<Vec<String>, AllocError> {
     Ok(words)
 }
 
-/// Whether the next word is the value of this option, a number or the name of a language.
+/// Whether the next word is the value of this option, and no name of a file.
 fn takes_value(option: &str) -> bool {
-    matches!(option, "--indent" | "--width" | "--language")
+    matches!(
+        option,
+        "--indent" | "--width" | "--language" | "--message-format",
+    )
 }
 
 /// The first option that is not UTF-8, or the first such value of an option that is no name: before a word `--`, a word
-/// that begins with a dash, or that comes after an option which takes a number or a language.
+/// that begins with a dash, or that comes after an option which takes no name of a file.
 pub fn unreadable_option(words: &[String]) -> Option<&str> {
     let mut is_value = false;
     for word in words {
