@@ -13,8 +13,11 @@ import time
 
 from common.pages import blocks, text_of
 
-from .running import BROKEN, FORMATTED, ODD_NAMES, SHORT, expect, needs_vim, new, on_the_path, other, read, test
+from .running import BROKEN, FORMATTED, ODD_NAMES, SHORT, expect, needs_emacs, needs_vim, new, on_the_path, other
+from .running import read, test
 
+# The message of the text BROKEN, without its place.
+UNCLOSED = "unexpected end of the input: the `{` of line 1 is not closed"
 NAMES = [f"d/{name}.graphql" for name in ODD_NAMES]
 
 
@@ -50,17 +53,90 @@ class Repository:
 @test
 def commands_of_editors():
     env = on_the_path()
-    arguments = re.search(r"args = \{(.*?)\}", block("lua"))[1].replace("$FILENAME", "a b")
+    of_code = json.loads(block("json"))["customLocalFormatters.formatters"][0]["command"]
+    of_helix = re.findall(r'"([^"]*)"', re.search(r"formatter = (.*)", block("toml"))[1])
     commands = [
-        json.loads(block("json"))["customLocalFormatters.formatters"][0]["command"].split(),
-        ["gqlfmt", *re.findall(r'"([^"]*)"', arguments)],
-        re.findall(r'"([^"]*)"', re.search(r"formatter = (.*)", block("toml"))[1]),
-        [*re.search(r":program \"(.*?)\" :args '\(\"(.*?)\"\)", block("elisp")).groups()],
+        ["bash", "-c", of_code.replace("${file}", "a b")],
+        ["gqlfmt", *arguments_in(block("lua"))],
+        ["a b" if word == "%{buffer_name}" else word for word in of_helix],
     ]
+    first = f"a b:2:1: {UNCLOSED}"
     for command in commands:
-        for text, wanted in ((SHORT, (0, FORMATTED)), (BROKEN, (1, b""))):
+        for text, wanted in ((SHORT, (0, FORMATTED, [])), (BROKEN, (1, b"", [first]))):
             run = other(*command, input=text, env=env)
-            expect(f"{command}", (run.returncode, run.stdout), wanted)
+            expect(f"{command}", (run.returncode, run.stdout, run.stderr.decode().splitlines()[:1]), wanted)
+
+
+def arguments_in(lua):
+    """The arguments in a block of Lua, with a name for what the editor replaces."""
+    return re.findall(r'"([^"]*)"', re.search(r"args = \{(.*?)\}", lua)[1].replace("$FILENAME", "a b"))
+
+
+@test
+def patterns_of_editors():
+    """The commands that find errors, and the patterns by which editors read their messages."""
+    env = on_the_path()
+    new("a b.graphql", BROKEN)
+    task = json.loads(block("json", 1))["tasks"][0]
+    run = other("bash", "-c", task["command"], env=env)
+    pattern = task["problemMatcher"]["pattern"]
+    found = re.fullmatch(pattern["regexp"], run.stderr.decode().rstrip("\n"))
+    places = [found[pattern[part]] for part in ("file", "line", "column", "message")]
+    expect("VS Code", (run.returncode, places), (1, ["./a b.graphql", "2", "1", UNCLOSED]))
+    lua = block("lua", 1)
+    run = other("gqlfmt", *arguments_in(lua), input=BROKEN, env=env)
+    pattern = re.search(r'from_pattern\(\s*"(.*?)"', lua)[1].replace(".-", ".*?").replace("%d", "\\d")
+    found = re.fullmatch(pattern, run.stderr.decode().rstrip("\n"))
+    expect("nvim-lint", (run.returncode, run.stdout, found.groups()), (1, b"", ("2", "1", UNCLOSED)))
+    command = re.search(r"'command': '(.*)'", block("vim", 1))[1].replace("%e", "gqlfmt").replace("%s", "'a b'")
+    run = other("bash", "-c", command, input=BROKEN, env=env)
+    expect("ALE", (run.returncode, run.stdout, run.stderr.decode()), (1, b"", f"a b:2:1: {UNCLOSED}\n"))
+
+
+# Calls of Emacs that save a file and print its errors.
+EMACS = """
+(progn (find-file "%s") (set-buffer-modified-p t) (save-buffer)
+  (gqlfmt-flymake (lambda (found)
+    (dolist (it found) (message "%%s %%s" (flymake-diagnostic-beg it) (flymake-diagnostic-text it))))))
+"""
+
+
+@test
+@needs_emacs
+def emacs():
+    env = on_the_path()
+    new("init.el", block("elisp").encode())
+    error = "unexpected character `;` (U+003B): GraphQL has no semicolons"
+    wide = '{a(b: "中") ;}'.encode()
+    other_error = error.replace("unexpected", "expected a selection, `@`, `{` or `}`, found the")
+    files = {
+        "a b.graphql": (SHORT, FORMATTED, []),
+        "c.gql": (wide, wide, [f"c.gql:1:12: {other_error}", f"12 {other_error}"]),
+        "d.graphqls": (b"{ a\n  ; }", b"{ a\n  ; }", [f"d.graphqls:2:3: {error}", f"7 {error}"]),
+        "e.graphql": (FORMATTED.replace(b"\n", b"\r\n"), FORMATTED, []),
+        "f.graphql": (b"\xef\xbb\xbf" + FORMATTED, FORMATTED, []),
+        "g.txt": (SHORT, SHORT, []),
+    }
+    for name, (text, wanted, messages) in files.items():
+        new(name, text)
+        words = ["-Q", "--batch", "-l", "init.el", "--eval", EMACS % name]
+        run = other("emacs", *words, env=env, stdin=subprocess.DEVNULL)
+        expect(f"emacs writes {name}", read(name), wanted)
+        # What Emacs says, in part before the save and after it, and what Flymake reports.
+        said = list(dict.fromkeys(run.stderr.decode().splitlines()))
+        expect(f"emacs says of {name}", said if name != "g.txt" else [], messages)
+
+
+@test
+@needs_vim
+def quickfix_of_vim():
+    env = on_the_path()
+    new("rc.vim", block("vim", 2).encode())
+    new("a b.graphql", b"{ a\n  ; }")
+    store = "call writefile(map(getqflist(), {_, it -> it.lnum . ':' . it.col . ' ' . it.text}), 'found')"
+    words = ["-u", "NONE", "-N", "-es", "-c", "filetype on", "-S", "rc.vim", "-c", "edit a\\ b.graphql"]
+    other("vim", *words, "-c", "silent make", "-c", store, "-c", "qa!", env=env, stdin=subprocess.DEVNULL)
+    expect("errors", read("found"), b"2:3 unexpected character `;` (U+003B): GraphQL has no semicolons\n")
 
 
 @test
@@ -119,7 +195,7 @@ def screen_of_vim():
     env = on_the_path()
     new("rc.vim", block("vim").encode())
     new("a b.graphql", BROKEN)
-    message = "a b.graphql:1:3: unexpected end of the input: the `{` of line 1 is not closed"
+    message = f"a b.graphql:1:3: {UNCLOSED}"
     expect("the last line for a text that is rejected", last_line("a b.graphql", message, env), message)
     new("folder/c.gql", b"type T { a: %s }\n" % (b"1" * 100))
     begun = "c.gql:1:13: expected a type, found the number `111"
@@ -149,8 +225,12 @@ def hook():
     expect("a file in place of a link", repository.commit(), (1, f"link.graphql\n{last}\n"))
     repository.stage({"link.graphql": BROKEN})
     status, said = repository.commit()
-    wanted = (1, "link.graphql:2:1: unexpected end of the input: the `{` of line 1 is not closed", last)
+    wanted = (1, f"link.graphql:2:1: {UNCLOSED}", last)
     expect("a file that is rejected", (status, *said.splitlines()[::len(said.splitlines()) - 1]), wanted)
+    path = {**repository.env, "PATH": "/usr/bin:/bin"}
+    missing = other(".git/hooks/pre-commit", env=path)
+    said = (missing.returncode, missing.stdout, missing.stderr.decode().count("gqlfmt is not on the path"))
+    expect("no gqlfmt", said, (1, b"", 1))
     alone = other(".git/hooks/pre-commit", env={**repository.env, "GIT_DIR": "/nowhere"})
     expect("git fails", alone.returncode != 0)
 

@@ -83,6 +83,7 @@ def skip_unless(can_run, why):
 needs_library = skip_unless(lambda: given.library, "there is no C compiler")
 needs_root = skip_unless(lambda: os.geteuid() == 0, "only root can give files away, and run programs as another user")
 needs_patch = skip_unless(lambda: shutil.which("patch"), "there is no patch")
+needs_emacs = skip_unless(lambda: shutil.which("emacs"), "there is no emacs")
 needs_vim = skip_unless(lambda: shutil.which("vim"), "there is no vim")
 
 
