@@ -5,10 +5,10 @@ _gqlfmt() {
     case $before in
     --language) COMPREPLY=($(compgen -W 'query schema' -- "$word")) ;;
     --message-format) COMPREPLY=($(compgen -W 'long short' -- "$word")) ;;
-    --indent | --width) ;;
+    --indent | --width | --max-errors) ;;
     *)
         if [[ $word == -* ]]; then
-            local options='--check --diff --write --indent --width --language --stdin-path --message-format --help --version'
+            local options='--check --diff --write --indent --width --language --stdin-path --message-format --max-errors --help --version'
             COMPREPLY=($(compgen -W "$options" -- "$word"))
         else
             compopt -o filenames 2> /dev/null

@@ -73,7 +73,7 @@ def invalid_arguments():
         ["--check", "--write"], ["--diff", "--check"], ["--check", "--check"], ["--check=1"], ["--chek"], ["-x"],
         ["--indent"], ["--indent", "x"], ["--indent", "-1"], ["--indent", "70000"], ["--indent", "2", "--indent", "2"],
         ["--width", ""], ["--width", "4294967296"], ["--language", "sdl"], ["--stdin-path"], [b"\xff"],
-        ["--message-format"], ["--message-format", "json"], ["--message-format", "long", "--message-format", "long"],
+        ["--max-errors"], ["--max-errors", "x"], ["--message-format"], ["--message-format", "json"], ["--message-format", "long", "--message-format", "long"],
         ["--stdin-path", "x", "a.graphql"], ["--write"], ["--write", "-"], ["-", "a.graphql"], ["a.graphql", "-"],
         ["-", "-"],
     ]
@@ -87,7 +87,7 @@ def invalid_arguments():
     expect("the version", gqlfmt("--version")[1], b"gqlfmt 0.1.0\n")
     shown = gqlfmt("--help")[1].decode()
     options = ["--check", "--write", "--diff", "--indent <N>", "--width <N>", "--language <LANGUAGE>"]
-    options += ["--stdin-path <NAME>", "--message-format <FORMAT>"]
+    options += ["--stdin-path <NAME>", "--message-format <FORMAT>", "--max-errors <N>"]
     for option in [*options, "[PATH]...", "--help", "--version", "Status:"]:
         expect(f"help has {option}", option in shown, True)
 

@@ -7,11 +7,12 @@ from .running import BROKEN, FORMATTED, SHORT, expect, gqlfmt, new, on_the_path,
 
 SOURCES = "crates/gqlfmt/src"
 # What the page writes for what is different in each run.
-PARTS = {"PATH": ".+", "LINE": "[1-9][0-9]*", "COLUMN": "[1-9][0-9]*", "MESSAGE": ".+", "REASON": ".+"}
+PARTS = {"PATH": ".+", "LINE": "[1-9][0-9]*", "COLUMN": "[1-9][0-9]*", "MESSAGE": ".+", "REASON": ".+", "COUNT": "[1-9][0-9]*"}
 # Ways to the messages, except those of other tests, of folders that are too deep, and of allocations that fail.
 WAYS = {
     "PATH:LINE:COLUMN: MESSAGE": ["echo '{' | gqlfmt", "gqlfmt c.graphql"],
     "PATH:LINE:COLUMN: this byte is not UTF-8": ["printf '\\xff' | gqlfmt"],
+    "PATH: and COUNT more": ["gqlfmt --max-errors 1 d.graphql 2>&1 | tail -1 >&2; exit 1"],
     "PATH: cannot be read: REASON": ["gqlfmt none", "gqlfmt < ."],
     "PATH: has no files that end in .graphql, .graphqls or .gql": ["mkdir empty; gqlfmt --check empty"],
     "PATH: cannot be rewritten: not a regular file": ["cat a.graphql | gqlfmt --write /dev/stdin"],
@@ -44,10 +45,10 @@ def messages_of_the_sources():
     found = [f"PATH:LINE:COLUMN: {text}" if place else f"PATH: {text}" for text, place in errors]
     for file in sorted((TOP / SOURCES).rglob("*.rt")):
         found += re.findall(r'eprintln!\(rt; "(.*)"\)', file.read_text(encoding="utf-8"))
-    found += re.findall(r'format!\(in alloc; "(\{name\}:.*)\\n', text_of(f"{SOURCES}/message.rt"))
+    found += re.findall(r'write!\(messages, "(\{name\}:.*)\\n', text_of(f"{SOURCES}/message.rt"))
     [contradictions] = re.findall(r"(?ms)^fn contradiction\(.*?^\}", text_of(f"{SOURCES}/arguments.rt"))
     found += [f"error: {text}" for text in re.findall(r'[Ss]ome\(\s*"([^"]*)"', contradictions)]
-    names = {"name": "PATH", "path": "PATH", "line": "LINE", "column": "COLUMN", "place": "LINE:COLUMN", "message": "MESSAGE", "error": "REASON"}
+    names = {"name": "PATH", "path": "PATH", "line": "LINE", "column": "COLUMN", "place": "LINE:COLUMN", "message": "MESSAGE", "error": "REASON", "more": "COUNT"}
     texts = {re.sub(r"\{(\w+)\}", lambda part: names.get(part[1], "REASON"), text) for text in found}
     # Any error of an input with a place or without one, and the line of counts.
     return texts - {"PATH:LINE:COLUMN: REASON", "PATH: REASON", "REASON"}
@@ -59,6 +60,7 @@ def page_of_errors():
     new("a.graphql")
     new("b.graphql", FORMATTED)
     new("c.graphql", BROKEN)
+    new("d.graphql", b"type A {;}\n" * 3)
     wanted = messages_of_the_page()
     expect("the messages of the page", sorted(wanted), sorted(messages_of_the_sources()))
     for message, ways in WAYS.items():
@@ -153,3 +155,38 @@ def messages_of_rejected_inputs():
         text, message = (re.fullmatch("(`+) ?(.*?) ?\\1", it)[2] for it in (text, message))
         err = gqlfmt(text=text.replace("\\|", "|").encode())[2]
         expect(text, err.splitlines()[0], f"<stdin>:{place}: {message}".replace("\\|", "|"))
+
+
+# Each definition but the second is wrong, and the last one has two errors, of which the first is reported.
+WRONG = """\
+type A {
+  a Int
+}
+
+\"\"\"
+type of the next one
+\"\"\"
+type B { type: Int }
+query Q($a Int) {
+  input: b
+  type: a
+}
+  enum E { a; } type F { ; }
+{ b } union
+"""
+
+
+@test
+def all_errors():
+    new("all.graphql", WRONG.encode())
+    lines = [2, 9, 13]
+    err = gqlfmt("--check", "--message-format", "short", "all.graphql")[2]
+    expect("the lines of all errors", [int(line.split(":")[1]) for line in err.splitlines()], lines)
+    for most in (1, 2):
+        err = gqlfmt("--check", "--message-format", "short", f"--max-errors={most}", "all.graphql")[2].splitlines()
+        shown = [int(line.split(":")[1]) for line in err[:-1]]
+        expect(f"{most} errors", (shown, err[-1]), (lines[:most], f"all.graphql: and {3 - most} more"))
+    new("many.graphql", b"type A {;}\n" * 30)
+    for words, count in (((), 21), (("--max-errors", "0"), 30), (("--max-errors", "30"), 30)):
+        err = gqlfmt("--message-format", "short", *words, "many.graphql")[2]
+        expect(f"{words}", err.count("\n"), count)

@@ -61,7 +61,7 @@ pub fn decide(
     }
     match format_source(alloc, source, &request.options) {
         Ok(formatted) => Ok(action_for(alloc, request.task, name, source, formatted)?),
-        Err(error) => match rejection(alloc, name, source, &error, request.messages)? {
+        Err(error) => match rejection(alloc, name, source, &error, &request.messages)? {
             Some(message) => Ok(Action::Reject(message)),
             None => Err(InputError::OutOfMemory),
         },

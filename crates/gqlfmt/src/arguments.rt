@@ -47,6 +47,23 @@ pub enum MessageFormat {
     Short,
 }
 
+/// How inputs that are rejected are reported.
+#[derive(Clone, Copy, Debug, PartialEq, Eq)]
+pub struct MessageOptions {
+    /// The format of messages.
+    pub format: MessageFormat,
+    /// How many errors of an input are shown. The first one always is.
+    pub max_errors: usize,
+}
+
+impl MessageOptions {
+    /// The options of the program without arguments.
+    pub const DEFAULT: MessageOptions = MessageOptions {
+        format: MessageFormat::Long,
+        max_errors: 20,
+    };
+}
+
 /// Where the inputs are.
 #[derive(Debug, Drop)]
 pub enum Inputs {
@@ -63,8 +80,8 @@ pub struct Request {
     pub task: Task,
     /// How the inputs are formatted.
     pub options: FormatOptions,
-    /// The format of messages about inputs that are rejected.
-    pub messages: MessageFormat,
+    /// How inputs that are rejected are reported.
+    pub messages: MessageOptions,
     /// Where the inputs are.
     pub inputs: Inputs,
 }
@@ -126,9 +143,20 @@ fn with_message_options(alloc: Global, command: Command<'_>) -> Result<Command<'
         "How much a message about an input that is rejected has",
     )
     .default_value("long");
+    let max_errors = option(
+        alloc,
+        "max-errors",
+        "N",
+        "Errors shown for each input; 0 for all",
+    );
     command
         .arg(stdin_path)?
-        .arg(format.value_parser(MESSAGE_FORMATS.as_slice()))
+        .arg(format.value_parser(MESSAGE_FORMATS.as_slice()))?
+        .arg(
+            max_errors
+                .default_value("20")
+                .value_parser(value_parser!(u32)),
+        )
 }
 
 /// The program's command line.
@@ -176,11 +204,19 @@ fn format_options(matches: &ArgMatches<'_>) -> FormatOptions {
     }
 }
 
-/// The format of messages that the options name.
-fn message_format(matches: &ArgMatches<'_>) -> MessageFormat {
-    match matches.get_str("message-format") {
-        Some("short") => MessageFormat::Short,
-        _ => MessageFormat::Long,
+/// How inputs that are rejected are reported, by the options.
+fn message_options(matches: &ArgMatches<'_>) -> MessageOptions {
+    let standard = MessageOptions::DEFAULT;
+    MessageOptions {
+        format: match matches.get_str("message-format") {
+            Some("short") => MessageFormat::Short,
+            _ => MessageFormat::Long,
+        },
+        max_errors: match matches.get_one::<u32>("max-errors") {
+            Some(0) => usize::MAX,
+            Some(most) => most as usize,
+            None => standard.max_errors,
+        },
     }
 }
 
@@ -239,7 +275,7 @@ pub fn read_arguments(alloc: Global, words: &[String]) -> Result<Request, Error>
     Ok(Request {
         task,
         options: format_options(&matches),
-        messages: message_format(&matches),
+        messages: message_options(&matches),
         inputs: inputs_of(alloc, paths, stdin_path)?,
     })
 }

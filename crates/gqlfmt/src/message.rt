@@ -1,10 +1,11 @@
 //! The message for an input that is rejected.
-ghost use Rattle.std.specs.Prelude.{◌≢◌, IfOk, IfSome};
+ghost use Rattle.std.specs.Prelude.{◌≡◌, ◌≢◌, false, IfOk, IfSome};
 ghost use Rattle.graphql_standard.specs.declared.error.CheckError.TheVariants.{OutOfMemory};
 
-use crate::arguments::MessageFormat;
+use crate::arguments::{MessageFormat, MessageOptions};
 use crate::name::Shown;
-use graphql_fmt::{CheckError, Place, last_line, message};
+use graphql_fmt::{CheckError, MAX_OPEN_BRACKETS, Place, last_line, message};
+use graphql_standard::check_all;
 use std::alloc::{AllocError, Global};
 use unicode_width::UnicodeWidthChar;
 
@@ -105,39 +106,71 @@ fn len_of(error: &CheckError) -> usize {
     }
 }
 
-/// The place of the error. `None` if formatting ran out of memory.
-fn place_of(error: &CheckError) -> Option<Place>
-    ensures { IfSome result (λ place. error.now ≢ OutOfMemory) }
+/// Whether an allocation failed.
+fn is_out_of_memory(error: &CheckError) -> bool
+    ensures { result ≡ false → error.now ≢ OutOfMemory }
 {
-    match error {
-        CheckError::TooLong => Some(Place::after("")),
-        _ => error.place(),
-    }
+    matches!(error, CheckError::OutOfMemory)
 }
 
-/// The message for a source that is rejected: a line `NAME:LINE:COLUMN: MESSAGE`, and in the long format also the line of
-/// the source and carets under the error. `None` if formatting ran out of memory.
+/// Appends the message about an error of a source: a line `NAME:LINE:COLUMN: MESSAGE`, and in the long format also the
+/// line of the source and carets under the error. An error without a place is at the start.
+fn push_message(
+    alloc: Global,
+    messages: &mut String,
+    name: &str,
+    source: &str,
+    error: &CheckError,
+    format: MessageFormat,
+) -> Result<(), AllocError> {
+    let name = Shown(name);
+    let place = error.place().unwrap_or(Place::after(""));
+    let message = message(alloc, source, error)?;
+    write!(messages, "{name}:{place}: {message}\n")?;
+    if format == MessageFormat::Long {
+        let parts = source.split_at_checked(place.offset);
+        let (front, rest) = parts.unwrap_or((source, ""));
+        messages.push_str(&excerpt_of(alloc, front, rest, len_of(error))?)?;
+    }
+    Ok(())
+}
+
+/// Appends the messages about the errors of a source, except the first.
+fn push_later(
+    alloc: Global,
+    messages: &mut String,
+    name: &str,
+    source: &str,
+    options: &MessageOptions,
+) -> Result<(), AllocError> {
+    let errors = check_all(alloc, source, MAX_OPEN_BRACKETS)?;
+    for error in errors.iter().take(options.max_errors).skip(1) {
+        push_message(alloc, messages, name, source, error, options.format)?;
+    }
+    let more = errors.len().saturating_sub(options.max_errors.max(1));
+    if more > 0 {
+        let name = Shown(name);
+        write!(messages, "{name}: and {more} more\n")?;
+    }
+    Ok(())
+}
+
+/// The messages for a source that is rejected with this error: the error, then those of the following definitions, and
+/// how many more there are. `None` if formatting ran out of memory.
 pub fn rejection(
     alloc: Global,
     name: &str,
     source: &str,
     error: &CheckError,
-    format: MessageFormat,
+    options: &MessageOptions,
 ) -> Result<Option<String>, AllocError>
     ensures { IfOk result (λ found. IfSome found (λ message. error.now ≢ OutOfMemory)) }
 {
-    let Some(place) = place_of(error) else {
+    if is_out_of_memory(error) {
         return Ok(None);
-    };
-    let name = Shown(name);
-    let message = message(alloc, source, error)?;
-    let excerpt = match format {
-        MessageFormat::Short => String::new(alloc),
-        MessageFormat::Long => {
-            let parts = source.split_at_checked(place.offset);
-            let (front, rest) = parts.unwrap_or((source, ""));
-            excerpt_of(alloc, front, rest, len_of(error))?
-        }
-    };
-    Ok(Some(format!(in alloc; "{name}:{place}: {message}\n{excerpt}")?))
+    }
+    let mut messages = String::new(alloc);
+    push_message(alloc, &mut messages, name, source, error, options.format)?;
+    push_later(alloc, &mut messages, name, source, options)?;
+    Ok(Some(messages))
 }

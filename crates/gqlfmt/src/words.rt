@@ -59,7 +59,7 @@ pub fn words<R: Env>(rt: &R, alloc: Global) -> Result<Vec<String>, AllocError> {
 fn takes_value(option: &str) -> bool {
     matches!(
         option,
-        "--indent" | "--width" | "--language" | "--message-format",
+        "--indent" | "--width" | "--language" | "--message-format" | "--max-errors",
     )
 }
 

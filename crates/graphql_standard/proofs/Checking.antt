@@ -1,58 +1,23 @@
 -- What a checker has read, and the first error of a source.
 use Rattle.std.specs.List.{count_by}
-use Rattle.std.proofs.Common.{◌≡◌, ◌≤◌, ◌<◌, ◌+◌, ◌⊎◌, ℕ, zero, suc, replicate, Bool, true, false, cond, List, [], ◌∷◌, ◌++◌, length, drop, Result, Ok}
+use Rattle.std.proofs.Common.{◌≡◌, ◌≤◌, ◌<◌, ◌+◌, ◌⊎◌, ℕ, zero, suc, replicate, Bool, true, false, cond, List, [], ◌∷◌, ◌++◌, length, drop}
 use Rattle.std.proofs.Common.{refl, sym, ap, ◌∙◌, subst, inl, inr, arith, append_assoc, append-nil, length-append}
-use Rattle.std.proofs.lemmas.Bool.Decides.{nat_tests}
 use Rattle.std.proofs.lemmas.List.Sums.{sum_by-append, sum_by-cons, count_by-le-length}
-use Rattle.graphql_core.specs.{Token, Piece, Meaning, Ignored, TokenOf, Stands, sample, is_listed, max_length}
-use Rattle.graphql_core.specs.lexical.Lexical.{ignored_space, is_punctuator_byte, punctuator_token, spread_token}
-use Rattle.graphql_core.specs.declared.tokenizer.token.Kind.{Kind}
-use Rattle.graphql_core.specs.declared.tokenizer.token.Kind.TheVariants.{Punctuator, Name, IntValue, FloatValue, StringValue, BlockString}
-use Rattle.graphql_core.specs.declared.tokenizer.piece.Nesting.{Nesting}
-use Rattle.graphql_core.specs.declared.tokenizer.piece.Nesting.TheVariants.{Unchanged}
-use Rattle.graphql_standard.specs.lexical.Numbers.{IsNumber, int_value, float_value}
+use Rattle.graphql_core.specs.{Token, Piece, Meaning, Ignored, TokenOf, sample, max_length}
+use Rattle.graphql_core.specs.lexical.Lexical.{ignored_space}
 use Rattle.graphql_standard.specs.lexical.Elements.{IsElement, shared_element}
-use Rattle.graphql_standard.specs.Terminals.{punctuators, IsSpellingOf}
 use Rattle.graphql_standard.specs.Checking.{token_and, tokens_of, is_opening, is_closing, openers, closers, IsWithin, BeginsWithAll}
 use Rattle.graphql_standard.specs.Checking.{HasCheckedTokens, HasChecked, IsChecking, space}
 use Rattle.graphql_standard.specs.declared.brackets.Brackets.{Brackets}
-use Rattle.graphql_standard.specs.Recognizing.{BeginsDocument, Advances, HasRead}
+use Rattle.graphql_standard.specs.Recognizing.{BeginsDocument, HasRead}
 use Rattle.graphql_standard.specs.steps.Brackets.{one_if, Counts}
 use Rattle.graphql_standard.specs.steps.Checking.{HasFront}
 use Rattle.graphql_standard.specs.steps.Stacks.{stack_of}
-use Rattle.std.specs.declared.alloc.AllocError.{AllocError}
-use Rattle.graphql_standard.specs.declared.recognizer.Recognizer.{Recognizer}
 use Rattle.graphql_standard.specs.declared.checker.Checker.{Checker}
 use Rattle.graphql_standard.proofs.Documents.{read_begins}
 use Rattle.graphql_standard.proofs.lexical.CoreNumbers.{number_ends, some_number}
 use Rattle.graphql_standard.proofs.lexical.Elements.{InCore, in_core, a_number, element_in_core}
 use Rattle.graphql_standard.proofs.lexical.Divisions.{some_bytes}
-
--- ---- elements
-
--- the spelling of a punctuator
-punctuator_listed : (b : ℕ) → is_punctuator_byte b ≡ true → is_listed (b ∷ []) punctuators ≡ true
-punctuator_listed b h = grind (arith, nat_tests)
-
-listed : {bytes rest : List ℕ} {n : Nesting} → Stands bytes (TokenOf Punctuator n) rest → is_listed bytes punctuators ≡ true
-listed (punctuator_token {b} is) = punctuator_listed b is
-listed spread_token = refl
-
-no_number : {k : Kind} {bytes : List ℕ} {n : Nesting} → IsNumber k bytes → TokenOf Punctuator n ≡ TokenOf k Unchanged → ⊥
-no_number (int_value h) e = cc
-no_number (float_value h) e = cc
-
-pub spelled : {bytes rest : List ℕ} {n : Nesting} (k : Kind) → IsElement bytes (TokenOf k n) rest → IsSpellingOf k bytes
-spelled {bytes} {rest} {n} Punctuator el = by (element_in_core el)
-  where
-    by : InCore bytes (TokenOf Punctuator n) rest → is_listed bytes punctuators ≡ true
-    by (in_core st) = listed st
-    by (a_number k is ends e) = absurd (no_number is e)
-spelled Name el = tt
-spelled IntValue el = tt
-spelled FloatValue el = tt
-spelled StringValue el = tt
-spelled BlockString el = tt
 
 element_some : {bytes rest : List ℕ} {m : Meaning} → IsElement bytes m rest → 0 < length bytes
 element_some {bytes} {rest} {m} el = by (element_in_core el)
@@ -156,14 +121,6 @@ one_read limit ts t old new h read begins same (o, k, room) = record {
   openers_are = omega (arith, o, h.openers_are, count_more is_opening ts t);
   closers_are = omega (arith, k, h.closers_are, count_more is_closing ts t);
 }
-
-pub read_true : (ts : List Token) (t : Token) (r : Result Bool AllocError) (b : Bool) (k : Recognizer) → r ≡ Ok b → b ≡ true → Advances r ts t k
-    → HasRead (ts ++ t ∷ []) k × BeginsDocument (ts ++ t ∷ [])
-read_true ts t r b k e is h = subst (λ (s : Result Bool AllocError). Advances s ts t k) (e ∙ ap Ok is) h
-
-pub read_false : (ts : List Token) (t : Token) (r : Result Bool AllocError) (b : Bool) (k : Recognizer) → r ≡ Ok b → b ≡ false → Advances r ts t k
-    → HasRead ts k × (BeginsDocument (ts ++ t ∷ []) → ⊥)
-read_false ts t r b k e is h = subst (λ (s : Result Bool AllocError). Advances s ts t k) (e ∙ ap Ok is) h
 
 -- `limit` brackets are open
 pub is_full : (limit : ℕ) (ts : List Token) (c : Checker) → HasCheckedTokens limit ts c → c.brackets.closers + c.limit ≤ c.brackets.openers

@@ -1,5 +1,5 @@
 -- A source that has a first error is no document within the limit.
-use Rattle.std.proofs.Common.{◌≡◌, ◌≤◌, ◌<◌, ◌+◌, ◌⊎◌, ℕ, Bool, true, false, ◌==◌, if◌then◌else◌, List, [], ◌∷◌, ◌++◌, length, codes, Result, Ok, Err, Option, Some, None}
+use Rattle.std.proofs.Common.{◌≡◌, ◌≤◌, ◌<◌, ◌+◌, ◌⊎◌, ℕ, true, false, ◌==◌, List, [], ◌∷◌, ◌++◌, length, codes, Result, Ok, Err, Option, Some, None}
 use Rattle.std.proofs.Common.{refl, sym, ap, ◌∙◌, subst, inl, inr, arith, append_assoc, append-nil}
 use Rattle.std.specs.Option.{is_some}
 use Rattle.std.proofs.lemmas.Bool.{and_parts, or_cases}
@@ -8,7 +8,6 @@ use Rattle.graphql_core.specs.grammar.Trees.{Derives}
 use Rattle.graphql_core.specs.lexical.Elements.{element_kind}
 use Rattle.graphql_core.specs.declared.tokenizer.token.Kind.{Kind}
 use Rattle.graphql_core.specs.declared.tokenizer.token.Kind.TheVariants.{Punctuator}
-use Rattle.graphql_core.specs.declared.tokenizer.piece.Nesting.{Nesting}
 use Rattle.graphql_core.specs.declared.tokenizer.element.ElementKind.{ElementKind}
 use Rattle.graphql_core.specs.declared.tokenizer.element.ElementKind.TheVariants as element
 use Rattle.graphql_core.proofs.grammar.Classes.{same_spelling-true}
@@ -33,17 +32,10 @@ use Rattle.graphql_standard.specs.steps.Brackets.{one_if}
 use Rattle.graphql_standard.proofs.Documents.{exact}
 use Rattle.graphql_standard.proofs.lexical.Elements.{same_element}
 use Rattle.graphql_standard.proofs.lexical.Following.{none_at_end, piece_same}
-use Rattle.graphql_standard.proofs.Checking.{tokens_more, count_more, spelled}
+use Rattle.graphql_standard.proofs.Checking.{tokens_more, count_more}
+use Rattle.graphql_standard.proofs.Tokens.{token_meaning, element_spelled}
 
 -- ---- elements
-
-no_token : (b : Bool) (k : Kind) → (if b then element.Comment else element.Ignored) ≡ element.Token k → ⊥
-no_token true k e = cc
-no_token false k e = cc
-
-pub token_meaning : (bytes : List ℕ) (m : Meaning) (k : Kind) → element_kind bytes m ≡ element.Token k → (n : Nesting) × (m ≡ TokenOf k n)
-token_meaning bytes (Ignored x) k e = absurd (no_token _ k e)
-token_meaning bytes (TokenOf j n) k e = let same : j ≡ k = cc in (n, ap (λ (i : Kind). TokenOf i n) same)
 
 and_piece : (p q : Piece) (ps qs : List Piece) → p ≡ q → ps ≡ qs → p ∷ ps ≡ q ∷ qs
 and_piece p q ps qs e f = rw (e, f) refl
@@ -143,10 +135,6 @@ abbrev pub ReadsAs : Kind → List ℕ → (old new : Checker) → Result (Unit 
 ReadsAs k bytes old new r =
     (l : ℕ) (ts : List Token) → HasCheckedTokens l ts old → IsSpellingOf k bytes → ReadsToken l ts (sample k bytes) r new
 
-element_spelled : {bytes after : List ℕ} (m : Meaning) (k : Kind) → element_kind bytes m ≡ element.Token k → IsElement bytes m after → IsSpellingOf k bytes
-element_spelled {bytes} {after} m k kind el =
-    let (n, is) = token_meaning bytes m k kind in spelled k (subst (λ (x : Meaning). IsElement bytes x after) is el)
-
 -- the element is a token
 pub token_read : (limit : ℕ) (ts : List Token) (k : Kind) (bytes after : List ℕ) (m : Meaning) (old new : Checker) (r : Result (Unit {0}) CheckError)
     → element_kind bytes m ≡ element.Token k → IsElement bytes m after → HasCheckedTokens limit ts old → r ≡ Ok tt → ReadsAs k bytes old new r
@@ -157,7 +145,7 @@ token_read limit ts k bytes after m old new r kind el h is reads =
     subst (λ (x : Meaning). HasCheckedTokens limit (ts ++ token_and x bytes []) new) (sym token) done
 
 right_to : (limit : ℕ) (source : List ℕ) (ps : List Piece) (old new : Checker) (p : Place) → HasChecked limit source ps old → HasSameRest old new
-    → IsPlaceBefore new.source.now new.rest.now p → IsRightTo limit source p ps old.rest.now
+    → IsPlaceBefore new.source.now new.rest.now p → IsRightTo limit source source p ps old.rest.now
 right_to limit source ps old new p h (whole, rest) (front, is, place) = record {
   parts = h.parts;
   place_is = (front, sym (whole ∙ h.source_is) ∙ is ∙ ap (λ (l : List ℕ). front ++ l) rest, place);

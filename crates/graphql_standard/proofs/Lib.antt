@@ -17,7 +17,11 @@ mod Written
 mod SameLanguage
 mod AsWritten
 mod ApartTerminals
+mod Tokens
 mod Checking
 pub mod FirstErrors
+pub mod PlacesTogether
+pub mod NextDefinitions
+pub mod AllErrors
 pub mod lexical
 unfoldable pub use lexical.*

@@ -1,7 +1,7 @@
 -- The last line of a text.
 use Rattle.std.specs.List.{list_all}
 use Rattle.std.specs.Str.Pattern.{RFindsChar}
-use Rattle.std.proofs.Common.{◌≡◌, ◌≤◌, ◌<◌, ◌+◌, ◌==◌, ℕ, zero, suc, true, ◌&&◌, Option, Some, None, MatchOption, Bor}
+use Rattle.std.proofs.Common.{◌≡◌, ◌≤◌, ◌<◌, ◌+◌, ◌==◌, ℕ, zero, suc, true, Option, Some, None, MatchOption, Bor}
 use Rattle.std.proofs.Common.{List, [], ◌∷◌, ◌++◌, length, take, drop, get_or, refl, sym, ap, ◌∙◌, subst, inl, inr}
 use Rattle.std.proofs.Common.{append_assoc, append-nil, take-append-drop, arith}
 use Rattle.std.proofs.lemmas.Bool.{and_from, and_parts, eqb-true, false_from_ne_true}

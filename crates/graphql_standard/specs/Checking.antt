@@ -97,24 +97,25 @@ pub record IsExpectedAfter (ts : List Token) (s : ExpectedSet) : Type 0 where
   pub terminals : (k : Terminal) (t : Token) → IsTokenOf k t → IsTrue (contains s k) ↔ BeginsDocument (ts ++ t ∷ [])
   pub end : IsTrue (contains_end s) ↔ IsDocument ts
 
--- Lexical elements before a place in a source. Some document begins with their tokens, and at most `limit` brackets
--- are open.
-pub record IsRightTo (limit : ℕ) (source : List ℕ) (p : Place) (ps : List Piece) (rest : List ℕ) : Type 0 where
-  pub parts : BeginsWithAll source ps rest
+-- Lexical elements of a part of a source, from its beginning to a place in the source. Some document begins with their
+-- tokens, and at most `limit` brackets are open.
+pub record IsRightTo (limit : ℕ) (source part : List ℕ) (p : Place) (ps : List Piece) (rest : List ℕ) : Type 0 where
+  pub parts : BeginsWithAll part ps rest
   pub place_is : IsPlaceBefore source rest p
   pub begins : BeginsDocument (tokens_of ps)
   pub within : IsWithin limit (tokens_of ps)
 
-abbrev pub IsFirstError : (limit : ℕ) (source : List ℕ) → SyntaxError → Type 0
-IsFirstError limit source e =
-    (ps : List Piece) × (rest : List ℕ) × IsRightTo limit source e.place ps rest
+-- the first error of a part of a source
+abbrev pub IsFirstError : (limit : ℕ) (source part : List ℕ) → SyntaxError → Type 0
+IsFirstError limit source part e =
+    (ps : List Piece) × (rest : List ℕ) × IsRightTo limit source part e.place ps rest
     × IsWrongAfter (tokens_of ps) rest e.found e.len × IsExpectedAfter (tokens_of ps) e.expected
 
 -- At this place is an opening bracket. Some document begins with it and the tokens before, but `limit` brackets are
 -- open.
-abbrev pub IsTooDeepAt : (limit : ℕ) (source : List ℕ) → Place → Type 0
-IsTooDeepAt limit source p =
-    (ps : List Piece) × (rest : List ℕ) × IsRightTo limit source p ps rest
+abbrev pub IsTooDeepAt : (limit : ℕ) (source part : List ℕ) → Place → Type 0
+IsTooDeepAt limit source part p =
+    (ps : List Piece) × (rest : List ℕ) × IsRightTo limit source part p ps rest
     × (kind : Kind) × (bytes : List ℕ) × (after : List ℕ) × BeginsWithOneOf IsElement rest (element.Token kind) bytes after
     × BeginsDocument (tokens_of ps ++ sample kind bytes ∷ []) × (is_opening (sample kind bytes) ≡ true)
     × (openers (tokens_of ps) ≡ closers (tokens_of ps) + limit)
@@ -128,11 +129,15 @@ place_of error.OutOfMemory = None
 
 -- ---- the result of checking a source
 
+-- the error of a part of a source; its place is in the source
+abbrev pub IsErrorOf : (limit : ℕ) (source part : List ℕ) → CheckError → Type 0
+IsErrorOf limit source part (error.Syntax e) = IsFirstError limit source part e
+IsErrorOf limit source part (error.TooDeep p) = IsTooDeepAt limit source part p
+IsErrorOf limit source part error.TooLong = max_length < length part
+IsErrorOf limit source part error.OutOfMemory = Unit {0}
+
 abbrev pub IsCheckError : (limit : ℕ) (source : List ℕ) → CheckError → Type 0
-IsCheckError limit source (error.Syntax e) = IsFirstError limit source e
-IsCheckError limit source (error.TooDeep p) = IsTooDeepAt limit source p
-IsCheckError limit source error.TooLong = max_length < length source
-IsCheckError limit source error.OutOfMemory = Unit {0}
+IsCheckError limit source e = IsErrorOf limit source source e
 
 pub record ChecksStandard {A : Type 0} (limit : ℕ) (source : List ℕ) (r : Result A CheckError) : Type 0 where
   -- Sound: a source that is accepted is a document of September 2025, in which at most `limit` brackets are open.

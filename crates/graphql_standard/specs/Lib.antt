@@ -7,6 +7,7 @@ pub mod Terminals
 pub mod Document
 pub mod Recognizing
 pub mod Checking
+pub mod AllErrors
 pub mod theory
 pub mod steps
 pub mod examples

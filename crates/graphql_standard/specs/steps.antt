@@ -9,6 +9,7 @@ pub mod Spellings
 pub mod Brackets
 pub mod Lines
 pub mod Checking
+pub mod Parts
 unfoldable pub use Numbers.*
 unfoldable pub use Escapes.*
 unfoldable pub use Spellings.*

@@ -1,8 +1,9 @@
 //! Places in a source.
-ghost use Rattle.std.specs.Prelude.{◌≡◌, ◌<◌, ◌≤◌, length};
+ghost use Rattle.std.specs.Prelude.{◌≡◌, ◌<◌, ◌≤◌, ◌++◌, ℕ, List, length};
 ghost use Rattle.graphql_standard.specs.Places.{begins_character, character_count, ends_line, line_ends};
 ghost use Rattle.graphql_standard.specs.Places.{EndsWith, IsLastLine, IsPlaceAfter, IsPlaceBefore};
 ghost use Rattle.graphql_standard.specs.steps.Lines.{IsAfterLast};
+ghost use Rattle.graphql_standard.specs.steps.Parts.{ArePlaces, AreApart};
 
 use std::fmt;
 
@@ -92,6 +93,24 @@ impl Place {
     {
         let (front, _) = source.split_at(source.len() - rest.len());
         Place::after(front)
+    }
+
+    /// Returns the place in a source of a place in an end of it, which begins at `start`.
+    pub(crate) fn in_source(self, start: Place) -> Place
+        requires { (front : List ℕ) × (text : List ℕ) × ArePlaces front text start self }
+        ensures { (front text : List ℕ) → ArePlaces front text start self → AreApart front text
+            → IsPlaceAfter (front ++ text) result }
+    {
+        let column = if self.line == 1 {
+            start.column - 1 + self.column
+        } else {
+            self.column
+        };
+        Place {
+            offset: start.offset + self.offset,
+            line: start.line - 1 + self.line,
+            column,
+        }
     }
 }
 

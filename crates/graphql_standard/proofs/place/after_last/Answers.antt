@@ -1,4 +1,3 @@
-use Rattle.std.proofs.Common.{Bor, List, ℕ}
 use Rattle.graphql_standard.proofs.Places.{after_none, after_some}
 use Rattle.graphql_standard.proofs.place.after_last.Goals as goal
 

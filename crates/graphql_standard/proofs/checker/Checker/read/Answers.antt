@@ -1,6 +1,7 @@
 use Rattle.std.proofs.Common.{refl}
 use Rattle.graphql_core.specs.{nowhere}
-use Rattle.graphql_standard.proofs.Checking.{one_read, read_true, read_false, is_full}
+use Rattle.graphql_standard.proofs.Checking.{one_read, is_full}
+use Rattle.graphql_standard.proofs.Tokens.{read_true, read_false}
 use Rattle.graphql_standard.proofs.checker.Checker.read.Goals as goal
 
 pub returns-then-not-branch-clause-token : goal.returns-then-not-branch-clause-token
