@@ -4,7 +4,7 @@ _gqlfmt() {
     COMPREPLY=()
     case $before in
     --language) COMPREPLY=($(compgen -W 'query schema' -- "$word")) ;;
-    --message-format) COMPREPLY=($(compgen -W 'long short' -- "$word")) ;;
+    --message-format) COMPREPLY=($(compgen -W 'long short json' -- "$word")) ;;
     --indent | --width | --max-errors) ;;
     *)
         if [[ $word == -* ]]; then

@@ -73,7 +73,7 @@ def invalid_arguments():
         ["--check", "--write"], ["--diff", "--check"], ["--check", "--check"], ["--check=1"], ["--chek"], ["-x"],
         ["--indent"], ["--indent", "x"], ["--indent", "-1"], ["--indent", "70000"], ["--indent", "2", "--indent", "2"],
         ["--width", ""], ["--width", "4294967296"], ["--language", "sdl"], ["--stdin-path"], [b"\xff"],
-        ["--max-errors"], ["--max-errors", "x"], ["--message-format"], ["--message-format", "json"], ["--message-format", "long", "--message-format", "long"],
+        ["--max-errors"], ["--max-errors", "x"], ["--message-format"], ["--message-format", "xml"], ["--message-format", "long", "--message-format", "long"],
         ["--stdin-path", "x", "a.graphql"], ["--write"], ["--write", "-"], ["-", "a.graphql"], ["a.graphql", "-"],
         ["-", "-"],
     ]

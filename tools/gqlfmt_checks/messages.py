@@ -1,4 +1,5 @@
 """The messages of gqlfmt, which docs/ERRORS.md lists."""
+import json
 import re
 
 from common.pages import TOP, rows, text_of
@@ -190,3 +191,21 @@ def all_errors():
     for words, count in (((), 21), (("--max-errors", "0"), 30), (("--max-errors", "30"), 30)):
         err = gqlfmt("--message-format", "short", *words, "many.graphql")[2]
         expect(f"{words}", err.count("\n"), count)
+
+
+@test
+def messages_in_json():
+    new('a"b.graphql', '# é\nscalar é\ntype T { a; }\ntype U { a }\n'.encode())
+    lines = gqlfmt("--check", "--message-format", "json", 'a"b.graphql')[2].splitlines()
+    first, second, third = [json.loads(line) for line in lines]
+    place = {"path": 'a"b.graphql', "line": 2, "column": 8, "offset": 12, "length": 2}
+    found = "the character `é` (U+00E9)"
+    expect("an error", first, {**place, "message": f"expected a name, found {found}", "found": found, "expected": ["a name"]})
+    expect("its keys", list(second), ["path", "line", "column", "offset", "length", "message", "found", "expected"])
+    expect("the others", [(it["line"], it["column"], it["found"]) for it in (second, third)],
+           [(3, 11, "the character `;` (U+003B)"), (4, 12, "`}`")])
+    expect("expected words", third["expected"], ["`(`", "`:`"])
+    deep = json.loads(gqlfmt("--message-format", "json", text=b"{a(b:" + b"[" * 1001)[2])
+    expect("no syntax error", (deep["found"], deep["expected"], deep["length"]), (None, [], 1))
+    new("many.graphql", b"type A {;}\n" * 3)
+    expect("two of three", gqlfmt("--message-format=json", "--max-errors=2", "many.graphql")[2].count("\n"), 2)

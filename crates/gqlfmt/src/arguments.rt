@@ -13,7 +13,7 @@ const STANDARD_INPUT: &str = "<stdin>";
 static LANGUAGES: [&str; 2] = ["query", "schema"];
 
 /// The names of the formats of messages.
-static MESSAGE_FORMATS: [&str; 2] = ["long", "short"];
+static MESSAGE_FORMATS: [&str; 3] = ["long", "short", "json"];
 
 /// The last lines of the help.
 const AFTER_HELP: &str = "\
@@ -45,6 +45,8 @@ pub enum MessageFormat {
     Long,
     /// The place and what is wrong, in one line.
     Short,
+    /// A JSON object in one line.
+    Json,
 }
 
 /// How inputs that are rejected are reported.
@@ -210,6 +212,7 @@ fn message_options(matches: &ArgMatches<'_>) -> MessageOptions {
     MessageOptions {
         format: match matches.get_str("message-format") {
             Some("short") => MessageFormat::Short,
+            Some("json") => MessageFormat::Json,
             _ => MessageFormat::Long,
         },
         max_errors: match matches.get_one::<u32>("max-errors") {

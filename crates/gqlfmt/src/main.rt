@@ -9,6 +9,7 @@ mod files;
 mod message;
 mod name;
 mod outcome;
+mod report;
 mod run;
 mod words;
 

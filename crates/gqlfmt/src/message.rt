@@ -4,6 +4,7 @@ ghost use Rattle.graphql_standard.specs.declared.error.CheckError.TheVariants.{O
 
 use crate::arguments::{MessageFormat, MessageOptions};
 use crate::name::Shown;
+use crate::report::to_json;
 use graphql_fmt::{CheckError, MAX_OPEN_BRACKETS, Place, last_line, message};
 use graphql_standard::check_all;
 use std::alloc::{AllocError, Global};
@@ -114,7 +115,8 @@ fn is_out_of_memory(error: &CheckError) -> bool
 }
 
 /// Appends the message about an error of a source: a line `NAME:LINE:COLUMN: MESSAGE`, and in the long format also the
-/// line of the source and carets under the error. An error without a place is at the start.
+/// line of the source and carets under the error; in JSON an object in one line. An error without a place is at the
+/// start.
 fn push_message(
     alloc: Global,
     messages: &mut String,
@@ -123,6 +125,10 @@ fn push_message(
     error: &CheckError,
     format: MessageFormat,
 ) -> Result<(), AllocError> {
+    if format == MessageFormat::Json {
+        messages.push_str(&to_json(alloc, name, source, error, len_of(error))?)?;
+        return messages.push('\n');
+    }
     let name = Shown(name);
     let place = error.place().unwrap_or(Place::after(""));
     let message = message(alloc, source, error)?;
@@ -148,7 +154,7 @@ fn push_later(
         push_message(alloc, messages, name, source, error, options.format)?;
     }
     let more = errors.len().saturating_sub(options.max_errors.max(1));
-    if more > 0 {
+    if more > 0 && options.format != MessageFormat::Json {
         let name = Shown(name);
         write!(messages, "{name}: and {more} more\n")?;
     }

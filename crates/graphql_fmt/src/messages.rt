@@ -8,9 +8,10 @@ mod words;
 
 use crate::format::MAX_OPEN_BRACKETS;
 use crate::messages::brackets::unclosed_bracket;
-use crate::messages::found::{found_words, without_article};
+pub use crate::messages::found::found_words;
+use crate::messages::found::without_article;
 use crate::messages::hints::hint_of;
-use crate::messages::words::expected_words;
+pub use crate::messages::words::expected_words;
 use graphql_standard::{CheckError, SyntaxError};
 use std::alloc::{AllocError, Global};
 
@@ -33,8 +34,8 @@ fn one_of(alloc: Global, words: &[&'static str]) -> Result<String, AllocError> {
 }
 
 /// The message of the first error of an input, without a hint.
-fn plain_message(alloc: Global, rest: &str, error: &SyntaxError) -> Result<String, AllocError> {
-    let found = found_words(alloc, rest, error)?;
+fn plain_message(alloc: Global, source: &str, error: &SyntaxError) -> Result<String, AllocError> {
+    let found = found_words(alloc, source, error)?;
     let words = expected_words(alloc, &error.expected)?;
     if words.len() > MOST_WORDS {
         let found = without_article(&found);
@@ -49,7 +50,7 @@ fn syntax_message(alloc: Global, source: &str, error: &SyntaxError) -> Result<St
     let (front, rest) = source
         .split_at_checked(error.place.offset)
         .unwrap_or((source, ""));
-    let message = plain_message(alloc, rest, error)?;
+    let message = plain_message(alloc, source, error)?;
     if let Some(hint) = hint_of(front, rest, error) {
         return format!(in alloc; "{message}: {hint}");
     }

@@ -42,8 +42,10 @@ fn token(alloc: Global, terminal: Terminal, spelling: &str) -> Result<String, Al
     format!(in alloc; "{kind}`{text}{more}`")
 }
 
-/// What an input has at its first error, from which on the rest of the input is given.
-pub fn found_words(alloc: Global, rest: &str, error: &SyntaxError) -> Result<String, AllocError> {
+/// Returns in words what an input has at an error: a token, the end of the input, or what is wrong where no token begins.
+/// The only error is out of memory.
+pub fn found_words(alloc: Global, source: &str, error: &SyntaxError) -> Result<String, AllocError> {
+    let rest = source.get(error.place.offset..).unwrap_or("");
     match error.found {
         Found::Token(terminal) => token(alloc, terminal, rest.get(..error.len).unwrap_or(rest)),
         Found::EndOfInput => String::from_str(alloc, "the end of the input"),

@@ -93,7 +93,8 @@ impl Group {
     }
 }
 
-/// The words of what can come: of groups, of other terminals, and of the end of the input.
+/// Returns in words what can come at an error: a word for each group of terminals that can all come, for each terminal
+/// that is left, and for the end of the input. The only error is out of memory.
 pub fn expected_words(
     alloc: Global,
     expected: &ExpectedSet,
