@@ -199,12 +199,15 @@ def messages_in_json():
     lines = gqlfmt("--check", "--message-format", "json", 'a"b.graphql')[2].splitlines()
     first, second, third = [json.loads(line) for line in lines]
     place = {"path": 'a"b.graphql', "line": 2, "column": 8, "offset": 12, "length": 2}
+    place |= {"inner_column": None, "inner_offset": None}
     found = "the character `é` (U+00E9)"
     expect("an error", first, {**place, "message": f"expected a name, found {found}", "found": found, "expected": ["a name"]})
-    expect("its keys", list(second), ["path", "line", "column", "offset", "length", "message", "found", "expected"])
+    expect("its keys", list(second), ["path", "line", "column", "offset", "length", "inner_column", "inner_offset", "message", "found", "expected"])
     expect("the others", [(it["line"], it["column"], it["found"]) for it in (second, third)],
            [(3, 11, "the character `;` (U+003B)"), (4, 12, "`}`")])
     expect("expected words", third["expected"], ["`(`", "`:`"])
+    escape = json.loads(gqlfmt("--message-format", "json", text='{a(b: "é\\q")}'.encode())[2])
+    expect("a place in a string", [escape[it] for it in ("column", "inner_column", "inner_offset")], [7, 9, 9])
     deep = json.loads(gqlfmt("--message-format", "json", text=b"{a(b:" + b"[" * 1001)[2])
     expect("no syntax error", (deep["found"], deep["expected"], deep["length"]), (None, [], 1))
     new("many.graphql", b"type A {;}\n" * 3)

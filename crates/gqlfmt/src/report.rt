@@ -1,6 +1,6 @@
 //! Errors of inputs as JSON.
 
-use graphql_fmt::{CheckError, Place, expected_words, found_words, message};
+use graphql_fmt::{CheckError, Place, expected_words, found_words, inner_place, message};
 use serde::Serialize;
 use serde_json::to_string;
 use std::alloc::{AllocError, Global};
@@ -18,6 +18,10 @@ struct Report<'a> {
     offset: usize,
     /// The number of bytes of the error.
     length: usize,
+    /// The column inside a string or a number at which it is wrong, and the number of bytes before it. `None` if the
+    /// error is something else.
+    inner_column: Option<usize>,
+    inner_offset: Option<usize>,
     /// The message.
     message: String,
     /// What the input has there, in words. `None` unless it is a syntax error.
@@ -36,12 +40,13 @@ pub fn to_json(
     length: usize,
 ) -> Result<String, AllocError> {
     let place = error.place().unwrap_or(Place::after(""));
-    let (found, expected) = match error {
+    let (inner, found, expected) = match error {
         CheckError::Syntax(error) => (
+            inner_place(source, error),
             Some(found_words(alloc, source, error)?),
             expected_words(alloc, &error.expected)?,
         ),
-        _ => (None, Vec::new(alloc)),
+        _ => (None, None, Vec::new(alloc)),
     };
     let report = Report {
         path: name,
@@ -49,6 +54,8 @@ pub fn to_json(
         column: place.column,
         offset: place.offset,
         length,
+        inner_column: inner.map(|place| place.column),
+        inner_offset: inner.map(|place| place.offset),
         message: message(alloc, source, error)?,
         found,
         expected,

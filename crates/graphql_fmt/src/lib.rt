@@ -18,5 +18,5 @@ pub use graphql_standard::{
     CheckError, ExpectedSet, Found, Place, SyntaxError, Terminal, last_line,
 };
 pub use laws::kept_tokens_have_one_document;
-pub use messages::{expected_words, found_words, message};
+pub use messages::{expected_words, found_words, inner_place, message};
 pub use options::FormatOptions;

@@ -8,8 +8,8 @@ mod words;
 
 use crate::format::MAX_OPEN_BRACKETS;
 use crate::messages::brackets::unclosed_bracket;
-pub use crate::messages::found::found_words;
 use crate::messages::found::without_article;
+pub use crate::messages::found::{found_words, inner_place};
 use crate::messages::hints::hint_of;
 pub use crate::messages::words::expected_words;
 use graphql_standard::{CheckError, SyntaxError};

@@ -7,17 +7,33 @@ use std::alloc::{AllocError, Global};
 /// How many characters of a token are shown.
 const SHOWN_LENGTH: usize = 40;
 
-/// What an input has where no token begins, from there on. The column of a place inside a string or a number is shown.
-fn lexical_error(alloc: Global, rest: &str, place: &Place) -> Result<String, AllocError> {
-    let error = LexicalError::of(rest);
-    let words = flaw_words(alloc, error.flaw)?;
-    let len = rest.len().saturating_sub(error.rest.len());
-    if len == 0 {
-        return Ok(words);
+/// Returns the place inside a string or a number at which it is wrong, such as that of an invalid escape. `None` if the
+/// error is something else, or is wrong from its place on.
+pub fn inner_place(source: &str, error: &SyntaxError) -> Option<Place> {
+    if error.found != Found::LexicalError {
+        return None;
     }
-    let front = rest.get(..len).unwrap_or("");
-    let column = place.column.saturating_add(front.chars().count());
-    format!(in alloc; "{words} (column {column})")
+    let rest = source.get(error.place.offset..)?;
+    let len = rest.len().saturating_sub(LexicalError::of(rest).rest.len());
+    let front = rest.get(..len)?;
+    if front.is_empty() {
+        return None;
+    }
+    Some(Place {
+        offset: error.place.offset.saturating_add(len),
+        line: error.place.line,
+        column: error.place.column.saturating_add(front.chars().count()),
+    })
+}
+
+/// What an input has where no token begins. The column of a place inside a string or a number is shown.
+fn lexical_error(alloc: Global, source: &str, error: &SyntaxError) -> Result<String, AllocError> {
+    let rest = source.get(error.place.offset..).unwrap_or("");
+    let words = flaw_words(alloc, LexicalError::of(rest).flaw)?;
+    match inner_place(source, error) {
+        Some(place) => format!(in alloc; "{words} (column {})", place.column),
+        None => Ok(words),
+    }
 }
 
 /// A token, with its spelling if it is no string.
@@ -49,7 +65,7 @@ pub fn found_words(alloc: Global, source: &str, error: &SyntaxError) -> Result<S
     match error.found {
         Found::Token(terminal) => token(alloc, terminal, rest.get(..error.len).unwrap_or(rest)),
         Found::EndOfInput => String::from_str(alloc, "the end of the input"),
-        Found::LexicalError => lexical_error(alloc, rest, &error.place),
+        Found::LexicalError => lexical_error(alloc, source, error),
     }
 }
 
